@@ -1,0 +1,15 @@
+-- What is read or written in turns, as a whole.
+use Rattle.std.proofs.Common.{◌≡◌, ℕ, List, ◌++◌, take, drop, Option, append_assoc, sym, ◌∙◌, ap, arith}
+use Rattle.std.proofs.lemmas.List.{take-append-drop}
+use Rattle.std.specs.Io.KnownBytes.{Appends, Consumes}
+use Rattle.std.proofs.KnownBytes.{Appends-trans, Consumes-trans}
+use Rattle.fab_outer.specs.Whole.{GoesOn}
+
+-- what goes in two turns goes
+pub goes_on-trans : (a b c : Option (List ℕ)) (went : List ℕ) → Consumes a b went → GoesOn b c → GoesOn a c
+goes_on-trans a b c went first then = (went ++ then.0, Consumes-trans a b c went then.0 first then.1)
+
+-- a part of the bytes was taken, and then the first n of the rest
+pub taken-more : (a b c : Option (List ℕ)) (bytes rest more : List ℕ) (n : ℕ) → ((part : List ℕ) × (bytes ≡ part ++ rest) × Appends a b part) → Appends b c (take n rest) → more ≡ drop n rest → (part : List ℕ) × (bytes ≡ part ++ more) × Appends a c part
+taken-more a b c bytes rest more n t next e =
+    (t.0 ++ take n rest, t.1 ∙ rw (e, append_assoc, take-append-drop), Appends-trans a b c t.0 (take n rest) t.2 next)

@@ -1,0 +1,5 @@
+pub mod Ends
+pub mod Fault
+pub mod Lines
+pub mod Reading
+pub mod Report

@@ -1,0 +1,42 @@
+-- What is written for a text.
+use Rattle.std.specs.Prelude.{ℕ, List, [], ◌∷◌, ◌++◌, Option, Some, None, codes, decimal, flat_map}
+use Rattle.net_defs.specs.declared.vertex.Vertex.TheVariants.{Host, Switch}
+use Rattle.net_defs.specs.declared.place.Place.{Place}
+use Rattle.net_defs.specs.declared.place.Place.TheVariants.{Host as AtHost, Switch as AtSwitch, Nothing as Stuck}
+use Rattle.net_defs.specs.Network.{Network}
+use Rattle.net_defs.specs.Building.{name_of}
+use Rattle.net_defs.specs.Route.{place}
+use Rattle.fabric_run.specs.declared.script.Command.{Command}
+use Rattle.fabric_run.specs.declared.script.Command.TheVariants.{Walk, Finish}
+use Rattle.fabric_run.specs.Reading.{AcceptedText, reading}
+
+-- LF
+abbrev pub line_end : List ℕ
+line_end = 10 ∷ []
+
+-- a walk's end by its place
+abbrev pub place_text : Network → Place → List ℕ
+place_text n (AtHost h) = codes "walk host " ++ name_of n (Host h) ++ line_end
+place_text n (AtSwitch s p) = codes "walk switch " ++ name_of n (Switch s) ++ codes " port " ++ decimal p ++ line_end
+place_text n Stuck = codes "walk nothing" ++ line_end
+
+-- the lines of a command
+abbrev pub lines_text : Network → Command → List ℕ
+lines_text n (Walk host walk) = place_text n (place n host walk)
+lines_text n Finish = codes "end injected 0 dropped 0" ++ line_end
+
+-- the report of an accepted text
+abbrev pub report : AcceptedText → List ℕ
+report a = flat_map (lines_text a.network) a.commands
+
+-- the one line of a text that isn't accepted; its place isn't told
+abbrev pub refusal_text : List ℕ
+refusal_text = codes "refused 0 badword" ++ line_end
+
+-- the text due to what was read
+abbrev pub due_to : Option AcceptedText → List ℕ
+due_to (Some a) = report a
+due_to None = refusal_text
+
+abbrev pub text_due : List ℕ → List ℕ
+text_due text = due_to (reading text)

@@ -1,0 +1,4 @@
+pub mod Distinct
+pub mod Ends
+pub mod Growing
+pub mod Places

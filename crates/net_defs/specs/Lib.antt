@@ -1,0 +1,6 @@
+pub mod Building
+pub mod Examples
+pub mod Network
+pub mod Refusal
+pub mod Route
+pub mod Turn

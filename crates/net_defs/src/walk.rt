@@ -1,0 +1,83 @@
+//! A walk: the turns that a packet takes, one at each switch.
+
+ghost use Rattle.std.specs.Prelude.{◌≡◌, ◌≤◌, length, IfOk, All};
+ghost use Rattle.net_defs.specs.Refusal.{Refuses};
+ghost use Rattle.std.specs.List.{list_all};
+ghost use Rattle.net_defs.specs.Turn.{is_turn, IsTurn, walk_refusal};
+
+use std::alloc::Global;
+use std::marker::Model;
+use thiserror::Error;
+
+/// The most turns of a walk.
+pub const MAX_TURNS: usize = 64;
+
+/// The greatest turn; the least is its negative.
+pub const MAX_TURN: i8 = 15;
+
+/// Why turns are no walk.
+#[derive(Clone, Copy, Debug, PartialEq, Eq, Error)]
+pub enum WalkFault {
+    #[error("a walk has at most {max} turns", max = MAX_TURNS)]
+    TooLong,
+    #[error("a turn is from -{max} to {max}", max = MAX_TURN)]
+    TurnRange,
+    #[error("out of memory")]
+    NoMemory,
+}
+
+/// At most 64 turns, each from -15 to 15. Contracts see the list of its turns.
+///
+/// At a switch entered by port e the turn t leaves by port e + t.
+#[derive(Debug, Drop)]
+pub struct Walk {
+    turns: Vec<i8>,
+}
+
+impl Model for Walk {
+    ghost use Rattle.std.specs.Prelude.{ℤ, List, ◌≤◌, length, All};
+    ghost use Rattle.net_defs.specs.Turn.{IsTurn};
+
+    ghost Value = { List ℤ };
+
+    ghost view = { λ w. w.turns.items };
+
+    ghost invariant = { λ w. (length w.turns.items ≤ 64) × All IsTurn w.turns.items };
+}
+
+impl Walk {
+    /// The walk of these turns.
+    pub fn new(alloc: Global, turns: &[i8]) -> Result<Walk, WalkFault>
+        ensures ok { IfOk result (λ walk. walk ≡ turns.now) }
+        ensures refused { Refuses (walk_refusal turns.now) WalkFault.NoMemory result }
+    {
+        if turns.len() > MAX_TURNS {
+            return Err(WalkFault::TooLong);
+        }
+        if !are_turns(turns) {
+            return Err(WalkFault::TurnRange);
+        }
+        match turns.to_vec(alloc) {
+            Ok(turns) => Ok(Walk { turns }),
+            Err(_) => Err(WalkFault::NoMemory),
+        }
+    }
+
+    /// Its turns, in the order of the switches.
+    pub fn turns(&self) -> &[i8]
+        ensures value { result.now ≡ self.now }
+        ensures short { length result.now ≤ 64 }
+        ensures in_range { All IsTurn result.now }
+    {
+        &self.turns
+    }
+}
+
+// Whether each is from -15 to 15.
+fn are_turns(turns: &[i8]) -> bool
+    ensures { result ≡ list_all is_turn turns.now }
+{
+    turns
+        .iter()
+        .all(|turn| -MAX_TURN <= *turn && *turn <= MAX_TURN)
+}

@@ -1,0 +1,4 @@
+pub mod Fabrics
+pub mod Naming
+pub mod Possible
+pub mod Tables

@@ -1,0 +1,20 @@
+//! A fabric in memory: its hosts, switches and cables, the far end of each port, and the place of a walk.
+//!
+//! It moves no packet and reads no text. What a contract sees of a `Fabric` is a `Network` of `net_defs`; there
+//! `specs/Network.antt`, `specs/Building.antt` and `specs/Route.antt` say what each call means.
+//!
+//! | module | has |
+//! |---|---|
+//! | `names` | names in the order of the text, found by their bytes |
+//! | `cabling` | cables, with a table of far ends by port |
+//! | `fabric` | the fabric: reading it, growing it, walking over it |
+#![tactic(auto)]
+
+mod cabling;
+mod fabric;
+mod names;
+#[cfg(test)]
+mod tests;
+
+pub use fabric::Fabric;
+pub use net_defs::{Cable, End, GraphFault, Place, Vertex, Walk, WalkFault};
