@@ -1,6 +1,8 @@
 //! The trusted edge: std's readers and writers as a source and a sink. They tell no content.
 
-ghost use Rattle.std.specs.Prelude.{◌≡◌, ℕ, List, Option, None};
+ghost use Rattle.std.specs.Prelude.{◌≡◌, ◌<◌, ◌≤◌, ℕ, List, length, Option, None, Ok, IfOk, OnOk, OnErr, is_err, if◌then◌else◌};
+ghost use Rattle.std.specs.Io.KnownBytes.{ReadConsumes, WriteAppends};
+ghost use Rattle.fab_outer.specs.Fault.{HasCause, Rose, one_more};
 
 use crate::{Failed, Sink, Source};
 use std::io::{Read, Write};
@@ -26,7 +28,12 @@ impl<R: Read> Source for StdSource<R> {
 
     ghost faults = { λ s. s.faults };
 
-    fn read_some(&mut self, into: &mut [u8]) -> Result<usize, Failed> {
+    fn read_some(&mut self, into: &mut [u8]) -> Result<usize, Failed>
+        ensures bound { IfOk result (λ n. n ≤ length into.new) }
+        ensures moved { ReadConsumes None None result into.new }
+        ensures cause { HasCause self.old.faults self.new.faults result }
+        ensures counted { self.new.faults ≡ (if is_err result then one_more self.old.faults else self.old.faults) }
+    {
         match self.inner.read(into) {
             Ok(count) => Ok(count),
             Err(_) => {
@@ -58,7 +65,16 @@ impl<W: Write> Sink for StdSink<W> {
 
     ghost faults = { λ s. s.faults };
 
-    fn write_some(&mut self, from: &[u8]) -> Result<usize, Failed> {
+    fn write_some(&mut self, from: &[u8]) -> Result<usize, Failed>
+        ensures bound { IfOk result (λ n. n ≤ length from.now) }
+        ensures appended { WriteAppends None None result from.now }
+        ensures cause { HasCause self.old.faults self.new.faults result }
+        ensures stalled { result ≡ Ok 0 → 0 < length from.now → Rose self.old.faults self.new.faults }
+        ensures failure_counted { OnErr result (self.new.faults ≡ one_more self.old.faults) }
+        ensures stall_counted { result ≡ Ok 0 → 0 < length from.now → self.new.faults ≡ one_more self.old.faults }
+        ensures success_not_counted { IfOk result (λ n. 0 < n → self.new.faults ≡ self.old.faults) }
+        ensures nothing_not_counted { OnOk result (length from.now ≡ 0 → self.new.faults ≡ self.old.faults) }
+    {
         let written = match self.inner.write(from) {
             Ok(count) if count > 0 || from.is_empty() => self.inner.flush().map(|_| count),
             written => written,

@@ -1,5 +1,5 @@
 -- How a run ends, from how its parts end.
-use Rattle.std.proofs.Common.{◌≡◌, ℕ, List, [], ◌∷◌, Bool, true, false, ◌&&◌, length, get_or, nat_eq, IsTrue, refl, ap, sym, ◌∙◌, arith}
+use Rattle.std.proofs.Common.{◌≡◌, ℕ, List, [], ◌∷◌, Bool, length, get_or, IsTrue, ap, sym, ◌∙◌, arith}
 use Rattle.std.specs.Prelude.{bytes_eq, codes}
 use Rattle.std.proofs.lemmas.Slice.Eq.{bytes_eq-Decides}
 use Rattle.fabric_run.specs.Ends.{IsForm}

@@ -1,7 +1,6 @@
 -- One line more of the fabric part, and of the script.
-use Rattle.std.proofs.Common.{◌≡◌, ℕ, List, [], ◌∷◌, ◌++◌, Bool, true, false, map, length, drop, Option, Some, None, option_map, Result, Ok, Err, nat_eq, refl, ap, sym, ◌∙◌, append_assoc, if◌then◌else◌}
+use Rattle.std.proofs.Common.{◌≡◌, ℕ, List, [], ◌∷◌, ◌++◌, true, false, map, length, Option, Some, None, option_map, Err, nat_eq, refl, ap, sym, ◌∙◌, append_assoc, if◌then◌else◌}
 use Rattle.std.specs.Prelude.{option_and_then, codes}
-use denote.Ref.{Bor}
 use Rattle.net_defs.specs.Network.{Network}
 use Rattle.fabric_run.specs.declared.fault.ReadFault.{ReadFault}
 use Rattle.fabric_run.specs.declared.fault.ReadFault.TheVariants.{Refused, NoMemory}

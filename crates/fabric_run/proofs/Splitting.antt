@@ -1,5 +1,5 @@
 -- The first line of a text.
-use Rattle.std.proofs.Common.{◌≡◌, ◌≤◌, ℕ, suc, ◌+◌, List, [], ◌∷◌, Bool, true, false, not, cond, length, take, drop, nat_eq, nat_lt, Option, Some, None, unwrap_or, refl, ap, sym, ◌∙◌, arith, if◌then◌else◌}
+use Rattle.std.proofs.Common.{◌≡◌, ◌≤◌, ℕ, suc, ◌+◌, List, [], ◌∷◌, Bool, true, false, not, cond, length, take, drop, nat_eq, nat_lt, Some, None, unwrap_or, refl, ap, sym, ◌∙◌, arith, if◌then◌else◌}
 use Rattle.std.specs.Prelude.{position}
 use Rattle.std.specs.List.{position_or_len, prefix_len, onto_first}
 use Rattle.std.proofs.lemmas.Bool.Decides.{nat_tests}

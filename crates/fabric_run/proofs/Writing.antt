@@ -1,5 +1,5 @@
 -- A report that is written in turns.
-use Rattle.std.proofs.Common.{◌≡◌, ◌<◌, ◌≤◌, true, Result, Ok, Err, is_err, OnErr, true≢false, arith, ℕ, ◌+◌, suc, List, [], ◌∷◌, ◌++◌, length, take, drop, get_or, Option, ap, sym, ◌∙◌, append_assoc, add-one}
+use Rattle.std.proofs.Common.{◌≡◌, ◌<◌, ◌≤◌, true, Result, Ok, Err, is_err, OnErr, true≢false, arith, ℕ, suc, List, ◌∷◌, ◌++◌, length, take, drop, get_or, Option, ap, sym, ◌∙◌, append_assoc}
 use Rattle.std.specs.Prelude.{flat_map}
 use Rattle.std.specs.Io.KnownBytes.{Appends}
 use Rattle.std.proofs.KnownBytes.{Appends-trans}

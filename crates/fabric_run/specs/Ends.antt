@@ -3,7 +3,6 @@ use Rattle.std.specs.Prelude.{◌≡◌, ◌⊎◌, ℕ, ◌≤◌, true, false,
 use Rattle.std.specs.Io.KnownBytes.{Appends, Keeps}
 use Rattle.fab_outer.specs.Fault.{Rose}
 use Rattle.fab_outer.specs.Whole.{IsWhole, IsLonger, TakesPrefix}
-use Rattle.fab_text.specs.declared.fault.FaultKind.{FaultKind}
 use Rattle.fab_text.specs.declared.fault.FaultKind.TheVariants.{BadWord}
 use Rattle.fabric_run.specs.declared.status.Status.{Status}
 use Rattle.fabric_run.specs.declared.status.Status.TheVariants.{Done, Usage, Refused, ReadFault, WriteFault, NoMemory, TooLong}

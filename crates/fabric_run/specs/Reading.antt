@@ -1,9 +1,8 @@
 -- What a text says: a fabric, line by line, and then the commands of its script.
-use Rattle.std.specs.Prelude.{◌≡◌, ℕ, ℤ, Bool, ◌&&◌, List, [], ◌∷◌, ◌++◌, length, drop, nat_le, if◌then◌else◌, Option, Some, None, option_map, option_and_then, Result, Ok, Err, codes}
+use Rattle.std.specs.Prelude.{ℕ, ℤ, ◌&&◌, List, [], ◌∷◌, length, drop, nat_le, if◌then◌else◌, Option, Some, None, option_map, option_and_then, Result, Ok, Err, codes}
 use Rattle.net_defs.specs.declared.vertex.Vertex.{Vertex}
 use Rattle.net_defs.specs.declared.vertex.Vertex.TheVariants.{Host, Switch}
 use Rattle.net_defs.specs.declared.vertex.End.{End}
-use Rattle.net_defs.specs.declared.fault.GraphFault.{GraphFault}
 use Rattle.net_defs.specs.Network.{Network, empty_network}
 use Rattle.net_defs.specs.Building.{vertex_named, host_refusal, switch_refusal, cable_refusal, with_host, with_switch, with_cable}
 use Rattle.net_defs.specs.Turn.{walk_refusal}

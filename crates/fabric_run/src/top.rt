@@ -48,6 +48,10 @@ pub fn run<S: Source, K: Sink>(alloc: Global, words: &[Word], input: &mut S, out
     ensures usage_reads_nothing { result ≡ Status.Usage → input.new ≡ input.old }
     ensures usage_writes_nothing { result ≡ Status.Usage → out.new ≡ out.old }
 
+    // A count never falls.
+    ensures read_later { S.faults input.old ≤ S.faults input.new }
+    ensures written_later { K.faults out.old ≤ K.faults out.new }
+
     // Where nothing fails, the answer is the text's own.
     ensures own_answer { IsForm words.now → ¬ Rose (S.faults input.old) (S.faults input.new) → ¬ Rose (K.faults out.old) (K.faults out.new)
         → IfSome (S.left input.old) (λ text. (result ≡ own_answer text) ⊎ (result ≡ Status.NoMemory)) }
@@ -97,6 +101,8 @@ fn run_input<S: Source, K: Sink>(alloc: Global, input: &mut S, out: &mut K) -> S
         record { left = S.left input.old; read_faults = S.faults input.old; taken = K.taken out.old; write_faults = K.faults out.old }
         record { left = S.left input.new; read_faults = S.faults input.new; taken = K.taken out.new; write_faults = K.faults out.new }
         result }
+    ensures read_later { S.faults input.old ≤ S.faults input.new }
+    ensures written_later { K.faults out.old ≤ K.faults out.new }
     ensures read_fault { result ≡ Status.ReadFault → out.new ≡ out.old }
     ensures too_long { result ≡ Status.TooLong → out.new ≡ out.old }
 {

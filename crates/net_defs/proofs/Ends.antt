@@ -1,12 +1,12 @@
 -- Ends, and the far end of a cable at them.
-use Rattle.std.proofs.Common.{◌≡◌, ◌≢◌, ℕ, List, [], ◌∷◌, ◌++◌, Bool, true, false, ◌&&◌, cond, Option, Some, None, sym, ◌∙◌, subst, ap, true≢false, refl, arith, rules, if◌then◌else◌}
+use Rattle.std.proofs.Common.{◌≡◌, ◌≢◌, List, [], ◌∷◌, ◌++◌, Bool, true, false, ◌&&◌, Some, None, sym, ◌∙◌, ap, true≢false, refl, if◌then◌else◌}
 use Rattle.std.specs.List.{AllByRecursion}
 use Rattle.std.proofs.lemmas.Bool.Decides.{Decides-eqb}
 use Rattle.net_defs.specs.declared.vertex.Vertex.{Vertex}
 use Rattle.net_defs.specs.declared.vertex.Vertex.TheVariants.{Host, Switch}
 use Rattle.net_defs.specs.declared.vertex.End.{End}
 use Rattle.net_defs.specs.declared.vertex.Cable.{Cable}
-use Rattle.net_defs.specs.Network.{same_vertex, same_end, far_end, ends_of, Apart}
+use Rattle.net_defs.specs.Network.{same_vertex, same_end, far_end, ends_of}
 use Rattle.net_defs.specs.Building.{first_of_two}
 
 pub same_vertex-true : (u v : Vertex) → same_vertex u v ≡ true → u ≡ v

@@ -1,8 +1,7 @@
 -- A fabric that grows stays one.
-use Rattle.std.proofs.Common.{◌≡◌, ◌≢◌, ◌≤◌, ◌<◌, ◌+◌, ℕ, zero, suc, List, [], ◌∷◌, ◌++◌, Bool, true, false, ◌||◌, not, length, map, nat_le, nat_lt, Option, Some, None, is_some, sym, ◌∙◌, subst, ap, true≢false, refl, arith, rules, if◌then◌else◌, append_assoc, append-nil, length-append}
+use Rattle.std.proofs.Common.{◌≡◌, ◌≢◌, ◌≤◌, ◌<◌, ℕ, zero, suc, List, [], ◌∷◌, ◌++◌, Bool, true, false, ◌||◌, not, length, map, nat_le, Option, Some, None, is_some, sym, ◌∙◌, subst, ap, true≢false, refl, arith, if◌then◌else◌, append_assoc, length-append}
 use Rattle.std.proofs.lemmas.Bool.Decides.{nat_tests}
-use Rattle.std.specs.List.{AllByRecursion, list_any, slice_get}
-use Rattle.std.specs.Prelude.{bytes_eq}
+use Rattle.std.specs.List.{AllByRecursion, slice_get}
 use Rattle.std.specs.Option.{option_map_or}
 use Rattle.net_defs.specs.declared.vertex.Vertex.{Vertex}
 use Rattle.net_defs.specs.declared.vertex.Vertex.TheVariants.{Host, Switch}
@@ -12,7 +11,7 @@ use Rattle.net_defs.specs.Network.{Network, NamedSwitch, IsFabric, Apart, ports_
 use Rattle.net_defs.specs.declared.fault.GraphFault.TheVariants.{PortRange, NameTaken, Full, NoVertex, PortUsed}
 use Rattle.net_defs.specs.Building.{taken, with_host, with_switch, with_cable, host_refusal, switch_refusal, cable_refusal, is_used}
 use Rattle.net_defs.proofs.Distinct.{all-weaker, all-push, apart-insert, apart-push, new_name}
-use Rattle.net_defs.proofs.Ends.{far_end-unused, same_end-refl, both}
+use Rattle.net_defs.proofs.Ends.{far_end-unused, same_end-refl}
 
 -- a switch keeps its ports when others come
 pub ports-push : (ws : List NamedSwitch) (w : NamedSwitch) (s : ℕ) → option_map_or (λ x. x.ports) (slice_get ws s) 0 ≤ option_map_or (λ x. x.ports) (slice_get (ws ++ w ∷ []) s) 0

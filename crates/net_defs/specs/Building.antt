@@ -7,7 +7,7 @@ use Rattle.net_defs.specs.declared.vertex.Vertex.TheVariants.{Host, Switch}
 use Rattle.net_defs.specs.declared.vertex.End.{End}
 use Rattle.net_defs.specs.declared.fault.GraphFault.{GraphFault}
 use Rattle.net_defs.specs.declared.fault.GraphFault.TheVariants.{PortRange, NameTaken, Full, NoVertex, PortUsed}
-use Rattle.net_defs.specs.Network.{Network, NamedSwitch, names, has_vertex, has_port, is_port_count, same_end, far}
+use Rattle.net_defs.specs.Network.{Network, names, has_vertex, has_port, is_port_count, same_end, far}
 
 -- a host or a switch has the name
 abbrev pub taken : Network → List ℕ → Bool

@@ -1,9 +1,9 @@
 -- Fabrics for worked examples.
-use Rattle.std.specs.Prelude.{ℕ, List, [], ◌∷◌, codes}
+use Rattle.std.specs.Prelude.{ℕ, [], ◌∷◌, codes}
 use Rattle.net_defs.specs.declared.vertex.Vertex.TheVariants.{Host, Switch}
 use Rattle.net_defs.specs.declared.vertex.Cable.{Cable}
 use Rattle.net_defs.specs.declared.vertex.End.{End}
-use Rattle.net_defs.specs.Network.{Network, NamedSwitch}
+use Rattle.net_defs.specs.Network.{Network}
 
 abbrev pub host_end : ℕ → End
 host_end h = record { v = Host h; p = 0 }

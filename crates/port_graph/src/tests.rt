@@ -2,6 +2,7 @@
 
 use super::*;
 use std::alloc::Global;
+use std::process::Abort;
 use std::test::Fail;
 
 const fn host(h: u16) -> End {
@@ -118,71 +119,88 @@ fn a_walk_enters_again_the_channel_that_it_leaves(rt: HostRuntime) -> Result<(),
     Ok(())
 }
 
+// Each of these makes one call, compares its answer, and that a refusal changes nothing. Without a clause they keep the callers' proofs short.
+fn try_host(
+    rt: &(impl Abort + AllocGlobal),
+    fabric: &mut Fabric,
+    name: &[u8],
+    want: Result<u16, GraphFault>,
+) {
+    let before = counts(fabric);
+    let answer = fabric.add_host(rt.alloc(), name);
+    assert!(rt; answer == want, "host {name:?}: {answer:?}");
+    assert!(rt; want.is_ok() || counts(fabric) == before);
+}
+
+fn try_switch(
+    rt: &(impl Abort + AllocGlobal),
+    fabric: &mut Fabric,
+    name: &[u8],
+    ports: u8,
+    want: Result<u16, GraphFault>,
+) {
+    let before = counts(fabric);
+    let answer = fabric.add_switch(rt.alloc(), name, ports);
+    assert!(rt; answer == want, "switch {name:?}: {answer:?}");
+    assert!(rt; want.is_ok() || counts(fabric) == before);
+}
+
+fn try_cable(rt: &impl Abort, fabric: &mut Fabric, a: End, b: End, want: Result<u16, GraphFault>) {
+    let before = counts(fabric);
+    let answer = fabric.add_cable(a, b);
+    assert!(rt; answer == want, "cable {a:?} {b:?}: {answer:?}");
+    assert!(rt; want.is_ok() || counts(fabric) == before);
+}
+
 #[test]
 fn cables_are_refused_in_order(rt: HostRuntime) -> Result<(), Fail> {
     let mut fabric = two_hosts(rt.alloc())?;
-    for (a, b, fault) in [
-        (host(2), switch(0, 8), GraphFault::NoVertex),
-        (switch(0, 8), switch(1, 0), GraphFault::NoVertex),
-        (switch(0, 8), host(0), GraphFault::PortRange),
-        (host(0), switch(0, 8), GraphFault::PortRange),
-        (host(0), switch(0, 0), GraphFault::PortUsed),
-        (switch(0, 0), switch(0, 5), GraphFault::PortUsed),
-        (switch(0, 0), switch(0, 0), GraphFault::PortUsed),
+    for (a, b, want) in [
+        (host(2), switch(0, 8), Err(GraphFault::NoVertex)),
+        (switch(0, 8), switch(1, 0), Err(GraphFault::NoVertex)),
+        (switch(0, 8), host(0), Err(GraphFault::PortRange)),
+        (host(0), switch(0, 8), Err(GraphFault::PortRange)),
+        (host(0), switch(0, 0), Err(GraphFault::PortUsed)),
+        (switch(0, 0), switch(0, 5), Err(GraphFault::PortUsed)),
+        (switch(0, 0), switch(0, 0), Err(GraphFault::PortUsed)),
+        (switch(0, 0), switch(0, 7), Ok(2)),
     ] {
-        assert_eq!(rt; fabric.add_cable(a, b), Err(fault));
-        assert_eq!(rt; counts(&fabric), (2, 1, 2));
+        try_cable(&rt, &mut fabric, a, b, want);
     }
-    assert_eq!(rt; fabric.add_cable(switch(0, 0), switch(0, 7)), Ok(2));
     Ok(())
 }
 
 #[test]
 fn names_are_refused_in_order(rt: HostRuntime) -> Result<(), Fail> {
-    let alloc = rt.alloc();
-    let mut fabric = two_hosts(alloc)?;
-    assert_eq!(rt; fabric.add_host(alloc, b"a"), Err(GraphFault::NameTaken));
-    assert_eq!(rt; fabric.add_host(alloc, b"s"), Err(GraphFault::NameTaken));
-    assert_eq!(rt;
-        fabric.add_switch(alloc, b"s", 6),
-        Err(GraphFault::PortRange)
-    );
-    assert_eq!(rt;
-        fabric.add_switch(alloc, b"b", 16),
-        Err(GraphFault::NameTaken)
-    );
-    assert_eq!(rt; counts(&fabric), (2, 1, 2));
+    let mut fabric = two_hosts(rt.alloc())?;
+    try_host(&rt, &mut fabric, b"a", Err(GraphFault::NameTaken));
+    try_host(&rt, &mut fabric, b"s", Err(GraphFault::NameTaken));
+    try_switch(&rt, &mut fabric, b"s", 6, Err(GraphFault::PortRange));
+    try_switch(&rt, &mut fabric, b"b", 16, Err(GraphFault::NameTaken));
     Ok(())
 }
 
 #[test]
-fn a_fabric_is_full(rt: HostRuntime) -> Result<(), Fail> {
-    let alloc = rt.alloc();
-    let mut fabric = Fabric::new(alloc);
+fn a_fabric_is_full(rt: HostRuntime) {
+    let mut fabric = Fabric::new(rt.alloc());
     for h in 0..128u8 {
-        assert_eq!(rt; fabric.add_host(alloc, &[b'h', h]), Ok(u16::from(h)));
+        try_host(&rt, &mut fabric, &[b'h', h], Ok(u16::from(h)));
     }
     for s in 0..64u8 {
-        assert_eq!(rt; fabric.add_switch(alloc, &[b's', s], 4), Ok(u16::from(s)));
+        try_switch(&rt, &mut fabric, &[b's', s], 4, Ok(u16::from(s)));
     }
-    assert_eq!(rt; fabric.add_host(alloc, b"h"), Err(GraphFault::Full));
     assert_eq!(rt;
-        fabric.add_host(alloc, &[b'h', 0]),
-        Err(GraphFault::NameTaken)
+        fabric.walk(127, &[]),
+        Place::Nothing,
+        "a host without cable"
     );
-    assert_eq!(rt; fabric.add_switch(alloc, b"s", 4), Err(GraphFault::Full));
-    assert_eq!(rt;
-        fabric.add_switch(alloc, &[b's', 0], 4),
-        Err(GraphFault::NameTaken)
-    );
-    assert_eq!(rt;
-        fabric.add_switch(alloc, &[b's', 0], 6),
-        Err(GraphFault::PortRange)
-    );
-    assert_eq!(rt; counts(&fabric), (128, 64, 0));
-    assert_eq!(rt; fabric.add_cable(host(127), switch(63, 3)), Ok(0));
+    try_host(&rt, &mut fabric, b"h", Err(GraphFault::Full));
+    try_host(&rt, &mut fabric, &[b'h', 0], Err(GraphFault::NameTaken));
+    try_switch(&rt, &mut fabric, b"s", 4, Err(GraphFault::Full));
+    try_switch(&rt, &mut fabric, &[b's', 0], 4, Err(GraphFault::NameTaken));
+    try_switch(&rt, &mut fabric, &[b's', 0], 6, Err(GraphFault::PortRange));
+    try_cable(&rt, &mut fabric, host(127), switch(63, 3), Ok(0));
     assert_eq!(rt; fabric.walk(127, &[]), Place::Switch(63, 3));
-    Ok(())
 }
 
 #[test]

@@ -1,4 +1,4 @@
-use Rattle.std.proofs.Common.{◌≡◌, length, arith, ap, ◌∙◌}
+use Rattle.std.proofs.Common.{◌≡◌, length, arith, ◌∙◌}
 use Rattle.std.specs.Prelude.{bytes_eq}
 use Rattle.fabric_run.proofs.Endings.{form-word}
 use Rattle.fabric_run.proofs.top.is_run.Goals as goal

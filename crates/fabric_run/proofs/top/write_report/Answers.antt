@@ -1,6 +1,5 @@
-use Rattle.std.proofs.Common.{◌≡◌, ◌<◌, List, length, get_or, drop, take, suc, ap, subst, ◌∙◌}
+use Rattle.std.proofs.Common.{◌≡◌, ◌<◌, length, get_or, drop, take, suc, ap, subst, ◌∙◌}
 use Rattle.std.specs.Prelude.{flat_map}
-use Rattle.fabric_run.specs.declared.script.Command.{Command}
 use Rattle.fab_outer.specs.Whole.{TakesPrefix}
 use Rattle.fabric_run.specs.Report.{lines_text}
 use Rattle.fabric_run.proofs.Writing.{flat_map-cut, flat_map-around, takes-more, rose-earlier, on_err}

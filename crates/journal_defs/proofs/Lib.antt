@@ -1,0 +1,11 @@
+pub mod Asking
+pub mod Cabling
+pub mod Counted
+pub mod Distance
+pub mod Growing
+pub mod Grown
+pub mod Members
+pub mod Order
+pub mod Reach
+pub mod Simple
+pub mod Standing

@@ -1,0 +1,13 @@
+pub mod Counting
+pub mod DistanceLaws
+pub mod Edges
+pub mod Examples
+pub mod Fabrics
+pub mod Growth
+pub mod Laws
+pub mod Part
+pub mod Replicates
+pub mod Tree
+pub mod Truth
+pub mod WalkLaws
+pub mod Walks

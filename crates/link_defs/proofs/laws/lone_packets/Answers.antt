@@ -1,0 +1,11 @@
+use Rattle.link_defs.proofs.LonePackets.{lone-advance, lone-place, no_channel-place}
+use Rattle.link_defs.proofs.laws.lone_packets.Goals as goal
+
+pub returns-clause-advance : goal.returns-clause-advance
+returns-clause-advance c = lone-advance
+
+pub returns-clause-place : goal.returns-clause-place
+returns-clause-place c = lone-place
+
+pub returns-clause-no_channel : goal.returns-clause-no_channel
+returns-clause-no_channel c = no_channel-place

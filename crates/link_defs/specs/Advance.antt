@@ -1,0 +1,58 @@
+-- One step of a channel's packet: on through a switch, to its host, or nowhere.
+use Rattle.std.specs.Prelude.{ℕ, List, Option, Some, None}
+use Rattle.net_defs.specs.declared.vertex.Vertex.{Vertex}
+use Rattle.net_defs.specs.declared.vertex.Vertex.TheVariants.{Host, Switch}
+use Rattle.net_defs.specs.declared.vertex.End.{End}
+use Rattle.net_defs.specs.Network.{Network, ports_of}
+use Rattle.net_defs.specs.Route.{channel_from}
+use Rattle.packet_defs.specs.Packet.{stripped}
+use Rattle.link_defs.specs.declared.turned.Turned.{Turned}
+use Rattle.link_defs.specs.declared.turned.Turned.TheVariants.{Out, OutOfRange as TurnedTooFar, NotRoute as NoTurn}
+use Rattle.link_defs.specs.declared.moved.Why.TheVariants.{OutOfRange, NotRoute, NoCable}
+use Rattle.link_defs.specs.declared.moved.Course.{Course}
+use Rattle.link_defs.specs.declared.moved.Course.TheVariants.{Arrives, Enters, Drops}
+use Rattle.link_defs.specs.declared.moved.Moved.{Moved}
+use Rattle.link_defs.specs.declared.moved.Moved.TheVariants.{To, AtHost, Dropped, Blocked, Empty}
+use Rattle.link_defs.specs.Channel.{channel_head}
+use Rattle.link_defs.specs.Switch.{aim}
+use Rattle.link_defs.specs.Links.{Held, LinkState, packet_in, with_packet, emptied}
+
+abbrev pub course_by_channel : Option ℕ → Course
+course_by_channel None = Drops NoCable
+course_by_channel (Some next) = Enters next
+
+abbrev pub course_out : Network → ℕ → Turned → Course
+course_out n s (Out port) = course_by_channel (channel_from n (record { v = Switch s; p = port }))
+course_out n s TurnedTooFar = Drops OutOfRange
+course_out n s NoTurn = Drops NotRoute
+
+abbrev pub course_at : Network → Vertex → ℕ → List ℕ → Course
+course_at n (Host h) entry wire = Arrives h
+course_at n (Switch s) entry wire = course_out n s (aim (ports_of n (Switch s)) entry wire)
+
+abbrev pub course_into : Network → Option End → List ℕ → Course
+course_into n None wire = Drops NoCable
+course_into n (Some e) wire = course_at n e.v e.p wire
+
+-- Where a channel's packet goes, whatever the other channels hold: to the host at the channel's head, or by the turn in front of it into the
+-- next channel. A switch drops a packet without a turn, with a turn to a port that it lacks, and with one to a port without cable.
+abbrev pub course : Network → ℕ → List ℕ → Course
+course n c wire = course_into n (channel_head n c) wire
+
+-- a packet enters the next channel, if that is empty once this packet is taken out: it may be the channel that it leaves
+abbrev pub entered : LinkState → ℕ → Held → ℕ → Option Held → Moved (List ℕ) × LinkState
+entered s c held next None = (To next, with_packet (emptied s c) next (Some (record held { wire = stripped held.wire })))
+entered s c held next (Some other) = (Blocked next, s)
+
+abbrev pub gone_on : LinkState → ℕ → Held → Course → Moved (List ℕ) × LinkState
+gone_on s c held (Arrives h) = (AtHost h held.wire, emptied s c)
+gone_on s c held (Enters next) = entered s c held next (packet_in (emptied s c) next)
+gone_on s c held (Drops why) = (Dropped why, emptied s c)
+
+abbrev pub advance_of : LinkState → ℕ → Option Held → Moved (List ℕ) × LinkState
+advance_of s c None = (Empty, s)
+advance_of s c (Some held) = gone_on s c held (course s.net c held.wire)
+
+-- One step of a channel: what became of its packet, and the links after it.
+abbrev pub advance : LinkState → ℕ → Moved (List ℕ) × LinkState
+advance s c = advance_of s c (packet_in s c)

@@ -1,0 +1,13 @@
+pub mod Advance
+pub mod Channel
+pub mod Examples
+pub mod Fault
+pub mod Hops
+pub mod Laws
+pub mod Links
+pub mod Lone
+pub mod Mark
+pub mod Ordered
+pub mod Shape
+pub mod Step
+pub mod Switch

@@ -1,0 +1,31 @@
+-- One step of the links, of any kind, and many.
+use Rattle.std.specs.Prelude.{ℕ, List, [], ◌∷◌}
+use Rattle.link_defs.specs.Links.{LinkState, put}
+use Rattle.link_defs.specs.Advance.{advance}
+use Rattle.link_defs.specs.Fault.{lose, reset, repeat, hold, flip, replay}
+
+pub data Step : Type 0 where
+  Put : (channel : ℕ) → (wire : List ℕ) → Step
+  Advance : (channel : ℕ) → Step
+  Lose : (channel : ℕ) → Step
+  Reset : (channel : ℕ) → Step
+  Repeat : (channel : ℕ) → Step
+  Hold : (channel : ℕ) → Step
+  Flip : (channel bit pattern : ℕ) → Step
+  Replay : (serial : ℕ) → Step
+
+-- the links after a step
+abbrev pub stepped : LinkState → Step → LinkState
+stepped s (Put c wire) = (put s c wire).1
+stepped s (Advance c) = (advance s c).1
+stepped s (Lose c) = (lose s c).1
+stepped s (Reset c) = (reset s c).1
+stepped s (Repeat c) = (repeat s c).1
+stepped s (Hold c) = (hold s c).1
+stepped s (Flip c bit pattern) = (flip s c bit pattern).1
+stepped s (Replay serial) = (replay s serial).1
+
+-- the links after many
+abbrev pub stepped_all : LinkState → List Step → LinkState
+stepped_all s [] = s
+stepped_all s (x ∷ xs) = stepped_all (stepped s x) xs

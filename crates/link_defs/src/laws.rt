@@ -1,0 +1,70 @@
+//! What holds of every step of the links: each function's contract is the law, and its body is empty. `specs/Laws.antt` has the statements.
+
+ghost use Rattle.link_defs.specs.Laws.{ChannelLeavesItsEnd, TailHasItsChannel, AdvanceLowersHops, StillAdvance, NoHopsIsIdle, StuckIsStill, StillIsStuck};
+ghost use Rattle.link_defs.specs.Laws.{RefusedPut, IdleLose, IdleReset, IdleRepeat, IdleHold, IdleFlip, IdleReplay};
+ghost use Rattle.link_defs.specs.Laws.{EmptyIsLinks, EmptyIsIdle, StepKeepsFabric, StepKeepsLinks, StepsKeepFabric, StepsKeepLinks};
+ghost use Rattle.link_defs.specs.Lone.{LoneAdvance, LonePacketWalks, NoChannelIsStuck};
+ghost use Rattle.link_defs.specs.Ordered.{NextIsLeast, NoNextIsLeft, NewSerialIsLast, FoundByOrder, TakenByOrder};
+ghost use Rattle.link_defs.specs.Mark.{EmptyHasTrueMarks, MarksStayTrue};
+
+/// A channel leaves by its tail and enters by the far end, and in a fabric each channel is the one that leaves by its tail.
+pub fn ends_of_channels()
+    ensures ends { ChannelLeavesItsEnd }
+    ensures back { TailHasItsChannel }
+{}
+
+/// An advance lowers the hops left of all packets, or changes nothing.
+pub fn falling_hops()
+    ensures lower { AdvanceLowersHops }
+    ensures still { StillAdvance }
+    ensures idle { NoHopsIsIdle }
+{}
+
+/// Links are stuck exactly where they hold a packet and no advance changes them.
+pub fn stuck_links()
+    ensures still { StuckIsStill }
+    ensures stuck { StillIsStuck }
+{}
+
+/// What isn't possible changes nothing.
+pub fn idle_steps()
+    ensures put { RefusedPut }
+    ensures lose { IdleLose }
+    ensures reset { IdleReset }
+    ensures repeat { IdleRepeat }
+    ensures hold { IdleHold }
+    ensures flip { IdleFlip }
+    ensures replay { IdleReplay }
+{}
+
+/// After every list of steps the fabric is the same, and the links are links.
+pub fn kept_by_steps()
+    ensures empty { EmptyIsLinks }
+    ensures empty_idle { EmptyIsIdle }
+    ensures fabric { StepKeepsFabric }
+    ensures links { StepKeepsLinks }
+    ensures fabric_after_all { StepsKeepFabric }
+    ensures links_after_all { StepsKeepLinks }
+{}
+
+/// A packet alone in the links goes the way of its walk, and ends at the walk's place.
+pub fn lone_packets()
+    ensures advance { LoneAdvance }
+    ensures place { LonePacketWalks }
+    ensures no_channel { NoChannelIsStuck }
+{}
+
+/// After all steps a marked packet has a difference, so each host drops it, and one without mark has none.
+pub fn true_marks()
+    ensures empty { EmptyHasTrueMarks }
+    ensures stay { MarksStayTrue }
+{}
+
+/// An ordered map from serials keeps limbo as it stands: a new serial is the last, and a serial is found and taken out by the order.
+pub fn limbo_in_order()
+    ensures next { NextIsLeast }
+    ensures no_next { NoNextIsLeft }
+    ensures last { NewSerialIsLast }
+    ensures found { FoundByOrder }
+    ensures taken { TakenByOrder }
+{}

@@ -1,0 +1,14 @@
+pub mod Certified
+pub mod Certifying
+pub mod Channels
+pub mod Cycles
+pub mod Leading
+pub mod Levels
+pub mod Moved
+pub mod Places
+pub mod Ports
+pub mod Ranking
+pub mod RingRoutes
+pub mod Sameness
+pub mod Shortening
+pub mod TwoHosts

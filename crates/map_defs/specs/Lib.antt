@@ -1,0 +1,9 @@
+pub mod Core
+pub mod Dependencies
+pub mod NetMap
+pub mod Orientation
+pub mod Quotient
+pub mod Routing
+pub mod Sameness
+pub mod Examples
+pub mod Laws

@@ -1,0 +1,10 @@
+pub mod Bursts
+pub mod Checking
+pub mod Crcs
+pub mod Folding
+pub mod Hosts
+pub mod Masks
+pub mod Packets
+pub mod Reduced
+pub mod Remainders
+pub mod RouteBytes

@@ -1,0 +1,24 @@
+//! What a packet is: its bytes on the wire, its CRC, the strip of a route byte, a burst of flipped bits, and what a host makes of it.
+//!
+//! This crate holds definitions and the small types that they speak of. It holds no packet in memory and computes no CRC.
+//! `specs/Packet.antt` says what a packet's bytes are, `specs/Crc.antt` its CRC, `specs/Bits.antt` the remainder behind it,
+//! `specs/RouteByte.antt` the byte of a turn, `specs/Burst.antt` a flip, and `specs/Host.antt` what a host answers.
+//!
+//! ```text
+//!   83 | 00 05 | .. | AD        one turn of +3, the type, a payload, the CRC
+//!   -----head------
+//!   strip of 83: 00 05 | .. | 1B    1B is AD, exclusive or the contribution of 83
+//! ```
+#![tactic(auto)]
+
+mod examples;
+mod host_drop;
+mod kind;
+mod laws;
+
+pub use examples::{checks, drops_at_a_host, flip_of_a_frame, polynomials, wire_bytes};
+pub use host_drop::HostDrop;
+pub use kind::Kind;
+pub use laws::{
+    built_packets, crc_of_parts, flips, remainder_of_a_division, strips, turns_of_route_bytes,
+};
