@@ -1,0 +1,59 @@
+-- What holds of every body, every connection and every message.
+use Rattle.std.specs.Prelude.{◌≡◌, ◌↔◌, ℕ, ◌<◌, ◌≤◌, ◌^◌, true, false, nat_eq, List, [], ◌∷◌, length, Some, None, Ok}
+use Rattle.std.specs.List.{AllByRecursion, list_any}
+use Rattle.gm_defs.specs.declared.message.Message.{Message}
+use Rattle.gm_defs.specs.declared.frame.FrameHead.{FrameHead}
+use Rattle.gm_defs.specs.declared.frame.Ack.{Ack}
+use Rattle.gm_defs.specs.declared.frame.GmBody.TheVariants.{Frame, Ack as Acknowledges}
+use Rattle.gm_defs.specs.Fragment.{pieces, joined}
+use Rattle.gm_defs.specs.Body.{piece, is_head, frame_bytes, ack_bytes, part_in, decode, number_limit}
+use Rattle.gm_defs.specs.Connection.{SenderState, IsSender, starting, due, sent_one, acknowledged, expired, is_spent, offered}
+use Rattle.gm_defs.specs.Token.{sizes, room, size_for_length}
+
+-- a frame by the rules is read as what it is
+abbrev pub FrameIsRead : Type 0
+FrameIsRead =
+    (h : FrameHead) (part : List ℕ) → h.src < 2 ^ 16 → h.dst < 2 ^ 16 → is_head h ≡ true → length part ≡ h.len
+    → (decode (frame_bytes h part) ≡ Ok (Frame h)) × (part_in (frame_bytes h part) ≡ part)
+
+-- and so is an acknowledgement
+abbrev pub AckIsRead : Type 0
+AckIsRead = (a : Ack) → a.src < 2 ^ 16 → a.dst < 2 ^ 16 → a.next < 2 ^ 32 → decode (ack_bytes a) ≡ Ok (Acknowledges a)
+
+-- a new connection has its numbers in order
+abbrev pub StartingIsSender : Type 0
+StartingIsSender = (first : ℕ) → first ≤ number_limit → IsSender (starting first)
+
+-- the numbers stay in order: what is due is one that was offered and lies in the window
+abbrev pub SendingStays : Type 0
+SendingStays = (s : SenderState) (n : ℕ) → IsSender s → due s ≡ Some n → IsSender (sent_one s)
+
+abbrev pub AcknowledgingStays : Type 0
+AcknowledgingStays = (s : SenderState) (n : ℕ) → IsSender s → IsSender (acknowledged s n)
+
+abbrev pub ExpiringStays : Type 0
+ExpiringStays = (s : SenderState) → IsSender s → IsSender (expired s)
+
+abbrev pub OfferingStays : Type 0
+OfferingStays = (s : SenderState) (count : ℕ) → IsSender s → is_spent s count ≡ false → IsSender (offered s count)
+
+-- What makes a size the least that has room for a length.
+pub record IsLeastSize (len size : ℕ) : Type 0 where
+  pub one_of : list_any (nat_eq size) sizes ≡ true
+  pub has_room : len ≤ room size
+  pub least : AllByRecursion (λ other. other < size → room other < len) sizes
+
+abbrev pub SizeIsLeast : Type 0
+SizeIsLeast = (len size : ℕ) → size_for_length len ≡ Some size → IsLeastSize len size
+
+-- no size has room for more than 65,528 bytes, and every length up to that has one
+abbrev pub NoSizeAbove : Type 0
+NoSizeAbove = (len : ℕ) → (size_for_length len ≡ None) ↔ (65528 < len)
+
+-- the pieces of a message make it whole
+abbrev pub PiecesMakeMessage : Type 0
+PiecesMakeMessage = (m : Message) → joined (pieces m) ≡ m.body
+
+-- a message of one piece
+abbrev pub ShortIsOnePiece : Type 0
+ShortIsOnePiece = (m : Message) → length m.body ≤ piece → pieces m ≡ record { message = m; offset = 0; part = m.body } ∷ []

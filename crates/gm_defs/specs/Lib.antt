@@ -1,0 +1,7 @@
+pub mod Body
+pub mod Connection
+pub mod Examples
+pub mod Fragment
+pub mod Laws
+pub mod Mapping
+pub mod Token

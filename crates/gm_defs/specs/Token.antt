@@ -1,0 +1,101 @@
+-- Sizes of buffers, and where the tokens of a port are.
+use Rattle.std.specs.Prelude.{ℕ, ◌-◌, ◌<◌, ◌^◌, Bool, false, ◌&&◌, List, [], ◌∷◌, ◌++◌, map, find, nat_eq, nat_le, is_some, if◌then◌else◌, Option, Some, None}
+use Rattle.std.specs.List.{list_any, AllByRecursion}
+use Rattle.net_defs.specs.Network.{Apart}
+use Rattle.gm_defs.specs.declared.token.TokenPlace.{TokenPlace}
+use Rattle.gm_defs.specs.declared.token.TokenPlace.TheVariants.{Queue, Provided as WithBuffer, Event}
+
+-- a buffer of this size has room for so many bytes of a message
+abbrev pub room : ℕ → ℕ
+room size = 2 ^ size - 8
+
+abbrev pub sizes : List ℕ
+sizes = 4 ∷ 5 ∷ 6 ∷ 7 ∷ 8 ∷ 9 ∷ 10 ∷ 11 ∷ 12 ∷ 13 ∷ 14 ∷ 15 ∷ 16 ∷ []
+
+-- the least size that has room for a message of this length
+abbrev pub size_for_length : ℕ → Option ℕ
+size_for_length len = find (λ size. nat_le len (room size)) sizes
+
+abbrev pub is_size : ℕ → Option ℕ → Bool
+is_size size None = false
+is_size size (Some least) = nat_eq size least
+
+-- a token of this size and priority fits a message: of the least size that has room, and of its priority
+abbrev pub fits : ℕ → ℕ → ℕ → ℕ → Bool
+fits size prio len message_prio = is_size size (size_for_length len) && nat_eq prio message_prio
+
+-- A send that isn't finished: its token and its buffer.
+pub record Sending : Type 0 where
+  pub token : ℕ
+  pub buffer : List ℕ
+
+-- A provided token, with its buffer.
+pub record Provided : Type 0 where
+  pub token : ℕ
+  pub size : ℕ
+  pub prio : ℕ
+  pub buffer : List ℕ
+
+-- An event of a port's queue: a message was acknowledged, or one was received.
+pub data PortEvent : Type 0 where
+  Sent : (token : ℕ) → (buffer : List ℕ) → PortEvent
+  Received : (token : ℕ) → (buffer : List ℕ) → (from sport prio len : ℕ) → PortEvent
+
+-- An open port: how many tokens of each kind it has, the sends that aren't finished, the provided tokens, first provided first, and the events, first put in first.
+pub record PortState : Type 0 where
+  pub sends : ℕ
+  pub recvs : ℕ
+  pub queue : List Sending
+  pub provided : List Provided
+  pub events : List PortEvent
+
+-- a port as it is opened: the client has all its tokens
+abbrev pub opened : ℕ → ℕ → PortState
+opened sends recvs = record { sends = sends; recvs = recvs; queue = []; provided = []; events = [] }
+
+-- the send tokens and the receive tokens of events
+abbrev pub sent_tokens : List PortEvent → List ℕ
+sent_tokens [] = []
+sent_tokens (Sent t b ∷ es) = t ∷ sent_tokens es
+sent_tokens (Received t b from sport prio len ∷ es) = sent_tokens es
+
+abbrev pub received_tokens : List PortEvent → List ℕ
+received_tokens [] = []
+received_tokens (Sent t b ∷ es) = received_tokens es
+received_tokens (Received t b from sport prio len ∷ es) = t ∷ received_tokens es
+
+-- the send tokens, and the receive tokens, that the client hasn't
+abbrev pub sends_out : PortState → List ℕ
+sends_out p = map (λ s. s.token) p.queue ++ sent_tokens p.events
+
+abbrev pub recvs_out : PortState → List ℕ
+recvs_out p = map (λ r. r.token) p.provided ++ received_tokens p.events
+
+-- One owner: each number that the client hasn't is one of the port's and stands in one place, once, and there with one buffer.
+pub record HasOneOwner (p : PortState) : Type 0 where
+  pub sends_once : Apart (sends_out p)
+  pub recvs_once : Apart (recvs_out p)
+  pub sends_below : AllByRecursion (λ t. t < p.sends) (sends_out p)
+  pub recvs_below : AllByRecursion (λ t. t < p.recvs) (recvs_out p)
+
+abbrev pub has_number : List ℕ → ℕ → Bool
+has_number ts t = list_any (nat_eq t) ts
+
+-- the place of a send token: none where the client has it
+abbrev pub place_of_send : PortState → ℕ → Option TokenPlace
+place_of_send p t =
+    if has_number (map (λ s. s.token) p.queue) t then Some Queue else if has_number (sent_tokens p.events) t then Some Event else None
+
+-- the place of a receive token
+abbrev pub place_of_recv : PortState → ℕ → Option TokenPlace
+place_of_recv p t =
+    if has_number (map (λ r. r.token) p.provided) t then Some WithBuffer
+    else if has_number (received_tokens p.events) t then Some Event
+    else None
+
+-- of the provided tokens that fit a message, the first provided
+abbrev pub fitting : PortState → ℕ → ℕ → Option Provided
+fitting p len prio = find (λ r. fits r.size r.prio len prio) p.provided
+
+abbrev pub can_take : PortState → ℕ → ℕ → Bool
+can_take p len prio = is_some (fitting p len prio)

@@ -1,0 +1,85 @@
+//! Worked examples, computed by the prover: each function's contract is the example, and its body is empty.
+
+ghost use Rattle.std.specs.Prelude.{◌≡◌, ◌∷◌, [], pos, negsuc, codes, replicate, map, length, true, false};
+ghost use Rattle.gm_defs.specs.declared.frame.GmBody.{GmBody};
+ghost use Rattle.gm_defs.specs.declared.token.Took.{Took};
+ghost use Rattle.gm_defs.specs.declared.token.TokenPlace.{TokenPlace};
+ghost use Rattle.gm_defs.specs.Body.{frame_bytes, ack_bytes, decode, is_head};
+ghost use Rattle.gm_defs.specs.Mapping.{HostProbe, HostReply, Loopback, Part, PartAck, mapping_bytes, decode_mapping};
+ghost use Rattle.gm_defs.specs.Fragment.{pieces, fragments, frame_of, whole_below, piece_count};
+ghost use Rattle.gm_defs.specs.Connection.{starting, due, sent_one, acknowledged, expired, offered, unacknowledged, is_spent, took};
+ghost use Rattle.gm_defs.specs.Token.{size_for_length, fits, HasOneOwner, place_of_send, place_of_recv, can_take};
+ghost use Rattle.gm_defs.specs.Examples.{message, abc, first_part, busy_port};
+
+/// A frame of three bytes and its acknowledgement.
+pub fn bodies_of_frames()
+    ensures frame { frame_bytes abc (codes "ABC") ≡ 1 ∷ 1 ∷ 0 ∷ 0 ∷ 0 ∷ 1 ∷ 0 ∷ 1 ∷ 0 ∷ 0 ∷ 0 ∷ 0 ∷ 0 ∷ 0 ∷ 0 ∷ 0 ∷ 3 ∷ 0 ∷ 0 ∷ 0 ∷ 0 ∷ 0 ∷ 3 ∷ 65 ∷ 66 ∷ 67 ∷ [] }
+    ensures read { decode (frame_bytes abc (codes "ABC")) ≡ Ok (GmBody.Frame abc) }
+    ensures too_long { decode (frame_bytes abc (codes "ABCD")) ≡ Err (record {}) }
+    ensures other_version { decode (1 ∷ 2 ∷ replicate 21 0) ≡ Err (record {}) }
+    ensures acknowledged { decode (ack_bytes (record { src = 1; dst = 0; next = 1 })) ≡ Ok (GmBody.Ack (record { src = 1; dst = 0; next = 1 })) }
+    ensures nothing { decode [] ≡ Err (record {}) }
+    ensures wrong_port { is_head (record abc { dport = 8 }) ≡ false }
+    ensures wrong_offset { is_head (record abc { offset = 3 }) ≡ false }
+{}
+
+/// A probe with its way back, a reply, a part of two entries, and what is no body.
+pub fn bodies_of_mapping()
+    ensures probe { mapping_bytes (HostProbe 7 0 (negsuc 2 ∷ [])) ≡ 1 ∷ 0 ∷ 0 ∷ 0 ∷ 0 ∷ 0 ∷ 0 ∷ 0 ∷ 7 ∷ 0 ∷ 0 ∷ 1 ∷ 189 ∷ [] }
+    ensures probe_read { decode_mapping (mapping_bytes (HostProbe 7 0 (negsuc 2 ∷ []))) ≡ Some (HostProbe 7 0 (negsuc 2 ∷ [])) }
+    ensures reply_read { decode_mapping (mapping_bytes (HostReply 7 1)) ≡ Some (HostReply 7 1) }
+    ensures loop_read { decode_mapping (mapping_bytes (Loopback 9 1)) ≡ Some (Loopback 9 1) }
+    ensures part { mapping_bytes (Part first_part) ≡ 4 ∷ 0 ∷ 0 ∷ 0 ∷ 1 ∷ 0 ∷ 0 ∷ 0 ∷ 2 ∷ 0 ∷ 2 ∷ 1 ∷ 189 ∷ 2 ∷ 0 ∷ 0 ∷ 1 ∷ 131 ∷ 0 ∷ 1 ∷ 0 ∷ [] }
+    ensures part_read { decode_mapping (mapping_bytes (Part first_part)) ≡ Some (Part first_part) }
+    ensures ack_read { decode_mapping (5 ∷ 0 ∷ 0 ∷ 0 ∷ 1 ∷ 0 ∷ 2 ∷ 0 ∷ []) ≡ Some (PartAck 1 2 0) }
+    ensures longer { decode_mapping (5 ∷ 0 ∷ 0 ∷ 0 ∷ 1 ∷ 0 ∷ 2 ∷ 0 ∷ 0 ∷ []) ≡ None }
+    ensures other_kind { decode_mapping (6 ∷ []) ≡ None }
+    ensures nothing { decode_mapping [] ≡ None }
+{}
+
+/// Pieces of messages, their numbers on a connection, and what is whole below a number.
+pub fn pieces_of_messages()
+    ensures empty_has_one { map (λ f. f.part) (pieces (message [])) ≡ [] ∷ [] }
+    ensures one { length (pieces (message (replicate 1016 7))) ≡ 1 }
+    ensures two { map (λ f. f.offset) (pieces (message (replicate 1017 7))) ≡ 0 ∷ 1016 ∷ [] }
+    ensures greatest { piece_count 65528 ≡ 65 }
+    ensures first { frame_of 0 1 (message (codes "ABC") ∷ message [] ∷ []) 0 ≡ Some (abc, codes "ABC") }
+    ensures not_sent { frame_of 0 1 (message (codes "ABC") ∷ message [] ∷ []) 2 ≡ None }
+    ensures both_whole { whole_below (message (replicate 1017 7) ∷ message [] ∷ []) 3 ≡ 2 }
+    ensures one_whole { whole_below (message (replicate 1017 7) ∷ message [] ∷ []) 2 ≡ 1 }
+{}
+
+/// Two messages are offered; the first is sent, the timer runs out, it is sent again and acknowledged.
+pub fn numbers_of_a_connection()
+    ensures nothing_due { due (starting 0) ≡ None }
+    ensures first_due { due (offered (starting 0) 2) ≡ Some 0 }
+    ensures sent { sent_one (offered (starting 0) 2) ≡ record { base = 0; cursor = 1; top = 1; next = 2 } }
+    ensures again { due (expired (sent_one (offered (starting 0) 2))) ≡ Some 0 }
+    ensures acknowledged { acknowledged (expired (sent_one (offered (starting 0) 2))) 1 ≡ record { base = 1; cursor = 1; top = 1; next = 2 } }
+    ensures never_sent { acknowledged (sent_one (offered (starting 0) 2)) 2 ≡ sent_one (offered (starting 0) 2) }
+    ensures one_left { unacknowledged (acknowledged (sent_one (offered (starting 0) 2)) 1) ≡ 1 }
+    ensures window_full { due (record { base = 0; cursor = 8; top = 8; next = 9 }) ≡ None }
+    ensures last_number { is_spent (starting 4294967294) 1 ≡ false }
+    ensures spent { is_spent (starting 4294967294) 2 ≡ true }
+    ensures taken { took 3 3 true ≡ Took.Whole }
+    ensures no_token { took 3 3 false ≡ Took.NoToken }
+    ensures repeated { took 3 2 true ≡ Took.NotNext }
+{}
+
+/// Sizes of buffers, and where a port's tokens are.
+pub fn sizes_of_tokens()
+    ensures smallest { size_for_length 8 ≡ Some 4 }
+    ensures next_size { size_for_length 9 ≡ Some 5 }
+    ensures greatest { size_for_length 65528 ≡ Some 16 }
+    ensures none { size_for_length 65529 ≡ None }
+    ensures fitting { fits 4 0 8 0 ≡ true }
+    ensures too_large { fits 5 0 8 0 ≡ false }
+    ensures other_priority { fits 4 0 8 1 ≡ false }
+    ensures one_owner { HasOneOwner busy_port }
+    ensures queued { place_of_send busy_port 1 ≡ Some TokenPlace.Queue }
+    ensures in_event { place_of_send busy_port 0 ≡ Some TokenPlace.Event }
+    ensures at_client { place_of_send busy_port 2 ≡ None }
+    ensures provided { place_of_recv busy_port 0 ≡ Some TokenPlace.Provided }
+    ensures taken { can_take busy_port 8 0 ≡ true }
+    ensures not_taken { can_take busy_port 9 0 ≡ false }
+{}

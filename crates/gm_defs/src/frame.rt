@@ -1,0 +1,42 @@
+//! What a body of type 0x0008 says.
+
+/// A frame but for its bytes: one fragment of a message.
+#[derive(Clone, Copy, Debug, PartialEq, Eq)]
+pub struct FrameHead {
+    /// The sending host.
+    pub src: u16,
+    /// The receiving host.
+    pub dst: u16,
+    pub sport: u8,
+    pub dport: u8,
+    pub prio: u8,
+    /// The fragment's number on its connection.
+    pub seq: u32,
+    /// The length of the whole message.
+    pub total: u32,
+    /// Where in the message the fragment begins.
+    pub offset: u32,
+    /// The length of the fragment.
+    pub len: u16,
+}
+
+/// An acknowledgement: all fragments below `next` were taken.
+#[derive(Clone, Copy, Debug, PartialEq, Eq)]
+pub struct Ack {
+    /// The host that acknowledges.
+    pub src: u16,
+    /// The host that sent the fragments.
+    pub dst: u16,
+    pub next: u32,
+}
+
+/// What a body says.
+#[derive(Clone, Copy, Debug, PartialEq, Eq)]
+pub enum GmBody {
+    Frame(FrameHead),
+    Ack(Ack),
+}
+
+/// Bytes that are no body.
+#[derive(Clone, Copy, Debug, PartialEq, Eq)]
+pub struct Malformed;

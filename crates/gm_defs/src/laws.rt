@@ -1,0 +1,30 @@
+//! What holds of every body, connection and size: each function's contract is the law, and its body is empty.
+
+ghost use Rattle.gm_defs.specs.Laws.{FrameIsRead, AckIsRead, StartingIsSender, SendingStays, AcknowledgingStays, ExpiringStays, OfferingStays, SizeIsLeast, NoSizeAbove, PiecesMakeMessage, ShortIsOnePiece};
+
+/// Bytes that were written are read as what they are.
+pub fn bodies_are_read()
+    ensures frame { FrameIsRead }
+    ensures acknowledgement { AckIsRead }
+{}
+
+/// The four numbers of a sender stay in order.
+pub fn senders_stay()
+    ensures starting { StartingIsSender }
+    ensures sending { SendingStays }
+    ensures acknowledging { AcknowledgingStays }
+    ensures expiring { ExpiringStays }
+    ensures offering { OfferingStays }
+{}
+
+/// The size for a length is the least that has room for it.
+pub fn sizes_are_least()
+    ensures least { SizeIsLeast }
+    ensures none { NoSizeAbove }
+{}
+
+/// A message is its pieces end to end, and one that is short enough is one piece.
+pub fn messages_of_pieces()
+    ensures whole { PiecesMakeMessage }
+    ensures one { ShortIsOnePiece }
+{}

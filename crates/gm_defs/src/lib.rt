@@ -1,0 +1,35 @@
+//! What the ports' messages are: message, fragment, frame and acknowledgement with their bytes, the numbers of a connection, and the
+//! places of a port's tokens.
+//!
+//! This crate holds definitions and the small types that they speak of. It sends no message.
+//!
+//! | file of `specs/` | says |
+//! |---|---|
+//! | `Body` | the bytes of frames and acknowledgements |
+//! | `Mapping` | the bytes of probes, replies, route parts and their acknowledgements |
+//! | `Fragment` | the pieces of a message, honest frames and acknowledgements |
+//! | `Connection` | the four numbers of a sender, the one of a receiver |
+//! | `Token` | sizes, and where each token of a port is |
+//!
+//! ```text
+//!   0              base         cursor        top          next
+//!   | acknowledged  | on its way  | due again  | never sent  |
+//! ```
+#![tactic(auto)]
+
+mod blob;
+mod examples;
+mod frame;
+mod laws;
+mod message;
+mod token;
+
+pub use blob::Blob;
+pub use examples::{
+    bodies_of_frames, bodies_of_mapping, numbers_of_a_connection, pieces_of_messages,
+    sizes_of_tokens,
+};
+pub use frame::{Ack, FrameHead, GmBody, Malformed};
+pub use laws::{bodies_are_read, messages_of_pieces, senders_stay, sizes_are_least};
+pub use message::Message;
+pub use token::{TokenPlace, Took};
