@@ -23,9 +23,11 @@ number_limit = 4294967295
 abbrev pub frame_length : ℕ
 frame_length = 23
 
+-- the bytes of an acknowledgement
 abbrev pub ack_length : ℕ
 ack_length = 10
 
+-- what stands in a frame before its fragment's bytes
 abbrev pub head_bytes : FrameHead → List ℕ
 head_bytes h =
     1 ∷ 1 ∷ to_be_bytes w16 h.src ++ to_be_bytes w16 h.dst ++ h.sport ∷ h.dport ∷ h.prio
@@ -67,6 +69,7 @@ head_in body = record {
   len = number_at w16 body 21 2;
 }
 
+-- the acknowledgement that stands in a body, whatever its bytes
 abbrev pub ack_in : List ℕ → Ack
 ack_in body = record { src = number_at w16 body 2 2; dst = number_at w16 body 4 2; next = number_at w32 body 6 4 }
 
@@ -78,10 +81,12 @@ part_in body = drop frame_length body
 abbrev pub begins_with : ℕ → List ℕ → Bool
 begins_with kind body = nat_eq (slice_index body 0) kind && nat_eq (slice_index body 1) 1
 
+-- a frame: its head is by the rules, and exactly its fragment's bytes follow
 abbrev pub is_frame : List ℕ → Bool
 is_frame body =
     nat_le frame_length (length body) && begins_with 1 body && is_head (head_in body) && nat_eq (length (part_in body)) (head_in body).len
 
+-- an acknowledgement: exactly its bytes
 abbrev pub is_ack : List ℕ → Bool
 is_ack body = nat_eq (length body) ack_length && begins_with 2 body
 

@@ -38,6 +38,7 @@ sent_one s = record s { cursor = s.cursor + 1; top = max s.top (s.cursor + 1) }
 abbrev pub is_taken : SenderState → ℕ → Bool
 is_taken s n = nat_lt s.base n && nat_le n s.top
 
+-- then it is the new base, and nothing below it is sent again
 abbrev pub acknowledged : SenderState → ℕ → SenderState
 acknowledged s n = if is_taken s n then record s { base = n; cursor = max s.cursor n } else s
 
@@ -61,6 +62,7 @@ offered s count = record s { next = s.next + count }
 abbrev pub took : ℕ → ℕ → Bool → Took
 took taken seq fits = if nat_eq seq taken then if fits then Whole else NoToken else NotNext
 
+-- how many it has taken then
 abbrev pub taken_after : ℕ → Took → ℕ
 taken_after taken Whole = taken + 1
 taken_after taken NoToken = taken

@@ -11,6 +11,7 @@ pub record Fragment : Type 0 where
   pub offset : ℕ
   pub part : List ℕ
 
+-- the piece of a message that begins at an offset
 abbrev pub fragment_at : Message → ℕ → Fragment
 fragment_at m offset = record { message = m; offset = offset; part = take piece (drop offset m.body) }
 

@@ -28,13 +28,16 @@ pub data MappingBody : Type 0 where
   Part : RoutePart → MappingBody
   PartAck : (epoch host part : ℕ) → MappingBody
 
+-- the bytes of a route
 abbrev pub route_bytes : List ℤ → List ℕ
 route_bytes walk = length walk ∷ map route_byte walk
 
+-- the bytes of entries, end to end: each a host and a route
 abbrev pub entry_bytes : List RouteEntry → List ℕ
 entry_bytes [] = []
 entry_bytes (e ∷ es) = to_be_bytes w16 e.to ++ route_bytes e.walk ++ entry_bytes es
 
+-- the bytes of a body: its kind, then its numbers and routes in this order
 abbrev pub mapping_bytes : MappingBody → List ℕ
 mapping_bytes (HostProbe number mapper back) = 1 ∷ to_be_bytes w64 number ++ to_be_bytes w16 mapper ++ route_bytes back
 mapping_bytes (HostReply number host) = 2 ∷ to_be_bytes w64 number ++ to_be_bytes w16 host
@@ -75,6 +78,7 @@ Front A = Option (A × List ℕ)
 abbrev pub number_front : Width → ℕ → List ℕ → Front ℕ
 number_front w count bytes = if nat_le count (length bytes) then Some (from_be_bytes w (take count bytes), drop count bytes) else None
 
+-- the byte in front
 abbrev pub byte_front : List ℕ → Front ℕ
 byte_front [] = None
 byte_front (byte ∷ bytes) = Some (byte, bytes)
@@ -84,31 +88,36 @@ abbrev pub turns_of : List ℕ → Option (List ℤ)
 turns_of [] = Some []
 turns_of (byte ∷ bytes) = option_and_then (λ turn. option_map (λ turns. turn ∷ turns) (turns_of bytes)) (turn_of byte)
 
+-- so many turns in front
 abbrev pub turns_front : ℕ → List ℕ → Front (List ℤ)
 turns_front n bytes = if nat_le n 64 && nat_le n (length bytes) then option_map (λ turns. (turns, drop n bytes)) (turns_of (take n bytes)) else None
 
+-- the route in front
 abbrev pub route_front : List ℕ → Front (List ℤ)
 route_front bytes = option_and_then (λ n. turns_front n.0 n.1) (byte_front bytes)
 
+-- the entry in front
 abbrev pub entry_front : List ℕ → Front RouteEntry
 entry_front bytes =
     option_and_then (λ to. option_map (λ walk. (record { to = to.0; walk = walk.0 }, walk.1)) (route_front to.1)) (number_front w16 2 bytes)
 
+-- so many entries in front
 abbrev pub entries_front : ℕ → List ℕ → Front (List RouteEntry)
 entries_front zero bytes = Some ([], bytes)
 entries_front (suc k) bytes = option_and_then (λ e. option_map (λ es. (e.0 ∷ es.0, es.1)) (entries_front k e.1)) (entry_front bytes)
 
 -- a value that is all of the bytes
-abbrev pub alone : {A : Type 0} → Front A → Option A
-alone None = None
-alone (Some (a, [])) = Some a
-alone (Some (a, byte ∷ bytes)) = None
+abbrev pub whole : {A : Type 0} → Front A → Option A
+whole None = None
+whole (Some (a, [])) = Some a
+whole (Some (a, byte ∷ bytes)) = None
 
 -- two numbers, the first of so many bytes, the second of two
 abbrev pub two_front : Width → ℕ → List ℕ → Front (ℕ × ℕ)
 two_front w count bytes =
     option_and_then (λ n. option_map (λ m. ((n.0, m.0), m.1)) (number_front w16 2 n.1)) (number_front w count bytes)
 
+-- a route part with what is in front: its entries, with their number before them; before these its way back; before it part and parts; before them the host
 abbrev pub with_entries : RoutePart → List ℕ → Front RoutePart
 with_entries p bytes =
     option_and_then (λ n. option_map (λ es. (record p { entries = es.0 }, es.1)) (entries_front n.0 n.1)) (byte_front bytes)
@@ -123,6 +132,7 @@ with_parts p bytes =
 abbrev pub with_dst : RoutePart → List ℕ → Front RoutePart
 with_dst p bytes = option_and_then (λ dst. with_parts (record p { dst = dst.0 }) dst.1) (number_front w16 2 bytes)
 
+-- the route part, the acknowledgement of one, and the host probe in front
 abbrev pub part_front : List ℕ → Front RoutePart
 part_front bytes =
     option_and_then
@@ -145,10 +155,12 @@ of_kind kind bytes =
     else if nat_eq kind 5 then ack_front bytes
     else None
 
-abbrev pub kept : Option MappingBody → Option MappingBody
-kept None = None
-kept (Some b) = if is_mapping b then Some b else None
+-- a body, if it is by the rules
+abbrev pub by_the_rules : Option MappingBody → Option MappingBody
+by_the_rules None = None
+by_the_rules (Some b) = if is_mapping b then Some b else None
 
+-- what a body says
 abbrev pub decode_mapping : List ℕ → Option MappingBody
 decode_mapping [] = None
-decode_mapping (kind ∷ bytes) = kept (alone (of_kind kind bytes))
+decode_mapping (kind ∷ bytes) = by_the_rules (whole (of_kind kind bytes))

@@ -9,6 +9,7 @@ use Rattle.gm_defs.specs.declared.token.TokenPlace.TheVariants.{Queue, Provided 
 abbrev pub room : ℕ → ℕ
 room size = 2 ^ size - 8
 
+-- the sizes of buffers
 abbrev pub sizes : List ℕ
 sizes = 4 ∷ 5 ∷ 6 ∷ 7 ∷ 8 ∷ 9 ∷ 10 ∷ 11 ∷ 12 ∷ 13 ∷ 14 ∷ 15 ∷ 16 ∷ []
 
@@ -16,6 +17,7 @@ sizes = 4 ∷ 5 ∷ 6 ∷ 7 ∷ 8 ∷ 9 ∷ 10 ∷ 11 ∷ 12 ∷ 13 ∷ 14 ∷ 1
 abbrev pub size_for_length : ℕ → Option ℕ
 size_for_length len = find (λ size. nat_le len (room size)) sizes
 
+-- this size is that one
 abbrev pub is_size : ℕ → Option ℕ → Bool
 is_size size None = false
 is_size size (Some least) = nat_eq size least
@@ -78,6 +80,7 @@ pub record HasOneOwner (p : PortState) : Type 0 where
   pub sends_below : AllByRecursion (λ t. t < p.sends) (sends_out p)
   pub recvs_below : AllByRecursion (λ t. t < p.recvs) (recvs_out p)
 
+-- a number is among these
 abbrev pub has_number : List ℕ → ℕ → Bool
 has_number ts t = list_any (nat_eq t) ts
 
@@ -97,5 +100,6 @@ place_of_recv p t =
 abbrev pub fitting : PortState → ℕ → ℕ → Option Provided
 fitting p len prio = find (λ r. fits r.size r.prio len prio) p.provided
 
+-- some provided token fits a message of this length and priority
 abbrev pub can_take : PortState → ℕ → ℕ → Bool
 can_take p len prio = is_some (fitting p len prio)
