@@ -1,6 +1,7 @@
 -- The first element of a rising list that passes a test, and the size for a length.
 use Rattle.std.proofs.Common.{◌≡◌, ◌<◌, ℕ, Bool, true, false, ◌||◌, nat_eq, nat_le, List, [], ◌∷◌, find, Some, lt_irrefl, refl, ap, ◌∙◌, subst, arith, if◌then◌else◌}
 use Rattle.std.specs.List.{AllByRecursion, list_any}
+use Rattle.std.proofs.Math.Bool.{or-true}
 use Rattle.std.proofs.lemmas.Bool.Decides.{nat_tests, Decides-eqb}
 use Rattle.net_defs.proofs.Distinct.{all-weaker}
 use Rattle.gm_defs.specs.Token.{sizes, room}
@@ -14,10 +15,6 @@ record IsFirst (p : ℕ → Bool) (xs : List ℕ) (x : ℕ) : Type 0 where
   among : list_any (nat_eq x) xs ≡ true
   passes : p x ≡ true
   lesser : AllByRecursion (λ y. y < x → p y ≡ false) xs
-
-or-true : (b : Bool) → (b || true) ≡ true
-or-true true = refl
-or-true false = refl
 
 at-head : (p : ℕ → Bool) (y : ℕ) (ys : List ℕ) → AllByRecursion (λ z. y < z) ys → p y ≡ true → IsFirst p (y ∷ ys) y
 at-head p y ys above q = record {

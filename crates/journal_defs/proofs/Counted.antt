@@ -7,6 +7,7 @@ use Rattle.std.specs.List.{AllByRecursion, IsDistinct, list_any, list_all}
 use Rattle.std.proofs.lemmas.Bool.{false≢true, and_parts, or_cases}
 use Rattle.std.proofs.lemmas.Bool.Decides.{Decides-int_eq}
 use Rattle.std.proofs.lemmas.Map.Made.{length-le_from_is_member}
+use Rattle.std.proofs.lemmas.List.{length-map}
 use Rattle.net_defs.specs.declared.vertex.Vertex.{Vertex}
 use Rattle.net_defs.specs.declared.vertex.Vertex.TheVariants.{Host, Switch}
 use Rattle.net_defs.specs.declared.vertex.End.{End}
@@ -34,16 +35,12 @@ walks_of n m None = []
 walks_of n zero (Some e) = [] ∷ []
 walks_of n (suc m) (Some e) = [] ∷ by_turns (λ t. walks_of n m (turned n (Some e) t)) onward_turns
 
-map-length : (t : ℤ) (ws : List (List ℤ)) → length (map (λ w. t ∷ w) ws) ≡ length ws
-map-length t [] = refl
-map-length t (w ∷ ws) = ap suc (map-length t ws)
-
 turns-length : (on : ℤ → List (List ℤ)) (count : ℤ → ℕ) (ts : List ℤ) → ((t : ℤ) → length (on t) ≡ count t) → length (by_turns on ts) ≡ total (map count ts)
 turns-length on count [] same = refl
 turns-length on count (t ∷ ts) same =
     let rest = turns-length on count ts same in
     let here = same t in
-    let first = map-length t (on t) in
+    let first = length-map (on t) (λ w. t ∷ w) in
     length-append (map (λ w. t ∷ w) (on t)) (by_turns on ts) ∙ (let e : length (map (λ w. t ∷ w) (on t)) + length (by_turns on ts) ≡ count t + total (map count ts) = omega arith in e)
 
 walks-length : (n : Network) (m : ℕ) (entered : Option End) → length (walks_of n m entered) ≡ walks_from n m entered

@@ -4,6 +4,7 @@ use Rattle.std.specs.Bool.{Decides}
 use Rattle.std.specs.List.{list_any, filter}
 use Rattle.std.proofs.lemmas.Bool.{false≢true, cases_order}
 use Rattle.std.proofs.lemmas.Bool.Decides.{nat_tests}
+use Rattle.std.proofs.lemmas.List.{map-append}
 use Rattle.net_defs.specs.declared.vertex.Vertex.{Vertex}
 use Rattle.net_defs.specs.declared.vertex.Vertex.TheVariants.{Host, Switch}
 use Rattle.net_defs.specs.declared.vertex.End.{End}
@@ -72,12 +73,8 @@ steps-path n x y k f (step {m = j} {v = v} {w = w} p e) = let h = edge-far n.cab
 number-below : (f : ℕ → Vertex) (n k : ℕ) → k < n → is_among same_vertex (map f (numbers_below n)) (f k) ≡ true
 number-below f zero k l = absurd (omega arith)
 number-below f (suc n) k l =
-    subst (λ vs. is_among same_vertex vs (f k) ≡ true) (sym (map-push f (numbers_below n) n)) (by (cases_order k n) (number-below f n k))
+    subst (λ vs. is_among same_vertex vs (f k) ≡ true) (sym (map-append f (numbers_below n) (n ∷ []))) (by (cases_order k n) (number-below f n k))
   where
-    map-push : (g : ℕ → Vertex) (xs : List ℕ) (x : ℕ) → map g (xs ++ x ∷ []) ≡ map g xs ++ g x ∷ []
-    map-push g [] x = refl
-    map-push g (y ∷ ys) x = ap (λ l. g y ∷ l) (map-push g ys x)
-
     by : (k ≡ n) ⊎ ((k < n) ⊎ (n < k)) → (k < n → is_among same_vertex (map f (numbers_below n)) (f k) ≡ true) → is_among same_vertex (map f (numbers_below n) ++ f n ∷ []) (f k) ≡ true
     by (inl e) rest = among-right same_vertex vertex_decides (map f (numbers_below n)) (f n ∷ []) (f k) (or-left (same_vertex (f k) (f n)) false (ap (λ i. same_vertex (f k) (f i)) (sym e) ∙ same_vertex-refl (f k)))
     by (inr (inl a)) rest = among-left same_vertex vertex_decides (map f (numbers_below n)) (f n ∷ []) (f k) (rest a)

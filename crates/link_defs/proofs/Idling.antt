@@ -4,6 +4,7 @@ use Rattle.std.specs.List.{list_all}
 use Rattle.std.proofs.lemmas.List.{get_or_past}
 use Rattle.std.proofs.lemmas.Bool.{cases_lt}
 use Rattle.net_defs.proofs.Ends.{both}
+use Rattle.net_defs.proofs.Growing.{no_some}
 use Rattle.packet_defs.specs.Burst.{flipped, may_flip}
 use Rattle.link_defs.specs.declared.replayed.Replayed.TheVariants.{Back, Busy}
 use Rattle.link_defs.specs.Links.{Held, Caught, LinkState, packet_in, with_packet, emptied, is_idle, put}
@@ -17,10 +18,6 @@ use Rattle.link_defs.proofs.HopsLeft.{advance-still, still-advance}
 -- one of two answers, each with the links after it
 abbrev pub pick : {X : Type 0} → Bool → X × LinkState → X × LinkState → X × LinkState
 pick t x y = if t then x else y
-
-no_some : {X : Type 0} (o : Option X) → is_some o ≡ false → o ≡ None
-no_some None e = refl
-no_some (Some x) e = absurd (true≢false e)
 
 pub put-refused : (s : LinkState) (c : ℕ) (wire : List ℕ) → (put s c wire).0 ≡ false → (put s c wire).1 ≡ s
 put-refused s c wire e = by (is_some (packet_in s c)) e

@@ -21,6 +21,7 @@ use Rattle.link_defs.specs.Step.{Step, Put, Advance, Lose, Reset, Repeat, Hold, 
 use Rattle.link_defs.specs.Mark.{Tells, HasTrueMark, HasTrueMarks, IsFair}
 use Rattle.link_defs.proofs.Idling.{pick}
 use Rattle.link_defs.proofs.HopsLeft.{course_into-enters}
+use Rattle.link_defs.proofs.Shapes.{all-removed}
 
 -- a write, a read and a removal keep what holds of each
 all-set : (P : Option Held → Type 0) (ps : List (Option Held)) (c : ℕ) (p : Option Held) → AllByRecursion P ps → P p → AllByRecursion P (set ps c p)
@@ -32,14 +33,6 @@ at : (P : Option Held → Type 0) (ps : List (Option Held)) (c : ℕ) → AllByR
 at P [] c all none = none
 at P (q ∷ ps) zero all none = all.0
 at P (q ∷ ps) (suc c) all none = at P ps c all.1 none
-
-all-removed : (P : ℕ × Caught → Type 0) (test : ℕ → Bool) (es : List (ℕ × Caught)) → AllByRecursion P es → AllByRecursion P (remove_entry test es)
-all-removed P test [] all = tt
-all-removed P test (e ∷ es) all = by (test e.0) (all-removed P test es all.1)
-  where
-    by : (t : Bool) → AllByRecursion P (remove_entry test es) → AllByRecursion P (if t then es else e ∷ remove_entry test es)
-    by true rest = all.1
-    by false rest = (all.0, rest)
 
 looked_up : (P : Caught → Type 0) (test : ℕ → Bool) (es : List (ℕ × Caught)) → AllByRecursion (λ e. P e.1) es → IfSome (lookup test es) P
 looked_up P test [] all = tt

@@ -121,7 +121,7 @@ flip_of-kept s c bit pattern (Some held) =
     pick-kept s (not held.marked && may_flip held.wire bit pattern) (true, with_packet s c p) (false, s) (with_packet-kept s c p) (kept_same s)
 
 -- what holds of each entry holds of each that is left
-all-removed : (P : ℕ × Caught → Type 0) (test : ℕ → Bool) (es : List (ℕ × Caught)) → AllByRecursion P es → AllByRecursion P (remove_entry test es)
+pub all-removed : (P : ℕ × Caught → Type 0) (test : ℕ → Bool) (es : List (ℕ × Caught)) → AllByRecursion P es → AllByRecursion P (remove_entry test es)
 all-removed P test [] all = tt
 all-removed P test (e ∷ es) all = by (test e.0) (all-removed P test es all.1)
   where

@@ -6,8 +6,8 @@ use Rattle.std.proofs.lemmas.Bool.{false≢true, and_parts, and_from, ltb-true}
 use Rattle.journal_defs.specs.Walks.{turns_below, walk_below}
 use Rattle.journal_defs.proofs.Order.{below-parts}
 use Rattle.journal_defs.proofs.Members.{member-passes}
-use Rattle.map_defs.specs.declared.route.Route.{Route}
-use Rattle.map_defs.specs.declared.route.RankEntry.{RankEntry}
+use Rattle.net_defs.specs.declared.route.Route.{Route}
+use Rattle.map_defs.specs.declared.rank.RankEntry.{RankEntry}
 use Rattle.map_defs.specs.NetMap.{NetMap, MapPort, same_port}
 use Rattle.map_defs.specs.Orientation.{order_of}
 use Rattle.map_defs.specs.Routing.{LeadsTo, IsLeastLegal, is_legal, led_to, port_of_host}

@@ -8,7 +8,7 @@ use Rattle.net_defs.specs.Network.{Apart}
 use Rattle.journal_defs.proofs.Order.{below-shorter}
 use Rattle.journal_defs.proofs.Members.{IsMember, all-from-members, all-member}
 use Rattle.map_defs.specs.declared.vertex.MapCable.{MapCable}
-use Rattle.map_defs.specs.declared.route.Route.{Route}
+use Rattle.net_defs.specs.declared.route.Route.{Route}
 use Rattle.map_defs.specs.NetMap.{NetMap, MapPort, IsMap, IsCabled, map_far, map_ends, first_end, second_end, host_of_vertex}
 use Rattle.map_defs.specs.NetMap.IsCabled.{forth, back}
 use Rattle.map_defs.specs.Orientation.{is_up, falls, falls_to, IsOrder}

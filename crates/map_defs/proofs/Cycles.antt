@@ -1,6 +1,6 @@
 -- What rises along every step has no cycle.
 use Rattle.std.proofs.Common.{◌≡◌, ◌<◌, ℕ, List, Some, sym, ◌∙◌, arith}
-use Rattle.map_defs.specs.declared.route.RankEntry.{RankEntry}
+use Rattle.map_defs.specs.declared.rank.RankEntry.{RankEntry}
 use Rattle.map_defs.specs.NetMap.{MapPort}
 use Rattle.map_defs.specs.Dependencies.{Chain, HasNoCycle, IsBefore, Rises}
 use Rattle.map_defs.specs.Dependencies.Chain.{one, more}

@@ -3,6 +3,7 @@ use Rattle.std.proofs.Common.{◌≡◌, ◌≢◌, ◌<◌, ◌≤◌, ℕ, zer
 use Rattle.std.specs.List.{AllByRecursion, filter}
 use Rattle.std.proofs.lemmas.Bool.{false≢true, cases_order}
 use Rattle.std.proofs.lemmas.Bool.Decides.{nat_tests}
+use Rattle.std.proofs.lemmas.List.{map-append, length-map}
 use Rattle.net_defs.specs.Network.{Apart}
 use Rattle.net_defs.proofs.Distinct.{apart-push, all-push}
 use Rattle.journal_defs.specs.Counting.{numbers_below}
@@ -10,14 +11,6 @@ use Rattle.journal_defs.proofs.Members.{IsMember, all-map, member-left, member-r
 use Rattle.map_defs.specs.Orientation.{level, levels, stands_before, place_among, places_by, order_of, IsOrder}
 use Rattle.map_defs.specs.Laws.{PlacesAreAnOrder}
 use Rattle.map_defs.proofs.Levels.{length-numbers}
-
-pub map-push : {X Y : Type 0} (f : X → Y) (xs : List X) (x : X) → map f (xs ++ x ∷ []) ≡ map f xs ++ f x ∷ []
-map-push f [] x = refl
-map-push f (y ∷ ys) x = ap (λ l. f y ∷ l) (map-push f ys x)
-
-pub map-length : {X Y : Type 0} (f : X → Y) (xs : List X) → length (map f xs) ≡ length xs
-map-length f [] = refl
-map-length f (x ∷ xs) = ap suc (map-length f xs)
 
 pub number-member : (n k : ℕ) → k < n → IsMember k (numbers_below n)
 number-member zero k l = absurd (omega arith)
@@ -38,7 +31,7 @@ apart-map f zero differ = tt
 apart-map f (suc n) differ =
     let before = apart-map f n (λ u v l k d. differ u v (omega arith) (omega arith) d) in
     let new : AllByRecursion (λ y. f n ≢ y) (map f (numbers_below n)) = all-map (λ y. f n ≢ y) f (numbers_below n) (all-numbers (λ k. f n ≢ f k) n (λ k l. differ n k (omega arith) (omega arith) (λ e. absurd (omega arith)))) in
-    subst Apart (sym (map-push f (numbers_below n) n)) (apart-push (map f (numbers_below n)) (f n) before new)
+    subst Apart (sym (map-append f (numbers_below n) (n ∷ []))) (apart-push (map f (numbers_below n)) (f n) before new)
 
 -- how much a filter keeps
 filter-most : (test : ℕ → Bool) (xs : List ℕ) → length (filter test xs) ≤ length xs
@@ -105,10 +98,10 @@ place-below ls v l = let less = filter-less (λ k. stands_before ls k v) (number
 
 places-order : (ls : List ℕ) → IsOrder (places_by ls) (length ls)
 places-order ls = record {
-  one_each = map-length (place_among ls) (numbers_below (length ls)) ∙ length-numbers (length ls);
+  one_each = length-map (numbers_below (length ls)) (place_among ls) ∙ length-numbers (length ls);
   below = all-map (λ k. k < length ls) (place_among ls) (numbers_below (length ls)) (all-numbers (λ k. place_among ls k < length ls) (length ls) (place-below ls));
   once = apart-map (place_among ls) (length ls) (places-differ ls);
 }
 
 pub places_are_an_order : PlacesAreAnOrder
-places_are_an_order m = subst (IsOrder (order_of m)) (map-length (level m) (numbers_below (length m.vertices)) ∙ length-numbers (length m.vertices)) (places-order (levels m))
+places_are_an_order m = subst (IsOrder (order_of m)) (length-map (numbers_below (length m.vertices)) (level m) ∙ length-numbers (length m.vertices)) (places-order (levels m))

@@ -6,7 +6,7 @@ use Rattle.std.proofs.lemmas.Bool.{false≢true, and_parts, or_cases, eqb-true, 
 use Rattle.journal_defs.specs.Counting.{numbers_below}
 use Rattle.journal_defs.proofs.Members.{member-passes}
 use Rattle.map_defs.specs.declared.vertex.MapVertex.{MapVertex}
-use Rattle.map_defs.specs.declared.route.Route.{Route}
+use Rattle.net_defs.specs.declared.route.Route.{Route}
 use Rattle.map_defs.specs.NetMap.{NetMap, MapPort, host_of_vertex, host_at}
 use Rattle.map_defs.specs.Orientation.{order_of}
 use Rattle.map_defs.specs.Routing.{IsLeastLegal, is_legal, led_to, port_of_host, HasRoute, AreRoutesOf}

@@ -3,8 +3,8 @@ use Rattle.std.specs.Prelude.{◌≡◌, ℕ, ◌+◌, ◌-◌, ◌<◌, pos, tr
 use Rattle.std.specs.List.{AllByRecursion, filter}
 use Rattle.journal_defs.specs.Counting.{numbers_below}
 use Rattle.journal_defs.specs.Walks.{falling_turns}
-use Rattle.map_defs.specs.declared.route.Route.{Route}
-use Rattle.map_defs.specs.declared.route.RankEntry.{RankEntry}
+use Rattle.net_defs.specs.declared.route.Route.{Route}
+use Rattle.map_defs.specs.declared.rank.RankEntry.{RankEntry}
 use Rattle.map_defs.specs.NetMap.{NetMap, MapPort, map_far, same_port}
 use Rattle.map_defs.specs.Orientation.{is_up}
 use Rattle.map_defs.specs.Routing.{channels_on, port_of_host}

@@ -3,8 +3,8 @@ use Rattle.std.specs.Prelude.{ℕ, ℤ, pos, negsuc, true, List, [], ◌∷◌, 
 use Rattle.map_defs.specs.declared.vertex.MapVertex.TheVariants.{Host, Switch}
 use Rattle.map_defs.specs.declared.vertex.MapVertex.{MapVertex}
 use Rattle.map_defs.specs.declared.vertex.MapCable.{MapCable}
-use Rattle.map_defs.specs.declared.route.Route.{Route}
-use Rattle.map_defs.specs.declared.route.RankEntry.{RankEntry}
+use Rattle.net_defs.specs.declared.route.Route.{Route}
+use Rattle.map_defs.specs.declared.rank.RankEntry.{RankEntry}
 use Rattle.map_defs.specs.NetMap.{NetMap, MapPort}
 
 -- port p of vertex v on a cable to port q of vertex w

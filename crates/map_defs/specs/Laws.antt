@@ -1,7 +1,7 @@
 -- The laws of maps.
 use Rattle.std.specs.Prelude.{◌≡◌, ◌↔◌, ℕ, ◌<◌, ◌≤◌, List, length, Some}
-use Rattle.map_defs.specs.declared.route.Route.{Route}
-use Rattle.map_defs.specs.declared.route.RankEntry.{RankEntry}
+use Rattle.net_defs.specs.declared.route.Route.{Route}
+use Rattle.map_defs.specs.declared.rank.RankEntry.{RankEntry}
 use Rattle.map_defs.specs.NetMap.{NetMap, MapPort, IsMap, IsCabled, IsConnected, map_far, map_edges}
 use Rattle.map_defs.specs.Orientation.{root, level, order_of, IsOrder}
 use Rattle.map_defs.specs.Routing.{IsLeastLegal}

@@ -4,7 +4,7 @@ use Rattle.std.specs.List.{list_all, AllByRecursion}
 use Rattle.journal_defs.specs.Walks.{walk_below}
 use Rattle.map_defs.specs.declared.vertex.MapVertex.{MapVertex}
 use Rattle.map_defs.specs.declared.vertex.MapVertex.TheVariants.{Host, Switch}
-use Rattle.map_defs.specs.declared.route.Route.{Route}
+use Rattle.net_defs.specs.declared.route.Route.{Route}
 use Rattle.map_defs.specs.NetMap.{NetMap, MapPort, map_far, host_of_vertex, is_switch_vertex}
 use Rattle.map_defs.specs.Orientation.{is_up}
 

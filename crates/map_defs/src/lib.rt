@@ -24,7 +24,7 @@
 
 mod examples;
 mod laws;
-mod route;
+mod rank;
 mod vertex;
 
 pub use examples::{
@@ -35,5 +35,5 @@ pub use laws::{
     places_are_by_distance, ports_have_one_cable, ranks_certify_least_routes,
     rising_ranks_leave_no_cycle, sameness_is_an_equivalence,
 };
-pub use route::{RankEntry, Route};
+pub use rank::RankEntry;
 pub use vertex::{MapCable, MapVertex};

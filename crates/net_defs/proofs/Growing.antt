@@ -1,6 +1,7 @@
 -- A fabric that grows stays one.
 use Rattle.std.proofs.Common.{◌≡◌, ◌≢◌, ◌≤◌, ◌<◌, ℕ, zero, suc, List, [], ◌∷◌, ◌++◌, Bool, true, false, ◌||◌, not, length, map, nat_le, Option, Some, None, is_some, sym, ◌∙◌, subst, ap, true≢false, refl, arith, if◌then◌else◌, append_assoc, length-append}
 use Rattle.std.proofs.lemmas.Bool.Decides.{nat_tests}
+use Rattle.std.proofs.lemmas.List.{map-append}
 use Rattle.std.specs.List.{AllByRecursion, slice_get}
 use Rattle.std.specs.Option.{option_map_or}
 use Rattle.net_defs.specs.declared.vertex.Vertex.{Vertex}
@@ -62,10 +63,6 @@ switch-taken n name ports e = by (is_port_count ports) (taken n name) (nat_le 64
     by true false true o p q r = cc
     by true false false o p q r = (o, p, grind (arith, nat_tests))
 
-map-push : {X Y : Type 0} (f : X → Y) (xs : List X) (x : X) → map f (xs ++ x ∷ []) ≡ map f xs ++ f x ∷ []
-map-push f [] x = refl
-map-push f (y ∷ ys) x = ap (λ l. f y ∷ l) (map-push f ys x)
-
 -- a fabric with a switch more
 pub fabric-with_switch : (n : Network) (name : List ℕ) (ports : ℕ) → IsFabric n → switch_refusal n name ports ≡ None → IsFabric (with_switch n name ports)
 fabric-with_switch n name ports f e =
@@ -74,7 +71,7 @@ fabric-with_switch n name ports f e =
     record {
       few_hosts = f.few_hosts;
       few_switches = omega (arith, free.2, length-append n.switches (w ∷ []));
-      names_apart = subst Apart (sym (ap (λ l. n.hosts ++ l) (map-push (λ s. s.name) n.switches w) ∙ sym (append_assoc n.hosts (map (λ s. s.name) n.switches) (name ∷ [])))) (apart-push (names n) name f.names_apart (new_name name (names n) free.1));
+      names_apart = subst Apart (sym (ap (λ l. n.hosts ++ l) (map-append (λ s. s.name) n.switches (w ∷ [])) ∙ sym (append_assoc n.hosts (map (λ s. s.name) n.switches) (name ∷ [])))) (apart-push (names n) name f.names_apart (new_name name (names n) free.1));
       port_counts = all-push _ n.switches w f.port_counts free.0;
       cabled_ports = all-weaker _ _ (ends_of n.cables) (λ e. has_port-more n (with_switch n name ports) e (ports_of-with_switch n name ports e.v)) f.cabled_ports;
       ports_once = f.ports_once;
@@ -88,7 +85,7 @@ pub record IsFree (n : Network) (a b : End) : Type 0 where
   pub far_b : far n b ≡ None
   pub two : a ≢ b
 
-no_some : {X : Type 0} (o : Option X) → is_some o ≡ false → o ≡ None
+pub no_some : {X : Type 0} (o : Option X) → is_some o ≡ false → o ≡ None
 no_some None e = refl
 no_some (Some x) e = absurd (true≢false e)
 

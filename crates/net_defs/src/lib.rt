@@ -16,11 +16,13 @@
 mod examples;
 mod fault;
 mod place;
+mod route;
 mod vertex;
 mod walk;
 
 pub use examples::{places_of_the_self_cabled_switch, places_of_two_hosts};
 pub use fault::GraphFault;
 pub use place::{Answer, Place};
+pub use route::Route;
 pub use vertex::{Cable, End, Vertex};
 pub use walk::{Walk, WalkFault};

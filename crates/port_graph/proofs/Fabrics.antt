@@ -3,6 +3,7 @@ use Rattle.std.proofs.Common.{◌≡◌, ◌<◌, ℕ, suc, ◌+◌, List, [], �
 use Rattle.std.specs.Prelude.{position, bytes_eq}
 use Rattle.std.specs.List.{list_any, prefix_len}
 use Rattle.std.proofs.lemmas.Bool.Decides.{nat_tests}
+use Rattle.std.proofs.lemmas.List.{map-append}
 use Rattle.std.proofs.lemmas.List.Folds.{list_any-append}
 use Rattle.net_defs.specs.declared.vertex.Vertex.{Vertex}
 use Rattle.net_defs.specs.declared.vertex.Vertex.TheVariants.{Host, Switch}
@@ -70,13 +71,9 @@ first_false false b e = (refl, e)
 pub free_name : (hs ss : List NamedSwitch) (cs : List Cable) (name : List ℕ) → taken (network_of hs ss cs) name ≡ false → (list_any (λ v. bytes_eq name v.name) hs ≡ false) × (list_any (λ v. bytes_eq name v.name) ss ≡ false)
 free_name hs ss cs name e = first_false _ _ (sym (taken-of hs ss cs name) ∙ e)
 
-map-push : {X Y : Type 0} (f : X → Y) (xs : List X) (x : X) → map f (xs ++ x ∷ []) ≡ map f xs ++ f x ∷ []
-map-push f [] x = refl
-map-push f (y ∷ ys) x = ap (λ l. f y ∷ l) (map-push f ys x)
-
 -- a host more
 pub network_of-host : (hs ss : List NamedSwitch) (cs : List Cable) (h : NamedSwitch) → network_of (hs ++ h ∷ []) ss cs ≡ record { hosts = map (λ v. v.name) hs ++ h.name ∷ []; switches = ss; cables = cs }
-network_of-host hs ss cs h = ap (λ l. record { hosts = l; switches = ss; cables = cs }) (map-push (λ v. v.name) hs h)
+network_of-host hs ss cs h = ap (λ l. record { hosts = l; switches = ss; cables = cs }) (map-append (λ v. v.name) hs (h ∷ []))
 
 abbrev as_host : List ℕ → NamedSwitch
 as_host name = record { name = name; ports = 1 }
