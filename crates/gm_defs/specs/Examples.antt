@@ -1,9 +1,9 @@
 -- Messages and bodies for worked examples.
-use Rattle.std.specs.Prelude.{ℕ, pos, negsuc, List, [], ◌∷◌, codes, replicate}
+use Rattle.std.specs.Prelude.{ℕ, pos, negsuc, List, [], ◌∷◌, map, codes, replicate}
 use Rattle.gm_defs.specs.declared.message.Message.{Message}
 use Rattle.gm_defs.specs.declared.frame.FrameHead.{FrameHead}
 use Rattle.gm_defs.specs.Mapping.{RoutePart}
-use Rattle.gm_defs.specs.Token.{PortState, Sent, Received}
+use Rattle.gm_defs.specs.Token.{PortState, PortEvent, Sent, Received}
 
 -- a message of these bytes, from port 0 to port 1
 abbrev pub message : List ℕ → Message
@@ -26,3 +26,21 @@ busy_port = record {
   provided = record { token = 0; size = 4; prio = 0; buffer = replicate 8 0 } ∷ [];
   events = Sent 0 [] ∷ Received 1 (codes "hello...") 1 0 0 5 ∷ [];
 }
+
+-- the tokens of a port's sends, of its provided buffers and of its events
+abbrev pub sends_of : PortState → List ℕ
+sends_of p = map (λ s. s.token) p.queue
+
+abbrev pub provided_of : PortState → List ℕ
+provided_of p = map (λ r. r.token) p.provided
+
+abbrev pub token_of : PortEvent → ℕ
+token_of (Sent t b) = t
+token_of (Received t b from sport prio len) = t
+
+abbrev pub events_of : PortState → List ℕ
+events_of p = map token_of p.events
+
+-- a message's token with its buffer
+abbrev pub sent_event : ℕ → List ℕ → PortEvent
+sent_event t b = Sent t b

@@ -4,4 +4,5 @@ pub mod Examples
 pub mod Fragment
 pub mod Laws
 pub mod Mapping
+pub mod Port
 pub mod Token

@@ -9,7 +9,8 @@ ghost use Rattle.gm_defs.specs.Mapping.{HostProbe, HostReply, Loopback, Part, Pa
 ghost use Rattle.gm_defs.specs.Fragment.{pieces, fragments, frame_of, whole_below, piece_count};
 ghost use Rattle.gm_defs.specs.Connection.{starting, due, sent_one, acknowledged, expired, offered, unacknowledged, is_spent, took};
 ghost use Rattle.gm_defs.specs.Token.{size_for_length, fits, HasOneOwner, place_of_send, place_of_recv, can_take};
-ghost use Rattle.gm_defs.specs.Examples.{message, abc, first_part, busy_port};
+ghost use Rattle.gm_defs.specs.Port.{filled, is_bad_size, is_too_long, sent_with, provided_with, finished, delivered, next_event, polled, unfinished};
+ghost use Rattle.gm_defs.specs.Examples.{message, abc, first_part, busy_port, sends_of, provided_of, events_of, sent_event};
 
 /// A frame of three bytes and its acknowledgement.
 pub fn bodies_of_frames()
@@ -82,4 +83,23 @@ pub fn sizes_of_tokens()
     ensures provided { place_of_recv busy_port 0 ≡ Some TokenPlace.Provided }
     ensures taken { can_take busy_port 8 0 ≡ true }
     ensures not_taken { can_take busy_port 9 0 ≡ false }
+{}
+
+/// What calls make of a port: its sends by token, its provided tokens and its events.
+pub fn ports_after_calls()
+    ensures limit { is_too_long 1016 ≡ false }
+    ensures past_limit { is_too_long 1017 ≡ true }
+    ensures greatest_size { is_bad_size 16 1 ≡ false }
+    ensures past_greatest { is_bad_size 17 0 ≡ true }
+    ensures third_priority { is_bad_size 16 2 ≡ true }
+    ensures begins_with_message { filled (codes "........") (codes "ABC") ≡ codes "ABC....." }
+    ensures sent { sends_of (sent_with busy_port 2 (codes "DE")) ≡ 1 ∷ 2 ∷ [] }
+    ensures sent_before { sends_of (sent_with busy_port 0 (codes "DE")) ≡ 0 ∷ 1 ∷ [] }
+    ensures finished { events_of (finished busy_port 1) ≡ 0 ∷ 1 ∷ 1 ∷ [] }
+    ensures none_left { unfinished (finished busy_port 1) ≡ 0 }
+    ensures provided { provided_of (provided_with busy_port (record { token = 2; size = 4; prio = 1; buffer = [] })) ≡ 0 ∷ 2 ∷ [] }
+    ensures delivered { events_of (delivered busy_port abc (codes "ABC")) ≡ 0 ∷ 1 ∷ 0 ∷ [] }
+    ensures used { provided_of (delivered busy_port abc (codes "ABC")) ≡ [] }
+    ensures first_event { next_event busy_port ≡ Some (sent_event 0 []) }
+    ensures others { events_of (polled busy_port) ≡ 1 ∷ [] }
 {}

@@ -10,6 +10,7 @@
 //! | `Fragment` | the pieces of a message, honest frames and acknowledgements |
 //! | `Connection` | the four numbers of a sender, the one of a receiver |
 //! | `Token` | sizes, and where each token of a port is |
+//! | `Port` | what each call makes of a port |
 //!
 //! ```text
 //!   0              base         cursor        top          next
@@ -27,7 +28,7 @@ mod token;
 pub use blob::Blob;
 pub use examples::{
     bodies_of_frames, bodies_of_mapping, numbers_of_a_connection, pieces_of_messages,
-    sizes_of_tokens,
+    ports_after_calls, sizes_of_tokens,
 };
 pub use frame::{Ack, FrameHead, GmBody, Malformed};
 pub use laws::{bodies_are_read, messages_of_pieces, senders_stay, sizes_are_least};
