@@ -1,0 +1,129 @@
+-- Worlds for worked examples: the two hosts at one switch, mapped, routed and set up.
+use Rattle.std.specs.Prelude.{ℕ, ℤ, pos, negsuc, List, [], ◌∷◌, ◌++◌, map}
+use Rattle.std.specs.List.{range_with_len}
+use Rattle.net_defs.specs.declared.place.Answer.{Answer}
+use Rattle.net_defs.specs.declared.route.Route.{Route}
+use Rattle.net_defs.specs.Examples.{two_hosts}
+use Rattle.world_defs.specs.declared.event.Event.{Event}
+use Rattle.world_defs.specs.declared.event.Event.TheVariants.{Inject, Advance, Lose as LoseEvent, Begin, Provide, Send, Poll}
+use Rattle.world_defs.specs.declared.effect.Effect.{Effect}
+use Rattle.world_defs.specs.declared.effect.Effect.TheVariants.{Said}
+use Rattle.world_defs.specs.declared.effect.Said.TheVariants.{Received}
+use Rattle.world_defs.specs.declared.fault.Fault.{Fault}
+use Rattle.world_defs.specs.declared.fault.Fault.TheVariants.{Lose, Repeat, Hold, Flip}
+use Rattle.world_defs.specs.Table.{Adoption}
+use Rattle.world_defs.specs.World.{WorldState, new_world, adopted_by, planned}
+use Rattle.world_defs.specs.Step.{step, steps}
+use Rattle.world_defs.specs.Asking.{Asked, ask}
+use Rattle.world_defs.specs.Install.{installed}
+use Rattle.world_defs.specs.Settle.{Rounds, settle}
+
+-- the turns from -15 to 15 other than 0
+abbrev pub onward : List ℤ
+onward = map (λ k. negsuc k) (14 ∷ 13 ∷ 12 ∷ 11 ∷ 10 ∷ 9 ∷ 8 ∷ 7 ∷ 6 ∷ 5 ∷ 4 ∷ 3 ∷ 2 ∷ 1 ∷ 0 ∷ []) ++ map pos (range_with_len 1 15)
+
+-- the empty walk, and one turn from where it ends
+abbrev pub walks_of_setup : List (List ℤ)
+walks_of_setup = [] ∷ map (λ t. t ∷ []) onward
+
+abbrev pub answer_then : Asked → (WorldState → List Answer × WorldState) → List Answer × WorldState
+answer_then a rest = (a.answer ∷ (rest a.world).0, (rest a.world).1)
+
+-- the answers to asks in order, and the world then
+abbrev pub asks : ℕ → ℕ → List (List ℤ) → WorldState → List Answer × WorldState
+asks mapper tries [] w = ([], w)
+asks mapper tries (walk ∷ walks) w = answer_then (ask mapper tries walk w) (asks mapper tries walks)
+
+abbrev pub setup_map : List Answer × WorldState
+setup_map = asks 0 1 walks_of_setup (new_world two_hosts)
+
+abbrev pub setup_routes : List Route
+setup_routes = record { from = 0; to = 1; walk = pos 3 ∷ [] } ∷ record { from = 1; to = 0; walk = negsuc 2 ∷ [] } ∷ []
+
+abbrev pub setup_adoption : Adoption
+setup_adoption = record { mapper = 0; epoch = 1; routes = setup_routes }
+
+abbrev pub setup_install : ℕ × WorldState
+setup_install = installed setup_adoption (0 ∷ 1 ∷ []) 1 (adopted_by setup_map.1 0 setup_routes)
+
+-- the two hosts with their tables
+abbrev pub setup : WorldState
+setup = setup_install.1
+
+-- ports 0 of host 0 and 1 of host 1 with so many tokens, and so many buffers of 8 bytes provided
+abbrev pub opened : ℕ → ℕ → List Event → List Event
+opened sends recvs rest = Begin 0 0 sends 0 ∷ Begin 1 1 0 recvs ∷ rest
+
+abbrev pub provide : ℕ → Event
+provide prio = Provide 1 1 4 prio
+
+-- a message from port 0 of host 0 to port 1 of host 1
+abbrev pub send : ℕ → ℕ → Event
+send len seed = Send 0 0 1 1 0 len seed
+
+abbrev pub poll_receiver : Event
+poll_receiver = Poll 1 1
+
+abbrev pub poll_sender : Event
+poll_sender = Poll 0 0
+
+-- faults for injections so far ahead
+abbrev pub planned_all : WorldState → List (ℕ × Fault) → List ℕ × WorldState
+planned_all w [] = ([], w)
+planned_all w (f ∷ fs) = ((planned w f.0 f.1).0 ∷ (planned_all (planned w f.0 f.1).1 fs).0, (planned_all (planned w f.0 f.1).1 fs).1)
+
+-- a message of these bytes came into the buffer of a token
+abbrev pub received : ℕ → List ℕ → Effect
+received token body = Said (Received token 0 0 0 body)
+
+-- three messages; the first frame is copied, the second is lost, the fourth packet is held
+abbrev pub three_calls : List Effect × WorldState
+three_calls = steps setup (opened 3 3 (provide 0 ∷ provide 0 ∷ provide 0 ∷ send 1 10 ∷ send 1 20 ∷ send 1 30 ∷ []))
+
+abbrev pub three_plans : List ℕ × WorldState
+three_plans = planned_all three_calls.1 ((1, Repeat) ∷ (2, Lose) ∷ (4, Hold) ∷ [])
+
+abbrev pub three_settled : Rounds
+three_settled = settle three_plans.1
+
+abbrev pub three_polls : List Effect × WorldState
+three_polls = steps three_settled.world (poll_receiver ∷ poll_receiver ∷ poll_receiver ∷ [])
+
+-- one message of the bytes `ABC`, the frame of which is flipped in its route byte and in its type
+abbrev pub abc_calls : List Effect × WorldState
+abc_calls = steps setup (opened 1 1 (provide 0 ∷ send 3 65 ∷ []))
+
+-- its first frame is injected
+abbrev pub abc_injected : WorldState
+abc_injected = (step abc_calls.1 (Inject 0)).1
+
+abbrev pub abc_settled : Rounds
+abc_settled = settle (planned abc_calls.1 1 (Flip 6 193)).1
+
+abbrev pub abc_polls : List Effect × WorldState
+abc_polls = steps abc_settled.world (poll_receiver ∷ poll_sender ∷ [])
+
+-- a message for which no token fits, until one is provided
+abbrev pub waiting : Rounds
+waiting = settle (steps setup (opened 1 2 (provide 1 ∷ send 2 1 ∷ []))).1
+
+abbrev pub provided_late : List Effect × WorldState
+provided_late = steps waiting.world (poll_receiver ∷ provide 0 ∷ [])
+
+abbrev pub served : Rounds
+served = settle provided_late.1
+
+abbrev pub served_poll : List Effect × WorldState
+served_poll = steps served.world (poll_receiver ∷ [])
+
+-- two messages, step by step: the channels of host 0 are 0 and 1, and 3 leads from the switch to host 1
+abbrev pub stepwise : List Effect × WorldState
+stepwise =
+    steps (steps setup (opened 2 2 (provide 0 ∷ provide 0 ∷ send 1 1 ∷ send 1 2 ∷ []))).1
+    (Inject 0 ∷ Advance 0 ∷ Inject 0 ∷ Inject 0 ∷ Advance 0 ∷ Advance 3 ∷ Advance 0 ∷ LoseEvent 3 ∷ [])
+
+abbrev pub stepwise_settled : Rounds
+stepwise_settled = settle stepwise.1
+
+abbrev pub stepwise_polls : List Effect × WorldState
+stepwise_polls = steps stepwise_settled.world (poll_receiver ∷ poll_receiver ∷ [])

@@ -1,0 +1,123 @@
+-- What a host makes of a packet that reaches it.
+use Rattle.std.specs.Prelude.{ℕ, Bool, true, false, ◌&&◌, List, [], ◌∷◌, nat_eq, nat_lt, Option, Some, None, option_map, Result, Ok, Err}
+use Rattle.std.specs.List.{list_all}
+use Rattle.packet_defs.specs.declared.kind.Kind.{Kind}
+use Rattle.packet_defs.specs.declared.kind.Kind.TheVariants.{Mapping, Gm}
+use Rattle.packet_defs.specs.declared.host_drop.HostDrop.{HostDrop}
+use Rattle.packet_defs.specs.declared.host_drop.HostDrop.TheVariants.{Malformed}
+use Rattle.packet_defs.specs.Host.{decode as decode_packet}
+use Rattle.gm_defs.specs.declared.message.Message.{Message}
+use Rattle.gm_defs.specs.declared.frame.FrameHead.{FrameHead}
+use Rattle.gm_defs.specs.declared.frame.Ack.{Ack}
+use Rattle.gm_defs.specs.declared.frame.GmBody.{GmBody}
+use Rattle.gm_defs.specs.declared.frame.GmBody.TheVariants.{Frame, Ack as Acknowledges}
+use Rattle.gm_defs.specs.declared.frame.Malformed.{Malformed as NoBody}
+use Rattle.gm_defs.specs.declared.token.Took.{Took}
+use Rattle.gm_defs.specs.declared.token.Took.TheVariants.{NotNext as TookNotNext, NoToken as TookNoToken, Whole}
+use Rattle.gm_defs.specs.Body.{decode, part_in}
+use Rattle.gm_defs.specs.Mapping.{RoutePart, MappingBody, decode_mapping}
+use Rattle.gm_defs.specs.Mapping.MappingBody.{HostProbe, HostReply, Loopback, Part, PartAck}
+use Rattle.gm_defs.specs.Connection.{took}
+use Rattle.gm_defs.specs.Token.{PortState, can_take}
+use Rattle.gm_defs.specs.Port.{delivered, finished}
+use Rattle.world_defs.specs.declared.applied.Applied.{Applied}
+use Rattle.world_defs.specs.declared.applied.Applied.TheVariants.{Part as OnePart, Active, Old}
+use Rattle.world_defs.specs.declared.heard.Heard.{Heard}
+use Rattle.world_defs.specs.declared.heard.Heard.TheVariants.{Probe, Reply, Loop, Routes, RoutesAck, Message as WholeMessage, NotNext, NoToken, Ack as AckHeard}
+use Rattle.world_defs.specs.declared.arrival.Arrival.{Arrival}
+use Rattle.world_defs.specs.declared.arrival.Arrival.TheVariants.{Heard as Hears, Dropped, NotMine}
+use Rattle.world_defs.specs.Table.{TableState, applied}
+use Rattle.world_defs.specs.Peer.{Ticket, peer_acknowledged, tickets_finished, peer_after}
+use Rattle.world_defs.specs.Node.{NodeState, peer_at, with_peer, port_at, with_port}
+
+-- the address of one of so many hosts
+abbrev pub is_host : ℕ → ℕ → Bool
+is_host hosts address = nat_lt address hosts
+
+-- what the host heard where a test holds; else the packet isn't for it, and changes nothing
+abbrev pub heard_if : Bool → NodeState → Heard × NodeState → Arrival × NodeState
+heard_if true n (heard, after) = (Hears heard, after)
+heard_if false n (heard, after) = (NotMine, n)
+
+-- a part that was taken is acknowledged by its own way back, in the place of an earlier acknowledgement
+abbrev pub part_heard : NodeState → RoutePart → Applied × TableState → NodeState
+part_heard n p (OnePart, t) = record n { table = t; part_ack = Some (record { epoch = p.epoch; part = p.part; back = p.back }) }
+part_heard n p (Active, t) = record n { table = t; part_ack = Some (record { epoch = p.epoch; part = p.part; back = p.back }) }
+part_heard n p (Old, t) = record n { table = t }
+
+-- all addresses of a part are hosts, and the part is for this one
+abbrev pub is_part_for : ℕ → ℕ → RoutePart → Bool
+is_part_for host hosts p = nat_eq p.dst host && is_host hosts p.mapper && list_all (λ e. is_host hosts e.to) p.entries
+
+-- What a host makes of a body of the mapper's protocol. A probe stages a reply; a loopback probe is heard by its mapper alone; replies and acknowledgements are heard by any host, and change nothing.
+abbrev pub hear_mapping : ℕ → ℕ → NodeState → MappingBody → Arrival × NodeState
+hear_mapping host hosts n (HostProbe number mapper back) =
+    heard_if (is_host hosts mapper) n (Probe, record n { reply = Some (record { number = number; back = back }) })
+hear_mapping host hosts n (HostReply number from) = heard_if (is_host hosts from) n (Reply number from, n)
+hear_mapping host hosts n (Loopback number mapper) = heard_if (nat_eq mapper host) n (Loop number, n)
+hear_mapping host hosts n (Part p) = heard_if (is_part_for host hosts p) n (Routes, part_heard n p (applied n.table p))
+hear_mapping host hosts n (PartAck epoch from part) = heard_if (is_host hosts from) n (RoutesAck epoch from part, n)
+
+abbrev pub hear_mapping_body : ℕ → ℕ → NodeState → Option MappingBody → Arrival × NodeState
+hear_mapping_body host hosts n None = (Dropped Malformed, n)
+hear_mapping_body host hosts n (Some body) = hear_mapping host hosts n body
+
+-- a provided token of an open port fits a message
+abbrev pub port_takes : Option PortState → ℕ → ℕ → Bool
+port_takes None len prio = false
+port_takes (Some p) len prio = can_take p len prio
+
+-- the message of a frame that has all of it
+abbrev pub message_of : FrameHead → List ℕ → Message
+message_of h part = record { sport = h.sport; dport = h.dport; prio = h.prio; body = part }
+
+abbrev pub took_word : Took → Heard
+took_word TookNotNext = NotNext
+took_word TookNoToken = NoToken
+took_word Whole = WholeMessage
+
+-- the message goes to its port where it was taken whole
+abbrev pub delivered_after : NodeState → FrameHead → List ℕ → Took → NodeState
+delivered_after n h part TookNotNext = n
+delivered_after n h part TookNoToken = n
+delivered_after n h part Whole = with_port n h.dport (option_map (λ p. delivered p h part) (port_at n h.dport))
+
+abbrev pub frame_heard : NodeState → FrameHead → List ℕ → Took → Heard × NodeState
+frame_heard n h part t =
+    (took_word t, delivered_after (with_peer n h.src (peer_after (peer_at n h.src) t (message_of h part))) h part t)
+
+-- what is made of a frame: its number must be the next, and a token must fit its message
+abbrev pub frame_took : NodeState → FrameHead → Took
+frame_took n h = took (peer_at n h.src).taken h.seq (port_takes (port_at n h.dport) h.total h.prio)
+
+-- the sends of tickets are finished at their ports
+abbrev pub all_finished : NodeState → List Ticket → NodeState
+all_finished n [] = n
+all_finished n (t ∷ ts) = all_finished (with_port n t.port (option_map (λ p. finished p t.token) (port_at n t.port))) ts
+
+-- an acknowledgement finishes sends
+abbrev pub ack_heard : NodeState → Ack → NodeState
+ack_heard n a =
+    all_finished (with_peer n a.src (peer_acknowledged (peer_at n a.src) a.next)) (tickets_finished (peer_at n a.src) a.next)
+
+-- What a host makes of a frame or of an acknowledgement, which must name it and a host that sent it.
+abbrev pub hear_gm : ℕ → ℕ → NodeState → List ℕ → GmBody → Arrival × NodeState
+hear_gm host hosts n body (Frame h) =
+    heard_if (nat_eq h.dst host && is_host hosts h.src) n (frame_heard n h (part_in body) (frame_took n h))
+hear_gm host hosts n body (Acknowledges a) = heard_if (nat_eq a.dst host && is_host hosts a.src) n (AckHeard, ack_heard n a)
+
+abbrev pub hear_gm_body : ℕ → ℕ → NodeState → List ℕ → Result GmBody NoBody → Arrival × NodeState
+hear_gm_body host hosts n body (Err e) = (Dropped Malformed, n)
+hear_gm_body host hosts n body (Ok b) = hear_gm host hosts n body b
+
+abbrev pub hear_body : ℕ → ℕ → NodeState → Kind → List ℕ → Arrival × NodeState
+hear_body host hosts n Mapping body = hear_mapping_body host hosts n (decode_mapping body)
+hear_body host hosts n Gm body = hear_gm_body host hosts n body (decode body)
+
+abbrev pub hear_decoded : ℕ → ℕ → NodeState → Result (Kind × List ℕ) HostDrop → Arrival × NodeState
+hear_decoded host hosts n (Err drop) = (Dropped drop, n)
+hear_decoded host hosts n (Ok (kind, body)) = hear_body host hosts n kind body
+
+-- What a host, one of so many, makes of the bytes of a packet that reached it, and the host after it.
+unfoldable pub hear : ℕ → ℕ → NodeState → List ℕ → Arrival × NodeState
+hear host hosts n wire = hear_decoded host hosts n (decode_packet wire)

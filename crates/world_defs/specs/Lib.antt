@@ -1,0 +1,15 @@
+pub mod Asking
+pub mod Client
+pub mod Drain
+pub mod Examples
+pub mod Hearing
+pub mod Install
+pub mod Node
+pub mod Peer
+pub mod Settle
+pub mod Settled
+pub mod Sound
+pub mod Step
+pub mod Table
+pub mod Traffic
+pub mod World

@@ -1,0 +1,80 @@
+-- Packets on their way: which go by an adopted route, and which say only what is true.
+use Rattle.std.specs.Prelude.{◌≡◌, ℕ, ℤ, false, List, [], ◌∷◌, ◌++◌, drop, slice_get, Option, Some, None, Ok}
+use Rattle.std.specs.List.{prefix_len}
+use Rattle.net_defs.specs.declared.route.Route.{Route}
+use Rattle.net_defs.specs.Route.{channels_of, channels_after}
+use Rattle.packet_defs.specs.declared.kind.Kind.TheVariants.{Gm}
+use Rattle.packet_defs.specs.RouteByte.{turn_of, is_route_byte}
+use Rattle.packet_defs.specs.Packet.{head}
+use Rattle.packet_defs.specs.Host.{body_of}
+use Rattle.link_defs.specs.Channel.{channel_tail}
+use Rattle.link_defs.specs.Links.{Held, Caught, packet_in}
+use Rattle.gm_defs.specs.declared.message.Message.{Message}
+use Rattle.gm_defs.specs.declared.frame.FrameHead.{FrameHead}
+use Rattle.gm_defs.specs.declared.frame.Ack.{Ack}
+use Rattle.gm_defs.specs.declared.frame.GmBody.TheVariants.{Frame, Ack as Acknowledges}
+use Rattle.gm_defs.specs.Body.{decode, part_in}
+use Rattle.gm_defs.specs.Fragment.{IsHonestFrame, IsHonestAck}
+use Rattle.world_defs.specs.Table.{Adoption}
+use Rattle.world_defs.specs.Node.{peer_at}
+use Rattle.world_defs.specs.World.{WorldState, fabric_of, node_at}
+
+abbrev pub routes_in : Option Adoption → List Route
+routes_in None = []
+routes_in (Some a) = a.routes
+
+-- the routes that were adopted
+abbrev pub adopted_routes : WorldState → List Route
+adopted_routes w = routes_in w.adopted
+
+abbrev pub front_turn_then : Option ℤ → List ℤ → List ℤ
+front_turn_then None turns = []
+front_turn_then (Some turn) turns = turn ∷ turns
+
+-- the turns of the route bytes in front
+abbrev pub front_turns : List ℕ → List ℤ
+front_turns [] = []
+front_turns (byte ∷ bytes) = front_turn_then (turn_of byte) (front_turns bytes)
+
+-- the channel of a packet, and the channels to which its route bytes lead
+abbrev pub channels_ahead : WorldState → ℕ → List ℕ → List ℕ
+channels_ahead w c wire = channels_after (fabric_of w) (channel_tail (fabric_of w) c) (front_turns (head wire))
+
+-- A packet is lawful where no flip has met it, and what lies ahead of it is the last part of an adopted route.
+pub record IsLawful (w : WorldState) (c : ℕ) (held : Held) : Type 0 where
+  pub unmarked : held.marked ≡ false
+  pub place : ℕ
+  pub route : Route
+  pub behind : List ℕ
+  pub there : slice_get (adopted_routes w) place ≡ Some route
+  pub ends_it : channels_of (fabric_of w) route.from route.walk ≡ behind ++ channels_ahead w c held.wire
+
+-- traffic is lawful where every packet in every channel is
+pub record IsLawfulTraffic (w : WorldState) : Type 0 where
+  pub packets : (c : ℕ) (held : Held) → packet_in w.links c ≡ Some held → IsLawful w c held
+
+-- what a host's ports accepted for another host, in order
+abbrev pub sent_between : WorldState → ℕ → ℕ → List Message
+sent_between w a b = (peer_at (node_at w a) b).sent
+
+-- what a host put into its ports' queues from another host, in order
+abbrev pub got_between : WorldState → ℕ → ℕ → List Message
+got_between w a b = (peer_at (node_at w b) a).got
+
+-- how many fragments a host has taken from another
+abbrev pub taken_between : WorldState → ℕ → ℕ → ℕ
+taken_between w a b = (peer_at (node_at w b) a).taken
+
+-- a packet's head without the route bytes in front
+abbrev pub unrouted : List ℕ → List ℕ
+unrouted wire = drop (prefix_len is_route_byte (head wire)) (head wire)
+
+-- A packet is honest where it carries a frame that is the fragment of its number, or an acknowledgement that says no more than was taken, or neither; a flip may have made anything of it.
+pub record IsHonest (w : WorldState) (held : Held) : Type 0 where
+  pub frames : (h : FrameHead) (body : List ℕ) → held.marked ≡ false → body_of (unrouted held.wire) ≡ Ok (Gm, body) → decode body ≡ Ok (Frame h) → IsHonestFrame h.src h.dst (sent_between w h.src h.dst) h (part_in body)
+  pub acks : (a : Ack) (body : List ℕ) → held.marked ≡ false → body_of (unrouted held.wire) ≡ Ok (Gm, body) → decode body ≡ Ok (Acknowledges a) → IsHonestAck (taken_between w a.dst a.src) a
+
+-- every packet in a channel or in limbo is honest
+pub record IsHonestTraffic (w : WorldState) : Type 0 where
+  pub in_channels : (c : ℕ) (held : Held) → packet_in w.links c ≡ Some held → IsHonest w held
+  pub in_limbo : (place : ℕ) (serial : ℕ) (caught : Caught) → slice_get w.links.limbo place ≡ Some (serial, caught) → IsHonest w caught.held

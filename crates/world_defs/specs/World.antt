@@ -1,0 +1,95 @@
+-- The world: the links of a fabric, its hosts and their clients, the adopted routes, the plan of faults, and counts.
+use Rattle.std.specs.Prelude.{ℕ, ◌+◌, ◌-◌, ◌^◌, List, [], ◌∷◌, ◌++◌, length, min, replicate, slice_index_or, slice_set, nat_eq, if◌then◌else◌, Option, Some, None}
+use Rattle.std.specs.List.{range_with_len}
+use Rattle.net_defs.specs.declared.route.Route.{Route}
+use Rattle.net_defs.specs.Network.{Network}
+use Rattle.link_defs.specs.Links.{LinkState, empty_links}
+use Rattle.world_defs.specs.declared.fault.Fault.{Fault}
+use Rattle.world_defs.specs.Table.{Adoption, whole_table}
+use Rattle.world_defs.specs.Node.{NodeState, new_node, port_count}
+use Rattle.world_defs.specs.Client.{ClientState}
+
+-- The links with their fabric; the hosts by address; the clients by host and port, where it is open; the adopted routes; the planned faults by injection; how many injections there were, how many packets were dropped, and how many planned faults struck, and of these how many lost, held or flipped their packet.
+pub record WorldState : Type 0 where
+  pub links : LinkState
+  pub nodes : List NodeState
+  pub clients : List (List (Option ClientState))
+  pub adopted : Option Adoption
+  pub plan : List (ℕ × Fault)
+  pub injected : ℕ
+  pub dropped : ℕ
+  pub struck : ℕ
+  pub harmed : ℕ
+
+-- the fabric of a world
+abbrev pub fabric_of : WorldState → Network
+fabric_of w = w.links.net
+
+-- the number of hosts
+abbrev pub host_count : WorldState → ℕ
+host_count w = length w.nodes
+
+-- the world of a fabric before anything happened
+abbrev pub new_world : Network → WorldState
+new_world n = record {
+  links = empty_links n;
+  nodes = replicate (length n.hosts) (new_node (length n.hosts));
+  clients = replicate (length n.hosts) (replicate port_count None);
+  adopted = None;
+  plan = [];
+  injected = 0;
+  dropped = 0;
+  struck = 0;
+  harmed = 0;
+}
+
+-- the last value of a count of 64 bits
+abbrev pub last_count : ℕ
+last_count = 2 ^ 64 - 1
+
+-- a count that is one greater, and stays at its last value
+abbrev pub counted : ℕ → ℕ
+counted n = min (n + 1) last_count
+
+-- a host
+abbrev pub node_at : WorldState → ℕ → NodeState
+node_at w h = slice_index_or w.nodes h (new_node 0)
+
+abbrev pub with_node : WorldState → ℕ → NodeState → WorldState
+with_node w h n = record w { nodes = slice_set w.nodes h n }
+
+abbrev pub with_links : WorldState → LinkState → WorldState
+with_links w l = record w { links = l }
+
+-- the client of a host's port
+abbrev pub client_at : WorldState → ℕ → ℕ → Option ClientState
+client_at w h port = slice_index_or (slice_index_or w.clients h []) port None
+
+abbrev pub with_client : WorldState → ℕ → ℕ → Option ClientState → WorldState
+with_client w h port c = record w { clients = slice_set w.clients h (slice_set (slice_index_or w.clients h []) port c) }
+
+-- one packet more was dropped
+abbrev pub with_drop : WorldState → WorldState
+with_drop w = record w { dropped = counted w.dropped }
+
+-- the faults without that of an injection
+abbrev pub without_fault : ℕ → List (ℕ × Fault) → List (ℕ × Fault)
+without_fault number [] = []
+without_fault number (f ∷ fs) = if nat_eq f.0 number then without_fault number fs else f ∷ without_fault number fs
+
+-- a fault is planned for an injection, in the place of an earlier one: the number of the injection, so far ahead
+abbrev pub planned : WorldState → ℕ → Fault → ℕ × WorldState
+planned w ahead fault = (w.injected + ahead, record w { plan = without_fault (w.injected + ahead) w.plan ++ (w.injected + ahead, fault) ∷ [] })
+
+-- a set of routes is adopted by a mapper, whose table is whole at once
+abbrev pub adopted_by : WorldState → ℕ → List Route → WorldState
+adopted_by w mapper routes =
+    record (with_node w mapper (record (node_at w mapper) { table = whole_table routes mapper 1 })) { adopted = Some (record { mapper = mapper; epoch = 1; routes = routes }) }
+
+-- the numbers of the peers
+abbrev pub addresses : WorldState → List ℕ
+addresses w = range_with_len 0 (host_count w)
+
+abbrev pub sum_of : List ℕ → ℕ
+sum_of [] = 0
+sum_of (x ∷ xs) = x + sum_of xs

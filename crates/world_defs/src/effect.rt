@@ -1,0 +1,79 @@
+//! What an event did.
+
+use crate::client::ClientCause;
+use crate::heard::Heard;
+use gm_defs::Blob;
+
+/// Why a switch or a host dropped a packet.
+#[derive(Clone, Copy, Debug, PartialEq, Eq)]
+pub enum Cause {
+    /// The turn leads to a port that the switch lacks.
+    OutOfRange,
+    /// The head is empty at a switch, or begins with no route byte.
+    NotRoute,
+    /// The port has no cable.
+    NoCable,
+    /// The CRC isn't the one due to the head.
+    BadCrc,
+    /// The packet reached a host with a route left.
+    RouteLeft,
+    /// The type is neither of mapping nor of GM.
+    UnknownType,
+    /// The head is too short, or the body is out of form.
+    Malformed,
+    /// The body names another destination, or an address that is no host.
+    NotMine,
+}
+
+/// What a client's call was answered.
+#[derive(Debug, Drop)]
+pub enum Said {
+    Done,
+    /// The port is closed, and so many provided tokens came back.
+    Count(u32),
+    /// The call took the token of this number.
+    Token(u16),
+    /// The message of this token was acknowledged; token and buffer came back.
+    Sent(u16),
+    /// A message came, into the buffer of this token.
+    Received {
+        token: u16,
+        from: u16,
+        sport: u8,
+        prio: u8,
+        body: Blob,
+    },
+    /// The port's queue is empty.
+    Nothing,
+    Refused(ClientCause),
+}
+
+/// What an event did.
+#[derive(Debug, Drop)]
+pub enum Effect {
+    /// It wasn't possible, and changed nothing.
+    Idle,
+    /// The injection of this number, from 1.
+    Injected(u64),
+    /// The packet is in this channel now.
+    Moved(u16),
+    /// The packet stays, since this channel holds another.
+    Blocked(u16),
+    /// The packet reached this host, which heard this.
+    Arrived(u16, Heard),
+    Dropped(Cause),
+    Lost,
+    Reset,
+    Flipped,
+    Expired,
+    GaveUp,
+    /// A copy is in limbo, under this serial.
+    Repeated(u64),
+    /// The packet is in limbo, under this serial.
+    Held(u64),
+    /// The packet is back in this channel.
+    Replayed(u16),
+    /// A probe or a part is staged.
+    Staged,
+    Said(Said),
+}

@@ -1,0 +1,89 @@
+//! Worked examples, computed by the prover: each function's contract is the example, and its body is empty.
+
+ghost use Rattle.std.specs.Prelude.{◌≡◌, ℕ, ◌∷◌, [], ◌++◌, map, replicate, false, Some};
+ghost use Rattle.net_defs.specs.declared.place.Answer.{Answer};
+ghost use Rattle.gm_defs.specs.declared.token.TokenPlace.{TokenPlace};
+ghost use Rattle.gm_defs.specs.Token.{place_of_recv};
+ghost use Rattle.link_defs.specs.Links.{packet_in, is_idle};
+ghost use Rattle.world_defs.specs.declared.effect.Effect.{Effect};
+ghost use Rattle.world_defs.specs.declared.effect.Said.{Said};
+ghost use Rattle.net_defs.specs.Examples.{two_hosts};
+ghost use Rattle.world_defs.specs.World.{new_world, planned};
+ghost use Rattle.world_defs.specs.declared.fault.Fault.{Fault};
+ghost use Rattle.world_defs.specs.declared.heard.Heard.{Heard};
+ghost use Rattle.world_defs.specs.Settle.{unacknowledged_in};
+ghost use Rattle.world_defs.specs.Examples.{setup_map, setup_install, received, three_calls, three_plans, three_settled, three_polls, abc_injected, abc_settled, abc_polls, waiting, provided_late, served, served_poll, stepwise, stepwise_settled, stepwise_polls};
+
+/// A mapper asks 31 walks over the two hosts at one switch: 62 packets, of which three aren't dropped.
+#[tactic(auto, using(crate::proofs::Rows::asks_of_the_map_answers, crate::proofs::Rows::asks_of_the_map_injections, crate::proofs::Rows::asks_of_the_map_drops))]
+pub fn asks_of_the_map()
+    ensures answers { setup_map.0 ≡ Answer.Switch ∷ replicate 17 Answer.Nothing ++ Answer.Host 1 ∷ replicate 12 Answer.Nothing }
+    ensures injections { setup_map.1.injected ≡ 62 }
+    ensures drops { setup_map.1.dropped ≡ 59 }
+{}
+
+/// Its routes are installed with two packets more.
+#[tactic(auto, using(crate::proofs::Rows::installation_both, crate::proofs::Rows::installation_injections, crate::proofs::Rows::installation_drops))]
+pub fn installation()
+    ensures both { setup_install.0 ≡ 2 }
+    ensures injections { setup_install.1.injected ≡ 64 }
+    ensures drops { setup_install.1.dropped ≡ 59 }
+{}
+
+/// Three messages come once each and in order, though the first frame is copied, the second lost and an acknowledgement held.
+#[tactic(auto, using(crate::proofs::Rows::three_messages_calls, crate::proofs::Rows::three_messages_plans, crate::proofs::Rows::three_messages_rounds, crate::proofs::Rows::three_messages_resets, crate::proofs::Rows::three_messages_acknowledged, crate::proofs::Rows::three_messages_messages, crate::proofs::Rows::three_messages_injections, crate::proofs::Rows::three_messages_drops))]
+pub fn three_messages()
+    ensures calls { three_calls.0 ≡ Effect.Said Said.Done ∷ Effect.Said Said.Done ∷ map (λ t. Effect.Said (Said.Token t)) (0 ∷ 1 ∷ 2 ∷ 0 ∷ 1 ∷ 2 ∷ []) }
+    ensures plans { three_plans.0 ≡ 65 ∷ 66 ∷ 68 ∷ [] }
+    ensures rounds { three_settled.rounds ≡ 2 }
+    ensures resets { three_settled.resets ≡ 0 }
+    ensures acknowledged { unacknowledged_in three_settled.world ≡ 0 }
+    ensures messages { three_polls.0 ≡ received 0 (10 ∷ []) ∷ received 1 (20 ∷ []) ∷ received 2 (30 ∷ []) ∷ [] }
+    ensures injections { three_polls.1.injected ≡ 73 }
+    ensures drops { three_polls.1.dropped ≡ 59 }
+{}
+
+/// A frame whose route byte and type are flipped comes back to its sender, which drops it; the next one arrives.
+#[tactic(auto, using(crate::proofs::Rows::flipped_route_byte_frame, crate::proofs::Rows::flipped_route_byte_rounds, crate::proofs::Rows::flipped_route_byte_resets, crate::proofs::Rows::flipped_route_byte_acknowledged, crate::proofs::Rows::flipped_route_byte_polls, crate::proofs::Rows::flipped_route_byte_injections, crate::proofs::Rows::flipped_route_byte_drops))]
+pub fn flipped_route_byte()
+    ensures frame { packet_in abc_injected.links 0 ≡ Some (record { wire = 131 ∷ 0 ∷ 8 ∷ 1 ∷ 1 ∷ 0 ∷ 0 ∷ 0 ∷ 1 ∷ 0 ∷ 1 ∷ 0 ∷ replicate 4 0 ++ 0 ∷ 0 ∷ 0 ∷ 3 ∷ replicate 4 0 ++ 0 ∷ 3 ∷ 65 ∷ 66 ∷ 67 ∷ 131 ∷ []; marked = false }) }
+    ensures rounds { abc_settled.rounds ≡ 2 }
+    ensures resets { abc_settled.resets ≡ 0 }
+    ensures acknowledged { unacknowledged_in abc_settled.world ≡ 0 }
+    ensures polls { abc_polls.0 ≡ received 0 (65 ∷ 66 ∷ 67 ∷ []) ∷ Effect.Said (Said.Sent 0) ∷ [] }
+    ensures injections { abc_polls.1.injected ≡ 67 }
+    ensures drops { abc_polls.1.dropped ≡ 60 }
+{}
+
+/// A message for which no token fits isn't acknowledged, and comes once one is provided.
+#[tactic(auto, using(crate::proofs::Rows::message_waits_for_a_token_first_rounds, crate::proofs::Rows::message_waits_for_a_token_first_resets, crate::proofs::Rows::message_waits_for_a_token_waits, crate::proofs::Rows::message_waits_for_a_token_nothing_yet, crate::proofs::Rows::message_waits_for_a_token_rounds, crate::proofs::Rows::message_waits_for_a_token_acknowledged, crate::proofs::Rows::message_waits_for_a_token_message, crate::proofs::Rows::message_waits_for_a_token_injections, crate::proofs::Rows::message_waits_for_a_token_drops))]
+pub fn message_waits_for_a_token()
+    ensures first_rounds { waiting.rounds ≡ 1 }
+    ensures first_resets { waiting.resets ≡ 0 }
+    ensures waits { unacknowledged_in waiting.world ≡ 1 }
+    ensures nothing_yet { provided_late.0 ≡ Effect.Said Said.Nothing ∷ Effect.Said (Said.Token 1) ∷ [] }
+    ensures rounds { served.rounds ≡ 1 }
+    ensures acknowledged { unacknowledged_in served.world ≡ 0 }
+    ensures message { served_poll.0 ≡ received 1 (1 ∷ 2 ∷ []) ∷ [] }
+    ensures injections { served_poll.1.injected ≡ 68 }
+    ensures drops { served_poll.1.dropped ≡ 59 }
+{}
+
+/// Two frames step by step: a host's channel that is full takes no packet, a packet waits for another, and a lost one is sent again.
+#[tactic(auto, using(crate::proofs::Rows::step_by_step_effects, crate::proofs::Rows::step_by_step_rounds, crate::proofs::Rows::step_by_step_resets, crate::proofs::Rows::step_by_step_acknowledged, crate::proofs::Rows::step_by_step_messages, crate::proofs::Rows::step_by_step_injections, crate::proofs::Rows::step_by_step_drops))]
+pub fn step_by_step()
+    ensures effects { stepwise.0 ≡ Effect.Injected 65 ∷ Effect.Moved 3 ∷ Effect.Injected 66 ∷ Effect.Idle ∷ Effect.Blocked 3 ∷ Effect.Arrived 1 Heard.Message ∷ Effect.Moved 3 ∷ Effect.Lost ∷ [] }
+    ensures rounds { stepwise_settled.rounds ≡ 1 }
+    ensures resets { stepwise_settled.resets ≡ 0 }
+    ensures acknowledged { unacknowledged_in stepwise_settled.world ≡ 0 }
+    ensures messages { stepwise_polls.0 ≡ received 0 (1 ∷ []) ∷ received 1 (2 ∷ []) ∷ [] }
+    ensures injections { stepwise_polls.1.injected ≡ 71 }
+    ensures drops { stepwise_polls.1.dropped ≡ 59 }
+{}
+
+/// A later plan for an injection takes the earlier one's place.
+pub fn plans_for_one_injection()
+    ensures number { (planned (new_world two_hosts) 3 Fault.Lose).0 ≡ 3 }
+    ensures last { (planned (planned (new_world two_hosts) 3 Fault.Lose).1 3 Fault.Hold).1.plan ≡ (3, Fault.Hold) ∷ [] }
+    ensures others_stay { (planned (planned (new_world two_hosts) 3 Fault.Lose).1 1 Fault.Hold).1.plan ≡ (3, Fault.Lose) ∷ (1, Fault.Hold) ∷ [] }
+{}

@@ -1,0 +1,44 @@
+//! What the world is: all hosts and links of a fabric with their clients, what each event does to them, and what holds at every moment.
+//!
+//! This crate holds definitions, the types of events and effects, and worked examples. It runs no world.
+//!
+//! | file of `specs/` | says |
+//! |---|---|
+//! | `World`, `Node`, `Peer`, `Table` | the state: of all, of a host, of its connections with a peer, of its routes |
+//! | `Client` | the tokens that a client holds, and its calls |
+//! | `Hearing` | what a host makes of a packet that reaches it |
+//! | `Step` | one event: its effect, and the world after it |
+//! | `Drain`, `Settle` | passes over all channels; rounds over all hosts, until nothing helps |
+//! | `Asking`, `Install` | what a mapper's ask is, and the distribution of routes |
+//! | `Traffic`, `Sound`, `Settled` | lawful and honest packets, what is sound at a moment, settled connections |
+//!
+//! ```text
+//!   host a                                      host b
+//!   +---------------------------+               +---------------------------+
+//!   | staged  reply  part_ack   |   channels    | staged  reply  part_ack   |
+//!   | table   peers  ports 0..7 |==============>| table   peers  ports 0..7 |
+//!   | clients' tokens           |<==============| clients' tokens           |
+//!   +---------------------------+     limbo     +---------------------------+
+//! ```
+#![tactic(auto)]
+
+mod applied;
+mod arrival;
+mod client;
+mod effect;
+mod event;
+mod examples;
+mod fault;
+mod heard;
+
+pub use applied::Applied;
+pub use arrival::Arrival;
+pub use client::ClientCause;
+pub use effect::{Cause, Effect, Said};
+pub use event::Event;
+pub use examples::{
+    asks_of_the_map, flipped_route_byte, installation, message_waits_for_a_token,
+    plans_for_one_injection, step_by_step, three_messages,
+};
+pub use fault::Fault;
+pub use heard::Heard;
