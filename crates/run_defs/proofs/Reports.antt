@@ -1,0 +1,57 @@
+-- The reports of the worked examples, computed.
+use Rattle.std.proofs.Common.{◌≡◌, refl, [], ◌∷◌, pos, negsuc}
+use Rattle.std.specs.Prelude.{codes}
+use Rattle.std.specs.Fmt.{digits}
+use Rattle.world_defs.specs.Table.{applied}
+use Rattle.world_defs.specs.Node.{to_send, packet_for, after_sending}
+use Rattle.world_defs.specs.Hearing.{hear}
+use Rattle.world_defs.specs.Client.{begun, closed, provided_by, sent_by, polled_by}
+use Rattle.world_defs.specs.Step.{lost, was_reset, repeated, held, flipped, replayed, asked, part_staged, planned_strikes, sent_out, injected, advanced, expired, gave_up}
+use Rattle.world_defs.specs.Drain.{pass, drain, clear}
+use Rattle.world_defs.specs.Settle.{round_pass, round, settle}
+use Rattle.world_defs.specs.Asking.{sends, host_try, loop_try, ask}
+use Rattle.world_defs.specs.Install.{part_try, installed}
+use Rattle.net_defs.specs.Examples.{two_hosts}
+use Rattle.net_defs.specs.declared.place.Place.{Place}
+use Rattle.world_defs.specs.declared.effect.Said.{Said}
+use Rattle.run_defs.specs.declared.line.Line.{Line}
+use Rattle.run_defs.specs.declared.line.MapWords.{MapWords}
+use Rattle.run_defs.specs.declared.line.ClientCall.{ClientCall}
+use Rattle.run_defs.specs.LineText.{line_text, map_text}
+use Rattle.run_defs.specs.Examples.{setup_map, text_of, printed, fresh, installed_session, refused_calls, closing, single_events}
+
+pub refusals_text : printed refused_calls fresh ≡ text_of (codes "open a 0 done" ∷ codes "open a 0 refused already" ∷ codes "provide a 0 refused badsize" ∷ codes "provide a 0 token 0" ∷ codes "provide a 0 refused notoken" ∷ codes "send a 0 refused noroute" ∷ codes "send a 1 refused notopen" ∷ codes "poll a 1 refused notopen" ∷ codes "poll a 0 nothing" ∷ codes "routes refused nomap" ∷ codes "install refused noroutes" ∷ codes "end injected 0 dropped 0" ∷ [])
+unfolding sends host_try loop_try ask begun closed provided_by sent_by polled_by pass drain clear hear part_try installed to_send packet_for after_sending round_pass round settle lost was_reset repeated held flipped replayed asked part_staged planned_strikes sent_out injected advanced expired gave_up applied digits
+refusals_text = refl
+
+pub closing_text : printed closing installed_session ≡ text_of (codes "open a 0 done" ∷ codes "provide a 0 token 0" ∷ codes "provide a 0 token 1" ∷ codes "open b 1 done" ∷ codes "provide b 1 token 0" ∷ codes "send a 0 token 0" ∷ codes "close a 0 refused busy 1" ∷ codes "settle rounds 1 resets 0 unacked 0" ∷ codes "close a 0 refused unread 1" ∷ codes "poll a 0 sent token 0" ∷ codes "tokens a 0 send 0=client recv 0=provided 1=provided" ∷ codes "close a 0 done 2" ∷ codes "tokens a 0 refused notopen" ∷ codes "end injected 66 dropped 59" ∷ [])
+unfolding sends host_try loop_try ask begun closed provided_by sent_by polled_by pass drain clear hear part_try installed to_send packet_for after_sending round_pass round settle lost was_reset repeated held flipped replayed asked part_staged planned_strikes sent_out injected advanced expired gave_up applied digits
+closing_text = refl
+
+pub single_events_text : printed single_events installed_session ≡ text_of (codes "open a 0 done" ∷ codes "open b 1 done" ∷ codes "provide b 1 token 0" ∷ codes "provide b 1 token 1" ∷ codes "send a 0 token 0" ∷ codes "send a 0 token 1" ∷ codes "step injected 65" ∷ codes "step moved s 5" ∷ codes "step injected 66" ∷ codes "step idle" ∷ codes "step blocked s 5" ∷ codes "map a refused busy" ∷ codes "step arrived b message" ∷ codes "step moved s 5" ∷ codes "step lost" ∷ codes "step idle" ∷ codes "settle rounds 1 resets 0 unacked 0" ∷ codes "poll b 1 received token 0 from a 0 prio 0 len 1 bytes 01" ∷ codes "poll b 1 received token 1 from a 0 prio 0 len 1 bytes 02" ∷ codes "end injected 71 dropped 59" ∷ [])
+unfolding sends host_try loop_try ask begun closed provided_by sent_by polled_by pass drain clear hear part_try installed to_send packet_for after_sending round_pass round settle lost was_reset repeated held flipped replayed asked part_staged planned_strikes sent_out injected advanced expired gave_up applied digits
+single_events_text = refl
+
+pub line_at_a_switch : line_text two_hosts (Line.Walk (Place.Switch 0 2)) ≡ text_of (codes "walk switch s port 2" ∷ [])
+unfolding digits
+line_at_a_switch = refl
+
+pub line_doubtful : line_text two_hosts (Line.Map 0 (MapWords.Doubtful 1) 31 123) ≡ text_of (codes "map a doubtful 1 asks 31 packets 123" ∷ [])
+unfolding digits
+line_doubtful = refl
+
+pub line_route : line_text two_hosts (Line.Route 0 1 (pos 3 ∷ pos 0 ∷ negsuc 14 ∷ [])) ≡ text_of (codes "route a b +3 0 -15" ∷ [])
+unfolding digits
+line_route = refl
+
+pub line_empty_message : line_text two_hosts (Line.Client ClientCall.Poll 1 1 (Said.Received 0 0 0 1 [])) ≡ text_of (codes "poll b 1 received token 0 from a 0 prio 1 len 0 bytes -" ∷ [])
+unfolding digits
+line_empty_message = refl
+
+pub line_message : line_text two_hosts (Line.Client ClientCall.Poll 1 1 (Said.Received 0 0 0 0 (65 ∷ 10 ∷ 254 ∷ []))) ≡ text_of (codes "poll b 1 received token 0 from a 0 prio 0 len 3 bytes 410afe" ∷ [])
+unfolding digits
+line_message = refl
+
+pub map_lines : map_text two_hosts setup_map ≡ text_of (codes "host a" ∷ codes "switch #0 core" ∷ codes "host b" ∷ codes "cable a 0 #0 0" ∷ codes "cable #0 +3 b 0" ∷ codes "endmap" ∷ [])
+unfolding digits
+map_lines = refl

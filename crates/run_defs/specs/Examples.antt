@@ -1,0 +1,61 @@
+-- Sessions over the two hosts at one switch, for worked examples.
+use Rattle.std.specs.Prelude.{ℕ, pos, true, List, [], ◌∷◌, ◌++◌, Option, Some, None, flat_map}
+use Rattle.net_defs.specs.Examples.{two_hosts, host_end, switch_end}
+use Rattle.map_defs.specs.declared.vertex.MapVertex.TheVariants.{Host, Switch}
+use Rattle.map_defs.specs.NetMap.{NetMap}
+use Rattle.world_defs.specs.World.{fabric_of}
+use Rattle.world_defs.specs.Examples.{setup, setup_routes}
+use Rattle.run_defs.specs.declared.command.Command.{Command}
+use Rattle.run_defs.specs.declared.command.Command.TheVariants.{Map, Routes, Install, Begin, Close, Poll, Tokens, Provide, Send, Step, Settle, Finish}
+use Rattle.run_defs.specs.declared.command.StepLine.TheVariants.{Inject, Advance, Lose}
+use Rattle.run_defs.specs.LineText.{output_text}
+use Rattle.run_defs.specs.Session.{SessionState, new_session}
+use Rattle.run_defs.specs.Outcome.{Outcome, outcome}
+
+-- a text of these lines
+abbrev pub text_of : List (List ℕ) → List ℕ
+text_of ls = flat_map (λ l. l ++ 10 ∷ []) ls
+
+abbrev pub text_then : Option Outcome → (SessionState → List ℕ) → List ℕ
+text_then None rest = []
+text_then (Some o) rest = output_text (fabric_of o.after.world) o.output ++ rest o.after
+
+-- what determined commands print
+abbrev pub printed : List Command → SessionState → List ℕ
+printed [] s = []
+printed (c ∷ cs) s = text_then (outcome s c) (printed cs)
+
+abbrev pub fresh : SessionState
+fresh = new_session two_hosts
+
+-- the session of the two hosts, with their routes installed
+abbrev pub installed_session : SessionState
+installed_session = record { world = setup; last_map = None; last_routes = Some (record { mapper = 0; hosts = 0 ∷ 1 ∷ []; routes = setup_routes }) }
+
+-- the map of the two hosts: the switch's ports count from the first host's
+abbrev pub setup_map : NetMap
+setup_map = record {
+  vertices = Host 0 ∷ Switch 0 ∷ Host 1 ∷ [];
+  cables = record { v = 0; p = pos 0; w = 1; q = pos 0 } ∷ record { v = 1; p = pos 3; w = 2; q = pos 0 } ∷ [];
+  core = true ∷ true ∷ true ∷ [];
+}
+
+-- calls without routes, each refused once
+abbrev pub refused_calls : List Command
+refused_calls =
+    Begin 0 0 1 1 ∷ Begin 0 0 1 1 ∷ Provide 0 0 3 0 ∷ Provide 0 0 4 0 ∷ Provide 0 0 4 0 ∷ Send 0 0 1 1 0 1 1 ∷ Send 0 1 1 1 0 1 1
+    ∷ Poll 0 1 ∷ Poll 0 0 ∷ Routes ∷ Install 1 ∷ Finish ∷ []
+
+-- a port is closed once nothing of it is unfinished and nothing waits
+abbrev pub closing : List Command
+closing =
+    Begin 0 0 1 2 ∷ Provide 0 0 4 0 ∷ Provide 0 0 5 1 ∷ Begin 1 1 0 1 ∷ Provide 1 1 4 0 ∷ Send 0 0 1 1 0 1 9 ∷ Close 0 0 ∷ Settle ∷ Close 0 0
+    ∷ Poll 0 0 ∷ Tokens 0 0 ∷ Close 0 0 ∷ Tokens 0 0 ∷ Finish ∷ []
+
+-- events one by one
+abbrev pub single_events : List Command
+single_events =
+    Begin 0 0 2 0 ∷ Begin 1 1 0 2 ∷ Provide 1 1 4 0 ∷ Provide 1 1 4 0 ∷ Send 0 0 1 1 0 1 1 ∷ Send 0 0 1 1 0 1 2
+    ∷ Step (Inject 0) ∷ Step (Advance (host_end 0)) ∷ Step (Inject 0) ∷ Step (Inject 0) ∷ Step (Advance (host_end 0)) ∷ Map 0 4 1
+    ∷ Step (Advance (switch_end 0 5)) ∷ Step (Advance (host_end 0)) ∷ Step (Lose (switch_end 0 5)) ∷ Step (Lose (switch_end 0 7)) ∷ Settle
+    ∷ Poll 1 1 ∷ Poll 1 1 ∷ Finish ∷ []

@@ -1,0 +1,111 @@
+-- What a run promises: a map that says complete is the mapper's part of the fabric; on a quiet fabric, probed deeply enough, it says so; every moment is sound.
+use Rattle.std.specs.Prelude.{◌≡◌, ◌⊎◌, ℕ, ◌+◌, ◌<◌, ◌≤◌, ◌^◌, true, List, [], ◌∷◌, ◌++◌, Option, Some, None}
+use Rattle.std.specs.List.{AllByRecursion}
+use Rattle.net_defs.specs.declared.place.Place.TheVariants.{Host as AtHost}
+use Rattle.net_defs.specs.declared.vertex.Vertex.TheVariants.{Switch}
+use Rattle.net_defs.specs.declared.route.Route.{Route}
+use Rattle.net_defs.specs.Network.{Network}
+use Rattle.net_defs.specs.Route.{place, channels_of}
+use Rattle.link_defs.specs.Links.{is_idle}
+use Rattle.journal_defs.specs.declared.entry.Entry.{Entry}
+use Rattle.journal_defs.specs.Part.{IsInPart, farthest, host_distance, walk_count}
+use Rattle.journal_defs.specs.DistanceLaws.{HasHostWithin}
+use Rattle.map_defs.specs.NetMap.{NetMap}
+use Rattle.map_defs.specs.Sameness.{IsMapOfPart}
+use Rattle.map_defs.specs.Dependencies.{IsBefore}
+use Rattle.world_defs.specs.declared.event.Event.{Event}
+use Rattle.world_defs.specs.declared.fault.Fault.{Fault}
+use Rattle.world_defs.specs.Table.{Adoption}
+use Rattle.world_defs.specs.World.{WorldState, fabric_of, new_world, planned, adopted_by}
+use Rattle.world_defs.specs.Step.{step}
+use Rattle.world_defs.specs.Sound.{IsSound}
+use Rattle.run_defs.specs.declared.command.Command.{Command}
+use Rattle.run_defs.specs.declared.line.MapWords.{MapWords}
+use Rattle.run_defs.specs.declared.line.MapWords.TheVariants.{Complete}
+use Rattle.run_defs.specs.declared.line.Line.TheVariants.{Map as MapLine}
+use Rattle.run_defs.specs.Mapped.{IsMapped}
+use Rattle.run_defs.specs.Output.{Piece, OneLine, MapLines}
+use Rattle.run_defs.specs.Session.{SessionState}
+use Rattle.run_defs.specs.Run.{IsRun}
+
+-- a run printed a map under the word complete
+pub record HasPrinted (out : List Piece) (mapper : ℕ) (m : NetMap) : Type 0 where
+  pub before : List Piece
+  pub behind : List Piece
+  pub asks : ℕ
+  pub packets : ℕ
+  pub there : out ≡ before ++ OneLine (MapLine mapper Complete asks packets) ∷ MapLines m ∷ behind
+
+-- every map that says complete is the mapper's part of the fabric, the ports of each switch counted from elsewhere
+abbrev pub CompleteIsTrue : Network → List Command → Type 0
+CompleteIsTrue n commands =
+    (out : List Piece) (last : SessionState) (mapper : ℕ) (m : NetMap) → IsRun n commands out last → HasPrinted out mapper m → IsMapOfPart n mapper m
+
+-- each switch of the mapper's part has a host cabled to it
+abbrev pub EachSwitchHasAHost : Network → ℕ → Type 0
+EachSwitchHasAHost n host = (s : ℕ) → IsInPart n host (Switch s) → HasHostWithin n (Switch s) 1
+
+-- Mapping meets a quiet fabric: no packet is on its way, no planned fault names an injection of it, injections are left in plenty, and the tree stays small.
+pub record IsQuiet (host : ℕ) (before after : WorldState) : Type 0 where
+  pub idle : is_idle before.links ≡ true
+  pub unplanned : AllByRecursion (λ f. (f.0 ≤ before.injected) ⊎ (after.injected < f.0)) before.plan
+  pub injections_left : before.injected < 2 ^ 63
+  pub small : (walk_count (fabric_of before) host ≤ 65535) ⊎ EachSwitchHasAHost (fabric_of before) host
+
+-- on a quiet fabric a map to the depth that suffices says complete
+abbrev pub DeepIsComplete : Network → List Command → Type 0
+DeepIsComplete n commands =
+    (out : List Piece) (s : SessionState) (host depth tries : ℕ) (after : WorldState) (j : List Entry) (m : NetMap) (words : MapWords)
+    → IsRun n commands out s → IsMapped host depth tries s.world after j m words → IsQuiet host s.world after
+    → host_distance n host + farthest n host + 1 ≤ depth → words ≡ Complete
+
+-- What may happen to a world: an event, a plan, or the adoption of routes.
+pub data Act : Type 0 where
+  Happens : Event → Act
+  Plans : (ahead : ℕ) → Fault → Act
+  Adopts : (mapper : ℕ) → List Route → Act
+
+-- the world after an act
+abbrev pub acted : WorldState → Act → WorldState
+acted w (Happens e) = (step w e).1
+acted w (Plans ahead fault) = (planned w ahead fault).1
+acted w (Adopts mapper routes) = adopted_by w mapper routes
+
+abbrev pub acted_all : WorldState → List Act → WorldState
+acted_all w [] = w
+acted_all w (a ∷ acts) = acted_all (acted w a) acts
+
+-- the channels of each route
+abbrev pub channels_of_all : Network → List Route → List (List ℕ)
+channels_of_all n [] = []
+channels_of_all n (r ∷ rs) = channels_of n r.from r.walk ∷ channels_of_all n rs
+
+-- only one set is ever adopted
+abbrev pub IsSameSet : List Route → Option Adoption → Type 0
+IsSameSet routes None = Unit {0}
+IsSameSet routes (Some a) = a.routes ≡ routes
+
+-- routes may be adopted where each leads to its host, and some numbering of channels rises along every route
+pub record AreAdoptable (n : Network) (routes : List Route) : Type 0 where
+  pub lead : AllByRecursion (λ r. place n r.from r.walk ≡ AtHost r.to) routes
+  pub number : ℕ → ℕ
+  pub rises : (c d : ℕ) → IsBefore (channels_of_all n routes) c d → number c < number d
+
+abbrev pub MayAct : WorldState → Act → Type 0
+MayAct w (Happens e) = Unit {0}
+MayAct w (Plans ahead fault) = 1 ≤ ahead
+MayAct w (Adopts mapper routes) = AreAdoptable (fabric_of w) routes × IsSameSet routes w.adopted
+
+abbrev pub MayActAll : WorldState → List Act → Type 0
+MayActAll w [] = Unit {0}
+MayActAll w (a ∷ acts) = MayAct w a × MayActAll (acted w a) acts
+
+-- every moment is sound, whatever happens before it
+abbrev pub AlwaysSound : Network → Type 0
+AlwaysSound n = (acts : List Act) → MayActAll (new_world n) acts → IsSound (acted_all (new_world n) acts)
+
+-- The promise of a run.
+pub record IsPromised (n : Network) (commands : List Command) : Type 0 where
+  pub complete : CompleteIsTrue n commands
+  pub deep : DeepIsComplete n commands
+  pub sound : AlwaysSound n

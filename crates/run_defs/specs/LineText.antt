@@ -1,0 +1,247 @@
+-- The text of each line of a report.
+use Rattle.std.specs.Prelude.{ℕ, zero, suc, ◌+◌, ◌/◌, ◌%◌, ℤ, pos, negsuc, Bool, true, false, List, [], ◌∷◌, ◌++◌, map, length, nat_lt, slice_get, if◌then◌else◌, Option, Some, None, codes, decimal, flat_map}
+use Rattle.net_defs.specs.declared.vertex.Vertex.TheVariants.{Host, Switch}
+use Rattle.net_defs.specs.declared.vertex.End.{End}
+use Rattle.net_defs.specs.declared.place.Place.{Place}
+use Rattle.net_defs.specs.declared.place.Place.TheVariants.{Host as AtHost, Switch as AtSwitch, Nothing as Stuck}
+use Rattle.net_defs.specs.Network.{Network}
+use Rattle.net_defs.specs.Building.{name_of}
+use Rattle.map_defs.specs.declared.vertex.MapVertex.{MapVertex}
+use Rattle.map_defs.specs.declared.vertex.MapVertex.TheVariants.{Host as MapHost, Switch as MapSwitch}
+use Rattle.map_defs.specs.declared.vertex.MapCable.{MapCable}
+use Rattle.map_defs.specs.NetMap.{NetMap}
+use Rattle.gm_defs.specs.declared.token.TokenPlace.{TokenPlace}
+use Rattle.gm_defs.specs.declared.token.TokenPlace.TheVariants.{Queue, Provided, Event}
+use Rattle.fab_text.specs.declared.fault.FaultKind.{FaultKind}
+use Rattle.fab_text.specs.declared.fault.FaultKind.TheVariants.{BadWord, NotNumber, TooLarge, NameTaken, NoVertex, PortRange, PortUsed, Full, NoEnd, AfterEnd}
+use Rattle.world_defs.specs.declared.effect.Cause.{Cause}
+use Rattle.world_defs.specs.declared.effect.Cause.TheVariants.{OutOfRange, NotRoute, NoCable, BadCrc, RouteLeft, UnknownType, Malformed, NotMine}
+use Rattle.world_defs.specs.declared.effect.Said.{Said}
+use Rattle.world_defs.specs.declared.effect.Said.TheVariants.{Done, Count, Token, Sent, Received, Nothing, Refused as SaidRefused}
+use Rattle.world_defs.specs.declared.client.ClientCause.{ClientCause}
+use Rattle.world_defs.specs.declared.client.ClientCause.TheVariants.{Already, NotOpen, NoToken, TooLong, NoRoute, Spent, BadSize, Busy, Unread}
+use Rattle.world_defs.specs.declared.heard.Heard.{Heard}
+use Rattle.world_defs.specs.declared.heard.Heard.TheVariants.{Probe, Reply, Loop, Routes as HeardRoutes, RoutesAck, Message, Fragment, NotNext, NoToken as NoTokenFits, Ack}
+use Rattle.run_defs.specs.declared.line.MapWords.{MapWords}
+use Rattle.run_defs.specs.declared.line.MapWords.TheVariants.{Complete, Doubtful, IncompleteDepth, IncompleteNodes}
+use Rattle.run_defs.specs.declared.line.InstallCause.{InstallCause}
+use Rattle.run_defs.specs.declared.line.InstallCause.TheVariants.{NoRoutes, Busy as LinksBusy, Installed as OtherInstalled}
+use Rattle.run_defs.specs.declared.line.ClientCall.{ClientCall}
+use Rattle.run_defs.specs.declared.line.ClientCall.TheVariants.{Begin, Close, Provide, Send, Poll, Tokens as TokensCall}
+use Rattle.run_defs.specs.declared.line.StepWords.{StepWords}
+use Rattle.run_defs.specs.declared.line.StepWords.TheVariants.{Idle, Injected, Moved, Blocked, Arrived, Dropped, Lost, Reset, Flipped, Expired, GaveUp, Repeated, Held, Replayed}
+use Rattle.run_defs.specs.declared.line.PlaceEntry.{PlaceEntry}
+use Rattle.run_defs.specs.declared.line.Line.{Line}
+use Rattle.run_defs.specs.declared.line.Line.TheVariants.{Refused, Walk, Map, MapBusy, Routes, Route, Rank, EndRoutes, NoMap, Installed, Table, InstallRefused, Client, Tokens, PlanAt, Step, Settle, Finish}
+use Rattle.run_defs.specs.Output.{Piece, OneLine, MapLines}
+
+-- words stand one space apart
+abbrev pub spaced : List (List ℕ) → List ℕ
+spaced [] = []
+spaced (w ∷ []) = w
+spaced (w ∷ ws) = w ++ 32 ∷ spaced ws
+
+-- a line of words ends with LF
+abbrev pub line_of : List (List ℕ) → List ℕ
+line_of ws = spaced ws ++ 10 ∷ []
+
+abbrev pub host_name : Network → ℕ → List ℕ
+host_name n h = name_of n (Host h)
+
+-- a turn, or a port of a map: `0`, `+3`, `-3`
+abbrev pub turn_text : ℤ → List ℕ
+turn_text (pos zero) = codes "0"
+turn_text (pos (suc k)) = codes "+" ++ decimal (suc k)
+turn_text (negsuc k) = codes "-" ++ decimal (suc k)
+
+-- an end of a fabric: the vertex and its port
+abbrev pub end_words : Network → End → List (List ℕ)
+end_words n e = name_of n e.v ∷ decimal e.p ∷ []
+
+-- a vertex of a map: a host by its name, a switch by its number
+abbrev pub vertex_text : Network → MapVertex → List ℕ
+vertex_text n (MapHost h) = host_name n h
+vertex_text n (MapSwitch s) = codes "#" ++ decimal s
+
+-- a hexadecimal digit, lower case
+abbrev pub hex_digit : ℕ → ℕ
+hex_digit d = if nat_lt d 10 then 48 + d else 87 + d
+
+-- bytes as two digits each, or `-` for none
+abbrev pub hex_text : List ℕ → List ℕ
+hex_text [] = codes "-"
+hex_text (b ∷ bs) = flat_map (λ x. hex_digit (x / 16) ∷ hex_digit (x % 16) ∷ []) (b ∷ bs)
+
+abbrev pub walk_words : Network → Place → List (List ℕ)
+walk_words n (AtHost h) = codes "host" ∷ host_name n h ∷ []
+walk_words n (AtSwitch s p) = codes "switch" ∷ name_of n (Switch s) ∷ codes "port" ∷ decimal p ∷ []
+walk_words n Stuck = codes "nothing" ∷ []
+
+abbrev pub map_words : MapWords → List (List ℕ)
+map_words Complete = codes "complete" ∷ []
+map_words (Doubtful n) = codes "doubtful" ∷ decimal n ∷ []
+map_words IncompleteDepth = codes "incomplete" ∷ codes "depth" ∷ []
+map_words IncompleteNodes = codes "incomplete" ∷ codes "nodes" ∷ []
+
+abbrev pub install_cause : InstallCause → List ℕ
+install_cause NoRoutes = codes "noroutes"
+install_cause LinksBusy = codes "busy"
+install_cause OtherInstalled = codes "installed"
+
+abbrev pub call_word : ClientCall → List ℕ
+call_word Begin = codes "open"
+call_word Close = codes "close"
+call_word Provide = codes "provide"
+call_word Send = codes "send"
+call_word Poll = codes "poll"
+call_word TokensCall = codes "tokens"
+
+abbrev pub client_cause : ClientCause → List (List ℕ)
+client_cause Already = codes "already" ∷ []
+client_cause NotOpen = codes "notopen" ∷ []
+client_cause NoToken = codes "notoken" ∷ []
+client_cause TooLong = codes "toolong" ∷ []
+client_cause NoRoute = codes "noroute" ∷ []
+client_cause Spent = codes "spent" ∷ []
+client_cause BadSize = codes "badsize" ∷ []
+client_cause (Busy n) = codes "busy" ∷ decimal n ∷ []
+client_cause (Unread n) = codes "unread" ∷ decimal n ∷ []
+
+abbrev pub said_words : Network → Said → List (List ℕ)
+said_words n Done = codes "done" ∷ []
+said_words n (Count c) = codes "done" ∷ decimal c ∷ []
+said_words n (Token t) = codes "token" ∷ decimal t ∷ []
+said_words n (Sent t) = codes "sent" ∷ codes "token" ∷ decimal t ∷ []
+said_words n (Received t from sport prio body) =
+    codes "received" ∷ codes "token" ∷ decimal t ∷ codes "from" ∷ host_name n from ∷ decimal sport ∷ codes "prio" ∷ decimal prio
+    ∷ codes "len" ∷ decimal (length body) ∷ codes "bytes" ∷ hex_text body ∷ []
+said_words n Nothing = codes "nothing" ∷ []
+said_words n (SaidRefused cause) = codes "refused" ∷ client_cause cause
+
+abbrev pub heard_word : Heard → List ℕ
+heard_word Probe = codes "probe"
+heard_word (Reply number host) = codes "reply"
+heard_word (Loop number) = codes "loop"
+heard_word HeardRoutes = codes "routes"
+heard_word (RoutesAck epoch host part) = codes "routesack"
+heard_word Message = codes "message"
+heard_word Fragment = codes "fragment"
+heard_word NotNext = codes "notnext"
+heard_word NoTokenFits = codes "notoken"
+heard_word Ack = codes "ack"
+
+abbrev pub cause_word : Cause → List ℕ
+cause_word OutOfRange = codes "outofrange"
+cause_word NotRoute = codes "notroute"
+cause_word NoCable = codes "nocable"
+cause_word BadCrc = codes "badcrc"
+cause_word RouteLeft = codes "routeleft"
+cause_word UnknownType = codes "unknowntype"
+cause_word Malformed = codes "malformed"
+cause_word NotMine = codes "notmine"
+
+abbrev pub step_words : Network → StepWords → List (List ℕ)
+step_words n Idle = codes "idle" ∷ []
+step_words n (Injected k) = codes "injected" ∷ decimal k ∷ []
+step_words n (Moved e) = codes "moved" ∷ end_words n e
+step_words n (Blocked e) = codes "blocked" ∷ end_words n e
+step_words n (Arrived h heard) = codes "arrived" ∷ host_name n h ∷ heard_word heard ∷ []
+step_words n (Dropped cause) = codes "dropped" ∷ cause_word cause ∷ []
+step_words n Lost = codes "lost" ∷ []
+step_words n Reset = codes "reset" ∷ []
+step_words n Flipped = codes "flipped" ∷ []
+step_words n Expired = codes "expired" ∷ []
+step_words n GaveUp = codes "gaveup" ∷ []
+step_words n (Repeated serial) = codes "repeated" ∷ decimal serial ∷ []
+step_words n (Held serial) = codes "held" ∷ decimal serial ∷ []
+step_words n (Replayed e) = codes "replayed" ∷ end_words n e
+
+abbrev pub place_word : Option TokenPlace → List ℕ
+place_word None = codes "client"
+place_word (Some Queue) = codes "queue"
+place_word (Some Provided) = codes "provided"
+place_word (Some Event) = codes "event"
+
+abbrev pub place_text : PlaceEntry → List ℕ
+place_text p = decimal p.number ++ codes "=" ++ place_word p.place
+
+-- a fault of a text
+abbrev pub kind_word : FaultKind → List ℕ
+kind_word BadWord = codes "badword"
+kind_word NotNumber = codes "notnumber"
+kind_word TooLarge = codes "toolarge"
+kind_word NameTaken = codes "nametaken"
+kind_word NoVertex = codes "novertex"
+kind_word PortRange = codes "portrange"
+kind_word PortUsed = codes "portused"
+kind_word Full = codes "full"
+kind_word NoEnd = codes "noend"
+kind_word AfterEnd = codes "afterend"
+
+abbrev pub active_word : Bool → List ℕ
+active_word true = codes "active"
+active_word false = codes "none"
+
+-- The words of a line.
+abbrev pub words_in : Network → Line → List (List ℕ)
+words_in n (Refused line kind) = codes "refused" ∷ decimal line ∷ kind_word kind ∷ []
+words_in n (Walk place) = codes "walk" ∷ walk_words n place
+words_in n (Map host words asks packets) =
+    codes "map" ∷ host_name n host ∷ map_words words ++ codes "asks" ∷ decimal asks ∷ codes "packets" ∷ decimal packets ∷ []
+words_in n (MapBusy host) = codes "map" ∷ host_name n host ∷ codes "refused" ∷ codes "busy" ∷ []
+words_in n (Routes count) = codes "routes" ∷ decimal count ∷ []
+words_in n (Route from to walk) = codes "route" ∷ host_name n from ∷ host_name n to ∷ map turn_text walk
+words_in n (Rank v p rank) = codes "rank" ∷ vertex_text n v ∷ turn_text p ∷ decimal rank ∷ []
+words_in n EndRoutes = codes "endroutes" ∷ []
+words_in n NoMap = codes "routes" ∷ codes "refused" ∷ codes "nomap" ∷ []
+words_in n (Installed acked of) = codes "installed" ∷ decimal acked ∷ codes "of" ∷ decimal of ∷ []
+words_in n (Table host active) = codes "table" ∷ host_name n host ∷ active_word active ∷ []
+words_in n (InstallRefused cause) = codes "install" ∷ codes "refused" ∷ install_cause cause ∷ []
+words_in n (Client call host port said) = call_word call ∷ host_name n host ∷ decimal port ∷ said_words n said
+words_in n (Tokens host port sends recvs) =
+    codes "tokens" ∷ host_name n host ∷ decimal port ∷ codes "send" ∷ map place_text sends ++ codes "recv" ∷ map place_text recvs
+words_in n (PlanAt number) = codes "plan" ∷ codes "at" ∷ decimal number ∷ []
+words_in n (Step words) = codes "step" ∷ step_words n words
+words_in n (Settle rounds resets unacked) =
+    codes "settle" ∷ codes "rounds" ∷ decimal rounds ∷ codes "resets" ∷ decimal resets ∷ codes "unacked" ∷ decimal unacked ∷ []
+words_in n (Finish injected dropped) = codes "end" ∷ codes "injected" ∷ decimal injected ∷ codes "dropped" ∷ decimal dropped ∷ []
+
+-- The text of a line.
+abbrev pub line_text : Network → Line → List ℕ
+line_text n l = line_of (words_in n l)
+
+abbrev pub core_word : Bool → List ℕ
+core_word true = codes "core"
+core_word false = codes "outside"
+
+abbrev pub vertex_words : Network → MapVertex → Bool → List (List ℕ)
+vertex_words n (MapHost h) core = codes "host" ∷ host_name n h ∷ []
+vertex_words n (MapSwitch s) core = codes "switch" ∷ vertex_text n (MapSwitch s) ∷ core_word core ∷ []
+
+-- the lines of vertices, each with its mark
+abbrev pub vertices_text : Network → List MapVertex → List Bool → List ℕ
+vertices_text n (v ∷ vs) (c ∷ cs) = line_of (vertex_words n v c) ++ vertices_text n vs cs
+vertices_text n _ _ = []
+
+abbrev pub vertex_at : Network → Option MapVertex → List ℕ
+vertex_at n None = []
+vertex_at n (Some v) = vertex_text n v
+
+abbrev pub vertex_numbered : Network → NetMap → ℕ → List ℕ
+vertex_numbered n m v = vertex_at n (slice_get m.vertices v)
+
+abbrev pub cable_words : Network → NetMap → MapCable → List (List ℕ)
+cable_words n m c = codes "cable" ∷ vertex_numbered n m c.v ∷ turn_text c.p ∷ vertex_numbered n m c.w ∷ turn_text c.q ∷ []
+
+-- The lines of a map: its vertices, its cables, and the end.
+abbrev pub map_text : Network → NetMap → List ℕ
+map_text n m =
+    vertices_text n m.vertices m.core ++ flat_map (λ c. line_of (cable_words n m c)) m.cables ++ line_of (codes "endmap" ∷ [])
+
+abbrev pub piece_text : Network → Piece → List ℕ
+piece_text n (OneLine l) = line_text n l
+piece_text n (MapLines m) = map_text n m
+
+-- the text of all that was printed
+abbrev pub output_text : Network → List Piece → List ℕ
+output_text n out = flat_map (piece_text n) out

@@ -1,0 +1,196 @@
+-- What each command does and prints, where that is determined: all commands but a map that is made and routes that are computed.
+use Rattle.std.specs.Prelude.{ℕ, Bool, true, false, not, ◌&&◌, List, [], ◌∷◌, map, length, min, nat_eq, is_some, if◌then◌else◌, Option, Some, None, option_map}
+use Rattle.std.specs.List.{range_with_len}
+use Rattle.net_defs.specs.declared.vertex.End.{End}
+use Rattle.net_defs.specs.declared.route.Route.{Route}
+use Rattle.net_defs.specs.Route.{place, channel_from}
+use Rattle.net_defs.specs.Examples.{host_end}
+use Rattle.link_defs.specs.Channel.{channel_tail}
+use Rattle.link_defs.specs.Links.{is_idle}
+use Rattle.journal_defs.specs.Walks.{same_turns}
+use Rattle.gm_defs.specs.declared.token.TokenPlace.{TokenPlace}
+use Rattle.gm_defs.specs.Token.{PortState, place_of_send, place_of_recv}
+use Rattle.world_defs.specs.declared.event.Event.{Event}
+use Rattle.world_defs.specs.declared.event.Event.TheVariants.{Inject, Advance, Lose, Repeat, Hold, Flip, Replay, Reset, Expire, GiveUp, Begin, Close, Provide, Send, Poll}
+use Rattle.world_defs.specs.declared.effect.Effect.{Effect}
+use Rattle.world_defs.specs.declared.effect.Effect.TheVariants.{Idle, Injected, Moved, Blocked, Arrived, Dropped, Lost, Reset as WasReset, Flipped, Expired, GaveUp, Repeated, Held, Replayed, Staged, Said as SaidSo}
+use Rattle.world_defs.specs.declared.effect.Said.TheVariants.{Refused}
+use Rattle.world_defs.specs.declared.client.ClientCause.TheVariants.{NotOpen}
+use Rattle.world_defs.specs.declared.fault.Fault.{Fault}
+use Rattle.world_defs.specs.declared.fault.Fault.TheVariants.{Lose as LoseFault, Repeat as RepeatFault, Hold as HoldFault, Flip as FlipFault}
+use Rattle.world_defs.specs.Table.{Adoption, active_epoch}
+use Rattle.world_defs.specs.Node.{port_at}
+use Rattle.world_defs.specs.World.{WorldState, fabric_of, node_at, planned, adopted_by, last_count}
+use Rattle.world_defs.specs.Step.{step}
+use Rattle.world_defs.specs.Settle.{Rounds, settle, unacknowledged_in}
+use Rattle.world_defs.specs.Install.{installed}
+use Rattle.run_defs.specs.declared.command.Command.{Command}
+use Rattle.run_defs.specs.declared.command.Command.TheVariants.{Walk, Map, Routes, Install, Begin as BeginCommand, Close as CloseCommand, Poll as PollCommand, Tokens, Provide as ProvideCommand, Send as SendCommand, Plan, Step, Settle, Finish}
+use Rattle.run_defs.specs.declared.command.PlanKind.{PlanKind}
+use Rattle.run_defs.specs.declared.command.PlanKind.TheVariants.{Lose as PlanLose, Repeat as PlanRepeat, Hold as PlanHold, Flip as PlanFlip}
+use Rattle.run_defs.specs.declared.command.StepLine.{StepLine}
+use Rattle.run_defs.specs.declared.command.StepLine.TheVariants.{Inject as InjectLine, GiveUp as GiveUpLine, Advance as AdvanceLine, Lose as LoseLine, Repeat as RepeatLine, Hold as HoldLine, Reset as ResetLine, Flip as FlipLine, Expire as ExpireLine, Replay as ReplayLine}
+use Rattle.run_defs.specs.declared.line.Line.{Line}
+use Rattle.run_defs.specs.declared.line.Line.TheVariants.{Walk as WalkLine, MapBusy, NoMap, Installed, Table, InstallRefused, Client, Tokens as TokensLine, PlanAt, Step as StepOutput, Settle as SettleLine, Finish as FinishLine}
+use Rattle.run_defs.specs.declared.line.InstallCause.TheVariants.{NoRoutes, Busy, Installed as OtherInstalled}
+use Rattle.run_defs.specs.declared.line.ClientCall.{ClientCall}
+use Rattle.run_defs.specs.declared.line.ClientCall.TheVariants.{Begin as BeginCall, Close as CloseCall, Provide as ProvideCall, Send as SendCall, Poll as PollCall, Tokens as TokensCall}
+use Rattle.run_defs.specs.declared.line.StepWords.{StepWords}
+use Rattle.run_defs.specs.declared.line.StepWords.TheVariants.{Idle as IdleWords, Injected as InjectedWords, Moved as MovedWords, Blocked as BlockedWords, Arrived as ArrivedWords, Dropped as DroppedWords, Lost as LostWords, Reset as ResetWords, Flipped as FlippedWords, Expired as ExpiredWords, GaveUp as GaveUpWords, Repeated as RepeatedWords, Held as HeldWords, Replayed as ReplayedWords}
+use Rattle.run_defs.specs.declared.line.PlaceEntry.{PlaceEntry}
+use Rattle.run_defs.specs.Output.{Piece, lines}
+use Rattle.run_defs.specs.Session.{SessionState, LastMap, LastRoutes, complete_map}
+
+-- What a command prints, and the session after it.
+pub record Outcome : Type 0 where
+  pub output : List Piece
+  pub after : SessionState
+
+-- lines, and the session with this world
+abbrev pub says : SessionState → List Line → WorldState → Outcome
+says s ls w = record { output = lines ls; after = record s { world = w } }
+
+-- lines alone: the session is as before
+abbrev pub says_only : SessionState → List Line → Outcome
+says_only s ls = record { output = lines ls; after = s }
+
+-- a client's call: what it said
+abbrev pub client_lines : ClientCall → ℕ → ℕ → Effect → List Line
+client_lines call host port (SaidSo said) = Client call host port said ∷ []
+client_lines call host port _ = []
+
+abbrev pub called : SessionState → ClientCall → ℕ → ℕ → Effect × WorldState → Outcome
+called s call host port (effect, w) = says s (client_lines call host port effect) w
+
+-- the end that a channel leaves
+abbrev pub tail_of : Option End → End
+tail_of (Some e) = e
+tail_of None = host_end 0
+
+abbrev pub named_by_tail : WorldState → ℕ → End
+named_by_tail w c = tail_of (channel_tail (fabric_of w) c)
+
+-- an effect in a report's words
+abbrev pub words_of : WorldState → Effect → StepWords
+words_of w Idle = IdleWords
+words_of w (Injected n) = InjectedWords n
+words_of w (Moved c) = MovedWords (named_by_tail w c)
+words_of w (Blocked c) = BlockedWords (named_by_tail w c)
+words_of w (Arrived h heard) = ArrivedWords h heard
+words_of w (Dropped cause) = DroppedWords cause
+words_of w Lost = LostWords
+words_of w WasReset = ResetWords
+words_of w Flipped = FlippedWords
+words_of w Expired = ExpiredWords
+words_of w GaveUp = GaveUpWords
+words_of w (Repeated serial) = RepeatedWords serial
+words_of w (Held serial) = HeldWords serial
+words_of w (Replayed c) = ReplayedWords (named_by_tail w c)
+words_of w Staged = IdleWords
+words_of w (SaidSo said) = IdleWords
+
+-- an event on the channel that leaves by an end: none without a cable there
+abbrev pub on_channel : WorldState → End → (ℕ → Event) → Option Event
+on_channel w e event = option_map event (channel_from (fabric_of w) e)
+
+-- the event of a step's line
+abbrev pub event_of : WorldState → StepLine → Option Event
+event_of w (InjectLine h) = Some (Inject h)
+event_of w (GiveUpLine h) = Some (GiveUp h)
+event_of w (AdvanceLine e) = on_channel w e Advance
+event_of w (LoseLine e) = on_channel w e Lose
+event_of w (RepeatLine e) = on_channel w e Repeat
+event_of w (HoldLine e) = on_channel w e Hold
+event_of w (ResetLine e) = on_channel w e Reset
+event_of w (FlipLine e bit pattern) = on_channel w e (λ c. Flip c bit pattern)
+event_of w (ExpireLine h peer) = Some (Expire h peer)
+event_of w (ReplayLine serial) = Some (Replay serial)
+
+abbrev pub stepped : SessionState → Effect × WorldState → Outcome
+stepped s (effect, w) = says s (StepOutput (words_of w effect) ∷ []) w
+
+-- a step without a channel is no event
+abbrev pub step_or_idle : SessionState → Option Event → Outcome
+step_or_idle s None = says_only s (StepOutput IdleWords ∷ [])
+step_or_idle s (Some event) = stepped s (step s.world event)
+
+abbrev pub fault_of : PlanKind → Fault
+fault_of PlanLose = LoseFault
+fault_of PlanRepeat = RepeatFault
+fault_of PlanHold = HoldFault
+fault_of (PlanFlip bit pattern) = FlipFault bit pattern
+
+abbrev pub plan_made : SessionState → ℕ × WorldState → Outcome
+plan_made s (number, w) = says s (PlanAt number ∷ []) w
+
+-- the places of so many tokens, by number
+abbrev pub places : ℕ → (ℕ → Option TokenPlace) → List PlaceEntry
+places count place_of = map (λ t. record { number = t; place = place_of t }) (range_with_len 0 count)
+
+abbrev pub token_lines : ℕ → ℕ → Option PortState → List Line
+token_lines host port None = Client TokensCall host port (Refused NotOpen) ∷ []
+token_lines host port (Some p) = TokensLine host port (places p.sends (place_of_send p)) (places p.recvs (place_of_recv p)) ∷ []
+
+abbrev pub settled : SessionState → Rounds → Outcome
+settled s r = says s (SettleLine r.rounds (min r.resets last_count) (unacknowledged_in r.world) ∷ []) r.world
+
+-- a host's table is active
+abbrev pub table_line : WorldState → ℕ → Line
+table_line w h = Table h (is_some (active_epoch (node_at w h).table))
+
+abbrev pub install_done : SessionState → List ℕ → ℕ × WorldState → Outcome
+install_done s hosts (acked, w) = says s (Installed acked (length hosts) ∷ map (table_line w) hosts) w
+
+abbrev pub adoption_of : LastRoutes → Adoption
+adoption_of l = record { mapper = l.mapper; epoch = 1; routes = l.routes }
+
+-- the last routes are adopted, and then installed on the hosts of their map
+abbrev pub install_now : SessionState → LastRoutes → ℕ → Outcome
+install_now s l tries = install_done s l.hosts (installed (adoption_of l) l.hosts tries (adopted_by s.world l.mapper l.routes))
+
+abbrev pub same_route : Route → Route → Bool
+same_route r s = nat_eq r.from s.from && nat_eq r.to s.to && same_turns r.walk s.walk
+
+abbrev pub same_routes : List Route → List Route → Bool
+same_routes [] [] = true
+same_routes (r ∷ rs) (s ∷ ss) = same_route r s && same_routes rs ss
+same_routes _ _ = false
+
+-- another set of routes is adopted
+abbrev pub is_other : List Route → Option Adoption → Bool
+is_other routes None = false
+is_other routes (Some a) = not (same_routes routes a.routes)
+
+-- routes are installed where some were computed, the links are idle, and no other set is adopted
+abbrev pub install : SessionState → ℕ → Option LastRoutes → Outcome
+install s tries None = says_only s (InstallRefused NoRoutes ∷ [])
+install s tries (Some l) =
+    if not (is_idle s.world.links) then says_only s (InstallRefused Busy ∷ [])
+    else if is_other l.routes s.world.adopted then says_only s (InstallRefused OtherInstalled ∷ [])
+    else install_now s l tries
+
+-- a map is refused where a channel holds a packet; else its outcome isn't determined here
+abbrev pub map_refused : SessionState → ℕ → Option Outcome
+map_refused s host = if is_idle s.world.links then None else Some (says_only s (MapBusy host ∷ []))
+
+-- routes are refused where the last map isn't complete
+abbrev pub routes_refused : SessionState → Option LastMap → Option Outcome
+routes_refused s (Some l) = None
+routes_refused s None = Some (says_only s (NoMap ∷ []))
+
+-- The outcome of a command, where it is determined.
+abbrev pub outcome : SessionState → Command → Option Outcome
+outcome s (Walk host walk) = Some (says_only s (WalkLine (place (fabric_of s.world) host walk) ∷ []))
+outcome s (Map host depth tries) = map_refused s host
+outcome s Routes = routes_refused s (complete_map s.last_map)
+outcome s (Install tries) = Some (install s tries s.last_routes)
+outcome s (BeginCommand h port sends recvs) = Some (called s BeginCall h port (step s.world (Begin h port sends recvs)))
+outcome s (CloseCommand h port) = Some (called s CloseCall h port (step s.world (Close h port)))
+outcome s (PollCommand h port) = Some (called s PollCall h port (step s.world (Poll h port)))
+outcome s (Tokens h port) = Some (says_only s (token_lines h port (port_at (node_at s.world h) port)))
+outcome s (ProvideCommand h port size prio) = Some (called s ProvideCall h port (step s.world (Provide h port size prio)))
+outcome s (SendCommand h port dest dport prio len seed) = Some (called s SendCall h port (step s.world (Send h port dest dport prio len seed)))
+outcome s (Plan ahead kind) = Some (plan_made s (planned s.world ahead (fault_of kind)))
+outcome s (Step line) = Some (step_or_idle s (event_of s.world line))
+outcome s Settle = Some (settled s (settle s.world))
+outcome s Finish = Some (says_only s (FinishLine s.world.injected s.world.dropped ∷ []))

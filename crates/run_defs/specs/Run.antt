@@ -1,0 +1,72 @@
+-- What commands do, one after another, from the first world of a fabric on.
+use Rattle.std.specs.Prelude.{◌≡◌, ℕ, ◌-◌, List, [], ◌∷◌, ◌++◌, map, length, nat_eq, slice_get, Option, Some, None}
+use Rattle.std.specs.List.{filter, list_any}
+use Rattle.net_defs.specs.declared.route.Route.{Route}
+use Rattle.net_defs.specs.Network.{Network}
+use Rattle.journal_defs.specs.declared.entry.Entry.{Entry}
+use Rattle.map_defs.specs.declared.vertex.MapVertex.{MapVertex}
+use Rattle.map_defs.specs.declared.vertex.MapVertex.TheVariants.{Switch}
+use Rattle.map_defs.specs.declared.rank.RankEntry.{RankEntry}
+use Rattle.map_defs.specs.NetMap.{NetMap, hosts_of}
+use Rattle.map_defs.specs.Orientation.{order_of}
+use Rattle.map_defs.specs.Routing.{AreRoutesOf}
+use Rattle.map_defs.specs.Dependencies.{ranks_of}
+use Rattle.world_defs.specs.World.{WorldState, addresses}
+use Rattle.run_defs.specs.declared.command.Command.{Command}
+use Rattle.run_defs.specs.declared.command.Command.TheVariants.{Map, Routes}
+use Rattle.run_defs.specs.declared.line.MapWords.{MapWords}
+use Rattle.run_defs.specs.declared.line.MapWords.TheVariants.{Complete, Doubtful, IncompleteDepth, IncompleteNodes}
+use Rattle.run_defs.specs.declared.line.Line.{Line}
+use Rattle.run_defs.specs.declared.line.Line.TheVariants.{Map as MapLine, Routes as RoutesLine, Route as RouteLine, Rank as RankLine, EndRoutes}
+use Rattle.run_defs.specs.Mapped.{IsMapped}
+use Rattle.run_defs.specs.Output.{Piece, OneLine, MapLines, lines}
+use Rattle.run_defs.specs.Session.{SessionState, LastMap, new_session, complete_map}
+use Rattle.run_defs.specs.Outcome.{outcome}
+
+-- the lines of a map follow its words, unless the tree had too many nodes
+abbrev pub map_pieces : MapWords → NetMap → List Piece
+map_pieces Complete m = MapLines m ∷ []
+map_pieces (Doubtful n) m = MapLines m ∷ []
+map_pieces IncompleteDepth m = MapLines m ∷ []
+map_pieces IncompleteNodes m = []
+
+-- the hosts of a map, by address
+abbrev pub hosts_by_address : WorldState → NetMap → List ℕ
+hosts_by_address w m = filter (λ h. list_any (nat_eq h) (hosts_of m.vertices)) (addresses w)
+
+abbrev pub route_line : Route → Line
+route_line r = RouteLine r.from r.to r.walk
+
+abbrev pub vertex_in : Option MapVertex → MapVertex
+vertex_in (Some v) = v
+vertex_in None = Switch 0
+
+abbrev pub rank_line : NetMap → RankEntry → Line
+rank_line m k = RankLine (vertex_in (slice_get m.vertices k.v)) k.p k.rank
+
+abbrev pub routes_lines : NetMap → List Route → List Line
+routes_lines m routes = RoutesLine (length routes) ∷ map route_line routes ++ map (rank_line m) (ranks_of m (order_of m)) ++ EndRoutes ∷ []
+
+-- What a command does: it prints pieces, and leaves a session.
+pub data Does (s : SessionState) : Command → List Piece → SessionState → Type 0 where
+  determined : {c : Command} {out : List Piece} {next : SessionState} → outcome s c ≡ Some (record { output = out; after = next }) → Does s c out next
+  maps : {host depth tries : ℕ} {out : List Piece} {next : SessionState} → (after : WorldState) (j : List Entry) (m : NetMap) (words : MapWords)
+      → outcome s (Map host depth tries) ≡ None → IsMapped host depth tries s.world after j m words
+      → out ≡ OneLine (MapLine host words (length j) (after.injected - s.world.injected)) ∷ map_pieces words m
+      → next ≡ record s { world = after; last_map = Some (record { mapper = host; words = words; made = m }) }
+      → Does s (Map host depth tries) out next
+  routes : {out : List Piece} {next : SessionState} → (l : LastMap) (found : List Route)
+      → complete_map s.last_map ≡ Some l → AreRoutesOf l.made (order_of l.made) found
+      → out ≡ lines (routes_lines l.made found)
+      → next ≡ record s { last_routes = Some (record { mapper = l.mapper; hosts = hosts_by_address s.world l.made; routes = found }) }
+      → Does s Routes out next
+
+-- What commands in order do.
+pub data Runs : SessionState → List Command → List Piece → SessionState → Type 0 where
+  ended : {s : SessionState} → Runs s [] [] s
+  goes_on : {s next last : SessionState} {c : Command} {cs : List Command} {out rest all : List Piece}
+      → Does s c out next → Runs next cs rest last → all ≡ out ++ rest → Runs s (c ∷ cs) all last
+
+-- a run of a script over a fabric
+abbrev pub IsRun : Network → List Command → List Piece → SessionState → Type 0
+IsRun n commands out last = Runs (new_session n) commands out last

@@ -1,0 +1,40 @@
+-- What a run holds from command to command: the world, the last map, the last routes.
+use Rattle.std.specs.Prelude.{ℕ, Bool, true, false, cond, List, Option, Some, None}
+use Rattle.net_defs.specs.declared.route.Route.{Route}
+use Rattle.net_defs.specs.Network.{Network}
+use Rattle.map_defs.specs.NetMap.{NetMap}
+use Rattle.world_defs.specs.World.{WorldState, new_world}
+use Rattle.run_defs.specs.declared.line.MapWords.{MapWords}
+use Rattle.run_defs.specs.declared.line.MapWords.TheVariants.{Complete, Doubtful, IncompleteDepth, IncompleteNodes}
+
+-- The last map that was made: by which mapper, how far it is known to be right, and the map.
+pub record LastMap : Type 0 where
+  pub mapper : ℕ
+  pub words : MapWords
+  pub made : NetMap
+
+-- The last routes that were computed: the mapper and the hosts of their map, by address, and the routes.
+pub record LastRoutes : Type 0 where
+  pub mapper : ℕ
+  pub hosts : List ℕ
+  pub routes : List Route
+
+pub record SessionState : Type 0 where
+  pub world : WorldState
+  pub last_map : Option LastMap
+  pub last_routes : Option LastRoutes
+
+-- the session of a fabric before its first command
+abbrev pub new_session : Network → SessionState
+new_session n = record { world = new_world n; last_map = None; last_routes = None }
+
+abbrev pub is_complete : MapWords → Bool
+is_complete Complete = true
+is_complete (Doubtful n) = false
+is_complete IncompleteDepth = false
+is_complete IncompleteNodes = false
+
+-- the last map, where it is complete
+abbrev pub complete_map : Option LastMap → Option LastMap
+complete_map None = None
+complete_map (Some l) = cond (is_complete l.words) (Some l) None

@@ -1,0 +1,47 @@
+//! Worked examples, computed by the prover: each function's contract is the example, and its body is empty.
+
+ghost use Rattle.std.specs.Prelude.{◌≡◌, [], ◌∷◌, ◌++◌, map, codes, pos, negsuc, replicate, true, Some, None};
+ghost use Rattle.net_defs.specs.Examples.{two_hosts, host_end, switch_end};
+ghost use Rattle.net_defs.specs.declared.place.Place.{Place};
+ghost use Rattle.world_defs.specs.declared.effect.Said.{Said};
+ghost use Rattle.run_defs.specs.declared.command.Command.{Command};
+ghost use Rattle.run_defs.specs.declared.line.Line.{Line};
+ghost use Rattle.run_defs.specs.declared.line.MapWords.{MapWords};
+ghost use Rattle.run_defs.specs.declared.line.ClientCall.{ClientCall};
+ghost use Rattle.run_defs.specs.declared.line.PlaceEntry.{PlaceEntry};
+ghost use Rattle.run_defs.specs.LineText.{line_text, map_text};
+ghost use Rattle.run_defs.specs.Examples.{text_of, printed, fresh, installed_session, setup_map, refused_calls, closing, single_events};
+
+/// The texts of some lines.
+#[tactic(auto, using(crate::proofs::Reports::line_at_a_switch, crate::proofs::Reports::line_doubtful, crate::proofs::Reports::line_route, crate::proofs::Reports::line_empty_message, crate::proofs::Reports::line_message))]
+pub fn texts_of_lines()
+    ensures at_a_switch { line_text two_hosts (Line.Walk (Place.Switch 0 2)) ≡ text_of (codes "walk switch s port 2" ∷ []) }
+    ensures doubtful { line_text two_hosts (Line.Map 0 (MapWords.Doubtful 1) 31 123) ≡ text_of (codes "map a doubtful 1 asks 31 packets 123" ∷ []) }
+    ensures route { line_text two_hosts (Line.Route 0 1 (pos 3 ∷ pos 0 ∷ negsuc 14 ∷ [])) ≡ text_of (codes "route a b +3 0 -15" ∷ []) }
+    ensures empty_message { line_text two_hosts (Line.Client ClientCall.Poll 1 1 (Said.Received 0 0 0 1 [])) ≡ text_of (codes "poll b 1 received token 0 from a 0 prio 1 len 0 bytes -" ∷ []) }
+    ensures message { line_text two_hosts (Line.Client ClientCall.Poll 1 1 (Said.Received 0 0 0 0 (65 ∷ 10 ∷ 254 ∷ []))) ≡ text_of (codes "poll b 1 received token 0 from a 0 prio 0 len 3 bytes 410afe" ∷ []) }
+{}
+
+/// The lines of the map of the two hosts.
+#[tactic(auto, using(crate::proofs::Reports::map_lines))]
+pub fn text_of_a_map()
+    ensures text { map_text two_hosts setup_map ≡ text_of (codes "host a" ∷ codes "switch #0 core" ∷ codes "host b" ∷ codes "cable a 0 #0 0" ∷ codes "cable #0 +3 b 0" ∷ codes "endmap" ∷ []) }
+{}
+
+/// Calls on a fabric without routes, and their refusals.
+#[tactic(auto, using(crate::proofs::Reports::refusals_text))]
+pub fn refusals()
+    ensures text { printed refused_calls fresh ≡ text_of (codes "open a 0 done" ∷ codes "open a 0 refused already" ∷ codes "provide a 0 refused badsize" ∷ codes "provide a 0 token 0" ∷ codes "provide a 0 refused notoken" ∷ codes "send a 0 refused noroute" ∷ codes "send a 1 refused notopen" ∷ codes "poll a 1 refused notopen" ∷ codes "poll a 0 nothing" ∷ codes "routes refused nomap" ∷ codes "install refused noroutes" ∷ codes "end injected 0 dropped 0" ∷ []) }
+{}
+
+/// A port is closed once no send is unfinished and no event waits; its provided tokens come back.
+#[tactic(auto, using(crate::proofs::Reports::closing_text))]
+pub fn closing_a_port()
+    ensures text { printed closing installed_session ≡ text_of (codes "open a 0 done" ∷ codes "provide a 0 token 0" ∷ codes "provide a 0 token 1" ∷ codes "open b 1 done" ∷ codes "provide b 1 token 0" ∷ codes "send a 0 token 0" ∷ codes "close a 0 refused busy 1" ∷ codes "settle rounds 1 resets 0 unacked 0" ∷ codes "close a 0 refused unread 1" ∷ codes "poll a 0 sent token 0" ∷ codes "tokens a 0 send 0=client recv 0=provided 1=provided" ∷ codes "close a 0 done 2" ∷ codes "tokens a 0 refused notopen" ∷ codes "end injected 66 dropped 59" ∷ []) }
+{}
+
+/// Events one by one, with a map that is refused while packets are on their way.
+#[tactic(auto, using(crate::proofs::Reports::single_events_text))]
+pub fn report_of_single_events()
+    ensures text { printed single_events installed_session ≡ text_of (codes "open a 0 done" ∷ codes "open b 1 done" ∷ codes "provide b 1 token 0" ∷ codes "provide b 1 token 1" ∷ codes "send a 0 token 0" ∷ codes "send a 0 token 1" ∷ codes "step injected 65" ∷ codes "step moved s 5" ∷ codes "step injected 66" ∷ codes "step idle" ∷ codes "step blocked s 5" ∷ codes "map a refused busy" ∷ codes "step arrived b message" ∷ codes "step moved s 5" ∷ codes "step lost" ∷ codes "step idle" ∷ codes "settle rounds 1 resets 0 unacked 0" ∷ codes "poll b 1 received token 0 from a 0 prio 0 len 1 bytes 01" ∷ codes "poll b 1 received token 1 from a 0 prio 0 len 1 bytes 02" ∷ codes "end injected 71 dropped 59" ∷ []) }
+{}

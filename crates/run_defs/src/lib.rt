@@ -1,0 +1,23 @@
+//! What each command of a script does to the world, which lines it prints, and what a run of commands promises.
+//!
+//! This crate holds definitions, the types of commands and lines, and worked examples. It runs nothing.
+//!
+//! | file of `specs/` | says |
+//! |---|---|
+//! | `Session` | what a run holds from command to command |
+//! | `Outcome` | what a command does and prints, where that is determined |
+//! | `Mapped` | what the command `map` does: the asks of a journal that grows, its map, and how far it is known to be right |
+//! | `Run` | what commands in order do |
+//! | `LineText` | the text of each line and of a map |
+//! | `Headline` | the promise of a run |
+#![tactic(auto)]
+
+mod command;
+mod examples;
+mod line;
+
+pub use command::{Command, PlanKind, StepLine};
+pub use examples::{
+    closing_a_port, refusals, report_of_single_events, text_of_a_map, texts_of_lines,
+};
+pub use line::{ClientCall, InstallCause, Line, MapWords, PlaceEntry, PlaceList, StepWords};
