@@ -1,0 +1,17 @@
+pub mod Alike
+pub mod Assembly
+pub mod Channels
+pub mod Connected
+pub mod Crossing
+pub mod Landing
+pub mod Least
+pub mod Listed
+pub mod Meeting
+pub mod NoCycle
+pub mod OneCable
+pub mod OneClass
+pub mod OneMap
+pub mod Rooted
+pub mod Ruled
+pub mod Size
+pub mod TwoHosts
