@@ -3,9 +3,11 @@ pub mod Assembly
 pub mod Channels
 pub mod Connected
 pub mod Crossing
+pub mod Lacking
 pub mod Landing
 pub mod Least
 pub mod Listed
+pub mod Marked
 pub mod Meeting
 pub mod NoCycle
 pub mod OneCable
@@ -15,3 +17,4 @@ pub mod Rooted
 pub mod Ruled
 pub mod Size
 pub mod TwoHosts
+pub mod TwoNodes

@@ -7,6 +7,7 @@ use Rattle.journal_defs.specs.Truth.{IsTrueJournal, IsTrueWhereFound}
 use Rattle.journal_defs.specs.Growth.{IsGrown, IsClosed}
 use Rattle.map_defs.specs.NetMap.{NetMap, IsMap, IsConnected, hosts_of, switches_of}
 use Rattle.map_defs.specs.Quotient.{IsQuotient}
+use Rattle.map_defs.specs.Core.{core_of}
 use Rattle.map_defs.specs.Sameness.{IsSame, IsMapOfPart, graph_of_map}
 
 -- Where a journal has grown, all its answers are true of a fabric and it is closed, its map is the mapper's part of that fabric, the ports up to each switch's offset.
@@ -40,3 +41,7 @@ RightMapsAreSame = (n : Network) (host : ℕ) (m k : NetMap) → IsMapOfPart n h
 -- Maps with the same vertices and cables are the same, whatever is core in them: a map stays right when its core is marked.
 abbrev pub MarksDoNotMatter : Type 0
 MarksDoNotMatter = (m k : NetMap) → m.vertices ≡ k.vertices → m.cables ≡ k.cables → IsSame (graph_of_map m) (graph_of_map k)
+
+-- A map stays a map when its core is marked.
+abbrev pub MarkedMapIsMap : Type 0
+MarkedMapIsMap = (m : NetMap) → IsMap m → IsMap (record m { core = core_of m })

@@ -8,7 +8,7 @@ ghost use Rattle.net_defs.specs.Examples.{two_hosts};
 ghost use Rattle.net_defs.specs.declared.place.Place.{Place};
 ghost use Rattle.journal_defs.specs.Fabrics.{one_cable};
 ghost use Rattle.journal_defs.specs.Examples.{one_cable_journal, two_hosts_journal};
-ghost use Rattle.journal_defs.specs.Truth.{IsTrueJournal};
+ghost use Rattle.journal_defs.specs.Truth.{IsTrueJournal, IsTrueWhereFound};
 ghost use Rattle.journal_defs.specs.Growth.{IsGrown, IsClosed};
 ghost use Rattle.map_defs.specs.NetMap.{IsMap, IsConnected};
 ghost use Rattle.map_defs.specs.Quotient.{IsQuotient};
@@ -18,7 +18,7 @@ ghost use Rattle.map_defs.specs.Dependencies.{IsBefore, IsCertificate, HasNoCycl
 ghost use Rattle.map_defs.specs.Examples.{two_hosts_map, moved_map, port};
 ghost use Rattle.map_laws.specs.Certificate.{IsNoLarger};
 ghost use Rattle.map_laws.specs.Leading.{channels_in_fabric};
-ghost use Rattle.map_laws.specs.Examples.{one_cable_map, two_hosts_routes, two_hosts_ranks};
+ghost use Rattle.map_laws.specs.Examples.{one_cable_map, lost_probe, lone_map, unexpanded, stub_map, two_hosts_routes, two_hosts_ranks};
 
 /// Two hosts on one cable: all that the certificate asks for holds after one ask, so the map is right.
 pub fn certificate_over_one_cable()
@@ -42,6 +42,20 @@ pub fn certificate_over_two_hosts()
     ensures right { IsMapOfPart two_hosts 0 two_hosts_map }
     ensures moved { IsMapOfPart two_hosts 0 moved_map }
     ensures connected { IsConnected two_hosts_map }
+{}
+
+/// What the certificate asks for is needed. With its one probe lost a mapper's journal is closed, and true where it found something; with
+/// a switch not expanded it is true and has grown. Both maps lack a host.
+pub fn maps_that_lack_a_host()
+    ensures true_where_found { IsTrueWhereFound one_cable 0 lost_probe }
+    ensures lost_has_grown { IsGrown 0 1 lost_probe }
+    ensures lost_is_closed { IsClosed 0 lost_probe }
+    ensures lost_has_a_map { IsQuotient 0 lost_probe lone_map }
+    ensures lost_is_wrong { ¬ IsMapOfPart one_cable 0 lone_map }
+    ensures unexpanded_is_true { IsTrueJournal two_hosts 0 unexpanded }
+    ensures unexpanded_has_grown { IsGrown 0 1 unexpanded }
+    ensures unexpanded_has_a_map { IsQuotient 0 unexpanded stub_map }
+    ensures unexpanded_is_wrong { ¬ IsMapOfPart two_hosts 0 stub_map }
 {}
 
 /// Turn 3 leads from the first host to the second on the map and in the fabric, over two channels each.

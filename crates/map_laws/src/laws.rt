@@ -8,6 +8,7 @@ ghost use Rattle.map_laws.specs.Certificate.{
   RightMapIsNoLarger,
   RightMapsAreSame,
   MarksDoNotMatter,
+  MarkedMapIsMap,
 };
 ghost use Rattle.map_laws.specs.Leading.{
   RoutesLeadInTheFabric,
@@ -28,11 +29,13 @@ pub fn journal_has_one_map()
     ensures connected { QuotientIsConnected }
 {}
 
-/// A right map is no larger than the fabric, two right maps are the same up to offset, and what is core in them doesn't matter.
+/// A right map is no larger than the fabric, and two right maps are the same up to offset. A map stays right, and a map, when its core
+/// is marked.
 pub fn right_maps_are_alike()
     ensures no_larger { RightMapIsNoLarger }
     ensures same { RightMapsAreSame }
     ensures marks { MarksDoNotMatter }
+    ensures marked { MarkedMapIsMap }
 {}
 
 /// Turns lead from a host on a right map where they lead in the fabric.

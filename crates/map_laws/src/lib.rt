@@ -20,7 +20,10 @@
 mod examples;
 mod laws;
 
-pub use examples::{certificate_over_one_cable, certificate_over_two_hosts, route_over_two_hosts};
+pub use examples::{
+    certificate_over_one_cable, certificate_over_two_hosts, maps_that_lack_a_host,
+    route_over_two_hosts,
+};
 pub use laws::{
     channels_are_those_of_the_fabric, closed_map_is_right, journal_has_one_map,
     right_maps_are_alike, routes_lead_in_the_fabric,
