@@ -13,6 +13,7 @@ pub mod NoCycle
 pub mod OneCable
 pub mod OneClass
 pub mod OneMap
+pub mod RightRoutes
 pub mod Rooted
 pub mod Ruled
 pub mod Size

@@ -1,4 +1,4 @@
--- Maps and routes for worked examples.
+-- Journals, maps and routes for worked examples.
 use Rattle.std.specs.Prelude.{pos, negsuc, List, [], ◌∷◌}
 use Rattle.net_defs.specs.declared.route.Route.{Route}
 use Rattle.net_defs.specs.declared.place.Answer.TheVariants.{Switch as IsSwitch, Nothing as IsNothing}

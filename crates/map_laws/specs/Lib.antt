@@ -1,3 +1,4 @@
 pub mod Certificate
 pub mod Examples
 pub mod Leading
+pub mod RouteSets

@@ -13,11 +13,13 @@ ghost use Rattle.journal_defs.specs.Growth.{IsGrown, IsClosed};
 ghost use Rattle.map_defs.specs.NetMap.{IsMap, IsConnected};
 ghost use Rattle.map_defs.specs.Quotient.{IsQuotient};
 ghost use Rattle.map_defs.specs.Sameness.{IsMapOfPart};
-ghost use Rattle.map_defs.specs.Routing.{LeadsTo, channels_on, port_of_host};
+ghost use Rattle.map_defs.specs.Routing.{LeadsTo, AreRoutesOf, channels_on, port_of_host};
+ghost use Rattle.map_defs.specs.Orientation.{order_of};
 ghost use Rattle.map_defs.specs.Dependencies.{IsBefore, IsCertificate, HasNoCycle};
 ghost use Rattle.map_defs.specs.Examples.{two_hosts_map, moved_map, port};
 ghost use Rattle.map_laws.specs.Certificate.{IsNoLarger};
 ghost use Rattle.map_laws.specs.Leading.{channels_in_fabric};
+ghost use Rattle.map_laws.specs.RouteSets.{AreRightRoutes};
 ghost use Rattle.map_laws.specs.Examples.{one_cable_map, lost_probe, lone_map, unexpanded, stub_map, two_hosts_routes, two_hosts_ranks};
 
 /// Two hosts on one cable: all that the certificate asks for holds after one ask, so the map is right.
@@ -67,4 +69,6 @@ pub fn route_over_two_hosts()
     ensures ranked { IsCertificate two_hosts_map two_hosts_routes two_hosts_ranks }
     ensures both { channels_in_fabric two_hosts two_hosts_routes ≡ (0 ∷ 3 ∷ []) ∷ (2 ∷ 1 ∷ []) ∷ [] }
     ensures no_cycle { HasNoCycle (IsBefore (channels_in_fabric two_hosts two_hosts_routes)) }
+    ensures least { AreRoutesOf two_hosts_map (order_of two_hosts_map) two_hosts_routes }
+    ensures right { AreRightRoutes two_hosts 0 two_hosts_routes }
 {}

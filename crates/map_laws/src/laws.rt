@@ -10,6 +10,7 @@ ghost use Rattle.map_laws.specs.Certificate.{
   MarksDoNotMatter,
   MarkedMapIsMap,
 };
+ghost use Rattle.map_laws.specs.RouteSets.{RoutesOfARightMapAreRight};
 ghost use Rattle.map_laws.specs.Leading.{
   RoutesLeadInTheFabric,
   ChannelsAreMatched,
@@ -49,4 +50,10 @@ pub fn channels_are_those_of_the_fabric()
     ensures matched { ChannelsAreMatched }
     ensures one_to_one { ChannelsAreOneToOne }
     ensures no_cycle { CertificateHoldsInTheFabric }
+{}
+
+/// The routes of a right map lead in the fabric to their hosts, join each two hosts of the mapper's part, and leave no cycle of
+/// dependencies there.
+pub fn routes_of_a_right_map_are_right()
+    ensures { RoutesOfARightMapAreRight }
 {}

@@ -6,6 +6,7 @@
 //! |---|---|
 //! | `Certificate` | what the map of a journal is, and when it is right |
 //! | `Leading` | where routes of a right map lead in the fabric, and over which channels |
+//! | `RouteSets` | what a right map's whole set of routes is worth in the fabric |
 //!
 //! ```text
 //!   the fabric                             its map from host a
@@ -26,5 +27,5 @@ pub use examples::{
 };
 pub use laws::{
     channels_are_those_of_the_fabric, closed_map_is_right, journal_has_one_map,
-    right_maps_are_alike, routes_lead_in_the_fabric,
+    right_maps_are_alike, routes_lead_in_the_fabric, routes_of_a_right_map_are_right,
 };
