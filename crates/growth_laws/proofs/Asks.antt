@@ -1,0 +1,135 @@
+-- What each ask of a growing journal is: a new turn of a switch that was found before.
+use Rattle.std.proofs.Common.{◌≡◌, ◌≢◌, ◌+◌, ℕ, suc, List, [], ◌∷◌, ◌++◌, map, length, Bool, true, false, Some, sym, ◌∙◌, subst, ap, true≢false, refl, arith, length-append, if◌then◌else◌, is_some, ◌⊎◌, inl, inr}
+use Rattle.std.specs.Prelude.{ℤ, pos, negsuc}
+use Rattle.std.specs.List.{AllByRecursion}
+use Rattle.std.proofs.lemmas.Bool.{false≢true}
+use Rattle.net_defs.specs.declared.place.Answer.TheVariants.{Switch}
+use Rattle.net_defs.specs.Network.{Apart}
+use Rattle.net_defs.proofs.Distinct.{apart-push}
+use Rattle.journal_defs.specs.declared.entry.Entry.{Entry}
+use Rattle.journal_defs.specs.Walks.{IsOnward, same_turns}
+use Rattle.journal_defs.specs.Tree.{IsNode, IsSwitchNode, IsJournal, is_asked, answered, has_found}
+use Rattle.journal_defs.specs.Tree.Node.{Reached}
+use Rattle.journal_defs.specs.Replicates.Replicates.{same}
+use Rattle.journal_defs.specs.Growth.{IsBegun, IsExpanded, IsLeastUnasked, IsGrowing, NextAsk, HasExpanded}
+use Rattle.journal_defs.specs.Growth.IsGrowing.{nothing, more}
+use Rattle.journal_defs.specs.Growth.NextAsk.{first, goes_on, begins}
+use Rattle.journal_defs.proofs.Order.{same_turns-refl}
+use Rattle.growth_laws.proofs.Keeping.{Keeps, keeps-append, asked-push}
+
+-- a walk with a turn more
+pub not_empty : (w : List ℤ) (t : ℤ) → w ++ t ∷ [] ≢ []
+not_empty [] t e = cc
+not_empty (s ∷ w) t e = cc
+
+pub push-parts : (v w : List ℤ) (s t : ℤ) → v ++ s ∷ [] ≡ w ++ t ∷ [] → (v ≡ w) × (s ≡ t)
+push-parts [] [] s t e = (refl, (let one : s ≡ t = cc in one))
+push-parts [] (y ∷ w) s t e = absurd (not_empty w t (let tail : w ++ t ∷ [] ≡ [] = cc in tail))
+push-parts (x ∷ v) [] s t e = absurd (not_empty v s (let tail : v ++ s ∷ [] ≡ [] = cc in tail))
+push-parts (x ∷ v) (y ∷ w) s t e =
+    let head : x ≡ y = cc in
+    let tail : v ++ s ∷ [] ≡ w ++ t ∷ [] = cc in
+    let rest = push-parts v w s t tail in
+    let list : v ≡ w = rest.0 in
+    ((let both : x ∷ v ≡ y ∷ w = cc in both), rest.1)
+
+pub push-length : (w : List ℤ) (t : ℤ) → length (w ++ t ∷ []) ≡ suc (length w)
+push-length w t = length-append w (t ∷ []) ∙ (let e : length w + 1 ≡ suc (length w) = omega arith in e)
+
+-- a walk is empty or has a last turn
+pub data ByLast (w : List ℤ) : Type 0 where
+  empty : w ≡ [] → ByLast w
+  pushed : (v : List ℤ) (t : ℤ) → w ≡ v ++ t ∷ [] → ByLast w
+
+pub by_last : (w : List ℤ) → ByLast w
+by_last [] = empty refl
+by_last (s ∷ w) = by (by_last w)
+  where
+    by : ByLast w → ByLast (s ∷ w)
+    by (empty e) = pushed [] s (ap (λ v. s ∷ v) e)
+    by (pushed v t e) = pushed (s ∷ v) t (ap (λ x. s ∷ x) e)
+
+-- a node with a turn that isn't asked is not expanded
+pub unasked-open : (j : List Entry) (w : List ℤ) (t : ℤ) → IsLeastUnasked j w t → ¬ IsExpanded j w
+unasked-open j w t l x = true≢false (sym (x.asked t l.onward) ∙ l.unasked)
+
+pub switch-node : (j : List Entry) (w : List ℤ) → IsSwitchNode j w → IsNode j (Reached w)
+switch-node j w s = ap has_found s
+
+pub first_turn : IsOnward (negsuc 14)
+first_turn = (refl, λ e. cc)
+
+-- an expanded node is begun
+pub expanded-begun : (j : List Entry) (w : List ℤ) → IsNode j (Reached w) → IsExpanded j w → IsBegun j w
+expanded-begun j w node x = record { node = node; turn = negsuc 14; onward = first_turn; asked = x.asked (negsuc 14) first_turn }
+
+pub expanded-has : (host : ℕ) (j : List Entry) (w : List ℤ) → IsNode j (Reached w) → IsExpanded j w → HasExpanded host j (Reached w)
+expanded-has host j w node x = record { member = w; offset = pos 0; one_class = same node; expanded = x }
+
+-- an ask is of a walk that wasn't asked before
+pub ask-new : (host depth : ℕ) (j : List Entry) (x : List ℤ) → NextAsk host depth j x → is_asked j x ≡ false
+ask-new host depth j x (first a b) = ap (λ i. is_asked i x) a
+ask-new host depth j x (goes_on w t b l least e) = ap (is_asked j) e ∙ l.unasked
+ask-new host depth j x (begins w rest c e) = ap (is_asked j) e ∙ by (is_asked j (w ++ negsuc 14 ∷ [])) refl
+  where
+    by : (b : Bool) → is_asked j (w ++ negsuc 14 ∷ []) ≡ b → is_asked j (w ++ negsuc 14 ∷ []) ≡ false
+    by false p = p
+    by true p =
+        let begun : IsBegun j w = record { node = switch-node j w c.switch; turn = negsuc 14; onward = first_turn; asked = p } in
+        absurd (c.fresh (expanded-has host j w (switch-node j w c.switch) (rest.expanded w begun)))
+
+-- the walks of a journal's entries
+abbrev pub walks : List Entry → List (List ℤ)
+walks j = map (λ e. e.walk) j
+
+unasked-apart : (j : List Entry) (x : List ℤ) → is_asked j x ≡ false → AllByRecursion (λ y. x ≢ y) (walks j)
+unasked-apart [] x e = tt
+unasked-apart (y ∷ j) x e = by (same_turns y.walk x) refl e (unasked-apart j x)
+  where
+    by : (b : Bool) → same_turns y.walk x ≡ b → is_some (if b then Some y.answer else answered j x) ≡ false → (is_asked j x ≡ false → AllByRecursion (λ z. x ≢ z) (walks j)) → AllByRecursion (λ z. x ≢ z) (walks (y ∷ j))
+    by true p f rest = absurd (true≢false f)
+    by false p f rest = ((λ one. true≢false (sym (ap (λ z. same_turns z x) (sym one) ∙ same_turns-refl x) ∙ p)), rest f)
+
+walks-push : (j : List Entry) (e : Entry) → walks (j ++ e ∷ []) ≡ walks j ++ e.walk ∷ []
+walks-push [] e = refl
+walks-push (x ∷ j) e = ap (λ l. x.walk ∷ l) (walks-push j e)
+
+-- no walk is asked twice
+pub growing-once : (host depth : ℕ) (j : List Entry) → IsGrowing host depth j → IsJournal j
+growing-once host depth j (nothing) = tt
+growing-once host depth j (more before e g ask is) =
+    let new = unasked-apart before e.walk (ask-new host depth before e.walk ask) in
+    let rest : Apart (walks before) = growing-once host depth before g in
+    subst IsJournal (sym is) (subst Apart (sym (walks-push before e)) (apart-push (walks before) e.walk rest new))
+
+-- what was asked with a last turn goes on from a switch
+pub record IsParent (j : List Entry) (w : List ℤ) (t : ℤ) : Type 0 where
+  pub switch : IsSwitchNode j w
+  pub onward : IsOnward t
+
+pub record HasTree (j : List Entry) : Type 0 where
+  pub parent : (w : List ℤ) (t : ℤ) → is_asked j (w ++ t ∷ []) ≡ true → IsParent j w t
+
+parent-kept : (j l : List Entry) (w : List ℤ) (t : ℤ) → Keeps j l → IsParent j w t → IsParent l w t
+parent-kept j l w t keeps p = record { switch = keeps.kept w Switch p.switch; onward = p.onward }
+
+-- what an ask goes on from
+pub ask-parent : (host depth : ℕ) (j : List Entry) (x v : List ℤ) (s : ℤ) → HasTree j → NextAsk host depth j x → x ≡ v ++ s ∷ [] → IsParent j v s
+ask-parent host depth j x v s tree (first a b) is = absurd (not_empty v s (sym is ∙ b))
+ask-parent host depth j x v s tree (goes_on w t b l least e) is =
+    let parts = push-parts w v t s (sym e ∙ is) in
+    subst (λ u. IsParent j u s) parts.0 (subst (IsParent j w) parts.1 (record { switch = (tree.parent w b.turn b.asked).switch; onward = l.onward }))
+ask-parent host depth j x v s tree (begins w rest c e) is =
+    let parts = push-parts w v (negsuc 14) s (sym e ∙ is) in
+    subst (λ u. IsParent j u s) parts.0 (subst (IsParent j w) parts.1 (record { switch = c.switch; onward = first_turn }))
+
+tree-push : (host depth : ℕ) (j : List Entry) (e : Entry) → HasTree j → NextAsk host depth j e.walk → HasTree (j ++ e ∷ [])
+tree-push host depth j e tree ask = record { parent = λ w t f. by w t (asked-push j e (w ++ t ∷ []) f) }
+  where
+    by : (w : List ℤ) (t : ℤ) → (is_asked j (w ++ t ∷ []) ≡ true) ⊎ (e.walk ≡ w ++ t ∷ []) → IsParent (j ++ e ∷ []) w t
+    by w t (inl p) = parent-kept j (j ++ e ∷ []) w t (keeps-append j (e ∷ [])) (tree.parent w t p)
+    by w t (inr p) = parent-kept j (j ++ e ∷ []) w t (keeps-append j (e ∷ [])) (ask-parent host depth j e.walk w t tree ask p)
+
+pub growing-tree : (host depth : ℕ) (j : List Entry) → IsGrowing host depth j → HasTree j
+growing-tree host depth j (nothing) = record { parent = λ w t e. absurd (false≢true e) }
+growing-tree host depth j (more before e g ask is) = subst HasTree (sym is) (tree-push host depth before e (growing-tree host depth before g) ask)

@@ -1,0 +1,16 @@
+pub mod Asks
+pub mod Closing
+pub mod Crossing
+pub mod Depth
+pub mod Ends
+pub mod Few
+pub mod Full
+pub mod Keeping
+pub mod Near
+pub mod OneJournal
+pub mod OneSwitch
+pub mod Phases
+pub mod Pigeons
+pub mod Shallow
+pub mod Tight
+pub mod Truly

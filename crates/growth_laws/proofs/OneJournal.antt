@@ -1,0 +1,141 @@
+-- Two journals of true answers that have grown to one depth are one.
+use Rattle.std.proofs.Common.{◌≡◌, ◌≤◌, ℕ, List, [], ◌∷◌, ◌++◌, length, Bool, true, false, sym, ◌∙◌, subst, ap, refl, arith, append_assoc, append-nil, if◌then◌else◌, ◌⊎◌, inl, inr}
+use Rattle.std.specs.List.{AllByRecursion}
+use Rattle.net_defs.specs.Network.{Network}
+use Rattle.net_defs.specs.Route.{answer}
+use Rattle.journal_defs.specs.declared.entry.Entry.{Entry}
+use Rattle.journal_defs.specs.Tree.{reached, is_found}
+use Rattle.journal_defs.specs.Tree.Node.{Reached}
+use Rattle.journal_defs.specs.Truth.{IsTrueJournal}
+use Rattle.journal_defs.specs.Growth.{IsGrowing, IsGrown, IsEndedByDepth, IsEndedAtLimit, NextAsk}
+use Rattle.journal_defs.specs.Growth.IsGrowing.{nothing, more}
+use Rattle.journal_defs.proofs.Asking.{next_ask_is_unique, no_ask_at_the_end}
+use Rattle.growth_laws.specs.Laws.{GrownJournalIsOne}
+
+-- what holds of all entries holds of those before and after
+pub all-parts : {X : Type 0} (P : X → Type 0) (xs ys : List X) → AllByRecursion P (xs ++ ys) → AllByRecursion P xs × AllByRecursion P ys
+all-parts P [] ys all = (tt, all)
+all-parts P (x ∷ xs) ys all = let rest = all-parts P xs ys all.1 in ((all.0, rest.0), rest.1)
+
+pub true-parts : (n : Network) (host : ℕ) (j l : List Entry) → IsTrueJournal n host (j ++ l) → IsTrueJournal n host j × IsTrueJournal n host l
+true-parts n host j l all = all-parts (λ e. e.answer ≡ answer n host e.walk) j l all
+
+-- a list is empty or has a last element
+data Ending {X : Type 0} (xs : List X) : Type 0 where
+  ends_empty : xs ≡ [] → Ending xs
+  ends_with : (ys : List X) (y : X) → xs ≡ ys ++ y ∷ [] → Ending xs
+
+ending : {X : Type 0} (xs : List X) → Ending xs
+ending [] = ends_empty refl
+ending (x ∷ xs) = by (ending xs)
+  where
+    by : Ending xs → Ending (x ∷ xs)
+    by (ends_empty e) = ends_with [] x (ap (λ l. x ∷ l) e)
+    by (ends_with ys y e) = ends_with (x ∷ ys) y (ap (λ l. x ∷ l) e)
+
+tail-none : {X : Type 0} (xs : List X) (x : X) → xs ++ x ∷ [] ≡ [] → ⊥
+tail-none [] x e = cc
+tail-none (y ∷ xs) x e = cc
+
+last-parts : {X : Type 0} (xs ys : List X) (x y : X) → xs ++ x ∷ [] ≡ ys ++ y ∷ [] → (xs ≡ ys) × (x ≡ y)
+last-parts [] [] x y e = (refl, (let one : x ≡ y = cc in one))
+last-parts [] (z ∷ ys) x y e = absurd (tail-none ys y (let tail : ys ++ y ∷ [] ≡ [] = cc in tail))
+last-parts (z ∷ xs) [] x y e = absurd (tail-none xs x (let tail : xs ++ x ∷ [] ≡ [] = cc in tail))
+last-parts (z ∷ xs) (w ∷ ys) x y e =
+    let head : z ≡ w = cc in
+    let tail : xs ++ x ∷ [] ≡ ys ++ y ∷ [] = cc in
+    let rest = last-parts xs ys x y tail in
+    let list : xs ≡ ys = rest.0 in
+    ((let both : z ∷ xs ≡ w ∷ ys = cc in both), rest.1)
+
+-- each entry of a growing journal was the next ask after those before it
+ask-at : (host depth : ℕ) (l j : List Entry) (e : Entry) (rest : List Entry) → IsGrowing host depth l → l ≡ j ++ e ∷ rest → NextAsk host depth j e.walk
+ask-at host depth l j e rest (nothing) is = absurd (none j (sym is))
+  where
+    none : (i : List Entry) → i ++ e ∷ rest ≡ [] → ⊥
+    none [] p = cc
+    none (x ∷ i) p = cc
+ask-at host depth l j e rest (more before f g ask whole) is = by (ending rest) (λ r. ask-at host depth before j e r g)
+  where
+    by : Ending rest → ((r : List Entry) → before ≡ j ++ e ∷ r → NextAsk host depth j e.walk) → NextAsk host depth j e.walk
+    by (ends_empty p) again =
+        let parts = last-parts before j f e (sym whole ∙ is ∙ ap (λ r. j ++ e ∷ r) p) in
+        subst (λ (x : Entry). NextAsk host depth j x.walk) parts.1 (subst (λ i. NextAsk host depth i f.walk) parts.0 ask)
+    by (ends_with r x p) again =
+        let split : before ++ f ∷ [] ≡ (j ++ e ∷ r) ++ x ∷ [] = sym whole ∙ is ∙ ap (λ q. j ++ e ∷ q) p ∙ sym (append_assoc j (e ∷ r) (x ∷ [])) in
+        again r (last-parts before (j ++ e ∷ r) f x split).0
+
+-- of two journals one begins with the other
+data Begins (j l : List Entry) : Type 0 where
+  goes_further : (rest : List Entry) → l ≡ j ++ rest → Begins j l
+  stops_before : (rest : List Entry) → j ≡ l ++ rest → Begins j l
+
+one-entry : (n : Network) (host : ℕ) (d e : Entry) → d.walk ≡ e.walk → d.answer ≡ answer n host d.walk → e.answer ≡ answer n host e.walk → d ≡ e
+one-entry n host d e p q r =
+    let a : d.answer ≡ e.answer = q ∙ ap (answer n host) p ∙ sym r in
+    λ i. record { walk = p i; answer = a i }
+
+begins : (n : Network) (host depth : ℕ) (j l : List Entry) → IsTrueJournal n host j → IsTrueJournal n host l → IsGrowing host depth j → IsGrowing host depth l → Begins j l
+begins n host depth j l all_j all_l (nothing) h = goes_further l refl
+begins n host depth j l all_j all_l (more before e g ask is) h = by (begins n host depth before l both.0 all_l g h)
+  where
+    both : IsTrueJournal n host before × IsTrueJournal n host (e ∷ [])
+    both = true-parts n host before (e ∷ []) (subst (IsTrueJournal n host) is all_j)
+
+    next : (rest : List Entry) → l ≡ before ++ rest → Begins j l
+    next [] p = stops_before (e ∷ []) (is ∙ ap (λ i. i ++ e ∷ []) (sym (p ∙ append-nil before)))
+    next (f ∷ rest) p =
+        let true_rest : IsTrueJournal n host (f ∷ rest) = (true-parts n host before (f ∷ rest) (subst (IsTrueJournal n host) p all_l)).1 in
+        let walk : e.walk ≡ f.walk = next_ask_is_unique host depth before e.walk f.walk ask (ask-at host depth l before f rest h p) in
+        let one : e ≡ f = one-entry n host e f walk both.1.0 true_rest.0 in
+        goes_further rest (p ∙ ap (λ x. before ++ x ∷ rest) (sym one) ∙ sym (append_assoc before (e ∷ []) rest) ∙ ap (λ i. i ++ rest) (sym is))
+
+    by : Begins before l → Begins j l
+    by (goes_further rest p) = next rest p
+    by (stops_before rest p) = stops_before (rest ++ e ∷ []) (is ∙ ap (λ i. i ++ e ∷ []) p ∙ append_assoc l rest (e ∷ []))
+
+-- a longer journal has no fewer nodes
+pub reached-more : (j l : List Entry) → length (reached j) ≤ length (reached (j ++ l))
+reached-more [] l = omega arith
+reached-more (e ∷ j) l = by (is_found e.answer) (reached-more j l)
+  where
+    by : (b : Bool) → length (reached j) ≤ length (reached (j ++ l)) → length (if b then Reached e.walk ∷ reached j else reached j) ≤ length (if b then Reached e.walk ∷ reached (j ++ l) else reached (j ++ l))
+    by true r = omega arith
+    by false r = r
+
+-- a journal that has grown doesn't grow further
+stops : (host depth : ℕ) (j : List Entry) (e : Entry) (rest : List Entry) → IsGrown host depth j → IsGrown host depth (j ++ e ∷ rest) → ⊥
+stops host depth j e rest g h = by g.ended h.ended
+  where
+    ask : NextAsk host depth j e.walk
+    ask = ask-at host depth (j ++ e ∷ rest) j e rest h.growing refl
+
+    limit : IsEndedAtLimit j → IsEndedByDepth host depth (j ++ e ∷ rest) ⊎ IsEndedAtLimit (j ++ e ∷ rest) → ⊥
+    limit p (inl q) = let a = p.passed in let b = q.kept in let c = reached-more j (e ∷ rest) in omega arith
+    limit p (inr q) = last (ending (e ∷ rest))
+      where
+        last : Ending (e ∷ rest) → ⊥
+        last (ends_empty none) = cc
+        last (ends_with r x s) =
+            let split : q.before ++ q.last ∷ [] ≡ (j ++ r) ++ x ∷ [] = sym q.whole ∙ ap (λ i. j ++ i) s ∙ sym (append_assoc j r (x ∷ [])) in
+            let before : q.before ≡ j ++ r = (last-parts q.before (j ++ r) q.last x split).0 in
+            let a = p.passed in
+            let b : length (reached q.before) ≡ length (reached (j ++ r)) = ap (λ i. length (reached i)) before in
+            let c = q.kept in
+            let d = reached-more j r in
+            omega arith
+
+    by : IsEndedByDepth host depth j ⊎ IsEndedAtLimit j → IsEndedByDepth host depth (j ++ e ∷ rest) ⊎ IsEndedAtLimit (j ++ e ∷ rest) → ⊥
+    by (inl p) q = no_ask_at_the_end host depth j e.walk ask p
+    by (inr p) q = limit p q
+
+pub grown_journal_is_one : GrownJournalIsOne
+grown_journal_is_one n host depth j l all_j all_l g h = by (begins n host depth j l all_j all_l g.growing h.growing)
+  where
+    further : (i k : List Entry) (rest : List Entry) → IsGrown host depth i → IsGrown host depth k → k ≡ i ++ rest → i ≡ k
+    further i k [] a b e = sym (e ∙ append-nil i)
+    further i k (x ∷ rest) a b e = absurd (stops host depth i x rest a (subst (IsGrown host depth) e b))
+
+    by : Begins j l → j ≡ l
+    by (goes_further rest e) = further j l rest g h e
+    by (stops_before rest e) = sym (further l j rest h g e)

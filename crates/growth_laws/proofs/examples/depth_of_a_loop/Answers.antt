@@ -1,0 +1,9 @@
+-- a journal that two fabrics share
+use Rattle.growth_laws.proofs.Tight.{looped_grown, looped_open}
+use Rattle.growth_laws.proofs.examples.depth_of_a_loop.Goals as goal
+
+pub returns-clause-grown : goal.returns-clause-grown
+returns-clause-grown c = looped_grown
+
+pub returns-clause-not_closed : goal.returns-clause-not_closed
+returns-clause-not_closed c = looped_open

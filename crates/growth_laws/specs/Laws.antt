@@ -1,0 +1,54 @@
+-- The laws of a mapper's growth: its journal is one, it is short, and the depth that suffices to close it.
+use Rattle.std.specs.Prelude.{◌≡◌, ◌⊎◌, ℕ, ◌+◌, ◌*◌, ◌≤◌, true, List, length}
+use Rattle.net_defs.specs.declared.vertex.Vertex.TheVariants.{Host, Switch}
+use Rattle.net_defs.specs.Network.{Network, IsFabric, has_vertex}
+use Rattle.journal_defs.specs.declared.entry.Entry.{Entry}
+use Rattle.journal_defs.specs.Tree.{reached}
+use Rattle.journal_defs.specs.Truth.{IsTrueJournal}
+use Rattle.journal_defs.specs.Growth.{IsGrowing, IsGrown, IsEndedByDepth, IsEndedAtLimit, IsClosed}
+use Rattle.journal_defs.specs.Part.{IsInPart, farthest, host_distance, walk_count}
+use Rattle.journal_defs.specs.DistanceLaws.{HasHostWithin}
+
+-- Two journals of true answers that have grown to one depth are one journal.
+abbrev pub GrownJournalIsOne : Type 0
+GrownJournalIsOne = (n : Network) (host depth : ℕ) (j l : List Entry) → IsTrueJournal n host j → IsTrueJournal n host l → IsGrown host depth j → IsGrown host depth l → j ≡ l
+
+-- A journal that grows has at most 30 asks for each walk that found something, and one more.
+abbrev pub AsksAreFew : Type 0
+AsksAreFew = (host depth : ℕ) (j : List Entry) → IsGrowing host depth j → length j ≤ 1 + 30 * length (reached j)
+
+-- the depth that suffices, in cables: Q + D + 1
+abbrev pub enough_depth : Network → ℕ → ℕ
+enough_depth n host = host_distance n host + farthest n host + 1
+
+-- each switch of the mapper's part has a host cabled to it
+abbrev pub EachSwitchHasAHost : Network → ℕ → Type 0
+EachSwitchHasAHost n host = (s : ℕ) → IsInPart n host (Switch s) → HasHostWithin n (Switch s) 1
+
+-- the journal of this fabric keeps the node limit
+abbrev pub IsSmallEnough : Network → ℕ → Type 0
+IsSmallEnough n host = (walk_count n host ≤ 65535) ⊎ EachSwitchHasAHost n host
+
+-- How a journal ends that has grown to a sufficient depth: no class of switches is left to expand, and a greater depth changes nothing.
+pub record EndsClosed (host depth : ℕ) (j : List Entry) : Type 0 where
+  pub closed : IsClosed host j
+  pub by_depth : IsEndedByDepth host depth j
+  pub not_at_limit : ¬ IsEndedAtLimit j
+  pub deeper : (more : ℕ) → depth ≤ more → IsGrown host more j
+
+-- Where every answer is true of a fabric, a depth of Q + D + 1 suffices.
+abbrev pub DepthSuffices : Type 0
+DepthSuffices = (n : Network) (host depth : ℕ) (j : List Entry) → IsFabric n → has_vertex n (Host host) ≡ true → enough_depth n host ≤ depth → IsSmallEnough n host → IsTrueJournal n host j → IsGrown host depth j → EndsClosed host depth j
+
+-- A fabric with a host, and their journal to depth Q + D, in which some class of switches has no expanded member.
+pub record IsOpenBelow (n : Network) (host : ℕ) (j : List Entry) : Type 0 where
+  pub fabric : IsFabric n
+  pub there : has_vertex n (Host host) ≡ true
+  pub small : IsSmallEnough n host
+  pub truth : IsTrueJournal n host j
+  pub grown : IsGrown host (host_distance n host + farthest n host) j
+  pub not_closed : ¬ IsClosed host j
+
+-- A depth of Q + D does not suffice.
+abbrev pub BoundIsTight : Type 0
+BoundIsTight = (n : Network) × (host : ℕ) × (j : List Entry) × IsOpenBelow n host j

@@ -1,0 +1,24 @@
+//! The laws of a mapper's growth: each function's contract is the law, and its body is empty.
+
+ghost use Rattle.growth_laws.specs.Laws.{GrownJournalIsOne, AsksAreFew, DepthSuffices, BoundIsTight};
+
+/// Two journals of true answers that have grown to one depth are one journal.
+pub fn grown_journal_is_one()
+    ensures { GrownJournalIsOne }
+{}
+
+/// A journal has at most 30 asks for each walk that found something, and one more.
+pub fn asks_are_few()
+    ensures { AsksAreFew }
+{}
+
+/// Where every answer is true of a fabric, a depth of Q + D + 1 suffices: the journal is closed, within the node limit, and a greater
+/// depth changes nothing.
+pub fn depth_suffices()
+    ensures { DepthSuffices }
+{}
+
+/// A depth of Q + D does not suffice.
+pub fn bound_is_tight()
+    ensures { BoundIsTight }
+{}

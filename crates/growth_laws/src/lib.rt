@@ -1,0 +1,23 @@
+//! How far a mapper has to probe: the laws of its journal's growth over a fabric's true answers.
+//!
+//! This crate holds laws and their proofs. It probes nothing. The laws stand in `Laws` of `specs/`, and `laws.rt` shows that they hold.
+//!
+//! ```text
+//!            +---+           Q = 1, D = 1. At depth 2 the walks +1 and +2 find a switch each, and nothing tells that
+//! host a --- 0 s 1 --+       these are s itself: the journal is also that of three switches. At depth 3 the walk
+//!            +-2-+   |       +1 -2 finds host a, and one host is one host: both are s.
+//!              |     |
+//!              +-----+
+//! ```
+//!
+//! The proof of the depth that suffices, in the order of its files in `proofs/`: `Keeping`, `Asks` (what a journal keeps, what an ask
+//! is), `Phases` (an expanded class has an expanded member no longer than a given one), `Crossing` (over each cable there is a node),
+//! `Full` (one class over each vertex within bounds), `Closing` (so all classes are expanded), `Near` and `Ends` (the node limit),
+//! `Depth`.
+#![tactic(auto)]
+
+mod examples;
+mod laws;
+
+pub use examples::{depth_of_a_loop, depth_of_one_cable, depth_of_two_hosts};
+pub use laws::{asks_are_few, bound_is_tight, depth_suffices, grown_journal_is_one};
