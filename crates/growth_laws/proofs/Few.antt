@@ -19,10 +19,10 @@ use Rattle.journal_defs.proofs.Growing.{onward-pass}
 use Rattle.journal_defs.proofs.Members.{IsMember, member-left, member-right, member-map, all-member}
 use Rattle.journal_defs.proofs.Order.{same_turns-true, same_turns-refl}
 use Rattle.growth_laws.specs.Laws.{AsksAreFew}
-use Rattle.growth_laws.proofs.Keeping.{Keeps, keeps-append, asked-push, asked-kept, node-kept}
-use Rattle.growth_laws.proofs.Asks.{HasTree, growing-tree, growing-once, walks, ByLast, by_last, not_empty, first_turn, switch-node, expanded-has}
+use Rattle.growth_laws.proofs.Keeping.{keeps-append, asked-push, begun-kept}
+use Rattle.growth_laws.proofs.Asks.{HasTree, growing-tree, growing-once, walks, ByLast, by_last, not_empty, switch-node, expanded-has}
 use Rattle.growth_laws.proofs.Asks.ByLast.{empty, pushed}
-use Rattle.growth_laws.proofs.Phases.{begun-push}
+use Rattle.growth_laws.proofs.Phases.{begun-push, chosen-begun}
 use Rattle.growth_laws.proofs.Pigeons.{no-more}
 
 -- the walks that found something, in the journal's order
@@ -63,7 +63,7 @@ found-once (e ∷ j) a = by (is_found e.answer) (found-once j a.1)
     by false r = r
 
 -- a node's walk is one of these
-node-found : (j : List Entry) (w : List ℤ) → IsNode j (Reached w) → IsMember w (found_walks j)
+pub node-found : (j : List Entry) (w : List ℤ) → IsNode j (Reached w) → IsMember w (found_walks j)
 node-found [] w e = false≢true e
 node-found (x ∷ j) w e = by (same_turns x.walk w) refl e (is_found x.answer) refl (node-found j w)
   where
@@ -89,14 +89,11 @@ pub record AreBegun (j : List Entry) (ws : List (List ℤ)) : Type 0 where
   pub each : AllByRecursion (IsBegun j) ws
   pub whole : (w : List ℤ) → IsBegun j w → IsMember w ws
 
-begun-kept : (j l : List Entry) (w : List ℤ) → Keeps j l → IsBegun j w → IsBegun l w
-begun-kept j l w keeps b = record { node = node-kept j l keeps (Reached w) b.node; turn = b.turn; onward = b.onward; asked = asked-kept j l keeps (w ++ b.turn ∷ []) b.asked }
-
 -- an ask that goes on leaves them
 begun-same : (j : List Entry) (e : Entry) (w : List ℤ) (t : ℤ) (ws : List (List ℤ)) → HasTree j → IsBegun j w → e.walk ≡ w ++ t ∷ [] → AreBegun j ws → AreBegun (j ++ e ∷ []) ws
 begun-same j e w t ws tree b is a = record {
   once = a.once;
-  each = all-weaker (IsBegun j) (IsBegun (j ++ e ∷ [])) ws (λ v c. begun-kept j (j ++ e ∷ []) v (keeps-append j (e ∷ [])) c) a.each;
+  each = all-weaker (IsBegun j) (IsBegun (j ++ e ∷ [])) ws (λ v c. begun-kept j (j ++ e ∷ []) (keeps-append j (e ∷ [])) v c) a.each;
   whole = λ v c. by v (begun-push j e w v t tree is c);
 }
   where
@@ -108,7 +105,7 @@ begun-same j e w t ws tree b is a = record {
 begun-more : (j : List Entry) (e : Entry) (w : List ℤ) (t : ℤ) (ws : List (List ℤ)) → HasTree j → IsBegun (j ++ e ∷ []) w → ¬ IsBegun j w → e.walk ≡ w ++ t ∷ [] → AreBegun j ws → AreBegun (j ++ e ∷ []) (w ∷ ws)
 begun-more j e w t ws tree now new is a = record {
   once = (all-weaker (IsBegun j) (λ v. w ≢ v) ws (λ v c p. new (subst (IsBegun j) (sym p) c)) a.each, a.once);
-  each = (now, all-weaker (IsBegun j) (IsBegun (j ++ e ∷ [])) ws (λ v c. begun-kept j (j ++ e ∷ []) v (keeps-append j (e ∷ [])) c) a.each);
+  each = (now, all-weaker (IsBegun j) (IsBegun (j ++ e ∷ [])) ws (λ v c. begun-kept j (j ++ e ∷ []) (keeps-append j (e ∷ [])) v c) a.each);
   whole = λ v c. by v (begun-push j e w v t tree is c);
 }
   where
@@ -125,10 +122,7 @@ begun-after host depth j e ws tree (first a b) begun = ([], record { once = tt; 
     none w c (inr p) = not_empty w c.turn (sym p ∙ b)
 begun-after host depth j e ws tree (goes_on w t b l least is) begun = (ws, begun-same j e w t ws tree b is begun)
 begun-after host depth j e ws tree (begins w rest c is) begun =
-    let keeps = keeps-append j (e ∷ []) in
-    let node = node-kept j (j ++ e ∷ []) keeps (Reached w) (switch-node j w c.switch) in
-    let asked : is_asked (j ++ e ∷ []) (w ++ negsuc 14 ∷ []) ≡ true = subst (λ x. is_asked (j ++ e ∷ []) x ≡ true) is (member-asked (j ++ e ∷ []) e (member-right e j (e ∷ []) (inl refl))) in
-    (w ∷ ws, begun-more j e w (negsuc 14) ws tree (record { node = node; turn = negsuc 14; onward = first_turn; asked = asked }) (λ b. c.fresh (expanded-has host j w b.node (rest.expanded w b))) is begun)
+    (w ∷ ws, begun-more j e w (negsuc 14) ws tree (chosen-begun host depth j e w c is) (λ b. c.fresh (expanded-has host j w b.node (rest.expanded w b))) is begun)
 
 pub are-begun : (host depth : ℕ) (j : List Entry) → IsGrowing host depth j → (ws : List (List ℤ)) × AreBegun j ws
 are-begun host depth j (nothing) = ([], record { once = tt; each = tt; whole = λ w b. absurd (false≢true b.asked) })
@@ -152,7 +146,7 @@ children-length (w ∷ ws) =
     sum : (a b c : ℕ) → a ≡ 30 → b ≡ 30 * c → a + b ≡ 30 * suc c
     sum a b c p q = omega arith
 
-onward-member : (t : ℤ) → IsOnward t → IsMember t onward_turns
+pub onward-member : (t : ℤ) → IsOnward t → IsMember t onward_turns
 onward-member t on = listed t onward_turns (onward-pass (λ s. list_any (int_eq s) onward_turns) t refl on)
   where
     listed : (s : ℤ) (ts : List ℤ) → list_any (int_eq s) ts ≡ true → IsMember s ts

@@ -10,7 +10,7 @@ use Rattle.journal_defs.specs.Tree.Node.{Mapper, Reached}
 use Rattle.journal_defs.specs.Tree.Leads.{onward, back, out, home}
 use Rattle.journal_defs.specs.Replicates.{Replicates}
 use Rattle.journal_defs.specs.Replicates.Replicates.{same, turned as other_way, along, one_host, behind}
-use Rattle.journal_defs.specs.Growth.{IsExpanded, HasExpanded}
+use Rattle.journal_defs.specs.Growth.{IsBegun, IsExpanded, HasExpanded}
 use Rattle.journal_defs.proofs.Order.{same_turns-true, same_turns-refl}
 
 -- the answers of one journal stand in another
@@ -49,6 +49,14 @@ answered-last (x ∷ j) e f = by (same_turns x.walk e.walk) f (answered-last j e
     by : (b : Bool) → is_some (if b then Some x.answer else answered j e.walk) ≡ false → (is_asked j e.walk ≡ false → answered (j ++ e ∷ []) e.walk ≡ Some e.answer) → (if b then Some x.answer else answered (j ++ e ∷ []) e.walk) ≡ Some e.answer
     by true g rest = absurd (false≢true (sym g))
     by false g rest = rest g
+
+pub asked-last : (j : List Entry) (e : Entry) → is_asked (j ++ e ∷ []) e.walk ≡ true
+asked-last [] e = rw (same_turns-refl e.walk) refl
+asked-last (x ∷ j) e = by (same_turns x.walk e.walk) (asked-last j e)
+  where
+    by : (b : Bool) → is_asked (j ++ e ∷ []) e.walk ≡ true → is_some (if b then Some x.answer else answered (j ++ e ∷ []) e.walk) ≡ true
+    by true r = refl
+    by false r = r
 
 -- what was asked has an answer
 pub asked-answer : (o : Option Answer) → is_some o ≡ true → (a : Answer) × (o ≡ Some a)
@@ -100,3 +108,6 @@ module _ (j l : List Entry) (keeps : Keeps j l) where
 
   pub has_expanded-kept : (host : ℕ) (u : Node) → HasExpanded host j u → HasExpanded host l u
   has_expanded-kept host u h = record { member = h.member; offset = h.offset; one_class = replicates-kept host u (Reached h.member) h.offset h.one_class; expanded = expanded-kept h.member h.expanded }
+
+  pub begun-kept : (w : List ℤ) → IsBegun j w → IsBegun l w
+  begun-kept w b = record { node = node-kept (Reached w) b.node; turn = b.turn; onward = b.onward; asked = asked-kept (w ++ b.turn ∷ []) b.asked }

@@ -1,12 +1,17 @@
 pub mod Asks
+pub mod Classes
 pub mod Closing
 pub mod Crossing
 pub mod Depth
 pub mod Ends
+pub mod Existence
 pub mod Few
 pub mod Full
 pub mod Keeping
+pub mod Leading
+pub mod Looking
 pub mod Near
+pub mod Next
 pub mod OneJournal
 pub mod OneSwitch
 pub mod Phases

@@ -18,10 +18,10 @@ use Rattle.journal_defs.specs.Truth.{IsTrueJournal}
 use Rattle.journal_defs.specs.Part.{walk_count}
 use Rattle.journal_defs.specs.WalkLaws.{IsCounted, most_turns}
 use Rattle.journal_defs.proofs.Counted.{walks_are_few}
-use Rattle.journal_defs.proofs.Members.{IsMember, all-member, all-from-members}
+use Rattle.journal_defs.proofs.Members.{all-member, all-from-members}
 use Rattle.journal_defs.proofs.Order.{below-shorter}
 use Rattle.growth_laws.specs.Laws.{enough_depth}
-use Rattle.growth_laws.proofs.Keeping.{keeps-append, asked-push, asked-kept}
+use Rattle.growth_laws.proofs.Keeping.{keeps-append, asked-push, asked-last, asked-kept}
 use Rattle.growth_laws.proofs.Asks.{HasTree, growing-tree, growing-once, ByLast, by_last, not_empty, push-length, switch-node}
 use Rattle.growth_laws.proofs.Asks.ByLast.{empty, pushed}
 use Rattle.growth_laws.proofs.Phases.{begun-push}
@@ -33,15 +33,11 @@ use Rattle.growth_laws.proofs.Few.{found_walks, found-length, found-all, found-o
 -- the empty walk is the first ask
 started-push : (host depth : ℕ) (j : List Entry) (e : Entry) → (j ≡ []) ⊎ (is_asked j [] ≡ true) → NextAsk host depth j e.walk → is_asked (j ++ e ∷ []) [] ≡ true
 started-push host depth j e (inr s) ask = asked-kept j (j ++ e ∷ []) (keeps-append j (e ∷ [])) [] s
-started-push host depth j e (inl n) (first a b) = subst (λ w. is_asked (j ++ e ∷ []) w ≡ true) b (member-asked (j ++ e ∷ []) e (last j))
-  where
-    last : (i : List Entry) → IsMember e (i ++ e ∷ [])
-    last [] = inl refl
-    last (x ∷ i) = inr (last i)
+started-push host depth j e (inl n) (first a b) = subst (λ w. is_asked (j ++ e ∷ []) w ≡ true) b (asked-last j e)
 started-push host depth j e (inl n) (goes_on w t b l least is) = let p : is_asked [] (w ++ b.turn ∷ []) ≡ true = subst (λ i. is_asked i (w ++ b.turn ∷ []) ≡ true) n b.asked in absurd (false≢true p)
 started-push host depth j e (inl n) (begins w rest c is) = let p : IsSwitchNode [] w = subst (λ i. IsSwitchNode i w) n c.switch in cc
 
-starts : (host depth : ℕ) (j : List Entry) → IsGrowing host depth j → (j ≡ []) ⊎ (is_asked j [] ≡ true)
+pub starts : (host depth : ℕ) (j : List Entry) → IsGrowing host depth j → (j ≡ []) ⊎ (is_asked j [] ≡ true)
 starts host depth j (nothing) = inl refl
 starts host depth j (more before e g ask is) = inr (subst (λ i. is_asked i [] ≡ true) (sym is) (started-push host depth before e (starts host depth before g) ask))
 

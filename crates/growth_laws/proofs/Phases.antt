@@ -13,8 +13,8 @@ use Rattle.journal_defs.specs.Growth.IsGrowing.{nothing, more}
 use Rattle.journal_defs.specs.Growth.NextAsk.{first, goes_on, begins}
 use Rattle.journal_defs.proofs.Order.{same_turns-true, same_turns-refl, below-parts, below-shorter, below-total}
 use Rattle.journal_defs.proofs.Standing.{replicates-nodes}
-use Rattle.growth_laws.proofs.Keeping.{Keeps, keeps-append, asked-push, answered-push, replicates-kept, expanded-kept}
-use Rattle.growth_laws.proofs.Asks.{HasTree, growing-tree, push-parts, push-length, not_empty, unasked-open, switch-node, expanded-begun}
+use Rattle.growth_laws.proofs.Keeping.{Keeps, keeps-append, asked-push, answered-push, replicates-kept, expanded-kept, asked-last, begun-kept, node-kept}
+use Rattle.growth_laws.proofs.Asks.{HasTree, growing-tree, push-parts, push-length, not_empty, unasked-open, switch-node, expanded-begun, first_turn}
 
 -- an expanded member that is no longer than a node
 pub record HasShort (host : ℕ) (j : List Entry) (w : List ℤ) : Type 0 where
@@ -35,6 +35,7 @@ member-begun host j w h = expanded-begun j h.member (replicates-nodes host j (Re
 
 -- the node that is being expanded, or was last: all others that are begun are expanded and no longer, and lesser switches have short members
 pub record IsCurrent (host : ℕ) (j : List Entry) (c : List ℤ) : Type 0 where
+  pub begun : IsBegun j c
   pub others : (m : List ℤ) → IsBegun j m → m ≢ c → IsExpanded j m
   pub longest : (m : List ℤ) → IsBegun j m → length m ≤ length c
   pub lesser : (v : List ℤ) → IsSwitchNode j v → walk_below v c ≡ true → HasShort host j v
@@ -74,6 +75,7 @@ same_or_not v w = by (same_turns v w) refl
 -- an ask that goes on leaves the current node
 current-goes : (host : ℕ) (j : List Entry) (e : Entry) (c w : List ℤ) (t : ℤ) → HasTree j → IsCurrent host j c → IsBegun j w → IsLeastUnasked j w t → e.walk ≡ w ++ t ∷ [] → IsCurrent host (j ++ e ∷ []) c
 current-goes host j e c w t tree now b l is = record {
+  begun = begun-kept j after keeps c now.begun;
   others = λ m a d. expanded-kept j after keeps m (now.others m (back m a) d);
   longest = λ m a. now.longest m (back m a);
   lesser = λ v s p. short-kept host j after v keeps (now.lesser v (below-push j e c v t (is ∙ ap (λ x. x ++ t ∷ []) (one (same_or_not w c))) s p) p);
@@ -132,8 +134,9 @@ ready host depth j w (under_way x now) rest c = record { longest = λ m b. far m
         by (inr (inr l)) = here (omega arith)
 
 -- and then it is the current node
-current-begins : (host depth : ℕ) (j : List Entry) (e : Entry) (w : List ℤ) (t : ℤ) → HasTree j → IsReady host j w → IsAtRest j → e.walk ≡ w ++ t ∷ [] → IsCurrent host (j ++ e ∷ []) w
-current-begins host depth j e w t tree r rest is = record {
+current-begins : (host depth : ℕ) (j : List Entry) (e : Entry) (w : List ℤ) (t : ℤ) → HasTree j → IsReady host j w → IsAtRest j → IsBegun (j ++ e ∷ []) w → e.walk ≡ w ++ t ∷ [] → IsCurrent host (j ++ e ∷ []) w
+current-begins host depth j e w t tree r rest b is = record {
+  begun = b;
   others = λ m a d. other m d (begun-push j e w m t tree is a);
   longest = λ m a. long m (begun-push j e w m t tree is a);
   lesser = λ v s p. short-kept host j after v keeps (r.lesser v (below-push j e w v t is s p) p);
@@ -153,6 +156,15 @@ current-begins host depth j e w t tree r rest is = record {
     long m (inl b) = r.longest m b
     long m (inr p) = let l : length m ≡ length w = ap length p in omega arith
 
+-- the node that is chosen is begun by its first turn
+pub chosen-begun : (host depth : ℕ) (j : List Entry) (e : Entry) (w : List ℤ) → IsChosen host depth j w → e.walk ≡ w ++ negsuc 14 ∷ [] → IsBegun (j ++ e ∷ []) w
+chosen-begun host depth j e w c is = record {
+  node = node-kept j (j ++ e ∷ []) (keeps-append j (e ∷ [])) (Reached w) (switch-node j w c.switch);
+  turn = negsuc 14;
+  onward = first_turn;
+  asked = subst (λ x. is_asked (j ++ e ∷ []) x ≡ true) is (asked-last j e);
+}
+
 -- the stage after an ask
 stage-push : (host depth : ℕ) (j : List Entry) (e : Entry) → HasTree j → Stage host j → NextAsk host depth j e.walk → Stage host (j ++ e ∷ [])
 stage-push host depth j e tree s (first a b) = fresh (λ m g. none m g (asked-push j e (m ++ g.turn ∷ []) g.asked))
@@ -162,7 +174,7 @@ stage-push host depth j e tree s (first a b) = fresh (λ m g. none m g (asked-pu
     none m g (inr p) = not_empty m g.turn (sym p ∙ b)
 stage-push host depth j e tree (fresh none) (goes_on w t b l least is) = absurd (none w b)
 stage-push host depth j e tree (under_way c now) (goes_on w t b l least is) = under_way c (current-goes host j e c w t tree now b l is)
-stage-push host depth j e tree s (begins w rest c is) = under_way w (current-begins host depth j e w (negsuc 14) tree (ready host depth j w s rest c) rest is)
+stage-push host depth j e tree s (begins w rest c is) = under_way w (current-begins host depth j e w (negsuc 14) tree (ready host depth j w s rest c) rest (chosen-begun host depth j e w c is) is)
 
 pub stage : (host depth : ℕ) (j : List Entry) → IsGrowing host depth j → Stage host j
 stage host depth j (nothing) = fresh (λ m b. false≢true b.asked)

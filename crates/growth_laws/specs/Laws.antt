@@ -13,6 +13,10 @@ use Rattle.journal_defs.specs.DistanceLaws.{HasHostWithin}
 abbrev pub GrownJournalIsOne : Type 0
 GrownJournalIsOne = (n : Network) (host depth : ℕ) (j l : List Entry) → IsTrueJournal n host j → IsTrueJournal n host l → IsGrown host depth j → IsGrown host depth l → j ≡ l
 
+-- Over every fabric there is such a journal, for every depth.
+abbrev pub GrownJournalExists : Type 0
+GrownJournalExists = (n : Network) (host depth : ℕ) → IsFabric n → (j : List Entry) × IsTrueJournal n host j × IsGrown host depth j
+
 -- A journal that grows has at most 30 asks for each walk that found something, and one more.
 abbrev pub AsksAreFew : Type 0
 AsksAreFew = (host depth : ℕ) (j : List Entry) → IsGrowing host depth j → length j ≤ 1 + 30 * length (reached j)

@@ -1,10 +1,15 @@
 //! The laws of a mapper's growth: each function's contract is the law, and its body is empty.
 
-ghost use Rattle.growth_laws.specs.Laws.{GrownJournalIsOne, AsksAreFew, DepthSuffices, BoundIsTight};
+ghost use Rattle.growth_laws.specs.Laws.{GrownJournalIsOne, GrownJournalExists, AsksAreFew, DepthSuffices, BoundIsTight};
 
 /// Two journals of true answers that have grown to one depth are one journal.
 pub fn grown_journal_is_one()
     ensures { GrownJournalIsOne }
+{}
+
+/// Over every fabric there is one, for every depth.
+pub fn grown_journal_exists()
+    ensures { GrownJournalExists }
 {}
 
 /// A journal has at most 30 asks for each walk that found something, and one more.

@@ -10,6 +10,9 @@
 //!              +-----+
 //! ```
 //!
+//! That a grown journal is one: `OneJournal`. That there is one: `Few` (asks are few), `Looking`, `Leading`, `Classes` (replicates can be
+//! decided), `Next`, `Existence`.
+//!
 //! The proof of the depth that suffices, in the order of its files in `proofs/`: `Keeping`, `Asks` (what a journal keeps, what an ask
 //! is), `Phases` (an expanded class has an expanded member no longer than a given one), `Crossing` (over each cable there is a node),
 //! `Full` (one class over each vertex within bounds), `Closing` (so all classes are expanded), `Near` and `Ends` (the node limit),
@@ -20,4 +23,6 @@ mod examples;
 mod laws;
 
 pub use examples::{depth_of_a_loop, depth_of_one_cable, depth_of_two_hosts};
-pub use laws::{asks_are_few, bound_is_tight, depth_suffices, grown_journal_is_one};
+pub use laws::{
+    asks_are_few, bound_is_tight, depth_suffices, grown_journal_exists, grown_journal_is_one,
+};
