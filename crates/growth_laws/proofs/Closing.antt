@@ -1,5 +1,5 @@
 -- A journal that is full to Q + D + 1 cables is closed.
-use Rattle.std.proofs.Common.{◌≡◌, ◌<◌, ◌≤◌, ℕ, zero, suc, List, [], ◌∷◌, length, true, Option, Some, None, sym, ◌∙◌, subst, ap, refl, arith}
+use Rattle.std.proofs.Common.{◌≡◌, ◌+◌, ◌<◌, ◌≤◌, ℕ, zero, suc, List, [], ◌∷◌, length, true, Option, Some, None, sym, ◌∙◌, subst, ap, refl, arith}
 use Rattle.std.specs.Prelude.{ℤ, pos, ◌+ℤ◌}
 use Rattle.net_defs.specs.declared.vertex.Vertex.{Vertex}
 use Rattle.net_defs.specs.declared.vertex.Vertex.TheVariants.{Host, Switch}
@@ -26,22 +26,30 @@ use Rattle.growth_laws.proofs.Truly.{true-where, IsWalk, node-switch, switch-sta
 use Rattle.growth_laws.proofs.Crossing.{cables}
 use Rattle.growth_laws.proofs.Full.{IsFull, AreOne, Step, step, reach, one_class, same-port, behind-port, join}
 
--- where a walk ends lies in the mapper's part
-walk-path : (n : Network) (x : Vertex) (m : ℕ) (e d : End) (w : List ℤ) → Path n x m e.v → entered_after n (Some e) w ≡ Some d → (i : ℕ) × Path n x i d.v
-walk-path n x m e d [] p is = let one : e ≡ d = cc in (m, subst (λ (y : End). Path n x m y.v) one p)
+-- a walk is a path of a cable for each turn
+walk-path : (n : Network) (x : Vertex) (m : ℕ) (e d : End) (w : List ℤ) → Path n x m e.v → entered_after n (Some e) w ≡ Some d → Path n x (length w + m) d.v
+walk-path n x m e d [] p is = let one : e ≡ d = cc in subst (λ i. Path n x i d.v) (let s : m ≡ 0 + m = omega arith in s) (subst (λ (y : End). Path n x m y.v) one p)
 walk-path n x m e d (t ∷ w) p is = by (turned n (Some e) t) refl is (λ c. walk-path n x (suc m) c d w)
   where
-    by : (o : Option End) → turned n (Some e) t ≡ o → entered_after n o w ≡ Some d → ((c : End) → Path n x (suc m) c.v → entered_after n (Some c) w ≡ Some d → (i : ℕ) × Path n x i d.v) → (i : ℕ) × Path n x i d.v
-    by None q r rest = let none : None ≡ Some d = sym (entered-none n w) ∙ r in cc
-    by (Some c) q r rest = let over_it = turn-crosses n e c t q in rest c (over p over_it.leaves over_it.enters over_it.cable) r
+    longer : Path n x (length w + suc m) d.v → Path n x (length (t ∷ w) + m) d.v
+    longer q = subst (λ i. Path n x i d.v) (let s : length w + suc m ≡ suc (length w) + m = omega arith in s) q
 
-pub in-part : (n : Network) (host : ℕ) (u : Node) (d : End) → standing n host u ≡ Some d → IsInPart n host d.v
-in-part n host Mapper d is = let own : host_port host ≡ d = cc in subst (λ (y : End). IsInPart n host y.v) own (record { cables = 0; path = here })
-in-part n host (Reached w) d is = by (far n (host_port host)) refl is
+    by : (o : Option End) → turned n (Some e) t ≡ o → entered_after n o w ≡ Some d → ((c : End) → Path n x (suc m) c.v → entered_after n (Some c) w ≡ Some d → Path n x (length w + suc m) d.v) → Path n x (length (t ∷ w) + m) d.v
+    by None q r rest = let none : None ≡ Some d = sym (entered-none n w) ∙ r in cc
+    by (Some c) q r rest = let over_it = turn-crosses n e c t q in longer (rest c (over p over_it.leaves over_it.enters over_it.cable) r)
+
+-- a node stands at the end of a path of as many cables as lead to it
+pub node-path : (n : Network) (host : ℕ) (u : Node) (d : End) → standing n host u ≡ Some d → Path n (Host host) (cables u) d.v
+node-path n host Mapper d is = let own : host_port host ≡ d = cc in subst (λ (y : End). Path n (Host host) 0 y.v) own here
+node-path n host (Reached w) d is = by (far n (host_port host)) refl is
   where
-    by : (o : Option End) → far n (host_port host) ≡ o → entered_after n o w ≡ Some d → IsInPart n host d.v
+    by : (o : Option End) → far n (host_port host) ≡ o → entered_after n o w ≡ Some d → Path n (Host host) (suc (length w)) d.v
     by None p q = let none : None ≡ Some d = sym (entered-none n w) ∙ q in cc
-    by (Some e) p q = let path = walk-path n (Host host) 1 e d w (over here 0 e.p p) q in record { cables = path.0; path = path.1 }
+    by (Some e) p q = subst (λ i. Path n (Host host) i d.v) (let s : length w + 1 ≡ suc (length w) = omega arith in s) (walk-path n (Host host) 1 e d w (over here 0 e.p p) q)
+
+-- so it stands in the mapper's part
+pub in-part : (n : Network) (host : ℕ) (u : Node) (d : End) → standing n host u ≡ Some d → IsInPart n host d.v
+in-part n host u d is = record { cables = cables u; path = node-path n host u d is }
 
 -- a host within so many cables of a vertex, with the path from it
 record FromHost (n : Network) (x : Vertex) (most : ℕ) : Type 0 where

@@ -37,7 +37,7 @@ ended-deeper host depth deeper j e c = record { started = e.started; at_rest = e
 no-limit : (j : List Entry) → length (nodes j) ≤ node_limit → ¬ IsEndedAtLimit j
 no-limit j l e = let p = e.passed in omega arith
 
-by-depth : (host depth : ℕ) (j : List Entry) → length (nodes j) ≤ node_limit → IsEndedByDepth host depth j ⊎ IsEndedAtLimit j → IsEndedByDepth host depth j
+pub by-depth : (host depth : ℕ) (j : List Entry) → length (nodes j) ≤ node_limit → IsEndedByDepth host depth j ⊎ IsEndedAtLimit j → IsEndedByDepth host depth j
 by-depth host depth j l (inl e) = e
 by-depth host depth j l (inr e) = absurd (no-limit j l e)
 

@@ -11,6 +11,7 @@ use Rattle.journal_defs.specs.Growth.IsGrowing.{nothing, more}
 use Rattle.journal_defs.specs.Truth.{IsTrueJournal}
 use Rattle.growth_laws.specs.Laws.{GrownJournalExists}
 use Rattle.growth_laws.proofs.Few.{asks_are_few}
+use Rattle.growth_laws.proofs.Truly.{true-where}
 use Rattle.growth_laws.proofs.Next.{Next, next}
 use Rattle.growth_laws.proofs.Next.Next.{asks, ends}
 
@@ -25,7 +26,7 @@ bounded host depth j g l = let few = asks_are_few host depth j g in omega arith
 
 grow : (n : Network) (host depth bound m : ℕ) (j : List Entry) → ((i : List Entry) → IsGrowing host depth i → length (nodes i) ≤ node_limit → length i < bound) → IsFabric n → IsTrueJournal n host j → IsGrowing host depth j → length (nodes j) ≤ node_limit → bound ≤ m + length j → HasGrown n host depth
 grow n host depth bound zero j few f all g kept l = let short = few j g kept in absurd (omega arith)
-grow n host depth bound (suc m) j few f all g kept l = by (next n host depth j f all g) (λ i. grow n host depth bound m i few f)
+grow n host depth bound (suc m) j few f all g kept l = by (next n host depth j f (true-where n host j all) g) (λ i. grow n host depth bound m i few f)
   where
     pushed : (e : Entry) → e.answer ≡ answer n host e.walk → NextAsk host depth j e.walk → ((i : List Entry) → IsTrueJournal n host i → IsGrowing host depth i → length (nodes i) ≤ node_limit → bound ≤ m + length i → HasGrown n host depth) → HasGrown n host depth
     pushed e told ask rest = limit (cases_order (length (nodes (j ++ e ∷ []))) node_limit)

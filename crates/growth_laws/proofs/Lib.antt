@@ -1,6 +1,7 @@
 pub mod Asks
 pub mod Classes
 pub mod Closing
+pub mod Covers
 pub mod Crossing
 pub mod Depth
 pub mod Ends
@@ -16,6 +17,7 @@ pub mod OneJournal
 pub mod OneSwitch
 pub mod Phases
 pub mod Pigeons
+pub mod Rings
 pub mod Shallow
 pub mod Tight
 pub mod Truly

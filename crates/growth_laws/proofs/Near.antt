@@ -1,6 +1,6 @@
 -- No node of more than Q + D cables is begun, so the number of walks bounds that of the nodes.
 use Rattle.std.proofs.Common.{◌≡◌, ◌≢◌, ◌<◌, ◌≤◌, ℕ, zero, suc, List, [], ◌∷◌, ◌++◌, length, true, is_some, sym, ◌∙◌, subst, ap, refl, arith, ◌⊎◌, inl, inr}
-use Rattle.std.specs.Prelude.{ℤ}
+use Rattle.std.specs.Prelude.{ℤ, negsuc}
 use Rattle.std.specs.List.{AllByRecursion}
 use Rattle.std.proofs.lemmas.Bool.{false≢true, cases_order}
 use Rattle.net_defs.specs.declared.vertex.Vertex.TheVariants.{Host}
@@ -68,35 +68,41 @@ chosen-near n host depth j w f h all g c = by (cases_order (crossed w) (enough_d
     by (inr (inl l)) = l
     by (inr (inr l)) = far (omega arith)
 
--- all nodes that are begun have at most Q + D cables
-record AreNear (n : Network) (host : ℕ) (j : List Entry) : Type 0 where
-  pub near : (w : List ℤ) → IsBegun j w → crossed w < enough_depth n host
+-- all nodes that are begun have fewer than so many cables
+pub record AreNear (j : List Entry) (k : ℕ) : Type 0 where
+  pub near : (w : List ℤ) → IsBegun j w → crossed w < k
 
-near-push : (n : Network) (host depth : ℕ) (j : List Entry) (e : Entry) → HasTree j → AreNear n host j → ((w : List ℤ) → IsChosen host depth j w → crossed w < enough_depth n host) → NextAsk host depth j e.walk → AreNear n host (j ++ e ∷ [])
-near-push n host depth j e tree a chosen (first p q) = record { near = λ w b. absurd (none w b (asked-push j e (w ++ b.turn ∷ []) b.asked)) }
+near-push : (host depth k : ℕ) (j : List Entry) (e : Entry) → HasTree j → AreNear j k → ((w : List ℤ) → IsChosen host depth j w → crossed w < k) → NextAsk host depth j e.walk → AreNear (j ++ e ∷ []) k
+near-push host depth k j e tree a chosen (first p q) = record { near = λ w b. absurd (none w b (asked-push j e (w ++ b.turn ∷ []) b.asked)) }
   where
     none : (w : List ℤ) (b : IsBegun (j ++ e ∷ []) w) → (is_asked j (w ++ b.turn ∷ []) ≡ true) ⊎ (e.walk ≡ w ++ b.turn ∷ []) → ⊥
     none w b (inl r) = let s : is_asked [] (w ++ b.turn ∷ []) ≡ true = subst (λ i. is_asked i (w ++ b.turn ∷ []) ≡ true) p r in false≢true s
     none w b (inr r) = not_empty w b.turn (sym r ∙ q)
-near-push n host depth j e tree a chosen (goes_on v t c l least is) = record { near = λ w b. by w (begun-push j e v w t tree is b) }
+near-push host depth k j e tree a chosen (goes_on v t c l least is) = record { near = λ w b. by w (begun-push j e v w t tree is b) }
   where
-    by : (w : List ℤ) → IsBegun j w ⊎ (w ≡ v) → crossed w < enough_depth n host
+    by : (w : List ℤ) → IsBegun j w ⊎ (w ≡ v) → crossed w < k
     by w (inl b) = a.near w b
     by w (inr p) = a.near w (subst (IsBegun j) (sym p) c)
-near-push n host depth j e tree a chosen (begins v rest c is) = record { near = λ w b. by w (begun-push j e v w _ tree is b) }
+near-push host depth k j e tree a chosen (begins v rest c is) = record { near = λ w b. by w (begun-push j e v w (negsuc 14) tree is b) }
   where
-    by : (w : List ℤ) → IsBegun j w ⊎ (w ≡ v) → crossed w < enough_depth n host
+    by : (w : List ℤ) → IsBegun j w ⊎ (w ≡ v) → crossed w < k
     by w (inl b) = a.near w b
-    by w (inr p) = subst (λ x. crossed x < enough_depth n host) (sym p) (chosen v c)
+    by w (inr p) = subst (λ x. crossed x < k) (sym p) (chosen v c)
 
-are-near : (n : Network) (host depth : ℕ) (j : List Entry) → IsFabric n → has_vertex n (Host host) ≡ true → IsTrueJournal n host j → IsGrowing host depth j → AreNear n host j
+-- fewer than the depth, whatever the answers are
+pub are-short : (host depth : ℕ) (j : List Entry) → IsGrowing host depth j → AreNear j depth
+are-short host depth j (nothing) = record { near = λ w b. absurd (false≢true b.asked) }
+are-short host depth j (more before e g ask is) = subst (λ i. AreNear i depth) (sym is) (near-push host depth depth before e (growing-tree host depth before g) (are-short host depth before g) (λ w c. c.near) ask)
+
+-- and at most Q + D, where the answers are true
+are-near : (n : Network) (host depth : ℕ) (j : List Entry) → IsFabric n → has_vertex n (Host host) ≡ true → IsTrueJournal n host j → IsGrowing host depth j → AreNear j (enough_depth n host)
 are-near n host depth j f h all (nothing) = record { near = λ w b. absurd (false≢true b.asked) }
 are-near n host depth j f h all (more before e g ask is) =
     let first_part = (true-parts n host before (e ∷ []) (subst (IsTrueJournal n host) is all)).0 in
-    subst (AreNear n host) (sym is) (near-push n host depth before e (growing-tree host depth before g) (are-near n host depth before f h first_part g) (λ w c. chosen-near n host depth before w f h first_part g c) ask)
+    subst (λ i. AreNear i (enough_depth n host)) (sym is) (near-push host depth (enough_depth n host) before e (growing-tree host depth before g) (are-near n host depth before f h first_part g) (λ w c. chosen-near n host depth before w f h first_part g c) ask)
 
 -- a walk that was asked has no turn 0
-onward-walk : (j : List Entry) (m : ℕ) (w : List ℤ) → HasTree j → is_asked j w ≡ true → length w ≤ m → AllByRecursion IsOnward w
+pub onward-walk : (j : List Entry) (m : ℕ) (w : List ℤ) → HasTree j → is_asked j w ≡ true → length w ≤ m → AllByRecursion IsOnward w
 onward-walk j zero w tree asked l = by (by_last w)
   where
     by : ByLast w → AllByRecursion IsOnward w
@@ -111,11 +117,11 @@ onward-walk j (suc m) w tree asked l = by (by_last w) (λ v. onward-walk j m v t
         let up = tree.parent v t (subst (λ x. is_asked j x ≡ true) e asked) in
         subst (AllByRecursion IsOnward) (sym e) (all-push IsOnward v t (rest v (ap is_some up.switch) (omega arith)) up.onward)
 
--- and no more turns than the count allows
-few-turns : (n : Network) (host : ℕ) (j : List Entry) (w : List ℤ) → HasTree j → AreNear n host j → is_asked j w ≡ true → length w ≤ most_turns n host
-few-turns n host j w tree near asked = by (by_last w)
+-- and at most one turn more than the longest that is begun
+pub few-turns : (j : List Entry) (w : List ℤ) (k m : ℕ) → HasTree j → AreNear j k → k ≤ suc m → is_asked j w ≡ true → length w ≤ m
+few-turns j w k m tree near l asked = by (by_last w)
   where
-    by : ByLast w → length w ≤ most_turns n host
+    by : ByLast w → length w ≤ m
     by (empty e) = let long : length w ≡ 0 = ap length e in omega arith
     by (pushed v t e) =
         let long : length w ≡ suc (length v) = ap length e ∙ push-length v t in
@@ -133,7 +139,7 @@ few-by-count n host depth j f h all g count =
     let near = are-near n host depth j f h all g in
     let each : AllByRecursion (λ (e : Entry). is_found e.answer ≡ true → IsCounted n host (most_turns n host) e.walk) j = all-from-members (λ (e : Entry). is_found e.answer ≡ true → IsCounted n host (most_turns n host) e.walk) j (λ e m p. record {
       onward = onward-walk j (length e.walk) e.walk tree (member-asked j e m) (omega arith);
-      few = few-turns n host j e.walk tree near (member-asked j e m);
+      few = few-turns j e.walk (enough_depth n host) (most_turns n host) tree near (omega arith) (member-asked j e m);
       found = not-stuck n host e.walk (ap is_found (sym (all-member (λ (x : Entry). x.answer ≡ answer n host x.walk) e j all m)) ∙ p);
     }) in
     let few = walks_are_few n host (found_walks j) (found-once j (growing-once host depth j g)) (found-all (IsCounted n host (most_turns n host)) j each) in

@@ -1,4 +1,4 @@
--- A growing journal of true answers has a next ask, or its growth has ended by its depth.
+-- A growing journal has a next ask, or its growth has ended by its depth.
 use Rattle.std.proofs.Common.{◌≡◌, ◌≢◌, ◌<◌, ℕ, List, [], ◌∷◌, ◌++◌, length, Bool, true, false, not, ◌&&◌, Option, Some, None, sym, ◌∙◌, subst, ap, true≢false, refl, arith, ◌⊎◌, inl, inr}
 use Rattle.std.specs.Prelude.{ℤ, pos, negsuc, ◌<ℤ◌, int_lt}
 use Rattle.std.specs.Ordering.{int_eq}
@@ -12,16 +12,16 @@ use Rattle.journal_defs.specs.declared.entry.Entry.{Entry}
 use Rattle.journal_defs.specs.Walks.{IsOnward, onward_turns, turns_below, walk_below}
 use Rattle.journal_defs.specs.Tree.{Node, IsSwitchNode, answered, is_asked}
 use Rattle.journal_defs.specs.Tree.Node.{Reached}
-use Rattle.journal_defs.specs.Growth.{IsGrowing, IsBegun, IsExpanded, IsAtRest, IsLeastUnasked, HasExpanded, NextAsk, crossed}
+use Rattle.journal_defs.specs.Growth.{IsGrowing, IsBegun, IsExpanded, IsAtRest, IsLeastUnasked, IsEndedByDepth, HasExpanded, NextAsk, crossed}
 use Rattle.journal_defs.specs.Growth.NextAsk.{first, goes_on, begins}
-use Rattle.journal_defs.specs.Truth.{IsTrueJournal}
+use Rattle.journal_defs.specs.Truth.{IsTrueWhereFound}
 use Rattle.journal_defs.proofs.Members.{IsMember, member-passes}
 use Rattle.journal_defs.proofs.Order.{below-irrefl, below-trans, below-parts}
 use Rattle.journal_defs.proofs.Standing.{replicates-nodes}
+use Rattle.growth_laws.specs.Laws.{GrowthGoesOnOrEnds}
 use Rattle.growth_laws.proofs.Asks.{switch-node}
 use Rattle.growth_laws.proofs.Phases.{IsCurrent, Stage, stage, same_or_not}
 use Rattle.growth_laws.proofs.Phases.Stage.{fresh, under_way}
-use Rattle.growth_laws.proofs.Truly.{true-where}
 use Rattle.growth_laws.proofs.Full.{AreOne}
 use Rattle.growth_laws.proofs.Few.{found_walks, node-found, onward-member}
 use Rattle.growth_laws.proofs.Near.{starts}
@@ -120,11 +120,11 @@ choose host depth j c started rest = by (least (λ v w. walk_below v w ≡ true)
       lesser = λ v s b. l.lesser v (node-found j v (switch-node j v s)) b s (near v l.item b l.holds.1);
     }) refl)
 
-pub next : (n : Network) (host depth : ℕ) (j : List Entry) → IsFabric n → IsTrueJournal n host j → IsGrowing host depth j → Next host depth j
+pub next : (n : Network) (host depth : ℕ) (j : List Entry) → IsFabric n → IsTrueWhereFound n host j → IsGrowing host depth j → Next host depth j
 next n host depth j f all g = by (starts host depth j g)
   where
     at_rest : is_asked j [] ≡ true → IsAtRest j → Next host depth j
-    at_rest s rest = choose host depth j (classes n host j f (true-where n host j all)) s rest
+    at_rest s rest = choose host depth j (classes n host j f all) s rest
 
     differs : (c v : List ℤ) → walk_below v c ≡ true → v ≢ c
     differs c v b e = true≢false (sym b ∙ ap (λ u. walk_below u c) e ∙ below-irrefl c)
@@ -144,3 +144,10 @@ next n host depth j f all g = by (starts host depth j g)
     by : (j ≡ []) ⊎ (is_asked j [] ≡ true) → Next host depth j
     by (inl e) = asks [] (first e refl)
     by (inr s) = staged s (stage host depth j g)
+
+pub growth_goes_on_or_ends : GrowthGoesOnOrEnds
+growth_goes_on_or_ends n host depth j f all g kept = by (next n host depth j f all g)
+  where
+    by : Next host depth j → ((x : List ℤ) × NextAsk host depth j x) ⊎ IsEndedByDepth host depth j
+    by (asks x a) = inl (x, a)
+    by (ends s r e) = inr (record { started = s; at_rest = r; expanded = e; kept = kept })

@@ -1,17 +1,21 @@
 -- The laws of a mapper's growth: its journal is one, it is short, and the depth that suffices to close it.
-use Rattle.std.specs.Prelude.{◌≡◌, ◌⊎◌, ℕ, ◌+◌, ◌*◌, ◌≤◌, true, List, length}
+use Rattle.std.specs.Prelude.{◌≡◌, ◌⊎◌, ℕ, ◌+◌, ◌*◌, ◌≤◌, ℤ, true, List, length}
 use Rattle.net_defs.specs.declared.vertex.Vertex.TheVariants.{Host, Switch}
 use Rattle.net_defs.specs.Network.{Network, IsFabric, has_vertex}
 use Rattle.journal_defs.specs.declared.entry.Entry.{Entry}
-use Rattle.journal_defs.specs.Tree.{reached}
-use Rattle.journal_defs.specs.Truth.{IsTrueJournal}
-use Rattle.journal_defs.specs.Growth.{IsGrowing, IsGrown, IsEndedByDepth, IsEndedAtLimit, IsClosed}
+use Rattle.journal_defs.specs.Tree.{nodes, reached}
+use Rattle.journal_defs.specs.Truth.{IsTrueJournal, IsTrueWhereFound}
+use Rattle.journal_defs.specs.Growth.{NextAsk, node_limit, IsGrowing, IsGrown, IsEndedByDepth, IsEndedAtLimit, IsClosed}
 use Rattle.journal_defs.specs.Part.{IsInPart, farthest, host_distance, walk_count}
 use Rattle.journal_defs.specs.DistanceLaws.{HasHostWithin}
 
 -- Two journals of true answers that have grown to one depth are one journal.
 abbrev pub GrownJournalIsOne : Type 0
 GrownJournalIsOne = (n : Network) (host depth : ℕ) (j l : List Entry) → IsTrueJournal n host j → IsTrueJournal n host l → IsGrown host depth j → IsGrown host depth l → j ≡ l
+
+-- A growing journal whose answers are true where they found something has a next ask, or its growth has ended by its depth.
+abbrev pub GrowthGoesOnOrEnds : Type 0
+GrowthGoesOnOrEnds = (n : Network) (host depth : ℕ) (j : List Entry) → IsFabric n → IsTrueWhereFound n host j → IsGrowing host depth j → length (nodes j) ≤ node_limit → ((x : List ℤ) × NextAsk host depth j x) ⊎ IsEndedByDepth host depth j
 
 -- Over every fabric there is such a journal, for every depth.
 abbrev pub GrownJournalExists : Type 0

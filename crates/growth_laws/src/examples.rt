@@ -2,13 +2,13 @@
 
 ghost use Rattle.std.specs.Prelude.{◌≡◌};
 ghost use Rattle.net_defs.specs.Network.{IsFabric};
-ghost use Rattle.net_defs.specs.Examples.{two_hosts};
-ghost use Rattle.journal_defs.specs.Fabrics.{one_cable};
+ghost use Rattle.net_defs.specs.Examples.{two_hosts, self_cabled};
+ghost use Rattle.journal_defs.specs.Fabrics.{one_cable, parallel, line, lonely_ring, ring_of_four};
 ghost use Rattle.journal_defs.specs.Examples.{one_cable_journal, two_hosts_journal};
 ghost use Rattle.journal_defs.specs.Truth.{IsTrueJournal};
 ghost use Rattle.journal_defs.specs.Growth.{IsGrown, IsClosed};
 ghost use Rattle.growth_laws.specs.Laws.{EachSwitchHasAHost, EndsClosed, IsSmallEnough, enough_depth};
-ghost use Rattle.growth_laws.specs.Examples.{looped, unrolled, looped_journal};
+ghost use Rattle.growth_laws.specs.Examples.{looped, unrolled, looped_journal, Closes, StaysOpen};
 
 /// Two hosts on one cable: a depth of 2 is sure to suffice.
 pub fn depth_of_one_cable()
@@ -34,4 +34,20 @@ pub fn depth_of_a_loop()
     ensures true_of_the_other { IsTrueJournal unrolled 0 looped_journal }
     ensures grown { IsGrown 0 2 looped_journal }
     ensures not_closed { ¬ IsClosed 0 looped_journal }
+    ensures closed_one_deeper { Closes looped 0 3 }
+{}
+
+/// A ring of four switches with one host: to depth 4 nothing tells it from a line of seven, to depth 7 its journal is closed.
+pub fn depth_of_the_ring()
+    ensures enough { enough_depth lonely_ring 0 ≡ 7 }
+    ensures closed { Closes lonely_ring 0 7 }
+    ensures not_closed { StaysOpen lonely_ring 0 4 }
+{}
+
+/// More hosts make less depth suffice.
+pub fn depths_that_suffice()
+    ensures ring_with_hosts { (enough_depth ring_of_four 0 ≡ 6) × Closes ring_of_four 0 6 }
+    ensures in_a_line { (enough_depth line 0 ≡ 7) × Closes line 0 7 }
+    ensures two_cables { (enough_depth parallel 0 ≡ 5) × Closes parallel 0 5 }
+    ensures self_cabled_switch { (enough_depth self_cabled 0 ≡ 5) × Closes self_cabled 0 5 }
 {}

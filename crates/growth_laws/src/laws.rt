@@ -1,6 +1,6 @@
 //! The laws of a mapper's growth: each function's contract is the law, and its body is empty.
 
-ghost use Rattle.growth_laws.specs.Laws.{GrownJournalIsOne, GrownJournalExists, AsksAreFew, DepthSuffices, BoundIsTight};
+ghost use Rattle.growth_laws.specs.Laws.{GrownJournalIsOne, GrownJournalExists, GrowthGoesOnOrEnds, AsksAreFew, DepthSuffices, BoundIsTight};
 
 /// Two journals of true answers that have grown to one depth are one journal.
 pub fn grown_journal_is_one()
@@ -10,6 +10,11 @@ pub fn grown_journal_is_one()
 /// Over every fabric there is one, for every depth.
 pub fn grown_journal_exists()
     ensures { GrownJournalExists }
+{}
+
+/// A growing journal has a next ask, or its growth has ended by its depth: also where probes were lost.
+pub fn growth_goes_on_or_ends()
+    ensures { GrowthGoesOnOrEnds }
 {}
 
 /// A journal has at most 30 asks for each walk that found something, and one more.

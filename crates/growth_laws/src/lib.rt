@@ -22,7 +22,10 @@
 mod examples;
 mod laws;
 
-pub use examples::{depth_of_a_loop, depth_of_one_cable, depth_of_two_hosts};
+pub use examples::{
+    depth_of_a_loop, depth_of_one_cable, depth_of_the_ring, depth_of_two_hosts, depths_that_suffice,
+};
 pub use laws::{
     asks_are_few, bound_is_tight, depth_suffices, grown_journal_exists, grown_journal_is_one,
+    growth_goes_on_or_ends,
 };
