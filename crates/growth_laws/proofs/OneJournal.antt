@@ -1,6 +1,8 @@
--- Two journals of true answers that have grown to one depth are one.
+-- Two journals that are told alike and have grown to one depth are one.
 use Rattle.std.proofs.Common.{◌≡◌, ◌≤◌, ℕ, List, [], ◌∷◌, ◌++◌, length, Bool, true, false, sym, ◌∙◌, subst, ap, refl, arith, append_assoc, append-nil, if◌then◌else◌, ◌⊎◌, inl, inr}
+use Rattle.std.specs.Prelude.{ℤ}
 use Rattle.std.specs.List.{AllByRecursion}
+use Rattle.net_defs.specs.declared.place.Answer.{Answer}
 use Rattle.net_defs.specs.Network.{Network}
 use Rattle.net_defs.specs.Route.{answer}
 use Rattle.journal_defs.specs.declared.entry.Entry.{Entry}
@@ -10,7 +12,7 @@ use Rattle.journal_defs.specs.Truth.{IsTrueJournal}
 use Rattle.journal_defs.specs.Growth.{IsGrowing, IsGrown, IsEndedByDepth, IsEndedAtLimit, NextAsk}
 use Rattle.journal_defs.specs.Growth.IsGrowing.{nothing, more}
 use Rattle.journal_defs.proofs.Asking.{next_ask_is_unique, no_ask_at_the_end}
-use Rattle.growth_laws.specs.Laws.{GrownJournalIsOne}
+use Rattle.growth_laws.specs.Laws.{IsTold, ToldJournalIsOne, GrownJournalIsOne}
 
 -- what holds of all entries holds of those before and after
 pub all-parts : {X : Type 0} (P : X → Type 0) (xs ys : List X) → AllByRecursion P (xs ++ ys) → AllByRecursion P xs × AllByRecursion P ys
@@ -70,24 +72,46 @@ data Begins (j l : List Entry) : Type 0 where
   goes_further : (rest : List Entry) → l ≡ j ++ rest → Begins j l
   stops_before : (rest : List Entry) → j ≡ l ++ rest → Begins j l
 
-one-entry : (n : Network) (host : ℕ) (d e : Entry) → d.walk ≡ e.walk → d.answer ≡ answer n host d.walk → e.answer ≡ answer n host e.walk → d ≡ e
-one-entry n host d e p q r =
-    let a : d.answer ≡ e.answer = q ∙ ap (answer n host) p ∙ sym r in
+-- what was told of a journal was told of its beginnings
+told-part : (tell : List Entry → List ℤ → Answer) (j l rest : List Entry) → IsTold tell l → l ≡ j ++ rest → IsTold tell j
+told-part tell j l rest t is = record { told = λ before e r p. t.told before e (r ++ rest) (is ∙ ap (λ i. i ++ rest) p ∙ append_assoc before (e ∷ r) rest) }
+
+pub told-push : (tell : List Entry → List ℤ → Answer) (j : List Entry) (e : Entry) → IsTold tell j → e.answer ≡ tell j e.walk → IsTold tell (j ++ e ∷ [])
+told-push tell j e t a = record { told = λ before f r p. by before f r p (ending r) }
+  where
+    by : (before : List Entry) (f : Entry) (r : List Entry) → j ++ e ∷ [] ≡ before ++ f ∷ r → Ending r → f.answer ≡ tell before f.walk
+    by before f r p (ends_empty q) =
+        let parts = last-parts j before e f (p ∙ ap (λ x. before ++ f ∷ x) q) in
+        subst (λ (x : Entry). x.answer ≡ tell before x.walk) parts.1 (subst (λ i. e.answer ≡ tell i e.walk) parts.0 a)
+    by before f r p (ends_with ys y q) =
+        let split : j ++ e ∷ [] ≡ (before ++ f ∷ ys) ++ y ∷ [] = p ∙ ap (λ x. before ++ f ∷ x) q ∙ sym (append_assoc before (f ∷ ys) (y ∷ [])) in
+        t.told before f ys (last-parts j (before ++ f ∷ ys) e y split).0
+
+-- true answers are told by the fabric, whatever was asked before
+pub true-told : (n : Network) (host : ℕ) (j : List Entry) → IsTrueJournal n host j → IsTold (λ i w. answer n host w) j
+true-told n host j all = record { told = λ before e rest p. (true-parts n host before (e ∷ rest) (subst (IsTrueJournal n host) p all)).1.0 }
+
+pub told-true : (n : Network) (host : ℕ) (j : List Entry) → IsTold (λ i w. answer n host w) j → IsTrueJournal n host j
+told-true n host j t = by [] j refl
+  where
+    by : (before rest : List Entry) → j ≡ before ++ rest → IsTrueJournal n host rest
+    by before [] p = tt
+    by before (e ∷ rest) p = (t.told before e rest p, by (before ++ e ∷ []) rest (p ∙ sym (append_assoc before (e ∷ []) rest)))
+
+one-entry : (tell : List Entry → List ℤ → Answer) (j : List Entry) (d e : Entry) → d.walk ≡ e.walk → d.answer ≡ tell j d.walk → e.answer ≡ tell j e.walk → d ≡ e
+one-entry tell j d e p q r =
+    let a : d.answer ≡ e.answer = q ∙ ap (tell j) p ∙ sym r in
     λ i. record { walk = p i; answer = a i }
 
-begins : (n : Network) (host depth : ℕ) (j l : List Entry) → IsTrueJournal n host j → IsTrueJournal n host l → IsGrowing host depth j → IsGrowing host depth l → Begins j l
-begins n host depth j l all_j all_l (nothing) h = goes_further l refl
-begins n host depth j l all_j all_l (more before e g ask is) h = by (begins n host depth before l both.0 all_l g h)
+begins : (tell : List Entry → List ℤ → Answer) (host depth : ℕ) (j l : List Entry) → IsTold tell j → IsTold tell l → IsGrowing host depth j → IsGrowing host depth l → Begins j l
+begins tell host depth j l told_j told_l (nothing) h = goes_further l refl
+begins tell host depth j l told_j told_l (more before e g ask is) h = by (begins tell host depth before l (told-part tell before j (e ∷ []) told_j is) told_l g h)
   where
-    both : IsTrueJournal n host before × IsTrueJournal n host (e ∷ [])
-    both = true-parts n host before (e ∷ []) (subst (IsTrueJournal n host) is all_j)
-
     next : (rest : List Entry) → l ≡ before ++ rest → Begins j l
     next [] p = stops_before (e ∷ []) (is ∙ ap (λ i. i ++ e ∷ []) (sym (p ∙ append-nil before)))
     next (f ∷ rest) p =
-        let true_rest : IsTrueJournal n host (f ∷ rest) = (true-parts n host before (f ∷ rest) (subst (IsTrueJournal n host) p all_l)).1 in
         let walk : e.walk ≡ f.walk = next_ask_is_unique host depth before e.walk f.walk ask (ask-at host depth l before f rest h p) in
-        let one : e ≡ f = one-entry n host e f walk both.1.0 true_rest.0 in
+        let one : e ≡ f = one-entry tell before e f walk (told_j.told before e [] is) (told_l.told before f rest p) in
         goes_further rest (p ∙ ap (λ x. before ++ x ∷ rest) (sym one) ∙ sym (append_assoc before (e ∷ []) rest) ∙ ap (λ i. i ++ rest) (sym is))
 
     by : Begins before l → Begins j l
@@ -129,8 +153,8 @@ stops host depth j e rest g h = by g.ended h.ended
     by (inl p) q = no_ask_at_the_end host depth j e.walk ask p
     by (inr p) q = limit p q
 
-pub grown_journal_is_one : GrownJournalIsOne
-grown_journal_is_one n host depth j l all_j all_l g h = by (begins n host depth j l all_j all_l g.growing h.growing)
+pub told_journal_is_one : ToldJournalIsOne
+told_journal_is_one tell host depth j l told_j told_l g h = by (begins tell host depth j l told_j told_l g.growing h.growing)
   where
     further : (i k : List Entry) (rest : List Entry) → IsGrown host depth i → IsGrown host depth k → k ≡ i ++ rest → i ≡ k
     further i k [] a b e = sym (e ∙ append-nil i)
@@ -139,3 +163,6 @@ grown_journal_is_one n host depth j l all_j all_l g h = by (begins n host depth 
     by : Begins j l → j ≡ l
     by (goes_further rest e) = further j l rest g h e
     by (stops_before rest e) = sym (further l j rest h g e)
+
+pub grown_journal_is_one : GrownJournalIsOne
+grown_journal_is_one n host depth j l all_j all_l g h = told_journal_is_one (λ i w. answer n host w) host depth j l (true-told n host j all_j) (true-told n host l all_l) g h

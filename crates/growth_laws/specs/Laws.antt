@@ -1,7 +1,10 @@
 -- The laws of a mapper's growth: its journal is one, it is short, and the depth that suffices to close it.
-use Rattle.std.specs.Prelude.{◌≡◌, ◌⊎◌, ℕ, ◌+◌, ◌*◌, ◌≤◌, ℤ, true, List, length}
+use Rattle.std.specs.Prelude.{◌≡◌, ◌≢◌, ◌⊎◌, ℕ, ◌+◌, ◌*◌, ◌≤◌, ℤ, true, List, ◌∷◌, ◌++◌, length}
 use Rattle.net_defs.specs.declared.vertex.Vertex.TheVariants.{Host, Switch}
+use Rattle.net_defs.specs.declared.place.Answer.{Answer}
+use Rattle.net_defs.specs.declared.place.Answer.TheVariants.{Nothing}
 use Rattle.net_defs.specs.Network.{Network, IsFabric, has_vertex}
+use Rattle.net_defs.specs.Route.{answer}
 use Rattle.journal_defs.specs.declared.entry.Entry.{Entry}
 use Rattle.journal_defs.specs.Tree.{nodes, reached}
 use Rattle.journal_defs.specs.Truth.{IsTrueJournal, IsTrueWhereFound}
@@ -9,17 +12,33 @@ use Rattle.journal_defs.specs.Growth.{NextAsk, node_limit, IsGrowing, IsGrown, I
 use Rattle.journal_defs.specs.Part.{IsInPart, farthest, host_distance, walk_count}
 use Rattle.journal_defs.specs.DistanceLaws.{HasHostWithin}
 
--- Two journals of true answers that have grown to one depth are one journal.
+-- Each answer is what is told of its walk after the entries before it: by a fabric, or by a world that probes have changed.
+pub record IsTold (tell : List Entry → List ℤ → Answer) (j : List Entry) : Type 0 where
+  pub told : (before : List Entry) (e : Entry) (rest : List Entry) → j ≡ before ++ e ∷ rest → e.answer ≡ tell before e.walk
+
+-- Two journals that are told so and have grown to one depth are one journal.
+abbrev pub ToldJournalIsOne : Type 0
+ToldJournalIsOne = (tell : List Entry → List ℤ → Answer) (host depth : ℕ) (j l : List Entry) → IsTold tell j → IsTold tell l → IsGrown host depth j → IsGrown host depth l → j ≡ l
+
+-- What is told is true of a fabric wherever it finds something.
+abbrev pub TellsTruth : Network → ℕ → (List Entry → List ℤ → Answer) → Type 0
+TellsTruth n host tell = (j : List Entry) (w : List ℤ) → tell j w ≢ Nothing → tell j w ≡ answer n host w
+
+-- Then there is such a journal, for every depth.
+abbrev pub ToldJournalExists : Type 0
+ToldJournalExists = (n : Network) (host depth : ℕ) (tell : List Entry → List ℤ → Answer) → IsFabric n → TellsTruth n host tell → (j : List Entry) × IsTold tell j × IsTrueWhereFound n host j × IsGrown host depth j
+
+-- So two journals of true answers that have grown to one depth are one journal.
 abbrev pub GrownJournalIsOne : Type 0
 GrownJournalIsOne = (n : Network) (host depth : ℕ) (j l : List Entry) → IsTrueJournal n host j → IsTrueJournal n host l → IsGrown host depth j → IsGrown host depth l → j ≡ l
+
+-- And over every fabric there is one.
+abbrev pub GrownJournalExists : Type 0
+GrownJournalExists = (n : Network) (host depth : ℕ) → IsFabric n → (j : List Entry) × IsTrueJournal n host j × IsGrown host depth j
 
 -- A growing journal whose answers are true where they found something has a next ask, or its growth has ended by its depth.
 abbrev pub GrowthGoesOnOrEnds : Type 0
 GrowthGoesOnOrEnds = (n : Network) (host depth : ℕ) (j : List Entry) → IsFabric n → IsTrueWhereFound n host j → IsGrowing host depth j → length (nodes j) ≤ node_limit → ((x : List ℤ) × NextAsk host depth j x) ⊎ IsEndedByDepth host depth j
-
--- Over every fabric there is such a journal, for every depth.
-abbrev pub GrownJournalExists : Type 0
-GrownJournalExists = (n : Network) (host depth : ℕ) → IsFabric n → (j : List Entry) × IsTrueJournal n host j × IsGrown host depth j
 
 -- A journal that grows has at most 30 asks for each walk that found something, and one more.
 abbrev pub AsksAreFew : Type 0

@@ -1,15 +1,26 @@
 //! The laws of a mapper's growth: each function's contract is the law, and its body is empty.
 
-ghost use Rattle.growth_laws.specs.Laws.{GrownJournalIsOne, GrownJournalExists, GrowthGoesOnOrEnds, AsksAreFew, DepthSuffices, BoundIsTight};
+ghost use Rattle.growth_laws.specs.Laws.{
+  ToldJournalIsOne,
+  ToldJournalExists,
+  GrownJournalIsOne,
+  GrownJournalExists,
+  GrowthGoesOnOrEnds,
+  AsksAreFew,
+  DepthSuffices,
+  BoundIsTight,
+};
 
-/// Two journals of true answers that have grown to one depth are one journal.
+/// A journal that has grown to a depth is one: with true answers, and with any that are told after the entries before.
 pub fn grown_journal_is_one()
-    ensures { GrownJournalIsOne }
+    ensures told { ToldJournalIsOne }
+    ensures true_answers { GrownJournalIsOne }
 {}
 
-/// Over every fabric there is one, for every depth.
+/// There is one for every depth: over every fabric's true answers, and also where probes may be lost.
 pub fn grown_journal_exists()
-    ensures { GrownJournalExists }
+    ensures told { ToldJournalExists }
+    ensures true_answers { GrownJournalExists }
 {}
 
 /// A growing journal has a next ask, or its growth has ended by its depth: also where probes were lost.
