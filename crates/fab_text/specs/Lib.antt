@@ -1,1 +1,4 @@
+pub mod Fault
+pub mod Line
+pub mod Split
 pub mod Word

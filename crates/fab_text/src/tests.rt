@@ -1,4 +1,7 @@
-use crate::{NumFault, Word, is_name, read_turn, read_u32};
+use crate::{
+    FaultKind, LineFault, NumFault, TextFault, Word, is_name, line_count, lines, read_turn,
+    read_u32, words,
+};
 use std::test::Fail;
 
 #[test]
@@ -83,4 +86,53 @@ fn faults_say_what_is_wrong(rt: HostRuntime) -> Result<(), Fail> {
     let too_large = format!(in rt.alloc(); "{}", NumFault::TooLarge)?;
     assert_eq!(rt; too_large.as_str(), "the number is too large for its place");
     Ok(())
+}
+
+#[test]
+fn lines_are_counted_and_those_that_say_nothing_passed_over(rt: HostRuntime) {
+    let text = b"# one\n\r\n \t\nhost a\r\nb\rc\r\r\n #\nend\r";
+    let mut left = lines(text);
+    assert_eq!(rt; left.next(), Some((4, b"host a".as_slice())));
+    assert_eq!(rt; left.next(), Some((5, b"b\rc\r".as_slice())));
+    assert_eq!(rt; left.rest(), b" #\nend\r".as_slice());
+    assert_eq!(rt; left.next(), Some((7, b"end\r".as_slice())));
+    assert_eq!(rt; left.next(), None);
+    assert_eq!(rt; line_count(text), 7);
+}
+
+#[test]
+fn a_last_line_counts_without_its_end(rt: HostRuntime) {
+    for (text, want) in [
+        ("", 0),
+        ("a", 1),
+        ("a\n", 1),
+        ("a\nb", 2),
+        ("\n\n", 2),
+        ("\r", 1),
+    ] {
+        assert_eq!(rt; line_count(text.as_bytes()), want, "at {text}");
+    }
+}
+
+#[test]
+fn words_stand_between_blanks(rt: HostRuntime) {
+    let mut left = words(b" \twalk\t \x0ba  #\xff ");
+    assert_eq!(rt; left.next(), Some(b"walk".as_slice()));
+    assert_eq!(rt; left.next(), Some(b"\x0ba".as_slice()));
+    assert_eq!(rt; left.next(), Some(b"#\xff".as_slice()));
+    assert_eq!(rt; left.next(), None);
+}
+
+#[test]
+fn a_fault_of_a_line_becomes_one_of_its_text(rt: HostRuntime) {
+    let kind = FaultKind::from(NumFault::TooLarge);
+    assert_eq!(rt;
+        LineFault::Wrong(kind).at(7),
+        TextFault::At {
+            line: 7,
+            kind: FaultKind::TooLarge
+        }
+    );
+    assert_eq!(rt; LineFault::NoMemory.at(7), TextFault::NoMemory);
+    assert_eq!(rt; kind.word(), b"toolarge".as_slice());
 }
