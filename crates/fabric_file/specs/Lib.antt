@@ -1,0 +1,3 @@
+pub mod Declaring
+pub mod Printing
+pub mod Reading

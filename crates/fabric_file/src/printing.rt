@@ -1,0 +1,107 @@
+//! The text of a fabric.
+
+ghost use Rattle.std.specs.Prelude.{◌≡◌, ◌++◌, flat_map, IfOk, OnOk, IsTrue};
+ghost use Rattle.net_defs.specs.Network.{has_vertex, IsFabric};
+ghost use Rattle.fabric_file.specs.Reading.{AreNamed};
+ghost use Rattle.fabric_file.specs.Printing.{cable_words, cables_text, fabric_text, host_words, hosts_text, line_text, switch_words, switches_text, IsReadBack};
+
+use port_graph::{Cable, Fabric, Vertex};
+use std::alloc::{AllocError, Global};
+
+/// The text of a fabric up to its line `script`: its hosts, its switches and its cables, a line each, in their order.
+///
+/// Followed by a line `script` it is read back as the same fabric. Its names have the form of the text, as those of a fabric
+/// that was read have.
+pub fn print_fabric(alloc: Global, f: &Fabric) -> Result<Vec<u8>, AllocError>
+    requires fabric { IsFabric f.now }
+    requires named { AreNamed f.now }
+    ensures text { IfOk result (λ text. text.items ≡ fabric_text f.now) }
+    ensures read_back { IfOk result (λ text. IsReadBack f.now text.items) }
+{
+    let mut text = Vec::new(alloc);
+    print_hosts(f, &mut text)?;
+    print_switches(alloc, f, &mut text)?;
+    print_cables(alloc, f, &mut text)?;
+    Ok(text)
+}
+
+// A line for each host.
+fn print_hosts(f: &Fabric, text: &mut Vec<u8>) -> Result<(), AllocError>
+    ensures { OnOk result (text.new.items ≡ text.old.items ++ hosts_text f.now) }
+{
+    for host in 0..f.hosts() {
+        host_line(text, f.name_of(Vertex::Host(host)))?;
+    }
+    Ok(())
+}
+
+// A line for each switch.
+fn print_switches(alloc: Global, f: &Fabric, text: &mut Vec<u8>) -> Result<(), AllocError>
+    ensures { OnOk result (text.new.items ≡ text.old.items ++ switches_text f.now) }
+{
+    for switch in 0..f.switches() {
+        let v = Vertex::Switch(switch);
+        switch_line(alloc, text, f.name_of(v), f.ports(v))?;
+    }
+    Ok(())
+}
+
+// A line for each cable.
+fn print_cables(alloc: Global, f: &Fabric, text: &mut Vec<u8>) -> Result<(), AllocError>
+    requires { IsFabric f.now }
+    ensures { OnOk result (text.new.items ≡ text.old.items ++ cables_text f.now) }
+{
+    for k in 0..f.cables() {
+        cable_line(alloc, text, f, f.cable(k))?;
+    }
+    Ok(())
+}
+
+// `host NAME`
+fn host_line(text: &mut Vec<u8>, name: &[u8]) -> Result<(), AllocError>
+    ensures { OnOk result (text.new.items ≡ text.old.items ++ line_text (host_words name.now)) }
+{
+    append(text, &[b"host ", name, b"\n"])
+}
+
+// `switch NAME PORTS`
+fn switch_line(alloc: Global, text: &mut Vec<u8>, name: &[u8], ports: u8) -> Result<(), AllocError>
+    ensures { OnOk result (text.new.items ≡ text.old.items ++ line_text (switch_words record { name = name.now; ports = ports })) }
+{
+    let ports = ports.to_string(alloc)?;
+    append(text, &[b"switch ", name, b" ", ports.as_bytes(), b"\n"])
+}
+
+// `cable V P W Q`
+fn cable_line(alloc: Global, text: &mut Vec<u8>, f: &Fabric, c: Cable) -> Result<(), AllocError>
+    requires a { IsTrue (has_vertex f.now c.a.v) }
+    requires b { IsTrue (has_vertex f.now c.b.v) }
+    ensures { OnOk result (text.new.items ≡ text.old.items ++ line_text (cable_words f.now c)) }
+{
+    let p = c.a.p.to_string(alloc)?;
+    let q = c.b.p.to_string(alloc)?;
+    append(
+        text,
+        &[
+            b"cable ",
+            f.name_of(c.a.v),
+            b" ",
+            p.as_bytes(),
+            b" ",
+            f.name_of(c.b.v),
+            b" ",
+            q.as_bytes(),
+            b"\n",
+        ],
+    )
+}
+
+// Parts, one after another, behind a text.
+fn append(text: &mut Vec<u8>, parts: &[&[u8]]) -> Result<(), AllocError>
+    ensures { OnOk result (text.new.items ≡ text.old.items ++ flat_map (λ part. part.now) parts.now) }
+{
+    for part in parts {
+        text.extend_from_slice(part)?;
+    }
+    Ok(())
+}
