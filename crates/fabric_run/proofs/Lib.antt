@@ -1,4 +1,3 @@
 pub mod Endings
-pub mod Parts
-pub mod Splitting
+pub mod Scripts
 pub mod Writing

@@ -1,12 +1,13 @@
 -- How a run may end: its answer, what was read, and what was written.
-use Rattle.std.specs.Prelude.{◌≡◌, ◌⊎◌, ℕ, ◌≤◌, true, false, List, [], ◌∷◌, length, nat_lt, if◌then◌else◌, Option, is_some, codes}
+use Rattle.std.specs.Prelude.{◌≡◌, ◌⊎◌, ℕ, ◌≤◌, true, List, [], ◌∷◌, length, nat_lt, if◌then◌else◌, Option, Result, Ok, Err, is_ok, codes}
 use Rattle.std.specs.Io.KnownBytes.{Appends, Keeps}
 use Rattle.fab_outer.specs.Fault.{Rose}
 use Rattle.fab_outer.specs.Whole.{IsWhole, IsLonger, TakesPrefix}
-use Rattle.fab_text.specs.declared.fault.FaultKind.TheVariants.{BadWord}
+use Rattle.fab_text.specs.declared.fault.FaultKind.{FaultKind}
+use Rattle.fab_text.specs.Fault.{FirstFault}
 use Rattle.fabric_run.specs.declared.status.Status.{Status}
 use Rattle.fabric_run.specs.declared.status.Status.TheVariants.{Done, Usage, Refused, ReadFault, WriteFault, NoMemory, TooLong}
-use Rattle.fabric_run.specs.Reading.{reading}
+use Rattle.fabric_run.specs.Reading.{AcceptedText, reading}
 use Rattle.fabric_run.specs.Report.{text_due, refusal_text}
 
 -- the words that ask for a run: `run` alone
@@ -23,14 +24,20 @@ Came before now text = IsWhole before now text × (length text ≤ input_limit)
 
 -- a text is accepted
 abbrev pub IsAccepted : List ℕ → Type 0
-IsAccepted text = is_some (reading text) ≡ true
+IsAccepted text = is_ok (reading text) ≡ true
 
-abbrev pub IsRefused : List ℕ → Type 0
-IsRefused text = is_some (reading text) ≡ false
+-- a text is refused: this is the kind of its first fault, in this line
+abbrev pub IsRefused : List ℕ → ℕ → FaultKind → Type 0
+IsRefused text line kind = reading text ≡ Err (record { line = line; kind = kind })
+
+-- the answer to what was read where nothing fails
+abbrev pub answer_to : Result AcceptedText FirstFault → Status
+answer_to (Ok a) = Done
+answer_to (Err f) = Refused f.line f.kind
 
 -- The answer for a text where nothing fails: it is too long, it is accepted, or it is refused.
 abbrev pub own_answer : List ℕ → Status
-own_answer text = if nat_lt input_limit (length text) then TooLong else if is_some (reading text) then Done else Refused 0 BadWord
+own_answer text = if nat_lt input_limit (length text) then TooLong else answer_to (reading text)
 
 -- what is told of the source and the sink at a moment
 pub record Moment : Type 0 where
@@ -47,15 +54,16 @@ ReportEnds due taken now faults risen NoMemory = TakesPrefix taken now due
 ReportEnds due taken now faults risen _ = ⊥
 
 -- How the writing of a refusal may end.
-abbrev pub RefusalEnds : Option (List ℕ) → Option (List ℕ) → ℕ → ℕ → Status → Type 0
-RefusalEnds taken now faults risen (Refused line kind) = (line ≡ 0) × (kind ≡ BadWord) × Appends taken now refusal_text
-RefusalEnds taken now faults risen WriteFault = Rose faults risen × TakesPrefix taken now refusal_text
-RefusalEnds taken now faults risen _ = ⊥
+abbrev pub RefusalEnds : FirstFault → Option (List ℕ) → Option (List ℕ) → ℕ → ℕ → Status → Type 0
+RefusalEnds f taken now faults risen (Refused line kind) = (line ≡ f.line) × (kind ≡ f.kind) × Appends taken now (refusal_text f)
+RefusalEnds f taken now faults risen WriteFault = Rose faults risen × TakesPrefix taken now (refusal_text f)
+RefusalEnds f taken now faults risen NoMemory = TakesPrefix taken now (refusal_text f)
+RefusalEnds f taken now faults risen _ = ⊥
 
 -- How the work on a text that came may end.
 abbrev pub TextEnds : List ℕ → Option (List ℕ) → Option (List ℕ) → ℕ → ℕ → Status → Type 0
 TextEnds text taken now faults risen Done = IsAccepted text × Appends taken now (text_due text)
-TextEnds text taken now faults risen (Refused line kind) = IsRefused text × (line ≡ 0) × (kind ≡ BadWord) × Appends taken now (text_due text)
+TextEnds text taken now faults risen (Refused line kind) = IsRefused text line kind × Appends taken now (text_due text)
 TextEnds text taken now faults risen WriteFault = Rose faults risen × TakesPrefix taken now (text_due text)
 TextEnds text taken now faults risen NoMemory = TakesPrefix taken now (text_due text)
 TextEnds text taken now faults risen _ = ⊥

@@ -1,5 +1,3 @@
 pub mod Ends
-pub mod Fault
-pub mod Lines
 pub mod Reading
 pub mod Report

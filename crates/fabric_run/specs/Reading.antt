@@ -1,110 +1,105 @@
--- What a text says: a fabric, line by line, and then the commands of its script.
-use Rattle.std.specs.Prelude.{ℕ, ℤ, ◌&&◌, List, [], ◌∷◌, length, drop, nat_le, if◌then◌else◌, Option, Some, None, option_map, option_and_then, Result, Ok, Err, codes}
+-- What a text says: a fabric, and then the commands of its script; or its first fault.
+use Rattle.std.specs.Prelude.{◌≡◌, ℕ, ◌+◌, ℤ, Bool, false, List, [], ◌∷◌, ◌++◌, length, drop, nat_lt, if◌then◌else◌, Option, Some, None, Result, Ok, Err, Vec, codes, bytes_eq}
+use Rattle.std.specs.Option.{option_map_or}
+use Rattle.std.specs.declared.alloc.Global.{Global}
 use Rattle.net_defs.specs.declared.vertex.Vertex.{Vertex}
 use Rattle.net_defs.specs.declared.vertex.Vertex.TheVariants.{Host, Switch}
-use Rattle.net_defs.specs.declared.vertex.End.{End}
-use Rattle.net_defs.specs.Network.{Network, empty_network}
-use Rattle.net_defs.specs.Building.{vertex_named, host_refusal, switch_refusal, cable_refusal, with_host, with_switch, with_cable}
-use Rattle.net_defs.specs.Turn.{walk_refusal}
-use Rattle.fab_text.specs.Word.{name_test, u32_of, turn_of}
+use Rattle.net_defs.specs.Network.{Network}
+use Rattle.net_defs.specs.Building.{vertex_named}
+use Rattle.fab_text.specs.declared.fault.FaultKind.{FaultKind}
+use Rattle.fab_text.specs.declared.fault.FaultKind.TheVariants.{BadWord, NoVertex, NoEnd, AfterEnd}
+use Rattle.fab_text.specs.declared.fault.LineFault.{LineFault}
+use Rattle.fab_text.specs.declared.fault.LineFault.TheVariants.{Wrong, NoMemory as NoMemoryInLine}
+use Rattle.fab_text.specs.declared.fault.TextFault.{TextFault}
+use Rattle.fab_text.specs.declared.fault.TextFault.TheVariants.{At, NoMemory}
+use Rattle.fab_text.specs.Word.{name_test, turn_of}
+use Rattle.fab_text.specs.Line.{TextLine, lines_left, line_count, words_of, one_of}
+use Rattle.fab_text.specs.Fault.{FirstFault, as_kind, at_line, and_then}
+use Rattle.fabric_file.specs.declared.reading.FabricText.{FabricText}
+use Rattle.fabric_file.specs.Reading.{fabric_reading}
 use Rattle.fabric_run.specs.declared.script.Command.{Command}
 use Rattle.fabric_run.specs.declared.script.Command.TheVariants.{Walk, Finish}
-use Rattle.fabric_run.specs.Lines.{word, begins, is_line, worded}
 
--- the value where nothing refuses it
-abbrev pub unless : {X E : Type 0} → Option E → X → Option X
-unless None x = Some x
-unless (Some e) x = None
+-- what was read, behind others
+abbrev pub behind : {X E : Type 0} → List X → Result (List X) E → Result (List X) E
+behind done r = and_then r (λ more. Ok (done ++ more))
 
--- the value of what was read
-abbrev pub readable : {X E : Type 0} → Result X E → Option X
-readable (Ok x) = Some x
-readable (Err e) = None
+-- the turns that words say, or the first fault from left to right
+abbrev pub turns_of : List (List ℕ) → Result (List ℤ) FaultKind
+turns_of [] = Ok []
+turns_of (w ∷ ws) = and_then (as_kind (turn_of w)) (λ t. behind (t ∷ []) (turns_of ws))
 
--- `host NAME`
-abbrev pub host_declared : Network → List ℕ → Option Network
-host_declared n name = if name_test name then unless (host_refusal n name) (with_host n name) else None
+-- the address of a host
+abbrev pub host_address : Option Vertex → Result ℕ FaultKind
+host_address None = Err NoVertex
+host_address (Some (Host h)) = Ok h
+host_address (Some (Switch s)) = Err NoVertex
 
--- `switch NAME PORTS`
-abbrev pub switch_declared : Network → List ℕ → List ℕ → Option Network
-switch_declared n name ports =
+-- `walk H TURN ..`: the forms from left to right, and then the host
+abbrev pub walk_said : Network → List ℕ → List (List ℕ) → Result Command FaultKind
+walk_said n name words =
     if name_test name
-    then option_and_then (λ p. unless (switch_refusal n name p) (with_switch n name p)) (readable (u32_of ports))
-    else None
+    then and_then (turns_of words) (λ turns. and_then (host_address (vertex_named n name)) (λ h. Ok (Walk h turns)))
+    else Err BadWord
 
--- the port of a vertex, which is at most 15
-abbrev pub port_of : Vertex → ℕ → Option End
-port_of v p = if nat_le p 15 then Some (record { v = v; p = p }) else None
+-- a walk has up to 64 turns
+abbrev pub walk_within : Network → List ℕ → List (List ℕ) → Result Command FaultKind
+walk_within n name words = if nat_lt 64 (length words) then Err BadWord else walk_said n name words
 
--- `V P`
-abbrev pub end_named : Network → List ℕ → List ℕ → Option End
-end_named n v p = option_and_then (λ vertex. option_and_then (port_of vertex) (readable (u32_of p))) (vertex_named n v)
+abbrev pub walk_line : Network → List (List ℕ) → Result Command FaultKind
+walk_line n [] = Err BadWord
+walk_line n (name ∷ words) = walk_within n name words
 
--- `cable V P W Q`
-abbrev pub cable_joined : Network → Option End → Option End → Option Network
-cable_joined n a b = option_and_then (λ d. option_and_then (λ e. unless (cable_refusal n d e) (with_cable n d e)) b) a
+-- the command that begins with this word
+abbrev pub command_as : Network → List ℕ → List (List ℕ) → Result Command FaultKind
+command_as n first args = if bytes_eq first (codes "walk") then walk_line n args else Err BadWord
 
--- the fabric that a line of the fabric part leaves
-abbrev pub declared : Network → List (List ℕ) → Option Network
-declared n ws =
-    if is_line (codes "host") 2 ws then host_declared n (word ws 1)
-    else if is_line (codes "switch") 3 ws then switch_declared n (word ws 1) (word ws 2)
-    else if is_line (codes "cable") 5 ws then cable_joined n (end_named n (word ws 1) (word ws 2)) (end_named n (word ws 3) (word ws 4))
-    else None
+-- The command that a line of these words says, or the line's first fault.
+abbrev pub command_of : Network → List (List ℕ) → Result Command FaultKind
+command_of n [] = Err BadWord
+command_of n (first ∷ args) = command_as n first args
 
--- The fabric part: the lines before `script`, and the lines that follow.
-abbrev pub fabric_part : Network → List (List (List ℕ)) → Option (Network × List (List (List ℕ)))
-fabric_part n [] = None
-fabric_part n (ws ∷ lines) = if is_line (codes "script") 1 ws then Some (n, lines) else option_and_then (λ m. fabric_part m lines) (declared n ws)
+-- the line `end`
+abbrev pub is_end : List (List ℕ) → Bool
+is_end ws = option_map_or (λ w. bytes_eq w (codes "end")) (one_of ws) false
 
--- one before others, where both are there
-abbrev pub with_first : {X : Type 0} → Option X → Option (List X) → Option (List X)
-with_first first others = option_and_then (λ x. option_map (λ xs. x ∷ xs) others) first
+-- the last command, where nothing follows it
+abbrev pub ended : List TextLine → Result (List Command) FirstFault
+ended [] = Ok (Finish ∷ [])
+ended (l ∷ ls) = Err (record { line = l.number; kind = AfterEnd })
 
--- the turns that words say
-abbrev pub turns_of : List (List ℕ) → Option (List ℤ)
-turns_of [] = Some []
-turns_of (w ∷ ws) = with_first (readable (turn_of w)) (turns_of ws)
+-- The commands of a script, line by line, of which the last is `end`. `past` is one more than the number of the last line.
+abbrev pub script_from : ℕ → Network → List TextLine → Result (List Command) FirstFault
+script_from past n [] = Err (record { line = past; kind = NoEnd })
+script_from past n (l ∷ ls) =
+    if is_end (words_of l.bytes) then ended ls
+    else and_then (at_line l.number (command_of n (words_of l.bytes))) (λ c. behind (c ∷ []) (script_from past n ls))
 
--- the walk that words say
-abbrev pub walk_of : List (List ℕ) → Option (List ℤ)
-walk_of ws = option_and_then (λ turns. unless (walk_refusal turns) turns) (turns_of ws)
-
-abbrev pub host_of : Vertex → Option ℕ
-host_of (Host h) = Some h
-host_of (Switch s) = None
-
--- `walk H TURN ..`
-abbrev pub walk_command : Option ℕ → Option (List ℤ) → Option Command
-walk_command host walk = option_and_then (λ h. option_map (λ w. Walk h w) walk) host
-
--- the command that a line of the script says
-abbrev pub command_of : Network → List (List ℕ) → Option Command
-command_of n ws =
-    if begins (codes "walk") ws && nat_le 2 (length ws)
-    then walk_command (option_and_then host_of (vertex_named n (word ws 1))) (walk_of (drop 2 ws))
-    else None
-
--- nothing follows
-abbrev pub alone : {X : Type 0} → List (List (List ℕ)) → X → Option X
-alone [] x = Some x
-alone (ws ∷ lines) x = None
-
--- The script part: commands, of which the last is `end`. Nothing follows it.
-abbrev pub script_part : Network → List (List (List ℕ)) → Option (List Command)
-script_part n [] = None
-script_part n (ws ∷ lines) =
-    if is_line (codes "end") 1 ws then alone lines (Finish ∷ [])
-    else with_first (command_of n ws) (script_part n lines)
+-- the commands of a script that follows so many lines
+abbrev pub script_reading : Network → ℕ → List ℕ → Result (List Command) FirstFault
+script_reading n line text = script_from (line + line_count text + 1) n (lines_left (record { number = line + 1; text = text }))
 
 -- a fabric and a script for it
 pub record AcceptedText : Type 0 where
   pub network : Network
   pub commands : List Command
 
--- What a text says, where it is accepted.
-abbrev pub reading : List ℕ → Option AcceptedText
-reading text =
-    option_and_then
-    (λ part. option_map (λ commands. record { network = part.0; commands = commands }) (script_part part.0 part.1))
-    (fabric_part empty_network (worded text))
+-- what a text says whose fabric part says this
+abbrev pub reading_from : List ℕ → FabricText → Result AcceptedText FirstFault
+reading_from text t = and_then (script_reading t.fabric t.line (drop t.next text)) (λ commands. Ok (record { network = t.fabric; commands = commands }))
+
+-- What a text says, where it is accepted; or else its first fault.
+abbrev pub reading : List ℕ → Result AcceptedText FirstFault
+reading text = and_then (fabric_reading text) (reading_from text)
+
+-- The answer has exactly the items that are said of a line. Want of memory may stand in the place of any answer.
+abbrev pub LineItems : {X : Type 0} → Result (List X) FaultKind → Result (Vec X Global) LineFault → Type 0
+LineItems said (Ok v) = said ≡ Ok v.items
+LineItems said (Err (Wrong kind)) = said ≡ Err kind
+LineItems said (Err NoMemoryInLine) = Unit {0}
+
+-- the same of a text
+abbrev pub TextItems : {X : Type 0} → Result (List X) FirstFault → Result (Vec X Global) TextFault → Type 0
+TextItems said (Ok v) = said ≡ Ok v.items
+TextItems said (Err (At line kind)) = said ≡ Err (record { line = line; kind = kind })
+TextItems said (Err NoMemory) = Unit {0}

@@ -2,9 +2,10 @@
 
 ghost use Rattle.std.specs.Prelude.{◌≡◌, flat_map, IfOk};
 ghost use Rattle.net_defs.specs.Route.{IsPlaceOf};
-ghost use Rattle.fabric_run.specs.Report.{lines_text, place_text};
+ghost use Rattle.fabric_run.specs.Report.{lines_text, place_text, refusal_text};
 
 use crate::script::Command;
+use fab_text::FaultKind;
 use port_graph::{Fabric, Place, Vertex};
 use std::alloc::{AllocError, Global};
 
@@ -20,6 +21,17 @@ pub(crate) fn lines_of_command(
         Command::Walk { host, walk } => place_line(alloc, fabric, fabric.walk(*host, walk.turns())),
         Command::Finish => joined(alloc, &[b"end injected 0 dropped 0\n"]),
     }
+}
+
+/// The line of a text that isn't accepted.
+pub(crate) fn refusal_line(alloc: Global, line: u32, kind: FaultKind) -> Result<Vec<u8>, AllocError>
+    ensures { IfOk result (λ text. text.items ≡ refusal_text record { line = line; kind = kind }) }
+{
+    let number = line.to_string(alloc)?;
+    joined(
+        alloc,
+        &[b"refused ", number.as_bytes(), b" ", kind.word(), b"\n"],
+    )
 }
 
 // The line of a walk's end.

@@ -11,7 +11,7 @@ pub enum Status {
     Done,
     /// The words are none of the forms. Nothing was read or written.
     Usage,
-    /// The text isn't accepted. The line `refused LINE KIND` was taken. Line 0 doesn't tell the place.
+    /// The text isn't accepted. The line `refused LINE KIND` was taken, which tells the first fault.
     Refused { line: u32, kind: FaultKind },
     /// A read failed. Nothing was written.
     ReadFault,

@@ -9,10 +9,10 @@ use std::test::Fail;
 
 const TWO_HOSTS: &str = "host a\nhost b\nswitch s 8\ncable a 0 s 2\ncable b 0 s 5\nscript\n";
 
-const REFUSED: Status = Status::Refused {
-    line: 0,
-    kind: FaultKind::BadWord,
-};
+// The status of a text that is refused so.
+fn refused(line: u32, kind: FaultKind) -> Status {
+    Status::Refused { line, kind }
+}
 
 // Runs a text in pieces of one byte, and compares the status and what was written.
 fn expect(
@@ -64,6 +64,11 @@ fn walks_on_two_hosts(rt: HostRuntime) -> Result<(), Fail> {
             "walk host a\nwalk switch s port 2\n",
         ),
         ("end\n", ""),
+        (
+            "\n# a note\r\n \t#\n\twalk  a\t +3 \r\nend \n\n \n#",
+            "walk host b\n",
+        ),
+        ("walk b -0 -007 +0 00\nend", "walk nothing\n"),
     ] {
         let text = joined(rt.alloc(), TWO_HOSTS, script)?;
         let report = joined(rt.alloc(), written, "end injected 0 dropped 0\n")?;
@@ -73,40 +78,75 @@ fn walks_on_two_hosts(rt: HostRuntime) -> Result<(), Fail> {
 }
 
 #[test]
-fn texts_of_another_form_are_refused(rt: HostRuntime) -> Result<(), Fail> {
-    for script in [
-        "",
-        "walk a\n",
-        "walk a +16\nend\n",
-        "walk a  +3\nend\n",
-        " walk a\nend\n",
-        "walk a \nend\n",
-        "walk\ta\nend\n",
-        "walk a\r\nend\n",
-        "\nend\n",
-        "# note\nend\n",
-        "end\nx",
-        "end\n\n",
-        "walk s\nend\n",
-        "walk c\nend\n",
-        "settle\nend\n",
-        "walk\nend\n",
+fn the_first_fault_of_a_script_is_told(rt: HostRuntime) -> Result<(), Fail> {
+    for (script, line, kind, written) in [
+        ("", 7, FaultKind::NoEnd, "refused 7 noend\n"),
+        ("walk a\n", 8, FaultKind::NoEnd, "refused 8 noend\n"),
+        ("end\r", 7, FaultKind::BadWord, "refused 7 badword\n"),
+        (
+            "\nsettle x\nwalk\n",
+            8,
+            FaultKind::BadWord,
+            "refused 8 badword\n",
+        ),
+        ("end now\n", 7, FaultKind::BadWord, "refused 7 badword\n"),
+        ("walk\n", 7, FaultKind::BadWord, "refused 7 badword\n"),
+        ("walk A x\n", 7, FaultKind::BadWord, "refused 7 badword\n"),
+        (
+            "walk c x 16\n",
+            7,
+            FaultKind::NotNumber,
+            "refused 7 notnumber\n",
+        ),
+        (
+            "walk c 16 x\n",
+            7,
+            FaultKind::TooLarge,
+            "refused 7 toolarge\n",
+        ),
+        (
+            "walk c 15\n",
+            7,
+            FaultKind::NoVertex,
+            "refused 7 novertex\n",
+        ),
+        ("walk s\n", 7, FaultKind::NoVertex, "refused 7 novertex\n"),
+        (
+            "end\n#\n\nx\n",
+            10,
+            FaultKind::AfterEnd,
+            "refused 10 afterend\n",
+        ),
     ] {
         let text = joined(rt.alloc(), TWO_HOSTS, script)?;
-        expect(&rt, &text, REFUSED, b"refused 0 badword\n")?;
+        expect(&rt, &text, refused(line, kind), written.as_bytes())?;
     }
-    for text in [
-        "",
-        "host a\nhost a\nscript\nend\n",
-        "switch s 6\nscript\nend\n",
-        "switch s x\nscript\nend\n",
-        "switch s 4294967296\nscript\nend\n",
-        "host 9x\nscript\nend\n",
-        "host a\ncable a 0 s 1\nscript\nend\n",
-        "host a\ncable a 0 a 0\nscript\nend\n",
-        "host a\nhost b\ncable a 0 b 256\nscript\nend\n",
+    Ok(())
+}
+
+#[test]
+fn the_first_fault_of_a_fabric_is_told(rt: HostRuntime) -> Result<(), Fail> {
+    for (text, line, kind, written) in [
+        ("", 1, FaultKind::NoEnd, "refused 1 noend\n"),
+        (
+            "host a\n\nhost a\nscript\nend\n",
+            3,
+            FaultKind::NameTaken,
+            "refused 3 nametaken\n",
+        ),
+        (
+            "host a\ncable a 0 a 0\n",
+            2,
+            FaultKind::PortUsed,
+            "refused 2 portused\n",
+        ),
     ] {
-        expect(&rt, text.as_bytes(), REFUSED, b"refused 0 badword\n")?;
+        expect(
+            &rt,
+            text.as_bytes(),
+            refused(line, kind),
+            written.as_bytes(),
+        )?;
     }
     Ok(())
 }
@@ -151,9 +191,29 @@ fn spaces(alloc: Global, count: usize) -> Result<Vec<u8>, Fail> {
 }
 
 #[test]
+fn a_walk_has_up_to_sixty_four_turns(rt: HostRuntime) -> Result<(), Fail> {
+    let head = joined(rt.alloc(), TWO_HOSTS, "walk a +3")?;
+    for (more, status, written) in [
+        (63, Status::Done, "walk nothing\nend injected 0 dropped 0\n"),
+        (64, refused(7, FaultKind::BadWord), "refused 7 badword\n"),
+    ] {
+        let mut text = head.to_vec(rt.alloc())?;
+        for _ in 0..more {
+            text.extend_from_slice(b" 1")?;
+        }
+        text.extend_from_slice(b"\nend\n")?;
+        expect(&rt, &text, status, written.as_bytes())?;
+    }
+    Ok(())
+}
+
+#[test]
 fn the_input_has_a_limit(rt: HostRuntime) -> Result<(), Fail> {
     let words = words(rt.alloc(), &["run"])?;
-    for (count, status) in [(1048577, Status::TooLong), (1048576, REFUSED)] {
+    for (count, status) in [
+        (1048577, Status::TooLong),
+        (1048576, refused(2, FaultKind::NoEnd)),
+    ] {
         let mut input = MemSource::new(spaces(rt.alloc(), count)?, 65536, Vec::new(rt.alloc()));
         let mut out = MemSink::new(rt.alloc(), 100, Vec::new(rt.alloc()));
         let ended = run(rt.alloc(), &words, &mut input, &mut out);

@@ -1,21 +1,20 @@
 //! The top call.
 
-ghost use Rattle.std.specs.Prelude.{◌≡◌, ◌≢◌, ◌≤◌, ◌↔◌, ◌⊎◌, ℕ, List, [], ◌∷◌, codes, IfSome, IsTrue};
+ghost use Rattle.std.specs.Prelude.{◌≡◌, ◌≤◌, ◌↔◌, ◌⊎◌, ℕ, ◌+◌, ◌-◌, List, length, IfSome, IsTrue};
 ghost use Rattle.std.specs.Io.KnownBytes.{Appends, Keeps};
 ghost use Rattle.fab_outer.specs.Fault.{Rose};
 ghost use Rattle.fab_outer.specs.Whole.{IsLonger, TakesPrefix};
-ghost use Rattle.fabric_run.specs.Fault.{Gives};
+ghost use Rattle.fab_text.specs.Fault.{TextGives};
 ghost use Rattle.fabric_run.specs.Report.{report, text_due};
-ghost use Rattle.fabric_run.specs.Reading.{reading};
+ghost use Rattle.fabric_run.specs.Reading.{reading, reading_from};
 ghost use Rattle.fabric_run.specs.Ends.{IsForm, Came, IsAccepted, IsRefused, own_answer, input_limit, ReportEnds, RefusalEnds, TextEnds, InputEnds};
 
-use crate::fabric_part::read_fabric_part;
-use crate::fault::ReadFault;
-use crate::report::lines_of_command;
-use crate::script::{Command, read_script_part};
+use crate::report::{lines_of_command, refusal_line};
+use crate::script::{Command, read_script};
 use crate::status::Status;
 use fab_outer::{ReadEnd, Sink, Source, read_all, write_all};
-use fab_text::{FaultKind, Word};
+use fab_text::{FaultKind, TextFault, Word};
+use fabric_file::{FabricText, read_fabric};
 use port_graph::Fabric;
 use std::alloc::Global;
 use std::marker::Model;
@@ -41,7 +40,7 @@ impl Model for Accepted {
 /// Does what the words of a command line ask for: the one form is `run`.
 ///
 /// It reads a text to its end, and writes the report of its script, line by line as each command has run, or the one line of a
-/// text that is refused.
+/// text that is refused, which tells the first fault.
 pub fn run<S: Source, K: Sink>(alloc: Global, words: &[Word], input: &mut S, out: &mut K) -> Status
     // Exactly where the words are none of the forms, nothing is done.
     ensures usage { (result ≡ Status.Usage) ↔ (¬ IsForm words.now) }
@@ -60,7 +59,7 @@ pub fn run<S: Source, K: Sink>(alloc: Global, words: &[Word], input: &mut S, out
     ensures done { result ≡ Status.Done
         → (text : List ℕ) × Came (S.left input.old) (S.left input.new) text × IsAccepted text × Appends (K.taken out.old) (K.taken out.new) (text_due text) }
     ensures refused { (line kind : _) → result ≡ Status.Refused line kind
-        → (text : List ℕ) × Came (S.left input.old) (S.left input.new) text × IsRefused text × (line ≡ 0) × (kind ≡ FaultKind.BadWord) × Appends (K.taken out.old) (K.taken out.new) (text_due text) }
+        → (text : List ℕ) × Came (S.left input.old) (S.left input.new) text × IsRefused text line kind × Appends (K.taken out.old) (K.taken out.new) (text_due text) }
 
     // A fault is answered only where the object's count rose.
     ensures read_fault { result ≡ Status.ReadFault → Rose (S.faults input.old) (S.faults input.new) }
@@ -116,26 +115,37 @@ fn run_input<S: Source, K: Sink>(alloc: Global, input: &mut S, out: &mut K) -> S
 
 // Does what a text says.
 fn run_text<K: Sink>(alloc: Global, text: &[u8], out: &mut K) -> Status
+    requires { length text.now ≤ input_limit }
     ensures ends { TextEnds text.now (K.taken out.old) (K.taken out.new) (K.faults out.old) (K.faults out.new) result }
     ensures later { K.faults out.old ≤ K.faults out.new }
 {
     match read_text(alloc, text) {
         Ok(accepted) => write_report(alloc, &accepted, out),
-        Err(ReadFault::Refused) => write_refusal(out),
-        Err(ReadFault::NoMemory) => Status::NoMemory,
+        Err(TextFault::At { line, kind }) => write_refusal(alloc, line, kind, out),
+        Err(TextFault::NoMemory) => Status::NoMemory,
     }
 }
 
 // What a text says.
-fn read_text(alloc: Global, text: &[u8]) -> Result<Accepted, ReadFault>
-    ensures { Gives (reading text.now) result }
+fn read_text(alloc: Global, text: &[u8]) -> Result<Accepted, TextFault>
+    requires { length text.now ≤ input_limit }
+    ensures { TextGives (reading text.now) result }
 {
-    let mut fabric = Fabric::new(alloc);
-    let rest = match read_fabric_part(alloc, &mut fabric, text) {
-        Ok(rest) => rest,
-        Err(fault) => return Err(fault),
-    };
-    match read_script_part(alloc, &fabric, rest) {
+    match read_fabric(alloc, text) {
+        Ok(part) => read_rest(alloc, text, part),
+        Err(fault) => Err(fault),
+    }
+}
+
+// What a text says whose fabric was read.
+fn read_rest(alloc: Global, text: &[u8], part: FabricText) -> Result<Accepted, TextFault>
+    requires inside { part.next ≤ length text.now }
+    requires bounded { part.line + (length text.now - part.next) ≤ 4294967290 }
+    ensures { TextGives (reading_from text.now part) result }
+{
+    let FabricText { fabric, next, line } = part;
+    let (_, script) = text.split_at(next);
+    match read_script(alloc, script, line, &fabric) {
         Ok(commands) => Ok(Accepted { fabric, commands }),
         Err(fault) => Err(fault),
     }
@@ -158,15 +168,15 @@ fn write_report<K: Sink>(alloc: Global, accepted: &Accepted, out: &mut K) -> Sta
 }
 
 // Writes the line of a text that isn't accepted.
-fn write_refusal<K: Sink>(out: &mut K) -> Status
-    ensures ends { RefusalEnds (K.taken out.old) (K.taken out.new) (K.faults out.old) (K.faults out.new) result }
+fn write_refusal<K: Sink>(alloc: Global, line: u32, kind: FaultKind, out: &mut K) -> Status
+    ensures ends { RefusalEnds record { line = line; kind = kind } (K.taken out.old) (K.taken out.new) (K.faults out.old) (K.faults out.new) result }
     ensures later { K.faults out.old ≤ K.faults out.new }
 {
-    match write_all(out, b"refused 0 badword\n") {
-        Ok(_) => Status::Refused {
-            line: 0,
-            kind: FaultKind::BadWord,
-        },
+    let Ok(text) = refusal_line(alloc, line, kind) else {
+        return Status::NoMemory;
+    };
+    match write_all(out, &text) {
+        Ok(_) => Status::Refused { line, kind },
         Err(_) => Status::WriteFault,
     }
 }

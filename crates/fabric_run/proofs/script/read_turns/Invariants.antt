@@ -1,6 +1,10 @@
-use Rattle.std.proofs.Common.{◌≡◌, ◌++◌, drop, option_map}
-use Rattle.fabric_run.specs.Reading.{turns_of}
+use Rattle.std.proofs.Common.{◌≡◌, length}
+use Rattle.fab_text.specs.Line.{words_of}
+use Rattle.fabric_run.specs.Reading.{behind, turns_of}
 use Rattle.fabric_run.proofs.script.read_turns.Given as goal
 
-abbrev pub invariant-loop-at : goal.invariant-loop-at
-invariant-loop-at l = turns_of (drop 2 l.line) ≡ option_map (λ more. l.turns.items ++ more) (turns_of (drop l.at l.line))
+abbrev pub invariant-words : goal.invariant-words
+invariant-words l = turns_of (words_of l.initial.left) ≡ behind l.turns.items (turns_of (words_of l.left))
+
+abbrev pub decreases-words : goal.decreases-words
+decreases-words l = length (words_of l.left)
