@@ -1,0 +1,69 @@
+-- What is put into a buffer makes the packet; and a CRC that isn't the one due makes a difference.
+use Rattle.std.proofs.Common.{◌≡◌, ◌<◌, ◌+◌, ◌-◌, ◌*◌, ◌/◌, ◌%◌, ◌^◌, ℕ, zero, suc, true, false, Bool, ℤ, nat_eq, List, [], ◌∷◌, ◌++◌, map, length, ◌≤◌, Err, is_some, if◌then◌else◌, rules, refl, sym, ap, ◌∙◌, arith, append_assoc}
+use Rattle.std.proofs.lemmas.Bool.Decides.{Decides-eqb}
+use Rattle.std.specs.Int.{w16, to_be_bytes}
+use Rattle.std.specs.Int.Bits.{bit_xor}
+use Rattle.packet_defs.specs.declared.kind.Kind.{Kind}
+use Rattle.packet_defs.specs.declared.kind.Kind.TheVariants.{Mapping, Gm}
+use Rattle.packet_defs.specs.Crc.{crc}
+use Rattle.packet_defs.specs.RouteByte.{route_byte}
+use Rattle.packet_defs.specs.Packet.{type_of, packet_of, head_of, crc_byte, head, front_turn}
+use Rattle.packet_defs.specs.Burst.{flipped, masked}
+use Rattle.packet_defs.specs.Host.{decode, has_route, body_of}
+use Rattle.packet_defs.specs.declared.host_drop.HostDrop.TheVariants.{BadCrc, RouteLeft}
+use Rattle.packet_defs.proofs.Masks.{flipped-masked}
+use Rattle.packet_defs.proofs.Reduced.{xor_across}
+
+type_bytes : (kind : Kind) → to_be_bytes w16 (type_of kind) ≡ 0 ∷ type_of kind ∷ []
+type_bytes Mapping = refl
+type_bytes Gm = refl
+
+-- the bytes put one after another
+pub built : (route : List ℤ) (kind : Kind) (payload start routed typed filled whole : List ℕ) (number due : ℕ) → start ≡ [] → routed ≡ start ++ map route_byte route → number ≡ type_of kind → typed ≡ routed ++ to_be_bytes w16 number → filled ≡ typed ++ payload → due ≡ crc filled → whole ≡ filled ++ due ∷ [] → whole ≡ packet_of route kind payload
+built route kind payload start routed typed filled whole number due a b n c d e f =
+    let r : routed ≡ map route_byte route = b ∙ ap (λ l. l ++ map route_byte route) a in
+    let t : typed ≡ map route_byte route ++ 0 ∷ type_of kind ∷ [] = c ∙ ap (λ l. l ++ to_be_bytes w16 number) r ∙ ap (λ x. map route_byte route ++ to_be_bytes w16 x) n ∙ ap (λ l. map route_byte route ++ l) (type_bytes kind) in
+    let h : filled ≡ head_of route kind payload = d ∙ ap (λ l. l ++ payload) t ∙ append_assoc (map route_byte route) (0 ∷ type_of kind ∷ []) payload in
+    f ∙ ap (λ x. filled ++ x ∷ []) e ∙ ap (λ l. l ++ crc l ∷ []) h
+
+-- two different numbers have a sum other than 0
+pub unequal : (a b : ℕ) → (a ≡ b → ⊥) → nat_eq (bit_xor a b) 0 ≡ false
+unequal a b h = by (nat_eq (bit_xor a b) 0) refl
+  where
+    by : (t : Bool) → nat_eq (bit_xor a b) 0 ≡ t → t ≡ false
+    by true e = absurd (h (sym (xor_across 0 a b (sym ((Decides-eqb (bit_xor a b) 0).0 e)))))
+    by false e = refl
+
+-- what of a burst falls into the byte where it begins: the pattern without its last bits
+first_mask : (pattern offset : ℕ) → pattern < 256 → offset < 8 → pattern * 2 ^ (8 - offset) % 65536 / 256 ≡ pattern / 2 ^ offset
+first_mask p zero low h = omega arith
+first_mask p (suc zero) low h = omega arith
+first_mask p (suc (suc zero)) low h = omega arith
+first_mask p (suc (suc (suc zero))) low h = omega arith
+first_mask p (suc (suc (suc (suc zero)))) low h = omega arith
+first_mask p (suc (suc (suc (suc (suc zero))))) low h = omega arith
+first_mask p (suc (suc (suc (suc (suc (suc zero)))))) low h = omega arith
+first_mask p (suc (suc (suc (suc (suc (suc (suc zero))))))) low h = omega arith
+first_mask p (suc (suc (suc (suc (suc (suc (suc (suc n)))))))) low h = absurd (omega arith)
+
+-- so the two writes flip the bits
+pub two_masks : (bytes one two : List ℕ) (bit pattern wide : ℕ) → pattern < 256 → wide ≡ pattern → one ≡ masked bytes (bit / 8) (wide * 2 ^ (8 - bit % 8) % 65536 / 256) → two ≡ masked one (bit / 8 + 1) (wide * 2 ^ (8 - bit % 8) % 65536 % 256) → two ≡ flipped bytes bit pattern
+two_masks bytes one two bit pattern wide h w a b =
+    let low : bit % 8 < 8 = omega arith in
+    let m : wide * 2 ^ (8 - bit % 8) % 65536 / 256 ≡ pattern / 2 ^ (bit % 8) = ap (λ x. x * 2 ^ (8 - bit % 8) % 65536 / 256) w ∙ first_mask pattern (bit % 8) h low in
+    let spread = pattern * 2 ^ (8 - bit % 8) in
+    let rest : spread % 65536 % 256 ≡ spread % 256 = omega arith in
+    b
+    ∙ ap (λ l. masked l (bit / 8 + 1) (wide * 2 ^ (8 - bit % 8) % 65536 % 256)) (a ∙ ap (masked bytes (bit / 8)) m)
+    ∙ ap (masked (masked bytes (bit / 8) (pattern / 2 ^ (bit % 8))) (bit / 8 + 1)) (ap (λ x. x * 2 ^ (8 - bit % 8) % 65536 % 256) w ∙ rest)
+    ∙ sym (flipped-masked bytes bit pattern h)
+
+-- a packet whose CRC isn't the one due is dropped for that
+pub bad_crc : (wire : List ℕ) → (crc_byte wire ≡ crc (head wire) → ⊥) → decode wire ≡ Err BadCrc
+bad_crc wire h = ap (λ t. if t then if has_route (head wire) then Err RouteLeft else body_of (head wire) else Err BadCrc) (unequal (crc_byte wire) (crc (head wire)) h)
+
+-- a packet with a turn has a byte besides the CRC
+pub two_bytes : (wire : List ℕ) → is_some (front_turn wire) ≡ true → 2 ≤ length wire
+two_bytes [] h = absurd (search (rules, h))
+two_bytes (byte ∷ []) h = absurd (search (rules, h))
+two_bytes (byte ∷ next ∷ wire) h = omega arith

@@ -1,0 +1,48 @@
+//! Building a packet.
+
+ghost use Rattle.std.specs.Prelude.{◌≡◌, ◌≤◌, ◌++◌, map, length, IfOk, OnOk, OnErr};
+ghost use Rattle.packet_defs.specs.Packet.{packet_of, head_of, with_crc, type_of};
+ghost use Rattle.packet_defs.specs.RouteByte.{route_byte};
+
+use crate::packet::Packet;
+use crate::route_byte::route_byte;
+use bytes::{BufMut, BytesMut};
+use crc_eight::crc;
+use packet_defs::Kind;
+use std::alloc::{AllocError, Global};
+
+/// The packet of a route, a kind and a payload, with the CRC that is due. Its turns are from -15 to 15: another has no route byte, and
+/// its byte stops the packet, or turns it elsewhere.
+pub fn encode(alloc: Global, route: &[i8], kind: Kind, payload: &[u8]) -> Result<Packet, AllocError>
+    requires few { length route.now ≤ 64 }
+    requires short { length payload.now ≤ 1040 }
+    ensures { IfOk result (λ p. p ≡ packet_of route.now kind payload.now) }
+{
+    let mut bytes = BytesMut::with_capacity(alloc, route.len() + payload.len() + 3)?;
+    put_route(&mut bytes, route)?;
+    bytes.put_u16(type_number(kind))?;
+    bytes.put_slice(payload)?;
+    let due = crc(bytes.as_slice());
+    bytes.put_u8(due)?;
+    Ok(Packet::from_buffer(bytes))
+}
+
+// Puts the route bytes of turns behind what is there.
+fn put_route(bytes: &mut BytesMut, route: &[i8]) -> Result<(), AllocError>
+    ensures { OnOk result (bytes.new.items ≡ bytes.old.items ++ map route_byte route.now) }
+{
+    for turn in route {
+        bytes.put_u8(route_byte(*turn))?;
+    }
+    Ok(())
+}
+
+// The type number of a kind.
+fn type_number(kind: Kind) -> u16
+    ensures { result ≡ type_of kind }
+{
+    match kind {
+        Kind::Mapping => 0x0005,
+        Kind::Gm => 0x0008,
+    }
+}
