@@ -1,0 +1,71 @@
+//! A switch: where it sends a packet by the route byte in front, with one contract for 4, 8 and 16 ports.
+//!
+//! It holds no packet, and knows no cable. `specs/Switch.antt` of `link_defs` says where a turn leads and what is left of the packet.
+//!
+//! ```text
+//!   entry 2, turn +3            0 1 2 3 4 5 6 7       the packet leaves by port 5, without its route byte;
+//!                                   ^-----^           by 2 - 3 it would be out of range
+//! ```
+#![tactic(auto)]
+
+ghost use Rattle.std.specs.Prelude.{◌≡◌, ◌<◌, ◌≤◌};
+ghost use Rattle.net_defs.specs.Route.{leaving_port};
+ghost use Rattle.packet_defs.specs.Packet.{difference};
+ghost use Rattle.link_defs.specs.Switch.{aim, aim_of, after_aim};
+
+#[cfg(test)]
+mod tests;
+
+pub use link_defs::Turned;
+use myri_packet::Packet;
+
+/// Where a switch of P ports sends a packet that entered by a port: by the turn in front of its head. P is 4, 8 or 16.
+pub fn aim<const P: usize>(entry: u8, p: &Packet) -> Turned
+    requires entered { entry < P }
+    requires few { P ≤ 16 }
+    ensures { result ≡ aim P entry p.now }
+{
+    match p.front_turn() {
+        Some(turn) => aim_by::<P>(entry, turn),
+        None => Turned::NotRoute,
+    }
+}
+
+/// Sends a packet through a switch: it is stripped exactly where it goes out. The switch computes no CRC anew, so a difference stays.
+pub fn turn<const P: usize>(entry: u8, p: &mut Packet) -> Turned
+    requires entered { entry < P }
+    requires few { P ≤ 16 }
+    ensures aim { result ≡ aim P entry p.old }
+    ensures packet { p.new ≡ after_aim result p.old }
+    ensures difference { difference p.new ≡ difference p.old }
+{
+    let turned = aim::<P>(entry, p);
+    if let Turned::Out(_) = turned {
+        p.strip();
+    }
+    turned
+}
+
+// Where a turn leads.
+fn aim_by<const P: usize>(entry: u8, turn: i8) -> Turned
+    requires few { P ≤ 16 }
+    ensures { result ≡ aim_of P entry (Some turn) }
+{
+    match leaving_port::<P>(entry, turn) {
+        Some(port) => Turned::Out(port),
+        None => Turned::OutOfRange,
+    }
+}
+
+// The port that a turn leaves by.
+fn leaving_port<const P: usize>(entry: u8, turn: i8) -> Option<u8>
+    requires few { P ≤ 16 }
+    ensures { result ≡ leaving_port P entry turn }
+{
+    let port = i16::from(entry) + i16::from(turn);
+    if 0 <= port && port < P as i16 {
+        Some(port as u8)
+    } else {
+        None
+    }
+}
