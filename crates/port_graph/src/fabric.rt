@@ -51,6 +51,7 @@ impl Fabric {
     pub fn hosts(&self) -> u16
         ensures count { result ≡ length self.now.hosts }
         ensures bound { result ≤ 128 }
+        ensures fabric { IsFabric self.now }
     {
         self.hosts.len() as u16
     }
