@@ -1,0 +1,31 @@
+use Rattle.std.proofs.Common.{ap, ◌∙◌, subst, length, arith, Option, None}
+use Rattle.std.proofs.Math.ListN.{length-set}
+use Rattle.link_defs.specs.Links.{Held}
+use Rattle.link_defs.specs.Shape.{IsLinks}
+use Rattle.link_model.specs.State.{state}
+use Rattle.link_model.proofs.Stepping.{entering, written-links}
+use Rattle.link_model.proofs.links.Links.enter.Goals as goal
+
+pub is_full-requires : goal.is_full-requires
+is_full-requires c =
+    let low = entering c.args.self.now c.args.c c.args.next c.requires.course in
+    let links : IsLinks c.args.self.now = subst IsLinks c.self.view_is c.self.invariant in
+    let same = links.slots in
+    let view = ap (λ s. length s.channels) c.self.view_is in
+    let number = c.from.ensures in
+    omega (arith, low, same, view, number)
+
+pub put-requires-clause-there : goal.put-requires-clause-there
+put-requires-clause-there c =
+    let low = entering c.args.self.now c.args.c c.args.next c.requires.course in
+    let links : IsLinks c.args.self.now = subst IsLinks c.self.view_is c.self.invariant in
+    let same = links.slots in
+    let view = ap (λ s. length s.channels) (c.self-2.view_is ∙ c.taken-slot.ensures.links) in
+    let long = length-set {A = Option Held} c.args.self.now.channels c.args.c None in
+    let number = c.from-2.ensures in
+    omega (arith, low, same, view, long, number)
+
+pub invariant_of-self : goal.invariant_of-self
+invariant_of-self c =
+    let s = state c.self-2.inside.wiring c.self-2.inside.slots c.self-2.inside.limbo c.self-2.inside.next_serial in
+    written-links s c.put.new.self (ap length c.put.ensures ∙ length-set {A = Option Held} c.self-2.inside.slots c.from-2.result _) c.self-2.invariant

@@ -1,0 +1,3 @@
+pub mod Full
+pub mod State
+pub mod Tables

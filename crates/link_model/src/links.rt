@@ -1,0 +1,119 @@
+//! The links of a fabric: reading them, and putting packets into them.
+
+ghost use Rattle.std.specs.Prelude.{◌≡◌, ◌<◌, ◌≤◌, length, Some, option_map, option_copied, is_ok, IfOk, IfErr, IfSome};
+ghost use Rattle.net_defs.specs.Route.{channel_from};
+ghost use Rattle.link_defs.specs.Channel.{channel_count, channel_tail, channel_head};
+ghost use Rattle.link_defs.specs.Links.{empty_links, packet_in, is_idle, put};
+
+mod advance;
+mod faults;
+
+use crate::limbo::Limbo;
+use crate::slots::{Slot, Slots};
+use crate::wiring::Wiring;
+use myri_packet::Packet;
+use net_defs::End;
+use port_graph::Fabric;
+use std::alloc::{AllocError, Global};
+use std::marker::Model;
+
+/// The channel holds a packet.
+#[derive(Clone, Copy, Debug, PartialEq, Eq)]
+pub struct Occupied;
+
+/// The channels of a fabric with what they hold, and limbo. Contracts see the state of the link machine.
+///
+/// Cable k has channel 2k, from its first end to its second, and channel 2k + 1 back. A channel in an argument exists.
+#[derive(Drop)]
+pub struct Links {
+    wiring: Wiring,
+    slots: Slots,
+    limbo: Limbo,
+    next_serial: u64,
+}
+
+impl Model for Links {
+    ghost use Rattle.link_defs.specs.Links.{LinkState};
+    ghost use Rattle.link_defs.specs.Shape.{IsLinks};
+    ghost use Rattle.link_model.specs.State.{state};
+
+    ghost Value = { LinkState };
+
+    ghost view = { λ l. state l.wiring l.slots l.limbo l.next_serial };
+
+    ghost invariant = { λ l. IsLinks (state l.wiring l.slots l.limbo l.next_serial) };
+}
+
+impl Links {
+    /// The links of a fabric, without packets.
+    pub fn new(alloc: Global, f: &Fabric) -> Result<Links, AllocError>
+        ensures { IfOk result (λ l. l ≡ empty_links f.now) }
+    {
+        let wiring = Wiring::new(alloc, f)?;
+        let slots = Slots::new(alloc, wiring.channels())?;
+        Ok(Links {
+            wiring,
+            slots,
+            limbo: Limbo::new(alloc),
+            next_serial: 0,
+        })
+    }
+
+    /// The number of channels.
+    pub fn channels(&self) -> u16
+        ensures count { result ≡ length self.now.channels }
+        ensures same { result ≡ channel_count self.now.net }
+        ensures few { result ≤ 1152 }
+    {
+        self.wiring.channels() as u16
+    }
+
+    /// The channel that leaves by an end; none where no cable ends there.
+    pub fn channel_from(&self, e: End) -> Option<u16>
+        ensures channel { result ≡ channel_from self.now.net e }
+        ensures there { IfSome result (λ c. c < length self.now.channels) }
+    {
+        self.wiring.channel_from(e)
+    }
+
+    /// The ends that a channel leaves and enters.
+    pub fn ends(&self, c: u16) -> (End, End)
+        requires { c < length self.now.channels }
+        ensures tail { channel_tail self.now.net c ≡ Some result.0 }
+        ensures head { channel_head self.now.net c ≡ Some result.1 }
+    {
+        (self.wiring.tail(c), self.wiring.head(c))
+    }
+
+    /// The packet in a channel.
+    pub fn peek(&self, c: u16) -> Option<&Packet>
+        requires { c < length self.now.channels }
+        ensures { option_copied result ≡ option_map (λ held. held.wire) (packet_in self.now c) }
+    {
+        match self.slots.peek(usize::from(c)) {
+            Some(slot) => Some(slot.packet()),
+            None => None,
+        }
+    }
+
+    /// Whether no channel holds a packet. It looks at a count, and at no channel.
+    pub fn idle(&self) -> bool
+        ensures { result ≡ is_idle self.now }
+    {
+        self.slots.are_empty()
+    }
+
+    /// Puts a new packet into a channel. Refused exactly where the channel holds one; the packet is handed back.
+    pub fn put(&mut self, c: u16, p: Packet) -> Result<(), (Packet, Occupied)>
+        requires { c < length self.old.channels }
+        ensures done { is_ok result ≡ (put self.old c p).0 }
+        ensures links { self.new ≡ (put self.old c p).1 }
+        ensures back { IfErr result (λ e. e.0 ≡ p) }
+    {
+        if self.slots.is_full(usize::from(c)) {
+            return Err((p, Occupied));
+        }
+        self.slots.put(usize::from(c), Slot::new(p));
+        Ok(())
+    }
+}

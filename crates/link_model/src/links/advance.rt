@@ -1,0 +1,79 @@
+//! One step of a channel.
+
+ghost use Rattle.std.specs.Prelude.{◌≡◌, ◌<◌, length, Some, IsSome, option_map};
+ghost use Rattle.link_defs.specs.Links.{packet_in, emptied};
+ghost use Rattle.link_defs.specs.Advance.{advance, course};
+
+use super::Links;
+use crate::slots::Slot;
+use link_defs::{Course, Moved};
+use myri_packet::Packet;
+
+impl Links {
+    /// One step of a channel: its packet goes on through a switch, to its host, or nowhere. `Blocked` where the next channel holds another
+    /// packet; the next channel may be the channel itself. It takes no memory.
+    pub fn advance(&mut self, c: u16) -> Moved<Packet>
+        requires { c < length self.old.channels }
+        ensures moved { result ≡ (advance self.old c).0 }
+        ensures links { self.new ≡ (advance self.old c).1 }
+    {
+        match self.course_of(c) {
+            Some(course) => self.go(c, course),
+            None => Moved::Empty,
+        }
+    }
+
+    // Where a channel's packet goes.
+    fn course_of(&self, c: u16) -> Option<Course>
+        requires { c < length self.now.channels }
+        ensures { result ≡ option_map (λ held. course self.now.net c held.wire) (packet_in self.now c) }
+    {
+        match self.slots.peek(usize::from(c)) {
+            Some(slot) => Some(self.wiring.course(c, slot.packet())),
+            None => None,
+        }
+    }
+
+    // A channel's packet goes there.
+    fn go(&mut self, c: u16, to: Course) -> Moved<Packet>
+        requires there { c < length self.old.channels }
+        requires course { option_map (λ held. course self.old.net c held.wire) (packet_in self.old c) ≡ Some to }
+        ensures moved { result ≡ (advance self.old c).0 }
+        ensures links { self.new ≡ (advance self.old c).1 }
+    {
+        match to {
+            Course::Enters(next) => self.enter(c, next),
+            Course::Arrives(h) => Moved::AtHost(h, self.taken(c).into_packet()),
+            Course::Drops(why) => {
+                let _ = self.taken(c);
+                Moved::Dropped(why)
+            }
+        }
+    }
+
+    // A channel's packet enters the next channel, if that is empty or the channel itself.
+    fn enter(&mut self, c: u16, next: u16) -> Moved<Packet>
+        requires there { c < length self.old.channels }
+        requires course { option_map (λ held. course self.old.net c held.wire) (packet_in self.old c) ≡ Some (Course.Enters next) }
+        ensures moved { result ≡ (advance self.old c).0 }
+        ensures links { self.new ≡ (advance self.old c).1 }
+    {
+        if next != c && self.slots.is_full(usize::from(next)) {
+            return Moved::Blocked(next);
+        }
+        let mut slot = self.taken(c);
+        slot.strip();
+        self.slots.put(usize::from(next), slot);
+        Moved::To(next)
+    }
+
+    // Takes the packet of a full channel.
+    fn taken(&mut self, c: u16) -> Slot
+        requires there { c < length self.old.channels }
+        requires full { IsSome (packet_in self.old c) }
+        ensures slot { packet_in self.old c ≡ Some result }
+        ensures links { self.new ≡ emptied self.old c }
+    {
+        self.slots.take(usize::from(c)).unwrap()
+    }
+}
