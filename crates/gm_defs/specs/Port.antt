@@ -3,7 +3,7 @@
 use Rattle.std.specs.Prelude.{ℕ, Bool, ◌||◌, List, [], ◌∷◌, ◌++◌, length, drop, find, nat_eq, nat_lt, slice_get, if◌then◌else◌, Option, Some, None}
 use Rattle.gm_defs.specs.declared.frame.FrameHead.{FrameHead}
 use Rattle.gm_defs.specs.Body.{message_limit}
-use Rattle.gm_defs.specs.Token.{room, fits, Sending, Provided, PortEvent, Sent, Received, PortState, fitting}
+use Rattle.gm_defs.specs.Token.{fits, Sending, Provided, PortEvent, Sent, Received, PortState, fitting}
 
 -- the first that passes a test is taken out
 abbrev pub without_first : {A : Type 0} → (A → Bool) → List A → List A
