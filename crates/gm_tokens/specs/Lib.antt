@@ -1,0 +1,2 @@
+pub mod Minted
+pub mod Token
