@@ -1,0 +1,6 @@
+pub mod Tables
+pub mod Tickets
+pub mod Queue
+pub mod Owner
+pub mod Listed
+pub mod Ports

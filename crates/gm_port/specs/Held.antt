@@ -1,0 +1,75 @@
+-- What the parts of a port hold, as contracts see them.
+use Rattle.std.specs.Prelude.{◌≡◌, ℕ, List, find, nat_eq, slice_index_or, Option, Some, None}
+use Rattle.gm_defs.specs.Token.{Sending, Provided, PortEvent, Sent, Received}
+use Rattle.gm_defs.specs.Port.{without_first}
+use Rattle.gm_tokens.specs.Token.{Token, token_at}
+use Rattle.gm_port.specs.declared.event.PortEvent.{PortEvent as Event}
+use Rattle.gm_port.specs.declared.event.PortEvent.TheVariants.{Sent as SentEvent, Received as ReceivedEvent}
+use Rattle.gm_port.specs.declared.event.ProvidedToken.{ProvidedToken}
+
+-- The unfinished sends of a port: whose tokens they are, how many there may be, the sends by the rising numbers of their tokens, and the
+-- number of the token at each ticket.
+pub record Sends : Type 0 where
+  pub host : ℕ
+  pub port : ℕ
+  pub limit : ℕ
+  pub sends : List Sending
+  pub tickets : List (Option ℕ)
+
+-- The provided tokens of a port, first provided first.
+pub record Buffers : Type 0 where
+  pub host : ℕ
+  pub port : ℕ
+  pub limit : ℕ
+  pub provided : List Provided
+
+-- The events of a port, first put in first.
+pub record Events : Type 0 where
+  pub host : ℕ
+  pub port : ℕ
+  pub limit : ℕ
+  pub events : List PortEvent
+
+-- the number of the token at a ticket
+abbrev pub number_at : List (Option ℕ) → ℕ → Option ℕ
+number_at tickets ticket = slice_index_or tickets ticket None
+
+-- A ticket was given out: it was free, it stands for this token, and every other ticket stands for what it did.
+pub record IsGiven (old new : List (Option ℕ)) (ticket token : ℕ) : Type 0 where
+  pub free : number_at old ticket ≡ None
+  pub stands : number_at new ticket ≡ Some token
+  pub others : (other : ℕ) → (other ≡ ticket → ⊥) → number_at new other ≡ number_at old other
+
+-- the send of a token, and the others, where there is a token
+abbrev pub send_by : List Sending → Option ℕ → Option Sending
+send_by ss None = None
+send_by ss (Some token) = find (λ s. nat_eq s.token token) ss
+
+abbrev pub without_send : List Sending → Option ℕ → List Sending
+without_send ss None = ss
+without_send ss (Some token) = without_first (λ s. nat_eq s.token token) ss
+
+-- a send as its token with its buffer
+abbrev pub send_at : ℕ → ℕ → Sending → Token × List ℕ
+send_at host port s = (token_at host port s.token, s.buffer)
+
+-- a provided token with its buffer, and alone
+abbrev pub provided_at : ℕ → ℕ → Provided → ProvidedToken
+provided_at host port r = record { token = token_at host port r.token; buffer = r.buffer; size = r.size; prio = r.prio }
+
+abbrev pub receive_at : ℕ → ℕ → Provided → Token × List ℕ
+receive_at host port r = (token_at host port r.token, r.buffer)
+
+-- a provided token by its number
+abbrev pub provided_of : ProvidedToken → Provided
+provided_of r = record { token = r.token.number; size = r.size; prio = r.prio; buffer = r.buffer }
+
+-- an event with its token
+abbrev pub event_at : ℕ → ℕ → PortEvent → Event
+event_at host port (Sent t b) = SentEvent (token_at host port t) b
+event_at host port (Received t b from sport prio len) = ReceivedEvent (token_at host port t) b from sport prio len
+
+-- an event by the number of its token
+abbrev pub event_of : Event → PortEvent
+event_of (SentEvent t b) = Sent t.number b
+event_of (ReceivedEvent t b from sport prio len) = Received t.number b from sport prio len

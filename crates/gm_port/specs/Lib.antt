@@ -1,0 +1,5 @@
+pub mod Held
+pub mod Lists
+pub mod Opened
+pub mod Refusal
+pub mod Table

@@ -1,0 +1,55 @@
+-- The table of a port's unfinished sends: a place for each token, by its number.
+use Rattle.std.specs.Prelude.{◌≡◌, ℕ, suc, ◌≤◌, Bool, true, false, List, [], ◌∷◌, length, Option, Some, None, is_some, Vec, vec_capacity, map}
+use Rattle.std.specs.List.{AllByRecursion}
+use Rattle.std.specs.declared.alloc.Global.{Global}
+use Rattle.slab.specs.Slab.{Slab, slab_len}
+use Rattle.gm_defs.specs.Token.{Sending, has_number}
+use Rattle.gm_tokens.specs.Token.{Token, token_at}
+use Rattle.gm_port.specs.Held.{number_at}
+
+abbrev pub Place : Type 0
+Place = Option (Token × List ℕ)
+
+-- the sends of a table, by rising number
+abbrev pub sends_of : List Place → List Sending
+sends_of [] = []
+sends_of (None ∷ ps) = sends_of ps
+sends_of (Some e ∷ ps) = record { token = e.0.number; buffer = e.1 } ∷ sends_of ps
+
+-- from this number on, each place has the token of its number or none
+abbrev pub IsTable : ℕ → ℕ → ℕ → List Place → Type 0
+IsTable host port k [] = Unit {0}
+IsTable host port k (None ∷ ps) = IsTable host port (suc k) ps
+IsTable host port k (Some e ∷ ps) = (e.0 ≡ token_at host port k) × IsTable host port (suc k) ps
+
+-- the table's tokens with their buffers, by rising number
+abbrev pub held_in : List Place → List (Token × List ℕ)
+held_in [] = []
+held_in (None ∷ ps) = held_in ps
+held_in (Some e ∷ ps) = e ∷ held_in ps
+
+-- each place is free
+abbrev pub AreFree : List Place → Type 0
+AreFree ps = AllByRecursion (λ p. p ≡ None) ps
+
+-- a place has a token
+abbrev pub is_held : Option Place → Bool
+is_held None = false
+is_held (Some p) = is_some p
+
+abbrev pub sending_numbers : List Sending → List ℕ
+sending_numbers ss = map (λ s. s.token) ss
+
+-- Each ticket stands for an unfinished send, no two for one, and each send has one.
+pub record AreTickets (sends : List Sending) (tickets : Slab ℕ) : Type 0 where
+  pub held : (ticket token : ℕ) → number_at tickets.slots ticket ≡ Some token → has_number (sending_numbers sends) token ≡ true
+  pub one_each : (ticket other token : ℕ) → number_at tickets.slots ticket ≡ Some token → number_at tickets.slots other ≡ Some token → ticket ≡ other
+  pub counted : slab_len tickets ≡ length sends
+
+-- The table with its tickets, and room for all of them and for the list in which they are handed back.
+pub record IsQueue (host port : ℕ) (places : List Place) (tickets : Slab ℕ) (listed : Vec (Token × List ℕ) Global) : Type 0 where
+  pub table : IsTable host port 0 places
+  pub ticketed : AreTickets (sends_of places) tickets
+  pub ticket_room : length places ≤ tickets.capacity
+  pub none_listed : listed.items ≡ []
+  pub list_room : length places ≤ vec_capacity listed
