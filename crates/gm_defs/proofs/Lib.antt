@@ -1,2 +1,5 @@
+pub mod Bodies
+pub mod Fronts
+pub mod Mappings
 pub mod Pieces
 pub mod Sizes

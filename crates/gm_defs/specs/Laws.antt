@@ -1,5 +1,5 @@
 -- What holds of every body, every connection and every message.
-use Rattle.std.specs.Prelude.{◌≡◌, ◌↔◌, ℕ, ◌<◌, ◌≤◌, ◌^◌, true, false, nat_eq, List, [], ◌∷◌, length, Some, None, Ok}
+use Rattle.std.specs.Prelude.{◌≡◌, ◌↔◌, ℕ, ◌<◌, ◌≤◌, ◌^◌, true, false, nat_eq, List, [], ◌∷◌, length, slice_index, Some, None, Ok}
 use Rattle.std.specs.List.{AllByRecursion, list_any}
 use Rattle.gm_defs.specs.declared.message.Message.{Message}
 use Rattle.gm_defs.specs.declared.frame.FrameHead.{FrameHead}
@@ -7,6 +7,7 @@ use Rattle.gm_defs.specs.declared.frame.Ack.{Ack}
 use Rattle.gm_defs.specs.declared.frame.GmBody.TheVariants.{Frame, Ack as Acknowledges}
 use Rattle.gm_defs.specs.Fragment.{pieces, joined}
 use Rattle.gm_defs.specs.Body.{piece, is_head, frame_bytes, ack_bytes, part_in, decode, number_limit}
+use Rattle.gm_defs.specs.Mapping.{MappingBody, mapping_bytes, is_mapping, decode_mapping}
 use Rattle.gm_defs.specs.Connection.{SenderState, IsSender, starting, due, sent_one, acknowledged, expired, is_spent, offered}
 use Rattle.gm_defs.specs.Token.{sizes, room, size_for_length}
 
@@ -19,6 +20,41 @@ FrameIsRead =
 -- and so is an acknowledgement
 abbrev pub AckIsRead : Type 0
 AckIsRead = (a : Ack) → a.src < 2 ^ 16 → a.dst < 2 ^ 16 → a.next < 2 ^ 32 → decode (ack_bytes a) ≡ Ok (Acknowledges a)
+
+-- each number is a byte
+abbrev pub AreBytes : List ℕ → Type 0
+AreBytes bytes = (i : ℕ) → slice_index bytes i < 256
+
+-- A body that is read as a frame: it is that head's bytes and then its fragment's, and the head is by the rules.
+pub record IsWrittenFrame (body : List ℕ) (h : FrameHead) : Type 0 where
+  pub written : body ≡ frame_bytes h (part_in body)
+  pub by_rules : is_head h ≡ true
+  pub part_length : length (part_in body) ≡ h.len
+  pub src_fits : h.src < 2 ^ 16
+  pub dst_fits : h.dst < 2 ^ 16
+
+-- what is read as a frame was written so
+abbrev pub FrameWasWritten : Type 0
+FrameWasWritten = (body : List ℕ) (h : FrameHead) → AreBytes body → decode body ≡ Ok (Frame h) → IsWrittenFrame body h
+
+-- A body that is read as an acknowledgement.
+pub record IsWrittenAck (body : List ℕ) (a : Ack) : Type 0 where
+  pub written : body ≡ ack_bytes a
+  pub src_fits : a.src < 2 ^ 16
+  pub dst_fits : a.dst < 2 ^ 16
+  pub next_fits : a.next < 2 ^ 32
+
+-- and what is read as an acknowledgement was
+abbrev pub AckWasWritten : Type 0
+AckWasWritten = (body : List ℕ) (a : Ack) → AreBytes body → decode body ≡ Ok (Acknowledges a) → IsWrittenAck body a
+
+-- a body of the mapper's protocol that is by the rules is read as what it is
+abbrev pub MappingIsRead : Type 0
+MappingIsRead = (b : MappingBody) → is_mapping b ≡ true → decode_mapping (mapping_bytes b) ≡ Some b
+
+-- and what is read as one was written so, by the rules
+abbrev pub MappingWasWritten : Type 0
+MappingWasWritten = (bytes : List ℕ) (b : MappingBody) → AreBytes bytes → decode_mapping bytes ≡ Some b → (bytes ≡ mapping_bytes b) × (is_mapping b ≡ true)
 
 -- a new connection has its numbers in order
 abbrev pub StartingIsSender : Type 0

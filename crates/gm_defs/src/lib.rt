@@ -31,6 +31,9 @@ pub use examples::{
     ports_after_calls, sizes_of_tokens,
 };
 pub use frame::{Ack, FrameHead, GmBody, Malformed};
-pub use laws::{bodies_are_read, messages_of_pieces, senders_stay, sizes_are_least};
+pub use laws::{
+    bodies_are_read, bodies_were_written, mapping_is_read, messages_of_pieces, senders_stay,
+    sizes_are_least,
+};
 pub use message::Message;
 pub use token::{TokenPlace, Took};
