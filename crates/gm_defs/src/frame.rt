@@ -40,3 +40,12 @@ pub enum GmBody {
 /// Bytes that are no body.
 #[derive(Clone, Copy, Debug, PartialEq, Eq)]
 pub struct Malformed;
+
+/// Which connection: from one host to another.
+#[derive(Clone, Copy, Debug, PartialEq, Eq)]
+pub struct ConnectionKey {
+    /// The host that sends frames.
+    pub src: u16,
+    /// The host that takes and acknowledges them.
+    pub dst: u16,
+}

@@ -30,7 +30,7 @@ pub use examples::{
     bodies_of_frames, bodies_of_mapping, numbers_of_a_connection, pieces_of_messages,
     ports_after_calls, sizes_of_tokens,
 };
-pub use frame::{Ack, FrameHead, GmBody, Malformed};
+pub use frame::{Ack, ConnectionKey, FrameHead, GmBody, Malformed};
 pub use laws::{
     bodies_are_read, bodies_were_written, mapping_is_read, messages_of_pieces, senders_stay,
     sizes_are_least,
