@@ -1,0 +1,9 @@
+use Rattle.std.proofs.Common.{◌≡◌, ◌∙◌, ap, arith}
+use Rattle.std.proofs.lemmas.Grind.{common_steps}
+use Rattle.gm_defs.specs.Body.{ack_bytes, decode}
+use Rattle.gm_frame.proofs.writing.encode_ack.Goals as goal
+
+pub returns-clause-read : goal.returns-clause-read
+returns-clause-read c =
+    let written : c.extend_from_slice.new.self.items ≡ ack_bytes c.args.a.now = grind (arith, common_steps) in
+    ap decode written ∙ c.bodies_are_read.ensures.acknowledgement c.args.a.now c.bytes_of_ack.ensures.fit.0 c.bytes_of_ack.ensures.fit.1 c.bytes_of_ack.ensures.fit.2

@@ -1,0 +1,22 @@
+//! Which connection a body belongs to.
+
+ghost use Rattle.std.specs.Prelude.{◌≡◌};
+ghost use Rattle.gm_defs.specs.Connection.{key_of};
+
+use gm_defs::{ConnectionKey, GmBody};
+
+/// The connection of a frame goes from its sender to its receiver; that of an acknowledgement the other way.
+pub fn key_of(body: &GmBody) -> ConnectionKey
+    ensures { result ≡ key_of body.now }
+{
+    match body {
+        GmBody::Frame(h) => ConnectionKey {
+            src: h.src,
+            dst: h.dst,
+        },
+        GmBody::Ack(a) => ConnectionKey {
+            src: a.dst,
+            dst: a.src,
+        },
+    }
+}
