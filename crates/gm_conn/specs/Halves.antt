@@ -1,0 +1,124 @@
+-- The two halves of a connection, as their contracts see them. Their numbers and their rules are those of `gm_defs`.
+use Rattle.std.specs.Prelude.{◌≡◌, ℕ, ◌+◌, ◌-◌, ◌≤◌, Bool, true, ◌&&◌, nat_lt, nat_le, List, [], ◌∷◌, ◌++◌, map, length, replicate, slice_get, drop, if◌then◌else◌, Option, Some, None, option_map}
+use Rattle.std.specs.Prelude.{option_and_then}
+use Rattle.std.specs.List.{AllByRecursion}
+use Rattle.gm_defs.specs.declared.message.Message.{Message}
+use Rattle.gm_defs.specs.declared.frame.Ack.{Ack}
+use Rattle.gm_defs.specs.declared.frame.FrameHead.{FrameHead}
+use Rattle.gm_defs.specs.Body.{message_limit}
+use Rattle.gm_defs.specs.Fragment.{fragments, piece_count, whole_below, head_of}
+use Rattle.gm_defs.specs.Connection.{SenderState, IsSender, due, acknowledged, is_spent, offered}
+use Rattle.gm_conn.specs.declared.desc.Desc.{Desc}
+use Rattle.gm_conn.specs.declared.desc.Due.{Due}
+use Rattle.gm_conn.specs.declared.refusal.OfferRefusal.{OfferRefusal}
+use Rattle.gm_conn.specs.declared.refusal.OfferRefusal.TheVariants.{Spent}
+
+-- A sender: its connection, its numbers, the descriptors that were offered and not taken out again, oldest first, and the room that was made for more.
+pub record Outgoing : Type 0 where
+  pub src : ℕ
+  pub dst : ℕ
+  pub numbers : SenderState
+  pub waiting : List Desc
+  pub spare : ℕ
+
+-- A receiver: its connection, and how many fragments it has taken.
+pub record Incoming : Type 0 where
+  pub src : ℕ
+  pub dst : ℕ
+  pub taken : ℕ
+
+-- a sender by its fields
+abbrev pub outgoing : ℕ → ℕ → SenderState → List Desc → ℕ → Outgoing
+outgoing src dst numbers waiting spare = record { src = src; dst = dst; numbers = numbers; waiting = waiting; spare = spare }
+
+-- a descriptor of a message by the rules
+abbrev pub is_desc : Desc → Bool
+is_desc d = nat_lt d.sport 8 && nat_lt d.dport 8 && nat_lt d.prio 2 && nat_le d.total message_limit
+
+-- the message that a descriptor stands for: its bytes are elsewhere, and count as zeros here
+abbrev pub message_of : Desc → Message
+message_of d = record { sport = d.sport; dport = d.dport; prio = d.prio; body = replicate d.total 0 }
+
+abbrev pub messages : Outgoing → List Message
+messages w = map message_of w.waiting
+
+-- the number of the first fragment of the oldest descriptor
+abbrev pub first : Outgoing → ℕ
+first w = w.numbers.next - length (fragments (messages w))
+
+-- the frame of a number, without its bytes, and the ticket of the descriptor that it is of
+abbrev pub due_at : Outgoing → ℕ → Option Due
+due_at w n =
+    option_and_then
+    (λ f. option_map (λ d. record { head = head_of w.src w.dst n f; ticket = d.ticket }) (slice_get w.waiting (whole_below (messages w) (n - first w))))
+    (slice_get (fragments (messages w)) (n - first w))
+
+-- the fragment that is due
+abbrev pub due_frame : Outgoing → Option Due
+due_frame w = option_and_then (λ n. due_at w n) (due w.numbers)
+
+-- how many of the waiting messages are finished: all their fragments are acknowledged
+abbrev pub finished : Outgoing → ℕ
+finished w = whole_below (messages w) (w.numbers.base - first w)
+
+-- an acknowledgement arrives
+abbrev pub heard_ack : Outgoing → ℕ → Outgoing
+heard_ack w n = record w { numbers = acknowledged w.numbers n }
+
+-- the oldest descriptor, where its message is finished, and the sender without it
+abbrev pub oldest_finished : Outgoing → Option Desc
+oldest_finished w = if nat_lt 0 (finished w) then slice_get w.waiting 0 else None
+
+abbrev pub without_finished : Outgoing → Outgoing
+without_finished w = if nat_lt 0 (finished w) then record w { waiting = drop 1 w.waiting; spare = w.spare + 1 } else w
+
+-- a message is offered
+abbrev pub with_offer : Outgoing → Desc → Outgoing
+with_offer w d = record w { numbers = offered w.numbers (piece_count d.total); waiting = w.waiting ++ d ∷ []; spare = w.spare - 1 }
+
+-- the head of a message's only frame
+abbrev pub head_for : ℕ → ℕ → ℕ → Desc → FrameHead
+head_for src dst seq d = record {
+  src = src;
+  dst = dst;
+  sport = d.sport;
+  dport = d.dport;
+  prio = d.prio;
+  seq = seq;
+  total = d.total;
+  offset = 0;
+  len = d.total;
+}
+
+-- a message is refused where it needs a number above the greatest
+abbrev pub offer_refusal : Outgoing → ℕ → Option OfferRefusal
+offer_refusal w total = if is_spent w.numbers (piece_count total) then Some Spent else None
+
+-- What a sender keeps: its numbers are in order, and each message of which not all is acknowledged waits.
+pub record IsOutgoing (w : Outgoing) : Type 0 where
+  pub sender : IsSender w.numbers
+  pub counted : length w.waiting ≤ w.numbers.next
+  pub waits : w.numbers.next - length w.waiting ≤ w.numbers.base
+  pub by_rules : AllByRecursion (λ d. is_desc d ≡ true) w.waiting
+
+-- the acknowledgement that a receiver owes: of the next number, back to the sender
+abbrev pub ack_of : Incoming → Ack
+ack_of r = record { src = r.dst; dst = r.src; next = r.taken }
+
+-- A descriptor is of a message.
+pub record Describes (d : Desc) (m : Message) : Type 0 where
+  pub sport : d.sport ≡ m.sport
+  pub dport : d.dport ≡ m.dport
+  pub prio : d.prio ≡ m.prio
+  pub total : d.total ≡ length m.body
+
+-- descriptors are of messages, one by one
+abbrev pub AreOf : List Desc → List Message → Type 0
+AreOf [] [] = Unit {0}
+AreOf [] (m ∷ ms) = ⊥
+AreOf (d ∷ ds) [] = ⊥
+AreOf (d ∷ ds) (m ∷ ms) = Describes d m × AreOf ds ms
+
+-- the descriptors that wait are of the last messages that were sent
+abbrev pub WaitsFor : Outgoing → List Message → Type 0
+WaitsFor w sent = AreOf w.waiting (drop (w.numbers.next - length w.waiting) sent)

@@ -1,0 +1,19 @@
+-- What holds of every sender, and of every pair after every list of events.
+use Rattle.std.specs.Prelude.{◌≡◌, ℕ, List, slice_get, Some}
+use Rattle.std.specs.List.{AllByRecursion}
+use Rattle.gm_defs.specs.declared.message.Message.{Message}
+use Rattle.gm_defs.specs.Fragment.{head_of}
+use Rattle.gm_defs.specs.Connection.{due}
+use Rattle.gm_conn.specs.declared.event.PairEvent.{PairEvent}
+use Rattle.gm_conn.specs.Halves.{Outgoing, IsOutgoing, WaitsFor, due_frame}
+use Rattle.gm_conn.specs.Pair.{new_pair, after_all, IsFair, IsInOrder}
+
+-- whatever is lost, repeated and delayed, what was taken is a prefix of what was offered
+abbrev pub PairInOrder : Type 0
+PairInOrder = (src dst : ℕ) (events : List PairEvent) → AllByRecursion IsFair events → IsInOrder (after_all (new_pair src dst) events)
+
+-- a sender whose descriptors are of the messages that were sent has due the frame of the message of that number
+abbrev pub DueIsOfMessage : Type 0
+DueIsOfMessage =
+    (w : Outgoing) (sent : List Message) (n : ℕ) (m : Message) → IsOutgoing w → WaitsFor w sent → due w.numbers ≡ Some n → slice_get sent n ≡ Some m
+    → (ticket : ℕ) × (due_frame w ≡ Some (record { head = head_of w.src w.dst n (record { message = m; offset = 0; part = m.body }); ticket = ticket }))

@@ -1,0 +1,4 @@
+pub mod Examples
+pub mod Halves
+pub mod Laws
+pub mod Pair

@@ -1,0 +1,23 @@
+//! What happens to a pair.
+
+/// A message of a pair: its length and its priority.
+#[derive(Clone, Copy, Debug, PartialEq, Eq)]
+pub struct PairMsg {
+    pub total: u32,
+    pub prio: u8,
+}
+
+/// One event.
+#[derive(Clone, Copy, Debug, PartialEq, Eq)]
+pub enum PairEvent {
+    /// A message is offered.
+    Offer { total: u32, prio: u8 },
+    /// The due frame is emitted.
+    Emit,
+    /// The acknowledgement of what was taken is emitted.
+    EmitAck,
+    /// The packet of this place among all that were emitted arrives; `fits` says whether a token fits its message.
+    Deliver { packet: u32, fits: bool },
+    /// The sender's time runs out.
+    Expire,
+}

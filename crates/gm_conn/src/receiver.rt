@@ -1,0 +1,61 @@
+//! The receiving half.
+
+ghost use Rattle.std.specs.Prelude.{◌≡◌, true};
+ghost use Rattle.gm_defs.specs.Body.{is_head};
+ghost use Rattle.gm_defs.specs.Connection.{took, taken_after};
+ghost use Rattle.gm_conn.specs.Halves.{ack_of};
+
+use gm_defs::{Ack, FrameHead, Took};
+use std::marker::Model;
+
+/// The receiving half of a connection: it takes fragments in the order of their numbers.
+#[derive(Debug, Drop)]
+pub struct Receiver {
+    src: u16,
+    dst: u16,
+    taken: u32,
+}
+
+impl Model for Receiver {
+    ghost use Rattle.gm_conn.specs.Halves.{Incoming};
+
+    ghost Value = { Incoming };
+
+    ghost view = { λ r. record { src = r.src; dst = r.dst; taken = r.taken } };
+}
+
+impl Receiver {
+    /// The half at `dst` for what `src` sends. It has taken nothing.
+    pub fn new(src: u16, dst: u16) -> Receiver
+        ensures { result ≡ record { src = src; dst = dst; taken = 0 } }
+    {
+        Receiver { src, dst, taken: 0 }
+    }
+
+    /// A frame of this connection arrives; `fits` says whether a token fits its message.
+    pub fn on_frame(&mut self, h: &FrameHead, fits: bool) -> Took
+        requires { is_head h.now ≡ true }
+        ensures took { result ≡ took self.old.taken h.now.seq fits }
+        ensures taken { self.new ≡ record self.old { taken = taken_after self.old.taken result } }
+    {
+        if h.seq != self.taken {
+            return Took::NotNext;
+        }
+        if !fits {
+            return Took::NoToken;
+        }
+        self.taken += 1;
+        Took::Whole
+    }
+
+    /// The acknowledgement of what was taken.
+    pub fn ack(&self) -> Ack
+        ensures { result ≡ ack_of self.now }
+    {
+        Ack {
+            src: self.dst,
+            dst: self.src,
+            next: self.taken,
+        }
+    }
+}
