@@ -20,6 +20,7 @@ pub struct Desc {
 /// A fragment that is due.
 #[derive(Clone, Copy, Debug, PartialEq, Eq)]
 pub struct Due {
+    /// What stands in its frame before its bytes.
     pub head: FrameHead,
     /// Where its message's bytes are.
     pub ticket: usize,

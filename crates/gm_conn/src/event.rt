@@ -3,7 +3,9 @@
 /// A message of a pair: its length and its priority.
 #[derive(Clone, Copy, Debug, PartialEq, Eq)]
 pub struct PairMsg {
+    /// How many bytes it has.
     pub total: u32,
+    /// 0 or 1.
     pub prio: u8,
 }
 

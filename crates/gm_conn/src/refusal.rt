@@ -5,5 +5,6 @@
 pub enum OfferRefusal {
     /// It needs a number above the greatest, 4,294,967,294.
     Spent,
+    /// There is no memory for it.
     NoMemory,
 }
