@@ -2,3 +2,4 @@ pub mod Fault
 pub mod Line
 pub mod Split
 pub mod Word
+pub mod Written

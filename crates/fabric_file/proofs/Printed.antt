@@ -8,7 +8,8 @@ use Rattle.net_defs.specs.declared.vertex.Cable.{Cable}
 use Rattle.net_defs.specs.declared.vertex.Vertex.TheVariants.{Host, Switch}
 use Rattle.net_defs.specs.Network.{Network, IsFabric, has_port, has_vertex, ports_of}
 use Rattle.net_defs.specs.Building.{name_of}
-use Rattle.fabric_file.specs.Printing.{line_text, host_words, switch_words, cable_words, hosts_text, switches_text, cables_text, fabric_text}
+use Rattle.fab_text.specs.Written.{line_text}
+use Rattle.fabric_file.specs.Printing.{host_words, switch_words, cable_words, hosts_text, switches_text, cables_text, fabric_text}
 use Rattle.fabric_file.proofs.Cutting.{printed-more}
 use Rattle.fabric_file.proofs.Names.{nth-there, ends-nth, vertex-there}
 

@@ -18,7 +18,8 @@ use Rattle.fab_text.specs.Fault.{and_then}
 use Rattle.fabric_file.specs.Declaring.{declared, unless, end_word, cable_between}
 use Rattle.fab_text.specs.Line.{line_count}
 use Rattle.fabric_file.specs.Reading.{fabric_from, AreNamed}
-use Rattle.fabric_file.specs.Printing.{line_text, host_words, switch_words, cable_words, hosts_text, switches_text, cables_text, fabric_text, fabric_lines, script_line, IsReadBack}
+use Rattle.fab_text.specs.Written.{line_text}
+use Rattle.fabric_file.specs.Printing.{host_words, switch_words, cable_words, hosts_text, switches_text, cables_text, fabric_text, fabric_lines, script_line, IsReadBack}
 use Rattle.fabric_file.proofs.Texts.{printed-declares, printed-script}
 use Rattle.fabric_file.proofs.Names.{IsNamed, IsFine, name-plain, small-fine, apart-before, apart-behind, apart-front, all-behind, all-before, fresh, name-names, count-small, port-small, vertex-there}
 

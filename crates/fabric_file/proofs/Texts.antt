@@ -9,7 +9,7 @@ use Rattle.fab_text.specs.Fault.{FirstFault, at_line, and_then}
 use Rattle.fabric_file.specs.declared.reading.FabricText.{FabricText}
 use Rattle.fabric_file.specs.Declaring.{declared, is_script}
 use Rattle.fabric_file.specs.Reading.{fabric_from}
-use Rattle.fabric_file.specs.Printing.{spaced, line_text}
+use Rattle.fab_text.specs.Written.{spaced, line_text}
 
 -- a byte that separates nothing: it is above `#`
 abbrev pub is_plain_byte : ℕ → Bool

@@ -3,17 +3,8 @@ use Rattle.std.specs.Prelude.{◌≡◌, ℕ, ◌+◌, List, [], ◌∷◌, ◌+
 use Rattle.net_defs.specs.declared.vertex.Cable.{Cable}
 use Rattle.net_defs.specs.Network.{Network, NamedSwitch}
 use Rattle.net_defs.specs.Building.{name_of}
+use Rattle.fab_text.specs.Written.{line_text}
 use Rattle.fabric_file.specs.Reading.{fabric_reading}
-
--- words with one space between them
-abbrev pub spaced : List (List ℕ) → List ℕ
-spaced [] = []
-spaced (w ∷ []) = w
-spaced (w ∷ v ∷ ws) = w ++ 32 ∷ spaced (v ∷ ws)
-
--- a line of these words
-abbrev pub line_text : List (List ℕ) → List ℕ
-line_text ws = spaced ws ++ 10 ∷ []
 
 -- `host NAME`
 abbrev pub host_words : List ℕ → List (List ℕ)

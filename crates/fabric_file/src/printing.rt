@@ -3,7 +3,8 @@
 ghost use Rattle.std.specs.Prelude.{◌≡◌, ◌++◌, flat_map, IfOk, OnOk, IsTrue};
 ghost use Rattle.net_defs.specs.Network.{has_vertex, IsFabric};
 ghost use Rattle.fabric_file.specs.Reading.{AreNamed};
-ghost use Rattle.fabric_file.specs.Printing.{cable_words, cables_text, fabric_text, host_words, hosts_text, line_text, switch_words, switches_text, IsReadBack};
+ghost use Rattle.fab_text.specs.Written.{line_text};
+ghost use Rattle.fabric_file.specs.Printing.{cable_words, cables_text, fabric_text, host_words, hosts_text, switch_words, switches_text, IsReadBack};
 
 use port_graph::{Cable, Fabric, Vertex};
 use std::alloc::{AllocError, Global};

@@ -12,8 +12,8 @@ use Rattle.map_defs.specs.declared.vertex.MapCable.{MapCable}
 use Rattle.map_defs.specs.NetMap.{NetMap}
 use Rattle.gm_defs.specs.declared.token.TokenPlace.{TokenPlace}
 use Rattle.gm_defs.specs.declared.token.TokenPlace.TheVariants.{Queue, Provided, Event}
-use Rattle.fab_text.specs.declared.fault.FaultKind.{FaultKind}
-use Rattle.fab_text.specs.declared.fault.FaultKind.TheVariants.{BadWord, NotNumber, TooLarge, NameTaken, NoVertex, PortRange, PortUsed, Full, NoEnd, AfterEnd}
+use Rattle.fab_text.specs.Fault.{kind_word}
+use Rattle.fab_text.specs.Written.{line_text as line_of}
 use Rattle.world_defs.specs.declared.effect.Cause.{Cause}
 use Rattle.world_defs.specs.declared.effect.Cause.TheVariants.{OutOfRange, NotRoute, NoCable, BadCrc, RouteLeft, UnknownType, Malformed, NotMine}
 use Rattle.world_defs.specs.declared.effect.Said.{Said}
@@ -34,16 +34,6 @@ use Rattle.run_defs.specs.declared.line.PlaceEntry.{PlaceEntry}
 use Rattle.run_defs.specs.declared.line.Line.{Line}
 use Rattle.run_defs.specs.declared.line.Line.TheVariants.{Refused, Walk, Map, MapBusy, Routes, Route, Rank, EndRoutes, NoMap, Installed, Table, InstallRefused, Client, Tokens, PlanAt, Step, Settle, Finish}
 use Rattle.run_defs.specs.Output.{Piece, OneLine, MapLines}
-
--- words stand one space apart
-abbrev pub spaced : List (List ℕ) → List ℕ
-spaced [] = []
-spaced (w ∷ []) = w
-spaced (w ∷ ws) = w ++ 32 ∷ spaced ws
-
--- a line of words ends with LF
-abbrev pub line_of : List (List ℕ) → List ℕ
-line_of ws = spaced ws ++ 10 ∷ []
 
 abbrev pub host_name : Network → ℕ → List ℕ
 host_name n h = name_of n (Host h)
@@ -164,19 +154,6 @@ place_word (Some Event) = codes "event"
 
 abbrev pub place_text : PlaceEntry → List ℕ
 place_text p = decimal p.number ++ codes "=" ++ place_word p.place
-
--- a fault of a text
-abbrev pub kind_word : FaultKind → List ℕ
-kind_word BadWord = codes "badword"
-kind_word NotNumber = codes "notnumber"
-kind_word TooLarge = codes "toolarge"
-kind_word NameTaken = codes "nametaken"
-kind_word NoVertex = codes "novertex"
-kind_word PortRange = codes "portrange"
-kind_word PortUsed = codes "portused"
-kind_word Full = codes "full"
-kind_word NoEnd = codes "noend"
-kind_word AfterEnd = codes "afterend"
 
 abbrev pub active_word : Bool → List ℕ
 active_word true = codes "active"

@@ -1,6 +1,7 @@
 use Rattle.std.proofs.Common.{◌≡◌, ◌++◌, take}
 use Rattle.std.specs.Prelude.{flat_map}
-use Rattle.fabric_file.specs.Printing.{line_text, host_words}
+use Rattle.fab_text.specs.Written.{line_text}
+use Rattle.fabric_file.specs.Printing.{host_words}
 use Rattle.fabric_file.proofs.printing.print_hosts.Given as goal
 
 abbrev pub invariant-loop-host : goal.invariant-loop-host

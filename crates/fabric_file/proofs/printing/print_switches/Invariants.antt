@@ -1,6 +1,7 @@
 use Rattle.std.proofs.Common.{◌≡◌, ◌++◌, take}
 use Rattle.std.specs.Prelude.{flat_map}
-use Rattle.fabric_file.specs.Printing.{line_text, switch_words}
+use Rattle.fab_text.specs.Written.{line_text}
+use Rattle.fabric_file.specs.Printing.{switch_words}
 use Rattle.fabric_file.proofs.printing.print_switches.Given as goal
 
 abbrev pub invariant-loop-switch : goal.invariant-loop-switch
