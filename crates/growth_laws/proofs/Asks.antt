@@ -15,6 +15,7 @@ use Rattle.journal_defs.specs.Growth.{IsBegun, IsExpanded, IsLeastUnasked, IsGro
 use Rattle.journal_defs.specs.Growth.IsGrowing.{nothing, more}
 use Rattle.journal_defs.specs.Growth.NextAsk.{first, goes_on, begins}
 use Rattle.journal_defs.proofs.Order.{same_turns-refl}
+use Rattle.journal_defs.proofs.OneSwitch.{first_turn}
 use Rattle.growth_laws.proofs.Keeping.{Keeps, keeps-append, asked-push}
 
 -- a walk with a turn more
@@ -49,15 +50,8 @@ by_last (s ∷ w) = by (by_last w)
     by (empty e) = pushed [] s (ap (λ v. s ∷ v) e)
     by (pushed v t e) = pushed (s ∷ v) t (ap (λ x. s ∷ x) e)
 
--- a node with a turn that isn't asked is not expanded
-pub unasked-open : (j : List Entry) (w : List ℤ) (t : ℤ) → IsLeastUnasked j w t → ¬ IsExpanded j w
-unasked-open j w t l x = true≢false (sym (x.asked t l.onward) ∙ l.unasked)
-
 pub switch-node : (j : List Entry) (w : List ℤ) → IsSwitchNode j w → IsNode j (Reached w)
 switch-node j w s = ap has_found s
-
-pub first_turn : IsOnward (negsuc 14)
-first_turn = (refl, λ e. cc)
 
 -- an expanded node is begun
 pub expanded-begun : (j : List Entry) (w : List ℤ) → IsNode j (Reached w) → IsExpanded j w → IsBegun j w

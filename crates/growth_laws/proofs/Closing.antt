@@ -19,10 +19,11 @@ use Rattle.journal_defs.specs.Part.Path.{here, over}
 use Rattle.journal_defs.proofs.Distance.{distance_is_shortest, part_is_near, hosts_are_near, path-steps, steps-path}
 use Rattle.journal_defs.proofs.Reach.{steps-back}
 use Rattle.journal_defs.proofs.Standing.{stand, same_end-of, leads-to, node-stands, turn-crosses, leads-crosses}
-use Rattle.growth_laws.specs.Laws.{enough_depth}
+use Rattle.journal_defs.specs.Depth.{enough_depth}
+use Rattle.journal_defs.proofs.Counted.{stuck}
 use Rattle.growth_laws.proofs.Asks.{growing-tree, ByLast, by_last, push-length, switch-node}
 use Rattle.growth_laws.proofs.Asks.ByLast.{empty, pushed}
-use Rattle.growth_laws.proofs.Truly.{true-where, IsWalk, node-switch, switch-stands, node-asked, entered-none}
+use Rattle.growth_laws.proofs.Truly.{true-where, IsWalk, node-switch, switch-stands, node-asked}
 use Rattle.growth_laws.proofs.Crossing.{cables}
 use Rattle.growth_laws.proofs.Full.{IsFull, AreOne, Step, step, reach, one_class, same-port, behind-port, join}
 
@@ -35,7 +36,7 @@ walk-path n x m e d (t ∷ w) p is = by (turned n (Some e) t) refl is (λ c. wal
     longer q = subst (λ i. Path n x i d.v) (let s : length w + suc m ≡ suc (length w) + m = omega arith in s) q
 
     by : (o : Option End) → turned n (Some e) t ≡ o → entered_after n o w ≡ Some d → ((c : End) → Path n x (suc m) c.v → entered_after n (Some c) w ≡ Some d → Path n x (length w + suc m) d.v) → Path n x (length (t ∷ w) + m) d.v
-    by None q r rest = let none : None ≡ Some d = sym (entered-none n w) ∙ r in cc
+    by None q r rest = let none : None ≡ Some d = sym (stuck n w) ∙ r in cc
     by (Some c) q r rest = let over_it = turn-crosses n e c t q in longer (rest c (over p over_it.leaves over_it.enters over_it.cable) r)
 
 -- a node stands at the end of a path of as many cables as lead to it
@@ -44,7 +45,7 @@ node-path n host Mapper d is = let own : host_port host ≡ d = cc in subst (λ 
 node-path n host (Reached w) d is = by (far n (host_port host)) refl is
   where
     by : (o : Option End) → far n (host_port host) ≡ o → entered_after n o w ≡ Some d → Path n (Host host) (suc (length w)) d.v
-    by None p q = let none : None ≡ Some d = sym (entered-none n w) ∙ q in cc
+    by None p q = let none : None ≡ Some d = sym (stuck n w) ∙ q in cc
     by (Some e) p q = subst (λ i. Path n (Host host) i d.v) (let s : length w + 1 ≡ suc (length w) = omega arith in s) (walk-path n (Host host) 1 e d w (over here 0 e.p p) q)
 
 -- so it stands in the mapper's part
@@ -98,19 +99,17 @@ record Beyond (n : Network) (host : ℕ) (j : List Entry) (w : Node) (most : ℕ
   pub stands : standing n host node ≡ Some at
   pub few : cables node ≤ most
 
-beyond-step : (n : Network) (host depth : ℕ) (j : List Entry) (k : ℕ) (v w z : Node) (t : ℤ) (c d : End) (p : ℕ) (x : End) → IsFull n host depth j k → Leads j v t w (pos 0) → standing n host v ≡ Some c → pos p ≡ pos c.p +ℤ t → AreOne host j v z → Step n host j z d p x → Beyond n host j w (suc (cables z))
-beyond-step n host depth j k v w z t c d p x full leads at_v by_port one s =
+beyond-step : (n : Network) (host depth : ℕ) (j : List Entry) (k : ℕ) (v w z : Node) (t : ℤ) (c d : End) (p : ℕ) (x : End) → IsFull n host depth j k → Leads j v t w (pos 0) → standing n host v ≡ Some c → pos p ≡ pos c.p +ℤ t → AreOne host j v z → (s : Step n host j z d p x) → cables s.to.next ≤ suc (cables z) → Beyond n host j w (suc (cables z))
+beyond-step n host depth j k v w z t c d p x full leads at_v by_port one s few =
     let whole = join host j v z s.from.node one (record { offset = s.from.offset; one_class = s.from.one_class }) in
     let turn = same-port n host j v s.from.node whole.offset c s.from.at p t s.to.turn full.fabric full.truth whole.one_class at_v s.from.stands by_port s.to.leaves in
-    let few_from = s.from.few in
-    let few_to = s.to.few in
     record {
       node = s.to.next;
       is_node = leads-to j s.from.node s.to.next s.to.turn s.to.port s.to.leads;
       one = behind-port host j v s.from.node w s.to.next whole.offset t s.to.turn (pos 0) s.to.port whole.one_class leads s.to.leads turn;
       at = s.to.at;
       stands = s.to.stands;
-      few = omega arith;
+      few = few;
     }
 
 beyond : (n : Network) (host depth : ℕ) (j : List Entry) (k : ℕ) (v w z : Node) (t : ℤ) (c d : End) → IsFull n host depth j k → Leads j v t w (pos 0) → standing n host v ≡ Some c → standing n host w ≡ Some d → IsNode j z → AreOne host j v z → cables z < k → Beyond n host j w (suc (cables z))
@@ -121,7 +120,8 @@ beyond n host depth j k v w z t c d full leads at_v at_w node one l =
     let vertex : together.at_v.v ≡ c.v = sym together.one_vertex ∙ ap (λ (y : End). y.v) own in
     let x : End = record { v = d.v; p = over_it.enters } in
     let cable : far n (record { v = together.at_v.v; p = over_it.leaves }) ≡ Some x = ap (λ y. far n (record { v = y; p = over_it.leaves })) vertex ∙ over_it.cable in
-    beyond-step n host depth j k v w z t c together.at_v over_it.leaves x full leads at_v over_it.leaves_by one (step n host depth j k z together.at_v x over_it.leaves full node together.is_at_v l cable)
+    let s = step n host depth j k z together.at_v x over_it.leaves full node together.is_at_v l cable in
+    beyond-step n host depth j k v w z t c together.at_v over_it.leaves x full leads at_v over_it.leaves_by one s.0 s.1
 
 -- where a node has one of at most D cables in its class, so has what it leads to
 on-from : (n : Network) (host depth : ℕ) (j : List Entry) (k : ℕ) (v w : Node) (t : ℤ) → IsFull n host depth j k → has_vertex n (Host host) ≡ true → enough_depth n host ≤ k → IsNode j v → IsNode j w → Leads j v t w (pos 0) → IsSmall host j v (farthest n host) → IsSmall host j w (farthest n host)

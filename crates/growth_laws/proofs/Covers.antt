@@ -20,9 +20,10 @@ use Rattle.journal_defs.proofs.Growing.{onward-pass}
 use Rattle.journal_defs.proofs.Distance.{distance_is_shortest}
 use Rattle.journal_defs.proofs.Members.{all-member, all-from-members}
 use Rattle.journal_defs.proofs.Standing.{stand, same_end-of}
+use Rattle.journal_defs.proofs.Counted.{stuck}
 use Rattle.growth_laws.proofs.Asks.{growing-tree}
 use Rattle.growth_laws.proofs.Phases.{member-begun}
-use Rattle.growth_laws.proofs.Truly.{true-where, node-switch, entered-none}
+use Rattle.growth_laws.proofs.Truly.{true-where, node-switch}
 use Rattle.growth_laws.proofs.Full.{IsFull, IsOver, reach}
 use Rattle.growth_laws.proofs.Closing.{node-path}
 use Rattle.growth_laws.proofs.Few.{member-asked}
@@ -48,7 +49,7 @@ one-kind (Host g) (Switch t) p q e = absurd (false≢true e)
 one-kind (Switch s) (Host h) p q e = absurd (false≢true e)
 
 agree-answers : (n k : Network) (m : ℕ) (a b : Option End) (w : List ℤ) → agree n k m a b ≡ true → AllByRecursion IsOnward w → length w ≤ m → answer_at (place_at (entered_after n a w)) ≡ answer_at (place_at (entered_after k b w))
-agree-answers n k m None None w e on l = ap (λ o. answer_at (place_at o)) (entered-none n w ∙ sym (entered-none k w))
+agree-answers n k m None None w e on l = ap (λ o. answer_at (place_at o)) (stuck n w ∙ sym (stuck k w))
 agree-answers n k zero None (Some e) w f on l = absurd (false≢true f)
 agree-answers n k (suc m) None (Some e) w f on l = absurd (false≢true f)
 agree-answers n k zero (Some d) None w f on l = absurd (false≢true f)

@@ -19,7 +19,7 @@ use Rattle.journal_defs.specs.Tree.Leads.{onward, back, out, home}
 use Rattle.journal_defs.specs.Growth.{IsExpanded}
 use Rattle.journal_defs.specs.Truth.{IsTrueJournal, standing}
 use Rattle.journal_defs.proofs.Cabling.{host-port, at_most_sixteen}
-use Rattle.journal_defs.proofs.Standing.{standing-there, entered-push, leads-crosses, leads-to, node-stands}
+use Rattle.journal_defs.proofs.Standing.{standing-there, entered-push, leads-crosses, leads-to, node-stands, turn-between}
 use Rattle.growth_laws.proofs.Asks.{HasTree, ByLast, by_last, push-length, switch-node}
 use Rattle.growth_laws.proofs.Asks.ByLast.{empty, pushed}
 use Rattle.growth_laws.proofs.Truly.{true-where, stands-node, node-asked, port-there, first-stands}
@@ -53,10 +53,7 @@ leads-home j (Reached w) tree node start = by (by_last w)
         let long : length w ≡ suc (length v) = ap length e ∙ push-length v t in
         record { next = Reached v; port = t; leads = back (switch-node j v up.switch) node e; few = omega arith }
 
-turn-between : (a b : ℕ) (k : ℤ) → a < 16 → b < 16 → pos a ≡ pos b +ℤ k → IsTurn k
-turn-between a b k p q e = and_from (int_le (negsuc 14) k) (int_le k (pos 15)) (grind (arith, ints)) (grind (arith, ints))
-
-below-ports : (n : Network) (d : End) → IsFabric n → has_port n d ≡ true → d.p < 16
+pub below-ports : (n : Network) (d : End) → IsFabric n → has_port n d ≡ true → d.p < 16
 below-ports n d f h = let most = at_most_sixteen n d.v f in grind (arith, nat_tests)
 
 -- the port that a turn leaves by is the one that it should
@@ -66,7 +63,7 @@ leaving ports entry q t e l = rw (← e) (by q l)
     by : (q : ℕ) → nat_lt q ports ≡ true → (if (int_le (pos 0) (pos q) && int_lt (pos q) (pos ports)) then Some (nat_abs (pos q)) else None) ≡ Some q
     by q l = rw (and_from (int_le (pos 0) (pos q)) (int_lt (pos q) (pos ports)) (grind (arith, ints, nat_tests)) (grind (arith, ints, nat_tests))) refl
 
-exit-is : (n : Network) (s entry q : ℕ) (t : ℤ) → pos q ≡ pos entry +ℤ t → has_port n (record { v = Switch s; p = q }) ≡ true → exit_at n (Switch s) entry t ≡ Some (record { v = Switch s; p = q })
+pub exit-is : (n : Network) (s entry q : ℕ) (t : ℤ) → pos q ≡ pos entry +ℤ t → has_port n (record { v = Switch s; p = q }) ≡ true → exit_at n (Switch s) entry t ≡ Some (record { v = Switch s; p = q })
 exit-is n s entry q t e h = ap (option_map (λ p. record { v = Switch s; p = p })) (leaving (ports_of n (Switch s)) entry q t e h)
 
 turned-is : (n : Network) (d x : End) (q : ℕ) (t : ℤ) (s : ℕ) → IsFabric n → d.v ≡ Switch s → far n (record { v = d.v; p = q }) ≡ Some x → pos q ≡ pos d.p +ℤ t → turned n (Some d) t ≡ Some x

@@ -5,20 +5,16 @@ use Rattle.net_defs.specs.declared.vertex.Vertex.TheVariants.{Host}
 use Rattle.net_defs.specs.Network.{Network, IsFabric, has_vertex}
 use Rattle.journal_defs.specs.declared.entry.Entry.{Entry}
 use Rattle.journal_defs.specs.Tree.{nodes}
-use Rattle.journal_defs.specs.Growth.{IsGrowing, IsClosed, IsEndedByDepth, IsEndedAtLimit, NextAsk, node_limit}
+use Rattle.journal_defs.specs.Growth.{IsGrowing, IsGrown, IsClosed, IsEndedByDepth, IsEndedAtLimit, NextAsk, node_limit}
 use Rattle.journal_defs.specs.Growth.IsGrowing.{nothing, more}
 use Rattle.journal_defs.specs.Growth.NextAsk.{first, goes_on, begins}
 use Rattle.journal_defs.specs.Truth.{IsTrueJournal}
-use Rattle.growth_laws.specs.Laws.{DepthSuffices, EndsClosed, IsSmallEnough}
+use Rattle.journal_defs.specs.Depth.{enough_depth}
+use Rattle.growth_laws.specs.Laws.{DepthSuffices, EndsClosed}
 use Rattle.growth_laws.proofs.Full.{IsFull}
 use Rattle.growth_laws.proofs.Closing.{closing}
 use Rattle.growth_laws.proofs.Near.{few-by-count}
 use Rattle.growth_laws.proofs.Ends.{few-by-hosts}
-
--- the journal keeps the node limit while it grows
-few : (n : Network) (host depth : ℕ) (j : List Entry) → IsFabric n → has_vertex n (Host host) ≡ true → IsTrueJournal n host j → IsGrowing host depth j → IsSmallEnough n host → length (nodes j) ≤ node_limit
-few n host depth j f h all g (inl count) = few-by-count n host depth j f h all g count
-few n host depth j f h all g (inr hosts) = few-by-hosts n host depth j f all hosts g
 
 -- growth to a depth is growth to a greater one
 ask-deeper : (host depth deeper : ℕ) (j : List Entry) (x : List ℤ) → depth ≤ deeper → NextAsk host depth j x → NextAsk host deeper j x
@@ -52,8 +48,12 @@ ends-closed host depth j g l e c = record {
 full-to-depth : (n : Network) (host depth : ℕ) (j : List Entry) → IsFabric n → IsTrueJournal n host j → IsGrowing host depth j → IsEndedByDepth host depth j → IsFull n host depth j depth
 full-to-depth n host depth j f all g e = record { fabric = f; truth = all; growing = g; started = e.started; expanded = e.expanded }
 
-pub depth_suffices : DepthSuffices
-depth_suffices n host depth j f h deep small all g =
-    let l = few n host depth j f h all g.growing small in
+ends-within : (n : Network) (host depth : ℕ) (j : List Entry) → IsFabric n → has_vertex n (Host host) ≡ true → enough_depth n host ≤ depth → IsTrueJournal n host j → IsGrown host depth j → length (nodes j) ≤ node_limit → EndsClosed host depth j
+ends-within n host depth j f h deep all g l =
     let e = by-depth host depth j l g.ended in
     ends-closed host depth j g.growing l e (closing n host depth j depth (full-to-depth n host depth j f all g.growing e) h deep)
+
+-- the journal keeps the node limit while it grows
+pub depth_suffices : DepthSuffices
+depth_suffices n host depth j f h deep (inl count) all g = ends-within n host depth j f h (omega arith) all g (few-by-count n host depth j f h all g.growing (omega arith))
+depth_suffices n host depth j f h deep (inr hosts) all g = ends-within n host depth j f h (omega arith) all g (few-by-hosts n host depth j f all hosts g.growing)

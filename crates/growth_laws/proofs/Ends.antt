@@ -24,17 +24,16 @@ use Rattle.journal_defs.specs.Truth.{IsTrueJournal, standing}
 use Rattle.journal_defs.specs.Part.{Path, IsInPart}
 use Rattle.journal_defs.specs.Part.Path.{here, over}
 use Rattle.journal_defs.proofs.Cabling.{far-back, at_most_sixteen}
-use Rattle.journal_defs.proofs.Standing.{leads-to, node-stands, standing-there, leads-crosses}
+use Rattle.journal_defs.proofs.Standing.{leads-to, node-stands, standing-there, leads-crosses, plus_zero}
 use Rattle.journal_defs.proofs.Members.{all-map}
-use Rattle.growth_laws.specs.Laws.{EachSwitchHasAHost}
+use Rattle.journal_defs.specs.Depth.{EachSwitchHasAHost}
 use Rattle.growth_laws.proofs.Keeping.{asked-push}
 use Rattle.growth_laws.proofs.Asks.{HasTree, growing-tree, ByLast, by_last, not_empty, switch-node, expanded-has}
 use Rattle.growth_laws.proofs.Asks.ByLast.{empty, pushed}
 use Rattle.growth_laws.proofs.Phases.{begun-push}
 use Rattle.growth_laws.proofs.Truly.{true-where, switch-stands, node-asked}
-use Rattle.growth_laws.proofs.Crossing.{cross}
-use Rattle.growth_laws.proofs.Crossing.CanCross.{expanded}
-use Rattle.growth_laws.proofs.Full.{AreOne, Step, before-cable, two-hosts, plus-zero, same-port, behind-port}
+use Rattle.growth_laws.proofs.Crossing.{cross, below-ports}
+use Rattle.growth_laws.proofs.Full.{AreOne, Step, expanded-member, over-member, before-cable, two-hosts, same-port, behind-port}
 use Rattle.growth_laws.proofs.Closing.{in-part}
 use Rattle.growth_laws.proofs.OneJournal.{true-parts}
 use Rattle.growth_laws.proofs.Pigeons.{few-below, member-map-all}
@@ -54,10 +53,7 @@ cable-of n x y s a m p q (over (over path b d e) from to c) l = absurd (omega ar
 
 -- an expanded node is a member of its own class by which its vertex's cables are crossed
 own-step : (n : Network) (host : ℕ) (j : List Entry) (w : List ℤ) (d x : End) (p : ℕ) → IsFabric n → IsTrueJournal n host j → HasTree j → is_asked j [] ≡ true → IsNode j (Reached w) → IsExpanded j w → standing n host (Reached w) ≡ Some d → far n (record { v = d.v; p = p }) ≡ Some x → Step n host j (Reached w) d p x
-own-step n host j w d x p f all tree started node ex is c = record {
-  from = record { node = Reached w; offset = pos 0; one_class = same node; at = d; stands = is; there = refl; apart = plus-zero d.p; can = expanded w refl ex; few = omega arith };
-  to = cross n host j (Reached w) d x p f all tree started node is c (expanded w refl ex);
-}
+own-step n host j w d x p f all tree started node ex is c = over-member n host j (Reached w) d x p f all tree started (expanded-member n host j (Reached w) d w (pos 0) f all is (same node) ex) c
 
 -- two expanded nodes over a switch with a host are one class
 over-a-host : (n : Network) (host : ℕ) (j : List Entry) (v w : List ℤ) (d e : End) (s a : ℕ) → IsFabric n → IsTrueJournal n host j → HasTree j → is_asked j [] ≡ true → IsNode j (Reached v) → IsNode j (Reached w) → IsExpanded j v → IsExpanded j w → standing n host (Reached v) ≡ Some d → standing n host (Reached w) ≡ Some e → d.v ≡ Switch s → e.v ≡ Switch s → IsCabled n s a → AreOne host j (Reached v) (Reached w)
@@ -214,9 +210,6 @@ record StandsAt (n : Network) (host : ℕ) (w : List ℤ) : Type 0 where
 few-switches : (n : Network) (s : ℕ) → IsFabric n → has_vertex n (Switch s) ≡ true → s < 64
 few-switches n s f h = let most = f.few_switches in grind (arith, nat_tests)
 
-low-port : (n : Network) (d : End) → IsFabric n → has_port n d ≡ true → d.p < 16
-low-port n d f h = let most = at_most_sixteen n d.v f in grind (arith, nat_tests)
-
 begun-switch : (j : List Entry) (w : List ℤ) → HasTree j → IsBegun j w → IsSwitchNode j w
 begun-switch j w tree b = (tree.parent w b.turn b.asked).switch
 
@@ -230,7 +223,7 @@ stands-at n host j w f all tree b =
     by d (Switch s) is p =
         let port = standing-there n host w d f is in
         let there : has_port n (record { v = Switch s; p = d.p }) ≡ true = subst (λ x. has_port n (record { v = x; p = d.p }) ≡ true) p port in
-        record { at = d; stands = is; number = s; is = p; few = few-switches n s f (place_at-there n (Some (record { v = Switch s; p = d.p })) there); low = low-port n d f port }
+        record { at = d; stands = is; number = s; is = p; few = few-switches n s f (place_at-there n (Some (record { v = Switch s; p = d.p })) there); low = below-ports n d f port }
 
 number-is : (n : Network) (host : ℕ) (w : List ℤ) (s : StandsAt n host w) → number_of n host w ≡ 16 * s.number + s.at.p
 number-is n host w s = ap end_number s.stands ∙ ap (λ v. vertex_number v s.at.p) s.is

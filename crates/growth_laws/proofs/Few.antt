@@ -18,6 +18,7 @@ use Rattle.journal_defs.specs.Growth.NextAsk.{first, goes_on, begins}
 use Rattle.journal_defs.proofs.Growing.{onward-pass}
 use Rattle.journal_defs.proofs.Members.{IsMember, member-left, member-right, member-map, all-member}
 use Rattle.journal_defs.proofs.Order.{same_turns-true, same_turns-refl}
+use Rattle.journal_defs.proofs.Counted.{onward-member}
 use Rattle.growth_laws.specs.Laws.{AsksAreFew}
 use Rattle.growth_laws.proofs.Keeping.{keeps-append, asked-push, begun-kept}
 use Rattle.growth_laws.proofs.Asks.{HasTree, growing-tree, growing-once, walks, ByLast, by_last, not_empty, switch-node, expanded-has}
@@ -145,17 +146,6 @@ children-length (w ∷ ws) =
   where
     sum : (a b c : ℕ) → a ≡ 30 → b ≡ 30 * c → a + b ≡ 30 * suc c
     sum a b c p q = omega arith
-
-pub onward-member : (t : ℤ) → IsOnward t → IsMember t onward_turns
-onward-member t on = listed t onward_turns (onward-pass (λ s. list_any (int_eq s) onward_turns) t refl on)
-  where
-    listed : (s : ℤ) (ts : List ℤ) → list_any (int_eq s) ts ≡ true → IsMember s ts
-    listed s [] e = false≢true e
-    listed s (x ∷ xs) e = by (or_cases (int_eq s x) (list_any (int_eq s) xs) e) (listed s xs)
-      where
-        by : (int_eq s x ≡ true) ⊎ (list_any (int_eq s) xs ≡ true) → (list_any (int_eq s) xs ≡ true → IsMember s xs) → (s ≡ x) ⊎ IsMember s xs
-        by (inl p) rest = inl ((Decides-int_eq s x).0 p)
-        by (inr p) rest = inr (rest p)
 
 child-member : (w : List ℤ) (t : ℤ) (ws : List (List ℤ)) → IsOnward t → IsMember w ws → IsMember (w ++ t ∷ []) (children ws)
 child-member w t [] on m = absurd m

@@ -13,13 +13,13 @@ use Rattle.journal_defs.specs.Tree.Node.{Mapper, Reached}
 use Rattle.journal_defs.specs.Tree.Leads.{onward, back, out, home}
 use Rattle.journal_defs.specs.Replicates.{Replicates}
 use Rattle.journal_defs.specs.Replicates.Replicates.{same, turned as other_way, along, one_host, behind}
-use Rattle.journal_defs.specs.Growth.{IsGrowing, HasExpanded, crossed}
+use Rattle.journal_defs.specs.Growth.{IsGrowing, IsExpanded, HasExpanded, crossed}
 use Rattle.journal_defs.specs.Truth.{IsTrueJournal, standing}
 use Rattle.journal_defs.specs.Part.{Path}
 use Rattle.journal_defs.specs.Part.Path.{here, over}
 use Rattle.journal_defs.proofs.Cabling.{far-back}
-use Rattle.journal_defs.proofs.Standing.{stand, same_end-of, replicates-nodes, leads-to}
-use Rattle.growth_laws.proofs.Asks.{growing-tree}
+use Rattle.journal_defs.proofs.Standing.{stand, same_end-of, replicates-nodes, leads-to, plus_zero}
+use Rattle.growth_laws.proofs.Asks.{HasTree, growing-tree}
 use Rattle.growth_laws.proofs.Phases.{HasShort, no_longer}
 use Rattle.growth_laws.proofs.Truly.{true-where, node-host, node-switch}
 use Rattle.growth_laws.proofs.Crossing.{cables, CanCross, LeadsTo, cross}
@@ -43,25 +43,31 @@ pub record Member (n : Network) (host : ℕ) (j : List Entry) (u : Node) (d : En
   pub there : at.v ≡ d.v
   pub apart : pos d.p ≡ pos at.p +ℤ offset
   pub can : CanCross j node at
-  pub few : cables node ≤ cables u
 
-pub plus-zero : (a : ℕ) → pos a ≡ pos a +ℤ pos 0
-plus-zero a = omega (arith, ints)
+-- a node at a host is one itself
+abbrev pub host-member : (n : Network) (host : ℕ) (j : List Entry) (u : Node) (d : End) (a : ℕ) → IsNode j u → standing n host u ≡ Some d → d.v ≡ Host a → Member n host j u d
+host-member n host j u d a node is p = record { node = u; offset = pos 0; one_class = same node; at = d; stands = is; there = refl; apart = plus_zero d.p; can = at_host a p }
 
-pub member : (n : Network) (host depth : ℕ) (j : List Entry) (k : ℕ) (u : Node) (d : End) → IsFull n host depth j k → IsNode j u → standing n host u ≡ Some d → cables u < k → Member n host j u d
+-- and so is an expanded node of its class
+abbrev pub expanded-member : (n : Network) (host : ℕ) (j : List Entry) (u : Node) (d : End) (w : List ℤ) (k : ℤ) → IsFabric n → IsTrueJournal n host j → standing n host u ≡ Some d → Replicates host j u (Reached w) k → IsExpanded j w → Member n host j u d
+expanded-member n host j u d w k f all is one ex =
+    let s = stand n host j u (Reached w) k f (true-where n host j all) one in
+    let own : s.at_u ≡ d = same_end-of n host u s.at_u d s.is_at_u is in
+    record { node = Reached w; offset = k; one_class = one; at = s.at_v; stands = s.is_at_v; there = sym s.one_vertex ∙ ap (λ (x : End). x.v) own; apart = ap (λ (x : End). pos x.p) (sym own) ∙ s.apart; can = expanded w refl ex }
+
+-- in a full journal each node of few cables has one of no more
+pub member : (n : Network) (host depth : ℕ) (j : List Entry) (k : ℕ) (u : Node) (d : End) → IsFull n host depth j k → IsNode j u → standing n host u ≡ Some d → cables u < k → (m : Member n host j u d) × (cables m.node ≤ cables u)
 member n host depth j k u d full node is l = by d.v refl
   where
-    short : (w : List ℤ) → u ≡ Reached w → HasShort host j w → Member n host j u d
+    short : (w : List ℤ) → u ≡ Reached w → HasShort host j w → (m : Member n host j u d) × (cables m.node ≤ cables u)
     short w p h =
         let one : Replicates host j u (Reached h.member) h.offset = subst (λ x. Replicates host j x (Reached h.member) h.offset) (sym p) h.one_class in
-        let s = stand n host j u (Reached h.member) h.offset full.fabric (true-where n host j full.truth) one in
-        let own : s.at_u ≡ d = same_end-of n host u s.at_u d s.is_at_u is in
         let count : cables u ≡ suc (length w) = ap cables p in
         let few = h.short in
-        record { node = Reached h.member; offset = h.offset; one_class = one; at = s.at_v; stands = s.is_at_v; there = sym s.one_vertex ∙ ap (λ (x : End). x.v) own; apart = ap (λ (x : End). pos x.p) (sym own) ∙ s.apart; can = expanded h.member refl h.expanded; few = omega arith }
+        (expanded-member n host j u d h.member h.offset full.fabric full.truth is one h.expanded, omega arith)
 
-    by : (v : Vertex) → d.v ≡ v → Member n host j u d
-    by (Host a) p = record { node = u; offset = pos 0; one_class = same node; at = d; stands = is; there = refl; apart = plus-zero d.p; can = at_host a p; few = omega arith }
+    by : (v : Vertex) → d.v ≡ v → (m : Member n host j u d) × (cables m.node ≤ cables u)
+    by (Host a) p = (host-member n host j u d a node is p, omega arith)
     by (Switch s) p =
         let w = node-switch n host j u d s full.truth node is p in
         let count : cables u ≡ suc (length w.walk) = ap cables w.is in
@@ -72,11 +78,19 @@ pub record Step (n : Network) (host : ℕ) (j : List Entry) (u : Node) (d : End)
   pub from : Member n host j u d
   pub to : LeadsTo n host j from.node from.at p x
 
-pub step : (n : Network) (host depth : ℕ) (j : List Entry) (k : ℕ) (u : Node) (d x : End) (p : ℕ) → IsFull n host depth j k → IsNode j u → standing n host u ≡ Some d → cables u < k → far n (record { v = d.v; p = p }) ≡ Some x → Step n host j u d p x
+abbrev pub over-member : (n : Network) (host : ℕ) (j : List Entry) (u : Node) (d x : End) (p : ℕ) → IsFabric n → IsTrueJournal n host j → HasTree j → is_asked j [] ≡ true → Member n host j u d → far n (record { v = d.v; p = p }) ≡ Some x → Step n host j u d p x
+over-member n host j u d x p f all tree started m c = record {
+  from = m;
+  to = cross n host j m.node m.at x p f all tree started (replicates-nodes host j u m.node m.offset m.one_class).1 m.stands (ap (λ v. far n (record { v = v; p = p })) m.there ∙ c) m.can;
+}
+
+pub step : (n : Network) (host depth : ℕ) (j : List Entry) (k : ℕ) (u : Node) (d x : End) (p : ℕ) → IsFull n host depth j k → IsNode j u → standing n host u ≡ Some d → cables u < k → far n (record { v = d.v; p = p }) ≡ Some x → (s : Step n host j u d p x) × (cables s.to.next ≤ suc (cables u))
 step n host depth j k u d x p full node is l c =
     let m = member n host depth j k u d full node is l in
-    let cable : far n (record { v = m.at.v; p = p }) ≡ Some x = ap (λ v. far n (record { v = v; p = p })) m.there ∙ c in
-    record { from = m; to = cross n host j m.node m.at x p full.fabric full.truth (growing-tree host depth j full.growing) full.started (replicates-nodes host j u m.node m.offset m.one_class).1 m.stands cable m.can }
+    let s = over-member n host j u d x p full.fabric full.truth (growing-tree host depth j full.growing) full.started m.0 c in
+    let few = m.1 in
+    let on = s.to.few in
+    (s, omega arith)
 
 pub leads-back : (j : List Entry) (u x : Node) (p i : ℤ) → Leads j u p x i → Leads j x i u p
 leads-back j u x p i (onward {w = w} {x = y} {p = t} a b is) = back a b is
@@ -132,10 +146,12 @@ one_class n host depth j k a q x u v d e full (over {m = m} {v = y} {w = z} path
     let behind_it = far-back n (record { v = y; p = from }) (record { v = z; p = to }) full.fabric cable in
     let back_d : far n (record { v = d.v; p = to }) ≡ Some (record { v = y; p = from }) = ap (λ i. far n (record { v = i; p = to })) p ∙ behind_it in
     let back_e : far n (record { v = e.v; p = to }) ≡ Some (record { v = y; p = from }) = ap (λ i. far n (record { v = i; p = to })) r ∙ behind_it in
-    let s = step n host depth j k u d (record { v = y; p = from }) to full node is (omega arith) back_d in
-    let t = step n host depth j k v e (record { v = y; p = from }) to full other at (omega arith) back_e in
-    let few_s : cables s.to.next ≤ suc (cables u) = (let f = s.to.few in let g = s.from.few in omega arith) in
-    let few_t : cables t.to.next ≤ suc (cables v) = (let f = t.to.few in let g = t.from.few in omega arith) in
+    let by_u = step n host depth j k u d (record { v = y; p = from }) to full node is (omega arith) back_d in
+    let by_v = step n host depth j k v e (record { v = y; p = from }) to full other at (omega arith) back_e in
+    let s = by_u.0 in
+    let t = by_v.0 in
+    let few_s : cables s.to.next ≤ suc (cables u) = by_u.1 in
+    let few_t : cables t.to.next ≤ suc (cables v) = by_v.1 in
     before-cable n host j u v d e (record { v = y; p = from }) to full.fabric full.truth s t
     (one_class n host depth j k a m y s.to.next t.to.next s.to.at t.to.at full path
     (leads-to j s.from.node s.to.next s.to.turn s.to.port s.to.leads) (leads-to j t.from.node t.to.next t.to.turn t.to.port t.to.leads)
@@ -157,5 +173,7 @@ reach n host depth j k m x full (over {m = i} {v = y} {w = z} path from to cable
     let o = reach n host depth j k i y full path (omega arith) in
     let c : far n (record { v = o.at.v; p = from }) ≡ Some (record { v = z; p = to }) = ap (λ v. far n (record { v = v; p = from })) o.there ∙ cable in
     let few = o.few in
-    let s = step n host depth j k o.node o.at (record { v = z; p = to }) from full o.is_node o.stands (omega arith) c in
-    record { node = s.to.next; is_node = leads-to j s.from.node s.to.next s.to.turn s.to.port s.to.leads; at = s.to.at; stands = s.to.stands; there = s.to.there; few = (let f = s.to.few in let g = s.from.few in omega arith) }
+    let by_o = step n host depth j k o.node o.at (record { v = z; p = to }) from full o.is_node o.stands (omega arith) c in
+    let s = by_o.0 in
+    let few_s : cables s.to.next ≤ suc (cables o.node) = by_o.1 in
+    record { node = s.to.next; is_node = leads-to j s.from.node s.to.next s.to.turn s.to.port s.to.leads; at = s.to.at; stands = s.to.stands; there = s.to.there; few = omega arith }

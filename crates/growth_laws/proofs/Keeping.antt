@@ -12,6 +12,7 @@ use Rattle.journal_defs.specs.Replicates.{Replicates}
 use Rattle.journal_defs.specs.Replicates.Replicates.{same, turned as other_way, along, one_host, behind}
 use Rattle.journal_defs.specs.Growth.{IsBegun, IsExpanded, HasExpanded}
 use Rattle.journal_defs.proofs.Order.{same_turns-true, same_turns-refl}
+use Rattle.journal_defs.proofs.Growing.{asked-answer}
 
 -- the answers of one journal stand in another
 pub record Keeps (j l : List Entry) : Type 0 where
@@ -58,11 +59,7 @@ asked-last (x ∷ j) e = by (same_turns x.walk e.walk) (asked-last j e)
     by true r = refl
     by false r = r
 
--- what was asked has an answer
-pub asked-answer : (o : Option Answer) → is_some o ≡ true → (a : Answer) × (o ≡ Some a)
-asked-answer None e = absurd (false≢true e)
-asked-answer (Some a) e = (a, refl)
-
+-- what found something was answered
 pub found-answer : (o : Option Answer) → has_found o ≡ true → (a : Answer) × (o ≡ Some a)
 found-answer None e = absurd (false≢true e)
 found-answer (Some a) e = (a, refl)

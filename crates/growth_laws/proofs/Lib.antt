@@ -14,7 +14,6 @@ pub mod Looking
 pub mod Near
 pub mod Next
 pub mod OneJournal
-pub mod OneSwitch
 pub mod Phases
 pub mod Pigeons
 pub mod Rings

@@ -20,7 +20,7 @@ use Rattle.journal_defs.specs.WalkLaws.{IsCounted, most_turns}
 use Rattle.journal_defs.proofs.Counted.{walks_are_few}
 use Rattle.journal_defs.proofs.Members.{all-member, all-from-members}
 use Rattle.journal_defs.proofs.Order.{below-shorter}
-use Rattle.growth_laws.specs.Laws.{enough_depth}
+use Rattle.journal_defs.specs.Depth.{enough_depth}
 use Rattle.growth_laws.proofs.Keeping.{keeps-append, asked-push, asked-last, asked-kept}
 use Rattle.growth_laws.proofs.Asks.{HasTree, growing-tree, growing-once, ByLast, by_last, not_empty, push-length, switch-node}
 use Rattle.growth_laws.proofs.Asks.ByLast.{empty, pushed}

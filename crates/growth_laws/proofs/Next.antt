@@ -15,15 +15,16 @@ use Rattle.journal_defs.specs.Tree.Node.{Reached}
 use Rattle.journal_defs.specs.Growth.{IsGrowing, IsBegun, IsExpanded, IsAtRest, IsLeastUnasked, IsEndedByDepth, HasExpanded, NextAsk, crossed}
 use Rattle.journal_defs.specs.Growth.NextAsk.{first, goes_on, begins}
 use Rattle.journal_defs.specs.Truth.{IsTrueWhereFound}
-use Rattle.journal_defs.proofs.Members.{IsMember, member-passes}
+use Rattle.journal_defs.proofs.Members.{IsMember, member-passes, all-member}
 use Rattle.journal_defs.proofs.Order.{below-irrefl, below-trans, below-parts}
 use Rattle.journal_defs.proofs.Standing.{replicates-nodes}
+use Rattle.journal_defs.proofs.Counted.{onward-member, all-onward}
 use Rattle.growth_laws.specs.Laws.{GrowthGoesOnOrEnds}
 use Rattle.growth_laws.proofs.Asks.{switch-node}
 use Rattle.growth_laws.proofs.Phases.{IsCurrent, Stage, stage, same_or_not}
 use Rattle.growth_laws.proofs.Phases.Stage.{fresh, under_way}
 use Rattle.growth_laws.proofs.Full.{AreOne}
-use Rattle.growth_laws.proofs.Few.{found_walks, node-found, onward-member}
+use Rattle.growth_laws.proofs.Few.{found_walks, node-found}
 use Rattle.growth_laws.proofs.Near.{starts}
 use Rattle.growth_laws.proofs.Looking.{Each, Among, look, IsOrder, Least, least}
 use Rattle.growth_laws.proofs.Classes.{HasClasses, classes, one-or-not}
@@ -43,13 +44,8 @@ walk_order = record { never = λ w b. true≢false (sym b ∙ below-irrefl w); t
     by v w false e = inr (λ l. true≢false (sym l ∙ e))
 
 -- each of the 30 turns goes on
-abbrev is_other : ℤ → Bool
-is_other t = is_turn t && not (int_eq t (pos 0))
-
 turn-onward : (t : ℤ) → IsMember t onward_turns → IsOnward t
-turn-onward t m =
-    let parts = and_parts (is_turn t) (not (int_eq t (pos 0))) (member-passes is_other t onward_turns refl m) in
-    (parts.0, λ z. true≢false (sym parts.1 ∙ ap (λ s. not (int_eq s (pos 0))) z))
+turn-onward t m = all-member IsOnward t onward_turns all-onward m
 
 -- a node is expanded, or has a least turn that isn't asked
 pub least-turn : (j : List Entry) (w : List ℤ) → IsExpanded j w ⊎ ((t : ℤ) × IsLeastUnasked j w t)

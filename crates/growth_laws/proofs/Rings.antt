@@ -9,7 +9,7 @@ use Rattle.journal_defs.specs.Growth.{IsGrown, IsClosed}
 use Rattle.journal_defs.specs.Truth.{IsTrueJournal}
 use Rattle.journal_defs.specs.Part.{Path}
 use Rattle.journal_defs.specs.Part.Path.{here, over}
-use Rattle.growth_laws.specs.Laws.{IsSmallEnough, enough_depth}
+use Rattle.journal_defs.specs.Depth.{IsSmallEnough, enough_depth}
 use Rattle.growth_laws.specs.Examples.{Closes, StaysOpen, looped, unrolled_ring}
 use Rattle.growth_laws.proofs.Covers.{cover-open}
 use Rattle.growth_laws.proofs.Depth.{depth_suffices, by-depth}

@@ -16,19 +16,14 @@ use Rattle.journal_defs.specs.Part.Path.{here, over}
 use Rattle.journal_defs.specs.DistanceLaws.{HasHostWithin}
 use Rattle.journal_defs.specs.Truth.{IsTrueJournal}
 use Rattle.journal_defs.proofs.Distance.{part_is_reached}
-use Rattle.journal_defs.proofs.Grown.{two_hosts_grown}
-use Rattle.growth_laws.specs.Laws.{EndsClosed, EachSwitchHasAHost, IsSmallEnough}
+use Rattle.journal_defs.proofs.Grown.{two_hosts_grown, two_hosts_fabric, two_hosts_true}
+use Rattle.journal_defs.specs.Depth.{EachSwitchHasAHost, IsSmallEnough}
+use Rattle.journal_defs.proofs.OneSwitch.{turn_unasked}
+use Rattle.growth_laws.specs.Laws.{EndsClosed}
 use Rattle.growth_laws.proofs.Depth.{depth_suffices}
-use Rattle.growth_laws.proofs.OneSwitch.{turn_unasked}
-
-two_hosts_fabric : IsFabric two_hosts
-two_hosts_fabric = record { few_hosts = omega arith; few_switches = omega arith; names_apart = search rules; port_counts = search rules; cabled_ports = search rules; ports_once = search rules }
 
 one_cable_fabric : IsFabric one_cable
 one_cable_fabric = record { few_hosts = omega arith; few_switches = omega arith; names_apart = search rules; port_counts = search rules; cabled_ports = search rules; ports_once = search rules }
-
-two_hosts_true : IsTrueJournal two_hosts 0 two_hosts_journal
-two_hosts_true = search rules
 
 one_cable_true : IsTrueJournal one_cable 0 one_cable_journal
 one_cable_true = search rules

@@ -9,12 +9,12 @@ use Rattle.journal_defs.specs.Tree.Node.{Reached}
 use Rattle.journal_defs.specs.Growth.{IsGrown, IsBegun, IsClosed, HasExpanded, crossed}
 use Rattle.journal_defs.specs.Truth.{IsTrueJournal, standing}
 use Rattle.journal_defs.proofs.Standing.{stand, same_end-of}
+use Rattle.journal_defs.proofs.OneSwitch.{begun-first, one-switch-grows, one-switch-expanded, one-switch-rests}
 use Rattle.growth_laws.specs.Examples.{looped, unrolled, looped_answer, looped_journal}
 use Rattle.growth_laws.specs.Laws.{BoundIsTight}
 use Rattle.growth_laws.proofs.Truly.{true-where}
 use Rattle.growth_laws.proofs.Asks.{expanded-has}
 use Rattle.growth_laws.proofs.Phases.{member-begun}
-use Rattle.growth_laws.proofs.OneSwitch.{begun-first, one-switch-grows, one-switch-expanded, one-switch-rests}
 
 pub looped_is_fabric : IsFabric looped
 looped_is_fabric = record { few_hosts = omega arith; few_switches = omega arith; names_apart = search rules; port_counts = search rules; cabled_ports = search rules; ports_once = search rules }

@@ -17,6 +17,7 @@ use Rattle.journal_defs.specs.Tree.Node.{Mapper, Reached}
 use Rattle.journal_defs.specs.Truth.{IsTrueJournal, IsTrueWhereFound, standing}
 use Rattle.journal_defs.proofs.Order.{same_turns-true}
 use Rattle.journal_defs.proofs.Cabling.{far-back}
+use Rattle.journal_defs.proofs.Counted.{stuck}
 use Rattle.growth_laws.proofs.Keeping.{found-answer}
 
 pub true-where : (n : Network) (host : ℕ) (j : List Entry) → IsTrueJournal n host j → IsTrueWhereFound n host j
@@ -71,15 +72,10 @@ switch-stands n host j w d a all s is q =
 pub port-there : (n : Network) (d e : End) → IsFabric n → far n d ≡ Some e → has_port n d ≡ true
 port-there n d e f c = subst (IsEntered n) (far-back n d e f c) (far-there n e f)
 
--- no walk goes on from nowhere
-pub entered-none : (n : Network) (w : List ℤ) → entered_after n None w ≡ None
-entered-none n [] = refl
-entered-none n (t ∷ w) = entered-none n w
-
 -- where a node stands beyond the mapper's host, the host's cable leads to a node
 pub first-stands : (n : Network) (host : ℕ) (j : List Entry) (w : List ℤ) (d : End) → IsTrueJournal n host j → is_asked j [] ≡ true → standing n host (Reached w) ≡ Some d → IsNode j (Reached [])
 first-stands n host j w d all started is = by (far n (host_port host)) refl is
   where
     by : (o : Option End) → far n (host_port host) ≡ o → entered_after n o w ≡ Some d → IsNode j (Reached [])
-    by None p q = let none : None ≡ Some d = sym (entered-none n w) ∙ q in cc
+    by None p q = let none : None ≡ Some d = sym (stuck n w) ∙ q in cc
     by (Some e) p q = stands-node n host j [] e all started p

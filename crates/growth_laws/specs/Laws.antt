@@ -1,6 +1,6 @@
 -- The laws of a mapper's growth: its journal is one, it is short, and the depth that suffices to close it.
 use Rattle.std.specs.Prelude.{◌≡◌, ◌≢◌, ◌⊎◌, ℕ, ◌+◌, ◌*◌, ◌≤◌, ℤ, true, List, ◌∷◌, ◌++◌, length}
-use Rattle.net_defs.specs.declared.vertex.Vertex.TheVariants.{Host, Switch}
+use Rattle.net_defs.specs.declared.vertex.Vertex.TheVariants.{Host}
 use Rattle.net_defs.specs.declared.place.Answer.{Answer}
 use Rattle.net_defs.specs.declared.place.Answer.TheVariants.{Nothing}
 use Rattle.net_defs.specs.Network.{Network, IsFabric, has_vertex}
@@ -9,8 +9,8 @@ use Rattle.journal_defs.specs.declared.entry.Entry.{Entry}
 use Rattle.journal_defs.specs.Tree.{nodes, reached}
 use Rattle.journal_defs.specs.Truth.{IsTrueJournal, IsTrueWhereFound}
 use Rattle.journal_defs.specs.Growth.{NextAsk, node_limit, IsGrowing, IsGrown, IsEndedByDepth, IsEndedAtLimit, IsClosed}
-use Rattle.journal_defs.specs.Part.{IsInPart, farthest, host_distance, walk_count}
-use Rattle.journal_defs.specs.DistanceLaws.{HasHostWithin}
+use Rattle.journal_defs.specs.Part.{farthest, host_distance}
+use Rattle.journal_defs.specs.Depth.{IsSmallEnough, enough_depth}
 
 -- Each answer is what is told of its walk after the entries before it: by a fabric, or by a world that probes have changed.
 pub record IsTold (tell : List Entry → List ℤ → Answer) (j : List Entry) : Type 0 where
@@ -43,18 +43,6 @@ GrowthGoesOnOrEnds = (n : Network) (host depth : ℕ) (j : List Entry) → IsFab
 -- A journal that grows has at most 30 asks for each walk that found something, and one more.
 abbrev pub AsksAreFew : Type 0
 AsksAreFew = (host depth : ℕ) (j : List Entry) → IsGrowing host depth j → length j ≤ 1 + 30 * length (reached j)
-
--- the depth that suffices, in cables: Q + D + 1
-abbrev pub enough_depth : Network → ℕ → ℕ
-enough_depth n host = host_distance n host + farthest n host + 1
-
--- each switch of the mapper's part has a host cabled to it
-abbrev pub EachSwitchHasAHost : Network → ℕ → Type 0
-EachSwitchHasAHost n host = (s : ℕ) → IsInPart n host (Switch s) → HasHostWithin n (Switch s) 1
-
--- the journal of this fabric keeps the node limit
-abbrev pub IsSmallEnough : Network → ℕ → Type 0
-IsSmallEnough n host = (walk_count n host ≤ 65535) ⊎ EachSwitchHasAHost n host
 
 -- How a journal ends that has grown to a sufficient depth: no class of switches is left to expand, and a greater depth changes nothing.
 pub record EndsClosed (host depth : ℕ) (j : List Entry) : Type 0 where

@@ -7,7 +7,8 @@ ghost use Rattle.journal_defs.specs.Fabrics.{one_cable, parallel, line, lonely_r
 ghost use Rattle.journal_defs.specs.Examples.{one_cable_journal, two_hosts_journal};
 ghost use Rattle.journal_defs.specs.Truth.{IsTrueJournal};
 ghost use Rattle.journal_defs.specs.Growth.{IsGrown, IsClosed};
-ghost use Rattle.growth_laws.specs.Laws.{EachSwitchHasAHost, EndsClosed, IsSmallEnough, enough_depth};
+ghost use Rattle.journal_defs.specs.Depth.{EachSwitchHasAHost, IsSmallEnough, enough_depth};
+ghost use Rattle.growth_laws.specs.Laws.{EndsClosed};
 ghost use Rattle.growth_laws.specs.Examples.{looped, unrolled, looped_journal, Closes, StaysOpen};
 
 /// Two hosts on one cable: a depth of 2 is sure to suffice.

@@ -37,7 +37,7 @@ empty-switch : (j : List Entry) (w : List ℤ) → j ≡ [] → ¬ IsSwitchNode 
 empty-switch j w e s = let p : IsSwitchNode [] w = subst (λ i. IsSwitchNode i w) e s in cc
 
 -- a node with a turn that isn't asked is not expanded
-unasked-open : (j : List Entry) (w : List ℤ) (t : ℤ) → IsLeastUnasked j w t → ¬ IsExpanded j w
+pub unasked-open : (j : List Entry) (w : List ℤ) (t : ℤ) → IsLeastUnasked j w t → ¬ IsExpanded j w
 unasked-open j w t l x = true≢false (sym (x.asked t l.onward) ∙ l.unasked)
 
 one-node : (j : List Entry) (v w : List ℤ) (s t : ℤ) → IsBegun j v → IsLeastUnasked j v s → IsLeastUnasked j w t → ((u : List ℤ) → IsBegun j u → walk_below u w ≡ true → IsExpanded j u) → ¬ (walk_below v w ≡ true)

@@ -66,12 +66,12 @@ there e p = by e.v p
     by (Host h) q = cc
     by (Switch s) q = cc
 
-stuck : (n : Network) (w : List ℤ) → entered_after n None w ≡ None
+pub stuck : (n : Network) (w : List ℤ) → entered_after n None w ≡ None
 stuck n [] = refl
 stuck n (t ∷ w) = stuck n w
 
 -- tests of the 30 turns
-onward-member : (t : ℤ) → IsOnward t → IsMember t onward_turns
+pub onward-member : (t : ℤ) → IsOnward t → IsMember t onward_turns
 onward-member t on = listed t onward_turns (onward-pass (λ s. list_any (int_eq s) onward_turns) t refl on)
   where
     listed : (s : ℤ) (ts : List ℤ) → list_any (int_eq s) ts ≡ true → IsMember s ts
@@ -85,7 +85,7 @@ onward-member t on = listed t onward_turns (onward-pass (λ s. list_any (int_eq 
 abbrev is_other : ℤ → Bool
 is_other t = is_turn t && not (int_eq t (pos 0))
 
-all-onward : AllByRecursion IsOnward onward_turns
+pub all-onward : AllByRecursion IsOnward onward_turns
 all-onward = by onward_turns refl
   where
     by : (ts : List ℤ) → list_all is_other ts ≡ true → AllByRecursion IsOnward ts

@@ -84,7 +84,7 @@ pub vertex-listed : (n : Network) (v : Vertex) → has_vertex n v ≡ true → i
 vertex-listed n (Host h) e = among-left same_vertex vertex_decides (map Host (numbers_below (length n.hosts))) (map Switch (numbers_below (length n.switches))) (Host h) (number-below Host (length n.hosts) h (grind (arith, nat_tests)))
 vertex-listed n (Switch s) e = among-right same_vertex vertex_decides (map Host (numbers_below (length n.hosts))) (map Switch (numbers_below (length n.switches))) (Switch s) (number-below Switch (length n.switches) s (grind (arith, nat_tests)))
 
-port-vertex : (n : Network) (v : Vertex) (p : ℕ) → has_port n (record { v = v; p = p }) ≡ true → has_vertex n v ≡ true
+pub port-vertex : (n : Network) (v : Vertex) (p : ℕ) → has_port n (record { v = v; p = p }) ≡ true → has_vertex n v ≡ true
 port-vertex n (Host h) p e = place_at-there n (Some (record { v = Host h; p = p })) e
 port-vertex n (Switch s) p e = place_at-there n (Some (record { v = Switch s; p = p })) e
 
@@ -96,7 +96,7 @@ edge-vertex n v w f e =
 holds : (n : Network) (x : Vertex) → IsFabric n → has_vertex n x ≡ true → Holds same_vertex (edges_of n.cables) (vertices n) x
 holds n x f h = record { first = vertex-listed n x h; others = λ v w e. vertex-listed n w (edge-vertex n v w f e) }
 
-path-vertex : (n : Network) (x y : Vertex) (k : ℕ) → IsFabric n → has_vertex n x ≡ true → Path n x k y → has_vertex n y ≡ true
+pub path-vertex : (n : Network) (x y : Vertex) (k : ℕ) → IsFabric n → has_vertex n x ≡ true → Path n x k y → has_vertex n y ≡ true
 path-vertex n x y k f h (here) = h
 path-vertex n x y k f h (over {v = v} {w = w} p a b c) = edge-vertex n v w f (far-edge n.cables (record { v = v; p = a }) (record { v = w; p = b }) c)
 

@@ -33,7 +33,7 @@ answered-holds (x ∷ j) w a test all e = by (same_turns x.walk w) refl e (answe
     by true s f rest = record { entry = x; walk = same_turns-true x.walk w s; answer = cc; passes = two.0 }
     by false s f rest = let h = rest f in record { entry = h.entry; walk = h.walk; answer = h.answer; passes = h.passes }
 
-asked-answer : (o : Option Answer) → is_some o ≡ true → (a : Answer) × (o ≡ Some a)
+pub asked-answer : (o : Option Answer) → is_some o ≡ true → (a : Answer) × (o ≡ Some a)
 asked-answer None e = absurd (false≢true e)
 asked-answer (Some a) e = (a, refl)
 

@@ -5,6 +5,7 @@ pub mod Distance
 pub mod Growing
 pub mod Grown
 pub mod Members
+pub mod OneSwitch
 pub mod Order
 pub mod Reach
 pub mod Simple

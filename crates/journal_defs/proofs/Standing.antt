@@ -70,7 +70,7 @@ host-answer (Some d) h e = by d.v refl e
     by (Host g) q r = let one : g ≡ h = cc in (d.p, (λ i. Some (record { v = (q ∙ ap Host one) i; p = d.p })))
     by (Switch s) q r = cc
 
-host_in-is : (o : Option Answer) (h : ℕ) → host_in o ≡ Some h → o ≡ Some (IsHost h)
+pub host_in-is : (o : Option Answer) (h : ℕ) → host_in o ≡ Some h → o ≡ Some (IsHost h)
 host_in-is None h e = cc
 host_in-is (Some (IsHost g)) h e = cc
 host_in-is (Some IsSwitch) h e = cc
@@ -93,7 +93,7 @@ pub record Crosses (n : Network) (d : End) (p : ℤ) (e : End) (i : ℤ) : Type 
   pub enters_by : pos enters ≡ pos e.p +ℤ i
   pub cable : far n (record { v = d.v; p = leaves }) ≡ Some (record { v = e.v; p = enters })
 
-plus_zero : (a : ℕ) → pos a ≡ pos a +ℤ pos 0
+pub plus_zero : (a : ℕ) → pos a ≡ pos a +ℤ pos 0
 plus_zero a = omega (arith, ints)
 
 pub entered-push : (n : Network) (o : Option End) (w : List ℤ) (t : ℤ) → entered_after n o (w ++ t ∷ []) ≡ turned n (entered_after n o w) t
@@ -194,7 +194,7 @@ port-below n host (Reached w) e f p =
     let few = at_most_sixteen n e.v f in
     grind (arith, nat_tests)
 
-turn-between : (a b : ℕ) (k : ℤ) → a < 16 → b < 16 → pos a ≡ pos b +ℤ k → IsTurn k
+pub turn-between : (a b : ℕ) (k : ℤ) → a < 16 → b < 16 → pos a ≡ pos b +ℤ k → IsTurn k
 turn-between a b k p q e = and_from (int_le (negsuc 14) k) (int_le k (pos 15)) (grind (arith, ints)) (grind (arith, ints))
 
 pub offsets_are_turns : OffsetsAreTurns

@@ -1,4 +1,5 @@
 pub mod Counting
+pub mod Depth
 pub mod DistanceLaws
 pub mod Edges
 pub mod Examples

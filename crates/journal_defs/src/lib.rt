@@ -11,7 +11,8 @@
 //! | `Replicates` | the nodes that are surely one vertex |
 //! | `Truth` | when a journal is true of a fabric, and where its nodes stand there |
 //! | `Growth` | the next ask, a grown journal, a closed one |
-//! | `Edges`, `Part` | distances; the mapper's part and the depth that suffices |
+//! | `Edges`, `Part` | distances; the mapper's part, and how far it reaches |
+//! | `Depth` | the depth that suffices, and where the journal keeps the node limit |
 //!
 //! ```text
 //!            port 1 +-----------------+ port 3

@@ -34,7 +34,7 @@ onward-next m d x t o = rw (o.far, o.switch) (ap Some (sym o.leaves))
 pub channel-one : (m : NetMap) (d e : MapPort) → map_far m d ≡ Some e → channel_at m d ≡ d ∷ []
 channel-one m d e f = ap (λ o. option_to_list (option_map (λ x. d) o)) f
 
-channel-none : (m : NetMap) (d : MapPort) → map_far m d ≡ None → channel_at m d ≡ []
+pub channel-none : (m : NetMap) (d : MapPort) → map_far m d ≡ None → channel_at m d ≡ []
 channel-none m d f = ap (λ o. option_to_list (option_map (λ x. d) o)) f
 
 -- the channels from a port on, at the end of a route: the port's own, where it is cabled

@@ -35,7 +35,7 @@ edge-vertex P (c ∷ cs) v w all (inr (inl p)) = subst P p.1 all.0
 edge-vertex P (c ∷ cs) v w all (inr (inr e)) = edge-vertex P cs v w all.1.1 e
 
 -- the root is a vertex
-switch-there : (vs : List MapVertex) (v : ℕ) → switch_at (slice_get vs v) ≡ true → v < length vs
+pub switch-there : (vs : List MapVertex) (v : ℕ) → switch_at (slice_get vs v) ≡ true → v < length vs
 switch-there [] v e = absurd (false≢true e)
 switch-there (x ∷ vs) zero e = omega arith
 switch-there (x ∷ vs) (suc v) e = let l = switch-there vs v e in omega arith

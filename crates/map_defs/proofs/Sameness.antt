@@ -16,7 +16,7 @@ back_again p o = omega (arith, ints)
 in_turn : (p a b : ℤ) → (p +ℤ a) +ℤ b ≡ p +ℤ (a +ℤ b)
 in_turn p a b = omega (arith, ints)
 
-by_nothing : (p : ℤ) → p ≡ p +ℤ pos 0
+pub by_nothing : (p : ℤ) → p ≡ p +ℤ pos 0
 by_nothing p = omega (arith, ints)
 
 pub same-itself : {V : Type 0} (g : PortGraph V) → IsSame g g

@@ -21,6 +21,7 @@ use Rattle.journal_defs.specs.Truth.{IsTrueWhereFound, IsTrueJournal, standing}
 use Rattle.journal_defs.specs.Examples.{two_hosts_journal}
 use Rattle.journal_defs.proofs.Order.{same_turns-true, below-irrefl}
 use Rattle.journal_defs.proofs.Growing.{Holds, answered-holds}
+use Rattle.journal_defs.proofs.Grown.{two_hosts_fabric, two_hosts_true}
 use Rattle.journal_defs.proofs.Standing.{stand, own_offset_is_zero, replicates-nodes, leads-from, leads-to}
 use Rattle.map_defs.specs.declared.vertex.MapCable.{MapCable}
 use Rattle.map_defs.specs.NetMap.{MapPort, IsCabled, first_end, second_end}
@@ -60,12 +61,6 @@ one_of_three (Reached w) n = by (answered j w) refl n
     by None e f = absurd (false≢true f)
     by (Some a) e f = found a (answered-holds j w a is_listed refl e) f
 
-two_hosts_fabric : IsFabric two_hosts
-two_hosts_fabric = record { few_hosts = omega arith; few_switches = omega arith; names_apart = search rules; port_counts = search rules; cabled_ports = search rules; ports_once = search rules }
-
-two_hosts_true : IsTrueJournal two_hosts 0 j
-two_hosts_true = search rules
-
 two_hosts_found : IsTrueWhereFound two_hosts 0 j
 two_hosts_found = all-weaker (λ e. e.answer ≡ answer two_hosts 0 e.walk) (λ e. e.answer ≢ Nothing → e.answer ≡ answer two_hosts 0 e.walk) j (λ e t n. t) two_hosts_true
 
@@ -101,7 +96,7 @@ by_nothing u v k r = own_offset_is_zero two_hosts 0 j u k two_hosts_fabric two_h
 abbrev nodes_least : List Node
 nodes_least = Mapper ∷ Reached [] ∷ at_b ∷ []
 
-itself_not_below : (u : Node) → node_below u u ≡ false
+pub itself_not_below : (u : Node) → node_below u u ≡ false
 itself_not_below Mapper = refl
 itself_not_below (Reached w) = below-irrefl w
 

@@ -18,13 +18,12 @@ use Rattle.journal_defs.specs.Growth.NextAsk.{first, goes_on, begins}
 use Rattle.journal_defs.specs.Examples.{told}
 use Rattle.journal_defs.proofs.Order.{same_turns-true}
 use Rattle.journal_defs.proofs.Growing.{asked-short, expanded-by, least-by}
-use Rattle.growth_laws.proofs.Asks.{first_turn}
 
 -- each walk has at most one turn
 abbrev is_short : Entry → Bool
 is_short e = nat_le (length e.walk) 1
 
-abbrev is_empty : Entry → Bool
+abbrev pub is_empty : Entry → Bool
 is_empty e = same_turns e.walk []
 
 -- where each walk has at most one turn, the empty walk alone is begun
@@ -46,8 +45,11 @@ turn_unasked j w t all e = by w (asked-short j (w ++ t ∷ []) is_empty all e)
     by [] h = let e : t ∷ [] ≡ [] = sym h.1 ∙ same_turns-true h.0.walk [] h.2 in cc
     by (s ∷ ss) h = let e : s ∷ (ss ++ t ∷ []) ≡ [] = sym h.1 ∙ same_turns-true h.0.walk [] h.2 in cc
 
-abbrev switch_alone : List Entry
+abbrev pub switch_alone : List Entry
 switch_alone = told [] Switch ∷ []
+
+pub first_turn : IsOnward (negsuc 14)
+first_turn = (refl, λ e. cc)
 
 nothing_below : (v : List ℤ) → walk_below v [] ≡ true → ⊥
 nothing_below [] e = false≢true e
@@ -61,7 +63,7 @@ abbrev are_next : (ℤ → Answer) → List Entry → List ℤ → Bool
 are_next a j [] = true
 are_next a j (t ∷ ts) = is_next j t && are_next a (j ++ told (t ∷ []) (a t) ∷ []) ts
 
-next-ask : (host depth : ℕ) (j : List Entry) (t : ℤ) → is_next j t ≡ true → NextAsk host depth j (t ∷ [])
+pub next-ask : (host depth : ℕ) (j : List Entry) (t : ℤ) → is_next j t ≡ true → NextAsk host depth j (t ∷ [])
 next-ask host depth j t e =
     let a = and_parts (is_turn t) _ e in
     let b = and_parts (not (int_eq t (pos 0))) _ a.1 in
@@ -85,7 +87,7 @@ other_turns = falling_turns 14 ++ map (λ k. pos (suc k)) (numbers_below 15)
 switch-grows : (host depth : ℕ) → IsGrowing host depth switch_alone
 switch-grows host depth = more [] (told [] Switch) nothing (first refl refl) refl
 
-switch-chosen : (host depth : ℕ) → 1 < depth → IsChosen host depth switch_alone []
+pub switch-chosen : (host depth : ℕ) → 1 < depth → IsChosen host depth switch_alone []
 switch-chosen host depth l = record {
   switch = refl;
   near = l;
@@ -93,10 +95,10 @@ switch-chosen host depth l = record {
   lesser = λ v s b. absurd (nothing_below v b);
 }
 
-switch-rests : IsAtRest switch_alone
+pub switch-rests : IsAtRest switch_alone
 switch-rests = record { expanded = λ w b. absurd (turn_unasked switch_alone w b.turn refl b.asked) }
 
-abbrev begun_by : (ℤ → Answer) → List Entry
+abbrev pub begun_by : (ℤ → Answer) → List Entry
 begun_by a = switch_alone ++ told (negsuc 14 ∷ []) (a (negsuc 14)) ∷ []
 
 pub one-switch-grows : (host depth : ℕ) (a : ℤ → Answer) → 1 < depth → IsGrowing host depth (told [] Switch ∷ map (λ t. told (t ∷ []) (a t)) onward_turns)
