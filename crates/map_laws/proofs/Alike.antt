@@ -5,7 +5,7 @@ use Rattle.std.proofs.lemmas.Int.{ints}
 use Rattle.map_defs.specs.NetMap.{NetMap, MapPort, IsCabled, host_at}
 use Rattle.map_defs.specs.NetMap.IsCabled.{forth, back}
 use Rattle.map_defs.specs.Sameness.{graph_of_map, graph_of_part}
-use Rattle.map_defs.proofs.Sameness.{same-along, same-back}
+use Rattle.map_defs.proofs.Sameness.{by_nothing, same-along, same-back}
 use Rattle.map_laws.specs.Certificate.{RightMapsAreSame, MarksDoNotMatter}
 
 pub right_maps_are_same : RightMapsAreSame
@@ -15,9 +15,6 @@ right_maps_are_same n host m k a b = same-along (graph_of_map m) (graph_of_part 
 pub cabled-there : (m k : NetMap) (d e : MapPort) → m.cables ≡ k.cables → IsCabled m d e → IsCabled k d e
 cabled-there m k d e same (forth i p) = forth i (ap (λ cs. slice_get cs i) (sym same) ∙ p)
 cabled-there m k d e same (back i p) = back i (ap (λ cs. slice_get cs i) (sym same) ∙ p)
-
-by_nothing : (p : ℤ) → p ≡ p +ℤ pos 0
-by_nothing p = omega (arith, ints)
 
 ports-moved : (k : NetMap) (v w : ℕ) (p q r s : ℤ) → p ≡ q → r ≡ s → IsCabled k (record { v = v; p = p }) (record { v = w; p = r }) → IsCabled k (record { v = v; p = q }) (record { v = w; p = s })
 ports-moved k v w p q r s a b c = subst (λ x. IsCabled k (record { v = v; p = q }) (record { v = w; p = x })) b (subst (λ x. IsCabled k (record { v = v; p = x }) (record { v = w; p = r })) a c)

@@ -1,51 +1,29 @@
 -- The map of a closed journal whose answers are true is the mapper's part.
 use Rattle.std.proofs.Common.{◌≡◌, ◌<◌, ℕ, zero, suc, List, [], ◌∷◌, length, Bool, true, false, Option, Some, None, sym, ◌∙◌, subst, ap, true≢false, refl, arith, if◌then◌else◌}
-use Rattle.std.specs.Prelude.{ℤ, pos, negsuc, ◌+ℤ◌, slice_get}
+use Rattle.std.specs.Prelude.{ℤ, pos, negsuc, ◌+ℤ◌, neg_ℤ, slice_get}
 use Rattle.std.proofs.lemmas.Int.{ints}
 use Rattle.net_defs.specs.declared.vertex.Vertex.{Vertex}
 use Rattle.net_defs.specs.declared.vertex.Vertex.TheVariants.{Host, Switch}
 use Rattle.net_defs.specs.declared.vertex.End.{End}
 use Rattle.net_defs.specs.Network.{Network, IsFabric, far, same_vertex}
-use Rattle.net_defs.specs.Route.{entered_after, turned, host_port}
+use Rattle.net_defs.specs.Route.{host_port}
 use Rattle.net_defs.proofs.Ends.{same_vertex-true, same_vertex-refl}
 use Rattle.journal_defs.specs.declared.entry.Entry.{Entry}
 use Rattle.journal_defs.specs.Tree.{Node, IsNode, answered, host_of, host_in}
 use Rattle.journal_defs.specs.Tree.Node.{Mapper, Reached}
 use Rattle.journal_defs.specs.Truth.{IsTrueJournal, IsTrueWhereFound, standing}
-use Rattle.journal_defs.specs.Part.{Path, IsInPart}
-use Rattle.journal_defs.specs.Part.Path.{here, over as by_cable}
-use Rattle.journal_defs.proofs.Standing.{node-stands, host-stands, turn-crosses, stand, same_end-of, leads-crosses, leads-to}
+use Rattle.journal_defs.specs.Replicates.Replicates.{turned as other_way}
+use Rattle.journal_defs.specs.Part.{IsInPart}
+use Rattle.journal_defs.proofs.Standing.{node-stands, host-stands, stand, same_end-of, leads-crosses, leads-to}
 use Rattle.map_defs.specs.NetMap.{NetMap, IsCabled, host_of_vertex}
 use Rattle.map_defs.specs.Quotient.{IsQuotient}
 use Rattle.map_defs.specs.Sameness.{IsMapOfPart, Joined, address_of}
+use Rattle.growth_laws.proofs.Truly.{true-where, node-host, node-switch}
+use Rattle.growth_laws.proofs.Closing.{in-part}
 use Rattle.map_laws.specs.Certificate.{ClosedMapIsRight}
-use Rattle.map_laws.proofs.Rooted.{HasTree, grown-tree}
-use Rattle.map_laws.proofs.Crossing.{true-found}
-use Rattle.map_laws.proofs.OneClass.{HasWays, closed-ways, cross, covered, one_class, host-at, switch-at}
+use Rattle.map_laws.proofs.Rooted.{IsRooted, grown-rooted}
+use Rattle.map_laws.proofs.OneClass.{HasWays, closed-ways, cross, covered, one_class}
 use Rattle.map_laws.proofs.Least.{vertex-below, below-vertex, vertex-host, class-one}
-
--- what walks enter is of the part
-stuck : (n : Network) (w : List ℤ) → entered_after n None w ≡ None
-stuck n [] = refl
-stuck n (t ∷ w) = stuck n w
-
-walk-path : (n : Network) (x : Vertex) (m : ℕ) (e d : End) (w : List ℤ) → Path n x m e.v → entered_after n (Some e) w ≡ Some d → (k : ℕ) × Path n x k d.v
-walk-path n x m e d [] path s = let one : e ≡ d = cc in (m, subst (λ (y : End). Path n x m y.v) one path)
-walk-path n x m e d (t ∷ w) path s = by (turned n (Some e) t) refl s (λ y k p. walk-path n x k y d w p)
-  where
-    by : (o : Option End) → turned n (Some e) t ≡ o → entered_after n o w ≡ Some d → ((y : End) (k : ℕ) → Path n x k y.v → entered_after n (Some y) w ≡ Some d → (i : ℕ) × Path n x i d.v) → (k : ℕ) × Path n x k d.v
-    by None p g rest = let none = stuck n w in cc
-    by (Some y) p g rest = let c = turn-crosses n e y t p in rest y (suc m) (by_cable path c.leaves c.enters c.cable) g
-
-pub stands-in-part : (n : Network) (host : ℕ) (u : Node) (d : End) → standing n host u ≡ Some d → IsInPart n host d.v
-stands-in-part n host Mapper d s =
-    let own : host_port host ≡ d = (let two : Some (host_port host) ≡ Some d = s in cc) in
-    subst (λ (y : End). IsInPart n host y.v) own (record { cables = 0; path = here })
-stands-in-part n host (Reached w) d s = by (far n (host_port host)) refl s
-  where
-    by : (o : Option End) → far n (host_port host) ≡ o → entered_after n o w ≡ Some d → IsInPart n host d.v
-    by None p g = let none = stuck n w in cc
-    by (Some e) p g = let found = walk-path n (Host host) 1 e d w (by_cable here 0 e.p p) g in record { cables = found.0; path = found.1 }
 
 -- the first place of a list whose element passes a test
 abbrev first_place : (Node → Bool) → List Node → ℕ
@@ -128,6 +106,9 @@ leaving_turn p a x d e f = omega (arith, ints)
 entering_turn : (q i o : ℤ) (y s d : ℕ) → q +ℤ pos d ≡ pos y → pos y ≡ pos s +ℤ i → pos s ≡ pos d +ℤ o → q ≡ i +ℤ o
 entering_turn q i o y s d e f g = omega (arith, ints)
 
+moved_by : (p a b : ℕ) (l k : ℤ) → pos a ≡ pos b +ℤ k → pos p ≡ pos b +ℤ l → pos p ≡ pos a +ℤ (l +ℤ neg_ℤ k)
+moved_by p a b l k e f = omega (arith, ints)
+
 moved-far : (n : Network) (v w : Vertex) (p : ℕ) (e : End) → v ≡ w → far n (record { v = v; p = p }) ≡ Some e → far n (record { v = w; p = p }) ≡ Some e
 moved-far n v w p e q f = subst (λ x. far n (record { v = x; p = p }) ≡ Some e) q f
 
@@ -137,9 +118,9 @@ moved-sum a o b c e f = subst (λ x. a +ℤ x ≡ pos c) e f
 between-ends : (d e f g : End) (k : ℤ) → d ≡ e → f ≡ g → pos e.p ≡ pos g.p +ℤ k → pos d.p ≡ pos f.p +ℤ k
 between-ends d e f g k a b c = subst (λ (x : End). pos x.p ≡ pos f.p +ℤ k) (sym a) (subst (λ (x : End). pos e.p ≡ pos x.p +ℤ k) (sym b) c)
 
-module _ (n : Network) (host : ℕ) (j : List Entry) (m : NetMap) (fabric : IsFabric n) (all : IsTrueJournal n host j) (tree : HasTree j) (ways : HasWays n host j) (q : IsQuotient host j m) where
+module _ (n : Network) (host : ℕ) (j : List Entry) (m : NetMap) (fabric : IsFabric n) (all : IsTrueJournal n host j) (root : IsRooted j) (ways : HasWays n host j) (q : IsQuotient host j m) where
   found : IsTrueWhereFound n host j
-  found = true-found n host j all
+  found = true-where n host j all
 
   placed-at : (v : ℕ) (u : Node) → slice_get q.least v ≡ Some u → Placed n host j q.least v
   placed-at v u e =
@@ -157,12 +138,12 @@ module _ (n : Network) (host : ℕ) (j : List Entry) (m : NetMap) (fabric : IsFa
   offset-is v p = ap (λ o. port_of_end (end_at n host o)) p.there ∙ ap port_of_end p.stands
 
   image_in : (v : ℕ) → v < length m.vertices → IsInPart n host (image_by n host q.least v)
-  image_in v l = let p = placed v l in subst (IsInPart n host) (sym (image-is v p)) (stands-in-part n host p.node p.at p.stands)
+  image_in v l = let p = placed v l in subst (IsInPart n host) (sym (image-is v p)) (in-part n host p.node p.at p.stands)
 
   -- a vertex of the part has a number
   originated : (x : Vertex) → IsInPart n host x → Passing (is_over n host x) q.least (origin_by n host q.least x)
   originated x i =
-      let c = covered n host j i.cables x fabric all tree ways i.path in
+      let c = covered n host j i.cables x fabric all root ways i.path in
       let h = q.covered c.node c.is_node in
       let pair = stand n host j c.node h.is_of.least_node h.offset fabric found h.is_of.one_class in
       let at : c.at ≡ pair.at_u = same_end-of n host c.node c.at pair.at_u c.stands pair.is_at_u in
@@ -183,7 +164,7 @@ module _ (n : Network) (host : ℕ) (j : List Entry) (m : NetMap) (fabric : IsFa
       let a = placed v k in
       let b = placed w l in
       let i = image_in v k in
-      let r = one_class n host j i.cables (image_by n host q.least v) a.node b.node a.at b.at fabric all tree ways i.path a.is_node b.is_node a.stands b.stands (sym (image-is v a)) (sym (image-is w b) ∙ sym e) in
+      let r = one_class n host j i.cables (image_by n host q.least v) a.node b.node a.at b.at fabric all root ways i.path a.is_node b.is_node a.stands b.stands (sym (image-is v a)) (sym (image-is w b) ∙ sym e) in
       class-one host j m q v w a.node b.node r.offset a.there b.there r.one_class
 
   origin_image : (v : ℕ) → v < length m.vertices → origin_by n host q.least (image_by n host q.least v) ≡ v
@@ -200,8 +181,8 @@ module _ (n : Network) (host : ℕ) (j : List Entry) (m : NetMap) (fabric : IsFa
       none_of u w e f = ap (host_of host j) e ∙ f
 
       by : (p : Placed n host j q.least v) (x : Vertex) → p.at.v ≡ x → address_of p.at.v ≡ host_of host j p.node
-      by p (Host h) e = ap address_of e ∙ sym (host-at n host j p.node p.at h found p.is_node p.stands e)
-      by p (Switch s) e = let a = switch-at n host j p.node p.at s found p.is_node p.stands e in ap address_of e ∙ sym (none_of p.node a.walk a.is (ap host_in a.switch))
+      by p (Host h) e = ap address_of e ∙ sym (node-host n host j p.node p.at h all p.is_node p.stands e)
+      by p (Switch s) e = let a = node-switch n host j p.node p.at s all p.is_node p.stands e in ap address_of e ∙ sym (none_of p.node a.walk a.is (ap host_in a.switch))
 
   host_offsets : (v a : ℕ) → v < length m.vertices → host_of_vertex m v ≡ Some a → offset_by n host q.least v ≡ pos 0
   host_offsets v a l e =
@@ -234,25 +215,25 @@ module _ (n : Network) (host : ℕ) (j : List Entry) (m : NetMap) (fabric : IsFa
       let ports = joined-ports n (image_by n host q.least v) (a +ℤ offset_by n host q.least v) (image_by n host q.least w) (b +ℤ offset_by n host q.least w) c in
       let other : End = record { v = image_by n host q.least w; p = ports.to } in
       let cable : far n (record { v = at_v.at.v; p = ports.from }) ≡ Some other = moved-far n (image_by n host q.least v) at_v.at.v ports.from other (image-is v at_v) ports.cable in
-      let over = cross n host j at_v.node at_v.at ports.from other fabric all tree at_v.is_node at_v.stands (ways at_v.node at_v.at at_v.is_node at_v.stands) cable in
+      let over = cross n host j at_v.node at_v.at ports.from other fabric all root at_v.is_node at_v.stands (ways at_v.node at_v.at at_v.is_node at_v.stands) cable in
       let in_part = image_in w l in
-      let r = one_class n host j in_part.cables (image_by n host q.least w) over.to at_w.node over.stands at_w.at fabric all tree ways in_part.path (leads-to j over.from over.to over.leaves over.enters over.leads) at_w.is_node over.is_there at_w.stands over.vertex (sym (image-is w at_w)) in
-      let pair = stand n host j over.to at_w.node r.offset fabric found r.one_class in
-      let at_to : over.stands ≡ pair.at_u = same_end-of n host over.to over.stands pair.at_u over.is_there pair.is_at_u in
+      let r = one_class n host j in_part.cables (image_by n host q.least w) over.to.next at_w.node over.to.at at_w.at fabric all root ways in_part.path (leads-to j over.from.node over.to.next over.to.turn over.to.port over.to.leads) at_w.is_node over.to.stands at_w.stands over.to.there (sym (image-is w at_w)) in
+      let pair = stand n host j over.to.next at_w.node r.offset fabric found r.one_class in
+      let at_to : over.to.at ≡ pair.at_u = same_end-of n host over.to.next over.to.at pair.at_u over.to.stands pair.is_at_u in
       let at_least : at_w.at ≡ pair.at_v = same_end-of n host at_w.node at_w.at pair.at_v at_w.stands pair.is_at_v in
-      let apart : pos over.stands.p ≡ pos at_w.at.p +ℤ r.offset = between-ends over.stands pair.at_u at_w.at pair.at_v r.offset at_to at_least pair.apart in
+      let apart : pos over.to.at.p ≡ pos at_w.at.p +ℤ r.offset = between-ends over.to.at pair.at_u at_w.at pair.at_v r.offset at_to at_least pair.apart in
       (q.cabled (record { v = v; p = a }) (record { v = w; p = b })).1 (record {
-        from = over.from;
-        to = over.to;
-        p = over.leaves;
-        i = over.enters;
-        offset_from = over.offset;
+        from = over.from.node;
+        to = over.to.next;
+        p = over.to.turn;
+        i = over.to.port;
+        offset_from = neg_ℤ over.from.offset;
         offset_to = r.offset;
-        leads = over.leads;
-        is_from = record { least_node = at_v.node; there = at_v.there; one_class = over.one_class };
+        leads = over.to.leads;
+        is_from = record { least_node = at_v.node; there = at_v.there; one_class = other_way over.from.one_class };
         is_to = record { least_node = at_w.node; there = at_w.there; one_class = r.one_class };
-        leaves = leaving_turn a (over.leaves +ℤ over.offset) ports.from at_v.at.p (moved-sum a (offset_by n host q.least v) at_v.at.p ports.from (offset-is v at_v) ports.is_from) over.leaves_by;
-        enters = entering_turn b over.enters r.offset ports.to over.stands.p at_w.at.p (moved-sum b (offset_by n host q.least w) at_w.at.p ports.to (offset-is w at_w) ports.is_to) over.enters_by apart;
+        leaves = leaving_turn a (over.to.turn +ℤ neg_ℤ over.from.offset) ports.from at_v.at.p (moved-sum a (offset_by n host q.least v) at_v.at.p ports.from (offset-is v at_v) ports.is_from) (moved_by ports.from at_v.at.p over.from.at.p over.to.turn over.from.offset over.from.apart over.to.leaves);
+        enters = entering_turn b over.to.port r.offset ports.to over.to.at.p at_w.at.p (moved-sum b (offset_by n host q.least w) at_w.at.p ports.to (offset-is w at_w) ports.is_to) over.to.enters apart;
       })
 
   pub assembled : IsMapOfPart n host m
@@ -271,4 +252,4 @@ module _ (n : Network) (host : ℕ) (j : List Entry) (m : NetMap) (fabric : IsFa
 
 pub closed_map_is_right : ClosedMapIsRight
 closed_map_is_right n host depth j m fabric all grown closed q =
-    assembled n host j m fabric all (grown-tree host depth j grown) (closed-ways n host j all closed) q
+    assembled n host j m fabric all (grown-rooted host depth j grown) (closed-ways n host j all closed) q

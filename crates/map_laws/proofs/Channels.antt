@@ -10,7 +10,7 @@ use Rattle.net_defs.proofs.Ends.{same_end-true}
 use Rattle.map_defs.specs.NetMap.{NetMap, MapPort, IsMap, map_far}
 use Rattle.map_defs.specs.Routing.{next_port, channel_at, channels_on, port_of_host}
 use Rattle.map_defs.specs.Sameness.{IsMapOfPart}
-use Rattle.map_defs.proofs.Channels.{channel-one}
+use Rattle.map_defs.proofs.Channels.{channel-none, channel-one}
 use Rattle.map_laws.specs.Leading.{IsChannelOf, AreMatched, ChannelsAreMatched, ChannelsAreOneToOne}
 use Rattle.map_laws.proofs.Meeting.{Meets, FarPair, Pair, far-pair, next-pair, start-pair}
 use Rattle.map_laws.proofs.Meeting.FarPair.{cabled, uncabled}
@@ -64,9 +64,6 @@ matched-append R [] us [] vs a b = b
 matched-append R (x ∷ xs) us (y ∷ ys) vs a b = (a.0, matched-append R xs us ys vs a.1 b)
 matched-append R [] us (y ∷ ys) vs a b = absurd a
 matched-append R (x ∷ xs) us [] vs a b = absurd a
-
-channel-none : (m : NetMap) (d : MapPort) → map_far m d ≡ None → channel_at m d ≡ []
-channel-none m d f = ap (λ o. option_to_list (option_map (λ x. d) o)) f
 
 abbrev own_channel : NetMap → Option MapPort → List MapPort
 own_channel m None = []

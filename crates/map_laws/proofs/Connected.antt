@@ -15,7 +15,9 @@ use Rattle.map_defs.specs.NetMap.{NetMap, MapPort, IsCabled, IsReached, IsConnec
 use Rattle.map_defs.specs.NetMap.IsCabled.{forth, back}
 use Rattle.map_defs.specs.Quotient.{IsQuotient, IsOfVertex}
 use Rattle.map_laws.specs.Certificate.{QuotientIsConnected}
-use Rattle.map_laws.proofs.Rooted.{HasTree, Ended, ending-of, grown-tree}
+use Rattle.growth_laws.proofs.Asks.{HasTree, growing-tree, ByLast, by_last, push-length, switch-node}
+use Rattle.growth_laws.proofs.Asks.ByLast.{empty, pushed}
+use Rattle.growth_laws.proofs.Truly.{node-asked}
 use Rattle.map_laws.proofs.Least.{below-get, get-below, below-vertex}
 
 place-edge : (cs : List MapCable) (k : ℕ) (c : MapCable) → slice_get cs k ≡ Some c → IsEdge (map_edges cs) c.v c.w
@@ -27,13 +29,6 @@ place-edge (x ∷ cs) (suc k) c e = inr (inr (place-edge cs k c e))
 pub cabled-edge : (m : NetMap) (d e : MapPort) → IsCabled m d e → IsEdge (map_edges m.cables) d.v e.v
 cabled-edge m d e (forth k {c = c} p) = place-edge m.cables k c p
 cabled-edge m d e (back k {c = c} p) = edge-back (map_edges m.cables) c.v c.w (place-edge m.cables k c p)
-
-found-asked : (j : List Entry) (w : List ℤ) → IsNode j (Reached w) → is_asked j w ≡ true
-found-asked j w e = by (answered j w) e
-  where
-    by : (o : Option Answer) → has_found o ≡ true → is_some o ≡ true
-    by None f = f
-    by (Some a) f = refl
 
 module _ (host : ℕ) (j : List Entry) (m : NetMap) (tree : HasTree j) (q : IsQuotient host j m) where
   -- what a reached vertex leads to is reached
@@ -69,18 +64,18 @@ module _ (host : ℕ) (j : List Entry) (m : NetMap) (tree : HasTree j) (q : IsQu
 
   node-reached : (fuel : ℕ) (w : List ℤ) → length w < fuel → IsNode j (Reached w) → (v : ℕ) (k : ℤ) → IsOfVertex host j q.least (Reached w) v k → IsReached m v
   node-reached zero w l node v k a = absurd (omega arith)
-  node-reached (suc fuel) w l node v k a = by (ending-of w) (λ u b n. node-reached fuel u b n)
+  node-reached (suc fuel) w l node v k a = by (by_last w) (λ u b n. node-reached fuel u b n)
     where
-      by : (w ≡ []) ⊎ Ended w → ((u : List ℤ) → length u < fuel → IsNode j (Reached u) → (x : ℕ) (i : ℤ) → IsOfVertex host j q.least (Reached u) x i → IsReached m x) → IsReached m v
-      by (inl e) rest =
+      by : ByLast w → ((u : List ℤ) → length u < fuel → IsNode j (Reached u) → (x : ℕ) (i : ℤ) → IsOfVertex host j q.least (Reached u) x i → IsReached m x) → IsReached m v
+      by (empty e) rest =
           let root : IsNode j (Reached []) = subst (λ u. IsNode j (Reached u)) e node in
           let h = q.covered Mapper refl in
           lead-reached Mapper (Reached []) (pos 0) (pos 0) h.vertex v h.offset k (out root) h.is_of (subst (λ u. IsOfVertex host j q.least (Reached u) v k) e a) (mapper-reached h.vertex h.offset h.is_of)
-      by (inr h) rest =
-          let parent = tree.parents h.before h.turn (subst (λ u. is_asked j u ≡ true) h.is (found-asked j w node)) in
-          let above = q.covered (Reached h.before) parent in
-          let shorter : length w ≡ length h.before + 1 = ap length h.is ∙ length-append h.before (h.turn ∷ []) in
-          lead-reached (Reached h.before) (Reached w) h.turn (pos 0) above.vertex v above.offset k (onward parent node h.is) above.is_of a (rest h.before (omega arith) parent above.vertex above.offset above.is_of)
+      by (pushed u t e) rest =
+          let parent = switch-node j u (tree.parent u t (subst (λ x. is_asked j x ≡ true) e (node-asked j w node))).switch in
+          let above = q.covered (Reached u) parent in
+          let shorter : length w ≡ suc (length u) = ap length e ∙ push-length u t in
+          lead-reached (Reached u) (Reached w) t (pos 0) above.vertex v above.offset k (onward parent node e) above.is_of a (rest u (omega arith) parent above.vertex above.offset above.is_of)
 
   pub connected : IsConnected m
   connected v l =
@@ -92,4 +87,4 @@ module _ (host : ℕ) (j : List Entry) (m : NetMap) (tree : HasTree j) (q : IsQu
       by (Reached w) e n = node-reached (suc (length w)) w (omega arith) n v (pos 0) (record { least_node = Reached w; there = e; one_class = same n })
 
 pub quotient_is_connected : QuotientIsConnected
-quotient_is_connected host depth j m grown q = connected host j m (grown-tree host depth j grown) q
+quotient_is_connected host depth j m grown q = connected host j m (growing-tree host depth j grown.growing) q

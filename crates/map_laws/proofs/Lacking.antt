@@ -18,9 +18,9 @@ use Rattle.map_defs.specs.NetMap.{NetMap, host_of_vertex}
 use Rattle.map_defs.specs.Quotient.{IsQuotient}
 use Rattle.map_defs.specs.Sameness.{IsMapOfPart, address_of}
 use Rattle.map_laws.specs.Examples.{lone_map, unexpanded, stub_map}
-use Rattle.map_laws.proofs.Crossing.{true-found}
+use Rattle.growth_laws.proofs.Truly.{true-where}
 use Rattle.map_laws.proofs.TwoNodes.{IsOneOf, IsShort, short_quotient}
-use Rattle.map_laws.proofs.TwoHosts.{two_hosts_fabric}
+use Rattle.journal_defs.proofs.Grown.{two_hosts_fabric}
 
 lacking : (n : Network) (host h : ℕ) (m : NetMap) → IsInPart n host (Host h) → ((v : ℕ) → host_of_vertex m v ≢ Some h) → ¬ IsMapOfPart n host m
 lacking n host h m part none same =
@@ -61,7 +61,7 @@ unexpanded_grown = record {
 unexpanded_short : IsShort two_hosts 0 unexpanded
 unexpanded_short = record {
   fabric = two_hosts_fabric;
-  found = true-found two_hosts 0 unexpanded unexpanded_true;
+  found = true-where two_hosts 0 unexpanded unexpanded_true;
   only = one_of_two;
   root = refl;
   at_mapper = host_end 0;

@@ -7,14 +7,10 @@ use Rattle.journal_defs.specs.Tree.{Node, host_of, node_below}
 use Rattle.journal_defs.specs.Tree.Node.{Mapper, Reached}
 use Rattle.journal_defs.specs.Replicates.{Replicates}
 use Rattle.journal_defs.specs.Replicates.Replicates.{turned as other_way, along}
-use Rattle.journal_defs.proofs.Order.{below-irrefl}
 use Rattle.journal_defs.proofs.Asking.{not_apart}
 use Rattle.map_defs.specs.NetMap.{NetMap, host_at, host_of_vertex}
 use Rattle.map_defs.specs.Quotient.{IsQuotient, IsLeastNode, IsOfVertex, named}
-
-pub not_below-itself : (u : Node) → node_below u u ≡ false
-not_below-itself Mapper = refl
-not_below-itself (Reached w) = below-irrefl w
+use Rattle.map_defs.proofs.TwoHosts.{itself_not_below}
 
 -- two nodes of which neither stands before the other are one
 pub not_apart-nodes : (u v : Node) → node_below u v ≡ false → node_below v u ≡ false → u ≡ v
@@ -80,8 +76,8 @@ module _ (host : ℕ) (j : List Entry) (m : NetMap) (q : IsQuotient host j m) wh
     where
       by : (v ≡ w) ⊎ ((v < w) ⊎ (w < v)) → v ≡ w
       by (inl e) = e
-      by (inr (inl l)) = absurd (true≢false (sym (q.in_order v w u u l a b) ∙ not_below-itself u))
-      by (inr (inr l)) = absurd (true≢false (sym (q.in_order w v u u l b a) ∙ not_below-itself u))
+      by (inr (inl l)) = absurd (true≢false (sym (q.in_order v w u u l a b) ∙ itself_not_below u))
+      by (inr (inr l)) = absurd (true≢false (sym (q.in_order w v u u l b a) ∙ itself_not_below u))
 
   -- and so has one class
   pub class-one : (v w : ℕ) (u x : Node) (k : ℤ) → slice_get q.least v ≡ Some u → slice_get q.least w ≡ Some x → Replicates host j u x k → v ≡ w

@@ -2,7 +2,6 @@ pub mod Alike
 pub mod Assembly
 pub mod Channels
 pub mod Connected
-pub mod Crossing
 pub mod Lacking
 pub mod Landing
 pub mod Least

@@ -24,7 +24,8 @@ use Rattle.map_defs.proofs.Leading.{far-end}
 use Rattle.map_defs.proofs.Ports.{far_is_cabled}
 use Rattle.map_laws.specs.Leading.{HasHost}
 use Rattle.map_laws.proofs.Assembly.{joined-ports, joined-moved}
-use Rattle.map_laws.proofs.Crossing.{exit-there, cabled-there}
+use Rattle.growth_laws.proofs.Truly.{port-there}
+use Rattle.growth_laws.proofs.Crossing.{exit-is}
 use Rattle.map_laws.proofs.Size.{address-host}
 
 -- a cable, read the other way
@@ -81,7 +82,7 @@ host-not_switch (Some (MapSwitch s)) a f = cc
 
 -- a turn that doesn't leave its switch leads nowhere
 exit-none : (n : Network) (s a p : ℕ) (t : ℤ) → exit_at n (Switch s) a t ≡ None → pos p ≡ pos a +ℤ t → has_port n (record { v = Switch s; p = p }) ≡ true → ⊥
-exit-none n s a p t none e h = let some = exit-there n s a p t e h in let two : ◌≡◌ {A = Option End} None (Some (record { v = Switch s; p = p })) = sym none ∙ some in cc
+exit-none n s a p t none e h = let some = exit-is n s a p t e h in let two : ◌≡◌ {A = Option End} None (Some (record { v = Switch s; p = p })) = sym none ∙ some in cc
 
 pos-one : (a b : ℕ) (z : ℤ) → pos a ≡ z → z ≡ pos b → a ≡ b
 pos-one a b z e f = omega (arith, ints)
@@ -191,7 +192,7 @@ module _ (n : Network) (host : ℕ) (m : NetMap) (fabric : IsFabric n) (rules : 
           out_of_range None g = g
           out_of_range (Some z) g =
               let i = cable-image (record { v = e.v; p = e.p +ℤ t }) z at.in_map g in
-              let has = cabled-there n (record { v = same.image e.v; p = i.from }) (record { v = same.image z.v; p = i.to }) fabric i.cable in
+              let has = port-there n (record { v = same.image e.v; p = i.from }) (record { v = same.image z.v; p = i.to }) fabric i.cable in
               let vertex : same.image e.v ≡ Switch s = sym at.vertex ∙ v in
               absurd (exit-none n s y.p i.from t f (before_turn y.p e.p (same.offset e.v) t i.from at.port i.is_from) (subst (λ w. has_port n (record { v = w; p = i.from }) ≡ true) vertex has))
 

@@ -18,7 +18,7 @@ use Rattle.map_defs.specs.NetMap.{MapPort, IsCabled}
 use Rattle.map_defs.specs.NetMap.IsCabled.{forth, back}
 use Rattle.map_defs.specs.Quotient.{IsQuotient, IsLeastNode, HasVertex}
 use Rattle.map_laws.specs.Examples.{one_cable_map, lost_probe, lone_map}
-use Rattle.map_laws.proofs.Crossing.{true-found}
+use Rattle.growth_laws.proofs.Truly.{true-where}
 use Rattle.map_laws.proofs.TwoNodes.{IsOneOf, IsShort, short_quotient}
 
 pub one_cable_fabric : IsFabric one_cable
@@ -43,7 +43,7 @@ one_of_two (Reached (t ∷ w)) n = absurd (false≢true n)
 one_cable_short : IsShort one_cable 0 one_cable_journal
 one_cable_short = record {
   fabric = one_cable_fabric;
-  found = true-found one_cable 0 one_cable_journal one_cable_true;
+  found = true-where one_cable 0 one_cable_journal one_cable_true;
   only = one_of_two;
   root = refl;
   at_mapper = host_end 0;

@@ -15,15 +15,16 @@ use Rattle.journal_defs.specs.Tree.{Node, Leads, host_of}
 use Rattle.journal_defs.specs.Replicates.{Replicates}
 use Rattle.journal_defs.specs.Replicates.Replicates.{turned as other_way, along, one_host, behind}
 use Rattle.journal_defs.specs.Truth.{IsTrueWhereFound, standing}
-use Rattle.journal_defs.proofs.Cabling.{host-port, at_most_sixteen}
+use Rattle.journal_defs.proofs.Cabling.{host-port}
 use Rattle.journal_defs.proofs.Members.{IsMember, member-place}
-use Rattle.journal_defs.proofs.Standing.{host-stands, stand, same_end-of, leads-crosses, port-below, offset_is_unique}
+use Rattle.journal_defs.proofs.Standing.{host-stands, stand, same_end-of, leads-crosses, port-below, turn-between, offset_is_unique}
 use Rattle.map_defs.specs.declared.vertex.MapCable.{MapCable}
 use Rattle.map_defs.specs.NetMap.{NetMap, MapPort, IsMap, IsCabled, IsNearPort, AreNearPorts, first_end, second_end, map_ends, host_of_vertex, switches_of}
 use Rattle.map_defs.specs.NetMap.IsCabled.{forth, back}
 use Rattle.map_defs.specs.Quotient.{IsQuotient}
 use Rattle.map_laws.specs.Certificate.{QuotientIsMap}
-use Rattle.map_laws.proofs.Crossing.{cabled-there, turn-between}
+use Rattle.growth_laws.proofs.Truly.{port-there}
+use Rattle.growth_laws.proofs.Crossing.{below-ports}
 use Rattle.map_laws.proofs.Least.{vertex-below, below-vertex, vertex-host, class-one, below-get, get-map, map-length}
 use Rattle.map_laws.proofs.Listed.{host-below, hosts-apart, ports-apart, all-ends, near-ports, switches-numbered}
 
@@ -49,9 +50,6 @@ far-sum i l o u e f a b c = omega (arith, ints)
 one_map_port : (v w : ℕ) (p q : ℤ) → v ≡ w → p ≡ q → ◌≡◌ {A = MapPort} (record { v = v; p = p }) (record { v = w; p = q })
 one_map_port v w p q a b = λ i. record { v = a i; p = b i }
 
-low-port : (n : Network) (v : Vertex) (p : ℕ) → IsFabric n → has_port n (record { v = v; p = p }) ≡ true → p < 16
-low-port n v p f h = let few = at_most_sixteen n v f in grind (arith, nat_tests, h)
-
 module _ (n : Network) (host : ℕ) (j : List Entry) (m : NetMap) (fabric : IsFabric n) (found : IsTrueWhereFound n host j) (q : IsQuotient host j m) where
   cabled-real : (d e : MapPort) → IsCabled m d e → RealEnd n host q.least d
   cabled-real d e c =
@@ -66,7 +64,7 @@ module _ (n : Network) (host : ℕ) (j : List Entry) (m : NetMap) (fabric : IsFa
         stands = from.is_at_v;
         port = over.leaves;
         sum = real_sum d.p led.p led.offset_from over.leaves from.at_u.p from.at_v.p led.leaves over.leaves_by from.apart;
-        has = subst (λ v. has_port n (record { v = v; p = over.leaves }) ≡ true) from.one_vertex (cabled-there n (record { v = from.at_u.v; p = over.leaves }) (record { v = to.at_u.v; p = over.enters }) fabric over.cable);
+        has = subst (λ v. has_port n (record { v = v; p = over.leaves }) ≡ true) from.one_vertex (port-there n (record { v = from.at_u.v; p = over.leaves }) (record { v = to.at_u.v; p = over.enters }) fabric over.cable);
       }
 
   -- a port of the map has one far end
@@ -105,7 +103,7 @@ module _ (n : Network) (host : ℕ) (j : List Entry) (m : NetMap) (fabric : IsFa
           none r.port r.at.p d.p port (ap (λ (x : End). x.p) own) r.sum
 
   ports_in_range : AllByRecursion (λ d. IsTurn d.p) (map_ends m.cables)
-  ports_in_range = each_end (λ d. IsTurn d.p) (λ d e c. let r = cabled-real d e c in turn-between r.port r.at.p d.p (low-port n r.at.v r.port fabric r.has) (port-below n host r.node r.at fabric r.stands) r.sum)
+  ports_in_range = each_end (λ d. IsTurn d.p) (λ d e c. let r = cabled-real d e c in turn-between r.port r.at.p d.p (below-ports n (record { v = r.at.v; p = r.port }) fabric r.has) (port-below n host r.node r.at fabric r.stands) r.sum)
 
   ports_near : AreNearPorts (map_ends m.cables)
   ports_near = near-ports (RealEnd n host q.least) near (map_ends m.cables) (each_end (RealEnd n host q.least) cabled-real)
@@ -117,7 +115,7 @@ module _ (n : Network) (host : ℕ) (j : List Entry) (m : NetMap) (fabric : IsFa
       near d e r s v =
           let one : r.node ≡ s.node = (let two : Some r.node ≡ Some s.node = sym r.there ∙ ap (slice_get q.least) v ∙ s.there in cc) in
           let at : r.at ≡ s.at = same_end-of n host r.node r.at s.at r.stands (ap (standing n host) one ∙ s.stands) in
-          turn-between r.port s.port (d.p -ℤ e.p) (low-port n r.at.v r.port fabric r.has) (low-port n s.at.v s.port fabric s.has) (between r.port s.port s.at.p d.p e.p (r.sum ∙ ap (λ (x : End). pos x.p +ℤ d.p) at) s.sum)
+          turn-between r.port s.port (d.p -ℤ e.p) (below-ports n (record { v = r.at.v; p = r.port }) fabric r.has) (below-ports n (record { v = s.at.v; p = s.port }) fabric s.has) (between r.port s.port s.at.p d.p e.p (r.sum ∙ ap (λ (x : End). pos x.p +ℤ d.p) at) s.sum)
 
   ports_once : Apart (map_ends m.cables)
   ports_once = ports-apart m.cables q.cables_in_order one_end

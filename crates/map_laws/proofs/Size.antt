@@ -1,54 +1,21 @@
 -- A right map has no more hosts and switches than the fabric: its vertices stand for different ones.
 use Rattle.std.proofs.Common.{◌≡◌, ◌≢◌, ◌<◌, ◌≤◌, ℕ, zero, suc, List, [], ◌∷◌, length, Bool, true, false, ◌||◌, Option, Some, None, sym, ◌∙◌, subst, ap, refl, arith, eqb, inl, inr}
 use Rattle.std.specs.Prelude.{slice_get}
-use Rattle.std.specs.List.{AllByRecursion, IsDistinct, list_any}
-use Rattle.std.proofs.lemmas.Bool.{false≢true, eqb-true, false_from_ne_true}
+use Rattle.std.proofs.lemmas.Bool.{false≢true}
 use Rattle.std.proofs.lemmas.Bool.Decides.{nat_tests}
-use Rattle.std.proofs.lemmas.Map.Steps.{length-le_from_distinct_below}
 use Rattle.net_defs.specs.declared.vertex.Vertex.{Vertex}
 use Rattle.net_defs.specs.declared.vertex.Vertex.TheVariants.{Host, Switch}
-use Rattle.net_defs.specs.Network.{Network, IsFabric, Apart, has_port, has_vertex}
-use Rattle.net_defs.specs.Route.{IsEntered}
-use Rattle.net_defs.proofs.Places.{far-there, place_at-there}
-use Rattle.journal_defs.specs.Part.{Path}
-use Rattle.journal_defs.specs.Part.Path.{here, over as by_cable}
+use Rattle.net_defs.specs.Network.{Network, IsFabric, Apart, has_vertex}
+use Rattle.journal_defs.proofs.Distance.{path-vertex}
 use Rattle.journal_defs.proofs.Members.{IsMember, all-from-members}
 use Rattle.map_defs.specs.declared.vertex.MapVertex.{MapVertex}
 use Rattle.map_defs.specs.declared.vertex.MapVertex.TheVariants.{Host as MapHost, Switch as MapSwitch}
 use Rattle.map_defs.specs.NetMap.{NetMap, host_at, switch_at, host_of_vertex, is_switch_vertex, hosts_of, switches_of}
 use Rattle.map_defs.specs.Sameness.{IsMapOfPart, address_of}
+use Rattle.map_defs.proofs.Levels.{switch-there}
+use Rattle.growth_laws.proofs.Pigeons.{few-below}
 use Rattle.map_laws.specs.Certificate.{IsNoLarger, RightMapIsNoLarger}
 use Rattle.map_laws.proofs.Listed.{host-below, hosts-apart, member-host}
-
--- the vertices of the part are in the fabric
-port-vertex : (n : Network) (v : Vertex) (p : ℕ) → has_port n (record { v = v; p = p }) ≡ true → has_vertex n v ≡ true
-port-vertex n (Host h) p e = place_at-there n (Some (record { v = Host h; p = p })) e
-port-vertex n (Switch s) p e = place_at-there n (Some (record { v = Switch s; p = p })) e
-
-path-vertex : (n : Network) (x y : Vertex) (k : ℕ) → IsFabric n → has_vertex n x ≡ true → Path n x k y → has_vertex n y ≡ true
-path-vertex n x y k f h (here) = h
-path-vertex n x y k f h (by_cable {v = v} {w = w} p a b c) = port-vertex n w b (subst (IsEntered n) c (far-there n (record { v = v; p = a }) f))
-
--- numbers that are apart and below a bound are no more than it
-apart-distinct : (xs : List ℕ) → Apart xs → IsDistinct eqb xs
-unfolding IsDistinct
-apart-distinct [] a = tt
-apart-distinct (x ∷ xs) a = (differ xs a.0, apart-distinct xs a.1)
-  where
-    differ : (ys : List ℕ) → AllByRecursion (λ y. x ≢ y) ys → AllByRecursion (λ y. eqb x y ≡ false) ys
-    differ [] d = tt
-    differ (y ∷ ys) d = (false_from_ne_true _ (λ t. d.0 (eqb-true x y t)), differ ys d.1)
-
-any-member : (q : ℕ) (xs : List ℕ) → list_any (eqb q) xs ≡ true → IsMember q xs
-any-member q [] e = absurd (false≢true e)
-any-member q (x ∷ xs) e = by (eqb q x) refl e (any-member q xs)
-  where
-    by : (b : Bool) → eqb q x ≡ b → (b || list_any (eqb q) xs) ≡ true → (list_any (eqb q) xs ≡ true → IsMember q xs) → IsMember q (x ∷ xs)
-    by true t f rest = inl (eqb-true q x t)
-    by false t f rest = inr (rest f)
-
-few : (xs : List ℕ) (n : ℕ) → Apart xs → ((x : ℕ) → IsMember x xs → x < n) → length xs ≤ n
-few xs n a below = length-le_from_distinct_below xs n (apart-distinct xs a) (λ q e. below q (any-member q xs e))
 
 -- a vertex by its address
 pub address-host : (v : Vertex) (h : ℕ) → address_of v ≡ Some h → v ≡ Host h
@@ -91,11 +58,6 @@ images-apart f (MapSwitch s ∷ vs) once = (all-from-members (λ y. number_of (f
     other : (y : ℕ) → IsMember y (switch_images (λ i. f (suc i)) vs) → number_of (f 0) ≢ y
     other y i e = let p = image-member (λ i. f (suc i)) vs y i in let z : 0 ≡ suc p.0 = once 0 (suc p.0) refl p.1 (e ∙ sym p.2) in absurd (omega arith)
 
-switch-below : (vs : List MapVertex) (v : ℕ) → switch_at (slice_get vs v) ≡ true → v < length vs
-switch-below [] v e = absurd (false≢true e)
-switch-below (x ∷ vs) zero e = omega arith
-switch-below (x ∷ vs) (suc v) e = let l = switch-below vs v e in omega arith
-
 switch-no_host : (o : Option MapVertex) → switch_at o ≡ true → host_at o ≡ None
 switch-no_host None e = absurd (false≢true e)
 switch-no_host (Some (MapHost h)) e = absurd (false≢true e)
@@ -112,10 +74,10 @@ module _ (n : Network) (host : ℕ) (m : NetMap) (fabric : IsFabric n) (there : 
   image-host v h e = address-host (same.image v) h (same.addresses v (host-below m.vertices v h e) ∙ e)
 
   image-switch : (v : ℕ) → is_switch_vertex m v ≡ true → same.image v ≡ Switch (number_of (same.image v))
-  image-switch v e = address-switch (same.image v) (same.addresses v (switch-below m.vertices v e) ∙ switch-no_host (slice_get m.vertices v) e)
+  image-switch v e = address-switch (same.image v) (same.addresses v (switch-there m.vertices v e) ∙ switch-no_host (slice_get m.vertices v) e)
 
   few_hosts : length (hosts_of m.vertices) ≤ length n.hosts
-  few_hosts = few (hosts_of m.vertices) (length n.hosts) (hosts-apart m.vertices once) below
+  few_hosts = few-below (length n.hosts) (hosts_of m.vertices) (hosts-apart m.vertices once) (all-from-members (λ h. h < length n.hosts) (hosts_of m.vertices) below)
     where
       once : (v w h : ℕ) → host_of_vertex m v ≡ Some h → host_of_vertex m w ≡ Some h → v ≡ w
       once v w h a b = image-one v w (host-below m.vertices v h a) (host-below m.vertices w h b) (image-host v h a ∙ sym (image-host w h b))
@@ -127,15 +89,15 @@ module _ (n : Network) (host : ℕ) (m : NetMap) (fabric : IsFabric n) (there : 
           grind (arith, nat_tests, t)
 
   few_switches : length (switches_of m.vertices) ≤ length n.switches
-  few_switches = subst (λ k. k ≤ length n.switches) (images-length same.image m.vertices) (few (switch_images same.image m.vertices) (length n.switches) (images-apart same.image m.vertices once) below)
+  few_switches = subst (λ k. k ≤ length n.switches) (images-length same.image m.vertices) (few-below (length n.switches) (switch_images same.image m.vertices) (images-apart same.image m.vertices once) (all-from-members (λ s. s < length n.switches) (switch_images same.image m.vertices) below))
     where
       once : (v w : ℕ) → is_switch_vertex m v ≡ true → is_switch_vertex m w ≡ true → number_of (same.image v) ≡ number_of (same.image w) → v ≡ w
-      once v w a b e = image-one v w (switch-below m.vertices v a) (switch-below m.vertices w b) (image-switch v a ∙ ap Switch e ∙ sym (image-switch w b))
+      once v w a b e = image-one v w (switch-there m.vertices v a) (switch-there m.vertices w b) (image-switch v a ∙ ap Switch e ∙ sym (image-switch w b))
 
       below : (s : ℕ) → IsMember s (switch_images same.image m.vertices) → s < length n.switches
       below s i =
           let p = image-member same.image m.vertices s i in
-          let t : has_vertex n (Switch s) ≡ true = ap (λ k. has_vertex n (Switch k)) (sym p.2) ∙ ap (has_vertex n) (sym (image-switch p.0 p.1)) ∙ image-there p.0 (switch-below m.vertices p.0 p.1) in
+          let t : has_vertex n (Switch s) ≡ true = ap (λ k. has_vertex n (Switch k)) (sym p.2) ∙ ap (has_vertex n) (sym (image-switch p.0 p.1)) ∙ image-there p.0 (switch-there m.vertices p.0 p.1) in
           grind (arith, nat_tests, t)
 
   pub no_larger : IsNoLarger n m

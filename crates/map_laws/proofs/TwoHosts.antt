@@ -6,7 +6,7 @@ use Rattle.net_defs.specs.Examples.{two_hosts}
 use Rattle.journal_defs.specs.Examples.{two_hosts_journal}
 use Rattle.journal_defs.specs.Truth.{IsTrueJournal}
 use Rattle.journal_defs.specs.Growth.{IsClosed}
-use Rattle.journal_defs.proofs.Grown.{two_hosts_grown, two_hosts_closed}
+use Rattle.journal_defs.proofs.Grown.{two_hosts_fabric, two_hosts_true, two_hosts_grown, two_hosts_closed}
 use Rattle.map_defs.specs.NetMap.{IsMap, IsConnected, host_of_vertex}
 use Rattle.map_defs.specs.Orientation.{order_of}
 use Rattle.map_defs.specs.Routing.{LeadsTo, HasRoute, AreRoutesOf}
@@ -21,19 +21,13 @@ use Rattle.map_defs.proofs.TwoHosts.{two_hosts_quotient}
 use Rattle.map_laws.specs.Leading.{HasHost, AreFromHosts, channels_in_fabric}
 use Rattle.map_laws.specs.RouteSets.{AreRightRoutes}
 use Rattle.map_laws.specs.Examples.{two_hosts_routes, two_hosts_ranks}
-use Rattle.map_laws.proofs.Crossing.{true-found}
+use Rattle.growth_laws.proofs.Truly.{true-where}
 use Rattle.map_laws.proofs.Assembly.{closed_map_is_right}
 use Rattle.map_laws.proofs.Connected.{quotient_is_connected}
 use Rattle.map_laws.proofs.Ruled.{quotient_is_map}
 use Rattle.map_laws.proofs.Landing.{routes_lead_in_the_fabric}
 use Rattle.map_laws.proofs.NoCycle.{certificate_holds_in_the_fabric}
 use Rattle.map_laws.proofs.RightRoutes.{routes_of_a_right_map_are_right}
-
-pub two_hosts_fabric : IsFabric two_hosts
-two_hosts_fabric = record { few_hosts = omega arith; few_switches = omega arith; names_apart = search rules; port_counts = search rules; cabled_ports = search rules; ports_once = search rules }
-
-pub two_hosts_true : IsTrueJournal two_hosts 0 two_hosts_journal
-two_hosts_true = search rules
 
 pub closed : IsClosed 0 two_hosts_journal
 closed = record { expanded = two_hosts_closed }
@@ -48,7 +42,7 @@ pub connected : IsConnected two_hosts_map
 connected = quotient_is_connected 0 4 two_hosts_journal two_hosts_map two_hosts_grown two_hosts_quotient
 
 two_hosts_rules : IsMap two_hosts_map
-two_hosts_rules = quotient_is_map two_hosts 0 two_hosts_journal two_hosts_map two_hosts_fabric (true-found two_hosts 0 two_hosts_journal two_hosts_true) two_hosts_quotient
+two_hosts_rules = quotient_is_map two_hosts 0 two_hosts_journal two_hosts_map two_hosts_fabric (true-where two_hosts 0 two_hosts_journal two_hosts_true) two_hosts_quotient
 
 first_host : HasHost two_hosts_map 0
 first_host = record { vertex = 0; there = refl }

@@ -17,8 +17,8 @@ use Rattle.map_defs.specs.NetMap.{NetMap, MapPort, IsCabled, AreInOrder, first_e
 use Rattle.map_defs.specs.NetMap.IsCabled.{forth, back}
 use Rattle.map_defs.specs.Quotient.{IsQuotient, IsLeastNode, IsOfVertex, HasVertex, IsLed, named}
 use Rattle.map_defs.specs.Examples.{cable, port}
-use Rattle.map_laws.proofs.Rooted.{not_empty}
-use Rattle.map_laws.proofs.Least.{not_below-itself}
+use Rattle.map_defs.proofs.TwoHosts.{itself_not_below}
+use Rattle.growth_laws.proofs.Asks.{not_empty}
 
 -- a node is one of two
 abbrev pub IsOneOf : Node → Type 0
@@ -87,7 +87,7 @@ module _ (n : Network) (host : ℕ) (j : List Entry) (m : NetMap) (s : IsShort n
   by_nothing u v k r = own_offset_is_zero n host j u k s.fabric s.found (subst (λ w. Replicates host j u w k) (sym (replicate_is_itself u v k r)) r)
 
   least_of : (u : Node) → IsNode j u → IsLeastNode host j u
-  least_of u node = record { node = node; least = λ v k r. ap (λ w. node_below w u) (sym (replicate_is_itself u v k r)) ∙ not_below-itself u }
+  least_of u node = record { node = node; least = λ v k r. ap (λ w. node_below w u) (sym (replicate_is_itself u v k r)) ∙ itself_not_below u }
 
   each_least : (v : ℕ) (u : Node) → slice_get both v ≡ Some u → IsLeastNode host j u
   each_least zero u e = let one : Mapper ≡ u = cc in subst (IsLeastNode host j) one (least_of Mapper refl)
@@ -135,7 +135,7 @@ module _ (n : Network) (host : ℕ) (j : List Entry) (m : NetMap) (s : IsShort n
     where
       by : IsOneOf (Reached x) → ⊥
       by (inl f) = cc
-      by (inr f) = let empty : x ≡ [] = cc in not_empty w p (sym empty ∙ e)
+      by (inr f) = let empty : x ≡ [] = cc in not_empty w p (sym e ∙ empty)
 
   joined-moved : (v w x y : ℕ) (p i q k : ℤ) → v ≡ x → p ≡ q → w ≡ y → i ≡ k → IsCabled m (port x q) (port y k) → IsCabled m (port v p) (port w i)
   joined-moved v w x y p i q k a b c d h = subst (λ z. IsCabled m (port v p) (port w z)) (sym d) (subst (λ z. IsCabled m (port v p) (port z k)) (sym c) (subst (λ z. IsCabled m (port v z) (port y k)) (sym b) (subst (λ z. IsCabled m (port z q) (port y k)) (sym a) h)))

@@ -5,7 +5,7 @@ use Rattle.journal_defs.specs.Fabrics.{one_cable}
 use Rattle.journal_defs.specs.Examples.{one_cable_journal}
 use Rattle.map_laws.specs.Examples.{one_cable_map}
 use Rattle.map_laws.proofs.OneCable.{one_cable_fabric, one_cable_true, one_cable_closed, one_cable_quotient}
-use Rattle.map_laws.proofs.Crossing.{true-found}
+use Rattle.growth_laws.proofs.Truly.{true-where}
 use Rattle.map_laws.proofs.Assembly.{closed_map_is_right}
 use Rattle.map_laws.proofs.Ruled.{quotient_is_map}
 use Rattle.map_laws.proofs.Size.{right_map_is_no_larger}
@@ -24,7 +24,7 @@ pub returns-clause-right : goal.returns-clause-right
 returns-clause-right c = closed_map_is_right one_cable 0 1 one_cable_journal one_cable_map one_cable_fabric one_cable_true one_cable_grown one_cable_closed one_cable_quotient
 
 pub returns-clause-rules : goal.returns-clause-rules
-returns-clause-rules c = quotient_is_map one_cable 0 one_cable_journal one_cable_map one_cable_fabric (true-found one_cable 0 one_cable_journal one_cable_true) one_cable_quotient
+returns-clause-rules c = quotient_is_map one_cable 0 one_cable_journal one_cable_map one_cable_fabric (true-where one_cable 0 one_cable_journal one_cable_true) one_cable_quotient
 
 pub returns-clause-no_larger : goal.returns-clause-no_larger
 returns-clause-no_larger c =
