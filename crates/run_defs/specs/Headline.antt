@@ -1,15 +1,13 @@
 -- What a run promises: a map that says complete is the mapper's part of the fabric; on a quiet fabric, probed deeply enough, it says so; every moment is sound.
-use Rattle.std.specs.Prelude.{◌≡◌, ◌⊎◌, ℕ, ◌+◌, ◌<◌, ◌≤◌, ◌^◌, true, List, [], ◌∷◌, ◌++◌, Option, Some, None}
+use Rattle.std.specs.Prelude.{◌≡◌, ◌⊎◌, ℕ, ◌<◌, ◌≤◌, ◌^◌, true, List, [], ◌∷◌, ◌++◌, Option, Some, None}
 use Rattle.std.specs.List.{AllByRecursion}
 use Rattle.net_defs.specs.declared.place.Place.TheVariants.{Host as AtHost}
-use Rattle.net_defs.specs.declared.vertex.Vertex.TheVariants.{Switch}
 use Rattle.net_defs.specs.declared.route.Route.{Route}
 use Rattle.net_defs.specs.Network.{Network}
 use Rattle.net_defs.specs.Route.{place, channels_of}
 use Rattle.link_defs.specs.Links.{is_idle}
 use Rattle.journal_defs.specs.declared.entry.Entry.{Entry}
-use Rattle.journal_defs.specs.Part.{IsInPart, farthest, host_distance, walk_count}
-use Rattle.journal_defs.specs.DistanceLaws.{HasHostWithin}
+use Rattle.journal_defs.specs.Depth.{IsSmallEnough, enough_depth}
 use Rattle.map_defs.specs.NetMap.{NetMap}
 use Rattle.map_defs.specs.Sameness.{IsMapOfPart}
 use Rattle.map_defs.specs.Dependencies.{IsBefore}
@@ -41,23 +39,19 @@ abbrev pub CompleteIsTrue : Network → List Command → Type 0
 CompleteIsTrue n commands =
     (out : List Piece) (last : SessionState) (mapper : ℕ) (m : NetMap) → IsRun n commands out last → HasPrinted out mapper m → IsMapOfPart n mapper m
 
--- each switch of the mapper's part has a host cabled to it
-abbrev pub EachSwitchHasAHost : Network → ℕ → Type 0
-EachSwitchHasAHost n host = (s : ℕ) → IsInPart n host (Switch s) → HasHostWithin n (Switch s) 1
-
 -- Mapping meets a quiet fabric: no packet is on its way, no planned fault names an injection of it, injections are left in plenty, and the tree stays small.
 pub record IsQuiet (host : ℕ) (before after : WorldState) : Type 0 where
   pub idle : is_idle before.links ≡ true
   pub unplanned : AllByRecursion (λ f. (f.0 ≤ before.injected) ⊎ (after.injected < f.0)) before.plan
   pub injections_left : before.injected < 2 ^ 63
-  pub small : (walk_count (fabric_of before) host ≤ 65535) ⊎ EachSwitchHasAHost (fabric_of before) host
+  pub small : IsSmallEnough (fabric_of before) host
 
 -- on a quiet fabric a map to the depth that suffices says complete
 abbrev pub DeepIsComplete : Network → List Command → Type 0
 DeepIsComplete n commands =
     (out : List Piece) (s : SessionState) (host depth tries : ℕ) (after : WorldState) (j : List Entry) (m : NetMap) (words : MapWords)
     → IsRun n commands out s → IsMapped host depth tries s.world after j m words → IsQuiet host s.world after
-    → host_distance n host + farthest n host + 1 ≤ depth → words ≡ Complete
+    → enough_depth n host ≤ depth → words ≡ Complete
 
 -- What may happen to a world: an event, a plan, or the adoption of routes.
 pub data Act : Type 0 where
