@@ -18,37 +18,37 @@ use Rattle.journal_defs.proofs.Order.{same_turns-refl}
 use Rattle.journal_defs.proofs.OneSwitch.{first_turn}
 use Rattle.growth_laws.proofs.Keeping.{Keeps, keeps-append, asked-push}
 
--- a walk with a turn more
-pub not_empty : (w : List ℤ) (t : ℤ) → w ++ t ∷ [] ≢ []
-not_empty [] t e = cc
-not_empty (s ∷ w) t e = cc
+-- a list with an element more
+pub not_empty : {X : Type 0} (xs : List X) (x : X) → xs ++ x ∷ [] ≢ []
+not_empty [] x e = cc
+not_empty (y ∷ xs) x e = cc
 
-pub push-parts : (v w : List ℤ) (s t : ℤ) → v ++ s ∷ [] ≡ w ++ t ∷ [] → (v ≡ w) × (s ≡ t)
-push-parts [] [] s t e = (refl, (let one : s ≡ t = cc in one))
-push-parts [] (y ∷ w) s t e = absurd (not_empty w t (let tail : w ++ t ∷ [] ≡ [] = cc in tail))
-push-parts (x ∷ v) [] s t e = absurd (not_empty v s (let tail : v ++ s ∷ [] ≡ [] = cc in tail))
-push-parts (x ∷ v) (y ∷ w) s t e =
-    let head : x ≡ y = cc in
-    let tail : v ++ s ∷ [] ≡ w ++ t ∷ [] = cc in
-    let rest = push-parts v w s t tail in
-    let list : v ≡ w = rest.0 in
-    ((let both : x ∷ v ≡ y ∷ w = cc in both), rest.1)
+pub push-parts : {X : Type 0} (xs ys : List X) (x y : X) → xs ++ x ∷ [] ≡ ys ++ y ∷ [] → (xs ≡ ys) × (x ≡ y)
+push-parts [] [] x y e = (refl, (let one : x ≡ y = cc in one))
+push-parts [] (z ∷ ys) x y e = absurd (not_empty ys y (let tail : ys ++ y ∷ [] ≡ [] = cc in tail))
+push-parts (z ∷ xs) [] x y e = absurd (not_empty xs x (let tail : xs ++ x ∷ [] ≡ [] = cc in tail))
+push-parts (z ∷ xs) (w ∷ ys) x y e =
+    let head : z ≡ w = cc in
+    let tail : xs ++ x ∷ [] ≡ ys ++ y ∷ [] = cc in
+    let rest = push-parts xs ys x y tail in
+    let list : xs ≡ ys = rest.0 in
+    ((let both : z ∷ xs ≡ w ∷ ys = cc in both), rest.1)
 
 pub push-length : (w : List ℤ) (t : ℤ) → length (w ++ t ∷ []) ≡ suc (length w)
 push-length w t = length-append w (t ∷ []) ∙ (let e : length w + 1 ≡ suc (length w) = omega arith in e)
 
--- a walk is empty or has a last turn
-pub data ByLast (w : List ℤ) : Type 0 where
-  empty : w ≡ [] → ByLast w
-  pushed : (v : List ℤ) (t : ℤ) → w ≡ v ++ t ∷ [] → ByLast w
+-- a list is empty or has a last element: a walk its last turn
+pub data ByLast {X : Type 0} (xs : List X) : Type 0 where
+  empty : xs ≡ [] → ByLast xs
+  pushed : (ys : List X) (y : X) → xs ≡ ys ++ y ∷ [] → ByLast xs
 
-pub by_last : (w : List ℤ) → ByLast w
+pub by_last : {X : Type 0} (xs : List X) → ByLast xs
 by_last [] = empty refl
-by_last (s ∷ w) = by (by_last w)
+by_last (x ∷ xs) = by (by_last xs)
   where
-    by : ByLast w → ByLast (s ∷ w)
-    by (empty e) = pushed [] s (ap (λ v. s ∷ v) e)
-    by (pushed v t e) = pushed (s ∷ v) t (ap (λ x. s ∷ x) e)
+    by : ByLast xs → ByLast (x ∷ xs)
+    by (empty e) = pushed [] x (ap (λ l. x ∷ l) e)
+    by (pushed ys y e) = pushed (x ∷ ys) y (ap (λ l. x ∷ l) e)
 
 pub switch-node : (j : List Entry) (w : List ℤ) → IsSwitchNode j w → IsNode j (Reached w)
 switch-node j w s = ap has_found s
@@ -71,6 +71,14 @@ ask-new host depth j x (begins w rest c e) = ap (is_asked j) e ∙ by (is_asked 
     by true p =
         let begun : IsBegun j w = record { node = switch-node j w c.switch; turn = negsuc 14; onward = first_turn; asked = p } in
         absurd (c.fresh (expanded-has host j w (switch-node j w c.switch) (rest.expanded w begun)))
+
+-- the first ask begins no node
+pub first-unbegun : (j : List Entry) (e : Entry) (w : List ℤ) → j ≡ [] → e.walk ≡ [] → ¬ IsBegun (j ++ e ∷ []) w
+first-unbegun j e w none walk b = by (asked-push j e (w ++ b.turn ∷ []) b.asked)
+  where
+    by : (is_asked j (w ++ b.turn ∷ []) ≡ true) ⊎ (e.walk ≡ w ++ b.turn ∷ []) → ⊥
+    by (inl p) = let q : is_asked [] (w ++ b.turn ∷ []) ≡ true = subst (λ i. is_asked i (w ++ b.turn ∷ []) ≡ true) none p in false≢true q
+    by (inr p) = not_empty w b.turn (sym p ∙ walk)
 
 -- the walks of a journal's entries
 abbrev pub walks : List Entry → List (List ℤ)

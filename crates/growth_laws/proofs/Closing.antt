@@ -134,29 +134,24 @@ on-from n host depth j k v w t full h deep node_v node_w leads small =
     let near = near-class n host depth j k b.node b.at full h deep b.is_node b.stands (omega arith) in
     record { node = near.node; is_node = near.is_node; one = join host j w b.node near.node b.one near.one; few = near.few }
 
--- each node has one of at most D cables in its class
+-- the node behind the mapper's cable has one of at most D cables in its class
+small-first : (n : Network) (host depth : ℕ) (j : List Entry) (k : ℕ) (w : List ℤ) → IsFull n host depth j k → has_vertex n (Host host) ≡ true → enough_depth n host ≤ k → IsNode j (Reached w) → w ≡ [] → IsSmall host j (Reached w) (farthest n host)
+small-first n host depth j k w full h deep node e =
+    let at = node-stands n host j (Reached w) (true-where n host j full.truth) node in
+    let none : length w ≡ 0 = ap length e in
+    near-class n host depth j k (Reached w) at.at full h deep node at.is (omega arith)
+
+-- so has each node
 small : (n : Network) (host depth : ℕ) (j : List Entry) (k m : ℕ) (w : List ℤ) → IsFull n host depth j k → has_vertex n (Host host) ≡ true → enough_depth n host ≤ k → IsNode j (Reached w) → length w ≤ m → IsSmall host j (Reached w) (farthest n host)
 small n host depth j k zero w full h deep node l = by (by_last w)
   where
-    first : w ≡ [] → IsSmall host j (Reached w) (farthest n host)
-    first e =
-        let at = node-stands n host j (Reached w) (true-where n host j full.truth) node in
-        let none : length w ≡ 0 = ap length e in
-        near-class n host depth j k (Reached w) at.at full h deep node at.is (omega arith)
-
     by : ByLast w → IsSmall host j (Reached w) (farthest n host)
-    by (empty e) = first e
+    by (empty e) = small-first n host depth j k w full h deep node e
     by (pushed v t e) = let long : length w ≡ suc (length v) = ap length e ∙ push-length v t in absurd (omega arith)
 small n host depth j k (suc m) w full h deep node l = by (by_last w) (λ v. small n host depth j k m v full h deep)
   where
-    first : w ≡ [] → IsSmall host j (Reached w) (farthest n host)
-    first e =
-        let at = node-stands n host j (Reached w) (true-where n host j full.truth) node in
-        let none : length w ≡ 0 = ap length e in
-        near-class n host depth j k (Reached w) at.at full h deep node at.is (omega arith)
-
     by : ByLast w → ((v : List ℤ) → IsNode j (Reached v) → length v ≤ m → IsSmall host j (Reached v) (farthest n host)) → IsSmall host j (Reached w) (farthest n host)
-    by (empty e) rest = first e
+    by (empty e) rest = small-first n host depth j k w full h deep node e
     by (pushed v t e) rest =
         let long : length w ≡ suc (length v) = ap length e ∙ push-length v t in
         let tree = growing-tree host depth j full.growing in

@@ -28,7 +28,7 @@ use Rattle.journal_defs.proofs.Standing.{leads-to, node-stands, standing-there, 
 use Rattle.journal_defs.proofs.Members.{all-map}
 use Rattle.journal_defs.specs.Depth.{EachSwitchHasAHost}
 use Rattle.growth_laws.proofs.Keeping.{asked-push}
-use Rattle.growth_laws.proofs.Asks.{HasTree, growing-tree, ByLast, by_last, not_empty, switch-node, expanded-has}
+use Rattle.growth_laws.proofs.Asks.{HasTree, growing-tree, ByLast, by_last, not_empty, first-unbegun, switch-node, expanded-has}
 use Rattle.growth_laws.proofs.Asks.ByLast.{empty, pushed}
 use Rattle.growth_laws.proofs.Phases.{begun-push}
 use Rattle.growth_laws.proofs.Truly.{true-where, switch-stands, node-asked}
@@ -162,11 +162,7 @@ record AreAlone (n : Network) (host : ℕ) (j : List Entry) : Type 0 where
   pub alone : (u w : List ℤ) (d : End) → IsBegun j u → IsBegun j w → standing n host (Reached u) ≡ Some d → standing n host (Reached w) ≡ Some d → u ≡ w
 
 alone-push : (n : Network) (host depth : ℕ) (j : List Entry) (e : Entry) → HasTree j → AreAlone n host j → (IsAtRest j → (w u : List ℤ) (d : End) → IsChosen host depth j w → IsBegun j u → standing n host (Reached u) ≡ Some d → standing n host (Reached w) ≡ Some d → ⊥) → NextAsk host depth j e.walk → AreAlone n host (j ++ e ∷ [])
-alone-push n host depth j e tree a chosen (first p q) = record { alone = λ u w d b c x y. absurd (none u b (asked-push j e (u ++ b.turn ∷ []) b.asked)) }
-  where
-    none : (w : List ℤ) (b : IsBegun (j ++ e ∷ []) w) → (is_asked j (w ++ b.turn ∷ []) ≡ true) ⊎ (e.walk ≡ w ++ b.turn ∷ []) → ⊥
-    none w b (inl r) = let s : is_asked [] (w ++ b.turn ∷ []) ≡ true = subst (λ i. is_asked i (w ++ b.turn ∷ []) ≡ true) p r in false≢true s
-    none w b (inr r) = not_empty w b.turn (sym r ∙ q)
+alone-push n host depth j e tree a chosen (first p q) = record { alone = λ u w d b c x y. absurd (first-unbegun j e u p q b) }
 alone-push n host depth j e tree a chosen (goes_on v t c l least is) = record { alone = λ u w d b o x y. a.alone u w d (back u (begun-push j e v u t tree is b)) (back w (begun-push j e v w t tree is o)) x y }
   where
     back : (w : List ℤ) → IsBegun j w ⊎ (w ≡ v) → IsBegun j w

@@ -21,7 +21,7 @@ use Rattle.journal_defs.proofs.Order.{same_turns-true, same_turns-refl}
 use Rattle.journal_defs.proofs.Counted.{onward-member}
 use Rattle.growth_laws.specs.Laws.{AsksAreFew}
 use Rattle.growth_laws.proofs.Keeping.{keeps-append, asked-push, begun-kept}
-use Rattle.growth_laws.proofs.Asks.{HasTree, growing-tree, growing-once, walks, ByLast, by_last, not_empty, switch-node, expanded-has}
+use Rattle.growth_laws.proofs.Asks.{HasTree, growing-tree, growing-once, walks, ByLast, by_last, first-unbegun, switch-node, expanded-has}
 use Rattle.growth_laws.proofs.Asks.ByLast.{empty, pushed}
 use Rattle.growth_laws.proofs.Phases.{begun-push, chosen-begun}
 use Rattle.growth_laws.proofs.Pigeons.{no-more}
@@ -116,11 +116,7 @@ begun-more j e w t ws tree now new is a = record {
 
 -- after any ask
 begun-after : (host depth : ℕ) (j : List Entry) (e : Entry) (ws : List (List ℤ)) → HasTree j → NextAsk host depth j e.walk → AreBegun j ws → (vs : List (List ℤ)) × AreBegun (j ++ e ∷ []) vs
-begun-after host depth j e ws tree (first a b) begun = ([], record { once = tt; each = tt; whole = λ w c. absurd (none w c (asked-push j e (w ++ c.turn ∷ []) c.asked)) })
-  where
-    none : (w : List ℤ) (c : IsBegun (j ++ e ∷ []) w) → (is_asked j (w ++ c.turn ∷ []) ≡ true) ⊎ (e.walk ≡ w ++ c.turn ∷ []) → ⊥
-    none w c (inl p) = let q : is_asked [] (w ++ c.turn ∷ []) ≡ true = subst (λ i. is_asked i (w ++ c.turn ∷ []) ≡ true) a p in false≢true q
-    none w c (inr p) = not_empty w c.turn (sym p ∙ b)
+begun-after host depth j e ws tree (first a b) begun = ([], record { once = tt; each = tt; whole = λ w c. absurd (first-unbegun j e w a b c) })
 begun-after host depth j e ws tree (goes_on w t b l least is) begun = (ws, begun-same j e w t ws tree b is begun)
 begun-after host depth j e ws tree (begins w rest c is) begun =
     (w ∷ ws, begun-more j e w (negsuc 14) ws tree (chosen-begun host depth j e w c is) (λ b. c.fresh (expanded-has host j w b.node (rest.expanded w b))) is begun)

@@ -22,7 +22,7 @@ use Rattle.journal_defs.proofs.Members.{all-member, all-from-members}
 use Rattle.journal_defs.proofs.Order.{below-shorter}
 use Rattle.journal_defs.specs.Depth.{enough_depth}
 use Rattle.growth_laws.proofs.Keeping.{keeps-append, asked-push, asked-last, asked-kept}
-use Rattle.growth_laws.proofs.Asks.{HasTree, growing-tree, growing-once, ByLast, by_last, not_empty, push-length, switch-node}
+use Rattle.growth_laws.proofs.Asks.{HasTree, growing-tree, growing-once, ByLast, by_last, not_empty, push-length, switch-node, first-unbegun}
 use Rattle.growth_laws.proofs.Asks.ByLast.{empty, pushed}
 use Rattle.growth_laws.proofs.Phases.{begun-push}
 use Rattle.growth_laws.proofs.Full.{IsFull}
@@ -73,11 +73,7 @@ pub record AreNear (j : List Entry) (k : ℕ) : Type 0 where
   pub near : (w : List ℤ) → IsBegun j w → crossed w < k
 
 near-push : (host depth k : ℕ) (j : List Entry) (e : Entry) → HasTree j → AreNear j k → ((w : List ℤ) → IsChosen host depth j w → crossed w < k) → NextAsk host depth j e.walk → AreNear (j ++ e ∷ []) k
-near-push host depth k j e tree a chosen (first p q) = record { near = λ w b. absurd (none w b (asked-push j e (w ++ b.turn ∷ []) b.asked)) }
-  where
-    none : (w : List ℤ) (b : IsBegun (j ++ e ∷ []) w) → (is_asked j (w ++ b.turn ∷ []) ≡ true) ⊎ (e.walk ≡ w ++ b.turn ∷ []) → ⊥
-    none w b (inl r) = let s : is_asked [] (w ++ b.turn ∷ []) ≡ true = subst (λ i. is_asked i (w ++ b.turn ∷ []) ≡ true) p r in false≢true s
-    none w b (inr r) = not_empty w b.turn (sym r ∙ q)
+near-push host depth k j e tree a chosen (first p q) = record { near = λ w b. absurd (first-unbegun j e w p q b) }
 near-push host depth k j e tree a chosen (goes_on v t c l least is) = record { near = λ w b. by w (begun-push j e v w t tree is b) }
   where
     by : (w : List ℤ) → IsBegun j w ⊎ (w ≡ v) → crossed w < k

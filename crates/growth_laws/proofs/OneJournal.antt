@@ -12,6 +12,8 @@ use Rattle.journal_defs.specs.Truth.{IsTrueJournal}
 use Rattle.journal_defs.specs.Growth.{IsGrowing, IsGrown, IsEndedByDepth, IsEndedAtLimit, NextAsk}
 use Rattle.journal_defs.specs.Growth.IsGrowing.{nothing, more}
 use Rattle.journal_defs.proofs.Asking.{next_ask_is_unique, no_ask_at_the_end}
+use Rattle.growth_laws.proofs.Asks.{ByLast, by_last, push-parts}
+use Rattle.growth_laws.proofs.Asks.ByLast.{empty, pushed}
 use Rattle.growth_laws.specs.Laws.{IsTold, ToldJournalIsOne, GrownJournalIsOne}
 
 -- what holds of all entries holds of those before and after
@@ -22,34 +24,6 @@ all-parts P (x ∷ xs) ys all = let rest = all-parts P xs ys all.1 in ((all.0, r
 pub true-parts : (n : Network) (host : ℕ) (j l : List Entry) → IsTrueJournal n host (j ++ l) → IsTrueJournal n host j × IsTrueJournal n host l
 true-parts n host j l all = all-parts (λ e. e.answer ≡ answer n host e.walk) j l all
 
--- a list is empty or has a last element
-data Ending {X : Type 0} (xs : List X) : Type 0 where
-  ends_empty : xs ≡ [] → Ending xs
-  ends_with : (ys : List X) (y : X) → xs ≡ ys ++ y ∷ [] → Ending xs
-
-ending : {X : Type 0} (xs : List X) → Ending xs
-ending [] = ends_empty refl
-ending (x ∷ xs) = by (ending xs)
-  where
-    by : Ending xs → Ending (x ∷ xs)
-    by (ends_empty e) = ends_with [] x (ap (λ l. x ∷ l) e)
-    by (ends_with ys y e) = ends_with (x ∷ ys) y (ap (λ l. x ∷ l) e)
-
-tail-none : {X : Type 0} (xs : List X) (x : X) → xs ++ x ∷ [] ≡ [] → ⊥
-tail-none [] x e = cc
-tail-none (y ∷ xs) x e = cc
-
-last-parts : {X : Type 0} (xs ys : List X) (x y : X) → xs ++ x ∷ [] ≡ ys ++ y ∷ [] → (xs ≡ ys) × (x ≡ y)
-last-parts [] [] x y e = (refl, (let one : x ≡ y = cc in one))
-last-parts [] (z ∷ ys) x y e = absurd (tail-none ys y (let tail : ys ++ y ∷ [] ≡ [] = cc in tail))
-last-parts (z ∷ xs) [] x y e = absurd (tail-none xs x (let tail : xs ++ x ∷ [] ≡ [] = cc in tail))
-last-parts (z ∷ xs) (w ∷ ys) x y e =
-    let head : z ≡ w = cc in
-    let tail : xs ++ x ∷ [] ≡ ys ++ y ∷ [] = cc in
-    let rest = last-parts xs ys x y tail in
-    let list : xs ≡ ys = rest.0 in
-    ((let both : z ∷ xs ≡ w ∷ ys = cc in both), rest.1)
-
 -- each entry of a growing journal was the next ask after those before it
 ask-at : (host depth : ℕ) (l j : List Entry) (e : Entry) (rest : List Entry) → IsGrowing host depth l → l ≡ j ++ e ∷ rest → NextAsk host depth j e.walk
 ask-at host depth l j e rest (nothing) is = absurd (none j (sym is))
@@ -57,15 +31,15 @@ ask-at host depth l j e rest (nothing) is = absurd (none j (sym is))
     none : (i : List Entry) → i ++ e ∷ rest ≡ [] → ⊥
     none [] p = cc
     none (x ∷ i) p = cc
-ask-at host depth l j e rest (more before f g ask whole) is = by (ending rest) (λ r. ask-at host depth before j e r g)
+ask-at host depth l j e rest (more before f g ask whole) is = by (by_last rest) (λ r. ask-at host depth before j e r g)
   where
-    by : Ending rest → ((r : List Entry) → before ≡ j ++ e ∷ r → NextAsk host depth j e.walk) → NextAsk host depth j e.walk
-    by (ends_empty p) again =
-        let parts = last-parts before j f e (sym whole ∙ is ∙ ap (λ r. j ++ e ∷ r) p) in
+    by : ByLast rest → ((r : List Entry) → before ≡ j ++ e ∷ r → NextAsk host depth j e.walk) → NextAsk host depth j e.walk
+    by (empty p) again =
+        let parts = push-parts before j f e (sym whole ∙ is ∙ ap (λ r. j ++ e ∷ r) p) in
         subst (λ (x : Entry). NextAsk host depth j x.walk) parts.1 (subst (λ i. NextAsk host depth i f.walk) parts.0 ask)
-    by (ends_with r x p) again =
+    by (pushed r x p) again =
         let split : before ++ f ∷ [] ≡ (j ++ e ∷ r) ++ x ∷ [] = sym whole ∙ is ∙ ap (λ q. j ++ e ∷ q) p ∙ sym (append_assoc j (e ∷ r) (x ∷ [])) in
-        again r (last-parts before (j ++ e ∷ r) f x split).0
+        again r (push-parts before (j ++ e ∷ r) f x split).0
 
 -- of two journals one begins with the other
 data Begins (j l : List Entry) : Type 0 where
@@ -77,15 +51,15 @@ told-part : (tell : List Entry → List ℤ → Answer) (j l rest : List Entry) 
 told-part tell j l rest t is = record { told = λ before e r p. t.told before e (r ++ rest) (is ∙ ap (λ i. i ++ rest) p ∙ append_assoc before (e ∷ r) rest) }
 
 pub told-push : (tell : List Entry → List ℤ → Answer) (j : List Entry) (e : Entry) → IsTold tell j → e.answer ≡ tell j e.walk → IsTold tell (j ++ e ∷ [])
-told-push tell j e t a = record { told = λ before f r p. by before f r p (ending r) }
+told-push tell j e t a = record { told = λ before f r p. by before f r p (by_last r) }
   where
-    by : (before : List Entry) (f : Entry) (r : List Entry) → j ++ e ∷ [] ≡ before ++ f ∷ r → Ending r → f.answer ≡ tell before f.walk
-    by before f r p (ends_empty q) =
-        let parts = last-parts j before e f (p ∙ ap (λ x. before ++ f ∷ x) q) in
+    by : (before : List Entry) (f : Entry) (r : List Entry) → j ++ e ∷ [] ≡ before ++ f ∷ r → ByLast r → f.answer ≡ tell before f.walk
+    by before f r p (empty q) =
+        let parts = push-parts j before e f (p ∙ ap (λ x. before ++ f ∷ x) q) in
         subst (λ (x : Entry). x.answer ≡ tell before x.walk) parts.1 (subst (λ i. e.answer ≡ tell i e.walk) parts.0 a)
-    by before f r p (ends_with ys y q) =
+    by before f r p (pushed ys y q) =
         let split : j ++ e ∷ [] ≡ (before ++ f ∷ ys) ++ y ∷ [] = p ∙ ap (λ x. before ++ f ∷ x) q ∙ sym (append_assoc before (f ∷ ys) (y ∷ [])) in
-        t.told before f ys (last-parts j (before ++ f ∷ ys) e y split).0
+        t.told before f ys (push-parts j (before ++ f ∷ ys) e y split).0
 
 -- true answers are told by the fabric, whatever was asked before
 pub true-told : (n : Network) (host : ℕ) (j : List Entry) → IsTrueJournal n host j → IsTold (λ i w. answer n host w) j
@@ -136,13 +110,13 @@ stops host depth j e rest g h = by g.ended h.ended
 
     limit : IsEndedAtLimit j → IsEndedByDepth host depth (j ++ e ∷ rest) ⊎ IsEndedAtLimit (j ++ e ∷ rest) → ⊥
     limit p (inl q) = let a = p.passed in let b = q.kept in let c = reached-more j (e ∷ rest) in omega arith
-    limit p (inr q) = last (ending (e ∷ rest))
+    limit p (inr q) = last (by_last (e ∷ rest))
       where
-        last : Ending (e ∷ rest) → ⊥
-        last (ends_empty none) = cc
-        last (ends_with r x s) =
+        last : ByLast (e ∷ rest) → ⊥
+        last (empty none) = cc
+        last (pushed r x s) =
             let split : q.before ++ q.last ∷ [] ≡ (j ++ r) ++ x ∷ [] = sym q.whole ∙ ap (λ i. j ++ i) s ∙ sym (append_assoc j r (x ∷ [])) in
-            let before : q.before ≡ j ++ r = (last-parts q.before (j ++ r) q.last x split).0 in
+            let before : q.before ≡ j ++ r = (push-parts q.before (j ++ r) q.last x split).0 in
             let a = p.passed in
             let b : length (reached q.before) ≡ length (reached (j ++ r)) = ap (λ i. length (reached i)) before in
             let c = q.kept in

@@ -16,7 +16,7 @@ use Rattle.journal_defs.proofs.Standing.{replicates-nodes}
 use Rattle.journal_defs.proofs.Asking.{unasked-open}
 use Rattle.journal_defs.proofs.OneSwitch.{first_turn}
 use Rattle.growth_laws.proofs.Keeping.{Keeps, keeps-append, asked-push, answered-push, replicates-kept, expanded-kept, asked-last, begun-kept, node-kept}
-use Rattle.growth_laws.proofs.Asks.{HasTree, growing-tree, push-parts, push-length, not_empty, switch-node, expanded-begun}
+use Rattle.growth_laws.proofs.Asks.{HasTree, growing-tree, push-parts, push-length, not_empty, switch-node, expanded-begun, first-unbegun}
 
 -- an expanded member that is no longer than a node
 pub record HasShort (host : ℕ) (j : List Entry) (w : List ℤ) : Type 0 where
@@ -169,11 +169,7 @@ chosen-begun host depth j e w c is = record {
 
 -- the stage after an ask
 stage-push : (host depth : ℕ) (j : List Entry) (e : Entry) → HasTree j → Stage host j → NextAsk host depth j e.walk → Stage host (j ++ e ∷ [])
-stage-push host depth j e tree s (first a b) = fresh (λ m g. none m g (asked-push j e (m ++ g.turn ∷ []) g.asked))
-  where
-    none : (m : List ℤ) (g : IsBegun (j ++ e ∷ []) m) → (is_asked j (m ++ g.turn ∷ []) ≡ true) ⊎ (e.walk ≡ m ++ g.turn ∷ []) → ⊥
-    none m g (inl p) = let q : is_asked [] (m ++ g.turn ∷ []) ≡ true = subst (λ i. is_asked i (m ++ g.turn ∷ []) ≡ true) a p in false≢true q
-    none m g (inr p) = not_empty m g.turn (sym p ∙ b)
+stage-push host depth j e tree s (first a b) = fresh (λ m g. first-unbegun j e m a b g)
 stage-push host depth j e tree (fresh none) (goes_on w t b l least is) = absurd (none w b)
 stage-push host depth j e tree (under_way c now) (goes_on w t b l least is) = under_way c (current-goes host j e c w t tree now b l is)
 stage-push host depth j e tree s (begins w rest c is) = under_way w (current-begins host depth j e w (negsuc 14) tree (ready host depth j w s rest c) rest (chosen-begun host depth j e w c is) is)

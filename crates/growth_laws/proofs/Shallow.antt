@@ -22,10 +22,10 @@ use Rattle.journal_defs.proofs.OneSwitch.{turn_unasked}
 use Rattle.growth_laws.specs.Laws.{EndsClosed}
 use Rattle.growth_laws.proofs.Depth.{depth_suffices}
 
-one_cable_fabric : IsFabric one_cable
+pub one_cable_fabric : IsFabric one_cable
 one_cable_fabric = record { few_hosts = omega arith; few_switches = omega arith; names_apart = search rules; port_counts = search rules; cabled_ports = search rules; ports_once = search rules }
 
-one_cable_true : IsTrueJournal one_cable 0 one_cable_journal
+pub one_cable_true : IsTrueJournal one_cable 0 one_cable_journal
 one_cable_true = search rules
 
 -- host a is cabled to the only switch
@@ -48,20 +48,19 @@ pub one_cable_small : IsSmallEnough one_cable 0
 one_cable_small = inl (omega arith)
 
 -- no switch, no turn: one ask
+pub one_cable_no_switch : (w : List ℤ) → ¬ IsSwitchNode one_cable_journal w
+one_cable_no_switch [] e = cc
+one_cable_no_switch (t ∷ w) e = cc
+
 one_cable_two : IsGrown 0 2 one_cable_journal
 one_cable_two = record {
   growing = more [] (told [] (IsHost 1)) nothing (first refl refl) refl;
   ended = inl (record {
     started = refl;
     at_rest = record { expanded = λ w b. absurd (turn_unasked one_cable_journal w b.turn refl b.asked) };
-    expanded = λ w s l. absurd (no_switch w s);
+    expanded = λ w s l. absurd (one_cable_no_switch w s);
     kept = omega arith;
   });
 }
-  where
-    no_switch : (w : List ℤ) → IsSwitchNode one_cable_journal w → ⊥
-    no_switch [] e = cc
-    no_switch (t ∷ w) e = cc
-
 pub one_cable_end : EndsClosed 0 2 one_cable_journal
 one_cable_end = depth_suffices one_cable 0 2 one_cable_journal one_cable_fabric refl (omega arith) one_cable_small one_cable_true one_cable_two

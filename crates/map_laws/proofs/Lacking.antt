@@ -14,13 +14,13 @@ use Rattle.journal_defs.specs.Growth.IsGrowing.{nothing, more}
 use Rattle.journal_defs.specs.Growth.NextAsk.{first}
 use Rattle.journal_defs.specs.Part.{IsInPart}
 use Rattle.journal_defs.specs.Part.Path.{here, over}
+use Rattle.journal_defs.proofs.Grown.{two_hosts_fabric}
 use Rattle.map_defs.specs.NetMap.{NetMap, host_of_vertex}
 use Rattle.map_defs.specs.Quotient.{IsQuotient}
 use Rattle.map_defs.specs.Sameness.{IsMapOfPart, address_of}
-use Rattle.map_laws.specs.Examples.{lone_map, unexpanded, stub_map}
 use Rattle.growth_laws.proofs.Truly.{true-where}
+use Rattle.map_laws.specs.Examples.{lone_map, unexpanded, stub_map}
 use Rattle.map_laws.proofs.TwoNodes.{IsOneOf, IsShort, short_quotient}
-use Rattle.journal_defs.proofs.Grown.{two_hosts_fabric}
 
 lacking : (n : Network) (host h : ℕ) (m : NetMap) → IsInPart n host (Host h) → ((v : ℕ) → host_of_vertex m v ≢ Some h) → ¬ IsMapOfPart n host m
 lacking n host h m part none same =

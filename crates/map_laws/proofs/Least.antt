@@ -2,6 +2,7 @@
 use Rattle.std.proofs.Common.{◌≡◌, ◌<◌, ℕ, zero, suc, List, [], ◌∷◌, map, length, false, Option, Some, None, sym, ◌∙◌, ap, true≢false, refl, arith, ◌⊎◌, inl, inr}
 use Rattle.std.specs.Prelude.{ℤ, ◌+ℤ◌, neg_ℤ, slice_get}
 use Rattle.std.proofs.lemmas.Bool.{cases_order}
+use Rattle.std.proofs.lemmas.List.{length-map}
 use Rattle.journal_defs.specs.declared.entry.Entry.{Entry}
 use Rattle.journal_defs.specs.Tree.{Node, host_of, node_below}
 use Rattle.journal_defs.specs.Tree.Node.{Mapper, Reached}
@@ -39,10 +40,6 @@ get-map f [] v x e = cc
 get-map f (y ∷ ys) zero x e = let one : y ≡ x = cc in ap (λ z. Some (f z)) one
 get-map f (y ∷ ys) (suc v) x e = get-map f ys v x e
 
-pub map-length : {X Y : Type 0} (f : X → Y) (xs : List X) → length (map f xs) ≡ length xs
-map-length f [] = refl
-map-length f (x ∷ xs) = ap suc (map-length f xs)
-
 -- the vertices that are named for least nodes
 pub named-length : (s : ℕ) (os : List (Option ℕ)) → length (named s os) ≡ length os
 named-length s [] = refl
@@ -58,7 +55,7 @@ named-host s (None ∷ os) (suc v) o e = named-host (suc s) os v o e
 
 module _ (host : ℕ) (j : List Entry) (m : NetMap) (q : IsQuotient host j m) where
   pub vertex-count : length m.vertices ≡ length q.least
-  vertex-count = ap length q.vertices ∙ named-length 0 (map (host_of host j) q.least) ∙ map-length (host_of host j) q.least
+  vertex-count = ap length q.vertices ∙ named-length 0 (map (host_of host j) q.least) ∙ length-map q.least (host_of host j)
 
   pub vertex-below : (v : ℕ) (u : Node) → slice_get q.least v ≡ Some u → v < length m.vertices
   vertex-below v u e = let l = get-below q.least v u e in let c = vertex-count in omega arith

@@ -4,19 +4,17 @@ use Rattle.std.specs.Prelude.{slice_get}
 use Rattle.std.specs.List.{list_any}
 use Rattle.std.proofs.lemmas.Bool.{false≢true, cases_order}
 use Rattle.std.proofs.lemmas.Bool.Decides.{Decides-eqb}
+use Rattle.std.proofs.lemmas.List.{length-map}
 use Rattle.journal_defs.specs.Counting.{numbers_below}
 use Rattle.journal_defs.specs.Edges.{is_among}
 use Rattle.journal_defs.proofs.Reach.{among-append, among-parts}
 use Rattle.map_defs.specs.declared.vertex.MapCable.{MapCable}
 use Rattle.map_defs.specs.NetMap.{NetMap, host_of_vertex, is_switch_vertex}
 use Rattle.map_defs.specs.Core.{side, is_hostless, hostless_side, cut_off, cut_off_by, is_outside, core_of}
+use Rattle.map_defs.proofs.Levels.{length-numbers}
 use Rattle.map_laws.specs.Certificate.{MarkedMapIsMap}
-use Rattle.map_laws.proofs.Least.{get-map, map-length}
+use Rattle.map_laws.proofs.Least.{get-map}
 use Rattle.map_laws.proofs.Listed.{host-below}
-
-below-length : (k : ℕ) → length (numbers_below k) ≡ k
-below-length zero = refl
-below-length (suc k) = let l = length-append (numbers_below k) (k ∷ []) in let r = below-length k in omega (arith, l, r)
 
 -- a list with one element more, at the places before it and at its own
 get-left : (xs : List ℕ) (x v : ℕ) → v < length xs → slice_get (xs ++ x ∷ []) v ≡ slice_get xs v
@@ -36,7 +34,7 @@ below-place zero v l = absurd (omega arith)
 below-place (suc k) v l = by (cases_order v k) (below-place k v)
   where
     many : length (numbers_below k) ≡ k
-    many = below-length k
+    many = length-numbers k
 
     by : (v ≡ k) ⊎ ((v < k) ⊎ (k < v)) → (v < k → slice_get (numbers_below k) v ≡ Some v) → slice_get (numbers_below k ++ k ∷ []) v ≡ Some v
     by (inl e) rest = get-last (numbers_below k) k v (e ∙ sym many) ∙ ap Some (sym e)
@@ -107,7 +105,7 @@ pub marked_map_is_map : MarkedMapIsMap
 marked_map_is_map m rules = record {
   hosts_once = rules.hosts_once;
   switches_numbered = rules.switches_numbered;
-  one_mark_each = map-length (λ v. not (is_outside m v)) (numbers_below (length m.vertices)) ∙ below-length (length m.vertices);
+  one_mark_each = length-map (numbers_below (length m.vertices)) (λ v. not (is_outside m v)) ∙ length-numbers (length m.vertices);
   hosts_marked = host-core m;
   cabled_vertices = rules.cabled_vertices;
   ports_once = rules.ports_once;

@@ -17,23 +17,14 @@ use Rattle.journal_defs.specs.Examples.{one_cable_journal}
 use Rattle.map_defs.specs.NetMap.{MapPort, IsCabled}
 use Rattle.map_defs.specs.NetMap.IsCabled.{forth, back}
 use Rattle.map_defs.specs.Quotient.{IsQuotient, IsLeastNode, HasVertex}
-use Rattle.map_laws.specs.Examples.{one_cable_map, lost_probe, lone_map}
+use Rattle.growth_laws.proofs.Shallow.{one_cable_fabric, one_cable_true, one_cable_no_switch}
 use Rattle.growth_laws.proofs.Truly.{true-where}
+use Rattle.map_laws.specs.Examples.{one_cable_map, lost_probe, lone_map}
 use Rattle.map_laws.proofs.TwoNodes.{IsOneOf, IsShort, short_quotient}
-
-pub one_cable_fabric : IsFabric one_cable
-one_cable_fabric = record { few_hosts = omega arith; few_switches = omega arith; names_apart = search rules; port_counts = search rules; cabled_ports = search rules; ports_once = search rules }
-
-pub one_cable_true : IsTrueJournal one_cable 0 one_cable_journal
-one_cable_true = search rules
 
 -- no node found a switch
 pub one_cable_closed : IsClosed 0 one_cable_journal
-one_cable_closed = record { expanded = λ w s. absurd (none w s) }
-  where
-    none : (w : List ℤ) → IsSwitchNode one_cable_journal w → ⊥
-    none [] s = cc
-    none (t ∷ w) s = cc
+one_cable_closed = record { expanded = λ w s. absurd (one_cable_no_switch w s) }
 
 one_of_two : (u : Node) → IsNode one_cable_journal u → IsOneOf u
 one_of_two Mapper n = inl refl

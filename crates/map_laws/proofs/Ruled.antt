@@ -4,6 +4,7 @@ use Rattle.std.specs.Prelude.{ℤ, pos, ◌+ℤ◌, ◌-ℤ◌, neg_ℤ, slice_g
 use Rattle.std.specs.List.{AllByRecursion}
 use Rattle.std.proofs.lemmas.Bool.Decides.{nat_tests}
 use Rattle.std.proofs.lemmas.Int.{ints}
+use Rattle.std.proofs.lemmas.List.{length-map}
 use Rattle.net_defs.specs.declared.vertex.Vertex.{Vertex}
 use Rattle.net_defs.specs.declared.vertex.End.{End}
 use Rattle.net_defs.specs.Network.{Network, IsFabric, Apart, has_port}
@@ -22,10 +23,10 @@ use Rattle.map_defs.specs.declared.vertex.MapCable.{MapCable}
 use Rattle.map_defs.specs.NetMap.{NetMap, MapPort, IsMap, IsCabled, IsNearPort, AreNearPorts, first_end, second_end, map_ends, host_of_vertex, switches_of}
 use Rattle.map_defs.specs.NetMap.IsCabled.{forth, back}
 use Rattle.map_defs.specs.Quotient.{IsQuotient}
-use Rattle.map_laws.specs.Certificate.{QuotientIsMap}
 use Rattle.growth_laws.proofs.Truly.{port-there}
 use Rattle.growth_laws.proofs.Crossing.{below-ports}
-use Rattle.map_laws.proofs.Least.{vertex-below, below-vertex, vertex-host, class-one, below-get, get-map, map-length}
+use Rattle.map_laws.specs.Certificate.{QuotientIsMap}
+use Rattle.map_laws.proofs.Least.{vertex-below, below-vertex, vertex-host, class-one, below-get, get-map}
 use Rattle.map_laws.proofs.Listed.{host-below, hosts-apart, ports-apart, all-ends, near-ports, switches-numbered}
 
 -- the vertex and port of the fabric that an end of a cable stands for
@@ -148,7 +149,7 @@ module _ (n : Network) (host : ℕ) (j : List Entry) (m : NetMap) (fabric : IsFa
   ruled = record {
     hosts_once = hosts-apart m.vertices quotient_hosts;
     switches_numbered = ap switches_of q.vertices ∙ switches-numbered (map (host_of host j) q.least) ∙ ap (λ vs. numbers_below (length (switches_of vs))) (sym q.vertices);
-    one_mark_each = ap length q.unmarked ∙ map-length (λ v. true) m.vertices;
+    one_mark_each = ap length q.unmarked ∙ length-map m.vertices (λ v. true);
     hosts_marked = λ v h e. let x = below-get m.vertices v (host-below m.vertices v h e) in ap (λ c. slice_get c v) q.unmarked ∙ get-map (λ v. true) m.vertices v x.0 x.1;
     cabled_vertices = cabled_vertices;
     ports_once = ports_once;
