@@ -11,7 +11,7 @@ use Rattle.journal_defs.specs.Walks.{IsOnward, same_turns}
 use Rattle.journal_defs.specs.Tree.{IsNode, IsSwitchNode, IsJournal, is_asked, answered, has_found}
 use Rattle.journal_defs.specs.Tree.Node.{Reached}
 use Rattle.journal_defs.specs.Replicates.Replicates.{same}
-use Rattle.journal_defs.specs.Growth.{IsBegun, IsExpanded, IsLeastUnasked, IsGrowing, NextAsk, HasExpanded}
+use Rattle.journal_defs.specs.Growth.{IsBegun, IsExpanded, IsGrowing, NextAsk, HasExpanded}
 use Rattle.journal_defs.specs.Growth.IsGrowing.{nothing, more}
 use Rattle.journal_defs.specs.Growth.NextAsk.{first, goes_on, begins}
 use Rattle.journal_defs.proofs.Order.{same_turns-refl}

@@ -1,6 +1,6 @@
 -- Over each cable of a vertex at which a node stands there is a node, where the node's class is expanded.
 use Rattle.std.proofs.Common.{◌≡◌, ◌≢◌, ◌<◌, ◌≤◌, ℕ, suc, List, [], ◌∷◌, ◌++◌, length, Bool, true, false, Some, None, sym, ◌∙◌, subst, ap, true≢false, refl, arith, nat_lt, if◌then◌else◌}
-use Rattle.std.specs.Prelude.{ℤ, pos, negsuc, ◌+ℤ◌, ◌-ℤ◌, ◌&&◌, int_le, int_lt, nat_abs, option_map, option_and_then}
+use Rattle.std.specs.Prelude.{ℤ, pos, ◌+ℤ◌, ◌-ℤ◌, ◌&&◌, int_le, int_lt, nat_abs, option_map, option_and_then}
 use Rattle.std.specs.Ordering.{int_eq}
 use Rattle.std.proofs.lemmas.Bool.{and_from}
 use Rattle.std.proofs.lemmas.Bool.Decides.{Decides-int_eq, nat_tests}
@@ -8,7 +8,6 @@ use Rattle.std.proofs.lemmas.Int.{ints}
 use Rattle.net_defs.specs.declared.vertex.Vertex.{Vertex}
 use Rattle.net_defs.specs.declared.vertex.Vertex.TheVariants.{Host, Switch}
 use Rattle.net_defs.specs.declared.vertex.End.{End}
-use Rattle.net_defs.specs.Turn.{IsTurn}
 use Rattle.net_defs.specs.Network.{Network, IsFabric, far, has_port, ports_of}
 use Rattle.net_defs.specs.Route.{turned, exit_at, leaving_port, host_port}
 use Rattle.journal_defs.specs.declared.entry.Entry.{Entry}

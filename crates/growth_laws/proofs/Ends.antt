@@ -23,16 +23,15 @@ use Rattle.journal_defs.specs.Growth.NextAsk.{first, goes_on, begins}
 use Rattle.journal_defs.specs.Truth.{IsTrueJournal, standing}
 use Rattle.journal_defs.specs.Part.{Path, IsInPart}
 use Rattle.journal_defs.specs.Part.Path.{here, over}
-use Rattle.journal_defs.proofs.Cabling.{far-back, at_most_sixteen}
-use Rattle.journal_defs.proofs.Standing.{leads-to, node-stands, standing-there, leads-crosses, plus_zero}
+use Rattle.journal_defs.proofs.Cabling.{far-back}
+use Rattle.journal_defs.proofs.Standing.{leads-to, node-stands, standing-there, leads-crosses}
 use Rattle.journal_defs.proofs.Members.{all-map}
 use Rattle.journal_defs.specs.Depth.{EachSwitchHasAHost}
-use Rattle.growth_laws.proofs.Keeping.{asked-push}
-use Rattle.growth_laws.proofs.Asks.{HasTree, growing-tree, ByLast, by_last, not_empty, first-unbegun, switch-node, expanded-has}
+use Rattle.growth_laws.proofs.Asks.{HasTree, growing-tree, ByLast, by_last, first-unbegun, switch-node, expanded-has}
 use Rattle.growth_laws.proofs.Asks.ByLast.{empty, pushed}
 use Rattle.growth_laws.proofs.Phases.{begun-push}
 use Rattle.growth_laws.proofs.Truly.{true-where, switch-stands, node-asked}
-use Rattle.growth_laws.proofs.Crossing.{cross, below-ports}
+use Rattle.growth_laws.proofs.Crossing.{below-ports}
 use Rattle.growth_laws.proofs.Full.{AreOne, Step, expanded-member, over-member, before-cable, two-hosts, same-port, behind-port}
 use Rattle.growth_laws.proofs.Closing.{in-part}
 use Rattle.growth_laws.proofs.OneJournal.{true-parts}

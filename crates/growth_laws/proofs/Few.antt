@@ -1,10 +1,8 @@
 -- How many asks a growing journal has: 30 for each node that is begun, and one more.
 use Rattle.std.proofs.Common.{◌≡◌, ◌≢◌, ◌≤◌, ◌+◌, ◌*◌, ℕ, suc, List, [], ◌∷◌, ◌++◌, map, length, Bool, true, false, Some, is_some, sym, ◌∙◌, subst, ap, true≢false, refl, arith, length-append, if◌then◌else◌, ◌⊎◌, inl, inr}
 use Rattle.std.specs.Prelude.{ℤ, negsuc}
-use Rattle.std.specs.Ordering.{int_eq}
-use Rattle.std.specs.List.{AllByRecursion, list_any}
-use Rattle.std.proofs.lemmas.Bool.{false≢true, or_cases}
-use Rattle.std.proofs.lemmas.Bool.Decides.{Decides-int_eq}
+use Rattle.std.specs.List.{AllByRecursion}
+use Rattle.std.proofs.lemmas.Bool.{false≢true}
 use Rattle.std.proofs.lemmas.List.{length-map}
 use Rattle.net_defs.specs.Network.{Apart}
 use Rattle.net_defs.proofs.Distinct.{all-weaker}
@@ -15,12 +13,11 @@ use Rattle.journal_defs.specs.Tree.Node.{Reached}
 use Rattle.journal_defs.specs.Growth.{IsGrowing, IsBegun, NextAsk}
 use Rattle.journal_defs.specs.Growth.IsGrowing.{nothing, more}
 use Rattle.journal_defs.specs.Growth.NextAsk.{first, goes_on, begins}
-use Rattle.journal_defs.proofs.Growing.{onward-pass}
 use Rattle.journal_defs.proofs.Members.{IsMember, member-left, member-right, member-map, all-member}
 use Rattle.journal_defs.proofs.Order.{same_turns-true, same_turns-refl}
 use Rattle.journal_defs.proofs.Counted.{onward-member}
 use Rattle.growth_laws.specs.Laws.{AsksAreFew}
-use Rattle.growth_laws.proofs.Keeping.{keeps-append, asked-push, begun-kept}
+use Rattle.growth_laws.proofs.Keeping.{keeps-append, begun-kept}
 use Rattle.growth_laws.proofs.Asks.{HasTree, growing-tree, growing-once, walks, ByLast, by_last, first-unbegun, switch-node, expanded-has}
 use Rattle.growth_laws.proofs.Asks.ByLast.{empty, pushed}
 use Rattle.growth_laws.proofs.Phases.{begun-push, chosen-begun}

@@ -21,8 +21,8 @@ use Rattle.journal_defs.proofs.Counted.{walks_are_few}
 use Rattle.journal_defs.proofs.Members.{all-member, all-from-members}
 use Rattle.journal_defs.proofs.Order.{below-shorter}
 use Rattle.journal_defs.specs.Depth.{enough_depth}
-use Rattle.growth_laws.proofs.Keeping.{keeps-append, asked-push, asked-last, asked-kept}
-use Rattle.growth_laws.proofs.Asks.{HasTree, growing-tree, growing-once, ByLast, by_last, not_empty, push-length, switch-node, first-unbegun}
+use Rattle.growth_laws.proofs.Keeping.{keeps-append, asked-last, asked-kept}
+use Rattle.growth_laws.proofs.Asks.{HasTree, growing-tree, growing-once, ByLast, by_last, push-length, switch-node, first-unbegun}
 use Rattle.growth_laws.proofs.Asks.ByLast.{empty, pushed}
 use Rattle.growth_laws.proofs.Phases.{begun-push}
 use Rattle.growth_laws.proofs.Full.{IsFull}

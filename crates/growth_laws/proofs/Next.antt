@@ -1,10 +1,8 @@
 -- A growing journal has a next ask, or its growth has ended by its depth.
-use Rattle.std.proofs.Common.{◌≡◌, ◌≢◌, ◌<◌, ℕ, List, [], ◌∷◌, ◌++◌, length, Bool, true, false, not, ◌&&◌, Option, Some, None, sym, ◌∙◌, subst, ap, true≢false, refl, arith, ◌⊎◌, inl, inr}
-use Rattle.std.specs.Prelude.{ℤ, pos, negsuc, ◌<ℤ◌, int_lt}
-use Rattle.std.specs.Ordering.{int_eq}
-use Rattle.std.proofs.lemmas.Bool.{and_parts, cases_order}
+use Rattle.std.proofs.Common.{◌≡◌, ◌≢◌, ◌<◌, ℕ, List, [], ◌∷◌, ◌++◌, length, Bool, true, false, Option, Some, None, sym, ◌∙◌, subst, ap, true≢false, refl, arith, ◌⊎◌, inl, inr}
+use Rattle.std.specs.Prelude.{ℤ, negsuc, ◌<ℤ◌, int_lt}
+use Rattle.std.proofs.lemmas.Bool.{cases_order}
 use Rattle.std.proofs.lemmas.Int.{ints}
-use Rattle.net_defs.specs.Turn.{is_turn}
 use Rattle.net_defs.specs.declared.place.Answer.{Answer}
 use Rattle.net_defs.specs.declared.place.Answer.TheVariants.{Host, Switch, Nothing}
 use Rattle.net_defs.specs.Network.{Network, IsFabric}
@@ -15,7 +13,7 @@ use Rattle.journal_defs.specs.Tree.Node.{Reached}
 use Rattle.journal_defs.specs.Growth.{IsGrowing, IsBegun, IsExpanded, IsAtRest, IsLeastUnasked, IsEndedByDepth, HasExpanded, NextAsk, crossed}
 use Rattle.journal_defs.specs.Growth.NextAsk.{first, goes_on, begins}
 use Rattle.journal_defs.specs.Truth.{IsTrueWhereFound}
-use Rattle.journal_defs.proofs.Members.{IsMember, member-passes, all-member}
+use Rattle.journal_defs.proofs.Members.{IsMember, all-member}
 use Rattle.journal_defs.proofs.Order.{below-irrefl, below-trans, below-parts}
 use Rattle.journal_defs.proofs.Standing.{replicates-nodes}
 use Rattle.journal_defs.proofs.Counted.{onward-member, all-onward}

@@ -16,7 +16,7 @@ use Rattle.journal_defs.proofs.Standing.{replicates-nodes}
 use Rattle.journal_defs.proofs.Asking.{unasked-open}
 use Rattle.journal_defs.proofs.OneSwitch.{first_turn}
 use Rattle.growth_laws.proofs.Keeping.{Keeps, keeps-append, asked-push, answered-push, replicates-kept, expanded-kept, asked-last, begun-kept, node-kept}
-use Rattle.growth_laws.proofs.Asks.{HasTree, growing-tree, push-parts, push-length, not_empty, switch-node, expanded-begun, first-unbegun}
+use Rattle.growth_laws.proofs.Asks.{HasTree, growing-tree, push-parts, push-length, switch-node, expanded-begun, first-unbegun}
 
 -- an expanded member that is no longer than a node
 pub record HasShort (host : ℕ) (j : List Entry) (w : List ℤ) : Type 0 where

@@ -1,10 +1,9 @@
 -- A list without repetitions whose members stand in another is no longer than that.
-use Rattle.std.proofs.Common.{◌≡◌, ◌≢◌, ◌<◌, ◌≤◌, ◌+◌, ℕ, zero, suc, List, [], ◌∷◌, ◌++◌, map, length, sym, ◌∙◌, ap, refl, arith, length-append, ◌⊎◌, inl, inr}
+use Rattle.std.proofs.Common.{◌≡◌, ◌≢◌, ◌<◌, ◌≤◌, ℕ, suc, List, [], ◌∷◌, map, length, sym, ◌∙◌, ap, refl, arith, inl, inr}
 use Rattle.std.specs.List.{AllByRecursion}
-use Rattle.std.proofs.lemmas.Bool.{cases_order}
 use Rattle.net_defs.specs.Network.{Apart}
 use Rattle.journal_defs.specs.Counting.{numbers_below}
-use Rattle.journal_defs.proofs.Members.{IsMember, member-left, member-right, all-member}
+use Rattle.journal_defs.proofs.Members.{IsMember, all-member, number-member, length-numbers}
 
 -- a list without one of its members
 removed : {X : Type 0} (x : X) (ys : List X) → IsMember x ys → List X
@@ -43,21 +42,8 @@ member-map-all P f (x ∷ xs) apart all one = (new xs apart.0 all.1, member-map-
     new [] d a = tt
     new (y ∷ ys) d a = ((λ e. d.0 (one x y all.0 a.0 e)), new ys d.1 a.1)
 
-number-member : (n q : ℕ) → q < n → IsMember q (numbers_below n)
-number-member zero q l = absurd (omega arith)
-number-member (suc n) q l = by (cases_order q n) (number-member n q)
-  where
-    by : (q ≡ n) ⊎ ((q < n) ⊎ (n < q)) → (q < n → IsMember q (numbers_below n)) → IsMember q (numbers_below n ++ n ∷ [])
-    by (inl e) rest = member-right q (numbers_below n) (n ∷ []) (inl e)
-    by (inr (inl a)) rest = member-left q (numbers_below n) (n ∷ []) (rest a)
-    by (inr (inr a)) rest = absurd (omega arith)
-
-numbers-length : (n : ℕ) → length (numbers_below n) ≡ n
-numbers-length zero = refl
-numbers-length (suc n) = let rest = numbers-length n in length-append (numbers_below n) (n ∷ []) ∙ (let e : length (numbers_below n) + 1 ≡ suc n = omega arith in e)
-
 pub few-below : (n : ℕ) (xs : List ℕ) → Apart xs → AllByRecursion (λ q. q < n) xs → length xs ≤ n
 few-below n xs apart all =
     let most = no-more xs (numbers_below n) apart (λ q i. number-member n q (all-member (λ q. q < n) q xs all i)) in
-    let long = numbers-length n in
+    let long = length-numbers n in
     omega arith

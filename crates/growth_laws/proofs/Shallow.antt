@@ -62,5 +62,6 @@ one_cable_two = record {
     kept = omega arith;
   });
 }
+
 pub one_cable_end : EndsClosed 0 2 one_cable_journal
 one_cable_end = depth_suffices one_cable 0 2 one_cable_journal one_cable_fabric refl (omega arith) one_cable_small one_cable_true one_cable_two

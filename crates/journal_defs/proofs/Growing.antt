@@ -5,6 +5,7 @@ use Rattle.std.specs.List.{list_all}
 use Rattle.std.proofs.lemmas.Bool.{false≢true, and_parts, and_from, cases_order}
 use Rattle.std.proofs.lemmas.Bool.Decides.{nat_tests}
 use Rattle.std.proofs.lemmas.Int.{ints}
+use Rattle.std.proofs.lemmas.List.{map-append}
 use Rattle.net_defs.specs.Turn.{is_turn}
 use Rattle.net_defs.specs.declared.place.Answer.{Answer}
 use Rattle.journal_defs.specs.declared.entry.Entry.{Entry}
@@ -62,10 +63,6 @@ all-append test (x ∷ xs) ys all =
     let two = and_parts (test x) (list_all test (xs ++ ys)) all in
     let rest = all-append test xs ys two.1 in
     (and_from (test x) (list_all test xs) two.0 rest.0, rest.1)
-
-map-append : {X Y : Type 0} (f : X → Y) (xs ys : List X) → map f (xs ++ ys) ≡ map f xs ++ map f ys
-map-append f [] ys = refl
-map-append f (x ∷ xs) ys = ap (λ l. f x ∷ l) (map-append f xs ys)
 
 pub rising-pass : {X : Type 0} (test : X → Bool) (f : ℕ → X) (n k : ℕ) → list_all test (map f (numbers_below n)) ≡ true → k < n → test (f k) ≡ true
 rising-pass test f zero k all l = absurd (omega arith)

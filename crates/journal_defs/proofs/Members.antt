@@ -1,9 +1,10 @@
 -- Members of lists, and lists in which no element stands twice.
-use Rattle.std.proofs.Common.{◌≡◌, ◌≢◌, ℕ, zero, suc, List, [], ◌∷◌, ◌++◌, map, Bool, true, Some, sym, ◌∙◌, subst, ap, refl, ◌⊎◌, inl, inr}
+use Rattle.std.proofs.Common.{◌≡◌, ◌≢◌, ◌<◌, ℕ, zero, suc, List, [], ◌∷◌, ◌++◌, map, length, length-append, Bool, true, Some, sym, ◌∙◌, subst, ap, refl, arith, ◌⊎◌, inl, inr}
 use Rattle.std.specs.Prelude.{slice_get}
 use Rattle.std.specs.List.{AllByRecursion, list_all}
-use Rattle.std.proofs.lemmas.Bool.{and_parts}
+use Rattle.std.proofs.lemmas.Bool.{and_parts, cases_order}
 use Rattle.net_defs.specs.Network.{Apart}
+use Rattle.journal_defs.specs.Counting.{numbers_below}
 
 -- an element of a list
 abbrev pub IsMember : {X : Type 0} → X → List X → Type 0
@@ -65,3 +66,17 @@ apart-map f (x ∷ xs) keeps a = (all-map (λ y. f x ≢ y) f xs (other xs a.0),
     other : (zs : List _) → AllByRecursion (λ y. x ≢ y) zs → AllByRecursion (λ y. f x ≢ f y) zs
     other [] d = tt
     other (z ∷ zs) d = (keeps x z d.0, other zs d.1)
+
+-- the numbers below one
+pub number-member : (n k : ℕ) → k < n → IsMember k (numbers_below n)
+number-member zero k l = absurd (omega arith)
+number-member (suc n) k l = by (cases_order k n) (number-member n k)
+  where
+    by : (k ≡ n) ⊎ ((k < n) ⊎ (n < k)) → (k < n → IsMember k (numbers_below n)) → IsMember k (numbers_below n ++ n ∷ [])
+    by (inl e) rest = member-right k (numbers_below n) (n ∷ []) (inl e)
+    by (inr (inl a)) rest = member-left k (numbers_below n) (n ∷ []) (rest a)
+    by (inr (inr a)) rest = absurd (omega arith)
+
+pub length-numbers : (n : ℕ) → length (numbers_below n) ≡ n
+length-numbers zero = refl
+length-numbers (suc n) = length-append (numbers_below n) (n ∷ []) ∙ (let e = length-numbers n in omega arith)

@@ -1,11 +1,12 @@
 -- Levels are distances from the root.
-use Rattle.std.proofs.Common.{◌≡◌, ◌<◌, ◌≤◌, ◌+◌, ℕ, zero, suc, List, [], ◌∷◌, ◌++◌, length, Bool, true, false, ◌∙◌, subst, ap, refl, arith, ◌⊎◌, inl, inr, nat_eq, if◌then◌else◌, length-append}
+use Rattle.std.proofs.Common.{◌≡◌, ◌<◌, ◌≤◌, ◌+◌, ℕ, zero, suc, List, [], ◌∷◌, ◌++◌, length, Bool, true, false, ◌∙◌, subst, ap, refl, arith, ◌⊎◌, inl, inr, nat_eq, if◌then◌else◌}
 use Rattle.std.specs.Prelude.{slice_get}
 use Rattle.std.specs.List.{AllByRecursion, list_all}
 use Rattle.std.proofs.lemmas.Bool.{false≢true, cases_order, and_parts}
 use Rattle.std.proofs.lemmas.Bool.Decides.{Decides-eqb}
 use Rattle.journal_defs.specs.Counting.{numbers_below}
 use Rattle.journal_defs.specs.Edges.{IsEdge, Steps, is_among, within, edges_between}
+use Rattle.journal_defs.proofs.Members.{length-numbers}
 use Rattle.journal_defs.proofs.Reach.{among-left, among-right, among-self, among-parts, within-steps, steps-back, steps-join}
 use Rattle.journal_defs.proofs.Simple.{Holds, shortest, none-shorter}
 use Rattle.map_defs.specs.declared.vertex.MapVertex.{MapVertex}
@@ -22,10 +23,6 @@ number-among (suc n) k l = by (cases_order k n) (number-among n k)
     by (inl e) rest = among-right nat_eq Decides-eqb (numbers_below n) (n ∷ []) k (subst (λ i. is_among nat_eq (i ∷ []) k ≡ true) e (among-self nat_eq Decides-eqb k []))
     by (inr (inl a)) rest = among-left nat_eq Decides-eqb (numbers_below n) (n ∷ []) k (rest a)
     by (inr (inr a)) rest = absurd (omega arith)
-
-pub length-numbers : (n : ℕ) → length (numbers_below n) ≡ n
-length-numbers zero = refl
-length-numbers (suc n) = length-append (numbers_below n) (n ∷ []) ∙ (let e = length-numbers n in omega arith)
 
 -- the ends of an edge of a map are vertices of it
 edge-vertex : (P : ℕ → Type 0) (cs : List MapCable) (v w : ℕ) → AllByRecursion (λ (d : MapPort). P d.v) (map_ends cs) → IsEdge (map_edges cs) v w → P w

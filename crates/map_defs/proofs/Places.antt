@@ -1,25 +1,15 @@
 -- The places of a map's vertices are an order.
-use Rattle.std.proofs.Common.{◌≡◌, ◌≢◌, ◌<◌, ◌≤◌, ℕ, zero, suc, List, [], ◌∷◌, ◌++◌, map, length, Bool, true, false, cond, sym, ◌∙◌, subst, ap, refl, arith, ◌⊎◌, inl, inr}
+use Rattle.std.proofs.Common.{◌≡◌, ◌≢◌, ◌<◌, ◌≤◌, ℕ, zero, suc, List, [], ◌∷◌, map, length, Bool, true, false, cond, sym, ◌∙◌, subst, ap, refl, arith, inl, inr}
 use Rattle.std.specs.List.{AllByRecursion, filter}
-use Rattle.std.proofs.lemmas.Bool.{false≢true, cases_order}
+use Rattle.std.proofs.lemmas.Bool.{false≢true}
 use Rattle.std.proofs.lemmas.Bool.Decides.{nat_tests}
 use Rattle.std.proofs.lemmas.List.{map-append, length-map}
 use Rattle.net_defs.specs.Network.{Apart}
 use Rattle.net_defs.proofs.Distinct.{apart-push, all-push}
 use Rattle.journal_defs.specs.Counting.{numbers_below}
-use Rattle.journal_defs.proofs.Members.{IsMember, all-map, member-left, member-right}
+use Rattle.journal_defs.proofs.Members.{IsMember, all-map, number-member, length-numbers}
 use Rattle.map_defs.specs.Orientation.{level, levels, stands_before, place_among, places_by, order_of, IsOrder}
 use Rattle.map_defs.specs.Laws.{PlacesAreAnOrder}
-use Rattle.map_defs.proofs.Levels.{length-numbers}
-
-pub number-member : (n k : ℕ) → k < n → IsMember k (numbers_below n)
-number-member zero k l = absurd (omega arith)
-number-member (suc n) k l = by (cases_order k n) (number-member n k)
-  where
-    by : (k ≡ n) ⊎ ((k < n) ⊎ (n < k)) → (k < n → IsMember k (numbers_below n)) → IsMember k (numbers_below n ++ n ∷ [])
-    by (inl e) rest = member-right k (numbers_below n) (n ∷ []) (inl e)
-    by (inr (inl a)) rest = member-left k (numbers_below n) (n ∷ []) (rest a)
-    by (inr (inr a)) rest = absurd (omega arith)
 
 -- what holds of each number below one holds over their list
 pub all-numbers : (P : ℕ → Type 0) (n : ℕ) → ((k : ℕ) → k < n → P k) → AllByRecursion P (numbers_below n)

@@ -8,7 +8,7 @@ use Rattle.std.proofs.lemmas.List.Quantifiers.{position-Some}
 use Rattle.net_defs.specs.Turn.{is_turn, IsTurn}
 use Rattle.journal_defs.specs.Counting.{numbers_below}
 use Rattle.journal_defs.specs.Walks.{falling_turns}
-use Rattle.journal_defs.proofs.Members.{IsMember, all-member, member-left, member-map, member-right}
+use Rattle.journal_defs.proofs.Members.{IsMember, all-member, member-left, member-map, member-right, number-member}
 use Rattle.map_defs.specs.declared.vertex.MapVertex.{MapVertex}
 use Rattle.map_defs.specs.declared.vertex.MapVertex.TheVariants.{Host, Switch}
 use Rattle.map_defs.specs.NetMap.{NetMap, MapPort, IsMap, map_far, map_ends, same_port, host_of_vertex, host_at, switch_at, is_switch_vertex}
@@ -16,7 +16,6 @@ use Rattle.map_defs.specs.Routing.{port_of_host, vertex_of_host, is_host_named}
 use Rattle.map_defs.specs.Dependencies.{rank_of, rank_by, ranks_of, ports_at, ports_at_all, channels_in}
 use Rattle.map_defs.proofs.Ports.{same_port-true, same_port-refl}
 use Rattle.map_defs.proofs.Leading.{far-end}
-use Rattle.map_defs.proofs.Places.{number-member}
 
 -- a port with a cable is one of the channels
 falling-member : (n k : ℕ) → k < n → IsMember (negsuc k) (falling_turns n)

@@ -4,7 +4,7 @@ use Rattle.std.specs.Prelude.{slice_get}
 use Rattle.std.specs.List.{AllByRecursion, list_all, list_any}
 use Rattle.std.proofs.lemmas.Bool.{false≢true, and_parts, or_cases, eqb-true, eq-eqb}
 use Rattle.journal_defs.specs.Counting.{numbers_below}
-use Rattle.journal_defs.proofs.Members.{member-passes}
+use Rattle.journal_defs.proofs.Members.{member-passes, number-member}
 use Rattle.map_defs.specs.declared.vertex.MapVertex.{MapVertex}
 use Rattle.net_defs.specs.declared.route.Route.{Route}
 use Rattle.map_defs.specs.NetMap.{NetMap, MapPort, host_of_vertex, host_at}
@@ -14,7 +14,6 @@ use Rattle.map_defs.specs.Examples.{ring_map, ring_routes}
 use Rattle.map_defs.proofs.Ports.{same_port-true}
 use Rattle.map_defs.proofs.Leading.{routes_within}
 use Rattle.map_defs.proofs.Certified.{is_at, is_better, least-by, ring_order, order_is}
-use Rattle.map_defs.proofs.Places.{number-member}
 
 -- a test that a route is least
 abbrev is_least_from : NetMap → List ℕ → Option MapPort → Option MapPort → Route → Bool

@@ -6,7 +6,6 @@ use Rattle.std.proofs.lemmas.Int.{ints}
 use Rattle.net_defs.specs.declared.vertex.End.{End}
 use Rattle.net_defs.specs.declared.place.Answer.{Answer}
 use Rattle.net_defs.specs.declared.place.Answer.TheVariants.{Nothing}
-use Rattle.net_defs.specs.Network.{IsFabric}
 use Rattle.net_defs.specs.Route.{answer}
 use Rattle.net_defs.proofs.Distinct.{all-weaker}
 use Rattle.net_defs.specs.Examples.{two_hosts, host_end, switch_end}
@@ -17,7 +16,7 @@ use Rattle.journal_defs.specs.Tree.Node.{Mapper, Reached}
 use Rattle.journal_defs.specs.Tree.Leads.{onward, back as go_back, out, home}
 use Rattle.journal_defs.specs.Replicates.{Replicates}
 use Rattle.journal_defs.specs.Replicates.Replicates.{same}
-use Rattle.journal_defs.specs.Truth.{IsTrueWhereFound, IsTrueJournal, standing}
+use Rattle.journal_defs.specs.Truth.{IsTrueWhereFound, standing}
 use Rattle.journal_defs.specs.Examples.{two_hosts_journal}
 use Rattle.journal_defs.proofs.Order.{same_turns-true, below-irrefl}
 use Rattle.journal_defs.proofs.Growing.{Holds, answered-holds}

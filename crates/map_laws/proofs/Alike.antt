@@ -1,7 +1,6 @@
 -- Right maps are the same, and their marks don't matter.
-use Rattle.std.proofs.Common.{◌≡◌, ◌<◌, ℕ, sym, ◌∙◌, subst, ap, refl, length, arith}
+use Rattle.std.proofs.Common.{◌≡◌, ◌<◌, ℕ, sym, ◌∙◌, subst, ap, refl, length}
 use Rattle.std.specs.Prelude.{ℤ, pos, ◌+ℤ◌, slice_get}
-use Rattle.std.proofs.lemmas.Int.{ints}
 use Rattle.map_defs.specs.NetMap.{NetMap, MapPort, IsCabled, host_at}
 use Rattle.map_defs.specs.NetMap.IsCabled.{forth, back}
 use Rattle.map_defs.specs.Sameness.{graph_of_map, graph_of_part}

@@ -10,7 +10,7 @@ use Rattle.net_defs.specs.Route.{host_port}
 use Rattle.net_defs.proofs.Ends.{same_vertex-true, same_vertex-refl}
 use Rattle.journal_defs.specs.declared.entry.Entry.{Entry}
 use Rattle.journal_defs.specs.Tree.{Node, IsNode, answered, host_of, host_in}
-use Rattle.journal_defs.specs.Tree.Node.{Mapper, Reached}
+use Rattle.journal_defs.specs.Tree.Node.{Reached}
 use Rattle.journal_defs.specs.Truth.{IsTrueJournal, IsTrueWhereFound, standing}
 use Rattle.journal_defs.specs.Replicates.Replicates.{turned as other_way}
 use Rattle.journal_defs.specs.Part.{IsInPart}

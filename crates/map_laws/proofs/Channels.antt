@@ -1,6 +1,6 @@
 -- The channels that turns cross on a right map stand for those that they cross in the fabric.
 use Rattle.std.proofs.Common.{◌≡◌, ◌+◌, ◌*◌, ℕ, suc, List, [], ◌∷◌, ◌++◌, Bool, true, false, Option, Some, None, sym, ◌∙◌, subst, ap, refl, arith, if◌then◌else◌}
-use Rattle.std.specs.Prelude.{ℤ, pos, ◌+ℤ◌, slice_get, option_and_then, option_map, option_to_list}
+use Rattle.std.specs.Prelude.{ℤ, pos, ◌+ℤ◌, slice_get, option_and_then, option_to_list}
 use Rattle.std.proofs.lemmas.Int.{ints}
 use Rattle.net_defs.specs.declared.vertex.End.{End}
 use Rattle.net_defs.specs.declared.vertex.Cable.{Cable}

@@ -1,11 +1,10 @@
 -- The map of a grown journal is connected: each node hangs on its parent.
-use Rattle.std.proofs.Common.{◌≡◌, ◌<◌, ◌+◌, ℕ, zero, suc, List, [], ◌∷◌, length, true, false, Option, Some, None, is_some, sym, ◌∙◌, subst, ap, true≢false, refl, arith, ◌⊎◌, inl, inr, length-append}
+use Rattle.std.proofs.Common.{◌≡◌, ◌<◌, ℕ, zero, suc, List, [], ◌∷◌, length, true, false, Some, sym, ◌∙◌, subst, ap, true≢false, refl, arith, inl, inr}
 use Rattle.std.specs.Prelude.{ℤ, pos, ◌+ℤ◌, neg_ℤ, slice_get}
-use Rattle.net_defs.specs.declared.place.Answer.{Answer}
 use Rattle.journal_defs.specs.declared.entry.Entry.{Entry}
 use Rattle.journal_defs.specs.Edges.{IsEdge, Steps}
 use Rattle.journal_defs.specs.Edges.Steps.{start, step}
-use Rattle.journal_defs.specs.Tree.{Node, IsNode, Leads, answered, is_asked, has_found, node_below}
+use Rattle.journal_defs.specs.Tree.{Node, IsNode, Leads, is_asked, node_below}
 use Rattle.journal_defs.specs.Tree.Node.{Mapper, Reached}
 use Rattle.journal_defs.specs.Tree.Leads.{onward, out}
 use Rattle.journal_defs.specs.Replicates.Replicates.{same, turned as other_way}

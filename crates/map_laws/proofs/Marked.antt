@@ -1,5 +1,5 @@
 -- A map stays a map when its core is marked, since each host is of the core.
-use Rattle.std.proofs.Common.{◌≡◌, ◌<◌, ℕ, zero, suc, List, [], ◌∷◌, ◌++◌, length, Bool, true, false, not, ◌&&◌, ◌||◌, Option, Some, None, is_some, sym, ◌∙◌, subst, ap, true≢false, refl, arith, ◌⊎◌, inl, inr, if◌then◌else◌, nat_eq, length-append}
+use Rattle.std.proofs.Common.{◌≡◌, ◌<◌, ℕ, zero, suc, List, [], ◌∷◌, ◌++◌, length, Bool, true, false, not, ◌&&◌, ◌||◌, Option, Some, None, is_some, sym, ◌∙◌, subst, ap, true≢false, refl, arith, ◌⊎◌, inl, inr, if◌then◌else◌, nat_eq}
 use Rattle.std.specs.Prelude.{slice_get}
 use Rattle.std.specs.List.{list_any}
 use Rattle.std.proofs.lemmas.Bool.{false≢true, cases_order}
@@ -7,11 +7,11 @@ use Rattle.std.proofs.lemmas.Bool.Decides.{Decides-eqb}
 use Rattle.std.proofs.lemmas.List.{length-map}
 use Rattle.journal_defs.specs.Counting.{numbers_below}
 use Rattle.journal_defs.specs.Edges.{is_among}
+use Rattle.journal_defs.proofs.Members.{length-numbers}
 use Rattle.journal_defs.proofs.Reach.{among-append, among-parts}
 use Rattle.map_defs.specs.declared.vertex.MapCable.{MapCable}
 use Rattle.map_defs.specs.NetMap.{NetMap, host_of_vertex, is_switch_vertex}
 use Rattle.map_defs.specs.Core.{side, is_hostless, hostless_side, cut_off, cut_off_by, is_outside, core_of}
-use Rattle.map_defs.proofs.Levels.{length-numbers}
 use Rattle.map_laws.specs.Certificate.{MarkedMapIsMap}
 use Rattle.map_laws.proofs.Least.{get-map}
 use Rattle.map_laws.proofs.Listed.{host-below}

@@ -1,15 +1,14 @@
 -- Two hosts on one cable: the journal of one entry, and the same with its probe lost.
-use Rattle.std.proofs.Common.{◌≡◌, ◌<◌, ℕ, zero, suc, List, [], ◌∷◌, Some, sym, subst, refl, arith, rules, inl, inr}
+use Rattle.std.proofs.Common.{◌≡◌, ◌<◌, ℕ, zero, suc, List, [], ◌∷◌, Some, sym, subst, refl, arith, inl, inr}
 use Rattle.std.specs.Prelude.{ℤ, pos, slice_get}
 use Rattle.std.proofs.lemmas.Bool.{false≢true}
-use Rattle.net_defs.specs.Network.{IsFabric}
 use Rattle.net_defs.specs.Examples.{host_end}
 use Rattle.journal_defs.specs.Fabrics.{one_cable}
 use Rattle.journal_defs.specs.Tree.{Node, IsNode, IsSwitchNode, Leads}
 use Rattle.journal_defs.specs.Tree.Node.{Mapper, Reached}
 use Rattle.journal_defs.specs.Tree.Leads.{onward, back as go_back, out, home}
 use Rattle.journal_defs.specs.Replicates.Replicates.{same}
-use Rattle.journal_defs.specs.Truth.{IsTrueWhereFound, IsTrueJournal}
+use Rattle.journal_defs.specs.Truth.{IsTrueWhereFound}
 use Rattle.journal_defs.specs.Growth.{IsGrown, IsClosed}
 use Rattle.journal_defs.specs.Growth.IsGrowing.{nothing, more}
 use Rattle.journal_defs.specs.Growth.NextAsk.{first}

@@ -1,5 +1,5 @@
 -- A closed journal has a node over each vertex of the part, and the nodes over one vertex are one class.
-use Rattle.std.proofs.Common.{◌≡◌, ℕ, List, true, Some, sym, ◌∙◌, subst, ap, refl, ◌⊎◌, inl, inr}
+use Rattle.std.proofs.Common.{◌≡◌, ℕ, List, Some, sym, ◌∙◌, subst, ap, refl, ◌⊎◌, inl, inr}
 use Rattle.net_defs.specs.declared.vertex.Vertex.{Vertex}
 use Rattle.net_defs.specs.declared.vertex.Vertex.TheVariants.{Host, Switch}
 use Rattle.net_defs.specs.declared.vertex.End.{End}

@@ -1,10 +1,8 @@
 -- The laws applied to two hosts at one switch.
 use Rattle.std.proofs.Common.{◌≡◌, ◌≢◌, ℕ, zero, suc, List, Some, sym, ◌∙◌, subst, [], ◌∷◌, refl, arith, rules}
 use Rattle.std.specs.Prelude.{pos, negsuc}
-use Rattle.net_defs.specs.Network.{IsFabric}
 use Rattle.net_defs.specs.Examples.{two_hosts}
 use Rattle.journal_defs.specs.Examples.{two_hosts_journal}
-use Rattle.journal_defs.specs.Truth.{IsTrueJournal}
 use Rattle.journal_defs.specs.Growth.{IsClosed}
 use Rattle.journal_defs.proofs.Grown.{two_hosts_fabric, two_hosts_true, two_hosts_grown, two_hosts_closed}
 use Rattle.map_defs.specs.NetMap.{IsMap, IsConnected, host_of_vertex}
