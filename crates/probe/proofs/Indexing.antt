@@ -1,0 +1,111 @@
+-- Walks among walks: the tests of turns, where a walk stands, and what a journal was asked.
+use Rattle.std.proofs.Common.{◌≡◌, ◌≢◌, ◌<◌, ◌≤◌, ◌⊎◌, inl, inr, ℕ, zero, suc, List, [], ◌∷◌, ◌++◌, Bool, true, false, ◌||◌, length, map, Option, Some, None, is_some, option_map, get_or, Vec, refl, ap, sym, ◌∙◌, subst, true≢false, arith, if◌then◌else◌, IfSome}
+use Rattle.std.specs.Prelude.{ℤ, position, slice_get}
+use Rattle.std.specs.List.{list_any, AllByRecursion}
+use Rattle.std.specs.Ordering.{int_eq}
+use Rattle.std.specs.Cmp.Lexicographic.{pointwise}
+use Rattle.std.specs.Cmp.Rules.{signed_items}
+use Rattle.std.specs.declared.alloc.Global.{Global}
+use Rattle.std.proofs.lemmas.Option.{slice_get_cases, slice_get-map, slice_get_read}
+use Rattle.std.proofs.lemmas.List.{map-append}
+use Rattle.std.proofs.lemmas.List.Quantifiers.{position-Some}
+use Rattle.indexmap.specs.IndexSet.{insert_key}
+use Rattle.net_defs.specs.Network.{Apart}
+use Rattle.net_defs.specs.declared.place.Answer.{Answer}
+use Rattle.journal_defs.specs.declared.entry.Entry.{Entry}
+use Rattle.journal_defs.specs.Walks.{same_turns}
+use Rattle.journal_defs.specs.Tree.{answered, is_asked}
+use Rattle.journal_defs.proofs.Order.{same_turns-true, same_turns-refl}
+use Rattle.probe.specs.Keeping.{has_walk}
+
+-- the two tests of turns
+tests-agree : (t v : List ℤ) → pointwise int_eq t v ≡ same_turns v t
+tests-agree t v = by (pointwise int_eq t v) (same_turns v t) refl refl
+  where
+    by : (a b : Bool) → pointwise int_eq t v ≡ a → same_turns v t ≡ b → a ≡ b
+    by true true p q = refl
+    by false false p q = refl
+    by true false p q = let same : t ≡ v = (signed_items t v).0 p in sym (subst (λ x. same_turns v x ≡ true) (sym same) (same_turns-refl v)) ∙ q
+    by false true p q = let same : v ≡ t = same_turns-true v t q in sym p ∙ (signed_items t v).1 (sym same)
+
+pub found-agree : (t : List ℤ) (ks : List (Vec ℤ Global)) → list_any (λ k. pointwise int_eq t k.items) ks ≡ has_walk (map (λ k. k.items) ks) t
+found-agree t [] = refl
+found-agree t (k ∷ ks) = λ i. tests-agree t k.items i || found-agree t ks i
+
+-- a place of a key is one of its walk
+pub place-of : (t : List ℤ) (ks : List (Vec ℤ Global)) (at : ℕ) → at < length ks → position (λ k. pointwise int_eq t k.items) ks ≡ Some at → slice_get (map (λ k. k.items) ks) at ≡ Some t
+place-of t ks at lt e = by (slice_get_cases ks at).1
+  where
+    by : ((x : Vec ℤ Global) × (at < length ks) × (slice_get ks at ≡ Some x) × (get_or ks at x ≡ x)) ⊎ ((length ks ≤ at) × (slice_get ks at ≡ None)) → slice_get (map (λ k. k.items) ks) at ≡ Some t
+    by (inl (x, l, is, got)) =
+        let test = (position-Some (λ k. pointwise int_eq t k.items) ks at x e).1 in
+        let same : t ≡ x.items = (signed_items t x.items).0 (subst (λ y. pointwise int_eq t y.items ≡ true) got test) in
+        slice_get-map (λ k. k.items) ks at ∙ ap (option_map (λ k. k.items)) is ∙ ap Some (sym same)
+    by (inr past) = absurd (let l = past.0 in omega arith)
+
+pub find-place : (t : List ℤ) (ks : List (Vec ℤ Global)) (o : Option ℕ) → o ≡ position (λ k. pointwise int_eq t k.items) ks → IfSome o (λ i. i < length ks) → IfSome o (λ at. slice_get (map (λ k. k.items) ks) at ≡ Some t)
+find-place t ks None e l = tt
+find-place t ks (Some at) e l = place-of t ks at l (sym e)
+
+-- a new walk goes last
+pub walks-insert : (ks : List (Vec ℤ Global)) (k : Vec ℤ Global) (t : List ℤ) → k.items ≡ t → has_walk (map (λ k. k.items) ks) t ≡ false → map (λ k. k.items) (insert_key (λ x y. pointwise int_eq x.items y.items) ks k) ≡ map (λ k. k.items) ks ++ t ∷ []
+walks-insert ks k t same new =
+    let none : list_any (λ y. pointwise int_eq k.items y.items) ks ≡ false = found-agree k.items ks ∙ ap (has_walk (map (λ k. k.items) ks)) same ∙ new in
+    ap (λ b. map (λ k. k.items) (if b then ks else ks ++ k ∷ [])) none
+    ∙ map-append (λ k. k.items) ks (k ∷ [])
+    ∙ ap (λ w. map (λ k. k.items) ks ++ w ∷ []) same
+
+-- a walk that isn't there differs from each
+pub new-walk : (w : List ℤ) (ws : List (List ℤ)) → has_walk ws w ≡ false → AllByRecursion (λ v. w ≢ v) ws
+new-walk w [] e = tt
+new-walk w (v ∷ ws) e = by (same_turns v w) refl e (new-walk w ws)
+  where
+    by : (b : Bool) → same_turns v w ≡ b → (b || has_walk ws w) ≡ false → (has_walk ws w ≡ false → AllByRecursion (λ v. w ≢ v) ws) → AllByRecursion (λ v. w ≢ v) (v ∷ ws)
+    by true t f rest = absurd (true≢false f)
+    by false t f rest = ((λ same. true≢false (sym (subst (λ x. same_turns v x ≡ true) (sym same) (same_turns-refl v)) ∙ t)), rest f)
+
+-- a journal's walks are those that were asked
+pub asked-has_walk : (es : List Entry) (w : List ℤ) → has_walk (map (λ e. e.walk) es) w ≡ is_asked es w
+asked-has_walk [] w = refl
+asked-has_walk (e ∷ es) w = by (same_turns e.walk w) (asked-has_walk es w)
+  where
+    by : (b : Bool) → has_walk (map (λ e. e.walk) es) w ≡ is_asked es w → (b || has_walk (map (λ e. e.walk) es) w) ≡ is_some (if b then Some e.answer else answered es w)
+    by true rest = refl
+    by false rest = rest
+
+-- the answer to a walk is that of the entry at its place
+pub answered-at : (es : List Entry) (w : List ℤ) (at : ℕ) (e : Entry) → Apart (map (λ e. e.walk) es) → slice_get (map (λ e. e.walk) es) at ≡ Some w → slice_get es at ≡ Some e → answered es w ≡ Some e.answer
+answered-at [] w at e apart p q = cc
+answered-at (x ∷ es) w zero e apart p q =
+    let walk : x.walk ≡ w = cc in
+    let entry : x ≡ e = cc in
+    let here : same_turns x.walk w ≡ true = subst (λ v. same_turns x.walk v ≡ true) walk (same_turns-refl x.walk) in
+    ap (λ b. if b then Some x.answer else answered es w) here ∙ ap (λ y. Some y.answer) entry
+answered-at (x ∷ es) w (suc at) e apart p q = by (same_turns x.walk w) refl (answered-at es w at e apart.1 p q)
+  where
+    by : (b : Bool) → same_turns x.walk w ≡ b → answered es w ≡ Some e.answer → (if b then Some x.answer else answered es w) ≡ Some e.answer
+    by true t rest = absurd (different (map (λ e. e.walk) es) at w apart.0 p (same_turns-true x.walk w t))
+      where
+        different : (ws : List (List ℤ)) (at : ℕ) (w : List ℤ) → AllByRecursion (λ v. x.walk ≢ v) ws → slice_get ws at ≡ Some w → x.walk ≡ w → ⊥
+        different [] at w all p same = cc
+        different (v ∷ ws) zero w all p same = all.0 (let one : v ≡ w = cc in same ∙ sym one)
+        different (v ∷ ws) (suc at) w all p same = different ws at w all.1 p same
+    by false t rest = rest
+
+-- and there is none where it has no place
+pub answered-none : (es : List Entry) (w : List ℤ) → has_walk (map (λ e. e.walk) es) w ≡ false → answered es w ≡ None
+answered-none es w e = by (answered es w) refl
+  where
+    by : (o : Option Answer) → answered es w ≡ o → o ≡ None
+    by None p = refl
+    by (Some a) p = absurd (true≢false (sym (ap is_some p) ∙ sym (asked-has_walk es w) ∙ e))
+
+pub answered-read : (es : List Entry) (w : List ℤ) (at : ℕ) (e : Entry) → Apart (map (λ e. e.walk) es) → slice_get (map (λ e. e.walk) es) at ≡ Some w → e ≡ get_or es at e → answered es w ≡ Some e.answer
+answered-read es w at e apart p q =
+    let inside : at < length es = by_map es at w p in
+    answered-at es w at e apart p (slice_get_read es (length es) at e refl inside q)
+  where
+    by_map : (es : List Entry) (at : ℕ) (w : List ℤ) → slice_get (map (λ e. e.walk) es) at ≡ Some w → at < length es
+    by_map [] at w p = cc
+    by_map (x ∷ es) zero w p = omega arith
+    by_map (x ∷ es) (suc at) w p = let l = by_map es at w p in omega arith

@@ -1,0 +1,5 @@
+pub mod Body
+pub mod Drowning
+pub mod Keeping
+pub mod Laws
+pub mod Pushing

@@ -1,0 +1,66 @@
+//! The numbers in front of a body, with the greatest byte first.
+
+ghost use Rattle.std.specs.Prelude.{◌≡◌, ◌<◌, ◌^◌, ◌++◌, ◌∷◌, option_map, IfSome, IfOk};
+ghost use Rattle.std.specs.Int.{w16, w64, to_be_bytes};
+ghost use Rattle.gm_defs.specs.Mapping.{number_front, two_front, whole};
+
+use std::alloc::{AllocError, Global};
+
+/// A packet's number and a host that are all of the bytes.
+pub(crate) fn whole_numbers(bytes: &[u8]) -> Option<(u64, u16)>
+    ensures { result ≡ whole (two_front w64 8 bytes.now) }
+{
+    match numbers_front(bytes) {
+        Some((numbers, rest)) if rest.is_empty() => Some(numbers),
+        _ => None,
+    }
+}
+
+/// A packet's number and a host, and the bytes behind them; none where there are fewer bytes.
+pub(crate) fn numbers_front(bytes: &[u8]) -> Option<((u64, u16), &[u8])>
+    ensures value { option_map (λ p. (p.0, p.1.now)) result ≡ two_front w64 8 bytes.now }
+    ensures fits { IfSome result (λ p. (p.0.0 < 2 ^ 64) × (p.0.1 < 2 ^ 16)) }
+{
+    let (number, bytes) = number_front(bytes)?;
+    let (host, bytes) = host_front(bytes)?;
+    Some(((number, host), bytes))
+}
+
+// The number of a packet in front.
+fn number_front(bytes: &[u8]) -> Option<(u64, &[u8])>
+    ensures value { option_map (λ p. (p.0, p.1.now)) result ≡ number_front w64 8 bytes.now }
+    ensures fits { IfSome result (λ p. p.0 < 2 ^ 64) }
+{
+    match bytes.split_first_chunk::<8>() {
+        Some((front, rest)) => Some((u64::from_be_bytes(*front), rest)),
+        None => None,
+    }
+}
+
+// The address of a host in front.
+fn host_front(bytes: &[u8]) -> Option<(u16, &[u8])>
+    ensures value { option_map (λ p. (p.0, p.1.now)) result ≡ number_front w16 2 bytes.now }
+    ensures fits { IfSome result (λ p. p.0 < 2 ^ 16) }
+{
+    match bytes.split_first_chunk::<2>() {
+        Some((front, rest)) => Some((u16::from_be_bytes(*front), rest)),
+        None => None,
+    }
+}
+
+/// A body's kind and numbers, with room for more bytes.
+pub(crate) fn head(
+    alloc: Global,
+    kind: u8,
+    number: u64,
+    host: u16,
+    room: u8,
+) -> Result<Vec<u8>, AllocError>
+    ensures { IfOk result (λ bytes. bytes.items ≡ kind ∷ to_be_bytes w64 number ++ to_be_bytes w16 host) }
+{
+    let mut bytes = Vec::with_capacity(alloc, 11 + usize::from(room))?;
+    bytes.push(kind)?;
+    bytes.extend_from_slice(&number.to_be_bytes())?;
+    bytes.extend_from_slice(&host.to_be_bytes())?;
+    Ok(bytes)
+}

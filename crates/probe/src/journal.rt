@@ -1,0 +1,98 @@
+//! What a mapper asked, with the answers, in order.
+
+ghost use Rattle.std.specs.Prelude.{◌≡◌, [], true, false, OnOk, OnErr, IfErr};
+ghost use Rattle.journal_defs.specs.Tree.{IsJournal, answered, is_asked};
+ghost use Rattle.probe.specs.Keeping.{with_entry};
+ghost use Rattle.probe.specs.Pushing.{PushesWhere};
+
+use crate::walk_index::WalkIndex;
+use journal_defs::Entry;
+use net_defs::Answer;
+use std::alloc::Global;
+use std::marker::Model;
+
+/// Why a journal doesn't take an entry.
+#[derive(Clone, Copy, Debug, PartialEq, Eq)]
+pub enum JournalPush {
+    /// The walk stands in the journal.
+    Known,
+    NoMemory,
+}
+
+/// The asks of one host with their answers, in the order of the asks, no walk twice. Contracts see the host and the list of entries.
+#[derive(Drop)]
+pub struct Journal {
+    host: u16,
+    entries: Vec<Entry>,
+    walks: WalkIndex,
+}
+
+impl Model for Journal {
+    ghost use Rattle.probe.specs.Keeping.{JournalState, IsIndexed};
+
+    ghost Value = { JournalState };
+
+    ghost view = { λ j. record { host = j.host; entries = j.entries.items } };
+
+    ghost invariant = { λ j. IsIndexed j.entries.items j.walks };
+}
+
+impl Journal {
+    /// The journal of a host before its first ask. It takes no memory.
+    pub fn new(alloc: Global, host: u16) -> Journal
+        ensures { result ≡ record { host = host; entries = [] } }
+    {
+        Journal {
+            host,
+            entries: Vec::new(alloc),
+            walks: WalkIndex::new(alloc),
+        }
+    }
+
+    /// The host that asks.
+    pub fn host(&self) -> u16
+        ensures { result ≡ self.now.host }
+    {
+        self.host
+    }
+
+    /// The entries, in the order of the asks.
+    pub fn entries(&self) -> &[Entry]
+        ensures list { result.now ≡ self.now.entries }
+        ensures once { IsJournal self.now.entries }
+    {
+        &self.entries
+    }
+
+    /// The answer to a walk, where it stands in the journal.
+    pub fn answer_to(&self, turns: &[i8]) -> Option<Answer>
+        ensures { result ≡ answered self.now.entries turns.now }
+    {
+        match self.walks.find(turns) {
+            Some(at) => Some(self.entries[at].answer),
+            None => None,
+        }
+    }
+
+    /// Adds an entry at the end. A refused entry is handed back, and the journal is as before.
+    pub fn push(&mut self, alloc: Global, e: Entry) -> Result<(), (Entry, JournalPush)>
+        ensures pushed { OnOk result (self.new ≡ with_entry self.old e) }
+        ensures refused { PushesWhere (is_asked self.old.entries e.walk) result }
+        ensures handed_back { IfErr result (λ refused. refused.0 ≡ e) }
+        ensures unchanged { OnErr result (self.new ≡ self.old) }
+    {
+        if self.walks.find(e.walk.turns()).is_some() {
+            return Err((e, JournalPush::Known));
+        }
+        if self.entries.reserve(1).is_err() {
+            return Err((e, JournalPush::NoMemory));
+        }
+        match self.walks.push(alloc, e.walk.turns()) {
+            Ok(()) => {
+                self.entries.push_reserved(e);
+                Ok(())
+            }
+            Err(_) => Err((e, JournalPush::NoMemory)),
+        }
+    }
+}

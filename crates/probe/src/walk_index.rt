@@ -1,0 +1,70 @@
+//! Walks in order, found by their turns.
+
+ghost use Rattle.std.specs.Prelude.{◌≡◌, ◌<◌, ◌++◌, ◌∷◌, [], false, length, slice_get, is_some, Some, IfSome, OnOk, OnErr};
+ghost use Rattle.probe.specs.Keeping.{has_walk};
+
+use indexmap::IndexSet;
+use std::alloc::{AllocError, Global};
+use std::marker::Model;
+
+/// Walks in the order in which they came, none twice. A walk is found by a hash of its turns. Contracts see the list of walks.
+#[derive(Drop)]
+pub struct WalkIndex {
+    walks: IndexSet<Vec<i8>>,
+}
+
+impl Model for WalkIndex {
+    ghost use Rattle.std.specs.Prelude.{ℤ, List};
+    ghost use Rattle.net_defs.specs.Network.{Apart};
+    ghost use Rattle.probe.specs.Keeping.{walks_of};
+
+    ghost Value = { List (List ℤ) };
+
+    ghost view = { λ w. walks_of w.walks };
+
+    ghost invariant = { λ w. Apart (walks_of w.walks) };
+}
+
+impl WalkIndex {
+    /// No walks. It takes no memory.
+    pub fn new(alloc: Global) -> WalkIndex
+        ensures { result ≡ [] }
+    {
+        WalkIndex {
+            walks: IndexSet::new(alloc),
+        }
+    }
+
+    /// How many walks there are.
+    pub fn len(&self) -> usize
+        ensures { result ≡ length self.now }
+    {
+        self.walks.len()
+    }
+
+    /// The turns of the walk at a place.
+    pub fn walk(&self, at: usize) -> &[i8]
+        requires { at < length self.now }
+        ensures { slice_get self.now at ≡ Some result.now }
+    {
+        self.walks.get_index(at).unwrap().as_slice()
+    }
+
+    /// The place of a walk, counted from 0; none where it isn't there.
+    pub fn find(&self, turns: &[i8]) -> Option<usize>
+        ensures place { IfSome result (λ at. slice_get self.now at ≡ Some turns.now) }
+        ensures found { is_some result ≡ has_walk self.now turns.now }
+    {
+        self.walks.get_index_of(turns)
+    }
+
+    /// Adds a walk that isn't there.
+    pub fn push(&mut self, alloc: Global, turns: &[i8]) -> Result<(), AllocError>
+        requires { has_walk self.old turns.now ≡ false }
+        ensures ok { OnOk result (self.new ≡ self.old ++ turns.now ∷ []) }
+        ensures err { OnErr result (self.new ≡ self.old) }
+    {
+        self.walks.insert_full(turns.to_vec(alloc)?)?;
+        Ok(())
+    }
+}
