@@ -4,3 +4,4 @@ pub mod Queue
 pub mod Owner
 pub mod Listed
 pub mod Ports
+pub mod Bytes

@@ -1,4 +1,5 @@
 pub mod Held
+pub mod Laws
 pub mod Lists
 pub mod Opened
 pub mod Refusal

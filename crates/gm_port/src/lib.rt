@@ -20,12 +20,14 @@
 //! | `buffers` | the provided tokens |
 //! | `events` | the queue of events |
 //! | `port` | the port |
+//! | `laws` | one owner, and bytes that stay, over all ports |
 #![tactic(auto)]
 
 mod ask;
 mod buffers;
 mod event;
 mod events;
+mod laws;
 mod port;
 mod sends;
 #[cfg(test)]
@@ -34,4 +36,5 @@ mod tests;
 pub use ask::{CloseRefusal, ProvideRefusal, SendAsk, SendRefusal};
 pub use event::{PortEvent, Wreck};
 pub use gm_tokens::NoMemory;
+pub use laws::{buffers_keep_their_bytes, tokens_have_one_owner};
 pub use port::Port;
