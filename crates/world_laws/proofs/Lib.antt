@@ -1,0 +1,6 @@
+pub mod Lists
+pub mod Nodes
+pub mod Calls
+pub mod Strikes
+pub mod Leaves
+pub mod Shapes

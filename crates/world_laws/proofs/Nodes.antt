@@ -1,0 +1,270 @@
+-- What an event that is no client's call leaves of a host: its connections and its ports, open as they were, and its senders' numbers in order.
+use Rattle.std.proofs.Common.{◌≡◌, ◌≤◌, ◌<◌, ◌+◌, ℕ, Bool, true, false, ◌&&◌, List, [], ◌∷◌, length, max, nat_eq, nat_lt, Option, Some, None, is_some, option_map, refl, ◌∙◌, subst, arith, if◌then◌else◌, ℤ, Result, Ok, Err}
+use Rattle.std.specs.Prelude.{option_and_then}
+use Rattle.std.proofs.Math.ListN.{length-set}
+use Rattle.std.proofs.lemmas.Bool.Decides.{nat_tests}
+use Rattle.gm_defs.specs.declared.frame.FrameHead.{FrameHead}
+use Rattle.gm_defs.specs.declared.frame.Ack.{Ack}
+use Rattle.gm_defs.specs.declared.frame.GmBody.{GmBody}
+use Rattle.gm_defs.specs.declared.frame.GmBody.TheVariants.{Frame, Ack as Acknowledges}
+use Rattle.gm_defs.specs.declared.frame.Malformed.{Malformed as NoBody}
+use Rattle.gm_defs.specs.declared.token.Took.{Took}
+use Rattle.gm_defs.specs.declared.token.Took.TheVariants.{NotNext as TookNotNext, NoToken as TookNoToken, Whole}
+use Rattle.gm_defs.specs.Body.{decode, part_in}
+use Rattle.gm_defs.specs.Mapping.{RoutePart, MappingBody, decode_mapping}
+use Rattle.gm_defs.specs.Mapping.MappingBody.{HostProbe, HostReply, Loopback, Part, PartAck}
+use Rattle.gm_defs.specs.Fragment.{frame_of}
+use Rattle.gm_defs.specs.Connection.{SenderState, IsSender, window, due, sent_one, is_taken, acknowledged, expired}
+use Rattle.gm_defs.specs.Token.{PortState}
+use Rattle.gm_defs.specs.Port.{delivered, finished}
+use Rattle.packet_defs.specs.declared.kind.Kind.{Kind}
+use Rattle.packet_defs.specs.declared.kind.Kind.TheVariants.{Mapping, Gm}
+use Rattle.packet_defs.specs.declared.host_drop.HostDrop.{HostDrop}
+use Rattle.packet_defs.specs.Host.{decode as decode_packet}
+use Rattle.world_defs.specs.declared.applied.Applied.{Applied}
+use Rattle.world_defs.specs.declared.applied.Applied.TheVariants.{Part as OnePart, Active, Old}
+use Rattle.world_defs.specs.declared.heard.Heard.{Heard}
+use Rattle.world_defs.specs.Table.{TableState, table_route, applied}
+use Rattle.world_defs.specs.Peer.{PeerState, Ticket, new_peer, peer_acknowledged, peer_expired, peer_sent_one, peer_answered, tickets_finished, peer_after}
+use Rattle.world_defs.specs.Node.{NodeState, Staged, StagedReply, StagedAck, StagedProbe, StagedPart, Outgoing, Probe, TablePart, Reply, PartAnswer, FrameAnswer, Fragment, peer_at, with_peer, port_at, with_port, outgoing_staged, owed_to, due_to, either, first_some, peers_of, to_send, after_sending, given_up, node_expired}
+use Rattle.world_defs.specs.Hearing.{is_host, heard_if, is_part_for, part_heard, hear_mapping, hear_mapping_body, delivered_after, frame_heard, frame_took, all_finished, ack_heard, hear_gm, hear_gm_body, hear_body, hear_decoded, hear}
+use Rattle.world_laws.proofs.Lists.{at-set}
+
+-- the numbers of a sender: in order if they were, the base no less, and nothing is offered
+pub record SenderKept (s t : SenderState) : Type 0 where
+  pub in_order : IsSender s → IsSender t
+  pub base : s.base ≤ t.base
+  pub next : t.next ≡ s.next
+
+pub sender_same : (s : SenderState) → SenderKept s s
+sender_same s = record { in_order = λ is. is; base = omega arith; next = refl }
+
+-- a host
+pub record NodeKept (n m : NodeState) : Type 0 where
+  pub peers : length m.peers ≡ length n.peers
+  pub ports : length m.ports ≡ length n.ports
+  pub open_ports : (port : ℕ) → is_some (port_at m port) ≡ is_some (port_at n port)
+  pub senders : (peer : ℕ) → SenderKept (peer_at n peer).sender (peer_at m peer).sender
+
+pub node_same : (n : NodeState) → NodeKept n n
+node_same n = record { peers = refl; ports = refl; open_ports = λ port. refl; senders = λ peer. sender_same (peer_at n peer).sender }
+
+sender_after : (s t u : SenderState) → SenderKept s t → SenderKept t u → SenderKept s u
+sender_after s t u k m = record {
+  in_order = λ is. m.in_order (k.in_order is);
+  base = let a = k.base in let b = m.base in omega (arith, a, b);
+  next = m.next ∙ k.next;
+}
+
+node_after : (n m o : NodeState) → NodeKept n m → NodeKept m o → NodeKept n o
+node_after n m o k l = record {
+  peers = l.peers ∙ k.peers;
+  ports = l.ports ∙ k.ports;
+  open_ports = λ port. l.open_ports port ∙ k.open_ports port;
+  senders = λ peer. sender_after (peer_at n peer).sender (peer_at m peer).sender (peer_at o peer).sender (k.senders peer) (l.senders peer);
+}
+
+-- the connections with one peer go on
+pub with_peer-kept : (n : NodeState) (peer : ℕ) (p : PeerState) → SenderKept (peer_at n peer).sender p.sender → NodeKept n (with_peer n peer p)
+with_peer-kept n peer p k = record {
+  peers = length-set n.peers peer p;
+  ports = refl;
+  open_ports = λ port. refl;
+  senders = λ j. at-set (λ a b. SenderKept a.sender b.sender) (λ a. sender_same a.sender) n.peers peer j p new_peer k;
+}
+
+-- a port is as open as it was
+with_port-kept : (n : NodeState) (port : ℕ) (p : Option PortState) → is_some p ≡ is_some (port_at n port) → NodeKept n (with_port n port p)
+with_port-kept n port p e = record {
+  peers = refl;
+  ports = length-set n.ports port p;
+  open_ports = λ j. at-set (λ a b. is_some b ≡ is_some a) (λ a. refl) n.ports port j p None e;
+  senders = λ peer. sender_same (peer_at n peer).sender;
+}
+
+option_map-some : {X Y : Type 0} (f : X → Y) (o : Option X) → is_some (option_map f o) ≡ is_some o
+option_map-some f None = refl
+option_map-some f (Some x) = refl
+
+-- a taken acknowledgement
+acknowledged-order : (s : SenderState) (n : ℕ) (b : Bool) → is_taken s n ≡ b → SenderKept s (if b then record s { base = n; cursor = max s.cursor n } else s)
+acknowledged-order s n false e = sender_same s
+acknowledged-order s n true e =
+    let low : s.base < n = grind (arith, nat_tests) in
+    let high : n ≤ s.top = grind (arith, nat_tests) in
+    record {
+      in_order = λ is. record { base_below = omega arith; cursor_below = let a = is.cursor_below in omega (arith, a, high); top_below = is.top_below; in_range = is.in_range };
+      base = omega (arith, low);
+      next = refl;
+    }
+
+acknowledged-kept : (s : SenderState) (n : ℕ) → SenderKept s (acknowledged s n)
+acknowledged-kept s n = acknowledged-order s n (is_taken s n) refl
+
+expired-kept : (s : SenderState) → SenderKept s (expired s)
+expired-kept s = record {
+  in_order = λ is. record { base_below = omega arith; cursor_below = let a = is.base_below in let b = is.cursor_below in omega (arith, a, b); top_below = is.top_below; in_range = is.in_range };
+  base = omega arith;
+  next = refl;
+}
+
+-- the due fragment
+due-below : (s : SenderState) (k : ℕ) → due s ≡ Some k → s.cursor < s.next
+due-below s k e = by (nat_lt s.cursor s.next) (nat_lt s.cursor (s.base + window)) refl e
+  where
+    by : (a b : Bool) → nat_lt s.cursor s.next ≡ a → (if a && b then Some s.cursor else None) ≡ Some k → s.cursor < s.next
+    by true b t d = grind (arith, nat_tests)
+    by false b t d = cc
+
+sent_one-kept : (s : SenderState) → s.cursor < s.next → SenderKept s (sent_one s)
+sent_one-kept s low = record {
+  in_order = λ is. let a = is.base_below in let b = is.cursor_below in let c = is.top_below in record { base_below = omega (arith, a); cursor_below = omega arith; top_below = omega (arith, c, low); in_range = is.in_range };
+  base = omega arith;
+  next = refl;
+}
+
+-- what a host hears
+part_heard-kept : (n : NodeState) (p : RoutePart) (r : Applied × TableState) → NodeKept n (part_heard n p r)
+part_heard-kept n p (OnePart, t) = record { peers = refl; ports = refl; open_ports = λ port. refl; senders = λ peer. sender_same (peer_at n peer).sender }
+part_heard-kept n p (Active, t) = record { peers = refl; ports = refl; open_ports = λ port. refl; senders = λ peer. sender_same (peer_at n peer).sender }
+part_heard-kept n p (Old, t) = record { peers = refl; ports = refl; open_ports = λ port. refl; senders = λ peer. sender_same (peer_at n peer).sender }
+
+heard_if-kept : (b : Bool) (n : NodeState) (r : Heard × NodeState) → NodeKept n r.1 → NodeKept n (heard_if b n r).1
+heard_if-kept true n (heard, after) k = k
+heard_if-kept false n (heard, after) k = node_same n
+
+hear_mapping-kept : (host hosts : ℕ) (n : NodeState) (b : MappingBody) → NodeKept n (hear_mapping host hosts n b).1
+hear_mapping-kept host hosts n (HostProbe number mapper back) =
+    heard_if-kept (is_host hosts mapper) n _ (record { peers = refl; ports = refl; open_ports = λ port. refl; senders = λ peer. sender_same (peer_at n peer).sender })
+hear_mapping-kept host hosts n (HostReply number from) = heard_if-kept (is_host hosts from) n _ (node_same n)
+hear_mapping-kept host hosts n (Loopback number mapper) = heard_if-kept (nat_eq mapper host) n _ (node_same n)
+hear_mapping-kept host hosts n (Part p) = heard_if-kept (is_part_for host hosts p) n _ (part_heard-kept n p (applied n.table p))
+hear_mapping-kept host hosts n (PartAck epoch from part) = heard_if-kept (is_host hosts from) n _ (node_same n)
+
+hear_mapping_body-kept : (host hosts : ℕ) (n : NodeState) (b : Option MappingBody) → NodeKept n (hear_mapping_body host hosts n b).1
+hear_mapping_body-kept host hosts n None = node_same n
+hear_mapping_body-kept host hosts n (Some b) = hear_mapping-kept host hosts n b
+
+delivered_after-kept : (n : NodeState) (h : FrameHead) (part : List ℕ) (t : Took) → NodeKept n (delivered_after n h part t)
+delivered_after-kept n h part TookNotNext = node_same n
+delivered_after-kept n h part TookNoToken = node_same n
+delivered_after-kept n h part Whole =
+    with_port-kept n h.dport (option_map (λ p. delivered p h part) (port_at n h.dport)) (option_map-some (λ p. delivered p h part) (port_at n h.dport))
+
+frame_heard-kept : (n : NodeState) (h : FrameHead) (part : List ℕ) (t : Took) → NodeKept n (frame_heard n h part t).1
+frame_heard-kept n h part t =
+    let p : PeerState = peer_after (peer_at n h.src) t (record { sport = h.sport; dport = h.dport; prio = h.prio; body = part }) in
+    node_after n (with_peer n h.src p) (frame_heard n h part t).1 (with_peer-kept n h.src p (sender_same (peer_at n h.src).sender)) (delivered_after-kept (with_peer n h.src p) h part t)
+
+all_finished-kept : (n : NodeState) (ts : List Ticket) → NodeKept n (all_finished n ts)
+all_finished-kept n [] = node_same n
+all_finished-kept n (t ∷ ts) =
+    let p : Option PortState = option_map (λ p. finished p t.token) (port_at n t.port) in
+    node_after n (with_port n t.port p) (all_finished n (t ∷ ts)) (with_port-kept n t.port p (option_map-some (λ p. finished p t.token) (port_at n t.port))) (all_finished-kept (with_port n t.port p) ts)
+
+ack_heard-kept : (n : NodeState) (a : Ack) → NodeKept n (ack_heard n a)
+ack_heard-kept n a =
+    let m : NodeState = with_peer n a.src (peer_acknowledged (peer_at n a.src) a.next) in
+    node_after n m (ack_heard n a) (with_peer-kept n a.src (peer_acknowledged (peer_at n a.src) a.next) (acknowledged-kept (peer_at n a.src).sender a.next)) (all_finished-kept m (tickets_finished (peer_at n a.src) a.next))
+
+hear_gm-kept : (host hosts : ℕ) (n : NodeState) (body : List ℕ) (b : GmBody) → NodeKept n (hear_gm host hosts n body b).1
+hear_gm-kept host hosts n body (Frame h) =
+    heard_if-kept (nat_eq h.dst host && is_host hosts h.src) n _ (frame_heard-kept n h (part_in body) (frame_took n h))
+hear_gm-kept host hosts n body (Acknowledges a) = heard_if-kept (nat_eq a.dst host && is_host hosts a.src) n _ (ack_heard-kept n a)
+
+hear_gm_body-kept : (host hosts : ℕ) (n : NodeState) (body : List ℕ) (r : Result GmBody NoBody) → NodeKept n (hear_gm_body host hosts n body r).1
+hear_gm_body-kept host hosts n body (Err e) = node_same n
+hear_gm_body-kept host hosts n body (Ok b) = hear_gm-kept host hosts n body b
+
+hear_body-kept : (host hosts : ℕ) (n : NodeState) (k : Kind) (body : List ℕ) → NodeKept n (hear_body host hosts n k body).1
+hear_body-kept host hosts n Mapping body = hear_mapping_body-kept host hosts n (decode_mapping body)
+hear_body-kept host hosts n Gm body = hear_gm_body-kept host hosts n body (decode body)
+
+hear_decoded-kept : (host hosts : ℕ) (n : NodeState) (r : Result (Kind × List ℕ) HostDrop) → NodeKept n (hear_decoded host hosts n r).1
+hear_decoded-kept host hosts n (Err drop) = node_same n
+hear_decoded-kept host hosts n (Ok (kind, body)) = hear_body-kept host hosts n kind body
+
+pub hear-kept : (host hosts : ℕ) (n : NodeState) (wire : List ℕ) → NodeKept n (hear host hosts n wire).1
+unfolding hear
+hear-kept host hosts n wire = hear_decoded-kept host hosts n (decode_packet wire)
+
+-- a fragment that is sent first is due
+abbrev IsDue : NodeState → Outgoing → Type 0
+IsDue n (Probe walk looped) = Unit {0}
+IsDue n (TablePart part by) = Unit {0}
+IsDue n (Reply r) = Unit {0}
+IsDue n (PartAnswer a) = Unit {0}
+IsDue n (FrameAnswer peer next by) = Unit {0}
+IsDue n (Fragment peer head part by) = (k : ℕ) × (due (peer_at n peer).sender ≡ Some k)
+
+either-holds : {A : Type 0} (P : A → Type 0) (a b : Option A) → ((x : A) → a ≡ Some x → P x) → ((x : A) → b ≡ Some x → P x) → (x : A) → either a b ≡ Some x → P x
+either-holds P (Some y) b f g x e = f x e
+either-holds P None b f g x e = g x e
+
+first_some-holds : {A : Type 0} (P : A → Type 0) (f : ℕ → Option A) → ((k : ℕ) (x : A) → f k ≡ Some x → P x) → (ks : List ℕ) (x : A) → first_some f ks ≡ Some x → P x
+first_some-holds P f all [] x e = cc
+first_some-holds P f all (k ∷ ks) x e = either-holds P (f k) (first_some f ks) (all k) (first_some-holds P f all ks) x e
+
+staged-due : (n : NodeState) (o : Option Staged) (x : Outgoing) → option_map outgoing_staged o ≡ Some x → IsDue n x
+staged-due n None x e = cc
+staged-due n (Some (StagedProbe walk looped)) x e = let same : Probe walk looped ≡ x = cc in subst (IsDue n) same tt
+staged-due n (Some (StagedPart part by)) x e = let same : TablePart part by ≡ x = cc in subst (IsDue n) same tt
+
+reply-due : (n : NodeState) (o : Option StagedReply) (x : Outgoing) → option_map Reply o ≡ Some x → IsDue n x
+reply-due n None x e = cc
+reply-due n (Some r) x e = let same : Reply r ≡ x = cc in subst (IsDue n) same tt
+
+part_ack-due : (n : NodeState) (o : Option StagedAck) (x : Outgoing) → option_map PartAnswer o ≡ Some x → IsDue n x
+part_ack-due n None x e = cc
+part_ack-due n (Some a) x e = let same : PartAnswer a ≡ x = cc in subst (IsDue n) same tt
+
+owed_by-due : (n : NodeState) (peer next : ℕ) (b : Bool) (o : Option (List ℤ)) (x : Outgoing) → (if b then option_map (λ by. FrameAnswer peer next by) o else None) ≡ Some x → IsDue n x
+owed_by-due n peer next true None x e = cc
+owed_by-due n peer next true (Some by) x e = let same : FrameAnswer peer next by ≡ x = cc in subst (IsDue n) same tt
+owed_by-due n peer next false o x e = cc
+
+routed-due : (n : NodeState) (peer : ℕ) (f : FrameHead × List ℕ) (o : Option (List ℤ)) (x : Outgoing) (k : ℕ) → due (peer_at n peer).sender ≡ Some k → option_map (λ by. Fragment peer f.0 f.1 by) o ≡ Some x → IsDue n x
+routed-due n peer f None x k d e = cc
+routed-due n peer f (Some by) x k d e = let same : Fragment peer f.0 f.1 by ≡ x = cc in subst (IsDue n) same (k, d)
+
+framed-due : (n : NodeState) (peer : ℕ) (o : Option (FrameHead × List ℕ)) (x : Outgoing) (k : ℕ) → due (peer_at n peer).sender ≡ Some k → option_and_then (λ f. option_map (λ by. Fragment peer f.0 f.1 by) (table_route n.table peer)) o ≡ Some x → IsDue n x
+framed-due n peer None x k d e = cc
+framed-due n peer (Some f) x k d e = routed-due n peer f (table_route n.table peer) x k d e
+
+fragment-due : (host : ℕ) (n : NodeState) (peer : ℕ) (o : Option ℕ) (x : Outgoing) → due (peer_at n peer).sender ≡ o → option_and_then (λ f. option_map (λ by. Fragment peer f.0 f.1 by) (table_route n.table peer)) (option_and_then (λ seq. frame_of host peer (peer_at n peer).sent seq) o) ≡ Some x → IsDue n x
+fragment-due host n peer None x d e = cc
+fragment-due host n peer (Some k) x d e = framed-due n peer (frame_of host peer (peer_at n peer).sent k) x k d e
+
+to_send-due : (host : ℕ) (n : NodeState) (x : Outgoing) → to_send host n ≡ Some x → IsDue n x
+unfolding to_send
+to_send-due host n x e =
+    either-holds (IsDue n) (option_map outgoing_staged n.staged) _ (staged-due n n.staged)
+    (either-holds (IsDue n) (option_map Reply n.reply) _ (reply-due n n.reply)
+    (either-holds (IsDue n) (option_map PartAnswer n.part_ack) _ (part_ack-due n n.part_ack)
+    (either-holds (IsDue n) (first_some (owed_to n) (peers_of n)) _
+    (first_some-holds (IsDue n) (owed_to n) (λ peer. owed_by-due n peer (peer_at n peer).taken (peer_at n peer).owes (table_route n.table peer)) (peers_of n))
+    (first_some-holds (IsDue n) (due_to host n) (λ peer y. fragment-due host n peer (due (peer_at n peer).sender) y refl) (peers_of n)))))
+    x e
+
+-- and the host after it
+after_sending-kept : (n : NodeState) (o : Outgoing) → IsDue n o → NodeKept n (after_sending n o)
+unfolding after_sending
+after_sending-kept n (Probe walk looped) d = record { peers = refl; ports = refl; open_ports = λ port. refl; senders = λ peer. sender_same (peer_at n peer).sender }
+after_sending-kept n (TablePart part by) d = record { peers = refl; ports = refl; open_ports = λ port. refl; senders = λ peer. sender_same (peer_at n peer).sender }
+after_sending-kept n (Reply r) d = record { peers = refl; ports = refl; open_ports = λ port. refl; senders = λ peer. sender_same (peer_at n peer).sender }
+after_sending-kept n (PartAnswer a) d = record { peers = refl; ports = refl; open_ports = λ port. refl; senders = λ peer. sender_same (peer_at n peer).sender }
+after_sending-kept n (FrameAnswer peer next by) d = with_peer-kept n peer (peer_answered (peer_at n peer)) (sender_same (peer_at n peer).sender)
+after_sending-kept n (Fragment peer head part by) d =
+    with_peer-kept n peer (peer_sent_one (peer_at n peer)) (sent_one-kept (peer_at n peer).sender (due-below (peer_at n peer).sender d.0 d.1))
+
+pub sent-kept : (host : ℕ) (n : NodeState) (o : Outgoing) → to_send host n ≡ Some o → NodeKept n (after_sending n o)
+sent-kept host n o e = after_sending-kept n o (to_send-due host n o e)
+
+pub given_up-kept : (n : NodeState) → NodeKept n (given_up n)
+given_up-kept n = record { peers = refl; ports = refl; open_ports = λ port. refl; senders = λ peer. sender_same (peer_at n peer).sender }
+
+pub staged-kept : (n : NodeState) (s : Option Staged) → NodeKept n (record n { staged = s })
+staged-kept n s = record { peers = refl; ports = refl; open_ports = λ port. refl; senders = λ peer. sender_same (peer_at n peer).sender }
+
+pub node_expired-kept : (n : NodeState) (peer : ℕ) → NodeKept n (node_expired n peer)
+node_expired-kept n peer = with_peer-kept n peer (peer_expired (peer_at n peer)) (expired-kept (peer_at n peer).sender)

@@ -1,0 +1,261 @@
+-- Every event leaves a world of the same fabric, with the numbers of each connection in order.
+use Rattle.std.proofs.Common.{◌≡◌, ◌<◌, ◌≤◌, ◌+◌, ◌^◌, ℕ, zero, suc, List, [], ◌∷◌, length, replicate, get_or, set, Option, Some, None, is_some, refl, sym, ◌∙◌, ap, subst, arith}
+use Rattle.std.proofs.Math.ListN.{length-set}
+use Rattle.std.proofs.lemmas.List.{length-replicate}
+use Rattle.net_defs.specs.Network.{Network}
+use Rattle.link_defs.specs.Shape.{IsLinks}
+use Rattle.link_defs.specs.Step.{Step, Put, stepped}
+use Rattle.link_defs.proofs.Shapes.{empty-links, stepped-net, stepped-links}
+use Rattle.gm_defs.specs.Connection.{IsSender, starting}
+use Rattle.gm_defs.specs.Token.{PortState}
+use Rattle.world_defs.specs.declared.event.Event.{Event}
+use Rattle.world_defs.specs.Peer.{PeerState, new_peer}
+use Rattle.world_defs.specs.Node.{NodeState, Outgoing, to_send, packet_for, after_sending, new_node, peer_at, port_at, port_count}
+use Rattle.world_defs.specs.Client.{ClientState, Called}
+use Rattle.world_defs.specs.World.{WorldState, fabric_of, host_count, new_world, last_count, counted, node_at, with_node, with_links, client_at, with_client, with_drop}
+use Rattle.world_defs.specs.Step.{planned_strikes, sent_out, step, after_all}
+use Rattle.world_laws.specs.Shape.{IsNode, IsWorld, HasSenders}
+use Rattle.world_laws.proofs.Lists.{at-set, two-set}
+use Rattle.world_laws.proofs.Nodes.{NodeKept, node_same, sent-kept}
+use Rattle.world_laws.proofs.Calls.{CallKept}
+use Rattle.world_laws.proofs.Strikes.{Strikes, planned_strikes-kept}
+use Rattle.world_laws.proofs.Leaves.{Follows, FollowsCalls, step-leaves}
+
+-- what every event keeps
+pub record Kept (w v : WorldState) : Type 0 where
+  pub net : fabric_of v ≡ fabric_of w
+  pub world : IsWorld w → IsWorld v
+  pub senders : HasSenders w → HasSenders v
+
+-- hosts that are kept, one by one
+pub record NodesKept (w v : WorldState) : Type 0 where
+  pub count : length v.nodes ≡ length w.nodes
+  pub each : (h : ℕ) → NodeKept (node_at w h) (node_at v h)
+
+-- the same list of hosts
+nodes_same : (w v : WorldState) → v.nodes ≡ w.nodes → NodesKept w v
+nodes_same w v e = record {
+  count = ap length e;
+  each = λ h. subst (λ ns. NodeKept (node_at w h) (get_or ns h (new_node 0))) (sym e) (node_same (node_at w h));
+}
+
+pub with_node-kept : (w : WorldState) (h : ℕ) (n : NodeState) → NodeKept (node_at w h) n → NodesKept w (with_node w h n)
+with_node-kept w h n k = record {
+  count = length-set w.nodes h n;
+  each = λ j. at-set NodeKept node_same w.nodes h j n (new_node 0) k;
+}
+
+-- a world whose hosts are kept, and whose clients are as they were
+made_world : (w v : WorldState) → IsWorld w → IsLinks v.links → fabric_of v ≡ fabric_of w → NodesKept w v → v.clients ≡ w.clients → v.injected < 2 ^ 64 → v.dropped < 2 ^ 64 → v.struck ≤ v.injected → v.harmed ≤ v.struck → IsWorld v
+made_world w v is links net k clients injections drops strikes harms = record {
+  links = links;
+  hosts = k.count ∙ (is.hosts ∙ ap (λ n. length n.hosts) (sym net));
+  clients = ap length clients ∙ (is.clients ∙ sym k.count);
+  each_node = λ h low.
+      let was : IsNode (host_count w) (node_at w h) = is.each_node h (subst (λ n. h < n) k.count low) in
+      record { peers = (k.each h).peers ∙ (was.peers ∙ sym k.count); ports = (k.each h).ports ∙ was.ports };
+  each_client = λ h low. ap (λ cs. length (get_or cs h [])) clients ∙ is.each_client h (subst (λ n. h < n) k.count low);
+  open_ports = λ h port. ap (λ cs. is_some (get_or (get_or cs h []) port None)) clients ∙ (is.open_ports h port ∙ sym ((k.each h).open_ports port));
+  injections = injections;
+  drops = drops;
+  strikes = strikes;
+  harms = harms;
+}
+
+made_senders : (w v : WorldState) → NodesKept w v → HasSenders w → HasSenders v
+made_senders w v k is = record { in_order = λ h peer. ((k.each h).senders peer).in_order (is.in_order h peer) }
+
+kept_links : (w : WorldState) (x : Step) → Kept w (with_links w (stepped w.links x))
+kept_links w x = record {
+  net = stepped-net w.links x;
+  world = λ is. made_world w (with_links w (stepped w.links x)) is (stepped-links w.links x is.links) (stepped-net w.links x) (nodes_same w (with_links w (stepped w.links x)) refl) refl is.injections is.drops is.strikes is.harms;
+  senders = made_senders w (with_links w (stepped w.links x)) (nodes_same w (with_links w (stepped w.links x)) refl);
+}
+
+kept_node : (w : WorldState) (h : ℕ) (n : NodeState) → NodeKept (node_at w h) n → Kept w (with_node w h n)
+kept_node w h n k = record {
+  net = refl;
+  world = λ is. made_world w (with_node w h n) is is.links refl (with_node-kept w h n k) refl is.injections is.drops is.strikes is.harms;
+  senders = made_senders w (with_node w h n) (with_node-kept w h n k);
+}
+
+counted-below : (n : ℕ) → counted n < 2 ^ 64
+counted-below n = omega arith
+
+kept_drop : (w : WorldState) → Kept w (with_drop w)
+kept_drop w = record {
+  net = refl;
+  world = λ is. made_world w (with_drop w) is is.links refl (nodes_same w (with_drop w) refl) refl is.injections (counted-below w.dropped) is.strikes is.harms;
+  senders = made_senders w (with_drop w) (nodes_same w (with_drop w) refl);
+}
+
+-- what an injection leaves before the planned fault strikes
+record SentOut (w v : WorldState) : Type 0 where
+  links : IsLinks w.links → IsLinks v.links
+  net : fabric_of v ≡ fabric_of w
+  nodes : NodesKept w v
+  clients : v.clients ≡ w.clients
+  injected : v.injected ≡ w.injected + 1
+  dropped : v.dropped ≡ w.dropped
+  struck : v.struck ≡ w.struck
+  harmed : v.harmed ≡ w.harmed
+
+sent_out-kept : (w : WorldState) (h c : ℕ) (out : Outgoing) → to_send h (node_at w h) ≡ Some out → SentOut w (sent_out w h c out)
+unfolding sent_out
+sent_out-kept w h c out e =
+    let x : Step = Put c (packet_for h (w.injected + 1) out) in
+    let k : NodesKept w (with_node w h (after_sending (node_at w h) out)) = with_node-kept w h (after_sending (node_at w h) out) (sent-kept h (node_at w h) out e) in
+    record {
+      links = stepped-links w.links x;
+      net = stepped-net w.links x;
+      nodes = record { count = k.count; each = k.each };
+      clients = refl;
+      injected = refl;
+      dropped = refl;
+      struck = refl;
+      harmed = refl;
+    }
+
+struck_nodes : (w u v : WorldState) → NodesKept w u → v.nodes ≡ u.nodes → NodesKept w v
+struck_nodes w u v k e = record {
+  count = ap length e ∙ k.count;
+  each = λ h. subst (λ ns. NodeKept (node_at w h) (get_or ns h (new_node 0))) (sym e) (k.each h);
+}
+
+injected-kept : (w u v : WorldState) → w.injected < last_count → SentOut w u → Strikes u v → Kept w v
+injected-kept w u v low s t =
+    let nodes : NodesKept w v = struck_nodes w u v s.nodes t.nodes in
+    let now : v.injected ≡ w.injected + 1 = t.injected ∙ s.injected in
+    record {
+      net = t.links.net ∙ s.net;
+      world = λ is.
+          let a = is.strikes in
+          let b = is.harms in
+          let c = t.once in
+          let d = t.harms in
+          let e = s.struck in
+          let f = s.harmed in
+          let g = t.rises in
+          made_world w v is (t.links.links (s.links is.links)) (t.links.net ∙ s.net) nodes (t.clients ∙ s.clients) (omega (arith, low, now)) (subst (λ n. n < 2 ^ 64) (sym (t.dropped ∙ s.dropped)) is.drops) (omega (arith, a, c, e, now)) (omega (arith, b, d, e, f, g));
+      senders = made_senders w v nodes;
+    }
+
+kept_injection : (w : WorldState) (h c : ℕ) (out : Outgoing) → w.injected < last_count → to_send h (node_at w h) ≡ Some out → Kept w (planned_strikes (sent_out w h c out) c)
+kept_injection w h c out low e =
+    injected-kept w (sent_out w h c out) (planned_strikes (sent_out w h c out) c) low (sent_out-kept w h c out e) (planned_strikes-kept (sent_out w h c out) c)
+
+pub follows-kept : Follows Kept
+follows-kept = record {
+  same = λ w. record { net = refl; world = λ is. is; senders = λ is. is };
+  both = λ u v w k l. record { net = l.net ∙ k.net; world = λ is. l.world (k.world is); senders = λ is. l.senders (k.senders is) };
+  links = kept_links;
+  node = kept_node;
+  drop = kept_drop;
+  injection = kept_injection;
+}
+
+-- a call: the lists of ports and of clients change at the same place
+record SameLong (n m : NodeState) : Type 0 where
+  peers : length m.peers ≡ length n.peers
+  ports : length m.ports ≡ length n.ports
+
+abbrev IsOpenWhere : List (Option PortState) → List (Option ClientState) → Type 0
+IsOpenWhere ports clients = (port : ℕ) → is_some (get_or clients port None) ≡ is_some (get_or ports port None)
+
+open_row : (ports : List (Option PortState)) (row : List (Option ClientState)) (port : ℕ) (p : Option PortState) (c : Option ClientState) → length row ≡ length ports → is_some c ≡ is_some p → IsOpenWhere ports row → IsOpenWhere (set ports port p) (set row port c)
+open_row ports row port p c long e all = two-set (λ (a : Option PortState) (b : Option ClientState). is_some b ≡ is_some a) ports row port p c None None long (λ _. e) all
+
+called_open : (w : WorldState) (h port : ℕ) (call : Called) → CallKept (node_at w h) port (client_at w h port) call → IsWorld w → h < length w.nodes → IsOpenWhere call.node.ports (set (get_or w.clients h []) port call.client)
+called_open w h port call k is low =
+    let row : List (Option ClientState) = get_or w.clients h [] in
+    let long : length row ≡ length (node_at w h).ports = is.each_client h low ∙ sym (is.each_node h low).ports in
+    subst (λ ports. IsOpenWhere ports (set row port call.client)) (sym k.ports) (open_row (node_at w h).ports row port k.at_port call.client long (k.open_port (is.open_ports h port)) (is.open_ports h))
+
+called_world : (w : WorldState) (h port : ℕ) (call : Called) → CallKept (node_at w h) port (client_at w h port) call → IsWorld w → IsWorld (with_client (with_node w h call.node) h port call.client)
+called_world w h port call k is =
+    let row : List (Option ClientState) = get_or w.clients h [] in
+    let count : length (set w.nodes h call.node) ≡ length w.nodes = length-set w.nodes h call.node in
+    let same : SameLong (node_at w h) call.node = record { peers = k.peers; ports = ap length k.ports ∙ length-set (node_at w h).ports port k.at_port } in
+    record {
+      links = is.links;
+      hosts = count ∙ is.hosts;
+      clients = length-set w.clients h (set row port call.client) ∙ (is.clients ∙ sym count);
+      each_node = λ j low.
+          let was : IsNode (host_count w) (node_at w j) = is.each_node j (subst (λ n. j < n) count low) in
+          let long : SameLong (node_at w j) (get_or (set w.nodes h call.node) j (new_node 0)) = at-set SameLong (λ n. record { peers = refl; ports = refl }) w.nodes h j call.node (new_node 0) same in
+          record { peers = long.peers ∙ (was.peers ∙ sym count); ports = long.ports ∙ was.ports };
+      each_client = λ j low.
+          at-set (λ (a b : List (Option ClientState)). length b ≡ length a) (λ a. refl) w.clients h j (set row port call.client) [] (length-set row port call.client) ∙ is.each_client j (subst (λ n. j < n) count low);
+      open_ports = two-set (λ n cs. IsOpenWhere n.ports cs) w.nodes w.clients h call.node (set row port call.client) (new_node 0) [] is.clients (called_open w h port call k is) is.open_ports;
+      injections = is.injections;
+      drops = is.drops;
+      strikes = is.strikes;
+      harms = is.harms;
+    }
+
+called_senders : (w : WorldState) (h port : ℕ) (call : Called) → CallKept (node_at w h) port (client_at w h port) call → HasSenders w → HasSenders (with_client (with_node w h call.node) h port call.client)
+called_senders w h port call k is = record {
+  in_order = λ j peer.
+      at-set (λ a b. IsSender (peer_at a peer).sender → IsSender (peer_at b peer).sender) (λ a i. i) w.nodes h j call.node (new_node 0) (k.senders peer).in_order (is.in_order j peer);
+}
+
+pub follows_calls-kept : FollowsCalls Kept
+follows_calls-kept w h port call k = record { net = refl; world = called_world w h port call k; senders = called_senders w h port call k }
+
+-- the laws
+pub step-kept : (w : WorldState) (e : Event) → Kept w (step w e).1
+step-kept w e = step-leaves Kept follows-kept follows_calls-kept w e
+
+pub after_all-kept : (w : WorldState) (es : List Event) → Kept w (after_all w es)
+after_all-kept w [] = follows-kept.same w
+after_all-kept w (e ∷ es) = follows-kept.both w (step w e).1 (after_all (step w e).1 es) (step-kept w e) (after_all-kept (step w e).1 es)
+
+-- the world of a fabric before anything happened
+at-replicate : {X : Type 0} (P : X → Type 0) (k j : ℕ) (x d : X) → P x → P d → P (get_or (replicate k x) j d)
+at-replicate P zero j x d p q = q
+at-replicate P (suc k) zero x d p q = p
+at-replicate P (suc k) (suc j) x d p q = at-replicate P k j x d p q
+
+below-replicate : {X : Type 0} (P : X → Type 0) (k j : ℕ) (x d : X) → j < k → P x → P (get_or (replicate k x) j d)
+below-replicate P zero j x d low p = absurd (omega (arith, low))
+below-replicate P (suc k) zero x d low p = p
+below-replicate P (suc k) (suc j) x d low p = below-replicate P k j x d (omega (arith, low)) p
+
+no_port : (port : ℕ) → get_or (replicate {A = Option PortState} port_count None) port None ≡ None
+no_port port = at-replicate (λ o. o ≡ None) port_count port None None refl refl
+
+no_client : (port : ℕ) → get_or (replicate {A = Option ClientState} port_count None) port None ≡ None
+no_client port = at-replicate (λ o. o ≡ None) port_count port None None refl refl
+
+pub new-world : (n : Network) → IsWorld (new_world n)
+new-world n =
+    let k : ℕ = length n.hosts in
+    let row : List (Option ClientState) = replicate port_count None in
+    let count : length (replicate k (new_node k)) ≡ k = length-replicate k (new_node k) in
+    record {
+      links = empty-links n;
+      hosts = count;
+      clients = length-replicate k row ∙ sym count;
+      each_node = λ h low.
+          below-replicate (IsNode (length (replicate k (new_node k)))) k h (new_node k) (new_node 0) (subst (λ m. h < m) count low) (record { peers = length-replicate k new_peer ∙ sym count; ports = refl });
+      each_client = λ h low. below-replicate (λ (cs : List (Option ClientState)). length cs ≡ port_count) k h row [] (subst (λ m. h < m) count low) refl;
+      open_ports = λ h port.
+          let c : get_or (get_or (replicate k row) h []) port None ≡ None = at-replicate (λ (cs : List (Option ClientState)). get_or cs port None ≡ None) k h row [] (no_client port) refl in
+          let p : port_at (get_or (replicate k (new_node k)) h (new_node 0)) port ≡ None = at-replicate (λ m. port_at m port ≡ None) k h (new_node k) (new_node 0) (no_port port) (no_port port) in
+          ap is_some c ∙ sym (ap is_some p);
+      injections = omega arith;
+      drops = omega arith;
+      strikes = omega arith;
+      harms = omega arith;
+    }
+
+starting-order : IsSender (starting 0)
+starting-order = record { base_below = omega arith; cursor_below = omega arith; top_below = omega arith; in_range = omega arith }
+
+pub new-senders : (n : Network) → HasSenders (new_world n)
+new-senders n =
+    let k : ℕ = length n.hosts in
+    record {
+      in_order = λ h peer.
+          at-replicate (λ m. IsSender (peer_at m peer).sender) k h (new_node k) (new_node 0) (at-replicate (λ (p : PeerState). IsSender p.sender) k peer new_peer new_peer starting-order starting-order) starting-order;
+    }

@@ -1,0 +1,17 @@
+use Rattle.world_laws.proofs.Shapes.{step-kept, after_all-kept, new-world}
+use Rattle.world_laws.proofs.shape.kept_worlds.Goals as goal
+
+pub returns-clause-new : goal.returns-clause-new
+returns-clause-new c = new-world
+
+pub returns-clause-event : goal.returns-clause-event
+returns-clause-event c = λ w e. (step-kept w e).world
+
+pub returns-clause-events : goal.returns-clause-events
+returns-clause-events c = λ w es. (after_all-kept w es).world
+
+pub returns-clause-fabric : goal.returns-clause-fabric
+returns-clause-fabric c = λ w e. (step-kept w e).net
+
+pub returns-clause-fabric_after_all : goal.returns-clause-fabric_after_all
+returns-clause-fabric_after_all c = λ w es. (after_all-kept w es).net

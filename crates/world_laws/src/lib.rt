@@ -1,0 +1,8 @@
+//! What holds of every world of a fabric, after every list of events.
+//!
+//! Each law is a function without parameters: its contract is the law, and its body is empty. The statements stand in `specs/`.
+#![tactic(auto)]
+
+mod shape;
+
+pub use shape::{kept_senders, kept_worlds};

@@ -1,0 +1,20 @@
+//! Every event leaves a world of the same fabric: `specs/Shape.antt` has the statements.
+
+ghost use Rattle.world_laws.specs.Shape.{NewIsWorld, EventLeavesWorld, EventsLeaveWorld, EventKeepsFabric, EventsKeepFabric};
+ghost use Rattle.world_laws.specs.Shape.{NewHasSenders, EventKeepsSenders, EventsKeepSenders};
+
+/// A fabric's world stays one, and its fabric stays as it is.
+pub fn kept_worlds()
+    ensures new { NewIsWorld }
+    ensures event { EventLeavesWorld }
+    ensures events { EventsLeaveWorld }
+    ensures fabric { EventKeepsFabric }
+    ensures fabric_after_all { EventsKeepFabric }
+{}
+
+/// The numbers of every connection stay in order.
+pub fn kept_senders()
+    ensures new { NewHasSenders }
+    ensures event { EventKeepsSenders }
+    ensures events { EventsKeepSenders }
+{}
