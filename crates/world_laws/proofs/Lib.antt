@@ -4,3 +4,4 @@ pub mod Calls
 pub mod Strikes
 pub mod Leaves
 pub mod Shapes
+pub mod Idling

@@ -3,6 +3,8 @@
 //! Each law is a function without parameters: its contract is the law, and its body is empty. The statements stand in `specs/`.
 #![tactic(auto)]
 
+mod idle;
 mod shape;
 
+pub use idle::idle_events;
 pub use shape::{kept_senders, kept_worlds};
