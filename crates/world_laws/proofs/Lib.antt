@@ -5,3 +5,5 @@ pub mod Strikes
 pub mod Leaves
 pub mod Shapes
 pub mod Idling
+pub mod Draining
+pub mod Clearing

@@ -1,2 +1,3 @@
-pub mod Shape
+pub mod Draining
 pub mod Idle
+pub mod Shape

@@ -5,6 +5,8 @@
 
 mod idle;
 mod shape;
+mod stretch;
 
 pub use idle::idle_events;
 pub use shape::{kept_senders, kept_worlds};
+pub use stretch::{advances_of_links, clears, drains};

@@ -1,0 +1,8 @@
+use Rattle.world_laws.proofs.Clearing.{clear-idle, clear-resets}
+use Rattle.world_laws.proofs.stretch.clears.Goals as goal
+
+pub returns-clause-idle : goal.returns-clause-idle
+returns-clause-idle c = clear-idle
+
+pub returns-clause-resets : goal.returns-clause-resets
+returns-clause-resets c = clear-resets

@@ -1,0 +1,44 @@
+-- What a drain and a clear come to.
+use Rattle.std.specs.Prelude.{◌≡◌, ◌⊎◌, ℕ, ◌+◌, ◌≤◌, true, List, [], ◌∷◌, Option, Some, None}
+use Rattle.link_defs.specs.Links.{Held, is_idle}
+use Rattle.link_defs.specs.Advance.{advance}
+use Rattle.link_defs.specs.Hops.{total_hops, is_stuck}
+use Rattle.world_defs.specs.declared.event.Event.TheVariants.{Advance}
+use Rattle.world_defs.specs.declared.effect.Effect.{Effect}
+use Rattle.world_defs.specs.World.{WorldState}
+use Rattle.world_defs.specs.Step.{step}
+use Rattle.world_defs.specs.Drain.{changes, drain, Drains, clear}
+
+-- an advance does to the links what it does to links without a world
+abbrev pub AdvanceOfLinks : Type 0
+AdvanceOfLinks = (w : WorldState) (c : ℕ) → (step w (Advance c)).1.links ≡ (advance w.links c).1
+
+-- passes that change something, and then one that doesn't: a drain is that
+abbrev pub DrainDrains : Type 0
+DrainDrains = (w : WorldState) → Drains w (drain w).0 (drain w).1
+
+-- and no other effects and no other world are
+abbrev pub DrainsAreOne : Type 0
+DrainsAreOne = (w u v : WorldState) (xs ys : List Effect) → Drains w xs u → Drains w ys v → (xs ≡ ys) × (u ≡ v)
+
+-- a drain has no more changes than the packets have hops left
+abbrev pub ChangesAreHops : Type 0
+ChangesAreHops = (w : WorldState) → changes (drain w).0 ≤ total_hops w.links
+
+-- after it the links are idle or stuck
+abbrev pub DrainedIsStill : Type 0
+DrainedIsStill = (w : WorldState) → (is_idle (drain w).1.links ≡ true) ⊎ (is_stuck (drain w).1.links ≡ true)
+
+-- how many channels hold a packet
+abbrev pub full_count : List (Option Held) → ℕ
+full_count [] = 0
+full_count (None ∷ ps) = full_count ps
+full_count (Some held ∷ ps) = 1 + full_count ps
+
+-- after a clear the links are idle
+abbrev pub ClearedIsIdle : Type 0
+ClearedIsIdle = (w : WorldState) → is_idle (clear w).1.links ≡ true
+
+-- and each channel that held a packet after the drain was reset, and no other
+abbrev pub ResetsAreFull : Type 0
+ResetsAreFull = (w : WorldState) → (clear w).0 ≡ full_count (drain w).1.links.channels
