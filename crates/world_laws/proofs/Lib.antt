@@ -7,3 +7,6 @@ pub mod Shapes
 pub mod Idling
 pub mod Draining
 pub mod Clearing
+pub mod Along
+pub mod Passes
+pub mod Rounds

@@ -56,7 +56,7 @@ sender_after s t u k m = record {
   next = m.next ∙ k.next;
 }
 
-node_after : (n m o : NodeState) → NodeKept n m → NodeKept m o → NodeKept n o
+pub node_after : (n m o : NodeState) → NodeKept n m → NodeKept m o → NodeKept n o
 node_after n m o k l = record {
   peers = l.peers ∙ k.peers;
   ports = l.ports ∙ k.ports;

@@ -33,7 +33,7 @@ pub record NodesKept (w v : WorldState) : Type 0 where
   pub each : (h : ℕ) → NodeKept (node_at w h) (node_at v h)
 
 -- the same list of hosts
-nodes_same : (w v : WorldState) → v.nodes ≡ w.nodes → NodesKept w v
+pub nodes_same : (w v : WorldState) → v.nodes ≡ w.nodes → NodesKept w v
 nodes_same w v e = record {
   count = ap length e;
   each = λ h. subst (λ ns. NodeKept (node_at w h) (get_or ns h (new_node 0))) (sym e) (node_same (node_at w h));
@@ -62,7 +62,7 @@ made_world w v is links net k clients injections drops strikes harms = record {
   harms = harms;
 }
 
-made_senders : (w v : WorldState) → NodesKept w v → HasSenders w → HasSenders v
+pub made_senders : (w v : WorldState) → NodesKept w v → HasSenders w → HasSenders v
 made_senders w v k is = record { in_order = λ h peer. ((k.each h).senders peer).in_order (is.in_order h peer) }
 
 kept_links : (w : WorldState) (x : Step) → Kept w (with_links w (stepped w.links x))
@@ -90,17 +90,18 @@ kept_drop w = record {
 }
 
 -- what an injection leaves before the planned fault strikes
-record SentOut (w v : WorldState) : Type 0 where
-  links : IsLinks w.links → IsLinks v.links
-  net : fabric_of v ≡ fabric_of w
-  nodes : NodesKept w v
-  clients : v.clients ≡ w.clients
-  injected : v.injected ≡ w.injected + 1
-  dropped : v.dropped ≡ w.dropped
-  struck : v.struck ≡ w.struck
-  harmed : v.harmed ≡ w.harmed
+pub record SentOut (w v : WorldState) : Type 0 where
+  pub links : IsLinks w.links → IsLinks v.links
+  pub net : fabric_of v ≡ fabric_of w
+  pub nodes : NodesKept w v
+  pub clients : v.clients ≡ w.clients
+  pub injected : v.injected ≡ w.injected + 1
+  pub dropped : v.dropped ≡ w.dropped
+  pub plan : v.plan ≡ w.plan
+  pub struck : v.struck ≡ w.struck
+  pub harmed : v.harmed ≡ w.harmed
 
-sent_out-kept : (w : WorldState) (h c : ℕ) (out : Outgoing) → to_send h (node_at w h) ≡ Some out → SentOut w (sent_out w h c out)
+pub sent_out-kept : (w : WorldState) (h c : ℕ) (out : Outgoing) → to_send h (node_at w h) ≡ Some out → SentOut w (sent_out w h c out)
 unfolding sent_out
 sent_out-kept w h c out e =
     let x : Step = Put c (packet_for h (w.injected + 1) out) in
@@ -112,11 +113,12 @@ sent_out-kept w h c out e =
       clients = refl;
       injected = refl;
       dropped = refl;
+      plan = refl;
       struck = refl;
       harmed = refl;
     }
 
-struck_nodes : (w u v : WorldState) → NodesKept w u → v.nodes ≡ u.nodes → NodesKept w v
+pub struck_nodes : (w u v : WorldState) → NodesKept w u → v.nodes ≡ u.nodes → NodesKept w v
 struck_nodes w u v k e = record {
   count = ap length e ∙ k.count;
   each = λ h. subst (λ ns. NodeKept (node_at w h) (get_or ns h (new_node 0))) (sym e) (k.each h);

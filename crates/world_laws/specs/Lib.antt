@@ -1,3 +1,4 @@
 pub mod Draining
 pub mod Idle
+pub mod Settling
 pub mod Shape

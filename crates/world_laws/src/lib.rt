@@ -4,9 +4,11 @@
 #![tactic(auto)]
 
 mod idle;
+mod settle;
 mod shape;
 mod stretch;
 
 pub use idle::idle_events;
+pub use settle::{rounds_of_passes, settles};
 pub use shape::{kept_senders, kept_worlds};
 pub use stretch::{advances_of_links, clears, drains};
