@@ -22,7 +22,7 @@ pub all-map : (Q : Event → Type 0) (f : ℕ → Event) → ((n : ℕ) → Q (f
 all-map Q f all [] = tt
 all-map Q f all (n ∷ ns) = (all n, all-map Q f all ns)
 
-all-append : (Q : Event → Type 0) (es ds : List Event) → AllByRecursion Q es → AllByRecursion Q ds → AllByRecursion Q (es ++ ds)
+pub all-append : (Q : Event → Type 0) (es ds : List Event) → AllByRecursion Q es → AllByRecursion Q ds → AllByRecursion Q (es ++ ds)
 all-append Q [] ds a b = b
 all-append Q (e ∷ es) ds a b = (a.0, all-append Q es ds a.1 b)
 
@@ -43,22 +43,22 @@ pub record Clears (Q : Event → Type 0) : Type 0 where
   pub advance : (c : ℕ) → Q (Advance c)
   pub reset : (c : ℕ) → Q (Reset c)
 
-pass-along : (R : WorldState → WorldState → Type 0) (Q : Event → Type 0) → Along R Q → Clears Q → (w : WorldState) → R w (pass w).1
+pass-along : (R : WorldState → WorldState → Type 0) (Q : Event → Type 0) → Along R Q → ((c : ℕ) → Q (Advance c)) → (w : WorldState) → R w (pass w).1
 unfolding pass
-pass-along R Q g k w = steps-along R Q g w (map Advance (channels_of w)) (all-map Q Advance k.advance (channels_of w))
+pass-along R Q g k w = steps-along R Q g w (map Advance (channels_of w)) (all-map Q Advance k (channels_of w))
 
-drains-along : (R : WorldState → WorldState → Type 0) (Q : Event → Type 0) → Along R Q → Clears Q → (w v : WorldState) (xs : List Effect) → Drains w xs v → R w v
+pub drains-along : (R : WorldState → WorldState → Type 0) (Q : Event → Type 0) → Along R Q → ((c : ℕ) → Q (Advance c)) → (w v : WorldState) (xs : List Effect) → Drains w xs v → R w v
 drains-along R Q g k w v xs (Drains.at_rest e) = g.same w
 drains-along R Q g k w v xs (Drains.more {xs = some} n d p) = g.both w (pass w).1 v (pass-along R Q g k w) (drains-along R Q g k (pass w).1 v some d)
 
-pub drain-along : (R : WorldState → WorldState → Type 0) (Q : Event → Type 0) → Along R Q → Clears Q → (w : WorldState) → R w (drain w).1
+pub drain-along : (R : WorldState → WorldState → Type 0) (Q : Event → Type 0) → Along R Q → ((c : ℕ) → Q (Advance c)) → (w : WorldState) → R w (drain w).1
 drain-along R Q g k w = drains-along R Q g k w (drain w).1 (drain w).0 (drain-drains w)
 
 pub clear-along : (R : WorldState → WorldState → Type 0) (Q : Event → Type 0) → Along R Q → Clears Q → (w : WorldState) → R w (clear w).1
 unfolding clear
 clear-along R Q g k w =
     let v : WorldState = (drain w).1 in
-    g.both w v (steps v (resets_of v)).1 (drain-along R Q g k w) (steps-along R Q g v (resets_of v) (all-map Q Reset k.reset (channels_of v)))
+    g.both w v (steps v (resets_of v)).1 (drain-along R Q g k.advance w) (steps-along R Q g v (resets_of v) (all-map Q Reset k.reset (channels_of v)))
 
 -- the kinds of events of a settle
 pub record SettlesBy (Q : Event → Type 0) : Type 0 where

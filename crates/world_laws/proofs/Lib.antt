@@ -10,3 +10,4 @@ pub mod Clearing
 pub mod Along
 pub mod Passes
 pub mod Rounds
+pub mod Reached

@@ -2,6 +2,7 @@
 use Rattle.std.proofs.Common.{◌≡◌, ◌<◌, ◌≤◌, ◌+◌, ◌^◌, ℕ, zero, suc, List, [], ◌∷◌, length, replicate, get_or, set, Option, Some, None, is_some, refl, sym, ◌∙◌, ap, subst, arith}
 use Rattle.std.proofs.Math.ListN.{length-set}
 use Rattle.std.proofs.lemmas.List.{length-replicate}
+use Rattle.net_defs.specs.declared.route.Route.{Route}
 use Rattle.net_defs.specs.Network.{Network}
 use Rattle.link_defs.specs.Shape.{IsLinks}
 use Rattle.link_defs.specs.Step.{Step, Put, stepped}
@@ -9,14 +10,16 @@ use Rattle.link_defs.proofs.Shapes.{empty-links, stepped-net, stepped-links}
 use Rattle.gm_defs.specs.Connection.{IsSender, starting}
 use Rattle.gm_defs.specs.Token.{PortState}
 use Rattle.world_defs.specs.declared.event.Event.{Event}
+use Rattle.world_defs.specs.declared.fault.Fault.{Fault}
+use Rattle.world_defs.specs.Table.{TableState, whole_table}
 use Rattle.world_defs.specs.Peer.{PeerState, new_peer}
 use Rattle.world_defs.specs.Node.{NodeState, Outgoing, to_send, packet_for, after_sending, new_node, peer_at, port_at, port_count}
 use Rattle.world_defs.specs.Client.{ClientState, Called}
-use Rattle.world_defs.specs.World.{WorldState, fabric_of, host_count, new_world, last_count, counted, node_at, with_node, with_links, client_at, with_client, with_drop}
+use Rattle.world_defs.specs.World.{WorldState, fabric_of, host_count, new_world, last_count, counted, node_at, with_node, with_links, client_at, with_client, with_drop, adopted_by, planned}
 use Rattle.world_defs.specs.Step.{planned_strikes, sent_out, step, after_all}
 use Rattle.world_laws.specs.Shape.{IsNode, IsWorld, HasSenders}
 use Rattle.world_laws.proofs.Lists.{at-set, two-set}
-use Rattle.world_laws.proofs.Nodes.{NodeKept, node_same, sent-kept}
+use Rattle.world_laws.proofs.Nodes.{NodeKept, node_same, sent-kept, sender_same}
 use Rattle.world_laws.proofs.Calls.{CallKept}
 use Rattle.world_laws.proofs.Strikes.{Strikes, planned_strikes-kept}
 use Rattle.world_laws.proofs.Leaves.{Follows, FollowsCalls, step-leaves}
@@ -261,3 +264,28 @@ new-senders n =
       in_order = λ h peer.
           at-replicate (λ m. IsSender (peer_at m peer).sender) k h (new_node k) (new_node 0) (at-replicate (λ (p : PeerState). IsSender p.sender) k peer new_peer new_peer starting-order starting-order) starting-order;
     }
+
+-- an adoption and a plan, which are no events
+table_kept : (n : NodeState) (t : TableState) → NodeKept n (record n { table = t })
+table_kept n t = record { peers = refl; ports = refl; open_ports = λ port. refl; senders = λ peer. sender_same (peer_at n peer).sender }
+
+adopted_nodes : (w : WorldState) (mapper : ℕ) (routes : List Route) → NodesKept w (adopted_by w mapper routes)
+adopted_nodes w mapper routes =
+    let t : TableState = whole_table routes mapper 1 in
+    let k : NodesKept w (with_node w mapper (record (node_at w mapper) { table = t })) = with_node-kept w mapper (record (node_at w mapper) { table = t }) (table_kept (node_at w mapper) t) in
+    record { count = k.count; each = k.each }
+
+pub adopted-world : (w : WorldState) (mapper : ℕ) (routes : List Route) → IsWorld w → IsWorld (adopted_by w mapper routes)
+adopted-world w mapper routes is =
+    made_world w (adopted_by w mapper routes) is is.links refl (adopted_nodes w mapper routes) refl is.injections is.drops is.strikes is.harms
+
+pub adopted-senders : (w : WorldState) (mapper : ℕ) (routes : List Route) → HasSenders w → HasSenders (adopted_by w mapper routes)
+adopted-senders w mapper routes is = made_senders w (adopted_by w mapper routes) (adopted_nodes w mapper routes) is
+
+pub planned-world : (w : WorldState) (ahead : ℕ) (fault : Fault) → IsWorld w → IsWorld (planned w ahead fault).1
+planned-world w ahead fault is =
+    let v : WorldState = (planned w ahead fault).1 in
+    made_world w v is is.links refl (nodes_same w v refl) refl is.injections is.drops is.strikes is.harms
+
+pub planned-senders : (w : WorldState) (ahead : ℕ) (fault : Fault) → HasSenders w → HasSenders (planned w ahead fault).1
+planned-senders w ahead fault is = let v : WorldState = (planned w ahead fault).1 in made_senders w v (nodes_same w v refl) is

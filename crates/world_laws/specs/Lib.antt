@@ -1,4 +1,5 @@
 pub mod Draining
 pub mod Idle
+pub mod Reached
 pub mod Settling
 pub mod Shape

@@ -1,11 +1,13 @@
 -- What makes a world one of a fabric, and that every event leaves one.
 use Rattle.std.specs.Prelude.{◌≡◌, ℕ, ◌≤◌, ◌<◌, ◌^◌, List, [], length, slice_index_or, is_some}
+use Rattle.net_defs.specs.declared.route.Route.{Route}
 use Rattle.net_defs.specs.Network.{Network}
 use Rattle.link_defs.specs.Shape.{IsLinks}
 use Rattle.gm_defs.specs.Connection.{IsSender}
 use Rattle.world_defs.specs.declared.event.Event.{Event}
+use Rattle.world_defs.specs.declared.fault.Fault.{Fault}
 use Rattle.world_defs.specs.Node.{NodeState, peer_at, port_at, port_count}
-use Rattle.world_defs.specs.World.{WorldState, fabric_of, host_count, new_world, node_at, client_at}
+use Rattle.world_defs.specs.World.{WorldState, fabric_of, host_count, new_world, node_at, client_at, adopted_by, planned}
 use Rattle.world_defs.specs.Step.{step, after_all}
 
 -- A host among so many: it has the connections with each of them, and its eight ports.
@@ -58,3 +60,16 @@ EventKeepsSenders = (w : WorldState) (e : Event) → HasSenders w → HasSenders
 
 abbrev pub EventsKeepSenders : Type 0
 EventsKeepSenders = (w : WorldState) (es : List Event) → HasSenders w → HasSenders (after_all w es)
+
+-- the adoption of routes and the plan of a fault leave a world too, of the same fabric, with the numbers of each connection in order
+abbrev pub AdoptionLeavesWorld : Type 0
+AdoptionLeavesWorld = (w : WorldState) (mapper : ℕ) (routes : List Route) → IsWorld w → IsWorld (adopted_by w mapper routes)
+
+abbrev pub PlanLeavesWorld : Type 0
+PlanLeavesWorld = (w : WorldState) (ahead : ℕ) (fault : Fault) → IsWorld w → IsWorld (planned w ahead fault).1
+
+abbrev pub AdoptionKeepsSenders : Type 0
+AdoptionKeepsSenders = (w : WorldState) (mapper : ℕ) (routes : List Route) → HasSenders w → HasSenders (adopted_by w mapper routes)
+
+abbrev pub PlanKeepsSenders : Type 0
+PlanKeepsSenders = (w : WorldState) (ahead : ℕ) (fault : Fault) → HasSenders w → HasSenders (planned w ahead fault).1

@@ -4,11 +4,13 @@
 #![tactic(auto)]
 
 mod idle;
+mod row;
 mod settle;
 mod shape;
 mod stretch;
 
 pub use idle::idle_events;
+pub use row::{kept_by_rows, rows_of_events};
 pub use settle::{rounds_of_passes, settles};
 pub use shape::{kept_senders, kept_worlds};
 pub use stretch::{advances_of_links, clears, drains};

@@ -2,6 +2,7 @@
 
 ghost use Rattle.world_laws.specs.Shape.{NewIsWorld, EventLeavesWorld, EventsLeaveWorld, EventKeepsFabric, EventsKeepFabric};
 ghost use Rattle.world_laws.specs.Shape.{NewHasSenders, EventKeepsSenders, EventsKeepSenders};
+ghost use Rattle.world_laws.specs.Shape.{AdoptionLeavesWorld, PlanLeavesWorld, AdoptionKeepsSenders, PlanKeepsSenders};
 
 /// A fabric's world stays one, and its fabric stays as it is.
 pub fn kept_worlds()
@@ -10,6 +11,8 @@ pub fn kept_worlds()
     ensures events { EventsLeaveWorld }
     ensures fabric { EventKeepsFabric }
     ensures fabric_after_all { EventsKeepFabric }
+    ensures adoption { AdoptionLeavesWorld }
+    ensures plan { PlanLeavesWorld }
 {}
 
 /// The numbers of every connection stay in order.
@@ -17,4 +20,6 @@ pub fn kept_senders()
     ensures new { NewHasSenders }
     ensures event { EventKeepsSenders }
     ensures events { EventsKeepSenders }
+    ensures adoption { AdoptionKeepsSenders }
+    ensures plan { PlanKeepsSenders }
 {}

@@ -1,4 +1,4 @@
-use Rattle.world_laws.proofs.Shapes.{step-kept, after_all-kept, new-world}
+use Rattle.world_laws.proofs.Shapes.{step-kept, after_all-kept, new-world, adopted-world, planned-world}
 use Rattle.world_laws.proofs.shape.kept_worlds.Goals as goal
 
 pub returns-clause-new : goal.returns-clause-new
@@ -15,3 +15,9 @@ returns-clause-fabric c = λ w e. (step-kept w e).net
 
 pub returns-clause-fabric_after_all : goal.returns-clause-fabric_after_all
 returns-clause-fabric_after_all c = λ w es. (after_all-kept w es).net
+
+pub returns-clause-adoption : goal.returns-clause-adoption
+returns-clause-adoption c = adopted-world
+
+pub returns-clause-plan : goal.returns-clause-plan
+returns-clause-plan c = planned-world

@@ -1,0 +1,18 @@
+//! A drain, a clear and a settle are events in a row: `specs/Reached.antt` has the statements.
+
+ghost use Rattle.world_laws.specs.Reached.{DrainIsEvents, ClearIsEvents, SettleIsEvents};
+ghost use Rattle.world_laws.specs.Reached.{DrainKeeps, ClearKeeps, SettleKeeps};
+
+/// A drain, a clear and a settle are events of their kinds, in a row.
+pub fn rows_of_events()
+    ensures drain { DrainIsEvents }
+    ensures clear { ClearIsEvents }
+    ensures settle { SettleIsEvents }
+{}
+
+/// So they leave a world of the same fabric, with its connections in order.
+pub fn kept_by_rows()
+    ensures drain { DrainKeeps }
+    ensures clear { ClearKeeps }
+    ensures settle { SettleKeeps }
+{}
