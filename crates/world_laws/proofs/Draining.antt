@@ -48,7 +48,7 @@ pub advance-changed : (w : WorldState) (c : ℕ) → changed (step w (Advance c)
 unfolding advanced
 advance-changed w c = (advanced_by-links w (advance w.links c)).changed_too
 
-advance-world : (w : WorldState) (c : ℕ) → moves (advance w.links c).0 ≡ false → (step w (Advance c)).1 ≡ w
+pub advance-world : (w : WorldState) (c : ℕ) → moves (advance w.links c).0 ≡ false → (step w (Advance c)).1 ≡ w
 unfolding advanced
 advance-world w c = (advanced_by-links w (advance w.links c)).still
 
@@ -70,7 +70,7 @@ changes-append (x ∷ xs) ys =
     omega (arith, h, a, b)
 
 -- what one advance takes from the hops
-advance-cost : (w : WorldState) (c : ℕ) → one_if (changed (step w (Advance c)).0) + total_hops (step w (Advance c)).1.links ≤ total_hops w.links
+pub advance-cost : (w : WorldState) (c : ℕ) → one_if (changed (step w (Advance c)).0) + total_hops (step w (Advance c)).1.links ≤ total_hops w.links
 advance-cost w c = by (moves (advance w.links c).0) refl
   where
     by : (t : Bool) → moves (advance w.links c).0 ≡ t → one_if (changed (step w (Advance c)).0) + total_hops (step w (Advance c)).1.links ≤ total_hops w.links
@@ -84,7 +84,7 @@ advance-cost w c = by (moves (advance w.links c).0) refl
         let b : one_if (changed (step w (Advance c)).0) ≡ 0 = ap one_if (advance-changed w c ∙ e) in
         omega (arith, a, b)
 
-advances-cost : (w : WorldState) (cs : List ℕ) → changes (steps w (map Advance cs)).0 + total_hops (steps w (map Advance cs)).1.links ≤ total_hops w.links
+pub advances-cost : (w : WorldState) (cs : List ℕ) → changes (steps w (map Advance cs)).0 + total_hops (steps w (map Advance cs)).1.links ≤ total_hops w.links
 advances-cost w [] = omega arith
 advances-cost w (c ∷ cs) =
     let next : WorldState = (step w (Advance c)).1 in

@@ -11,3 +11,4 @@ pub mod Along
 pub mod Passes
 pub mod Rounds
 pub mod Reached
+pub mod Meanings

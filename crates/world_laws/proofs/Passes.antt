@@ -123,7 +123,7 @@ measure w = 2 * (last_count - w.injected) + length w.links.limbo
 calm-measure : (w v : WorldState) → Calm w v → measure v ≡ measure w
 calm-measure w v k = let a = k.injected in let b : length v.links.limbo ≡ length w.links.limbo = ap length k.limbo in omega (arith, a, b)
 
-clear-measure : (w : WorldState) → measure (clear w).1 ≡ measure w
+pub clear-measure : (w : WorldState) → measure (clear w).1 ≡ measure w
 clear-measure w = calm-measure w (clear w).1 (clear-along Calm IsCalm along-calm clears-calm w)
 
 -- an injection
@@ -162,11 +162,11 @@ inject_into-cost : (w : WorldState) (h : ℕ) (o : Option ℕ) → one_if (chang
 inject_into-cost w h None = omega arith
 inject_into-cost w h (Some c) = inject_one-cost w h c (to_send h (node_at w h))
 
-inject-cost : (w : WorldState) (h : ℕ) → one_if (changed (step w (Inject h)).0) + measure (step w (Inject h)).1 ≤ measure w
+pub inject-cost : (w : WorldState) (h : ℕ) → one_if (changed (step w (Inject h)).0) + measure (step w (Inject h)).1 ≤ measure w
 unfolding injected
 inject-cost w h = inject_into-cost w h (channel_from (fabric_of w) (host_port h))
 
-injects-cost : (w : WorldState) (hs : List ℕ) → changes (steps w (map Inject hs)).0 + measure (steps w (map Inject hs)).1 ≤ measure w
+pub injects-cost : (w : WorldState) (hs : List ℕ) → changes (steps w (map Inject hs)).0 + measure (steps w (map Inject hs)).1 ≤ measure w
 injects-cost w [] = omega arith
 injects-cost w (h ∷ hs) =
     let next : WorldState = (step w (Inject h)).1 in
@@ -192,11 +192,11 @@ replay_of-cost w serial (Some caught) e = by (is_some (packet_in w.links caught.
     by true = omega arith
     by false = let h = taken_out w.links.limbo serial caught e in omega (arith, h)
 
-replay-cost : (w : WorldState) (serial : ℕ) → one_if (changed (step w (Replay serial)).0) + measure (step w (Replay serial)).1 ≤ measure w
+pub replay-cost : (w : WorldState) (serial : ℕ) → one_if (changed (step w (Replay serial)).0) + measure (step w (Replay serial)).1 ≤ measure w
 unfolding replayed
 replay-cost w serial = replay_of-cost w serial (caught_as w.links serial) refl
 
-replay_each-cost : (ss : List ℕ) (w : WorldState) → (replay_each ss w).moves + measure (replay_each ss w).world ≤ measure w
+pub replay_each-cost : (ss : List ℕ) (w : WorldState) → (replay_each ss w).moves + measure (replay_each ss w).world ≤ measure w
 replay_each-cost [] w = omega arith
 replay_each-cost (s ∷ ss) w =
     let u : WorldState = (step w (Replay s)).1 in

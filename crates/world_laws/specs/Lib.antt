@@ -3,3 +3,4 @@ pub mod Idle
 pub mod Reached
 pub mod Settling
 pub mod Shape
+pub mod Tests
