@@ -23,7 +23,7 @@ reset-links : (w : WorldState) (c : ℕ) → (step w (Reset c)).1.links ≡ empt
 unfolding was_reset
 reset-links w c = (reset_by w (reset w.links c) (lose-idle w.links c)).0
 
-reset-changed : (w : WorldState) (c : ℕ) → changed (step w (Reset c)).0 ≡ is_some (packet_in w.links c)
+pub reset-changed : (w : WorldState) (c : ℕ) → changed (step w (Reset c)).0 ≡ is_some (packet_in w.links c)
 unfolding was_reset
 reset-changed w c = (reset_by w (reset w.links c) (lose-idle w.links c)).1
 

@@ -12,3 +12,4 @@ pub mod Passes
 pub mod Rounds
 pub mod Reached
 pub mod Meanings
+pub mod Resting

@@ -42,3 +42,10 @@ ClearedIsIdle = (w : WorldState) → is_idle (clear w).1.links ≡ true
 -- and each channel that held a packet after the drain was reset, and no other
 abbrev pub ResetsAreFull : Type 0
 ResetsAreFull = (w : WorldState) → (clear w).0 ≡ full_count (drain w).1.links.channels
+
+-- where the links are idle, a drain and a clear do nothing
+abbrev pub IdleIsDrained : Type 0
+IdleIsDrained = (w : WorldState) → is_idle w.links ≡ true → drain w ≡ ([], w)
+
+abbrev pub IdleIsCleared : Type 0
+IdleIsCleared = (w : WorldState) → is_idle w.links ≡ true → clear w ≡ (0, w)

@@ -1,5 +1,6 @@
 -- What a settle is: a clear, and then rounds up to the last, each of passes up to its last.
 use Rattle.std.specs.Prelude.{◌≡◌, ℕ, ◌+◌, ◌≤◌, true, false, length}
+use Rattle.link_defs.specs.Links.{is_idle}
 use Rattle.world_defs.specs.World.{WorldState}
 use Rattle.world_defs.specs.Step.{after_all}
 use Rattle.world_defs.specs.Drain.{clear}
@@ -59,3 +60,7 @@ RoundsAreBounded = (w : WorldState) (r : Rounds) → HasSenders w → Settles w 
 -- the first clear leaves no more unacknowledged, and the same faults planned
 abbrev pub ClearRaisesNothing : Type 0
 ClearRaisesNothing = (w : WorldState) → (unacknowledged_in (clear w).1 ≤ unacknowledged_in w) × ((clear w).1.plan ≡ w.plan)
+
+-- after a settle the links are idle
+abbrev pub SettledIsIdle : Type 0
+SettledIsIdle = (w : WorldState) (r : Rounds) → Settles w r → is_idle r.world.links ≡ true

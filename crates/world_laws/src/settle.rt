@@ -1,7 +1,7 @@
 //! What a settle is, and that it ends: `specs/Settling.antt` has the statements.
 
 ghost use Rattle.world_laws.specs.Settling.{RoundIsRound, RoundsAreOne, PassesAreBounded};
-ghost use Rattle.world_laws.specs.Settling.{SettleSettles, SettlesAreOne, RoundsAreBounded, ClearRaisesNothing};
+ghost use Rattle.world_laws.specs.Settling.{SettleSettles, SettlesAreOne, RoundsAreBounded, ClearRaisesNothing, SettledIsIdle};
 
 /// A round is all expiries and then passes up to the last, with no more of them than injections and packets in limbo allow.
 pub fn rounds_of_passes()
@@ -16,4 +16,5 @@ pub fn settles()
     ensures one { SettlesAreOne }
     ensures bound { RoundsAreBounded }
     ensures first_clear { ClearRaisesNothing }
+    ensures idle { SettledIsIdle }
 {}

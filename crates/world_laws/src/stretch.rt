@@ -1,7 +1,7 @@
 //! What a drain and a clear come to: `specs/Draining.antt` has the statements.
 
 ghost use Rattle.world_laws.specs.Draining.{AdvanceOfLinks, DrainDrains, DrainsAreOne, ChangesAreHops, DrainedIsStill};
-ghost use Rattle.world_laws.specs.Draining.{ClearedIsIdle, ResetsAreFull};
+ghost use Rattle.world_laws.specs.Draining.{ClearedIsIdle, ResetsAreFull, IdleIsDrained, IdleIsCleared};
 
 /// An advance of the world changes the links as an advance of the links.
 pub fn advances_of_links()
@@ -14,10 +14,12 @@ pub fn drains()
     ensures one { DrainsAreOne }
     ensures bound { ChangesAreHops }
     ensures still { DrainedIsStill }
+    ensures nothing { IdleIsDrained }
 {}
 
 /// A clear resets the channels that a drain left full, and leaves the links idle.
 pub fn clears()
     ensures idle { ClearedIsIdle }
     ensures resets { ResetsAreFull }
+    ensures nothing { IdleIsCleared }
 {}

@@ -1,4 +1,5 @@
 use Rattle.world_laws.proofs.Rounds.{settle-settles, settles-one, settles-bounded, clear-raises}
+use Rattle.world_laws.proofs.Resting.{settles-idle}
 use Rattle.world_laws.proofs.settle.settles.Goals as goal
 
 pub returns-clause-settle : goal.returns-clause-settle
@@ -12,3 +13,6 @@ returns-clause-bound c = settles-bounded
 
 pub returns-clause-first_clear : goal.returns-clause-first_clear
 returns-clause-first_clear c = clear-raises
+
+pub returns-clause-idle : goal.returns-clause-idle
+returns-clause-idle c = settles-idle

@@ -1,4 +1,5 @@
 use Rattle.world_laws.proofs.Clearing.{clear-idle, clear-resets}
+use Rattle.world_laws.proofs.Resting.{idle-clear}
 use Rattle.world_laws.proofs.stretch.clears.Goals as goal
 
 pub returns-clause-idle : goal.returns-clause-idle
@@ -6,3 +7,6 @@ returns-clause-idle c = clear-idle
 
 pub returns-clause-resets : goal.returns-clause-resets
 returns-clause-resets c = clear-resets
+
+pub returns-clause-nothing : goal.returns-clause-nothing
+returns-clause-nothing c = idle-clear

@@ -1,4 +1,5 @@
 use Rattle.world_laws.proofs.Draining.{drain-drains, drains-one, drain-cost, drain-still}
+use Rattle.world_laws.proofs.Resting.{idle-drain}
 use Rattle.world_laws.proofs.stretch.drains.Goals as goal
 
 pub returns-clause-drain : goal.returns-clause-drain
@@ -12,3 +13,6 @@ returns-clause-bound c = drain-cost
 
 pub returns-clause-still : goal.returns-clause-still
 returns-clause-still c = drain-still
+
+pub returns-clause-nothing : goal.returns-clause-nothing
+returns-clause-nothing c = idle-drain
