@@ -13,3 +13,4 @@ pub mod Rounds
 pub mod Reached
 pub mod Meanings
 pub mod Resting
+pub mod Counting

@@ -48,7 +48,7 @@ struck_going w u v s t =
     let d = t.planned in
     record { nodes = struck_nodes w u v s.nodes t.nodes; rises = omega (arith, a, c); planned = omega (arith, a, b, d) }
 
-follows-going : Follows Going
+pub follows-going : Follows Going
 follows-going = record {
   same = λ w. going_on_nodes w w (nodes_same w w refl) refl refl;
   both = going_both;
@@ -59,7 +59,7 @@ follows-going = record {
       struck_going w (sent_out w h c out) (planned_strikes (sent_out w h c out) c) (sent_out-kept w h c out e) (planned_strikes-kept (sent_out w h c out) c);
 }
 
-along-going : Along Going IsQuiet
+pub along-going : Along Going IsQuiet
 along-going = record { same = follows-going.same; both = going_both; event = quiet-leaves Going follows-going }
 
 pub clears-quiet : Clears IsQuiet
@@ -68,7 +68,7 @@ clears-quiet = record { advance = λ c. tt; reset = λ c. tt }
 pub settles-quiet : SettlesBy IsQuiet
 settles-quiet = record { clears = clears-quiet; inject = λ h. tt; replay = λ s. tt; expire = λ h p. tt; give_up = λ h. tt }
 
-going_senders : (w v : WorldState) → Going w v → HasSenders w → HasSenders v
+pub going_senders : (w v : WorldState) → Going w v → HasSenders w → HasSenders v
 going_senders w v k is = made_senders w v k.nodes is
 
 -- sums of the same length
@@ -152,7 +152,7 @@ not_last-less : (w v : WorldState) → Going w v → HasSenders w → is_last_ro
 not_last-less w v k is e =
     helped-less w v k (going_senders w v k is) (helped_if (nat_eq (unacknowledged_in v) 0) (has_helped w v) e)
 
-round_going : (w : WorldState) (s : Stretch) → IsRound w s → Going w s.world
+pub round_going : (w : WorldState) (s : Stretch) → IsRound w s → Going w s.world
 round_going w s r = round-along Going IsQuiet along-going settles-quiet w s r
 
 rounds-end : (k : ℕ) (w : WorldState) → HasSenders w → left_over w < k → AllRounds w (rounds_of k w)

@@ -65,6 +65,7 @@ pub record Strikes (w v : WorldState) : Type 0 where
   pub rises : w.struck ≤ v.struck
   pub once : v.struck ≤ w.struck + 1
   pub harms : v.harmed + w.struck ≤ v.struck + w.harmed
+  pub harms_rise : w.harmed ≤ v.harmed
   pub planned : v.struck + length v.plan ≤ w.struck + length w.plan
 
 no_strike : (w : WorldState) → Strikes w w
@@ -77,6 +78,7 @@ no_strike w = record {
   rises = omega arith;
   once = omega arith;
   harms = omega arith;
+  harms_rise = omega arith;
   planned = omega arith;
 }
 
@@ -90,6 +92,7 @@ struck_by-kept w f fs (false, l) less k = record {
   rises = omega arith;
   once = omega arith;
   harms = omega arith;
+  harms_rise = omega arith;
   planned = omega (arith, less);
 }
 struck_by-kept w f fs (true, l) less k = record {
@@ -101,12 +104,17 @@ struck_by-kept w f fs (true, l) less k = record {
   rises = omega arith;
   once = omega arith;
   harms = by (is_harm f);
+  harms_rise = more (is_harm f);
   planned = omega (arith, less);
 }
   where
     by : (t : Bool) → (if t then w.harmed + 1 else w.harmed) + w.struck ≤ (w.struck + 1) + w.harmed
     by true = omega arith
     by false = omega arith
+
+    more : (t : Bool) → w.harmed ≤ (if t then w.harmed + 1 else w.harmed)
+    more true = omega arith
+    more false = omega arith
 
 -- the plan without the fault of an injection is shorter where there was one
 without_fault-short : (number : ℕ) (fs : List (ℕ × Fault)) → length (without_fault number fs) ≤ length fs
