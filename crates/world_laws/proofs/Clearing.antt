@@ -78,7 +78,7 @@ all-empty (p ∷ ps) all =
     let rest : list_all is_none ps ≡ true = all-empty ps (λ c low. all (suc c) (omega (arith, low))) in
     rw none rest
 
-empty-count : (ps : List (Option Held)) → list_all is_none ps ≡ true → full_count ps ≡ 0
+pub empty-count : (ps : List (Option Held)) → list_all is_none ps ≡ true → full_count ps ≡ 0
 empty-count [] e = refl
 empty-count (None ∷ ps) e = empty-count ps e
 empty-count (Some held ∷ ps) e = absurd (true≢false (sym e))

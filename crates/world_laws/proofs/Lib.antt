@@ -14,3 +14,4 @@ pub mod Reached
 pub mod Meanings
 pub mod Resting
 pub mod Counting
+pub mod Resets

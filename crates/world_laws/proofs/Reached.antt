@@ -33,7 +33,7 @@ along-reached kind = record {
 clears-of : Clears IsOfClear
 clears-of = record { advance = λ c. tt; reset = λ c. tt }
 
-settles-of : SettlesBy IsOfSettle
+pub settles-of : SettlesBy IsOfSettle
 settles-of = record { clears = record { advance = λ c. tt; reset = λ c. tt }; inject = λ h. tt; replay = λ s. tt; expire = λ h p. tt; give_up = λ h. tt }
 
 pub drain-reached : (w : WorldState) → IsReachedBy IsOfDrain w (drain w).1

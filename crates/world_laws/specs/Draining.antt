@@ -1,5 +1,5 @@
 -- What a drain and a clear come to.
-use Rattle.std.specs.Prelude.{◌≡◌, ◌⊎◌, ℕ, ◌+◌, ◌≤◌, true, List, [], ◌∷◌, Option, Some, None}
+use Rattle.std.specs.Prelude.{◌≡◌, ◌↔◌, ◌⊎◌, ℕ, ◌+◌, ◌≤◌, true, List, [], ◌∷◌, Option, Some, None}
 use Rattle.link_defs.specs.Links.{Held, is_idle}
 use Rattle.link_defs.specs.Advance.{advance}
 use Rattle.link_defs.specs.Hops.{total_hops, is_stuck}
@@ -49,3 +49,7 @@ IdleIsDrained = (w : WorldState) → is_idle w.links ≡ true → drain w ≡ ([
 
 abbrev pub IdleIsCleared : Type 0
 IdleIsCleared = (w : WorldState) → is_idle w.links ≡ true → clear w ≡ (0, w)
+
+-- a clear has no resets exactly where the drain left the links idle, so where it didn't leave them stuck
+abbrev pub NoResetsIsIdle : Type 0
+NoResetsIsIdle = (w : WorldState) → (clear w).0 ≡ 0 ↔ is_idle (drain w).1.links ≡ true
