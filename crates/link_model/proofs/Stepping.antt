@@ -1,5 +1,5 @@
 -- What the calls need of a course, and of the channels.
-use Rattle.std.proofs.Common.{◌≡◌, ◌<◌, ℕ, Bool, true, false, not, ◌&&◌, List, length, get_or, set, Option, Some, None, is_some, refl, sym, ap, ◌∙◌, subst, if◌then◌else◌}
+use Rattle.std.proofs.Common.{◌≡◌, ◌<◌, ℕ, Bool, true, false, not, ◌&&◌, List, length, Option, Some, None, refl, sym, ap, ◌∙◌, subst, if◌then◌else◌}
 use Rattle.std.specs.Option.{option_map, IfSome}
 use Rattle.std.specs.List.{AllByRecursion}
 use Rattle.link_defs.specs.Shape.{IsLinks}
@@ -11,11 +11,10 @@ use Rattle.net_defs.specs.Route.{channel_from}
 use Rattle.packet_defs.specs.Burst.{flipped, may_flip}
 use Rattle.link_defs.specs.declared.turned.Turned.{Turned}
 use Rattle.link_defs.specs.declared.turned.Turned.TheVariants.{Out, OutOfRange, NotRoute}
-use Rattle.link_defs.specs.declared.moved.Course.{Course}
-use Rattle.link_defs.specs.declared.moved.Course.TheVariants.{Arrives, Enters, Drops}
+use Rattle.link_defs.specs.declared.moved.Course.TheVariants.{Enters}
 use Rattle.link_defs.specs.Channel.{channel_count, channel_head}
 use Rattle.link_defs.specs.Switch.{aim}
-use Rattle.link_defs.specs.Links.{Held, LinkState, packet_in, with_packet, emptied}
+use Rattle.link_defs.specs.Links.{Held, LinkState, packet_in, with_packet}
 use Rattle.link_defs.specs.Advance.{course_by_channel, course_out, course_into, course}
 use Rattle.link_defs.specs.Fault.{flip, flip_of}
 use Rattle.link_defs.proofs.Ends.{channel_from-ends}

@@ -1,23 +1,22 @@
 -- The tables of a wiring.
-use Rattle.std.proofs.Common.{◌≡◌, ◌≢◌, ◌<◌, ◌≤◌, ◌+◌, ◌-◌, ◌*◌, ℕ, zero, suc, Bool, true, false, ◌&&◌, ◌||◌, nat_eq, nat_lt, List, [], ◌∷◌, ◌++◌, length, map, take, drop, replicate, get_or, set, Option, Some, None, refl, sym, ap, ◌∙◌, subst, add-one, ◌/◌, ◌%◌, arith, true≢false, if◌then◌else◌}
+use Rattle.std.proofs.Common.{◌≡◌, ◌≢◌, ◌<◌, ◌+◌, ◌*◌, ℕ, zero, suc, Bool, true, false, nat_eq, List, [], ◌∷◌, ◌++◌, length, map, take, drop, replicate, get_or, set, Option, Some, None, refl, sym, ap, ◌∙◌, subst, add-one, ◌/◌, ◌%◌, arith, true≢false, if◌then◌else◌}
 use Rattle.std.specs.List.{slice_get, AllByRecursion}
 use Rattle.std.specs.Option.{option_map, option_map_or}
-use Rattle.std.proofs.lemmas.Bool.Decides.{nat_tests, Decides-eqb}
+use Rattle.std.proofs.lemmas.Bool.Decides.{Decides-eqb}
 use Rattle.std.proofs.lemmas.List.{length-replicate, replicate-append-replicate, get_or-set_same, get_or-set_other}
 use Rattle.std.proofs.Math.ListN.{length-set}
-use Rattle.net_defs.specs.declared.vertex.Vertex.{Vertex}
-use Rattle.net_defs.specs.declared.vertex.Vertex.TheVariants.{Host, Switch}
+use Rattle.net_defs.specs.declared.vertex.Vertex.TheVariants.{Switch}
 use Rattle.net_defs.specs.declared.vertex.End.{End}
 use Rattle.net_defs.specs.declared.vertex.Cable.{Cable}
 use Rattle.net_defs.specs.Network.{Network, NamedSwitch, IsFabric, has_port, is_port_count, ports_of, same_end, ends_of}
 use Rattle.net_defs.specs.Route.{channel_out, channel_from}
 use Rattle.net_defs.proofs.Ends.{same_end-true, same_end-refl, same_end-false}
 use Rattle.net_defs.proofs.Distinct.{all-weaker}
-use Rattle.link_defs.specs.Channel.{channel_count, channel_head}
+use Rattle.link_defs.specs.Channel.{channel_head}
 use Rattle.port_graph.specs.Table.{is_possible, place_of_end}
 use Rattle.port_graph.proofs.Tables.{place_of_end-same, place_of_end-lt}
 use Rattle.port_graph.proofs.Possible.{has_port-possible}
-use Rattle.link_model.specs.Tables.{IsOutTable, IsWiring, with_cable, place_if_possible}
+use Rattle.link_model.specs.Tables.{IsOutTable, with_cable, place_if_possible}
 
 -- what holds of all ends holds of the two of each cable
 pub ends_got : (P : End → Type 0) (cs : List Cable) (k : ℕ) (c : Cable) → AllByRecursion P (ends_of cs) → slice_get cs k ≡ Some c → P c.a × P c.b

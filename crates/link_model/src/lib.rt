@@ -14,9 +14,7 @@
 mod limbo;
 mod links;
 mod slots;
-#[cfg(test)]
-mod tests;
 mod wiring;
 
-pub use link_defs::{Moved, Turned, Why};
+pub use link_defs::{Moved, Replayed, Turned, Why};
 pub use links::{Links, Occupied};

@@ -4,6 +4,7 @@ ghost use Rattle.std.specs.Prelude.{◌≡◌, ◌<◌, ◌≤◌, length, Some,
 ghost use Rattle.net_defs.specs.Route.{channel_from};
 ghost use Rattle.link_defs.specs.Channel.{channel_count, channel_tail, channel_head};
 ghost use Rattle.link_defs.specs.Links.{empty_links, packet_in, is_idle, put};
+ghost use Rattle.link_defs.specs.Fault.{next_limbo};
 
 mod advance;
 mod faults;
@@ -115,5 +116,12 @@ impl Links {
         }
         self.slots.put(usize::from(c), Slot::new(p));
         Ok(())
+    }
+
+    /// The least serial in limbo that isn't below a number.
+    pub fn next_limbo(&self, from: u64) -> Option<u64>
+        ensures { result ≡ next_limbo self.now from }
+    {
+        self.limbo.next(from)
     }
 }

@@ -51,6 +51,16 @@ impl Slot {
         packet
     }
 
+    /// Another packet with the same bytes and mark.
+    pub(crate) fn copy(&self, alloc: Global) -> Result<Slot, AllocError>
+        ensures { IfOk result (λ s. s ≡ self.now) }
+    {
+        Ok(Slot {
+            packet: self.packet.copy(alloc)?,
+            marked: self.marked,
+        })
+    }
+
     /// The packet without the route byte in front.
     pub(crate) fn strip(&mut self)
         requires { IsSome (front_turn self.old.wire) }

@@ -1,4 +1,4 @@
-use Rattle.std.proofs.Common.{ap, ◌∙◌, sym, subst, ◌+◌, ◌<◌, ◌≡◌, length, get_or, None, arith, rules}
+use Rattle.std.proofs.Common.{ap, ◌∙◌, sym, subst, ◌+◌, ◌<◌, ◌≡◌, length, get_or, None, rules}
 use Rattle.link_model.specs.Full.{full_count}
 use Rattle.link_model.proofs.Counting.{count-put, count-le}
 use Rattle.link_model.proofs.slots.Slots.put.Goals as goal
