@@ -4,11 +4,12 @@ use Rattle.world_defs.specs.declared.event.Event.{Event}
 use Rattle.world_defs.specs.World.{WorldState, fabric_of}
 use Rattle.world_defs.specs.Step.{step, after_all}
 use Rattle.world_defs.specs.Drain.{drain, clear}
-use Rattle.world_defs.specs.Settle.{round, is_last_round, one_round, after_round, rounds_of, round_bound, settle}
+use Rattle.world_defs.specs.Settle.{Rounds, round, is_last_round, one_round, after_round, rounds_of, round_bound, settle}
 use Rattle.world_laws.specs.Shape.{IsWorld, HasSenders}
+use Rattle.world_laws.specs.Settling.{Settles}
 use Rattle.world_laws.specs.Reached.{IsOfDrain, IsOfClear, IsOfSettle, IsReachedBy, IsKept}
 use Rattle.world_laws.proofs.Shapes.{after_all-kept}
-use Rattle.world_laws.proofs.Along.{Along, Clears, SettlesBy, all-append, drains-along, clear-along, round-along}
+use Rattle.world_laws.proofs.Along.{Along, Clears, SettlesBy, all-append, drains-along, clear-along, round-along, settles-along}
 use Rattle.world_laws.proofs.Draining.{drain-drains}
 use Rattle.world_laws.proofs.Passes.{round-is}
 
@@ -16,14 +17,14 @@ pub after_all-append : (w : WorldState) (es ds : List Event) → after_all w (es
 after_all-append w [] ds = refl
 after_all-append w (e ∷ es) ds = after_all-append (step w e).1 es ds
 
-reached_both : (kind : Event → Type 0) (u v w : WorldState) → IsReachedBy kind u v → IsReachedBy kind v w → IsReachedBy kind u w
+pub reached_both : (kind : Event → Type 0) (u v w : WorldState) → IsReachedBy kind u v → IsReachedBy kind v w → IsReachedBy kind u w
 reached_both kind u v w a b = record {
   events = a.events ++ b.events;
   kinds = all-append kind a.events b.events a.kinds b.kinds;
   there = b.there ∙ (ap (λ x. after_all x b.events) a.there ∙ sym (after_all-append u a.events b.events));
 }
 
-along-reached : (kind : Event → Type 0) → Along (IsReachedBy kind) kind
+pub along-reached : (kind : Event → Type 0) → Along (IsReachedBy kind) kind
 along-reached kind = record {
   same = λ w. record { events = []; kinds = tt; there = refl };
   both = reached_both kind;
@@ -71,3 +72,6 @@ clear-kept w = reached-kept IsOfClear w (clear w).1 (clear-reached w)
 
 pub settle-kept : (w : WorldState) → IsKept w (settle w).world
 settle-kept w = reached-kept IsOfSettle w (settle w).world (settle-reached w)
+
+pub settles-reached : (w : WorldState) (r : Rounds) → Settles w r → IsReachedBy IsOfSettle w r.world
+settles-reached w r s = settles-along (IsReachedBy IsOfSettle) IsOfSettle (along-reached IsOfSettle) settles-of w r s

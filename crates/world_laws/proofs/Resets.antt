@@ -10,12 +10,12 @@ use Rattle.world_defs.specs.Step.{step, steps, after_all}
 use Rattle.world_defs.specs.Drain.{drain, clear}
 use Rattle.world_defs.specs.Settle.{Stretch, replay_each, serials, round_pass, Rounds, expiries}
 use Rattle.world_laws.specs.Draining.{full_count}
-use Rattle.world_laws.specs.Reached.{IsOfSettle}
+use Rattle.world_laws.specs.Reached.{IsOfSettle, IsReachedBy}
 use Rattle.world_laws.specs.Settling.{RoundPasses, IsRound, AllRounds, Settles}
 use Rattle.world_laws.proofs.Along.{Along, all-map, steps-along, after_all-along, drain-along, clear-along, expiries-along, round_pass-along, round-along}
 use Rattle.world_laws.proofs.Draining.{drain-still}
 use Rattle.world_laws.proofs.Clearing.{clear-resets, empty-count}
-use Rattle.world_laws.proofs.Reached.{settles-of}
+use Rattle.world_laws.proofs.Reached.{reached_both, along-reached, settles-of}
 
 count-empty : (ps : List (Option Held)) → full_count ps ≡ 0 → list_all is_none ps ≡ true
 count-empty [] e = refl
@@ -92,3 +92,10 @@ settles-flow P k w r s p =
     let after : s.rest.resets ≡ 0 = rounds-flow P k (clear w).1 s.rest s.rounds here.1 in
     let whole : r.resets ≡ (clear w).0 + s.rest.resets = ap (λ t. t.resets) s.whole in
     omega (arith, a, after, whole)
+
+-- where no world that is reached is stuck
+pub never_stuck-resets : (w : WorldState) (r : Rounds) → Settles w r → ((v : WorldState) → IsReachedBy IsOfSettle w v → is_stuck v.links ≡ false) → r.resets ≡ 0
+never_stuck-resets w r s f =
+    let g = along-reached IsOfSettle in
+    let k : KeepsFlowing (IsReachedBy IsOfSettle w) = record { event = λ v e q p. reached_both IsOfSettle w v (step v e).1 p (g.event v e q); flows = f } in
+    settles-flow (IsReachedBy IsOfSettle w) k w r s (g.same w)

@@ -1,13 +1,15 @@
 -- A drain, a clear and a settle are events in a row: what holds after every list of events holds after each of them.
-use Rattle.std.specs.Prelude.{◌≡◌, List}
+use Rattle.std.specs.Prelude.{◌≡◌, false, List}
 use Rattle.std.specs.List.{AllByRecursion}
+use Rattle.link_defs.specs.Hops.{is_stuck}
 use Rattle.world_defs.specs.declared.event.Event.{Event}
 use Rattle.world_defs.specs.declared.event.Event.TheVariants.{Inject, Advance, Replay, Reset, Expire, GiveUp}
 use Rattle.world_defs.specs.World.{WorldState, fabric_of}
 use Rattle.world_defs.specs.Step.{after_all}
 use Rattle.world_defs.specs.Drain.{drain, clear}
-use Rattle.world_defs.specs.Settle.{settle}
+use Rattle.world_defs.specs.Settle.{Rounds, settle}
 use Rattle.world_laws.specs.Shape.{IsWorld, HasSenders}
+use Rattle.world_laws.specs.Settling.{Settles}
 
 -- the events of a drain
 abbrev pub IsOfDrain : Event → Type 0
@@ -44,6 +46,14 @@ ClearIsEvents = (w : WorldState) → IsReachedBy IsOfClear w (clear w).1
 
 abbrev pub SettleIsEvents : Type 0
 SettleIsEvents = (w : WorldState) → IsReachedBy IsOfSettle w (settle w).world
+
+abbrev pub SettlesIsEvents : Type 0
+SettlesIsEvents = (w : WorldState) (r : Rounds) → Settles w r → IsReachedBy IsOfSettle w r.world
+
+-- where no world that events of a settle reach is stuck, a settle has no resets
+abbrev pub NeverStuckHasNoResets : Type 0
+NeverStuckHasNoResets =
+    (w : WorldState) (r : Rounds) → Settles w r → ((v : WorldState) → IsReachedBy IsOfSettle w v → is_stuck v.links ≡ false) → r.resets ≡ 0
 
 -- What events keep: the fabric, a world, and the numbers of each connection in order.
 pub record IsKept (w v : WorldState) : Type 0 where

@@ -22,7 +22,7 @@ mod tests_in_words;
 
 pub use count::{counts_of_events, events_of_settles};
 pub use idle::idle_events;
-pub use row::{kept_by_rows, rows_of_events};
+pub use row::{kept_by_rows, resets_of_settles, rows_of_events};
 pub use settle::{rounds_of_passes, settles};
 pub use shape::{kept_senders, kept_worlds};
 pub use stretch::{advances_of_links, clears, drains};

@@ -1,13 +1,19 @@
 //! A drain, a clear and a settle are events in a row: `specs/Reached.antt` has the statements.
 
 ghost use Rattle.world_laws.specs.Reached.{DrainIsEvents, ClearIsEvents, SettleIsEvents};
-ghost use Rattle.world_laws.specs.Reached.{DrainKeeps, ClearKeeps, SettleKeeps};
+ghost use Rattle.world_laws.specs.Reached.{SettlesIsEvents, NeverStuckHasNoResets, DrainKeeps, ClearKeeps, SettleKeeps};
 
 /// A drain, a clear and a settle are events of their kinds, in a row.
 pub fn rows_of_events()
     ensures drain { DrainIsEvents }
     ensures clear { ClearIsEvents }
     ensures settle { SettleIsEvents }
+    ensures settles { SettlesIsEvents }
+{}
+
+/// A settle resets a channel only where links were stuck in it.
+pub fn resets_of_settles()
+    ensures { NeverStuckHasNoResets }
 {}
 
 /// So they leave a world of the same fabric, with its connections in order.

@@ -1,4 +1,4 @@
-use Rattle.world_laws.proofs.Reached.{drain-reached, clear-reached, settle-reached}
+use Rattle.world_laws.proofs.Reached.{drain-reached, clear-reached, settle-reached, settles-reached}
 use Rattle.world_laws.proofs.row.rows_of_events.Goals as goal
 
 pub returns-clause-drain : goal.returns-clause-drain
@@ -9,3 +9,6 @@ returns-clause-clear c = clear-reached
 
 pub returns-clause-settle : goal.returns-clause-settle
 returns-clause-settle c = settle-reached
+
+pub returns-clause-settles : goal.returns-clause-settles
+returns-clause-settles c = settles-reached
