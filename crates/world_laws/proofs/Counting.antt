@@ -27,7 +27,7 @@ use Rattle.world_defs.specs.Settle.{unacknowledged_in}
 use Rattle.world_laws.specs.Reached.{IsOfSettle}
 use Rattle.world_laws.specs.Counts.{injections, drops_after, IsStruck}
 use Rattle.world_laws.proofs.Strikes.{planned_strikes-kept}
-use Rattle.world_laws.proofs.Leaves.{IsQuiet, quiet-leaves}
+use Rattle.world_laws.proofs.Leaves.{IsNoCall, quiet-leaves}
 use Rattle.world_laws.proofs.Rounds.{Going, follows-going, fragments-fewer}
 
 -- what comes of an event, and the counts
@@ -207,28 +207,28 @@ step-counts w (Send h port dest dport prio len seed) = called-counts w h port (s
 step-counts w (Poll h port) = called-counts w h port (polled_by (node_at w h) port (client_at w h port))
 
 -- an event of a settle
-settle-quiet : (e : Event) → IsOfSettle e → IsQuiet e
-settle-quiet (Advance c) q = tt
-settle-quiet (Reset c) q = tt
-settle-quiet (Inject h) q = tt
-settle-quiet (Replay serial) q = tt
-settle-quiet (Expire h peer) q = tt
-settle-quiet (GiveUp h) q = tt
-settle-quiet (Ask h walk looped) q = absurd q
-settle-quiet (Part dst part) q = absurd q
-settle-quiet (Lose c) q = absurd q
-settle-quiet (Repeat c) q = absurd q
-settle-quiet (Hold c) q = absurd q
-settle-quiet (Flip c bit pattern) q = absurd q
-settle-quiet (Begin h port sends recvs) q = absurd q
-settle-quiet (Close h port) q = absurd q
-settle-quiet (Provide h port size prio) q = absurd q
-settle-quiet (Send h port dest dport prio len seed) q = absurd q
-settle-quiet (Poll h port) q = absurd q
+settle-no_call : (e : Event) → IsOfSettle e → IsNoCall e
+settle-no_call (Advance c) q = tt
+settle-no_call (Reset c) q = tt
+settle-no_call (Inject h) q = tt
+settle-no_call (Replay serial) q = tt
+settle-no_call (Expire h peer) q = tt
+settle-no_call (GiveUp h) q = tt
+settle-no_call (Ask h walk looped) q = absurd q
+settle-no_call (Part dst part) q = absurd q
+settle-no_call (Lose c) q = absurd q
+settle-no_call (Repeat c) q = absurd q
+settle-no_call (Hold c) q = absurd q
+settle-no_call (Flip c bit pattern) q = absurd q
+settle-no_call (Begin h port sends recvs) q = absurd q
+settle-no_call (Close h port) q = absurd q
+settle-no_call (Provide h port size prio) q = absurd q
+settle-no_call (Send h port dest dport prio len seed) q = absurd q
+settle-no_call (Poll h port) q = absurd q
 
 pub settle_event-raises : (w : WorldState) (e : Event) → IsOfSettle e → (unacknowledged_in (step w e).1 ≤ unacknowledged_in w) × (length (step w e).1.plan ≤ length w.plan)
 settle_event-raises w e q =
-    let k : Going w (step w e).1 = quiet-leaves Going follows-going w e (settle-quiet e q) in
+    let k : Going w (step w e).1 = quiet-leaves Going follows-going w e (settle-no_call e q) in
     let a = k.rises in
     let b = k.planned in
     (fragments-fewer w (step w e).1 k, omega (arith, a, b))

@@ -97,15 +97,15 @@ gave_up-leaves R f w h true = f.node w h (given_up (node_at w h)) (given_up-kept
 gave_up-leaves R f w h false = f.same w
 
 -- an event that is no client's call
-abbrev pub IsQuiet : Event → Type 0
-IsQuiet (Begin h port sends recvs) = ⊥
-IsQuiet (Close h port) = ⊥
-IsQuiet (Provide h port size prio) = ⊥
-IsQuiet (Send h port dest dport prio len seed) = ⊥
-IsQuiet (Poll h port) = ⊥
-IsQuiet _ = Unit {0}
+abbrev pub IsNoCall : Event → Type 0
+IsNoCall (Begin h port sends recvs) = ⊥
+IsNoCall (Close h port) = ⊥
+IsNoCall (Provide h port size prio) = ⊥
+IsNoCall (Send h port dest dport prio len seed) = ⊥
+IsNoCall (Poll h port) = ⊥
+IsNoCall _ = Unit {0}
 
-pub quiet-leaves : (R : WorldState → WorldState → Type 0) → Follows R → (w : WorldState) (e : Event) → IsQuiet e → R w (step w e).1
+pub quiet-leaves : (R : WorldState → WorldState → Type 0) → Follows R → (w : WorldState) (e : Event) → IsNoCall e → R w (step w e).1
 unfolding lost was_reset repeated held flipped replayed asked part_staged injected advanced expired gave_up
 quiet-leaves R f w (Ask h walk looped) q = f.node w h (record (node_at w h) { staged = Some (StagedProbe walk looped) }) (staged-kept (node_at w h) (Some (StagedProbe walk looped)))
 quiet-leaves R f w (Part dst part) q = stage_part-leaves R f w dst part w.adopted

@@ -12,7 +12,7 @@ use Rattle.world_laws.specs.Shape.{HasSenders}
 use Rattle.world_laws.specs.Settling.{IsRound, AllRounds, Settles}
 use Rattle.world_laws.proofs.Nodes.{node_after}
 use Rattle.world_laws.proofs.Strikes.{Strikes, planned_strikes-kept}
-use Rattle.world_laws.proofs.Leaves.{Follows, IsQuiet, quiet-leaves}
+use Rattle.world_laws.proofs.Leaves.{Follows, IsNoCall, quiet-leaves}
 use Rattle.world_laws.proofs.Shapes.{NodesKept, nodes_same, with_node-kept, struck_nodes, made_senders, SentOut, sent_out-kept}
 use Rattle.world_laws.proofs.Along.{Along, Clears, SettlesBy, clear-along, round-along}
 use Rattle.world_laws.proofs.Passes.{clear-plan, round-is, rounds-one}
@@ -59,14 +59,14 @@ follows-going = record {
       struck_going w (sent_out w h c out) (planned_strikes (sent_out w h c out) c) (sent_out-kept w h c out e) (planned_strikes-kept (sent_out w h c out) c);
 }
 
-pub along-going : Along Going IsQuiet
+pub along-going : Along Going IsNoCall
 along-going = record { same = follows-going.same; both = going_both; event = quiet-leaves Going follows-going }
 
-pub clears-quiet : Clears IsQuiet
-clears-quiet = record { advance = λ c. tt; reset = λ c. tt }
+pub clears-no_call : Clears IsNoCall
+clears-no_call = record { advance = λ c. tt; reset = λ c. tt }
 
-pub settles-quiet : SettlesBy IsQuiet
-settles-quiet = record { clears = clears-quiet; inject = λ h. tt; replay = λ s. tt; expire = λ h p. tt; give_up = λ h. tt }
+pub settles-no_call : SettlesBy IsNoCall
+settles-no_call = record { clears = clears-no_call; inject = λ h. tt; replay = λ s. tt; expire = λ h p. tt; give_up = λ h. tt }
 
 pub going_senders : (w v : WorldState) → Going w v → HasSenders w → HasSenders v
 going_senders w v k is = made_senders w v k.nodes is
@@ -153,7 +153,7 @@ not_last-less w v k is e =
     helped-less w v k (going_senders w v k is) (helped_if (nat_eq (unacknowledged_in v) 0) (has_helped w v) e)
 
 pub round_going : (w : WorldState) (s : Stretch) → IsRound w s → Going w s.world
-round_going w s r = round-along Going IsQuiet along-going settles-quiet w s r
+round_going w s r = round-along Going IsNoCall along-going settles-no_call w s r
 
 rounds-end : (k : ℕ) (w : WorldState) → HasSenders w → left_over w < k → AllRounds w (rounds_of k w)
 rounds-end zero w is low = absurd (omega (arith, low))
@@ -190,7 +190,7 @@ rounds-agree w r t (AllRounds.another_round {s = a} {r = i} one e more d) (AllRo
 
 -- the first clear
 clear_going : (w : WorldState) → Going w (clear w).1
-clear_going w = clear-along Going IsQuiet along-going clears-quiet w
+clear_going w = clear-along Going IsNoCall along-going clears-no_call w
 
 pub clear-raises : (w : WorldState) → (unacknowledged_in (clear w).1 ≤ unacknowledged_in w) × ((clear w).1.plan ≡ w.plan)
 clear-raises w = (fragments-fewer w (clear w).1 (clear_going w), clear-plan w)
