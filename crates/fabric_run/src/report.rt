@@ -2,23 +2,31 @@
 
 ghost use Rattle.std.specs.Prelude.{◌≡◌, flat_map, IfOk};
 ghost use Rattle.net_defs.specs.Route.{IsPlaceOf};
+ghost use Rattle.link_defs.specs.Links.{empty_links};
 ghost use Rattle.fabric_run.specs.Report.{lines_text, place_text, refusal_text};
 
 use crate::script::Command;
 use fab_text::FaultKind;
+use link_model::{Links, walk_alone};
 use port_graph::{Fabric, Place, Vertex};
 use std::alloc::{AllocError, Global};
 
-/// The lines that a command prints.
+/// The lines that a command prints. A walk's packet takes its way over these links, which are idle before and after.
 pub(crate) fn lines_of_command(
     alloc: Global,
     fabric: &Fabric,
+    links: &mut Links,
     command: &Command,
 ) -> Result<Vec<u8>, AllocError>
-    ensures { IfOk result (λ text. text.items ≡ lines_text fabric.now command.now) }
+    requires idle { links.old ≡ empty_links fabric.now }
+    ensures lines { IfOk result (λ text. text.items ≡ lines_text fabric.now command.now) }
+    ensures links { links.new ≡ links.old }
 {
     match command {
-        Command::Walk { host, walk } => place_line(alloc, fabric, fabric.walk(*host, walk.turns())),
+        Command::Walk { host, walk } => {
+            let place = walk_alone(alloc, links, *host, walk.turns())?;
+            place_line(alloc, fabric, place)
+        }
         Command::Finish => joined(alloc, &[b"end injected 0 dropped 0\n"]),
     }
 }

@@ -5,6 +5,7 @@ ghost use Rattle.std.specs.Io.KnownBytes.{Appends, Keeps};
 ghost use Rattle.fab_outer.specs.Fault.{Rose};
 ghost use Rattle.fab_outer.specs.Whole.{IsLonger, TakesPrefix};
 ghost use Rattle.fab_text.specs.Fault.{TextGives};
+ghost use Rattle.link_defs.specs.Links.{empty_links};
 ghost use Rattle.fabric_run.specs.Report.{report, text_due};
 ghost use Rattle.fabric_run.specs.Reading.{reading, reading_from};
 ghost use Rattle.fabric_run.specs.Ends.{IsForm, Came, IsAccepted, IsRefused, own_answer, input_limit, ReportEnds, RefusalEnds, TextEnds, InputEnds};
@@ -15,6 +16,7 @@ use crate::status::Status;
 use fab_outer::{ReadEnd, Sink, Source, read_all, write_all};
 use fab_text::{FaultKind, TextFault, Word};
 use fabric_file::{FabricText, read_fabric};
+use link_model::Links;
 use port_graph::Fabric;
 use std::alloc::Global;
 use std::marker::Model;
@@ -120,7 +122,7 @@ fn run_text<K: Sink>(alloc: Global, text: &[u8], out: &mut K) -> Status
     ensures later { K.faults out.old ≤ K.faults out.new }
 {
     match read_text(alloc, text) {
-        Ok(accepted) => write_report(alloc, &accepted, out),
+        Ok(accepted) => run_script(alloc, &accepted, out),
         Err(TextFault::At { line, kind }) => write_refusal(alloc, line, kind, out),
         Err(TextFault::NoMemory) => Status::NoMemory,
     }
@@ -151,13 +153,30 @@ fn read_rest(alloc: Global, text: &[u8], part: FabricText) -> Result<Accepted, T
     }
 }
 
+// Runs a script over links of its own.
+fn run_script<K: Sink>(alloc: Global, accepted: &Accepted, out: &mut K) -> Status
+    ensures ends { ReportEnds (report accepted.now) (K.taken out.old) (K.taken out.new) (K.faults out.old) (K.faults out.new) result }
+    ensures later { K.faults out.old ≤ K.faults out.new }
+{
+    match Links::new(alloc, &accepted.fabric) {
+        Ok(mut links) => write_report(alloc, accepted, &mut links, out),
+        Err(_) => Status::NoMemory,
+    }
+}
+
 // Writes the lines of each command.
-fn write_report<K: Sink>(alloc: Global, accepted: &Accepted, out: &mut K) -> Status
+fn write_report<K: Sink>(
+    alloc: Global,
+    accepted: &Accepted,
+    links: &mut Links,
+    out: &mut K,
+) -> Status
+    requires idle { links.old ≡ empty_links accepted.now.network }
     ensures ends { ReportEnds (report accepted.now) (K.taken out.old) (K.taken out.new) (K.faults out.old) (K.faults out.new) result }
     ensures later { K.faults out.old ≤ K.faults out.new }
 {
     for command in &accepted.commands {
-        let Ok(lines) = lines_of_command(alloc, &accepted.fabric, command) else {
+        let Ok(lines) = lines_of_command(alloc, &accepted.fabric, links, command) else {
             return Status::NoMemory;
         };
         if write_all(out, &lines).is_err() {

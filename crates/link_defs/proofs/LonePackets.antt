@@ -39,12 +39,12 @@ set-empty zero c x = refl
 set-empty (suc k) zero x = refl
 set-empty (suc k) (suc c) x = ap (λ l. x ∷ l) (set-empty k c x)
 
-get-empty : {X : Type 0} (k c : ℕ) (x : X) → get_or (replicate k x) c x ≡ x
+pub get-empty : {X : Type 0} (k c : ℕ) (x : X) → get_or (replicate k x) c x ≡ x
 get-empty zero c x = refl
 get-empty (suc k) zero x = refl
 get-empty (suc k) (suc c) x = get-empty k c x
 
-lone-emptied : (n : Network) (c : ℕ) (wire : List ℕ) → emptied (lone n c wire) c ≡ empty_links n
+pub lone-emptied : (n : Network) (c : ℕ) (wire : List ℕ) → emptied (lone n c wire) c ≡ empty_links n
 lone-emptied n c wire =
     let p : Option Held = Some (record { wire = wire; marked = false }) in
     let e : set (set (replicate (channel_count n) None) c p) c None ≡ replicate (channel_count n) None = set-twice (replicate (channel_count n) None) c p None ∙ set-empty (channel_count n) c None in

@@ -9,12 +9,15 @@
 //! | `slots` | the packets in the channels |
 //! | `limbo` | the packets that a cable keeps back |
 //! | `links` | the links: reading them, filling them, an advance, the faults |
+//! | `walking` | a packet alone in the links, to the end of its walk |
 #![tactic(auto)]
 
 mod limbo;
 mod links;
 mod slots;
+mod walking;
 mod wiring;
 
 pub use link_defs::{Moved, Replayed, Turned, Why};
 pub use links::{Links, Occupied};
+pub use walking::walk_alone;

@@ -1,6 +1,7 @@
 //! The links of a fabric: reading them, and putting packets into them.
 
 ghost use Rattle.std.specs.Prelude.{◌≡◌, ◌<◌, ◌≤◌, length, Some, option_map, option_copied, is_ok, IfOk, IfErr, IfSome};
+ghost use Rattle.net_defs.specs.Network.{IsFabric};
 ghost use Rattle.net_defs.specs.Route.{channel_from};
 ghost use Rattle.link_defs.specs.Channel.{channel_count, channel_tail, channel_head};
 ghost use Rattle.link_defs.specs.Links.{empty_links, packet_in, is_idle, put};
@@ -72,6 +73,7 @@ impl Links {
     /// The channel that leaves by an end; none where no cable ends there.
     pub fn channel_from(&self, e: End) -> Option<u16>
         ensures channel { result ≡ channel_from self.now.net e }
+        ensures fabric { IsFabric self.now.net }
         ensures there { IfSome result (λ c. c < length self.now.channels) }
     {
         self.wiring.channel_from(e)

@@ -104,7 +104,8 @@ impl Wiring {
 
     /// The channel that leaves by an end.
     pub(crate) fn channel_from(&self, e: End) -> Option<u16>
-        ensures { result ≡ channel_from self.now e }
+        ensures channel { result ≡ channel_from self.now e }
+        ensures fabric { IsFabric self.now }
     {
         match possible_place(e) {
             Some(place) => self.out[place],

@@ -5,4 +5,5 @@ pub mod Mapped
 pub mod Outcome
 pub mod Output
 pub mod Run
+pub mod Script
 pub mod Session

@@ -1,6 +1,6 @@
 //! Worked examples, computed by the prover: each function's contract is the example, and its body is empty.
 
-ghost use Rattle.std.specs.Prelude.{◌≡◌, [], ◌∷◌, ◌++◌, map, codes, pos, negsuc, replicate, true, Some, None};
+ghost use Rattle.std.specs.Prelude.{◌≡◌, [], ◌∷◌, ◌++◌, map, codes, pos, negsuc, Ok, Err};
 ghost use Rattle.net_defs.specs.Examples.{two_hosts, host_end, switch_end};
 ghost use Rattle.net_defs.specs.declared.place.Place.{Place};
 ghost use Rattle.world_defs.specs.declared.effect.Said.{Said};
@@ -9,6 +9,10 @@ ghost use Rattle.run_defs.specs.declared.line.Line.{Line};
 ghost use Rattle.run_defs.specs.declared.line.MapWords.{MapWords};
 ghost use Rattle.run_defs.specs.declared.line.ClientCall.{ClientCall};
 ghost use Rattle.run_defs.specs.declared.line.PlaceEntry.{PlaceEntry};
+ghost use Rattle.fab_text.specs.declared.fault.FaultKind.{FaultKind};
+ghost use Rattle.run_defs.specs.declared.command.PlanKind.{PlanKind};
+ghost use Rattle.run_defs.specs.declared.command.StepLine.{StepLine};
+ghost use Rattle.run_defs.specs.Script.{command_of, script_reading};
 ghost use Rattle.run_defs.specs.LineText.{line_text, map_text};
 ghost use Rattle.run_defs.specs.Examples.{text_of, printed, fresh, installed_session, setup_map, refused_calls, closing, single_events};
 
@@ -44,4 +48,28 @@ pub fn closing_a_port()
 #[tactic(auto, using(crate::proofs::Reports::single_events_text))]
 pub fn report_of_single_events()
     ensures text { printed single_events installed_session ≡ text_of (codes "open a 0 done" ∷ codes "open b 1 done" ∷ codes "provide b 1 token 0" ∷ codes "provide b 1 token 1" ∷ codes "send a 0 token 0" ∷ codes "send a 0 token 1" ∷ codes "step injected 65" ∷ codes "step moved s 5" ∷ codes "step injected 66" ∷ codes "step idle" ∷ codes "step blocked s 5" ∷ codes "map a refused busy" ∷ codes "step arrived b message" ∷ codes "step moved s 5" ∷ codes "step lost" ∷ codes "step idle" ∷ codes "settle rounds 1 resets 0 unacked 0" ∷ codes "poll b 1 received token 0 from a 0 prio 0 len 1 bytes 01" ∷ codes "poll b 1 received token 1 from a 0 prio 0 len 1 bytes 02" ∷ codes "end injected 71 dropped 59" ∷ []) }
+{}
+
+/// Lines of scripts over the two hosts at one switch, and their first faults.
+pub fn lines_of_scripts()
+    ensures map { command_of two_hosts (codes "map" ∷ codes "a" ∷ codes "04" ∷ codes "1" ∷ []) ≡ Ok (Command.Map 0 4 1) }
+    ensures walk { command_of two_hosts (codes "walk" ∷ codes "b" ∷ codes "-3" ∷ []) ≡ Ok (Command.Walk 1 (negsuc 2 ∷ [])) }
+    ensures send { command_of two_hosts (codes "send" ∷ codes "a" ∷ codes "0" ∷ codes "b" ∷ codes "1" ∷ codes "0" ∷ codes "1017" ∷ codes "9" ∷ []) ≡ Ok (Command.Send 0 0 1 1 0 1017 9) }
+    ensures flip { command_of two_hosts (codes "plan" ∷ codes "flip" ∷ codes "1" ∷ codes "6" ∷ codes "193" ∷ []) ≡ Ok (Command.Plan 1 (PlanKind.Flip 6 193)) }
+    ensures step { command_of two_hosts (codes "step" ∷ codes "lose" ∷ codes "s" ∷ codes "5" ∷ []) ≡ Ok (Command.Step (StepLine.Lose (switch_end 0 5))) }
+    ensures depth_of_none { command_of two_hosts (codes "map" ∷ codes "a" ∷ codes "0" ∷ codes "x" ∷ []) ≡ Err FaultKind.TooLarge }
+    ensures form_before_the_host { command_of two_hosts (codes "map" ∷ codes "c" ∷ codes "1" ∷ codes "x" ∷ []) ≡ Err FaultKind.NotNumber }
+    ensures words_before_forms { command_of two_hosts (codes "map" ∷ codes "9" ∷ codes "x" ∷ []) ≡ Err FaultKind.BadWord }
+    ensures unknown_second_word { command_of two_hosts (codes "plan" ∷ codes "flop" ∷ codes "x" ∷ []) ≡ Err FaultKind.BadWord }
+    ensures port_above_15 { command_of two_hosts (codes "step" ∷ codes "advance" ∷ codes "c" ∷ codes "16" ∷ []) ≡ Err FaultKind.TooLarge }
+    ensures port_that_is_not_there { command_of two_hosts (codes "step" ∷ codes "advance" ∷ codes "s" ∷ codes "8" ∷ []) ≡ Err FaultKind.PortRange }
+    ensures switch_is_no_host { command_of two_hosts (codes "poll" ∷ codes "s" ∷ codes "0" ∷ []) ≡ Err FaultKind.NoVertex }
+{}
+
+/// A script behind eight lines, one that lacks its end, and one that goes on behind it.
+pub fn whole_scripts()
+    ensures read { script_reading two_hosts 8 (codes "# commands" ++ 13 ∷ 10 ∷ codes "routes" ++ 10 ∷ 10 ∷ codes "  end") ≡ Ok (Command.Routes ∷ Command.Finish ∷ []) }
+    ensures no_end { script_reading two_hosts 8 (codes "routes" ++ 10 ∷ []) ≡ Err record { line = 10; kind = FaultKind.NoEnd } }
+    ensures after_end { script_reading two_hosts 8 (codes "end" ++ 10 ∷ codes "end" ++ 10 ∷ []) ≡ Err record { line = 10; kind = FaultKind.AfterEnd } }
+    ensures first_fault { script_reading two_hosts 8 (codes "routes 1" ++ 10 ∷ codes "map" ++ 10 ∷ []) ≡ Err record { line = 9; kind = FaultKind.BadWord } }
 {}

@@ -4,6 +4,7 @@
 //!
 //! | file of `specs/` | says |
 //! |---|---|
+//! | `Script` | the command that each line of a script says, or its first fault |
 //! | `Session` | what a run holds from command to command |
 //! | `Outcome` | what a command does and prints, where that is determined |
 //! | `Mapped` | what the command `map` does: the asks of a journal that grows, its map, and how far it is known to be right |
@@ -18,6 +19,7 @@ mod line;
 
 pub use command::{Command, PlanKind, StepLine};
 pub use examples::{
-    closing_a_port, refusals, report_of_single_events, text_of_a_map, texts_of_lines,
+    closing_a_port, lines_of_scripts, refusals, report_of_single_events, text_of_a_map,
+    texts_of_lines, whole_scripts,
 };
 pub use line::{ClientCall, InstallCause, Line, MapWords, PlaceEntry, PlaceList, StepWords};

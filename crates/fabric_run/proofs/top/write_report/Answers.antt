@@ -21,7 +21,7 @@ returns-then-is_err-clause-ends g c =
     let items : c.deref-command-items.result.now ≡ cs = c.deref-command-items.ensures.value ∙ ap (λ a. a.commands) c.accepted.view_is in
     let below : i < length cs = subst (λ l. i < length l) items c.loop-command-test.true in
     let at : x ≡ get_or cs i x = c.command-item.is ∙ ap (λ l. get_or l i x) items in
-    let lines : c.deref.result.now ≡ f x = c.deref.ensures.value ∙ c.in-Ok.ensures ∙ ap (λ a. lines_text a.network x) c.accepted.view_is in
+    let lines : c.deref.result.now ≡ f x = c.deref.ensures.value ∙ c.in-Ok.ensures.lines ∙ ap (λ a. lines_text a.network x) c.accepted.view_is in
     let part : TakesPrefix (g.K.Sink.taken c.loop-command.out) (g.K.Sink.taken c.write_all.new.sink) (f x) =
     subst (TakesPrefix (g.K.Sink.taken c.loop-command.out) (g.K.Sink.taken c.write_all.new.sink)) lines c.write_all.ensures.part in (
       rose-earlier _ _ _ c.loop-command.invariant.later (on_err c.write_all.result _ c.if-is_err.ensures.value c.write_all.ensures.cause.failed),
