@@ -1,12 +1,17 @@
 -- The laws of journals.
-use Rattle.std.specs.Prelude.{◌≡◌, ℕ, ℤ, pos, List}
-use Rattle.net_defs.specs.Network.{Network, IsFabric}
+use Rattle.std.specs.Prelude.{◌≡◌, ℕ, ℤ, pos, List, Some}
+use Rattle.net_defs.specs.declared.vertex.End.{End}
+use Rattle.net_defs.specs.Network.{Network, IsFabric, far}
 use Rattle.net_defs.specs.Turn.{IsTurn}
 use Rattle.journal_defs.specs.declared.entry.Entry.{Entry}
 use Rattle.journal_defs.specs.Tree.{Node}
 use Rattle.journal_defs.specs.Replicates.{Replicates}
 use Rattle.journal_defs.specs.Truth.{IsTrueWhereFound, StandTogether}
 use Rattle.journal_defs.specs.Growth.{NextAsk, IsEndedByDepth}
+
+-- a cable's far end goes both ways
+abbrev pub FarEndGoesBothWays : Type 0
+FarEndGoesBothWays = (n : Network) (d e : End) → IsFabric n → far n d ≡ Some e → far n e ≡ Some d
 
 -- Over answers that are true of one fabric, replicates stand at one host, or at one switch with entry ports k apart.
 abbrev pub ReplicatesStandTogether : Type 0

@@ -34,6 +34,6 @@ pub use examples::{
     replicates_over_parallel_cables, tree_of_the_parallel_cables,
 };
 pub use laws::{
-    distances_are_of_paths, growth_is_determined, replicates_are_one_vertex, walks_are_counted,
-    walks_are_ordered,
+    distances_are_of_paths, far_ends_go_both_ways, growth_is_determined, replicates_are_one_vertex,
+    walks_are_counted, walks_are_ordered,
 };
