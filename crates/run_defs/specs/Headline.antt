@@ -65,6 +65,7 @@ acted w (Happens e) = (step w e).1
 acted w (Plans ahead fault) = (planned w ahead fault).1
 acted w (Adopts mapper routes) = adopted_by w mapper routes
 
+-- the world after acts in order
 abbrev pub acted_all : WorldState → List Act → WorldState
 acted_all w [] = w
 acted_all w (a ∷ acts) = acted_all (acted w a) acts
@@ -85,11 +86,13 @@ pub record AreAdoptable (n : Network) (routes : List Route) : Type 0 where
   pub number : ℕ → ℕ
   pub rises : (c d : ℕ) → IsBefore (channels_of_all n routes) c d → number c < number d
 
+-- an event may always happen; a plan names an injection to come; routes may be adopted where they are adoptable and no other set is
 abbrev pub MayAct : WorldState → Act → Type 0
 MayAct w (Happens e) = Unit {0}
 MayAct w (Plans ahead fault) = 1 ≤ ahead
 MayAct w (Adopts mapper routes) = AreAdoptable (fabric_of w) routes × IsSameSet routes w.adopted
 
+-- each act may happen in the world that those before it leave
 abbrev pub MayActAll : WorldState → List Act → Type 0
 MayActAll w [] = Unit {0}
 MayActAll w (a ∷ acts) = MayAct w a × MayActAll (acted w a) acts

@@ -35,6 +35,7 @@ use Rattle.run_defs.specs.declared.line.Line.{Line}
 use Rattle.run_defs.specs.declared.line.Line.TheVariants.{Refused, Walk, Map, MapBusy, Routes, Route, Rank, EndRoutes, NoMap, Installed, Table, InstallRefused, Client, Tokens, PlanAt, Step, Settle, Finish}
 use Rattle.run_defs.specs.Output.{Piece, OneLine, MapLines}
 
+-- a host's name
 abbrev pub host_name : Network → ℕ → List ℕ
 host_name n h = name_of n (Host h)
 
@@ -62,22 +63,26 @@ abbrev pub hex_text : List ℕ → List ℕ
 hex_text [] = codes "-"
 hex_text (b ∷ bs) = flat_map (λ x. hex_digit (x / 16) ∷ hex_digit (x % 16) ∷ []) (b ∷ bs)
 
+-- where a walk ends: `host NAME`, `switch NAME port P`, or `nothing`
 abbrev pub walk_words : Network → Place → List (List ℕ)
 walk_words n (AtHost h) = codes "host" ∷ host_name n h ∷ []
 walk_words n (AtSwitch s p) = codes "switch" ∷ name_of n (Switch s) ∷ codes "port" ∷ decimal p ∷ []
 walk_words n Stuck = codes "nothing" ∷ []
 
+-- how far a map is known to be right: `complete`, `doubtful N`, `incomplete depth` or `incomplete nodes`
 abbrev pub map_words : MapWords → List (List ℕ)
 map_words Complete = codes "complete" ∷ []
 map_words (Doubtful n) = codes "doubtful" ∷ decimal n ∷ []
 map_words IncompleteDepth = codes "incomplete" ∷ codes "depth" ∷ []
 map_words IncompleteNodes = codes "incomplete" ∷ codes "nodes" ∷ []
 
+-- why an installation was refused
 abbrev pub install_cause : InstallCause → List ℕ
 install_cause NoRoutes = codes "noroutes"
 install_cause LinksBusy = codes "busy"
 install_cause OtherInstalled = codes "installed"
 
+-- the word of a client's call
 abbrev pub call_word : ClientCall → List ℕ
 call_word Begin = codes "open"
 call_word Close = codes "close"
@@ -86,6 +91,7 @@ call_word Send = codes "send"
 call_word Poll = codes "poll"
 call_word TokensCall = codes "tokens"
 
+-- why a client's call was refused; `busy` with the unfinished sends, `unread` with the waiting events
 abbrev pub client_cause : ClientCause → List (List ℕ)
 client_cause Already = codes "already" ∷ []
 client_cause NotOpen = codes "notopen" ∷ []
@@ -97,6 +103,7 @@ client_cause BadSize = codes "badsize" ∷ []
 client_cause (Busy n) = codes "busy" ∷ decimal n ∷ []
 client_cause (Unread n) = codes "unread" ∷ decimal n ∷ []
 
+-- what a client's call said: that it was done, the token that it gave up, the event that it took, or its refusal
 abbrev pub said_words : Network → Said → List (List ℕ)
 said_words n Done = codes "done" ∷ []
 said_words n (Count c) = codes "done" ∷ decimal c ∷ []
@@ -108,6 +115,7 @@ said_words n (Received t from sport prio body) =
 said_words n Nothing = codes "nothing" ∷ []
 said_words n (SaidRefused cause) = codes "refused" ∷ client_cause cause
 
+-- what a host heard
 abbrev pub heard_word : Heard → List ℕ
 heard_word Probe = codes "probe"
 heard_word (Reply number host) = codes "reply"
@@ -120,6 +128,7 @@ heard_word NotNext = codes "notnext"
 heard_word NoTokenFits = codes "notoken"
 heard_word Ack = codes "ack"
 
+-- why a packet was dropped
 abbrev pub cause_word : Cause → List ℕ
 cause_word OutOfRange = codes "outofrange"
 cause_word NotRoute = codes "notroute"
@@ -130,6 +139,7 @@ cause_word UnknownType = codes "unknowntype"
 cause_word Malformed = codes "malformed"
 cause_word NotMine = codes "notmine"
 
+-- what one event did; a channel is named by the end that it leaves
 abbrev pub step_words : Network → StepWords → List (List ℕ)
 step_words n Idle = codes "idle" ∷ []
 step_words n (Injected k) = codes "injected" ∷ decimal k ∷ []
@@ -146,15 +156,18 @@ step_words n (Repeated serial) = codes "repeated" ∷ decimal serial ∷ []
 step_words n (Held serial) = codes "held" ∷ decimal serial ∷ []
 step_words n (Replayed e) = codes "replayed" ∷ end_words n e
 
+-- where a token stands: with the client where the port doesn't hold it
 abbrev pub place_word : Option TokenPlace → List ℕ
 place_word None = codes "client"
 place_word (Some Queue) = codes "queue"
 place_word (Some Provided) = codes "provided"
 place_word (Some Event) = codes "event"
 
+-- a token's number and place: `NUMBER=PLACE`
 abbrev pub place_text : PlaceEntry → List ℕ
 place_text p = decimal p.number ++ codes "=" ++ place_word p.place
 
+-- whether a host's table is active
 abbrev pub active_word : Bool → List ℕ
 active_word true = codes "active"
 active_word false = codes "none"
@@ -187,10 +200,12 @@ words_in n (Finish injected dropped) = codes "end" ∷ codes "injected" ∷ deci
 abbrev pub line_text : Network → Line → List ℕ
 line_text n l = line_of (words_in n l)
 
+-- whether a switch of a map is in its core
 abbrev pub core_word : Bool → List ℕ
 core_word true = codes "core"
 core_word false = codes "outside"
 
+-- the line of a map's vertex: a host, or a switch with its mark
 abbrev pub vertex_words : Network → MapVertex → Bool → List (List ℕ)
 vertex_words n (MapHost h) core = codes "host" ∷ host_name n h ∷ []
 vertex_words n (MapSwitch s) core = codes "switch" ∷ vertex_text n (MapSwitch s) ∷ core_word core ∷ []
@@ -200,13 +215,16 @@ abbrev pub vertices_text : Network → List MapVertex → List Bool → List ℕ
 vertices_text n (v ∷ vs) (c ∷ cs) = line_of (vertex_words n v c) ++ vertices_text n vs cs
 vertices_text n _ _ = []
 
+-- a map's vertex in a line; nothing where there is none
 abbrev pub vertex_at : Network → Option MapVertex → List ℕ
 vertex_at n None = []
 vertex_at n (Some v) = vertex_text n v
 
+-- the vertex of a map at a place of its list
 abbrev pub vertex_numbered : Network → NetMap → ℕ → List ℕ
 vertex_numbered n m v = vertex_at n (slice_get m.vertices v)
 
+-- the line of a map's cable: its two ends, the ports of switches counted from where each was first entered
 abbrev pub cable_words : Network → NetMap → MapCable → List (List ℕ)
 cable_words n m c = codes "cable" ∷ vertex_numbered n m c.v ∷ turn_text c.p ∷ vertex_numbered n m c.w ∷ turn_text c.q ∷ []
 
@@ -215,6 +233,7 @@ abbrev pub map_text : Network → NetMap → List ℕ
 map_text n m =
     vertices_text n m.vertices m.core ++ flat_map (λ c. line_of (cable_words n m c)) m.cables ++ line_of (codes "endmap" ∷ [])
 
+-- the text of a line, or of a map's lines
 abbrev pub piece_text : Network → Piece → List ℕ
 piece_text n (OneLine l) = line_text n l
 piece_text n (MapLines m) = map_text n m

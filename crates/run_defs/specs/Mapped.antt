@@ -16,6 +16,7 @@ pub record AskedAll : Type 0 where
   pub drowned : ℕ
   pub world : WorldState
 
+-- a test as a count of one or none
 abbrev pub one_if : Bool → ℕ
 one_if true = 1
 one_if false = 0

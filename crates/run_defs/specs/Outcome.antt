@@ -59,6 +59,7 @@ abbrev pub client_lines : ClientCall → ℕ → ℕ → Effect → List Line
 client_lines call host port (SaidSo said) = Client call host port said ∷ []
 client_lines call host port _ = []
 
+-- a client's call prints what it said, and leaves the session with its world
 abbrev pub called : SessionState → ClientCall → ℕ → ℕ → Effect × WorldState → Outcome
 called s call host port (effect, w) = says s (client_lines call host port effect) w
 
@@ -67,6 +68,7 @@ abbrev pub tail_of : Option End → End
 tail_of (Some e) = e
 tail_of None = host_end 0
 
+-- a channel as a report names it, by the end that it leaves
 abbrev pub named_by_tail : WorldState → ℕ → End
 named_by_tail w c = tail_of (channel_tail (fabric_of w) c)
 
@@ -106,6 +108,7 @@ event_of w (FlipLine e bit pattern) = on_channel w e (λ c. Flip c bit pattern)
 event_of w (ExpireLine h peer) = Some (Expire h peer)
 event_of w (ReplayLine serial) = Some (Replay serial)
 
+-- an event prints what it did, and leaves the session with its world
 abbrev pub stepped : SessionState → Effect × WorldState → Outcome
 stepped s (effect, w) = says s (StepOutput (words_of w effect) ∷ []) w
 
@@ -114,12 +117,14 @@ abbrev pub step_or_idle : SessionState → Option Event → Outcome
 step_or_idle s None = says_only s (StepOutput IdleWords ∷ [])
 step_or_idle s (Some event) = stepped s (step s.world event)
 
+-- the fault that a line of a plan means
 abbrev pub fault_of : PlanKind → Fault
 fault_of PlanLose = LoseFault
 fault_of PlanRepeat = RepeatFault
 fault_of PlanHold = HoldFault
 fault_of (PlanFlip bit pattern) = FlipFault bit pattern
 
+-- a plan prints the number of the injection that it is for
 abbrev pub plan_made : SessionState → ℕ × WorldState → Outcome
 plan_made s (number, w) = says s (PlanAt number ∷ []) w
 
@@ -127,10 +132,12 @@ plan_made s (number, w) = says s (PlanAt number ∷ []) w
 abbrev pub places : ℕ → (ℕ → Option TokenPlace) → List PlaceEntry
 places count place_of = map (λ t. record { number = t; place = place_of t }) (range_with_len 0 count)
 
+-- the places of a port's tokens, where it is open; else the refusal
 abbrev pub token_lines : ℕ → ℕ → Option PortState → List Line
 token_lines host port None = Client TokensCall host port (Refused NotOpen) ∷ []
 token_lines host port (Some p) = TokensLine host port (places p.sends (place_of_send p)) (places p.recvs (place_of_recv p)) ∷ []
 
+-- a settle prints its rounds, its resets and what isn't acknowledged behind it; a count of resets stays at its last value
 abbrev pub settled : SessionState → Rounds → Outcome
 settled s r = says s (SettleLine r.rounds (min r.resets last_count) (unacknowledged_in r.world) ∷ []) r.world
 
@@ -138,9 +145,11 @@ settled s r = says s (SettleLine r.rounds (min r.resets last_count) (unacknowled
 abbrev pub table_line : WorldState → ℕ → Line
 table_line w h = Table h (is_some (active_epoch (node_at w h).table))
 
+-- an installation prints how many hosts have all parts acknowledged, of how many, and then each host's table
 abbrev pub install_done : SessionState → List ℕ → ℕ × WorldState → Outcome
 install_done s hosts (acked, w) = says s (Installed acked (length hosts) ∷ map (table_line w) hosts) w
 
+-- the last routes as a set that their mapper adopts, of epoch 1
 abbrev pub adoption_of : LastRoutes → Adoption
 adoption_of l = record { mapper = l.mapper; epoch = 1; routes = l.routes }
 
@@ -148,9 +157,11 @@ adoption_of l = record { mapper = l.mapper; epoch = 1; routes = l.routes }
 abbrev pub install_now : SessionState → LastRoutes → ℕ → Outcome
 install_now s l tries = install_done s l.hosts (installed (adoption_of l) l.hosts tries (adopted_by s.world l.mapper l.routes))
 
+-- two routes are of the same hosts, with the same turns
 abbrev pub same_route : Route → Route → Bool
 same_route r s = nat_eq r.from s.from && nat_eq r.to s.to && same_turns r.walk s.walk
 
+-- two sets are the same routes in the same order
 abbrev pub same_routes : List Route → List Route → Bool
 same_routes [] [] = true
 same_routes (r ∷ rs) (s ∷ ss) = same_route r s && same_routes rs ss

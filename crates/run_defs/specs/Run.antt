@@ -34,16 +34,20 @@ map_pieces IncompleteNodes m = []
 abbrev pub hosts_by_address : WorldState → NetMap → List ℕ
 hosts_by_address w m = filter (λ h. list_any (nat_eq h) (hosts_of m.vertices)) (addresses w)
 
+-- the line of a route
 abbrev pub route_line : Route → Line
 route_line r = RouteLine r.from r.to r.walk
 
+-- a vertex that was looked up; a switch stands for none
 abbrev pub vertex_in : Option MapVertex → MapVertex
 vertex_in (Some v) = v
 vertex_in None = Switch 0
 
+-- the line of a channel's rank: the channel by the end of the map that it leaves
 abbrev pub rank_line : NetMap → RankEntry → Line
 rank_line m k = RankLine (vertex_in (slice_get m.vertices k.v)) k.p k.rank
 
+-- the lines of computed routes: their number, each route, the rank of each channel, and the end
 abbrev pub routes_lines : NetMap → List Route → List Line
 routes_lines m routes = RoutesLine (length routes) ∷ map route_line routes ++ map (rank_line m) (ranks_of m (order_of m)) ++ EndRoutes ∷ []
 

@@ -1,5 +1,5 @@
 -- The lines of a script: the command that each says, or its first fault.
-use Rattle.std.specs.Prelude.{ℕ, ◌+◌, ℤ, Bool, false, List, [], ◌∷◌, ◌++◌, length, nat_eq, nat_lt, if◌then◌else◌, Option, Some, None, Result, Ok, Err, codes, bytes_eq}
+use Rattle.std.specs.Prelude.{ℕ, ◌+◌, ℤ, Bool, false, List, [], ◌∷◌, length, nat_eq, nat_lt, if◌then◌else◌, Option, Some, None, Result, Ok, Err, codes, bytes_eq}
 use Rattle.std.specs.Option.{option_map_or}
 use Rattle.net_defs.specs.declared.vertex.Vertex.{Vertex}
 use Rattle.net_defs.specs.declared.vertex.Vertex.TheVariants.{Host, Switch}
@@ -28,6 +28,7 @@ pub data Value : Type 0 where
   Name : List ℕ → Value
   Number : ℕ → Value
 
+-- a number that was read, where it isn't below the least of its range
 abbrev pub from_least : ℕ → ℕ → Result Value FaultKind
 from_least least v = if nat_lt v least then Err TooLarge else Ok (Number v)
 
@@ -63,9 +64,11 @@ address_of None = Err NoVertex
 address_of (Some (Host h)) = Ok h
 address_of (Some (Switch s)) = Err NoVertex
 
+-- the command at the host of this name
 abbrev pub at_host : Network → List ℕ → (ℕ → Command) → Result Command FaultKind
 at_host n name command = and_then (address_of (vertex_named n name)) (λ h. Ok (command h))
 
+-- the command at the hosts of these two names; the first name is looked up first
 abbrev pub at_hosts : Network → List ℕ → List ℕ → (ℕ → ℕ → Command) → Result Command FaultKind
 at_hosts n a b command = and_then (address_of (vertex_named n a)) (λ g. at_host n b (command g))
 
@@ -74,31 +77,39 @@ abbrev pub end_at : Network → Option Vertex → ℕ → Result End FaultKind
 end_at n None p = Err NoVertex
 end_at n (Some v) p = if nat_lt p (ports_of n v) then Ok (record { v = v; p = p }) else Err PortRange
 
+-- the command at the end of this vertex and port
 abbrev pub at_end : Network → List ℕ → ℕ → (End → Command) → Result Command FaultKind
 at_end n name p command = and_then (end_at n (vertex_named n name) p) (λ e. Ok (command e))
 
--- the greatest number of 32 bits, and the ranges of ports, tokens and patterns
+-- a port of a host: 0 to 7
 abbrev pub of_port : Form
 of_port = OfNumber 0 7
 
+-- a port of a host or a switch: 0 to 15
 abbrev pub of_switch_port : Form
 of_switch_port = OfNumber 0 15
 
+-- a number of tokens: 0 to 64
 abbrev pub of_count : Form
 of_count = OfNumber 0 64
 
+-- a priority: 0 or 1
 abbrev pub of_prio : Form
 of_prio = OfNumber 0 1
 
+-- a number of tries: 1 to 8
 abbrev pub of_tries : Form
 of_tries = OfNumber 1 8
 
+-- how many injections ahead a fault is planned: 1 to 1,000,000,000
 abbrev pub of_ahead : Form
 of_ahead = OfNumber 1 1000000000
 
+-- the first bit of a flip: 0 to 10,000
 abbrev pub of_bit : Form
 of_bit = OfNumber 0 10000
 
+-- the eight bits of a flip: 1 to 255
 abbrev pub of_pattern : Form
 of_pattern = OfNumber 1 255
 
@@ -107,6 +118,7 @@ abbrev pub map_meant : Network → List Value → Result Command FaultKind
 map_meant n (Name h ∷ Number depth ∷ Number tries ∷ []) = at_host n h (λ a. Map a depth tries)
 map_meant n _ = Err BadWord
 
+-- a line of one word, or of two: always this command
 abbrev pub alone_meant : Command → Network → List Value → Result Command FaultKind
 alone_meant command n values = Ok command
 
@@ -171,6 +183,7 @@ abbrev pub replay_meant : Network → List Value → Result Command FaultKind
 replay_meant n (Number serial ∷ []) = Ok (Step (Replay serial))
 replay_meant n _ = Err BadWord
 
+-- a kind of line by its three parts
 abbrev pub kind : List ℕ → List Form → (Network → List Value → Result Command FaultKind) → LineKind
 kind word forms meaning = record { word = word; forms = forms; meaning = meaning }
 
@@ -231,6 +244,7 @@ walk_said n (name ∷ words) =
     else if name_test name then and_then (turns_of words) (λ turns. at_host n name (λ h. Walk h turns))
     else Err BadWord
 
+-- the command of a line by its first word: `walk`, `plan` with its second word, `step` with its second word, or a word of the table
 abbrev pub command_as : Network → List ℕ → List (List ℕ) → Result Command FaultKind
 command_as n first args =
     if bytes_eq first (codes "walk") then walk_said n args

@@ -19,6 +19,7 @@ pub record LastRoutes : Type 0 where
   pub hosts : List ℕ
   pub routes : List Route
 
+-- What a run holds: the world, the last map and the last routes, where there are any.
 pub record SessionState : Type 0 where
   pub world : WorldState
   pub last_map : Option LastMap
@@ -28,6 +29,7 @@ pub record SessionState : Type 0 where
 abbrev pub new_session : Network → SessionState
 new_session n = record { world = new_world n; last_map = None; last_routes = None }
 
+-- a map says complete
 abbrev pub is_complete : MapWords → Bool
 is_complete Complete = true
 is_complete (Doubtful n) = false

@@ -51,9 +51,11 @@ pub record Sent : Type 0 where
   pub effects : List Effect
   pub world : WorldState
 
+-- an injection and its drain by their parts
 abbrev pub drained_behind : Bool → Option ℕ → List Effect × WorldState → Sent
 drained_behind used number (xs, w) = record { used_up = used; number = number; effects = xs; world = w }
 
+-- the drain behind an injection
 abbrev pub drained_after : Bool → Effect × WorldState → Sent
 drained_after used (x, w) = drained_behind used (number_of x) (drain w)
 
@@ -78,10 +80,12 @@ replied before mapper probe reply = record {
   world = reply.world;
 }
 
+-- what a host probe's try comes to: nothing where no host heard the probe, else what its reply comes to
 abbrev pub heard_by : WorldState → ℕ → Sent → Option ℕ → Tried (Option ℕ)
 heard_by before mapper probe None = record { found = None; harmed = is_harmed probe.used_up before probe.world; world = probe.world }
 heard_by before mapper probe (Some h) = replied before mapper probe (sends probe.world h)
 
+-- what a host probe's try comes to once its probe was sent
 abbrev pub probed : WorldState → ℕ → Sent → Tried (Option ℕ)
 probed before mapper probe = heard_by before mapper probe (probed_host probe.effects)
 
@@ -89,10 +93,12 @@ probed before mapper probe = heard_by before mapper probe (probed_host probe.eff
 unfoldable pub host_try : ℕ → List ℤ → WorldState → Tried (Option ℕ)
 host_try mapper walk w = probed w mapper (sends (step w (Ask mapper walk false)).1 mapper)
 
+-- the loopback probe of a number came back, where it was injected
 abbrev pub returned_in : ℕ → Option ℕ → List Effect → Bool
 returned_in mapper None xs = false
 returned_in mapper (Some n) xs = has_returned mapper n xs
 
+-- what a loopback probe's try comes to once it was sent
 abbrev pub looped_back : WorldState → ℕ → Sent → Tried Bool
 looped_back before mapper probe = record {
   found = returned_in mapper probe.number probe.effects;
@@ -117,9 +123,11 @@ abbrev pub tries_of : {A : Type 0} → (A → Bool) → A → (WorldState → Tr
 tries_of is_found nothing one zero w = record { found = nothing; harmed = true; world = w }
 tries_of is_found nothing one (suc k) w = or_further is_found (one w) (tries_of is_found nothing one k)
 
+-- at most so many tries of a host probe, up to the first that finds a host
 abbrev pub host_tries : ℕ → List ℤ → ℕ → WorldState → Tried (Option ℕ)
 host_tries mapper walk tries w = tries_of is_some None (host_try mapper walk) tries w
 
+-- at most so many tries of a loopback probe, up to the first that returns
 abbrev pub loop_tries : ℕ → List ℤ → ℕ → WorldState → Tried Bool
 loop_tries mapper walk tries w = tries_of (λ b. b) false (loop_try mapper walk) tries w
 
@@ -129,17 +137,21 @@ pub record Asked : Type 0 where
   pub drowned : Bool
   pub world : WorldState
 
+-- a walk whose loopback probe returned stands at a switch; else nothing was found
 abbrev pub loop_answer : Bool → Answer
 loop_answer true = Switch
 loop_answer false = Nothing
 
+-- what an ask comes to behind its loopback probes: it drowned where nothing was found, and a fault met every try of one of the two kinds
 abbrev pub asked_loops : Bool → Tried Bool → Asked
 asked_loops harmed t = record { answer = loop_answer t.found; drowned = not t.found && (harmed || t.harmed); world = t.world }
 
+-- what an ask comes to behind its host probes: a host, or what the loopback probes find
 abbrev pub asked_hosts : ℕ → List ℤ → ℕ → Bool → WorldState → Option ℕ → Asked
 asked_hosts mapper walk tries harmed w (Some h) = record { answer = Host h; drowned = false; world = w }
 asked_hosts mapper walk tries harmed w None = asked_loops harmed (loop_tries mapper walk tries w)
 
+-- what an ask comes to once its host probes were tried
 abbrev pub asked_by : ℕ → List ℤ → ℕ → Tried (Option ℕ) → Asked
 asked_by mapper walk tries t = asked_hosts mapper walk tries t.harmed t.world t.found
 

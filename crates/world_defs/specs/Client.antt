@@ -37,6 +37,7 @@ refused n c cause = record { said = Refused cause; node = n; client = c }
 abbrev pub left : NodeState → ℕ → Option PortState → Option ClientState → Said → Called
 left n port p c said = record { said = said; node = with_port n port p; client = c }
 
+-- a port that is open stays as it is; one that isn't opens with new tokens, all with the client
 abbrev pub begin_at : NodeState → ℕ → ℕ → ℕ → Option ClientState → Option PortState → Called
 begin_at n port sends recvs c (Some p) = refused n c Already
 begin_at n port sends recvs c None = left n port (Some (opened sends recvs)) (Some (new_client sends recvs)) Done
@@ -45,12 +46,14 @@ begin_at n port sends recvs c None = left n port (Some (opened sends recvs)) (So
 unfoldable pub begun : NodeState → ℕ → ℕ → ℕ → Option ClientState → Called
 begun n port sends recvs c = begin_at n port sends recvs c (port_at n port)
 
+-- an open port closes where no send is unfinished and no event waits: refused as busy first, then as unread
 abbrev pub close_at : NodeState → ℕ → Option ClientState → PortState → Called
 close_at n port c p =
     if nat_eq (unfinished p) 0
     then if nat_eq (unread p) 0 then left n port None None (Count (length p.provided)) else refused n c (Unread (unread p))
     else refused n c (Busy (unfinished p))
 
+-- a port that isn't open isn't closed
 abbrev pub close_open : NodeState → ℕ → Option ClientState → Option PortState → Called
 close_open n port c None = refused n c NotOpen
 close_open n port c (Some p) = close_at n port c p
@@ -63,12 +66,14 @@ closed n port c = close_open n port c (port_at n port)
 abbrev pub empty_buffer : ℕ → List ℕ
 empty_buffer size = replicate (room size) 0
 
+-- the client's first receive token is provided: refused where it holds none, and then for its size or priority
 abbrev pub provide_with : NodeState → ℕ → ℕ → ℕ → PortState → ClientState → List ℕ → Called
 provide_with n port size prio p c [] = refused n (Some c) NoToken
 provide_with n port size prio p c (t ∷ ts) =
     if is_bad_size size prio then refused n (Some c) BadSize
     else left n port (Some (provided_with p (record { token = t; size = size; prio = prio; buffer = empty_buffer size }))) (Some (record c { recvs = ts })) (Token t)
 
+-- a port that isn't open is provided with nothing
 abbrev pub provide_open : NodeState → ℕ → ℕ → ℕ → Option ClientState → Option PortState → Called
 provide_open n port size prio (Some c) (Some p) = provide_with n port size prio p c c.recvs
 provide_open n port size prio c _ = refused n c NotOpen
@@ -90,6 +95,7 @@ pub record Wanted : Type 0 where
   pub len : ℕ
   pub seed : ℕ
 
+-- the message that a client wants to send
 abbrev pub wanted_message : Wanted → Message
 wanted_message s = record { sport = s.port; dport = s.dport; prio = s.prio; body = client_bytes s.len s.seed }
 
@@ -107,14 +113,17 @@ send_refusal n s =
     else if is_spent (peer_at n s.dest).sender (piece_count s.len) then Some Spent
     else None
 
+-- a message is accepted where nothing refuses it
 abbrev pub send_unless : NodeState → Wanted → PortState → ClientState → ℕ → List ℕ → Option ClientCause → Called
 send_unless n s p c t ts (Some cause) = refused n (Some c) cause
 send_unless n s p c t ts None = send_accepted n s p c t ts
 
+-- the client's first send token sends: refused where it holds none, and then for the message
 abbrev pub send_with : NodeState → Wanted → PortState → ClientState → List ℕ → Called
 send_with n s p c [] = refused n (Some c) NoToken
 send_with n s p c (t ∷ ts) = send_unless n s p c t ts (send_refusal n s)
 
+-- a port that isn't open sends nothing
 abbrev pub send_open : NodeState → Wanted → Option ClientState → Option PortState → Called
 send_open n s (Some c) (Some p) = send_with n s p c c.sends
 send_open n s c _ = refused n c NotOpen
@@ -130,6 +139,7 @@ handed_out n port p c (Some (Sent t buffer)) = left n port (Some (polled p)) (So
 handed_out n port p c (Some (Received t buffer from sport prio len)) =
     left n port (Some (polled p)) (Some (record c { recvs = c.recvs ++ t ∷ [] })) (SaidReceived t from sport prio (take len buffer))
 
+-- a port that isn't open has no events
 abbrev pub poll_open : NodeState → ℕ → Option ClientState → Option PortState → Called
 poll_open n port (Some c) (Some p) = handed_out n port p c (next_event p)
 poll_open n port c _ = refused n c NotOpen

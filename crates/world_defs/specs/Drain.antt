@@ -58,6 +58,7 @@ resets_of w = map Reset (channels_of w)
 abbrev pub reset_count : List Effect × WorldState → ℕ × WorldState
 reset_count (xs, w) = (changes xs, w)
 
+-- the resets of a clear behind its drain
 abbrev pub clear_drained : List Effect × WorldState → ℕ × WorldState
 clear_drained (xs, w) = reset_count (steps w (resets_of w))
 

@@ -58,6 +58,7 @@ hear_mapping host hosts n (Loopback number mapper) = heard_if (nat_eq mapper hos
 hear_mapping host hosts n (Part p) = heard_if (is_part_for host hosts p) n (Routes, part_heard n p (applied n.table p))
 hear_mapping host hosts n (PartAck epoch from part) = heard_if (is_host hosts from) n (RoutesAck epoch from part, n)
 
+-- a body that isn't of the mapper's protocol is dropped
 abbrev pub hear_mapping_body : ℕ → ℕ → NodeState → Option MappingBody → Arrival × NodeState
 hear_mapping_body host hosts n None = (Dropped Malformed, n)
 hear_mapping_body host hosts n (Some body) = hear_mapping host hosts n body
@@ -71,6 +72,7 @@ port_takes (Some p) len prio = can_take p len prio
 abbrev pub message_of : FrameHead → List ℕ → Message
 message_of h part = record { sport = h.sport; dport = h.dport; prio = h.prio; body = part }
 
+-- what is heard of a frame, by what was made of it
 abbrev pub took_word : Took → Heard
 took_word TookNotNext = NotNext
 took_word TookNoToken = NoToken
@@ -82,6 +84,7 @@ delivered_after n h part TookNotNext = n
 delivered_after n h part TookNoToken = n
 delivered_after n h part Whole = with_port n h.dport (option_map (λ p. delivered p h part) (port_at n h.dport))
 
+-- what a host hears of a frame, and the host once its connection and its port took it
 abbrev pub frame_heard : NodeState → FrameHead → List ℕ → Took → Heard × NodeState
 frame_heard n h part t =
     (took_word t, delivered_after (with_peer n h.src (peer_after (peer_at n h.src) t (message_of h part))) h part t)
@@ -106,14 +109,17 @@ hear_gm host hosts n body (Frame h) =
     heard_if (nat_eq h.dst host && is_host hosts h.src) n (frame_heard n h (part_in body) (frame_took n h))
 hear_gm host hosts n body (Acknowledges a) = heard_if (nat_eq a.dst host && is_host hosts a.src) n (AckHeard, ack_heard n a)
 
+-- a body that is neither a frame nor an acknowledgement is dropped
 abbrev pub hear_gm_body : ℕ → ℕ → NodeState → List ℕ → Result GmBody NoBody → Arrival × NodeState
 hear_gm_body host hosts n body (Err e) = (Dropped Malformed, n)
 hear_gm_body host hosts n body (Ok b) = hear_gm host hosts n body b
 
+-- what a host makes of a body, by its kind
 abbrev pub hear_body : ℕ → ℕ → NodeState → Kind → List ℕ → Arrival × NodeState
 hear_body host hosts n Mapping body = hear_mapping_body host hosts n (decode_mapping body)
 hear_body host hosts n Gm body = hear_gm_body host hosts n body (decode body)
 
+-- what a host makes of a packet's body; of a packet that has none it makes a drop
 abbrev pub hear_decoded : ℕ → ℕ → NodeState → Result (Kind × List ℕ) HostDrop → Arrival × NodeState
 hear_decoded host hosts n (Err drop) = (Dropped drop, n)
 hear_decoded host hosts n (Ok (kind, body)) = hear_body host hosts n kind body

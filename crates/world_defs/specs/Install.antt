@@ -35,6 +35,7 @@ answered before mapper dst part sent answer = record {
 abbrev pub has_staged_answer : WorldState → ℕ → List Effect → Bool
 has_staged_answer w dst xs = has_part_come dst xs && is_some (node_at w dst).part_ack
 
+-- what a part's try comes to once the part was sent: its host answers where it took the part
 abbrev pub part_sent : WorldState → ℕ → ℕ → ℕ → Sent → Tried Bool
 part_sent before mapper dst part sent =
     if has_staged_answer sent.world dst sent.effects then answered before mapper dst part sent (sends sent.world dst)
@@ -44,6 +45,7 @@ part_sent before mapper dst part sent =
 unfoldable pub part_try : ℕ → ℕ → ℕ → WorldState → Tried Bool
 part_try mapper dst part w = part_sent w mapper dst part (sends (step w (Part dst part)).1 mapper)
 
+-- at most so many tries of a part, up to the first whose acknowledgement is heard
 abbrev pub part_tries : ℕ → ℕ → ℕ → ℕ → WorldState → Tried Bool
 part_tries mapper dst tries part w = tries_of (λ b. b) false (part_try mapper dst part) tries w
 

@@ -57,6 +57,7 @@ new_node hosts = record {
 abbrev pub peer_at : NodeState → ℕ → PeerState
 peer_at n peer = slice_index_or n.peers peer new_peer
 
+-- the host with these connections with a peer
 abbrev pub with_peer : NodeState → ℕ → PeerState → NodeState
 with_peer n peer p = record n { peers = slice_set n.peers peer p }
 
@@ -64,6 +65,7 @@ with_peer n peer p = record n { peers = slice_set n.peers peer p }
 abbrev pub port_at : NodeState → ℕ → Option PortState
 port_at n port = slice_index_or n.ports port None
 
+-- the host with this port, open or not
 abbrev pub with_port : NodeState → ℕ → Option PortState → NodeState
 with_port n port p = record n { ports = slice_set n.ports port p }
 
@@ -80,6 +82,7 @@ pub data Outgoing : Type 0 where
   FrameAnswer : (peer next : ℕ) → (by : List ℤ) → Outgoing
   Fragment : (peer : ℕ) → (head : FrameHead) → (part : List ℕ) → (by : List ℤ) → Outgoing
 
+-- a staged probe or part as what is sent
 abbrev pub outgoing_staged : Staged → Outgoing
 outgoing_staged (StagedProbe walk looped) = Probe walk looped
 outgoing_staged (StagedPart part by) = TablePart part by

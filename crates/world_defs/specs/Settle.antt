@@ -13,6 +13,7 @@ use Rattle.world_defs.specs.Drain.{changes, clear}
 abbrev pub unacknowledged_from : WorldState → ℕ → ℕ
 unacknowledged_from w h = sum_of (map (unacknowledged_to (node_at w h)) (addresses w))
 
+-- how many fragments aren't acknowledged, over all hosts
 abbrev pub unacknowledged_in : WorldState → ℕ
 unacknowledged_in w = sum_of (map (unacknowledged_from w) (addresses w))
 
@@ -20,6 +21,7 @@ unacknowledged_in w = sum_of (map (unacknowledged_from w) (addresses w))
 abbrev pub expiries_of : WorldState → ℕ → List Event
 expiries_of w h = map (Expire h) (filter (λ p. nat_lt 0 (unacknowledged_to (node_at w h) p)) (addresses w))
 
+-- the expiries of these hosts, in order
 abbrev pub expiries_of_all : WorldState → List ℕ → List Event
 expiries_of_all w [] = []
 expiries_of_all w (h ∷ hs) = expiries_of w h ++ expiries_of_all w hs
@@ -68,6 +70,7 @@ is_quiet w = list_all (λ h. is_none (to_send h (node_at w h))) (addresses w) &&
 abbrev pub is_last_pass : Stretch → Bool
 is_last_pass s = is_quiet s.world || nat_eq s.moves 0
 
+-- a pass, and those behind it where it isn't the last
 abbrev pub pass_or_more : Stretch → (WorldState → Stretch) → Stretch
 pass_or_more s rest = if is_last_pass s then s else going_on s rest
 
@@ -106,12 +109,15 @@ pub record Rounds : Type 0 where
   pub resets : ℕ
   pub world : WorldState
 
+-- a round alone
 abbrev pub one_round : Stretch → Rounds
 one_round s = record { rounds = 1; resets = s.resets; world = s.world }
 
+-- a round, and those behind it
 abbrev pub after_round : Stretch → Rounds → Rounds
 after_round s r = record { rounds = r.rounds + 1; resets = s.resets + r.resets; world = r.world }
 
+-- a round, and those behind it where it isn't the last
 abbrev pub round_or_more : WorldState → Stretch → (WorldState → Rounds) → Rounds
 round_or_more before s rest = if is_last_round before s.world then one_round s else after_round s (rest s.world)
 
@@ -128,6 +134,7 @@ round_bound w = unacknowledged_in w + length w.plan + 1
 abbrev pub behind_clear : ℕ → Rounds → Rounds
 behind_clear resets r = record r { resets = resets + r.resets }
 
+-- the rounds of a settle behind its clear
 abbrev pub settle_cleared : ℕ × WorldState → Rounds
 settle_cleared (resets, w) = behind_clear resets (rounds_of (round_bound w) w)
 

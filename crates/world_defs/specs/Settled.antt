@@ -28,5 +28,6 @@ pub data IsSettledPair (w : WorldState) (a b : ℕ) : Type 0 where
   no_table : active_epoch (node_at w b).table ≡ None → IsSettledPair w a b
   waiting : IsWaiting w a b → IsSettledPair w a b
 
+-- A world is settled where each connection of each two hosts is.
 pub record IsSettled (w : WorldState) : Type 0 where
   pub pairs : (a b : ℕ) → a < host_count w → b < host_count w → IsSettledPair w a b

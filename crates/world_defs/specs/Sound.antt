@@ -12,6 +12,7 @@ use Rattle.world_defs.specs.Client.{ClientState}
 use Rattle.world_defs.specs.World.{WorldState, fabric_of, node_at, client_at, addresses}
 use Rattle.world_defs.specs.Traffic.{sent_between, got_between}
 
+-- the routes of an active table; none without one
 abbrev pub entries_in : Option ActiveTable → List RouteEntry
 entries_in None = []
 entries_in (Some t) = t.entries
@@ -20,6 +21,7 @@ entries_in (Some t) = t.entries
 abbrev pub channels_from : WorldState → ℕ → List (List ℕ)
 channels_from w h = map (λ e. channels_of (fabric_of w) h e.walk) (entries_in (node_at w h).table.active)
 
+-- the channels of each installed route of these hosts
 abbrev pub channels_from_all : WorldState → List ℕ → List (List ℕ)
 channels_from_all w [] = []
 channels_from_all w (h ∷ hs) = channels_from w h ++ channels_from_all w hs

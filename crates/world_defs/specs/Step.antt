@@ -35,30 +35,38 @@ abbrev pub of_links : WorldState → Effect → Bool × LinkState → Effect × 
 of_links w effect (true, l) = (effect, with_links w l)
 of_links w effect (false, l) = (Idle, w)
 
+-- an event that copies or takes a packet into limbo: idle where it isn't possible
 abbrev pub of_limbo : WorldState → (ℕ → Effect) → Option ℕ × LinkState → Effect × WorldState
 of_limbo w effect (Some serial, l) = (effect serial, with_links w l)
 of_limbo w effect (None, l) = (Idle, w)
 
+-- a replay: idle where the packet's channel is full, or nothing stands under the serial
 abbrev pub of_replay : WorldState → Replayed × LinkState → Effect × WorldState
 of_replay w (Back c, l) = (ReplayedTo c, with_links w l)
 of_replay w (Busy c, l) = (Idle, w)
 of_replay w (Unknown, l) = (Idle, w)
 
+-- a channel's packet is lost
 unfoldable pub lost : WorldState → ℕ → Effect × WorldState
 lost w c = of_links w Lost (lose w.links c)
 
+-- a channel's packet is taken away by a reset
 unfoldable pub was_reset : WorldState → ℕ → Effect × WorldState
 was_reset w c = of_links w WasReset (reset w.links c)
 
+-- a copy of a channel's packet goes to limbo
 unfoldable pub repeated : WorldState → ℕ → Effect × WorldState
 repeated w c = of_limbo w Repeated (repeat w.links c)
 
+-- a channel's packet goes to limbo
 unfoldable pub held : WorldState → ℕ → Effect × WorldState
 held w c = of_limbo w Held (hold w.links c)
 
+-- eight bits of a channel's packet are flipped by a pattern
 unfoldable pub flipped : WorldState → ℕ → ℕ → ℕ → Effect × WorldState
 flipped w c bit pattern = of_links w Flipped (flip w.links c bit pattern)
 
+-- a packet in limbo comes back to its channel
 unfoldable pub replayed : WorldState → ℕ → Effect × WorldState
 replayed w serial = of_replay w (replay w.links serial)
 
@@ -71,6 +79,7 @@ abbrev pub stage_at : WorldState → ℕ → Option RoutePart → Option (List �
 stage_at w mapper (Some p) (Some by) = (Staged, with_node w mapper (record (node_at w mapper) { staged = Some (StagedPart p by) }))
 stage_at w mapper _ _ = (Idle, w)
 
+-- no part is staged where no routes are adopted
 abbrev pub stage_part : WorldState → ℕ → ℕ → Option Adoption → Effect × WorldState
 stage_part w dst part None = (Idle, w)
 stage_part w dst part (Some a) = stage_at w a.mapper (part_for a dst part) (route_of a.routes a.mapper dst)
@@ -103,6 +112,7 @@ abbrev pub fault_strikes : WorldState → ℕ → Option Fault → WorldState
 fault_strikes w c None = w
 fault_strikes w c (Some f) = struck_by (record w { plan = without_fault w.injected w.plan }) f (fault_on w.links c f)
 
+-- the fault that is planned for the last injection strikes the packet in this channel
 unfoldable pub planned_strikes : WorldState → ℕ → WorldState
 planned_strikes w c = fault_strikes w c (lookup (nat_eq w.injected) w.plan)
 
@@ -114,12 +124,14 @@ sent_out w h c out = record w {
   injected = w.injected + 1;
 }
 
+-- an injection into a channel: idle where there is nothing to send, where the channel is full, or where no injection is left
 abbrev pub inject_one : WorldState → ℕ → ℕ → Option Outgoing → Effect × WorldState
 inject_one w h c None = (Idle, w)
 inject_one w h c (Some out) =
     if is_some (packet_in w.links c) || nat_le last_count w.injected then (Idle, w)
     else (Injected (w.injected + 1), planned_strikes (sent_out w h c out) c)
 
+-- an injection is idle where the host has no cable
 abbrev pub inject_into : WorldState → ℕ → Option ℕ → Effect × WorldState
 inject_into w h None = (Idle, w)
 inject_into w h (Some c) = inject_one w h c (to_send h (node_at w h))
@@ -128,11 +140,13 @@ inject_into w h (Some c) = inject_one w h c (to_send h (node_at w h))
 unfoldable pub injected : WorldState → ℕ → Effect × WorldState
 injected w h = inject_into w h (channel_from (fabric_of w) (host_port h))
 
+-- why a switch dropped a packet
 abbrev pub cause_at_switch : Why → Cause
 cause_at_switch AwayOutOfRange = OutOfRange
 cause_at_switch AwayNotRoute = NotRoute
 cause_at_switch AwayNoCable = NoCable
 
+-- why a host dropped a packet
 abbrev pub cause_at_host : HostDrop → Cause
 cause_at_host HostBadCrc = BadCrc
 cause_at_host HostRouteLeft = RouteLeft
@@ -145,6 +159,7 @@ arrived w h (Hears heard, n) = (Arrived h heard, with_node w h n)
 arrived w h (HostDropped drop, n) = (Dropped (cause_at_host drop), with_drop (with_node w h n))
 arrived w h (ArrivalNotMine, n) = (Dropped NotMine, with_drop (with_node w h n))
 
+-- what an advance of the links is in the world: a packet that reaches a host is heard, and one that is dropped is counted
 abbrev pub advanced_by : WorldState → Moved (List ℕ) × LinkState → Effect × WorldState
 advanced_by w (To next, l) = (MovedTo next, with_links w l)
 advanced_by w (AtHost h wire, l) = arrived (with_links w l) h (hear h (host_count w) (node_at w h) wire)
@@ -169,6 +184,7 @@ gave_up w h = if has_staged (node_at w h) then (GaveUp, with_node w h (given_up 
 abbrev pub of_call : WorldState → ℕ → ℕ → Called → Effect × WorldState
 of_call w h port call = (Said call.said, with_client (with_node w h call.node) h port call.client)
 
+-- what a client wants to send, by its parts
 abbrev pub wanted : ℕ → ℕ → ℕ → ℕ → ℕ → ℕ → Wanted
 wanted port dest dport prio len seed = record { port = port; dest = dest; dport = dport; prio = prio; len = len; seed = seed }
 

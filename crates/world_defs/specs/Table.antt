@@ -94,6 +94,7 @@ abbrev pub joined_below : ℕ → List (ℕ × List RouteEntry) → Option (List
 joined_below zero ps = Some []
 joined_below (suc n) ps = option_and_then (λ front. option_map (λ entries. front ++ entries) (lookup (nat_eq n) ps)) (joined_below n ps)
 
+-- an active table is of this epoch
 abbrev pub is_epoch : ℕ → Option ℕ → Bool
 is_epoch epoch None = false
 is_epoch epoch (Some other) = nat_eq epoch other
@@ -107,9 +108,11 @@ abbrev pub joined_or : TableState → Option (List RouteEntry) → Applied × Ta
 joined_or t None = (Part, t)
 joined_or t (Some entries) = (Active, record t { collected = []; active = Some (record { epoch = t.epoch; entries = entries }) })
 
+-- the table that has collected a part more
 abbrev pub collected_with : TableState → RoutePart → TableState
 collected_with t p = record t { collected = with_part p.part p.entries t.collected }
 
+-- what a host makes of its collected parts, once one came that says how many there are
 abbrev pub joined : ℕ → TableState → Applied × TableState
 joined parts t = joined_or t (joined_below parts t.collected)
 

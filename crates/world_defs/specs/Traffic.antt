@@ -19,6 +19,7 @@ use Rattle.world_defs.specs.Table.{Adoption}
 use Rattle.world_defs.specs.Node.{peer_at}
 use Rattle.world_defs.specs.World.{WorldState, fabric_of, node_at}
 
+-- the routes of an adopted set; none where nothing is adopted
 abbrev pub routes_in : Option Adoption → List Route
 routes_in None = []
 routes_in (Some a) = a.routes
@@ -27,6 +28,7 @@ routes_in (Some a) = a.routes
 abbrev pub adopted_routes : WorldState → List Route
 adopted_routes w = routes_in w.adopted
 
+-- a byte's turn and those behind it; none where the byte has none
 abbrev pub front_turn_then : Option ℤ → List ℤ → List ℤ
 front_turn_then None turns = []
 front_turn_then (Some turn) turns = turn ∷ turns

@@ -55,9 +55,11 @@ counted n = min (n + 1) last_count
 abbrev pub node_at : WorldState → ℕ → NodeState
 node_at w h = slice_index_or w.nodes h (new_node 0)
 
+-- the world with this host at an address
 abbrev pub with_node : WorldState → ℕ → NodeState → WorldState
 with_node w h n = record w { nodes = slice_set w.nodes h n }
 
+-- the world with these links
 abbrev pub with_links : WorldState → LinkState → WorldState
 with_links w l = record w { links = l }
 
@@ -65,6 +67,7 @@ with_links w l = record w { links = l }
 abbrev pub client_at : WorldState → ℕ → ℕ → Option ClientState
 client_at w h port = slice_index_or (slice_index_or w.clients h []) port None
 
+-- the world with this client of a host's port, or without one
 abbrev pub with_client : WorldState → ℕ → ℕ → Option ClientState → WorldState
 with_client w h port c = record w { clients = slice_set w.clients h (slice_set (slice_index_or w.clients h []) port c) }
 
@@ -90,6 +93,7 @@ adopted_by w mapper routes =
 abbrev pub addresses : WorldState → List ℕ
 addresses w = range_with_len 0 (host_count w)
 
+-- the sum of numbers
 abbrev pub sum_of : List ℕ → ℕ
 sum_of [] = 0
 sum_of (x ∷ xs) = x + sum_of xs

@@ -22,10 +22,11 @@ drops_after before _ = before
 abbrev pub InjectionsAreNumbered : Type 0
 InjectionsAreNumbered = (w : WorldState) (e : Event) (number : ℕ) → (step w e).0 ≡ Injected number → number ≡ w.injected + 1
 
--- the counts go up with the effects, and not else
+-- the injections go up by one where a packet was injected, and else stay
 abbrev pub InjectionsAreCounted : Type 0
 InjectionsAreCounted = (w : WorldState) (e : Event) → (step w e).1.injected ≡ w.injected + injections (step w e).0
 
+-- the drops go up by one where a packet was dropped, and else stay
 abbrev pub DropsAreCounted : Type 0
 DropsAreCounted = (w : WorldState) (e : Event) → (step w e).1.dropped ≡ drops_after w.dropped (step w e).0
 
@@ -37,6 +38,7 @@ pub record IsStruck (w v : WorldState) (most : ℕ) : Type 0 where
   pub harms_struck : v.harmed + w.struck ≤ v.struck + w.harmed
   pub planned : v.struck + length v.plan ≤ w.struck + length w.plan
 
+-- planned faults strike at injections alone, one for each at most
 abbrev pub StrikesAreOfInjections : Type 0
 StrikesAreOfInjections = (w : WorldState) (e : Event) → IsStruck w (step w e).1 (injections (step w e).0)
 

@@ -17,7 +17,7 @@ AdvanceOfLinks = (w : WorldState) (c : ℕ) → (step w (Advance c)).1.links ≡
 abbrev pub DrainDrains : Type 0
 DrainDrains = (w : WorldState) → Drains w (drain w).0 (drain w).1
 
--- and no other effects and no other world are
+-- no other effects and no other world are a drain of the same world
 abbrev pub DrainsAreOne : Type 0
 DrainsAreOne = (w u v : WorldState) (xs ys : List Effect) → Drains w xs u → Drains w ys v → (xs ≡ ys) × (u ≡ v)
 
@@ -25,7 +25,7 @@ DrainsAreOne = (w u v : WorldState) (xs ys : List Effect) → Drains w xs u → 
 abbrev pub ChangesAreHops : Type 0
 ChangesAreHops = (w : WorldState) → changes (drain w).0 ≤ total_hops w.links
 
--- after it the links are idle or stuck
+-- after a drain the links are idle or stuck
 abbrev pub DrainedIsStill : Type 0
 DrainedIsStill = (w : WorldState) → (is_idle (drain w).1.links ≡ true) ⊎ (is_stuck (drain w).1.links ≡ true)
 
@@ -39,14 +39,15 @@ full_count (Some held ∷ ps) = 1 + full_count ps
 abbrev pub ClearedIsIdle : Type 0
 ClearedIsIdle = (w : WorldState) → is_idle (clear w).1.links ≡ true
 
--- and each channel that held a packet after the drain was reset, and no other
+-- a clear resets each channel that held a packet after the drain, and no other
 abbrev pub ResetsAreFull : Type 0
 ResetsAreFull = (w : WorldState) → (clear w).0 ≡ full_count (drain w).1.links.channels
 
--- where the links are idle, a drain and a clear do nothing
+-- where the links are idle, a drain does nothing
 abbrev pub IdleIsDrained : Type 0
 IdleIsDrained = (w : WorldState) → is_idle w.links ≡ true → drain w ≡ ([], w)
 
+-- where the links are idle, a clear does nothing
 abbrev pub IdleIsCleared : Type 0
 IdleIsCleared = (w : WorldState) → is_idle w.links ≡ true → clear w ≡ (0, w)
 

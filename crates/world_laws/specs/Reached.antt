@@ -16,13 +16,13 @@ abbrev pub IsOfDrain : Event → Type 0
 IsOfDrain (Advance c) = Unit {0}
 IsOfDrain _ = ⊥
 
--- of a clear
+-- the events of a clear
 abbrev pub IsOfClear : Event → Type 0
 IsOfClear (Advance c) = Unit {0}
 IsOfClear (Reset c) = Unit {0}
 IsOfClear _ = ⊥
 
--- of a settle: a client's call is none, nor is a fault, nor is what stages a probe or a part
+-- the events of a settle: a client's call is none, nor is a fault, nor is what stages a probe or a part
 abbrev pub IsOfSettle : Event → Type 0
 IsOfSettle (Advance c) = Unit {0}
 IsOfSettle (Reset c) = Unit {0}
@@ -38,15 +38,19 @@ pub record IsReachedBy (kind : Event → Type 0) (w v : WorldState) : Type 0 whe
   pub kinds : AllByRecursion kind events
   pub there : v ≡ after_all w events
 
+-- a drain is advances in a row
 abbrev pub DrainIsEvents : Type 0
 DrainIsEvents = (w : WorldState) → IsReachedBy IsOfDrain w (drain w).1
 
+-- a clear is advances and resets in a row
 abbrev pub ClearIsEvents : Type 0
 ClearIsEvents = (w : WorldState) → IsReachedBy IsOfClear w (clear w).1
 
+-- a settle is events of a settle in a row
 abbrev pub SettleIsEvents : Type 0
 SettleIsEvents = (w : WorldState) → IsReachedBy IsOfSettle w (settle w).world
 
+-- and so is whatever has the rounds and passes of one
 abbrev pub SettlesIsEvents : Type 0
 SettlesIsEvents = (w : WorldState) (r : Rounds) → Settles w r → IsReachedBy IsOfSettle w r.world
 
@@ -61,12 +65,14 @@ pub record IsKept (w v : WorldState) : Type 0 where
   pub world : IsWorld w → IsWorld v
   pub senders : HasSenders w → HasSenders v
 
--- so a drain, a clear and a settle keep them
+-- a drain keeps them
 abbrev pub DrainKeeps : Type 0
 DrainKeeps = (w : WorldState) → IsKept w (drain w).1
 
+-- so does a clear
 abbrev pub ClearKeeps : Type 0
 ClearKeeps = (w : WorldState) → IsKept w (clear w).1
 
+-- so does a settle
 abbrev pub SettleKeeps : Type 0
 SettleKeeps = (w : WorldState) → IsKept w (settle w).world

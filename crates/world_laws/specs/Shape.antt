@@ -41,35 +41,42 @@ NewIsWorld = (n : Network) → IsWorld (new_world n)
 abbrev pub EventLeavesWorld : Type 0
 EventLeavesWorld = (w : WorldState) (e : Event) → IsWorld w → IsWorld (step w e).1
 
+-- so does every list of events
 abbrev pub EventsLeaveWorld : Type 0
 EventsLeaveWorld = (w : WorldState) (es : List Event) → IsWorld w → IsWorld (after_all w es)
 
--- and the fabric stays
+-- every event leaves the fabric as it is
 abbrev pub EventKeepsFabric : Type 0
 EventKeepsFabric = (w : WorldState) (e : Event) → fabric_of (step w e).1 ≡ fabric_of w
 
+-- after every list of events too
 abbrev pub EventsKeepFabric : Type 0
 EventsKeepFabric = (w : WorldState) (es : List Event) → fabric_of (after_all w es) ≡ fabric_of w
 
--- and the numbers of each connection stay in order
+-- the numbers of each connection are in order before anything happened
 abbrev pub NewHasSenders : Type 0
 NewHasSenders = (n : Network) → HasSenders (new_world n)
 
+-- an event keeps the numbers of each connection in order
 abbrev pub EventKeepsSenders : Type 0
 EventKeepsSenders = (w : WorldState) (e : Event) → HasSenders w → HasSenders (step w e).1
 
+-- so does every list of events
 abbrev pub EventsKeepSenders : Type 0
 EventsKeepSenders = (w : WorldState) (es : List Event) → HasSenders w → HasSenders (after_all w es)
 
--- the adoption of routes and the plan of a fault leave a world too, of the same fabric, with the numbers of each connection in order
+-- the adoption of routes leaves a world
 abbrev pub AdoptionLeavesWorld : Type 0
 AdoptionLeavesWorld = (w : WorldState) (mapper : ℕ) (routes : List Route) → IsWorld w → IsWorld (adopted_by w mapper routes)
 
+-- so does the plan of a fault
 abbrev pub PlanLeavesWorld : Type 0
 PlanLeavesWorld = (w : WorldState) (ahead : ℕ) (fault : Fault) → IsWorld w → IsWorld (planned w ahead fault).1
 
+-- an adoption keeps the numbers of each connection in order
 abbrev pub AdoptionKeepsSenders : Type 0
 AdoptionKeepsSenders = (w : WorldState) (mapper : ℕ) (routes : List Route) → HasSenders w → HasSenders (adopted_by w mapper routes)
 
+-- so does a plan
 abbrev pub PlanKeepsSenders : Type 0
 PlanKeepsSenders = (w : WorldState) (ahead : ℕ) (fault : Fault) → HasSenders w → HasSenders (planned w ahead fault).1

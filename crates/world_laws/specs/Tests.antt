@@ -11,6 +11,7 @@ pub record IsQuiet (w : WorldState) : Type 0 where
   pub empty_limbo : w.links.limbo ≡ []
   pub nothing_to_send : (h : ℕ) → h < host_count w → to_send h (node_at w h) ≡ None
 
+-- the test of a pass: the world is quiet behind it
 abbrev pub QuietTest : Type 0
 QuietTest = (w : WorldState) → is_quiet w ≡ true ↔ IsQuiet w
 
@@ -22,6 +23,7 @@ pub record BaseRose (before w : WorldState) : Type 0 where
   pub is_peer : peer < host_count w
   pub rose : base_of before host peer < base_of w host peer
 
+-- the test of a round: a base rose in it
 abbrev pub BaseTest : Type 0
 BaseTest = (before w : WorldState) → base_rose before w ≡ true ↔ BaseRose before w
 
@@ -29,9 +31,10 @@ BaseTest = (before w : WorldState) → base_rose before w ≡ true ↔ BaseRose 
 abbrev pub IsAllAcknowledged : WorldState → Type 0
 IsAllAcknowledged w = (h peer : ℕ) → h < host_count w → peer < host_count w → unacknowledged_to (node_at w h) peer ≡ 0
 
+-- the test of the last round: nothing is left to acknowledge behind it
 abbrev pub NoneLeftTest : Type 0
 NoneLeftTest = (w : WorldState) → unacknowledged_in w ≡ 0 ↔ IsAllAcknowledged w
 
--- then, where the numbers of the connections are in order, the world is settled
+-- where nothing is left to acknowledge, and the numbers of the connections are in order, the world is settled
 abbrev pub NoneLeftIsSettled : Type 0
 NoneLeftIsSettled = (w : WorldState) → HasSenders w → unacknowledged_in w ≡ 0 → IsSettled w
