@@ -1,21 +1,30 @@
 -- Sessions over the two hosts at one switch, for worked examples.
-use Rattle.std.specs.Prelude.{ℕ, pos, true, List, [], ◌∷◌, ◌++◌, Option, Some, None, flat_map}
+use Rattle.std.specs.Prelude.{ℕ, pos, true, List, [], ◌∷◌, ◌++◌, map, Option, Some, None, flat_map}
 use Rattle.net_defs.specs.Examples.{two_hosts, host_end, switch_end}
+use Rattle.journal_defs.specs.Examples.{two_hosts_journal}
 use Rattle.map_defs.specs.declared.vertex.MapVertex.TheVariants.{Host, Switch}
 use Rattle.map_defs.specs.NetMap.{NetMap}
-use Rattle.world_defs.specs.World.{fabric_of}
+use Rattle.world_defs.specs.declared.event.Event.TheVariants.{Inject as InjectEvent}
+use Rattle.world_defs.specs.declared.fault.Fault.TheVariants.{Lose as LoseFault}
+use Rattle.world_defs.specs.World.{WorldState, fabric_of, new_world, planned}
 use Rattle.world_defs.specs.Examples.{setup, setup_routes}
 use Rattle.run_defs.specs.declared.command.Command.{Command}
 use Rattle.run_defs.specs.declared.command.Command.TheVariants.{Map, Routes, Install, Begin, Close, Poll, Tokens, Provide, Send, Step, Settle, Finish}
 use Rattle.run_defs.specs.declared.command.StepLine.TheVariants.{Inject, Advance, Lose}
+use Rattle.run_defs.specs.declared.line.MapWords.TheVariants.{Complete}
+use Rattle.run_defs.specs.declared.line.Line.TheVariants.{Map as MapLine, Finish as FinishLine}
+use Rattle.run_defs.specs.Output.{Piece, OneLine, MapLines}
 use Rattle.run_defs.specs.LineText.{output_text}
 use Rattle.run_defs.specs.Session.{SessionState, new_session}
 use Rattle.run_defs.specs.Outcome.{Outcome, outcome}
+use Rattle.run_defs.specs.Mapped.{asked_all}
+use Rattle.run_defs.specs.Headline.{Act, Happens, Plans, Adopts}
 
 -- a text of these lines
 abbrev pub text_of : List (List ℕ) → List ℕ
 text_of ls = flat_map (λ l. l ++ 10 ∷ []) ls
 
+-- a determined command's text, and then the text of what follows in the session after it; nothing where it isn't determined
 abbrev pub text_then : Option Outcome → (SessionState → List ℕ) → List ℕ
 text_then None rest = []
 text_then (Some o) rest = output_text (fabric_of o.after.world) o.output ++ rest o.after
@@ -25,6 +34,7 @@ abbrev pub printed : List Command → SessionState → List ℕ
 printed [] s = []
 printed (c ∷ cs) s = text_then (outcome s c) (printed cs)
 
+-- the session of the two hosts at one switch before any command
 abbrev pub fresh : SessionState
 fresh = new_session two_hosts
 
@@ -59,3 +69,27 @@ single_events =
     ∷ Step (Inject 0) ∷ Step (Advance (host_end 0)) ∷ Step (Inject 0) ∷ Step (Inject 0) ∷ Step (Advance (host_end 0)) ∷ Map 0 4 1
     ∷ Step (Advance (switch_end 0 5)) ∷ Step (Advance (host_end 0)) ∷ Step (Lose (switch_end 0 5)) ∷ Step (Lose (switch_end 0 7)) ∷ Settle
     ∷ Poll 1 1 ∷ Poll 1 1 ∷ Finish ∷ []
+
+-- the world behind the asks of a map, from the first host on
+abbrev pub mapped_world : WorldState
+mapped_world = (asked_all 0 1 (map (λ e. e.walk) two_hosts_journal) (new_world two_hosts)).world
+
+-- a script of one map
+abbrev pub mapping : List Command
+mapping = Map 0 4 1 ∷ Finish ∷ []
+
+-- what it prints: 31 asks, 62 packets of which 59 are dropped
+abbrev pub mapping_output : List Piece
+mapping_output = OneLine (MapLine 0 Complete 31 62) ∷ MapLines setup_map ∷ OneLine (FinishLine 62 59) ∷ []
+
+-- the session behind it
+abbrev pub mapped_session : SessionState
+mapped_session = record { world = mapped_world; last_map = Some (record { mapper = 0; words = Complete; made = setup_map }); last_routes = None }
+
+-- the first world, with a fault planned for the first injection
+abbrev pub doubtful_world : WorldState
+doubtful_world = (planned (new_world two_hosts) 1 LoseFault).1
+
+-- the routes of the two hosts are adopted between a plan and an event
+abbrev pub adopting : List Act
+adopting = Plans 1 LoseFault ∷ Adopts 0 setup_routes ∷ Happens (InjectEvent 0) ∷ []

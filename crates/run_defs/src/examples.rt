@@ -14,7 +14,12 @@ ghost use Rattle.run_defs.specs.declared.command.PlanKind.{PlanKind};
 ghost use Rattle.run_defs.specs.declared.command.StepLine.{StepLine};
 ghost use Rattle.run_defs.specs.Script.{command_of, script_reading};
 ghost use Rattle.run_defs.specs.LineText.{line_text, map_text};
-ghost use Rattle.run_defs.specs.Examples.{text_of, printed, fresh, installed_session, setup_map, refused_calls, closing, single_events};
+ghost use Rattle.journal_defs.specs.Examples.{two_hosts_journal};
+ghost use Rattle.world_defs.specs.World.{new_world};
+ghost use Rattle.run_defs.specs.Mapped.{IsMapped};
+ghost use Rattle.run_defs.specs.Run.{IsRun};
+ghost use Rattle.run_defs.specs.Headline.{HasPrinted, IsQuiet, MayActAll};
+ghost use Rattle.run_defs.specs.Examples.{mapped_world, mapping, mapping_output, mapped_session, doubtful_world, adopting, text_of, printed, fresh, installed_session, setup_map, refused_calls, closing, single_events};
 
 /// The texts of some lines.
 #[tactic(auto, using(crate::proofs::Reports::line_at_a_switch, crate::proofs::Reports::line_doubtful, crate::proofs::Reports::line_route, crate::proofs::Reports::line_empty_message, crate::proofs::Reports::line_message))]
@@ -72,4 +77,21 @@ pub fn whole_scripts()
     ensures no_end { script_reading two_hosts 8 (codes "routes" ++ 10 ∷ []) ≡ Err record { line = 10; kind = FaultKind.NoEnd } }
     ensures after_end { script_reading two_hosts 8 (codes "end" ++ 10 ∷ codes "end" ++ 10 ∷ []) ≡ Err record { line = 10; kind = FaultKind.AfterEnd } }
     ensures first_fault { script_reading two_hosts 8 (codes "routes 1" ++ 10 ∷ codes "map" ++ 10 ∷ []) ≡ Err record { line = 9; kind = FaultKind.BadWord } }
+{}
+
+/// Two hosts at a switch are mapped by 31 asks with 62 packets: the map says complete, and can't say that it wants depth.
+#[tactic(auto, using(crate::proofs::Mapping::two_hosts_mapped, crate::proofs::Mapping::not_called_shallow, crate::proofs::Mapping::mapping_runs, crate::proofs::Mapping::map_is_printed))]
+pub fn map_of_the_two_hosts()
+    ensures mapped { IsMapped 0 4 1 (new_world two_hosts) mapped_world two_hosts_journal setup_map MapWords.Complete }
+    ensures not_shallow { ¬ IsMapped 0 4 1 (new_world two_hosts) mapped_world two_hosts_journal setup_map MapWords.IncompleteDepth }
+    ensures run { IsRun two_hosts mapping mapping_output mapped_session }
+    ensures printed { HasPrinted mapping_output 0 setup_map }
+{}
+
+/// That map met a quiet fabric, which a fault planned for its first packet would not be. The routes of the map may be adopted.
+#[tactic(auto, using(crate::proofs::Mapping::first_is_quiet, crate::proofs::Mapping::planned_is_not_quiet, crate::proofs::Mapping::acts_may_happen))]
+pub fn quiet_fabrics_and_acts()
+    ensures quiet { IsQuiet 0 (new_world two_hosts) mapped_world }
+    ensures planned { ¬ IsQuiet 0 doubtful_world mapped_world }
+    ensures acts { MayActAll (new_world two_hosts) adopting }
 {}

@@ -1,19 +1,24 @@
 -- Worlds for worked examples: the two hosts at one switch, mapped, routed and set up.
-use Rattle.std.specs.Prelude.{ℕ, ℤ, pos, negsuc, List, [], ◌∷◌, ◌++◌, map}
+use Rattle.std.specs.Prelude.{ℕ, ℤ, pos, negsuc, false, List, [], ◌∷◌, ◌++◌, map, codes}
 use Rattle.std.specs.List.{range_with_len}
 use Rattle.net_defs.specs.declared.place.Answer.{Answer}
 use Rattle.net_defs.specs.declared.route.Route.{Route}
 use Rattle.net_defs.specs.Examples.{two_hosts}
+use Rattle.link_defs.specs.Links.{Held}
+use Rattle.gm_defs.specs.Body.{frame_bytes}
+use Rattle.gm_defs.specs.Examples.{message, abc}
 use Rattle.world_defs.specs.declared.event.Event.{Event}
-use Rattle.world_defs.specs.declared.event.Event.TheVariants.{Inject, Advance, Lose as LoseEvent, Begin, Provide, Send, Poll}
+use Rattle.world_defs.specs.declared.event.Event.TheVariants.{Inject, Advance, Lose as LoseEvent, Flip as FlipEvent, Begin, Provide, Send, Poll}
 use Rattle.world_defs.specs.declared.effect.Effect.{Effect}
 use Rattle.world_defs.specs.declared.effect.Effect.TheVariants.{Said}
 use Rattle.world_defs.specs.declared.effect.Said.TheVariants.{Received}
 use Rattle.world_defs.specs.declared.fault.Fault.{Fault}
 use Rattle.world_defs.specs.declared.fault.Fault.TheVariants.{Lose, Repeat, Hold, Flip}
 use Rattle.world_defs.specs.Table.{Adoption}
-use Rattle.world_defs.specs.World.{WorldState, new_world, adopted_by, planned}
-use Rattle.world_defs.specs.Step.{step, steps}
+use Rattle.world_defs.specs.Peer.{new_peer}
+use Rattle.world_defs.specs.Node.{with_peer}
+use Rattle.world_defs.specs.World.{WorldState, new_world, node_at, with_node, adopted_by, planned}
+use Rattle.world_defs.specs.Step.{step, steps, after_all}
 use Rattle.world_defs.specs.Asking.{Asked, ask}
 use Rattle.world_defs.specs.Install.{installed}
 use Rattle.world_defs.specs.Settle.{Rounds, settle}
@@ -26,6 +31,7 @@ onward = map (λ k. negsuc k) (14 ∷ 13 ∷ 12 ∷ 11 ∷ 10 ∷ 9 ∷ 8 ∷ 7 
 abbrev pub walks_of_setup : List (List ℤ)
 walks_of_setup = [] ∷ map (λ t. t ∷ []) onward
 
+-- an ask's answer, and those to the asks that follow in the world then
 abbrev pub answer_then : Asked → (WorldState → List Answer × WorldState) → List Answer × WorldState
 answer_then a rest = (a.answer ∷ (rest a.world).0, (rest a.world).1)
 
@@ -34,15 +40,19 @@ abbrev pub asks : ℕ → ℕ → List (List ℤ) → WorldState → List Answer
 asks mapper tries [] w = ([], w)
 asks mapper tries (walk ∷ walks) w = answer_then (ask mapper tries walk w) (asks mapper tries walks)
 
+-- the 31 answers to host 0, with one try each
 abbrev pub setup_map : List Answer × WorldState
 setup_map = asks 0 1 walks_of_setup (new_world two_hosts)
 
+-- the routes of the two hosts: from port 4 of the switch to port 7, and back
 abbrev pub setup_routes : List Route
 setup_routes = record { from = 0; to = 1; walk = pos 3 ∷ [] } ∷ record { from = 1; to = 0; walk = negsuc 2 ∷ [] } ∷ []
 
+-- host 0 adopts them
 abbrev pub setup_adoption : Adoption
 setup_adoption = record { mapper = 0; epoch = 1; routes = setup_routes }
 
+-- how many hosts have their tables once they are installed, and the world then
 abbrev pub setup_install : ℕ × WorldState
 setup_install = installed setup_adoption (0 ∷ 1 ∷ []) 1 (adopted_by setup_map.1 0 setup_routes)
 
@@ -54,6 +64,7 @@ setup = setup_install.1
 abbrev pub opened : ℕ → ℕ → List Event → List Event
 opened sends recvs rest = Begin 0 0 sends 0 ∷ Begin 1 1 0 recvs ∷ rest
 
+-- host 1 provides a buffer of 8 bytes, for messages of a priority
 abbrev pub provide : ℕ → Event
 provide prio = Provide 1 1 4 prio
 
@@ -61,9 +72,11 @@ provide prio = Provide 1 1 4 prio
 abbrev pub send : ℕ → ℕ → Event
 send len seed = Send 0 0 1 1 0 len seed
 
+-- host 1 takes an event of its port
 abbrev pub poll_receiver : Event
 poll_receiver = Poll 1 1
 
+-- host 0 takes an event of its port
 abbrev pub poll_sender : Event
 poll_sender = Poll 0 0
 
@@ -80,12 +93,15 @@ received token body = Said (Received token 0 0 0 body)
 abbrev pub three_calls : List Effect × WorldState
 three_calls = steps setup (opened 3 3 (provide 0 ∷ provide 0 ∷ provide 0 ∷ send 1 10 ∷ send 1 20 ∷ send 1 30 ∷ []))
 
+-- the faults of their injections
 abbrev pub three_plans : List ℕ × WorldState
 three_plans = planned_all three_calls.1 ((1, Repeat) ∷ (2, Lose) ∷ (4, Hold) ∷ [])
 
+-- the settle of the three messages
 abbrev pub three_settled : Rounds
 three_settled = settle three_plans.1
 
+-- host 1 takes all three
 abbrev pub three_polls : List Effect × WorldState
 three_polls = steps three_settled.world (poll_receiver ∷ poll_receiver ∷ poll_receiver ∷ [])
 
@@ -97,9 +113,11 @@ abc_calls = steps setup (opened 1 1 (provide 0 ∷ send 3 65 ∷ []))
 abbrev pub abc_injected : WorldState
 abc_injected = (step abc_calls.1 (Inject 0)).1
 
+-- the settle of the message whose frame is flipped
 abbrev pub abc_settled : Rounds
 abc_settled = settle (planned abc_calls.1 1 (Flip 6 193)).1
 
+-- host 1 takes the message, and host 0 its token
 abbrev pub abc_polls : List Effect × WorldState
 abc_polls = steps abc_settled.world (poll_receiver ∷ poll_sender ∷ [])
 
@@ -107,12 +125,15 @@ abc_polls = steps abc_settled.world (poll_receiver ∷ poll_sender ∷ [])
 abbrev pub waiting : Rounds
 waiting = settle (steps setup (opened 1 2 (provide 1 ∷ send 2 1 ∷ []))).1
 
+-- nothing came, and a token that fits is provided
 abbrev pub provided_late : List Effect × WorldState
 provided_late = steps waiting.world (poll_receiver ∷ provide 0 ∷ [])
 
+-- the settle once a token fits
 abbrev pub served : Rounds
 served = settle provided_late.1
 
+-- host 1 takes the message that waited
 abbrev pub served_poll : List Effect × WorldState
 served_poll = steps served.world (poll_receiver ∷ [])
 
@@ -122,8 +143,42 @@ stepwise =
     steps (steps setup (opened 2 2 (provide 0 ∷ provide 0 ∷ send 1 1 ∷ send 1 2 ∷ []))).1
     (Inject 0 ∷ Advance 0 ∷ Inject 0 ∷ Inject 0 ∷ Advance 0 ∷ Advance 3 ∷ Advance 0 ∷ LoseEvent 3 ∷ [])
 
+-- the settle of the two messages
 abbrev pub stepwise_settled : Rounds
 stepwise_settled = settle stepwise.1
 
+-- host 1 takes both
 abbrev pub stepwise_polls : List Effect × WorldState
 stepwise_polls = steps stepwise_settled.world (poll_receiver ∷ poll_receiver ∷ [])
+
+-- the two hosts with their tables, installed on the new world
+abbrev pub ready : WorldState
+ready = (installed setup_adoption (0 ∷ 1 ∷ []) 1 (adopted_by (new_world two_hosts) 0 setup_routes)).1
+
+-- the message `ABC` was sent to a token that fits, and its frame is in the channel that leaves host 0
+abbrev pub on_its_way : WorldState
+on_its_way = after_all ready (opened 1 1 (provide 0 ∷ send 3 65 ∷ Inject 0 ∷ []))
+
+-- that frame: a route byte, the type, the body, and the CRC byte
+abbrev pub abc_frame : Held
+abc_frame = record { wire = 131 ∷ 0 ∷ 8 ∷ frame_bytes abc (codes "ABC") ++ 131 ∷ []; marked = false }
+
+-- the frame has gone on to the second channel of its route
+abbrev pub further_on : WorldState
+further_on = (step on_its_way (Advance 0)).1
+
+-- the frame there, without its route byte
+abbrev pub abc_further_on : Held
+abc_further_on = record { wire = 0 ∷ 8 ∷ frame_bytes abc (codes "ABC") ++ 23 ∷ []; marked = false }
+
+-- the frame was flipped in its route byte and in its type
+abbrev pub spoiled : WorldState
+spoiled = (step on_its_way (FlipEvent 0 6 193)).1
+
+-- host 1 has put an empty message into its port, which host 0 didn't send
+abbrev pub forged : WorldState
+forged = with_node on_its_way 1 (with_peer (node_at on_its_way 1) 0 (record new_peer { got = message [] ∷ [] }))
+
+-- a message waits for a token that fits, behind a settle
+abbrev pub unserved : WorldState
+unserved = (settle (after_all ready (opened 1 2 (provide 1 ∷ send 2 1 ∷ [])))).world

@@ -12,7 +12,10 @@ ghost use Rattle.world_defs.specs.World.{new_world, planned};
 ghost use Rattle.world_defs.specs.declared.fault.Fault.{Fault};
 ghost use Rattle.world_defs.specs.declared.heard.Heard.{Heard};
 ghost use Rattle.world_defs.specs.Settle.{unacknowledged_in};
-ghost use Rattle.world_defs.specs.Examples.{setup_map, setup_install, received, three_calls, three_plans, three_settled, three_polls, abc_injected, abc_settled, abc_polls, waiting, provided_late, served, served_poll, stepwise, stepwise_settled, stepwise_polls};
+ghost use Rattle.world_defs.specs.Traffic.{IsLawful, IsLawfulTraffic, IsHonest, IsHonestTraffic};
+ghost use Rattle.world_defs.specs.Sound.{IsSound};
+ghost use Rattle.world_defs.specs.Settled.{IsSettled};
+ghost use Rattle.world_defs.specs.Examples.{on_its_way, abc_frame, further_on, abc_further_on, spoiled, forged, unserved, setup_map, setup_install, received, three_calls, three_plans, three_settled, three_polls, abc_injected, abc_settled, abc_polls, waiting, provided_late, served, served_poll, stepwise, stepwise_settled, stepwise_polls};
 
 /// A mapper asks 31 walks over the two hosts at one switch: 62 packets, of which three aren't dropped.
 #[tactic(auto, using(crate::proofs::Rows::asks_of_the_map_answers, crate::proofs::Rows::asks_of_the_map_injections, crate::proofs::Rows::asks_of_the_map_drops))]
@@ -86,4 +89,33 @@ pub fn plans_for_one_injection()
     ensures number { (planned (new_world two_hosts) 3 Fault.Lose).0 ≡ 3 }
     ensures last { (planned (planned (new_world two_hosts) 3 Fault.Lose).1 3 Fault.Hold).1.plan ≡ (3, Fault.Hold) ∷ [] }
     ensures others_stay { (planned (planned (new_world two_hosts) 3 Fault.Lose).1 1 Fault.Hold).1.plan ≡ (3, Fault.Lose) ∷ (1, Fault.Hold) ∷ [] }
+{}
+
+/// Before anything happened a world is sound, and with a frame on its way; not where a host has got what nobody sent.
+#[tactic(auto, using(crate::proofs::Moments::first_is_sound, crate::proofs::Moments::way_is_sound, crate::proofs::Moments::forged_is_not_sound))]
+pub fn soundness_of_moments()
+    ensures first { IsSound (new_world two_hosts) }
+    ensures on_its_way { IsSound on_its_way }
+    ensures forged { ¬ IsSound forged }
+{}
+
+/// A frame goes by an adopted route and is the fragment of its number. One that was flipped isn't lawful, one of a message that wasn't sent
+/// isn't honest.
+#[tactic(auto, using(crate::proofs::Moments::frame_is_there, crate::proofs::Moments::way_is_lawful, crate::proofs::Moments::way_is_honest, crate::proofs::Moments::frame_is_further_on, crate::proofs::Moments::further_is_lawful, crate::proofs::Moments::spoiled_is_not_lawful, crate::proofs::Moments::unsent_is_not_honest))]
+pub fn traffic_of_one_frame()
+    ensures frame { packet_in on_its_way.links 0 ≡ Some abc_frame }
+    ensures lawful { IsLawfulTraffic on_its_way }
+    ensures honest { IsHonestTraffic on_its_way }
+    ensures further_on { packet_in further_on.links 3 ≡ Some abc_further_on }
+    ensures still_lawful { IsLawful further_on 3 abc_further_on }
+    ensures flipped { ¬ IsLawfulTraffic spoiled }
+    ensures not_sent { ¬ IsHonest (new_world two_hosts) abc_frame }
+{}
+
+/// A world is settled before anything happened, and where a message waits for a token; not while a frame is on its way to one that fits.
+#[tactic(auto, using(crate::proofs::Moments::first_is_settled, crate::proofs::Moments::unserved_is_settled, crate::proofs::Moments::way_is_not_settled))]
+pub fn settled_worlds()
+    ensures first { IsSettled (new_world two_hosts) }
+    ensures waiting { IsSettled unserved }
+    ensures on_its_way { ¬ IsSettled on_its_way }
 {}

@@ -38,7 +38,8 @@ pub use effect::{Cause, Effect, Said};
 pub use event::Event;
 pub use examples::{
     asks_of_the_map, flipped_route_byte, installation, message_waits_for_a_token,
-    plans_for_one_injection, step_by_step, three_messages,
+    plans_for_one_injection, settled_worlds, soundness_of_moments, step_by_step, three_messages,
+    traffic_of_one_frame,
 };
 pub use fault::Fault;
 pub use heard::Heard;
