@@ -1,4 +1,5 @@
 pub mod Fabrics
 pub mod Naming
 pub mod Possible
+pub mod Routing
 pub mod Tables

@@ -215,3 +215,33 @@ fn a_walk_has_64_turns_within_15(rt: HostRuntime) -> Result<(), Fail> {
     assert!(rt; matches!(Walk::new(alloc, &[16; 65]), Err(WalkFault::TooLong)));
     Ok(())
 }
+
+#[test]
+fn routes_rise_and_are_found(rt: HostRuntime) -> Result<(), Fail> {
+    let alloc = rt.alloc();
+    let mut set = RouteSet::new(alloc);
+    for (from, to, turn) in [(0, 1, 3), (0, 7, -2), (2, 0, 1)] {
+        let walk = Walk::new(alloc, &[turn])?;
+        assert!(rt; set.push(Route { from, to, walk }).is_ok());
+    }
+    for (from, to) in [(2, 0), (1, 9)] {
+        let walk = Walk::new(alloc, &[5])?;
+        assert!(rt;
+            matches!(
+                set.push(Route { from, to, walk }),
+                Err((
+                    Route {
+                        from: _,
+                        to: _,
+                        walk: _
+                    },
+                    RoutePush::Order
+                ))
+            )
+        );
+    }
+    assert_eq!(rt; set.list().len(), 3);
+    assert_eq!(rt; set.route(0, 7).map(|walk| walk.turns().len()), Some(1));
+    assert!(rt; set.route(1, 0).is_none());
+    Ok(())
+}
