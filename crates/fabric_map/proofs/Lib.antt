@@ -1,0 +1,4 @@
+pub mod Ends
+pub mod Grown
+pub mod Listings
+pub mod Tables

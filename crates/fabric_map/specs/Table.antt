@@ -1,0 +1,26 @@
+-- A table of far ends: 31 places for each vertex, one for each port from -15 to 15.
+use Rattle.std.specs.Prelude.{◌≡◌, ℕ, ◌+◌, ◌*◌, ℤ, pos, ◌+ℤ◌, nat_abs, List, slice_index_or, Option, None, option_map}
+use Rattle.std.specs.List.{AllByRecursion}
+use Rattle.net_defs.specs.Turn.{IsTurn}
+use Rattle.map_defs.specs.declared.vertex.MapCable.{MapCable}
+use Rattle.map_defs.specs.NetMap.{MapPort, far_port, map_ends}
+
+-- the place of a port
+abbrev pub place_of_port : MapPort → ℕ
+place_of_port d = 31 * d.v + nat_abs (d.p +ℤ pos 15)
+
+-- a port as a pair of its vertex and its number
+abbrev pub pair_of : MapPort → ℕ × ℤ
+pair_of d = (d.v, d.p)
+
+abbrev pub far_pair : Option MapPort → Option (ℕ × ℤ)
+far_pair e = option_map pair_of e
+
+-- what the table has for a port: nothing past its length
+abbrev pub entry : List (Option (ℕ × ℤ)) → MapPort → Option (ℕ × ℤ)
+entry table d = slice_index_or table (place_of_port d) None
+
+-- The table has the far end of each port, and no cable ends elsewhere.
+pub record IsTableOf (cables : List MapCable) (table : List (Option (ℕ × ℤ))) : Type 0 where
+  pub turns : AllByRecursion (λ d. IsTurn d.p) (map_ends cables)
+  pub far_ends : (d : MapPort) → IsTurn d.p → entry table d ≡ far_pair (far_port cables d)

@@ -1,0 +1,156 @@
+//! The cables of a map, with a table of far ends.
+//!
+//! ```text
+//!   place   0 .. 30               31 .. 61              ..
+//!           ports -15 to 15 of    ports -15 to 15 of    ..
+//!           vertex 0              vertex 1
+//! ```
+
+ghost use Rattle.std.specs.Prelude.{◌≡◌, ◌≢◌, ℕ, ◌<◌, ◌≤◌, ◌*◌, pos, ◌-ℤ◌, ◌++◌, ◌∷◌, [], length, slice_index_or, Option, None, OnOk, OnErr};
+ghost use Rattle.net_defs.specs.Turn.{is_turn, IsTurn};
+ghost use Rattle.map_defs.specs.NetMap.{MapPort, first_end, second_end, far_port};
+ghost use Rattle.fabric_map.specs.Growing.{are_near};
+ghost use Rattle.fabric_map.specs.Table.{far_pair, place_of_port};
+
+use map_defs::MapCable;
+use std::alloc::{AllocError, Global};
+use std::marker::Model;
+
+// The places of one vertex.
+const PORT_PLACES: usize = 31;
+
+// The greatest port; the least is its negative.
+const MAX_PORT: i8 = 15;
+
+/// Cables by number. A far end is found in constant time.
+#[derive(Drop)]
+pub(crate) struct Cabling {
+    cables: Vec<MapCable>,
+    far: Vec<Option<(u32, i8)>>,
+}
+
+impl Model for Cabling {
+    ghost use Rattle.std.specs.Prelude.{List};
+    ghost use Rattle.map_defs.specs.declared.vertex.MapCable.{MapCable};
+    ghost use Rattle.fabric_map.specs.Table.{IsTableOf};
+
+    ghost Value = { List MapCable };
+
+    ghost view = { λ c. c.cables.items };
+
+    ghost invariant = { λ c. IsTableOf c.cables.items c.far.items };
+}
+
+impl Cabling {
+    pub(crate) fn new(alloc: Global) -> Cabling
+        ensures { result ≡ [] }
+    {
+        Cabling {
+            cables: Vec::new(alloc),
+            far: Vec::new(alloc),
+        }
+    }
+
+    pub(crate) fn cables(&self) -> &[MapCable]
+        ensures { result.now ≡ self.now }
+    {
+        &self.cables
+    }
+
+    /// The port at the other side of the cable at a port.
+    pub(crate) fn far(&self, v: u32, p: i8) -> Option<(u32, i8)>
+        ensures { result ≡ far_pair (far_port self.now record { v = v; p = p }) }
+    {
+        if is_port(p) {
+            entry_at(&self.far, place_of(v, p))
+        } else {
+            None
+        }
+    }
+
+    /// Whether each cabled port of the vertex is at most 15 from this port.
+    pub(crate) fn are_near(&self, v: u32, p: i8) -> bool
+        requires { IsTurn p }
+        ensures { result ≡ are_near self.now record { v = v; p = p } }
+    {
+        let _ = &self.cables;
+        for k in 0..PORT_PLACES {
+            let q = port_at(k);
+            if self.far(v, q).is_some() && !is_close(q, p) {
+                return false;
+            }
+        }
+        true
+    }
+
+    /// Joins two ports that have no cable, at vertices below a number.
+    pub(crate) fn push(&mut self, c: MapCable, vertices: usize) -> Result<(), AllocError>
+        requires turn_a { IsTurn c.p }
+        requires turn_b { IsTurn c.q }
+        requires vertex_a { c.v < vertices }
+        requires vertex_b { c.w < vertices }
+        requires few { vertices ≤ 4294967295 }
+        requires free_a { far_port self.old (first_end c) ≡ None }
+        requires free_b { far_port self.old (second_end c) ≡ None }
+        requires two { first_end c ≢ second_end c }
+        ensures ok { OnOk result (self.new ≡ self.old ++ c ∷ []) }
+        ensures err { OnErr result (self.new ≡ self.old) }
+    {
+        lengthen(&mut self.far, PORT_PLACES * vertices)?;
+        self.cables.push(c)?;
+        self.far[place_of(c.v, c.p)] = Some((c.w, c.q));
+        self.far[place_of(c.w, c.q)] = Some((c.v, c.p));
+        Ok(())
+    }
+}
+
+// Makes a table at least so long, with nothing at its new places.
+fn lengthen(far: &mut Vec<Option<(u32, i8)>>, places: usize) -> Result<(), AllocError>
+    ensures long { OnOk result (places ≤ length far.new.items) }
+    ensures kept { (k : ℕ) → slice_index_or far.new.items k None ≡ slice_index_or far.old.items k None }
+{
+    if far.len() < places {
+        far.resize(places, None)
+    } else {
+        Ok(())
+    }
+}
+
+// What the table has at a place.
+fn entry_at(far: &[Option<(u32, i8)>], place: usize) -> Option<(u32, i8)>
+    ensures { result ≡ slice_index_or far.now place None }
+{
+    if place < far.len() { far[place] } else { None }
+}
+
+// Whether a port is from -15 to 15.
+pub(crate) fn is_port(p: i8) -> bool
+    ensures { result ≡ is_turn p }
+{
+    -MAX_PORT <= p && p <= MAX_PORT
+}
+
+// Whether two ports are at most 15 apart.
+pub(crate) fn is_close(q: i8, p: i8) -> bool
+    requires turn_q { IsTurn q }
+    requires turn_p { IsTurn p }
+    ensures { result ≡ is_turn (q -ℤ p) }
+{
+    is_port(q - p)
+}
+
+// The port at a place of its vertex.
+fn port_at(k: usize) -> i8
+    requires { k < 31 }
+    ensures { result ≡ pos k -ℤ pos 15 }
+{
+    k as i8 - MAX_PORT
+}
+
+// The place of a port.
+fn place_of(v: u32, p: i8) -> usize
+    requires { IsTurn p }
+    ensures { result ≡ place_of_port record { v = v; p = p } }
+{
+    PORT_PLACES * v as usize + (p + MAX_PORT) as usize
+}
