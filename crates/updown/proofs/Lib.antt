@@ -1,0 +1,4 @@
+pub mod Filters
+pub mod Found
+pub mod Lowered
+pub mod Ups
