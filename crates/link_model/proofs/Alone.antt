@@ -1,11 +1,10 @@
 -- A packet alone in the links: what a step of its channel leaves.
-use Rattle.std.proofs.Common.{◌≡◌, ◌<◌, ℕ, suc, ◌+◌, List, [], length, set, replicate, Option, Some, None, is_some, Bool, true, false, ℤ, ◌∷◌, refl, sym, ap, ◌∙◌, subst, arith, if◌then◌else◌}
+use Rattle.std.proofs.Common.{◌≡◌, ◌<◌, ℕ, suc, ◌+◌, List, [], length, replicate, Option, Some, None, is_some, Bool, true, false, ℤ, ◌∷◌, refl, sym, ap, ◌∙◌, subst, arith, if◌then◌else◌}
 use Rattle.std.specs.Option.{option_and_then}
 use Rattle.std.specs.List.{All, AllByRecursion}
 use Rattle.std.proofs.Math.ListN.{length-set}
 use Rattle.std.proofs.lemmas.List.{length-replicate, get_or-set_same}
 use Rattle.net_defs.specs.declared.vertex.End.{End}
-use Rattle.net_defs.specs.declared.place.Place.{Place}
 use Rattle.net_defs.specs.Network.{Network, IsFabric, far}
 use Rattle.net_defs.specs.Route.{exit_at, turned, entered_after, place, host_port, IsEntered, IsPlaceOf}
 use Rattle.net_defs.proofs.Places.{far-there, place_at-there}
@@ -15,7 +14,7 @@ use Rattle.link_defs.specs.declared.moved.Moved.{Moved}
 use Rattle.link_defs.specs.declared.moved.Moved.TheVariants.{To, AtHost, Dropped, Blocked, Empty}
 use Rattle.packet_defs.specs.Packet.{stripped}
 use Rattle.link_defs.specs.Channel.{channel_count}
-use Rattle.link_defs.specs.Links.{Held, LinkState, packet_in, with_packet, emptied, empty_links, put}
+use Rattle.link_defs.specs.Links.{Held, LinkState, emptied, empty_links, put}
 use Rattle.link_defs.specs.Advance.{course, advance}
 use Rattle.link_defs.specs.Lone.{lone, lone_after, lone_place, ended_place}
 use Rattle.net_defs.specs.Turn.{IsTurn}

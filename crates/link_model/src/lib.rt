@@ -15,6 +15,8 @@
 mod limbo;
 mod links;
 mod slots;
+#[cfg(test)]
+mod tests;
 mod walking;
 mod wiring;
 

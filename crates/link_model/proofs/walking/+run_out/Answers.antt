@@ -1,5 +1,4 @@
-use Rattle.std.proofs.Common.{◌≡◌, ◌-◌, ◌<◌, ℕ, suc, sym, ap, ◌∙◌, subst, arith}
-use Rattle.link_defs.specs.Links.{LinkState}
+use Rattle.std.proofs.Common.{◌≡◌, ◌-◌, suc, sym, ap, ◌∙◌, arith}
 use Rattle.link_defs.specs.Lone.{lone_place}
 use Rattle.link_model.specs.Alone.{wire_in, left_at}
 use Rattle.link_model.proofs.Alone.{reset-alone, GoesOn, goes-on, Ends, ends, elsewhere}

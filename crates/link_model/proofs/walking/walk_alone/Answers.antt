@@ -1,5 +1,5 @@
-use Rattle.std.proofs.Common.{◌≡◌, sym, ap, ◌∙◌, subst, arith}
-use Rattle.net_defs.specs.Route.{place, host_port, IsPlaceOf}
+use Rattle.std.proofs.Common.{sym, ap, ◌∙◌, subst}
+use Rattle.net_defs.specs.Route.{host_port, IsPlaceOf}
 use Rattle.link_defs.specs.Links.{put}
 use Rattle.link_defs.specs.Lone.{lone}
 use Rattle.link_defs.proofs.Ends.{channel_from-ends}
