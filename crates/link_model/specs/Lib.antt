@@ -1,4 +1,5 @@
 pub mod Alone
 pub mod Full
+pub mod Marks
 pub mod State
 pub mod Tables

@@ -7,6 +7,7 @@
 //! |---|---|
 //! | `wiring` | the cables and ports of a fabric in flat tables |
 //! | `slots` | the packets in the channels |
+//! | `marks` | marked numbers, a bit each: which channels are full |
 //! | `limbo` | the packets that a cable keeps back |
 //! | `links` | the links: reading them, filling them, an advance, the faults |
 //! | `walking` | a packet alone in the links, to the end of its walk |
@@ -14,6 +15,7 @@
 
 mod limbo;
 mod links;
+mod marks;
 mod slots;
 #[cfg(test)]
 mod tests;

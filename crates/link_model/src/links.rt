@@ -1,11 +1,12 @@
 //! The links of a fabric: reading them, and putting packets into them.
 
-ghost use Rattle.std.specs.Prelude.{◌≡◌, ◌<◌, ◌≤◌, length, Some, option_map, option_copied, is_ok, IfOk, IfErr, IfSome};
+ghost use Rattle.std.specs.Prelude.{◌≡◌, ◌<◌, ◌≤◌, ℕ, length, Some, None, option_map, option_copied, is_ok, IfOk, IfErr, IfSome, IfNone};
 ghost use Rattle.net_defs.specs.Network.{IsFabric};
 ghost use Rattle.net_defs.specs.Route.{channel_from};
 ghost use Rattle.link_defs.specs.Channel.{channel_count, channel_tail, channel_head};
 ghost use Rattle.link_defs.specs.Links.{empty_links, packet_in, is_idle, put};
 ghost use Rattle.link_defs.specs.Fault.{next_limbo};
+ghost use Rattle.link_model.specs.Full.{next_full, IsNextFull};
 
 mod advance;
 mod faults;
@@ -104,6 +105,19 @@ impl Links {
         ensures { result ≡ is_idle self.now }
     {
         self.slots.are_empty()
+    }
+
+    /// The least channel that isn't below a number and holds a packet. It looks at one bit for each channel, 64 at a time.
+    pub fn next_full(&self, from: u16) -> Option<u16>
+        ensures next { result ≡ next_full self.now from }
+        ensures found { IfSome result (IsNextFull self.now from) }
+        ensures none { IfNone result ((k : ℕ) → from ≤ k → packet_in self.now k ≡ None) }
+    {
+        let _few = self.channels();
+        match self.slots.next_full(usize::from(from)) {
+            Some(c) => Some(c as u16),
+            None => None,
+        }
     }
 
     /// Puts a new packet into a channel. Refused exactly where the channel holds one; the packet is handed back.

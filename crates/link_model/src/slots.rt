@@ -1,12 +1,14 @@
 //! The packets in the channels.
 
-ghost use Rattle.std.specs.Prelude.{◌≡◌, ◌<◌, ◌≤◌, length, replicate, not, ◌&&◌, if◌then◌else◌, slice_index_or, slice_set, Option, Some, None, IsSome, is_some, is_none, option_map, option_copied, IfOk, IfErr, OnOk};
+ghost use Rattle.std.specs.Prelude.{◌≡◌, ◌<◌, ◌≤◌, length, replicate, not, ◌&&◌, if◌then◌else◌, slice_index_or, slice_set, Option, Some, None, IsSome, is_some, is_none, option_map, option_copied, IfOk, IfSome, IfErr, OnOk};
 ghost use Rattle.std.specs.List.{list_all};
 ghost use Rattle.packet_defs.specs.Packet.{front_turn, stripped};
 ghost use Rattle.packet_defs.specs.Burst.{flipped, may_flip};
 ghost use Rattle.link_defs.specs.Links.{Held};
+ghost use Rattle.link_model.specs.Full.{full_from};
 ghost use Rattle.std.specs.Prelude.{true, false};
 
+use crate::marks::{bare, mark, next_marked, unmark};
 use myri_packet::Packet;
 use std::alloc::{AllocError, Global};
 use std::marker::Model;
@@ -91,35 +93,41 @@ impl Slot {
     }
 }
 
-/// What the channels hold, with the number of full ones.
+/// What the channels hold, with the number of full ones, and a mark for each of them.
 #[derive(Drop)]
 pub(crate) struct Slots {
     slots: Vec<Option<Slot>>,
     full: usize,
+    marks: Vec<u64>,
 }
 
 impl Model for Slots {
-    ghost use Rattle.std.specs.Prelude.{◌≡◌, List, Option};
+    ghost use Rattle.std.specs.Prelude.{List, Option};
     ghost use Rattle.link_defs.specs.Links.{Held};
-    ghost use Rattle.link_model.specs.Full.{full_count};
+    ghost use Rattle.link_model.specs.Full.{IsIndexed};
 
     ghost Value = { List (Option Held) };
 
     ghost view = { λ s. s.slots.items };
 
-    ghost invariant = { λ s. s.full ≡ full_count s.slots.items };
+    ghost invariant = { λ s. IsIndexed s.slots.items s.full s.marks.items };
 }
 
 impl Slots {
     /// So many empty channels.
     pub(crate) fn new(alloc: Global, channels: usize) -> Result<Slots, AllocError>
+        requires { channels ≤ 1152 }
         ensures { IfOk result (λ s. s ≡ replicate channels None) }
     {
         let mut slots = Vec::with_capacity(alloc, channels)?;
         while slots.len() < channels {
             slots.push(None)?;
         }
-        Ok(Slots { slots, full: 0 })
+        Ok(Slots {
+            slots,
+            full: 0,
+            marks: bare(alloc, channels)?,
+        })
     }
 
     /// Whether no channel holds a packet.
@@ -127,6 +135,14 @@ impl Slots {
         ensures { result ≡ list_all is_none self.now }
     {
         self.full == 0
+    }
+
+    /// The first full channel from a number on. It looks at one word of marks for 64 channels.
+    pub(crate) fn next_full(&self, from: usize) -> Option<usize>
+        ensures next { result ≡ full_from self.now from }
+        ensures there { IfSome result (λ c. c < length self.now) }
+    {
+        next_marked(&self.marks, from)
     }
 
     /// What a channel holds.
@@ -154,6 +170,7 @@ impl Slots {
         let slot = replace_at(&mut self.slots, c, None);
         if slot.is_some() {
             self.full -= 1;
+            unmark(&mut self.marks, c);
         }
         slot
     }
@@ -166,6 +183,7 @@ impl Slots {
     {
         let _ = replace_at(&mut self.slots, c, Some(slot));
         self.full += 1;
+        mark(&mut self.marks, c);
     }
 }
 
