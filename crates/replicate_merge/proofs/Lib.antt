@@ -1,0 +1,10 @@
+pub mod Assembling
+pub mod Finding
+pub mod Joining
+pub mod Knowing
+pub mod Listing
+pub mod Marking
+pub mod Nodes
+pub mod Reading
+pub mod Telling
+pub mod Together

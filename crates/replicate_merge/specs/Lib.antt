@@ -1,0 +1,5 @@
+pub mod Found
+pub mod Nodes
+pub mod Spots
+pub mod Table
+pub mod Ways
