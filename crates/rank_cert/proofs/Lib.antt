@@ -1,0 +1,5 @@
+pub mod Along
+pub mod Checked
+pub mod Halves
+pub mod Pairs
+pub mod Places
