@@ -5,7 +5,7 @@ ghost use Rattle.std.specs.VecDeque.{deque_len, deque_capacity};
 ghost use Rattle.net_defs.specs.Refusal.{Refuses};
 ghost use Rattle.gm_defs.specs.Body.{is_head, message_limit};
 ghost use Rattle.gm_defs.specs.Fragment.{piece_count};
-ghost use Rattle.gm_defs.specs.Connection.{starting, due, sent_one, expired, unacknowledged, is_spent};
+ghost use Rattle.gm_defs.specs.Connection.{starting, due, sent_one, is_taken, expired, unacknowledged, is_spent};
 ghost use Rattle.gm_conn.specs.Halves.{IsOutgoing, outgoing, is_desc, due_frame, finished, heard_ack, oldest_finished, without_finished, offer_refusal, with_offer, head_for};
 
 use crate::{Desc, Due, OfferRefusal};
@@ -137,6 +137,13 @@ impl Sender {
         messages
     }
 
+    /// Whether an acknowledgement of this number is taken: it says more than is known, and no more than was sent.
+    pub fn takes(&self, next: u32) -> bool
+        ensures { result ≡ is_taken self.now.numbers next }
+    {
+        self.base < next && next <= self.top
+    }
+
     /// The descriptor of the oldest message that is finished and not taken out yet.
     pub fn take_finished(&mut self) -> Option<Desc>
         ensures oldest { result ≡ oldest_finished self.old }
@@ -163,6 +170,13 @@ impl Sender {
         ensures { result ≡ unacknowledged self.now.numbers }
     {
         self.next - self.base
+    }
+
+    /// It keeps its numbers in order, and each message that isn't acknowledged waits.
+    pub fn in_order(&self)
+        ensures { IsOutgoing self.now }
+    {
+        let _ = &self.base;
     }
 
     // The number of the oldest message that waits.
