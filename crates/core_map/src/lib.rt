@@ -1,0 +1,25 @@
+//! The core of a map: what no cable between two switches cuts off from all hosts.
+//!
+//! It removes nothing from the map. `specs/Core.antt` of `map_defs` says what a switch bridge is, and which vertices it cuts off.
+//!
+//! Each cable between two switches is tried: without it, a search from either end. With c cables and paths of at most d cables from
+//! vertex to vertex that is some 2 c c d steps: nothing for a fabric of a few hundred cables, a second for ten thousand.
+//!
+//! | module | has |
+//! |---|---|
+//! | `side` | what is left joined to a vertex without a cable |
+//! | `bridges` | what a cable cuts off, switch bridges, core marks |
+//!
+//! ```text
+//!   a -- #0 === #1 -- #2      The cable === is a switch bridge: without it #1 and #2 have no host. They are outside.
+//!        |       \___/
+//!        b
+//! ```
+#![tactic(auto)]
+
+mod bridges;
+mod side;
+#[cfg(test)]
+mod tests;
+
+pub use bridges::{mark_core, switch_bridges};
