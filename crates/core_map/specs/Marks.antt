@@ -22,6 +22,7 @@ spread marks v w = if spreads marks v w then slice_set marks w true else marks
 abbrev pub spread_by : List Bool → MapCable → List Bool
 spread_by marks c = spread (spread marks c.v c.w) c.w c.v
 
+-- a mark goes along a cable, one way or the other
 abbrev pub spreads_by : List Bool → MapCable → Bool
 spreads_by marks c = spreads marks c.v c.w || spreads (spread marks c.v c.w) c.w c.v
 

@@ -22,6 +22,7 @@ kind_word Full = codes "full"
 kind_word NoEnd = codes "noend"
 kind_word AfterEnd = codes "afterend"
 
+-- the fault of a number as a kind
 abbrev pub kind_of_number : NumFault → FaultKind
 kind_of_number NoNumber = NotNumber
 kind_of_number AboveRange = TooLarge

@@ -30,6 +30,7 @@ abbrev pub number_within : ℕ → List ℕ → Result ℕ NumFault
 number_within most w =
     if number_test w then (if nat_le (digits_value 10 w) most then Ok (digits_value 10 w) else Err TooLarge) else Err NotNumber
 
+-- the number of 32 bits that a word says
 abbrev pub u32_of : List ℕ → Result ℕ NumFault
 u32_of w = number_within (2 ^ 32 - 1) w
 
@@ -38,6 +39,7 @@ abbrev pub with_sign : (ℕ → ℤ) → Result ℕ NumFault → Result ℤ NumF
 with_sign sign (Ok n) = Ok (sign n)
 with_sign sign (Err e) = Err e
 
+-- a number below zero, by its size
 abbrev pub minus : ℕ → ℤ
 minus n = neg_ℤ (pos n)
 

@@ -49,6 +49,7 @@ end_word v p = if name_test v then port_word p else Err BadWord
 abbrev pub host_declared : Network → List ℕ → Result Network FaultKind
 host_declared n name = if name_test name then unless (host_refusal n name) (with_host n name) else Err BadWord
 
+-- what a line `host NAME` declares
 abbrev pub host_line : Network → List (List ℕ) → Result Network FaultKind
 host_line n args = where_there (one_of args) (host_declared n)
 
@@ -57,6 +58,7 @@ abbrev pub switch_declared : Network → List ℕ → List ℕ → Result Networ
 switch_declared n name ports =
     if name_test name then and_then (number_word ports) (λ p. unless (switch_refusal n name p) (with_switch n name p)) else Err BadWord
 
+-- what a line `switch NAME PORTS` declares
 abbrev pub switch_line : Network → List (List ℕ) → Result Network FaultKind
 switch_line n args = where_there (two_of args) (λ w. switch_declared n w.0 w.1)
 
@@ -70,6 +72,7 @@ cable_between n (Some v) p (Some w) q = unless (cable_refusal n (record { v = v;
 abbrev pub cable_declared : Network → List ℕ → List ℕ → List ℕ → List ℕ → Result Network FaultKind
 cable_declared n v p w q = and_then (end_word v p) (λ i. and_then (end_word w q) (λ j. cable_between n (vertex_named n v) i (vertex_named n w) j))
 
+-- what a line `cable V P W Q` declares
 abbrev pub cable_line : Network → List (List ℕ) → Result Network FaultKind
 cable_line n args = where_there (four_of args) (λ w. cable_declared n w.0.0 w.0.1 w.1.0 w.1.1)
 

@@ -18,12 +18,15 @@ switch_words s = codes "switch" ∷ s.name ∷ decimal s.ports ∷ []
 abbrev pub cable_words : Network → Cable → List (List ℕ)
 cable_words n c = codes "cable" ∷ name_of n c.a.v ∷ decimal c.a.p ∷ name_of n c.b.v ∷ decimal c.b.p ∷ []
 
+-- a line for each host
 abbrev pub hosts_text : Network → List ℕ
 hosts_text n = flat_map (λ name. line_text (host_words name)) n.hosts
 
+-- a line for each switch
 abbrev pub switches_text : Network → List ℕ
 switches_text n = flat_map (λ s. line_text (switch_words s)) n.switches
 
+-- a line for each cable
 abbrev pub cables_text : Network → List ℕ
 cables_text n = flat_map (λ c. line_text (cable_words n c)) n.cables
 

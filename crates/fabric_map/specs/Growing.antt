@@ -28,9 +28,11 @@ with_host m h = record { vertices = m.vertices ++ Host h ∷ []; cables = m.cabl
 abbrev pub with_switch : NetMap → Bool → NetMap
 with_switch m mark = record { vertices = m.vertices ++ Switch (length (switches_of m.vertices)) ∷ []; cables = m.cables; core = m.core ++ mark ∷ [] }
 
+-- the map with one cable more
 abbrev pub with_cable : NetMap → MapCable → NetMap
 with_cable m c = record { vertices = m.vertices; cables = m.cables ++ c ∷ []; core = m.core }
 
+-- the map with other marks of its core
 abbrev pub with_core : NetMap → List Bool → NetMap
 with_core m marks = record { vertices = m.vertices; cables = m.cables; core = marks }
 
@@ -38,6 +40,7 @@ with_core m marks = record { vertices = m.vertices; cables = m.cables; core = ma
 abbrev pub is_full : ℕ → Bool
 is_full count = nat_le 4294967295 count
 
+-- the host stands in the map
 abbrev pub has_host : NetMap → ℕ → Bool
 has_host m h = list_any (is_host_named h) m.vertices
 

@@ -13,6 +13,7 @@ place_of_port d = 31 * d.v + nat_abs (d.p +ℤ pos 15)
 abbrev pub pair_of : MapPort → ℕ × ℤ
 pair_of d = (d.v, d.p)
 
+-- what a port leads to, as a pair
 abbrev pub far_pair : Option MapPort → Option (ℕ × ℤ)
 far_pair e = option_map pair_of e
 

@@ -46,6 +46,7 @@ walk_said n name words =
 abbrev pub walk_within : Network → List ℕ → List (List ℕ) → Result Command FaultKind
 walk_within n name words = if nat_lt 64 (length words) then Err BadWord else walk_said n name words
 
+-- what a line `walk H TURN ..` says: the name of its host comes first
 abbrev pub walk_line : Network → List (List ℕ) → Result Command FaultKind
 walk_line n [] = Err BadWord
 walk_line n (name ∷ words) = walk_within n name words

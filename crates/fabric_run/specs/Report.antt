@@ -39,5 +39,6 @@ abbrev pub due_to : Result AcceptedText FirstFault → List ℕ
 due_to (Ok a) = report a
 due_to (Err f) = refusal_text f
 
+-- the text due to a text
 abbrev pub text_due : List ℕ → List ℕ
 text_due text = due_to (reading text)

@@ -10,6 +10,7 @@ use Rattle.gm_conn.specs.Pair.{PairState, new_pair, after_all}
 abbrev pub first_message : PairMsg
 first_message = record { total = 1; prio = 0 }
 
+-- the second of them
 abbrev pub second_message : PairMsg
 second_message = record { total = 2; prio = 1 }
 
@@ -21,8 +22,10 @@ two_emitted = after_all (new_pair 0 1) (Offer 1 0 ∷ Offer 2 1 ∷ Emit ∷ Emi
 abbrev pub done : Desc
 done = record { ticket = 7; sport = 0; dport = 1; prio = 0; total = 1 }
 
+-- the descriptor that waits behind it
 abbrev pub late : Desc
 late = record { ticket = 8; sport = 2; dport = 3; prio = 1; total = 1016 }
 
+-- the sender with both
 abbrev pub half_done : Outgoing
 half_done = outgoing 0 1 (record { base = 1; cursor = 1; top = 2; next = 2 }) (done ∷ late ∷ []) 0

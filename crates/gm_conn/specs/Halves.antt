@@ -39,6 +39,7 @@ is_desc d = nat_lt d.sport 8 && nat_lt d.dport 8 && nat_lt d.prio 2 && nat_le d.
 abbrev pub message_of : Desc → Message
 message_of d = record { sport = d.sport; dport = d.dport; prio = d.prio; body = replicate d.total 0 }
 
+-- the messages of the descriptors that wait
 abbrev pub messages : Outgoing → List Message
 messages w = map message_of w.waiting
 
@@ -69,6 +70,7 @@ heard_ack w n = record w { numbers = acknowledged w.numbers n }
 abbrev pub oldest_finished : Outgoing → Option Desc
 oldest_finished w = if nat_lt 0 (finished w) then slice_get w.waiting 0 else None
 
+-- the sender without the oldest descriptor, where its message is finished
 abbrev pub without_finished : Outgoing → Outgoing
 without_finished w = if nat_lt 0 (finished w) then record w { waiting = drop 1 w.waiting; spare = w.spare + 1 } else w
 

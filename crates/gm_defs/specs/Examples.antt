@@ -31,13 +31,16 @@ busy_port = record {
 abbrev pub sends_of : PortState → List ℕ
 sends_of p = map (λ s. s.token) p.queue
 
+-- the tokens of a port's provided buffers
 abbrev pub provided_of : PortState → List ℕ
 provided_of p = map (λ r. r.token) p.provided
 
+-- the token of an event
 abbrev pub token_of : PortEvent → ℕ
 token_of (Sent t b) = t
 token_of (Received t b from sport prio len) = t
 
+-- the tokens of a port's events
 abbrev pub events_of : PortState → List ℕ
 events_of p = map token_of p.events
 

@@ -64,12 +64,15 @@ StartingIsSender = (first : ℕ) → first ≤ number_limit → IsSender (starti
 abbrev pub SendingStays : Type 0
 SendingStays = (s : SenderState) (n : ℕ) → IsSender s → due s ≡ Some n → IsSender (sent_one s)
 
+-- an acknowledgement keeps the numbers in order
 abbrev pub AcknowledgingStays : Type 0
 AcknowledgingStays = (s : SenderState) (n : ℕ) → IsSender s → IsSender (acknowledged s n)
 
+-- an expiry keeps the numbers in order
 abbrev pub ExpiringStays : Type 0
 ExpiringStays = (s : SenderState) → IsSender s → IsSender (expired s)
 
+-- an offer keeps the numbers in order
 abbrev pub OfferingStays : Type 0
 OfferingStays = (s : SenderState) (count : ℕ) → IsSender s → is_spent s count ≡ false → IsSender (offered s count)
 
@@ -79,6 +82,7 @@ pub record IsLeastSize (len size : ℕ) : Type 0 where
   pub has_room : len ≤ room size
   pub least : AllByRecursion (λ other. other < size → room other < len) sizes
 
+-- the size for a length is the least with room for it
 abbrev pub SizeIsLeast : Type 0
 SizeIsLeast = (len size : ℕ) → size_for_length len ≡ Some size → IsLeastSize len size
 

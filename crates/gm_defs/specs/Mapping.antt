@@ -122,13 +122,16 @@ abbrev pub with_entries : RoutePart → List ℕ → Front RoutePart
 with_entries p bytes =
     option_and_then (λ n. option_map (λ es. (record p { entries = es.0 }, es.1)) (entries_front n.0 n.1)) (byte_front bytes)
 
+-- a part with its way back in front
 abbrev pub with_back : RoutePart → List ℕ → Front RoutePart
 with_back p bytes = option_and_then (λ back. with_entries (record p { back = back.0 }) back.1) (route_front bytes)
 
+-- a part with its number and the number of parts in front
 abbrev pub with_parts : RoutePart → List ℕ → Front RoutePart
 with_parts p bytes =
     option_and_then (λ part. option_and_then (λ parts. with_back (record p { part = part.0; parts = parts.0 }) parts.1) (byte_front part.1)) (byte_front bytes)
 
+-- a part with its host in front
 abbrev pub with_dst : RoutePart → List ℕ → Front RoutePart
 with_dst p bytes = option_and_then (λ dst. with_parts (record p { dst = dst.0 }) dst.1) (number_front w16 2 bytes)
 
@@ -139,9 +142,11 @@ part_front bytes =
     (λ two. with_dst (record { epoch = two.0.0; mapper = two.0.1; dst = 0; part = 0; parts = 0; back = []; entries = [] }) two.1)
     (two_front w32 4 bytes)
 
+-- the acknowledgement of a part in front
 abbrev pub ack_front : List ℕ → Front MappingBody
 ack_front bytes = option_and_then (λ two. option_map (λ part. (PartAck two.0.0 two.0.1 part.0, part.1)) (byte_front two.1)) (two_front w32 4 bytes)
 
+-- a host probe in front
 abbrev pub probe_front : List ℕ → Front MappingBody
 probe_front bytes = option_and_then (λ two. option_map (λ back. (HostProbe two.0.0 two.0.1 back.0, back.1)) (route_front two.1)) (two_front w64 8 bytes)
 

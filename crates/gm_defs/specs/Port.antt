@@ -52,6 +52,7 @@ ended_by p token (Some s) = record p {
   events = p.events ++ Sent token s.buffer ∷ [];
 }
 
+-- the send of this token is finished
 abbrev pub finished : PortState → ℕ → PortState
 finished p token = ended_by p token (send_of p token)
 
@@ -67,6 +68,7 @@ taken_by p h part (Some r) = record p {
   events = p.events ++ Received r.token (filled r.buffer part) h.src h.sport h.prio h.total ∷ [];
 }
 
+-- a message was taken by the token that fits it
 abbrev pub delivered : PortState → FrameHead → List ℕ → PortState
 delivered p h part = taken_by p h part (fitting p h.total h.prio)
 
@@ -82,5 +84,6 @@ polled p = record p { events = drop 1 p.events }
 abbrev pub unfinished : PortState → ℕ
 unfinished p = length p.queue
 
+-- how many events wait
 abbrev pub unread : PortState → ℕ
 unread p = length p.events

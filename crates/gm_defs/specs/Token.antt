@@ -61,6 +61,7 @@ sent_tokens [] = []
 sent_tokens (Sent t b ∷ es) = t ∷ sent_tokens es
 sent_tokens (Received t b from sport prio len ∷ es) = sent_tokens es
 
+-- the receive tokens of events
 abbrev pub received_tokens : List PortEvent → List ℕ
 received_tokens [] = []
 received_tokens (Sent t b ∷ es) = received_tokens es
@@ -70,6 +71,7 @@ received_tokens (Received t b from sport prio len ∷ es) = t ∷ received_token
 abbrev pub sends_out : PortState → List ℕ
 sends_out p = map (λ s. s.token) p.queue ++ sent_tokens p.events
 
+-- the receive tokens that the client hasn't
 abbrev pub recvs_out : PortState → List ℕ
 recvs_out p = map (λ r. r.token) p.provided ++ received_tokens p.events
 

@@ -45,6 +45,7 @@ abbrev pub send_by : List Sending → Option ℕ → Option Sending
 send_by ss None = None
 send_by ss (Some token) = find (λ s. nat_eq s.token token) ss
 
+-- the other sends
 abbrev pub without_send : List Sending → Option ℕ → List Sending
 without_send ss None = ss
 without_send ss (Some token) = without_first (λ s. nat_eq s.token token) ss
@@ -57,6 +58,7 @@ send_at host port s = (token_at host port s.token, s.buffer)
 abbrev pub provided_at : ℕ → ℕ → Provided → ProvidedToken
 provided_at host port r = record { token = token_at host port r.token; buffer = r.buffer; size = r.size; prio = r.prio }
 
+-- a provided token with its buffer
 abbrev pub receive_at : ℕ → ℕ → Provided → Token × List ℕ
 receive_at host port r = (token_at host port r.token, r.buffer)
 

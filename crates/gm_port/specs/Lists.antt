@@ -12,6 +12,7 @@ use Rattle.gm_port.specs.Held.{provided_at, provided_of, event_at, event_of}
 abbrev pub AreOwnTokens : ℕ → ℕ → List ProvidedToken → Type 0
 AreOwnTokens host port rs = AllByRecursion (λ r. provided_at host port (provided_of r) ≡ r) rs
 
+-- the events are of this port
 abbrev pub AreOwnEvents : ℕ → ℕ → List Event → Type 0
 AreOwnEvents host port es = AllByRecursion (λ e. event_at host port (event_of e) ≡ e) es
 
@@ -33,6 +34,7 @@ abbrev pub is_sent : ℕ → Event → Bool
 is_sent number (SentEvent t b) = nat_eq number t.number
 is_sent number (ReceivedEvent t b from sport prio len) = false
 
+-- an event has this receive token
 abbrev pub is_received : ℕ → Event → Bool
 is_received number (SentEvent t b) = false
 is_received number (ReceivedEvent t b from sport prio len) = nat_eq number t.number

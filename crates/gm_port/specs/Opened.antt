@@ -30,6 +30,7 @@ abbrev pub finished_by : PortState → Option ℕ → PortState
 finished_by s None = s
 finished_by s (Some token) = finished s token
 
+-- the send at a ticket is finished
 abbrev pub finished_at : OpenPort → ℕ → OpenPort
 finished_at p ticket = record p { state = finished_by p.state (token_of p ticket); tickets = slice_set p.tickets ticket None }
 

@@ -7,6 +7,7 @@ use Rattle.gm_defs.specs.Token.{Sending, has_number}
 use Rattle.gm_tokens.specs.Token.{Token, token_at}
 use Rattle.gm_port.specs.Held.{number_at}
 
+-- a place of the table: a token with its buffer, or none
 abbrev pub Place : Type 0
 Place = Option (Token × List ℕ)
 
@@ -37,6 +38,7 @@ abbrev pub is_held : Option Place → Bool
 is_held None = false
 is_held (Some p) = is_some p
 
+-- the numbers of unfinished sends
 abbrev pub sending_numbers : List Sending → List ℕ
 sending_numbers ss = map (λ s. s.token) ss
 

@@ -9,6 +9,7 @@ abbrev pub tokens : ℕ → ℕ → ℕ → List Token
 tokens host port zero = []
 tokens host port (suc n) = tokens host port n ++ token_at host port n ∷ []
 
+-- the numbers of tokens
 abbrev pub numbers : List Token → List ℕ
 numbers ts = map (λ t. t.number) ts
 

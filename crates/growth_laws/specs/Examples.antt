@@ -29,6 +29,7 @@ unrolled = record {
   cables = joined (host_end 0) (switch_end 0 0) ∷ joined (switch_end 0 1) (switch_end 1 2) ∷ joined (switch_end 0 2) (switch_end 2 1) ∷ [];
 }
 
+-- what the walks of one turn find there
 abbrev pub looped_answer : ℤ → Answer
 looped_answer t = if int_eq t (pos 1) || int_eq t (pos 2) then Switch else Nothing
 

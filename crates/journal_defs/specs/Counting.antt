@@ -11,10 +11,12 @@ abbrev pub count_failing : ℕ → (ℕ → Bool) → ℕ
 count_failing zero test = 0
 count_failing (suc k) test = count_failing k test + (if test k then 0 else 1)
 
+-- the greatest of numbers, 0 without any
 abbrev pub greatest : List ℕ → ℕ
 greatest [] = 0
 greatest (x ∷ xs) = max x (greatest xs)
 
+-- the sum of numbers
 abbrev pub total : List ℕ → ℕ
 total [] = 0
 total (x ∷ xs) = x + total xs

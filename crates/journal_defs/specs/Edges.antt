@@ -13,6 +13,7 @@ pub data Steps {V : Type 0} (edges : List (V × V)) (x : V) : ℕ → V → Type
   start : Steps edges x zero x
   step : {m : ℕ} {v w : V} → Steps edges x m v → IsEdge edges v w → Steps edges x (suc m) w
 
+-- a vertex is one of these
 abbrev pub is_among : {V : Type 0} → (V → V → Bool) → List V → V → Bool
 is_among same vs v = list_any (same v) vs
 

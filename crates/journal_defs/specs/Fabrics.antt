@@ -4,6 +4,7 @@ use Rattle.net_defs.specs.declared.vertex.Cable.{Cable}
 use Rattle.net_defs.specs.Network.{Network, NamedSwitch}
 use Rattle.net_defs.specs.Examples.{host_end, switch_end, joined}
 
+-- a switch of a name and so many ports
 abbrev pub switch_named : List ℕ → ℕ → NamedSwitch
 switch_named name ports = record { name = name; ports = ports }
 
@@ -46,6 +47,7 @@ ring =
     ∷ joined (switch_end 3 0) (switch_end 0 1)
     ∷ []
 
+-- the four switches of a ring, of four ports each
 abbrev pub ring_switches : List NamedSwitch
 ring_switches = map (λ name. switch_named name 4) (codes "s0" ∷ codes "s1" ∷ codes "s2" ∷ codes "s3" ∷ [])
 

@@ -26,6 +26,7 @@ abbrev pub edges_of : List Cable → List (Vertex × Vertex)
 edges_of [] = []
 edges_of (c ∷ cs) = (c.a.v, c.b.v) ∷ edges_of cs
 
+-- all vertices of a fabric: its hosts, and then its switches
 abbrev pub vertices : Network → List Vertex
 vertices n = map Host (numbers_below (length n.hosts)) ++ map Switch (numbers_below (length n.switches))
 
@@ -45,6 +46,7 @@ part n host = filter (is_among same_vertex (near n (Host host) (length (vertices
 abbrev pub farthest : Network → ℕ → ℕ
 farthest n host = greatest (map (distance n (Host host)) (part n host))
 
+-- a vertex that is a host
 abbrev pub is_host : Vertex → Bool
 is_host (Host h) = true
 is_host (Switch s) = false

@@ -15,6 +15,7 @@ abbrev pub answered : List Entry → List ℤ → Option Answer
 answered [] w = None
 answered (e ∷ j) w = if same_turns e.walk w then Some e.answer else answered j w
 
+-- the walk was asked
 abbrev pub is_asked : List Entry → List ℤ → Bool
 is_asked j w = is_some (answered j w)
 
@@ -24,6 +25,7 @@ is_found (Host h) = true
 is_found Switch = true
 is_found Nothing = false
 
+-- the answer, if there is one, is a host or a switch
 abbrev pub has_found : Option Answer → Bool
 has_found None = false
 has_found (Some a) = is_found a
@@ -33,16 +35,20 @@ pub data Node : Type 0 where
   Mapper : Node
   Reached : List ℤ → Node
 
+-- the mapper is a node, and so is a walk that found something
 abbrev pub is_node : List Entry → Node → Bool
 is_node j Mapper = true
 is_node j (Reached w) = has_found (answered j w)
 
+-- a node of the journal
 abbrev pub IsNode : List Entry → Node → Type 0
 IsNode j u = is_node j u ≡ true
 
+-- a walk that found a switch
 abbrev pub IsSwitchNode : List Entry → List ℤ → Type 0
 IsSwitchNode j w = answered j w ≡ Some Switch
 
+-- the address of the host that an answer found
 abbrev pub host_in : Option Answer → Option ℕ
 host_in (Some (Host h)) = Some h
 host_in _ = None

@@ -17,19 +17,23 @@ use Rattle.link_defs.specs.Channel.{channel_head}
 use Rattle.link_defs.specs.Switch.{aim}
 use Rattle.link_defs.specs.Links.{Held, LinkState, packet_in, with_packet, emptied}
 
+-- a packet enters the channel of a port, and is dropped where the port has no cable
 abbrev pub course_by_channel : Option ℕ → Course
 course_by_channel None = Drops NoCable
 course_by_channel (Some next) = Enters next
 
+-- where a packet goes that leaves a switch by its turn
 abbrev pub course_out : Network → ℕ → Turned → Course
 course_out n s (Out port) = course_by_channel (channel_from n (record { v = Switch s; p = port }))
 course_out n s TurnedTooFar = Drops OutOfRange
 course_out n s NoTurn = Drops NotRoute
 
+-- a packet arrives at a host, and goes on at a switch by the turn in front
 abbrev pub course_at : Network → Vertex → ℕ → List ℕ → Course
 course_at n (Host h) entry wire = Arrives h
 course_at n (Switch s) entry wire = course_out n s (aim (ports_of n (Switch s)) entry wire)
 
+-- where a packet goes that comes to this end
 abbrev pub course_into : Network → Option End → List ℕ → Course
 course_into n None wire = Drops NoCable
 course_into n (Some e) wire = course_at n e.v e.p wire
@@ -44,11 +48,13 @@ abbrev pub entered : LinkState → ℕ → Held → ℕ → Option Held → Move
 entered s c held next None = (To next, with_packet (emptied s c) next (Some (record held { wire = stripped held.wire })))
 entered s c held next (Some other) = (Blocked next, s)
 
+-- a packet leaves its channel, for a host, for the next channel or for nowhere
 abbrev pub gone_on : LinkState → ℕ → Held → Course → Moved (List ℕ) × LinkState
 gone_on s c held (Arrives h) = (AtHost h held.wire, emptied s c)
 gone_on s c held (Enters next) = entered s c held next (packet_in (emptied s c) next)
 gone_on s c held (Drops why) = (Dropped why, emptied s c)
 
+-- an advance of a channel with this packet
 abbrev pub advance_of : LinkState → ℕ → Option Held → Moved (List ℕ) × LinkState
 advance_of s c None = (Empty, s)
 advance_of s c (Some held) = gone_on s c held (course s.net c held.wire)

@@ -22,6 +22,7 @@ is_used_up s = nat_eq s.next_serial (2 ^ 64 - 1)
 abbrev pub with_caught : LinkState → ℕ → Held → LinkState
 with_caught s c held = record s { limbo = s.limbo ++ (s.next_serial, record { channel = c; held = held }) ∷ []; next_serial = s.next_serial + 1 }
 
+-- a repeat of a channel with this packet
 abbrev pub repeat_of : LinkState → ℕ → Option Held → Option ℕ × LinkState
 repeat_of s c None = (None, s)
 repeat_of s c (Some held) = if is_used_up s then (None, s) else (Some s.next_serial, with_caught s c held)
@@ -30,6 +31,7 @@ repeat_of s c (Some held) = if is_used_up s then (None, s) else (Some s.next_ser
 abbrev pub repeat : LinkState → ℕ → Option ℕ × LinkState
 repeat s c = repeat_of s c (packet_in s c)
 
+-- a hold of a channel with this packet
 abbrev pub hold_of : LinkState → ℕ → Option Held → Option ℕ × LinkState
 hold_of s c None = (None, s)
 hold_of s c (Some held) = if is_used_up s then (None, s) else (Some s.next_serial, with_caught (emptied s c) c held)
@@ -38,6 +40,7 @@ hold_of s c (Some held) = if is_used_up s then (None, s) else (Some s.next_seria
 abbrev pub hold : LinkState → ℕ → Option ℕ × LinkState
 hold s c = hold_of s c (packet_in s c)
 
+-- a flip of a channel with this packet: of one that no flip has met
 abbrev pub flip_of : LinkState → ℕ → ℕ → ℕ → Option Held → Bool × LinkState
 flip_of s c bit pattern None = (false, s)
 flip_of s c bit pattern (Some held) =
@@ -57,6 +60,7 @@ caught_as s serial = lookup (nat_eq serial) s.limbo
 abbrev pub released : LinkState → ℕ → Caught → LinkState
 released s serial caught = record (with_packet s caught.channel (Some caught.held)) { limbo = remove_entry (nat_eq serial) s.limbo }
 
+-- a replay of this packet of limbo: into its channel, where that is empty
 abbrev pub replay_of : LinkState → ℕ → Option Caught → Replayed × LinkState
 replay_of s serial None = (Unknown, s)
 replay_of s serial (Some caught) =

@@ -12,10 +12,12 @@ use Rattle.link_defs.specs.Advance.{advance}
 abbrev pub hops_left : List ℕ → ℕ
 hops_left wire = 1 + prefix_len is_route_byte (head wire)
 
+-- the hops left of a packet in a channel; none where the channel is empty
 abbrev pub hops_of : Option Held → ℕ
 hops_of None = 0
 hops_of (Some held) = hops_left held.wire
 
+-- the hops left of the packets in channels
 abbrev pub hops_in : List (Option Held) → ℕ
 hops_in [] = 0
 hops_in (p ∷ ps) = hops_of p + hops_in ps

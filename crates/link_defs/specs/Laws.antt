@@ -47,18 +47,23 @@ StillIsStuck = (s : LinkState) (c : ℕ) → IsSome (packet_in s c) → ((d : �
 abbrev pub RefusedPut : Type 0
 RefusedPut = (s : LinkState) (c : ℕ) (wire : List ℕ) → (put s c wire).0 ≡ false → (put s c wire).1 ≡ s
 
+-- a loss that is not possible changes nothing
 abbrev pub IdleLose : Type 0
 IdleLose = (s : LinkState) (c : ℕ) → (lose s c).0 ≡ false → (lose s c).1 ≡ s
 
+-- a reset that is not possible changes nothing
 abbrev pub IdleReset : Type 0
 IdleReset = (s : LinkState) (c : ℕ) → (reset s c).0 ≡ false → (reset s c).1 ≡ s
 
+-- a repeat that is not possible changes nothing
 abbrev pub IdleRepeat : Type 0
 IdleRepeat = (s : LinkState) (c : ℕ) → (repeat s c).0 ≡ None → (repeat s c).1 ≡ s
 
+-- a hold that is not possible changes nothing
 abbrev pub IdleHold : Type 0
 IdleHold = (s : LinkState) (c : ℕ) → (hold s c).0 ≡ None → (hold s c).1 ≡ s
 
+-- a flip that is not possible changes nothing
 abbrev pub IdleFlip : Type 0
 IdleFlip = (s : LinkState) (c bit pattern : ℕ) → (flip s c bit pattern).0 ≡ false → (flip s c bit pattern).1 ≡ s
 
@@ -68,6 +73,7 @@ is_idle_replay (Back c) = false
 is_idle_replay (Busy c) = true
 is_idle_replay Unknown = true
 
+-- a replay that put nothing back changes nothing
 abbrev pub IdleReplay : Type 0
 IdleReplay = (s : LinkState) (serial : ℕ) → is_idle_replay (replay s serial).0 ≡ true → (replay s serial).1 ≡ s
 
@@ -79,6 +85,7 @@ StepKeepsFabric = (s : LinkState) (x : Step) → (stepped s x).net ≡ s.net
 abbrev pub EmptyIsLinks : Type 0
 EmptyIsLinks = (n : Network) → IsLinks (empty_links n)
 
+-- links without packets are idle
 abbrev pub EmptyIsIdle : Type 0
 EmptyIsIdle = (n : Network) → is_idle (empty_links n) ≡ true
 

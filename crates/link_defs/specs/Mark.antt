@@ -6,6 +6,7 @@ use Rattle.packet_defs.specs.Packet.{difference}
 use Rattle.link_defs.specs.Links.{Held, LinkState, empty_links}
 use Rattle.link_defs.specs.Step.{Step, Put, Flip, stepped_all}
 
+-- a mark says whether the difference of the CRC is that of a flipped packet
 abbrev pub Tells : Bool → List ℕ → Type 0
 Tells true wire = 0 < difference wire
 Tells false wire = difference wire ≡ 0

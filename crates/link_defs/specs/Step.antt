@@ -4,6 +4,7 @@ use Rattle.link_defs.specs.Links.{LinkState, put}
 use Rattle.link_defs.specs.Advance.{advance}
 use Rattle.link_defs.specs.Fault.{lose, reset, repeat, hold, flip, replay}
 
+-- One step of the links: a packet is put into a channel, or a channel or limbo does something.
 pub data Step : Type 0 where
   Put : (channel : ℕ) → (wire : List ℕ) → Step
   Advance : (channel : ℕ) → Step

@@ -5,6 +5,7 @@ use Rattle.packet_defs.specs.Packet.{front_turn, stripped}
 use Rattle.link_defs.specs.declared.turned.Turned.{Turned}
 use Rattle.link_defs.specs.declared.turned.Turned.TheVariants.{Out, OutOfRange, NotRoute}
 
+-- a packet goes out by a port, where the switch has it
 abbrev pub out_by : Option ℕ → Turned
 out_by None = OutOfRange
 out_by (Some port) = Out port

@@ -10,6 +10,7 @@ use Rattle.link_defs.specs.declared.moved.Moved.TheVariants.{To, AtHost, Dropped
 use Rattle.link_defs.specs.Links.{Held, LinkState, packet_in}
 use Rattle.link_defs.specs.Lone.{lone, dropped_place}
 
+-- the bytes of what a channel holds; none where it is empty
 abbrev pub wire_of : Option Held → List ℕ
 wire_of None = []
 wire_of (Some held) = held.wire

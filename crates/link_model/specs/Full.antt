@@ -4,6 +4,7 @@ use Rattle.std.specs.List.{range_with_len}
 use Rattle.link_defs.specs.Links.{Held, LinkState, packet_in}
 use Rattle.link_model.specs.Marks.{mark_at}
 
+-- a channel counts as one where it is full
 abbrev pub full_of : Option Held → ℕ
 full_of None = 0
 full_of (Some held) = 1

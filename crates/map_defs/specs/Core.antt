@@ -16,6 +16,7 @@ without (c ∷ cs) (suc k) = c ∷ without cs k
 abbrev pub side : NetMap → ℕ → ℕ → List ℕ
 side m k v = within nat_eq (map_edges (without m.cables k)) v (length m.vertices)
 
+-- no vertex of these is a host
 abbrev pub is_hostless : NetMap → List ℕ → Bool
 is_hostless m vs = not (list_any (λ v. is_some (host_of_vertex m v)) vs)
 
@@ -23,6 +24,7 @@ is_hostless m vs = not (list_any (λ v. is_some (host_of_vertex m v)) vs)
 abbrev pub hostless_side : NetMap → ℕ → ℕ → List ℕ
 hostless_side m k v = if is_hostless m (side m k v) then side m k v else []
 
+-- the hostless sides of a cable, which is one of the map
 abbrev pub cut_off : NetMap → ℕ → Option MapCable → List ℕ
 cut_off m k None = []
 cut_off m k (Some c) = if is_switch_vertex m c.v && is_switch_vertex m c.w then hostless_side m k c.v ++ hostless_side m k c.w else []
@@ -31,9 +33,11 @@ cut_off m k (Some c) = if is_switch_vertex m c.v && is_switch_vertex m c.w then 
 abbrev pub cut_off_by : NetMap → ℕ → List ℕ
 cut_off_by m k = cut_off m k (slice_get m.cables k)
 
+-- the cable cuts something off
 abbrev pub is_switch_bridge : NetMap → ℕ → Bool
 is_switch_bridge m k = list_any (λ v. true) (cut_off_by m k)
 
+-- the cables of a map that are switch bridges, by their numbers
 abbrev pub bridges_of : NetMap → List ℕ
 bridges_of m = filter (is_switch_bridge m) (numbers_below (length m.cables))
 

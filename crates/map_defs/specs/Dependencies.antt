@@ -57,6 +57,7 @@ pub record IsCertificate (m : NetMap) (routes : List Route) (ranks : List RankEn
 abbrev pub ports_at : ℕ → List MapPort
 ports_at v = map (λ p. record { v = v; p = p }) (falling_turns 15 ++ map pos (numbers_below 16))
 
+-- the ports that these vertices may have
 abbrev pub ports_at_all : List ℕ → List MapPort
 ports_at_all [] = []
 ports_at_all (v ∷ vs) = ports_at v ++ ports_at_all vs
@@ -70,5 +71,6 @@ abbrev pub rank_by : NetMap → List ℕ → MapPort → ℕ
 rank_by m order d =
     if is_up m order d then length m.vertices - 1 - slice_index order d.v else length m.vertices + slice_index order d.v
 
+-- the ranks of all channels of a map, by an order of its vertices
 abbrev pub ranks_of : NetMap → List ℕ → List RankEntry
 ranks_of m order = map (λ d. record { v = d.v; p = d.p; rank = rank_by m order d }) (channels_in m)

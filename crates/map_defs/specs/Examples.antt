@@ -11,6 +11,7 @@ use Rattle.map_defs.specs.NetMap.{NetMap, MapPort}
 abbrev pub cable : ℕ → ℤ → ℕ → ℤ → MapCable
 cable v p w q = record { v = v; p = p; w = w; q = q }
 
+-- port p of vertex v
 abbrev pub port : ℕ → ℤ → MapPort
 port v p = record { v = v; p = p }
 
@@ -50,6 +51,7 @@ ring_map =
     ∷ []
     )
 
+-- a route from a host to another
 abbrev pub route : ℕ → ℕ → List ℤ → Route
 route from to walk = record { from = from; to = to; walk = walk }
 
@@ -79,6 +81,7 @@ free_routes =
     ∷ route 3 1 (negsuc 1 ∷ negsuc 0 ∷ pos 1 ∷ [])
     ∷ []
 
+-- the rank of the channel that leaves port p of vertex v
 abbrev pub rank : ℕ → ℤ → ℕ → RankEntry
 rank v p r = record { v = v; p = p; rank = r }
 

@@ -21,12 +21,15 @@ pub record MapPort : Type 0 where
   pub v : ℕ
   pub p : ℤ
 
+-- the end of a cable that is named first
 abbrev pub first_end : MapCable → MapPort
 first_end c = record { v = c.v; p = c.p }
 
+-- the end of a cable that is named second
 abbrev pub second_end : MapCable → MapPort
 second_end c = record { v = c.w; p = c.q }
 
+-- the same port of the same vertex
 abbrev pub same_port : MapPort → MapPort → Bool
 same_port d e = nat_eq d.v e.v && int_eq d.p e.p
 
@@ -67,6 +70,7 @@ pub record IsReached (m : NetMap) (v : ℕ) : Type 0 where
 abbrev pub IsConnected : NetMap → Type 0
 IsConnected m = (v : ℕ) → v < length m.vertices → IsReached m v
 
+-- the address of a vertex that is a host
 abbrev pub host_at : Option MapVertex → Option ℕ
 host_at (Some (Host h)) = Some h
 host_at _ = None
@@ -75,10 +79,12 @@ host_at _ = None
 abbrev pub host_of_vertex : NetMap → ℕ → Option ℕ
 host_of_vertex m v = host_at (slice_get m.vertices v)
 
+-- a vertex that is a switch
 abbrev pub switch_at : Option MapVertex → Bool
 switch_at (Some (Switch s)) = true
 switch_at _ = false
 
+-- the vertex of this number is a switch
 abbrev pub is_switch_vertex : NetMap → ℕ → Bool
 is_switch_vertex m v = switch_at (slice_get m.vertices v)
 
@@ -88,6 +94,7 @@ hosts_of [] = []
 hosts_of (Host h ∷ vs) = h ∷ hosts_of vs
 hosts_of (Switch s ∷ vs) = hosts_of vs
 
+-- the numbers of the switches, in the order of the vertices
 abbrev pub switches_of : List MapVertex → List ℕ
 switches_of [] = []
 switches_of (Host h ∷ vs) = switches_of vs
@@ -97,6 +104,7 @@ switches_of (Switch s ∷ vs) = s ∷ switches_of vs
 abbrev pub IsNearPort : MapPort → MapPort → Type 0
 IsNearPort d e = d.v ≡ e.v → IsTurn (d.p -ℤ e.p)
 
+-- each two ports of one vertex among these are at most 15 apart
 abbrev pub AreNearPorts : List MapPort → Type 0
 AreNearPorts [] = Unit {0}
 AreNearPorts (d ∷ ds) = AllByRecursion (IsNearPort d) ds × AreNearPorts ds

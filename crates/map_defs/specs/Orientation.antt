@@ -14,6 +14,7 @@ root m = if is_switch_vertex m 1 then 1 else 0
 abbrev pub level : NetMap → ℕ → ℕ
 level m v = edges_between nat_eq (map_edges m.cables) (length m.vertices) (root m) v
 
+-- the level of each vertex
 abbrev pub levels : NetMap → List ℕ
 levels m = map (level m) (numbers_below (length m.vertices))
 
@@ -29,6 +30,7 @@ place_among ls v = length (filter (λ u. stands_before ls u v) (numbers_below (l
 abbrev pub places_by : List ℕ → List ℕ
 places_by ls = map (place_among ls) (numbers_below (length ls))
 
+-- the order of the vertices of a map: the place of each
 abbrev pub order_of : NetMap → List ℕ
 order_of m = places_by (levels m)
 
@@ -36,6 +38,7 @@ order_of m = places_by (levels m)
 abbrev pub falls : List ℕ → ℕ → ℕ → Bool
 falls order v w = nat_lt (slice_index order w) (slice_index order v)
 
+-- the place falls to the vertex of this far end, where there is one
 abbrev pub falls_to : List ℕ → ℕ → Option MapPort → Bool
 falls_to order v None = false
 falls_to order v (Some e) = falls order v e.v

@@ -32,6 +32,7 @@ channels_on m None turns = []
 channels_on m (Some d) [] = channel_at m d
 channels_on m (Some d) (turn ∷ turns) = channel_at m d ++ channels_on m (next_port m d turn) turns
 
+-- the host of an address
 abbrev pub is_host_named : ℕ → MapVertex → Bool
 is_host_named h (Host g) = nat_eq g h
 is_host_named h (Switch s) = false
@@ -56,6 +57,7 @@ no_up_after_down [] = true
 no_up_after_down (true ∷ ups) = no_up_after_down ups
 no_up_after_down (false ∷ ups) = list_all not ups
 
+-- the turns from a host are a legal route
 abbrev pub is_legal : NetMap → List ℕ → ℕ → List ℤ → Bool
 is_legal m order a turns = no_up_after_down (map (is_up m order) (channels_on m (port_of_host m a) turns))
 
@@ -69,6 +71,7 @@ pub record IsLeastLegal (m : NetMap) (order : List ℕ) (a b : ℕ) (turns : Lis
 abbrev pub route_below : Route → Route → Bool
 route_below r s = nat_lt r.from s.from || (nat_eq r.from s.from && nat_lt r.to s.to)
 
+-- routes rise, each two of them: none stands twice
 abbrev pub AreRising : List Route → Type 0
 AreRising [] = Unit {0}
 AreRising (r ∷ rs) = AllByRecursion (λ s. route_below r s ≡ true) rs × AreRising rs

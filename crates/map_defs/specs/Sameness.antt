@@ -33,6 +33,7 @@ graph_of_map m = record {
   Joins = λ v p w q. IsCabled m (record { v = v; p = p }) (record { v = w; p = q });
 }
 
+-- the address of a vertex that is a host
 abbrev pub address_of : Vertex → Option ℕ
 address_of (Host h) = Some h
 address_of (Switch s) = None

@@ -31,6 +31,7 @@ pub record IsNoLarger (n : Network) (m : NetMap) : Type 0 where
   pub hosts : length (hosts_of m.vertices) ≤ length n.hosts
   pub switches : length (switches_of m.vertices) ≤ length n.switches
 
+-- a right map is no larger than its fabric
 abbrev pub RightMapIsNoLarger : Type 0
 RightMapIsNoLarger = (n : Network) (host : ℕ) (m : NetMap) → IsFabric n → has_vertex n (Host host) ≡ true → IsMapOfPart n host m → IsNoLarger n m
 

@@ -17,6 +17,7 @@ one_cable_map = unmarked_map (Host 0 ∷ Host 1 ∷ []) (cable 0 (pos 0) 1 (pos 
 abbrev pub two_hosts_routes : List Route
 two_hosts_routes = route 0 1 (pos 3 ∷ []) ∷ route 1 0 (negsuc 2 ∷ []) ∷ []
 
+-- ranks that rise along both routes
 abbrev pub two_hosts_ranks : List RankEntry
 two_hosts_ranks = rank 0 (pos 0) 1 ∷ rank 1 (pos 0) 3 ∷ rank 1 (pos 3) 4 ∷ rank 2 (pos 0) 0 ∷ []
 
@@ -24,6 +25,7 @@ two_hosts_ranks = rank 0 (pos 0) 1 ∷ rank 1 (pos 0) 3 ∷ rank 1 (pos 3) 4 ∷
 abbrev pub lost_probe : List Entry
 lost_probe = told [] IsNothing ∷ []
 
+-- the map of a lost probe: the mapper alone
 abbrev pub lone_map : NetMap
 lone_map = unmarked_map (Host 0 ∷ []) []
 
@@ -31,5 +33,6 @@ lone_map = unmarked_map (Host 0 ∷ []) []
 abbrev pub unexpanded : List Entry
 unexpanded = told [] IsSwitch ∷ []
 
+-- the map of an unexpanded switch
 abbrev pub stub_map : NetMap
 stub_map = unmarked_map (Host 0 ∷ Switch 0 ∷ []) (cable 0 (pos 0) 1 (pos 0) ∷ [])

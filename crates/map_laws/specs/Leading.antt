@@ -42,6 +42,7 @@ pub record IsOneToOne {X Y : Type 0} (R : X → Y → Type 0) : Type 0 where
   pub one : (x : X) (y z : Y) → R x y → R x z → y ≡ z
   pub back : (x w : X) (y : Y) → R x y → R w y → x ≡ w
 
+-- the channels of a right map stand one to one for those of the fabric
 abbrev pub ChannelsAreOneToOne : Type 0
 ChannelsAreOneToOne = (n : Network) (host : ℕ) (m : NetMap) → IsFabric n → (same : IsMapOfPart n host m) → IsOneToOne (IsChannelOf n host m same)
 

@@ -5,6 +5,7 @@ use Rattle.packet_defs.specs.declared.kind.Kind.TheVariants.{Mapping as OfMappin
 use Rattle.myri_packet.specs.declared.host.Body.{Body}
 use Rattle.myri_packet.specs.declared.host.Body.TheVariants.{Mapping, Gm}
 
+-- a body as its kind and its payload
 abbrev pub parts_of : Body → Kind × List ℕ
 parts_of (Mapping payload) = (OfMapping, payload.now)
 parts_of (Gm payload) = (OfGm, payload.now)

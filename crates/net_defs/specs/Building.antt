@@ -34,12 +34,15 @@ abbrev pub name_of : Network → Vertex → List ℕ
 name_of n (Host h) = option_map_or (λ name. name) (slice_get n.hosts h) []
 name_of n (Switch s) = option_map_or (λ w. w.name) (slice_get n.switches s) []
 
+-- the fabric with one host more
 abbrev pub with_host : Network → List ℕ → Network
 with_host n name = record n { hosts = n.hosts ++ name ∷ [] }
 
+-- the fabric with one switch more
 abbrev pub with_switch : Network → List ℕ → ℕ → Network
 with_switch n name ports = record n { switches = n.switches ++ record { name = name; ports = ports } ∷ [] }
 
+-- the fabric with one cable more
 abbrev pub with_cable : Network → End → End → Network
 with_cable n a b = record n { cables = n.cables ++ record { a = a; b = b } ∷ [] }
 

@@ -5,9 +5,11 @@ use Rattle.net_defs.specs.declared.vertex.Cable.{Cable}
 use Rattle.net_defs.specs.declared.vertex.End.{End}
 use Rattle.net_defs.specs.Network.{Network}
 
+-- the one port of a host
 abbrev pub host_end : ℕ → End
 host_end h = record { v = Host h; p = 0 }
 
+-- a port of a switch
 abbrev pub switch_end : ℕ → ℕ → End
 switch_end s p = record { v = Switch s; p = p }
 

@@ -32,11 +32,13 @@ has_vertex n (Switch s) = nat_lt s (length n.switches)
 abbrev pub has_port : Network → End → Bool
 has_port n e = nat_lt e.p (ports_of n e.v)
 
+-- the same host, or the same switch
 abbrev pub same_vertex : Vertex → Vertex → Bool
 same_vertex (Host g) (Host h) = nat_eq g h
 same_vertex (Switch s) (Switch t) = nat_eq s t
 same_vertex _ _ = false
 
+-- the same port of the same vertex
 abbrev pub same_end : End → End → Bool
 same_end d e = same_vertex d.v e.v && nat_eq d.p e.p
 

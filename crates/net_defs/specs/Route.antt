@@ -30,10 +30,12 @@ abbrev pub entered_after : Network → Option End → List ℤ → Option End
 entered_after n entered [] = entered
 entered_after n entered (turn ∷ turns) = entered_after n (turned n entered turn) turns
 
+-- a walk ends at a host, or at a switch that it entered by this port
 abbrev pub place_at_vertex : Vertex → ℕ → Place
 place_at_vertex (Host h) p = AtHost h
 place_at_vertex (Switch s) p = AtSwitch s p
 
+-- a walk ends at the end that it entered last, and is stuck where it entered none
 abbrev pub place_at : Option End → Place
 place_at None = Stuck
 place_at (Some e) = place_at_vertex e.v e.p
@@ -71,6 +73,7 @@ abbrev pub channel_out : ℕ → List Cable → End → Option ℕ
 channel_out k [] e = None
 channel_out k (c ∷ cs) e = if same_end c.a e then Some (2 * k) else if same_end c.b e then Some (2 * k + 1) else channel_out (k + 1) cs e
 
+-- the channel of the fabric that leaves by an end
 abbrev pub channel_from : Network → End → Option ℕ
 channel_from n e = channel_out 0 n.cables e
 

@@ -8,6 +8,7 @@ use Rattle.net_defs.specs.declared.walk.WalkFault.TheVariants.{TooLong, TurnRang
 abbrev pub is_turn : ℤ → Bool
 is_turn t = int_le (negsuc 14) t && int_le t (pos 15)
 
+-- a number that is a turn
 abbrev pub IsTurn : ℤ → Type 0
 IsTurn t = is_turn t ≡ true
 

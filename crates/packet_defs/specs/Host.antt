@@ -15,6 +15,7 @@ has_route (byte ∷ _) = nat_le 128 byte
 abbrev pub kind_of : ℕ → Option Kind
 kind_of number = if nat_eq number (type_of Mapping) then Some Mapping else if nat_eq number (type_of Gm) then Some Gm else None
 
+-- a packet of a kind that is known, with its payload
 abbrev pub of_kind : Option Kind → List ℕ → Result (Kind × List ℕ) HostDrop
 of_kind None payload = Err UnknownType
 of_kind (Some kind) payload = Ok (kind, payload)

@@ -51,6 +51,7 @@ BuiltIsSound = (route : List ℤ) (kind : Kind) (payload : List ℕ) → differe
 abbrev pub BuiltBeginsWithTurn : Type 0
 BuiltBeginsWithTurn = (turn : ℤ) (route : List ℤ) (kind : Kind) (payload : List ℕ) → IsTurn turn → front_turn (packet_of (turn ∷ route) kind payload) ≡ Some turn
 
+-- a strip leaves the packet of the other turns
 abbrev pub StripLeavesOtherTurns : Type 0
 StripLeavesOtherTurns = (turn : ℤ) (route : List ℤ) (kind : Kind) (payload : List ℕ) → stripped (packet_of (turn ∷ route) kind payload) ≡ packet_of route kind payload
 

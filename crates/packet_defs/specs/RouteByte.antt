@@ -13,5 +13,6 @@ turn_of byte =
     else if nat_le 177 byte && nat_le byte 191 then Some (pos byte -ℤ pos 192)
     else None
 
+-- the byte stands for a turn
 abbrev pub is_route_byte : ℕ → Bool
 is_route_byte byte = is_some (turn_of byte)

@@ -8,6 +8,7 @@ use Rattle.indexmap.specs.IndexMap.{IndexMap, keys}
 use Rattle.net_defs.specs.declared.vertex.Cable.{Cable}
 use Rattle.net_defs.specs.Network.{NamedSwitch, Network}
 
+-- names with the number of ports of each, in the order in which they came
 abbrev pub Entries : Type 0
 Entries = IndexMap (Vec ℕ Global) ℕ (BuildHasherDefault FoldHasher)
 
@@ -15,6 +16,7 @@ Entries = IndexMap (Vec ℕ Global) ℕ (BuildHasherDefault FoldHasher)
 abbrev pub named_entry : Vec ℕ Global × ℕ → NamedSwitch
 named_entry e = record { name = e.0.items; ports = e.1 }
 
+-- the named vertices of the entries
 abbrev pub named : Entries → List NamedSwitch
 named m = map named_entry m.entries
 

@@ -11,6 +11,7 @@ abbrev pub may_stand : Vertex → ℕ → Bool
 may_stand (Host h) p = nat_lt h 128 && nat_lt p 1
 may_stand (Switch s) p = nat_lt s 64 && nat_lt p 16
 
+-- an end that may have a place in the table
 abbrev pub is_possible : End → Bool
 is_possible e = may_stand e.v e.p
 
@@ -19,6 +20,7 @@ abbrev pub place_of_port : Vertex → ℕ → ℕ
 place_of_port (Host h) p = h
 place_of_port (Switch s) p = 128 + 16 * s + p
 
+-- the place of an end
 abbrev pub place_of_end : End → ℕ
 place_of_end e = place_of_port e.v e.p
 

@@ -26,6 +26,7 @@ has_walk ws w = list_any (λ v. same_turns v w) ws
 abbrev pub Walks : Type 0
 Walks = IndexSet (Vec ℤ Global) (BuildHasherDefault FoldHasher)
 
+-- the walks of an index, in their order
 abbrev pub walks_of : Walks → List (List ℤ)
 walks_of s = map (λ k. k.items) s.keys
 

@@ -33,10 +33,12 @@ abbrev pub fault_at : Option Ranked → MapPort → Option ℕ → Option CheckF
 fault_at before d None = Some (NoRank d.v d.p)
 fault_at before d (Some rank) = fault_between before d rank
 
+-- a channel with its rank, where it has one
 abbrev pub ranked : MapPort → Option ℕ → Option Ranked
 ranked d None = None
 ranked d (Some r) = Some ((d.v, d.p), r)
 
+-- the channel of a port, where there is one, with its rank
 abbrev pub ranked_at : List RankEntry → Option MapPort → Option Ranked
 ranked_at ks None = None
 ranked_at ks (Some d) = ranked d (rank_of ks d)

@@ -3,9 +3,11 @@ use Rattle.std.specs.Prelude.{ℕ, ℤ, List, [], Option, Some, None, option_map
 use Rattle.map_defs.specs.NetMap.{NetMap, MapPort}
 use Rattle.map_defs.specs.Routing.{next_port, channel_at}
 
+-- a port by its vertex and number
 abbrev pub port_of_pair : ℕ × ℤ → MapPort
 port_of_pair e = record { v = e.0; p = e.1 }
 
+-- a port, where there is one
 abbrev pub unpair : Option (ℕ × ℤ) → Option MapPort
 unpair e = option_map port_of_pair e
 

@@ -5,9 +5,11 @@ use Rattle.map_defs.specs.NetMap.{NetMap, MapPort, port_below, same_port, map_fa
 use Rattle.map_defs.specs.Orientation.{falls}
 use Rattle.map_defs.specs.Dependencies.{rank_by}
 
+-- the port of an entry
 abbrev pub port_of : RankEntry → MapPort
 port_of k = record { v = k.v; p = k.p }
 
+-- a port comes after the last one, where there was one
 abbrev pub comes_after : Option MapPort → MapPort → Bool
 comes_after None d = true
 comes_after (Some c) d = port_below c d
@@ -21,6 +23,7 @@ rise_after before (k ∷ ks) = comes_after before (port_of k) && rise_after (Som
 abbrev pub port_at : ℕ → MapPort
 port_at k = record { v = k / 31; p = pos (k % 31) -ℤ pos 15 }
 
+-- the entry of a channel, with its rank by an order
 abbrev pub entry_of : NetMap → List ℕ → MapPort → RankEntry
 entry_of m order d = record { v = d.v; p = d.p; rank = rank_by m order d }
 

@@ -8,6 +8,7 @@ use Rattle.replicate_merge.specs.declared.way.Way.{Way}
 use Rattle.replicate_merge.specs.Spots.{same_spot}
 use Rattle.replicate_merge.specs.Ways.{AreJoined, Has, begins_at, ends_at, node_at}
 
+-- what holds of a value that was found
 abbrev pub IfFound : {T E : Type 0} → Result (Option T) E → (T → Type 0) → Type 0
 IfFound (Ok (Some x)) P = P x
 IfFound _ P = Unit {0}

@@ -15,9 +15,11 @@ use Rattle.replicate_merge.specs.declared.way.Way.TheVariants.{Host, Cable}
 abbrev pub node_at : List Node → ℕ → Node
 node_at ns n = slice_index_or ns n Mapper
 
+-- the frame of a node that is a class of its own
 abbrev pub own_frame : ℕ → ClassFrame
 own_frame n = record { class = n; offset = pos 0 }
 
+-- the frame of a node
 abbrev pub frame_at : List ClassFrame → ℕ → ClassFrame
 frame_at fs n = slice_index_or fs n (own_frame 0)
 

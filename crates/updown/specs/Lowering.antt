@@ -14,6 +14,7 @@ lowered levels v w = if lowers levels v w then slice_set levels w (slice_index l
 abbrev pub lowered_by : List ℕ → MapCable → List ℕ
 lowered_by levels c = lowered (lowered levels c.v c.w) c.w c.v
 
+-- a level is lowered along a cable, one way or the other
 abbrev pub lowers_by : List ℕ → MapCable → Bool
 lowers_by levels c = lowers levels c.v c.w || lowers (lowered levels c.v c.w) c.w c.v
 
