@@ -1,0 +1,122 @@
+-- One line more of a script, and the range of the turns that were read.
+use Rattle.std.proofs.Common.{◌≡◌, ◌≤◌, ℕ, zero, suc, ℤ, pos, List, [], ◌∷◌, ◌++◌, Bool, true, false, ◌&&◌, length, nat_le, nat_lt, nat_eq, Some, None, Result, Ok, Err, refl, ap, sym, subst, ◌∙◌, append_assoc, arith, if◌then◌else◌}
+use Rattle.std.specs.List.{list_all}
+use Rattle.std.specs.Str.Parse.{digits_value}
+use Rattle.std.proofs.lemmas.Bool.Decides.{nat_tests}
+use Rattle.net_defs.specs.declared.walk.WalkFault.TheVariants.{TooLong, TurnRange}
+use Rattle.net_defs.specs.Network.{Network}
+use Rattle.net_defs.specs.Turn.{is_turn, walk_refusal}
+use Rattle.fab_text.specs.declared.fault.NumFault.{NumFault}
+use Rattle.fab_text.specs.declared.fault.NumFault.TheVariants.{NotNumber, TooLarge}
+use Rattle.fab_text.specs.declared.fault.FaultKind.{FaultKind}
+use Rattle.fab_text.specs.declared.fault.LineFault.{LineFault}
+use Rattle.fab_text.specs.declared.fault.LineFault.TheVariants.{Wrong, NoMemory}
+use Rattle.fab_text.specs.declared.fault.TextFault.{TextFault}
+use Rattle.fab_text.specs.Word.{number_test, number_within, with_sign, minus, turn_of}
+use Rattle.fab_text.specs.Line.{TextLine, words_of}
+use Rattle.fab_text.specs.Fault.{FirstFault, LineGives, TextGives, as_kind, at_line, and_then, fault_at}
+use Rattle.run_defs.specs.declared.command.Command.{Command}
+use Rattle.run_defs.specs.Script.{command_of, ended, is_end, script_from, turns_of}
+use Rattle.fab_script.specs.Lists.{behind}
+
+-- one item more behind others
+pub behind-one : {X E : Type 0} (done : List X) (x : X) (r : Result (List X) E) → behind done (behind (x ∷ []) r) ≡ behind (done ++ x ∷ []) r
+behind-one done x (Ok xs) = ap Ok (sym (append_assoc done (x ∷ []) xs))
+behind-one done x (Err e) = refl
+
+-- what the lines from a line on say, where it is `end`, and where it isn't
+abbrev from_line : ℕ → Network → TextLine → List TextLine → Bool → Result (List Command) FirstFault
+from_line past n l ls last =
+    if last then ended ls else and_then (at_line l.number (command_of n (words_of l.bytes))) (λ c. behind (c ∷ []) (script_from past n ls))
+
+-- a line that isn't `end`
+pub script-more : (past : ℕ) (n : Network) (ls rest : List TextLine) (l : TextLine) → ls ≡ l ∷ rest → false ≡ is_end (words_of l.bytes)
+    → script_from past n ls ≡ and_then (at_line l.number (command_of n (words_of l.bytes))) (λ c. behind (c ∷ []) (script_from past n rest))
+script-more past n ls rest l e s = ap (script_from past n) e ∙ sym (ap (from_line past n l rest) s)
+
+-- the line `end`
+pub script-end : (past : ℕ) (n : Network) (ls rest : List TextLine) (l : TextLine) → ls ≡ l ∷ rest → true ≡ is_end (words_of l.bytes) → script_from past n ls ≡ ended rest
+script-end past n ls rest l e s = ap (script_from past n) e ∙ sym (ap (from_line past n l rest) s)
+
+-- one command more
+pub script-kept : (past : ℕ) (n : Network) (all : Result (List Command) FirstFault) (done new : List Command) (ls rest : List TextLine) (l : TextLine) (c : Command)
+    → all ≡ behind done (script_from past n ls) → ls ≡ l ∷ rest → false ≡ is_end (words_of l.bytes)
+    → command_of n (words_of l.bytes) ≡ Ok c → new ≡ done ++ c ∷ [] → all ≡ behind new (script_from past n rest)
+script-kept past n all done new ls rest l c a e s g h =
+    a
+    ∙ ap (behind done) (script-more past n ls rest l e s ∙ ap (λ r. and_then (at_line l.number r) (λ c. behind (c ∷ []) (script_from past n rest))) g)
+    ∙ behind-one done c (script_from past n rest)
+    ∙ ap (λ d. behind d (script_from past n rest)) (sym h)
+
+-- a line that is refused makes its script refused
+pub script-refused : (past : ℕ) (n : Network) (all : Result (List Command) FirstFault) (done : List Command) (ls rest : List TextLine) (l : TextLine) (fault : LineFault)
+    → all ≡ behind done (script_from past n ls) → ls ≡ l ∷ rest → false ≡ is_end (words_of l.bytes)
+    → LineGives (command_of n (words_of l.bytes)) (Err fault) → TextGives all (Err (fault_at l.number fault))
+script-refused past n all done ls rest l (Wrong kind) a e s g =
+    a ∙ ap (behind done) (script-more past n ls rest l e s ∙ ap (λ r. and_then (at_line l.number r) (λ c. behind (c ∷ []) (script_from past n rest))) g)
+script-refused past n all done ls rest l NoMemory a e s g = tt
+
+-- the line `end` ends its script
+pub script-ended : (past : ℕ) (n : Network) (all : Result (List Command) FirstFault) (done : List Command) (ls rest : List TextLine) (l : TextLine) (result : Result (List Command) TextFault)
+    → all ≡ behind done (script_from past n ls) → ls ≡ l ∷ rest → true ≡ is_end (words_of l.bytes)
+    → TextGives (behind done (ended rest)) result → TextGives all result
+script-ended past n all done ls rest l result a e s g =
+    let P : Result (List Command) FirstFault → Type 0 = λ r. TextGives r result in
+    subst P (sym (a ∙ ap (behind done) (script-end past n ls rest l e s))) g
+
+-- a number within a bound
+pub within : (most : ℕ) (w : List ℕ) (n : ℕ) → number_within most w ≡ Ok n → n ≤ most
+within most w n e = by (number_test w) (nat_le (digits_value 10 w) most) refl e
+  where
+    by : (t u : Bool) → nat_le (digits_value 10 w) most ≡ u → (if t then (if u then Ok (digits_value 10 w) else Err TooLarge) else Err NotNumber) ≡ Ok n → n ≤ most
+    by true true below e = let same : digits_value 10 w ≡ n = cc in grind (arith, nat_tests)
+    by true false below e = cc
+    by false u below e = cc
+
+turn-plus : (n : ℕ) → n ≤ 15 → is_turn (pos n) ≡ true
+turn-plus n h = grind (arith, nat_tests)
+
+turn-minus : (n : ℕ) → n ≤ 15 → is_turn (minus n) ≡ true
+turn-minus zero h = refl
+turn-minus (suc n) h = grind (arith, nat_tests)
+
+plus-range : (r : Result ℕ NumFault) (t : ℤ) → ((n : ℕ) → r ≡ Ok n → n ≤ 15) → with_sign pos r ≡ Ok t → is_turn t ≡ true
+plus-range (Ok n) t h e = let same : pos n ≡ t = cc in ap is_turn (sym same) ∙ turn-plus n (h n refl)
+plus-range (Err f) t h e = cc
+
+minus-range : (r : Result ℕ NumFault) (t : ℤ) → ((n : ℕ) → r ≡ Ok n → n ≤ 15) → with_sign minus r ≡ Ok t → is_turn t ≡ true
+minus-range (Ok n) t h e = let same : minus n ≡ t = cc in ap is_turn (sym same) ∙ turn-minus n (h n refl)
+minus-range (Err f) t h e = cc
+
+-- a turn that was read is one
+turn-range : (w : List ℕ) (t : ℤ) → turn_of w ≡ Ok t → is_turn t ≡ true
+turn-range [] t e = cc
+turn-range (b ∷ bs) t e = by (nat_eq b 43) (nat_eq b 45) e
+  where
+    by : (p m : Bool) → (if p then with_sign pos (number_within 15 bs) else if m then with_sign minus (number_within 15 bs) else with_sign pos (number_within 15 (b ∷ bs))) ≡ Ok t → is_turn t ≡ true
+    by true m e = plus-range (number_within 15 bs) t (within 15 bs) e
+    by false true e = minus-range (number_within 15 bs) t (within 15 bs) e
+    by false false e = plus-range (number_within 15 (b ∷ bs)) t (within 15 (b ∷ bs)) e
+
+-- turns that were read are as many as their words, and each is one
+turns-range : (ws : List (List ℕ)) (ts : List ℤ) → turns_of ws ≡ Ok ts → (length ts ≡ length ws) × (list_all is_turn ts ≡ true)
+turns-range [] ts e = let same : [] ≡ ts = cc in (ap length (sym same), ap (list_all is_turn) (sym same))
+turns-range (w ∷ ws) ts e = by (turn_of w) (turns_of ws) refl e (turns-range ws)
+  where
+    by : (r : Result ℤ NumFault) (others : Result (List ℤ) FaultKind) → turn_of w ≡ r → and_then (as_kind r) (λ t. behind (t ∷ []) others) ≡ Ok ts
+        → ((us : List ℤ) → others ≡ Ok us → (length us ≡ length ws) × (list_all is_turn us ≡ true))
+        → (length ts ≡ length (w ∷ ws)) × (list_all is_turn ts ≡ true)
+    by (Ok t) (Ok us) f e rest =
+        let same : t ∷ us ≡ ts = cc in
+        let both = rest us refl in
+        (ap length (sym same) ∙ ap suc both.0, ap (list_all is_turn) (sym same) ∙ (λ i. turn-range w t f i && both.1 i))
+    by (Ok t) (Err k) f e rest = cc
+    by (Err k) others f e rest = cc
+
+-- few turns that were read are a walk
+pub turns-walk : (ws : List (List ℕ)) (ts : List ℤ) → turns_of ws ≡ Ok ts → length ws ≤ 64 → walk_refusal ts ≡ None
+turns-walk ws ts e few =
+    let both = turns-range ws ts e in
+    let same : length ts ≡ length ws = both.0 in
+    let short : nat_lt 64 (length ts) ≡ false = grind (arith, nat_tests) in
+    λ i. if short i then Some TooLong else if both.1 i then None else Some TurnRange

@@ -1,0 +1,87 @@
+//! One line of a script: the command that it says, or its first fault.
+
+ghost use Rattle.std.specs.Prelude.{◌≡◌};
+ghost use Rattle.fab_text.specs.Line.{words_of};
+ghost use Rattle.fab_text.specs.Fault.{LineGives};
+ghost use Rattle.run_defs.specs.Script.{command_as, command_by, command_of, line_kinds};
+ghost use Rattle.fab_script.specs.Values.{command_but_walk};
+
+use crate::map_lines::{install, map, routes, settle};
+use crate::plan_lines::plan;
+use crate::port_lines::{PortCall, at_port, open, provide, send};
+use crate::step_lines::step;
+use crate::walk_line::walk;
+use fab_text::{FaultKind, LineFault, Words, words};
+use port_graph::Fabric;
+use run_defs::Command;
+use std::alloc::Global;
+
+/// The command that a line says.
+pub(crate) fn read_command(
+    alloc: Global,
+    fabric: &Fabric,
+    line: &[u8],
+) -> Result<Command, LineFault>
+    ensures { LineGives (command_of fabric.now (words_of line.now)) result }
+{
+    let mut args = words(line);
+    match args.next_word() {
+        Some(first) => read_as(alloc, fabric, first, args),
+        None => Err(LineFault::Wrong(FaultKind::BadWord)),
+    }
+}
+
+// The command of a line that begins with this word.
+fn read_as(alloc: Global, fabric: &Fabric, first: &[u8], args: Words) -> Result<Command, LineFault>
+    ensures { LineGives (command_as fabric.now first.now (words_of args.entry)) result }
+{
+    if first == b"walk".as_slice() {
+        return walk(alloc, fabric, args);
+    }
+    match read_but_walk(fabric, first, args) {
+        Ok(command) => Ok(command),
+        Err(kind) => Err(LineFault::Wrong(kind)),
+    }
+}
+
+// The same, where the word isn't `walk`.
+fn read_but_walk(fabric: &Fabric, first: &[u8], args: Words) -> Result<Command, FaultKind>
+    ensures { result ≡ command_but_walk fabric.now first.now (words_of args.entry) }
+{
+    if first == b"plan".as_slice() {
+        plan(fabric, args)
+    } else if first == b"step".as_slice() {
+        step(fabric, args)
+    } else {
+        read_by_one_word(fabric, first, args)
+    }
+}
+
+// The same of a line that one word names.
+fn read_by_one_word(fabric: &Fabric, first: &[u8], args: Words) -> Result<Command, FaultKind>
+    ensures { result ≡ command_by fabric.now line_kinds first.now (words_of args.entry) }
+{
+    if first == b"map".as_slice() {
+        map(fabric, args)
+    } else if first == b"routes".as_slice() {
+        routes(fabric, args)
+    } else if first == b"install".as_slice() {
+        install(fabric, args)
+    } else if first == b"open".as_slice() {
+        open(fabric, args)
+    } else if first == b"close".as_slice() {
+        at_port(fabric, PortCall::Close, args)
+    } else if first == b"poll".as_slice() {
+        at_port(fabric, PortCall::Poll, args)
+    } else if first == b"tokens".as_slice() {
+        at_port(fabric, PortCall::Tokens, args)
+    } else if first == b"provide".as_slice() {
+        provide(fabric, args)
+    } else if first == b"send".as_slice() {
+        send(fabric, args)
+    } else if first == b"settle".as_slice() {
+        settle(fabric, args)
+    } else {
+        Err(FaultKind::BadWord)
+    }
+}

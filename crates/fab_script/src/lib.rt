@@ -1,0 +1,38 @@
+//! The script of a text: its lines, read into commands over a fabric.
+//!
+//! It reads no fabric part, and runs no command. `specs/Script.antt` of `run_defs` is the grammar: the commands that a script says, or
+//! its first fault.
+//!
+//! ```text
+//!   script                   line 7 of its text: the fabric part ends
+//!   map a 4 1                Map { host: 0, depth: 4, tries: 1 }
+//!   plan flip 1 6 193        the second word counts with the first
+//!   step advance s 5         the channel that leaves port 5 of s
+//!   end                      Finish; only blank lines and comments follow
+//! ```
+//!
+//! | module | has |
+//! |---|---|
+//! | `script` | all lines, up to `end` |
+//! | `command` | one line, by its first word |
+//! | `walk_line` | `walk`, which alone takes memory |
+//! | `map_lines` | `map`, `routes`, `install`, `settle` |
+//! | `port_lines` | `open`, `close`, `poll`, `tokens`, `provide`, `send` |
+//! | `plan_lines`, `step_lines` | `plan` and `step`, by their second word |
+//! | `counted`, `values` | exactly so many words; what one word says |
+#![tactic(auto)]
+
+mod command;
+mod counted;
+mod map_lines;
+mod plan_lines;
+mod port_lines;
+mod script;
+mod step_lines;
+#[cfg(test)]
+mod tests;
+mod values;
+mod walk_line;
+
+pub use run_defs::{Command, PlanKind, StepLine};
+pub use script::{Script, read_script};

@@ -1,0 +1,70 @@
+//! Lines that plan a fault: `plan lose`, `plan repeat`, `plan hold` and `plan flip`. The second word counts with the first.
+
+ghost use Rattle.std.specs.Prelude.{◌≡◌, ◌∷◌, []};
+ghost use Rattle.fab_text.specs.Line.{words_of};
+ghost use Rattle.fab_text.specs.Fault.{and_then};
+ghost use Rattle.run_defs.specs.Script.{of_ahead, of_bit, of_pattern, said_by, plan_meant, plan_flip_meant, plan_kinds, by_second, command_by};
+
+use crate::counted::{one, three};
+use crate::values::{byte, number};
+use fab_text::{FaultKind, Words};
+use port_graph::Fabric;
+use run_defs::{Command, PlanKind};
+
+// How far ahead a fault may be planned.
+const MAX_AHEAD: u32 = 1_000_000_000;
+
+/// The greatest first bit of a flip.
+pub(crate) const MAX_BIT: u32 = 10_000;
+
+/// `plan`, and what follows it.
+pub(crate) fn plan(fabric: &Fabric, mut args: Words) -> Result<Command, FaultKind>
+    ensures { result ≡ by_second fabric.now plan_kinds (words_of args.entry) }
+{
+    match args.next_word() {
+        Some(second) => plan_by(fabric, second, args),
+        None => Err(FaultKind::BadWord),
+    }
+}
+
+// The plan that this word says.
+fn plan_by(fabric: &Fabric, second: &[u8], args: Words) -> Result<Command, FaultKind>
+    ensures { result ≡ command_by fabric.now plan_kinds second.now (words_of args.entry) }
+{
+    if second == b"lose".as_slice() {
+        plan_for(fabric, PlanKind::Lose, args)
+    } else if second == b"repeat".as_slice() {
+        plan_for(fabric, PlanKind::Repeat, args)
+    } else if second == b"hold".as_slice() {
+        plan_for(fabric, PlanKind::Hold, args)
+    } else if second == b"flip".as_slice() {
+        plan_flip(fabric, args)
+    } else {
+        Err(FaultKind::BadWord)
+    }
+}
+
+// `N`
+fn plan_for(fabric: &Fabric, kind: PlanKind, args: Words) -> Result<Command, FaultKind>
+    ensures { result ≡ and_then (said_by (of_ahead ∷ []) (words_of args.entry)) (plan_meant kind fabric.now) }
+{
+    let Some(ahead) = one(args) else {
+        return Err(FaultKind::BadWord);
+    };
+    let ahead = u64::from(number(ahead, 1, MAX_AHEAD)?);
+    Ok(Command::Plan { ahead, kind })
+}
+
+// `N BIT PATTERN`
+fn plan_flip(fabric: &Fabric, args: Words) -> Result<Command, FaultKind>
+    ensures { result ≡ and_then (said_by (of_ahead ∷ of_bit ∷ of_pattern ∷ []) (words_of args.entry)) (plan_flip_meant fabric.now) }
+{
+    let Some((ahead, bit, pattern)) = three(args) else {
+        return Err(FaultKind::BadWord);
+    };
+    let ahead = u64::from(number(ahead, 1, MAX_AHEAD)?);
+    let bit = number(bit, 0, MAX_BIT)?;
+    let pattern = byte(pattern, 1, u8::MAX)?;
+    let kind = PlanKind::Flip { bit, pattern };
+    Ok(Command::Plan { ahead, kind })
+}

@@ -1,0 +1,107 @@
+//! All lines of a script.
+
+ghost use Rattle.std.specs.Prelude.{◌≡◌, ◌≤◌, ◌+◌, length, IfOk};
+ghost use Rattle.std.specs.List.{AllByRecursion};
+ghost use Rattle.fab_text.specs.Line.{lines_left, words_of};
+ghost use Rattle.fab_text.specs.Fault.{TextGives};
+ghost use Rattle.run_defs.specs.Script.{ended, is_end, script_reading};
+ghost use Rattle.fab_script.specs.Lists.{behind};
+ghost use Rattle.fab_script.specs.Ranges.{IsCommandOf};
+
+use crate::command::read_command;
+use fab_text::{FaultKind, Lines, TextFault, line_count, words};
+use port_graph::Fabric;
+use run_defs::Command;
+use std::alloc::Global;
+use std::marker::Model;
+
+/// The commands of a script, in order, of which the last is `Finish`. Contracts see their list.
+#[derive(Debug, Drop)]
+pub struct Script {
+    commands: Vec<Command>,
+}
+
+impl Model for Script {
+    ghost use Rattle.std.specs.Prelude.{List};
+    ghost use Rattle.run_defs.specs.declared.command.Command.{Command};
+
+    ghost Value = { List Command };
+
+    ghost view = { λ s. s.commands.items };
+}
+
+impl Script {
+    /// The commands, in the order of their lines.
+    pub fn list(&self) -> &[Command]
+        ensures { result.now ≡ self.now }
+    {
+        &self.commands
+    }
+}
+
+/// Reads the script of a text: the lines behind its line `script`, which has the number `line`. Names are those of the fabric.
+///
+/// A script that isn't of the form is refused with its first fault: the first line that has one, and in it, in this order, the first
+/// word (with `plan` and `step` the second word too), the number of words, each further word's form from left to right, and then the
+/// rules of the fabric: `NoVertex` for a name that no vertex has, or a switch's where a host must stand, and `PortRange` for a port
+/// that its vertex lacks. A script without `end` is refused at the line behind its last.
+pub fn read_script(alloc: Global, text: &[u8], line: u32, f: &Fabric) -> Result<Script, TextFault>
+    requires { line + length text.now ≤ 4294967290 }
+    // Exactly the commands that the lines say, or exactly the first fault.
+    ensures reading { TextGives (script_reading f.now line text.now) result }
+    // They name hosts and ends of the fabric, with numbers in the ranges of their places.
+    ensures ranged { IfOk result (λ s. AllByRecursion (IsCommandOf f.now) s) }
+{
+    read_lines(alloc, text, line, f)
+}
+
+// The same, without what each command is.
+fn read_lines(alloc: Global, text: &[u8], line: u32, f: &Fabric) -> Result<Script, TextFault>
+    requires { line + length text.now ≤ 4294967290 }
+    ensures { TextGives (script_reading f.now line text.now) result }
+{
+    let mut commands = Vec::new(alloc);
+    let mut left = Lines::numbered_from(line + 1, text);
+    'lines: while let Some((number, line)) = left.next_line() {
+        if is_end(line) {
+            return finished(commands, left);
+        }
+        let command = match read_command(alloc, f, line) {
+            Ok(command) => command,
+            Err(fault) => return Err(fault.at(number)),
+        };
+        if commands.push(command).is_err() {
+            return Err(TextFault::NoMemory);
+        }
+    }
+    Err(TextFault::At {
+        line: line + line_count(text) + 1,
+        kind: FaultKind::NoEnd,
+    })
+}
+
+// The commands with `end` behind them, where nothing that says something follows it.
+fn finished(mut commands: Vec<Command>, mut left: Lines) -> Result<Script, TextFault>
+    ensures { TextGives (behind commands.items (ended (lines_left left.entry))) result }
+{
+    if let Some((line, _)) = left.next_line() {
+        return Err(TextFault::At {
+            line,
+            kind: FaultKind::AfterEnd,
+        });
+    }
+    if commands.push(Command::Finish).is_err() {
+        return Err(TextFault::NoMemory);
+    }
+    Ok(Script { commands })
+}
+
+// Whether a line is `end`.
+fn is_end(line: &[u8]) -> bool
+    ensures { result ≡ is_end (words_of line.now) }
+{
+    match words(line).one() {
+        Some(word) => word == b"end".as_slice(),
+        None => false,
+    }
+}
