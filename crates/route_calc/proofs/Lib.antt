@@ -1,0 +1,14 @@
+pub mod Adding
+pub mod Best
+pub mod Existing
+pub mod Few
+pub mod First
+pub mod Gathered
+pub mod Going
+pub mod Least
+pub mod Made
+pub mod Reached
+pub mod Rising
+pub mod Starting
+pub mod Tabled
+pub mod Turning

@@ -1,0 +1,25 @@
+use Rattle.std.proofs.Common.{◌≡◌, None, List, sym, subst, ◌∙◌}
+use Rattle.std.specs.Prelude.{ℤ}
+use Rattle.std.proofs.lemmas.Result.{IfOk-weaker}
+use Rattle.net_defs.specs.Turn.{walk_refusal}
+use Rattle.map_defs.specs.Orientation.{order_of}
+use Rattle.map_defs.specs.Routing.{IsLeastLegal}
+use Rattle.route_calc.proofs.Starting.{walk-least, walk-fits}
+use Rattle.route_calc.proofs.pairs.least_walk.Goals as goal
+
+pub walk_of-requires : goal.walk_of-requires
+walk_of-requires c =
+    let m = c.args.m.now in
+    let from = c.args.from.now in
+    let to = c.args.to.now in
+    let s = c.least_start-count in
+    subst (λ (ts : List ℤ). walk_refusal ts ≡ None) (sym (c.deref.ensures.value ∙ c.in_ok-turns.ensures)) (walk-fits m (order_of m) s.result.1 from.vertex to.vertex s.result.0 c.vertices.ensures.is_map.is_map c.requires.few s.ensures.start s.ensures.distance)
+
+pub returns : goal.returns
+returns c =
+    let m = c.args.m.now in
+    let from = c.args.from.now in
+    let to = c.args.to.now in
+    let s = c.least_start-count in
+    let least = walk-least m (order_of m) s.result.1 from.vertex to.vertex from.host to.host s.result.0 c.vertices.ensures.is_map.is_map c.requires.from.is_vertex c.requires.to.is_vertex s.ensures.start s.ensures.distance in
+    IfOk-weaker c.walk_of.result (λ w. w ≡ c.deref.result.now) (λ w. IsLeastLegal m (order_of m) from.host to.host w) (λ w e. subst (IsLeastLegal m (order_of m) from.host to.host) (sym (e ∙ c.deref.ensures.value ∙ c.in_ok-turns.ensures)) least) c.walk_of.ensures

@@ -1,0 +1,4 @@
+pub mod Adding
+pub mod First
+pub mod Reaching
+pub mod Ways

@@ -1,0 +1,172 @@
+//! The routes of all hosts.
+
+ghost use Rattle.std.specs.Prelude.{◌≡◌, ◌≢◌, ℕ, pos, ◌<◌, ◌≤◌, ◌++◌, ◌∷◌, [], length, None, Some, IfOk, OnOk};
+ghost use Rattle.std.specs.List.{AllByRecursion};
+ghost use Rattle.net_defs.specs.Turn.{IsTurn, walk_refusal};
+ghost use Rattle.map_defs.specs.NetMap.{IsConnected, host_of_vertex, switches_of};
+ghost use Rattle.map_defs.specs.Orientation.{order_of};
+ghost use Rattle.map_defs.specs.Routing.{IsLeastLegal, AreRoutesOf};
+ghost use Rattle.updown.specs.Oriented.{orientation_of};
+ghost use Rattle.port_graph.specs.Routes.{push_refusal};
+ghost use Rattle.route_calc.specs.Adding.{AddsRoutes};
+ghost use Rattle.route_calc.specs.Ways.{AreWaysOf, AreAllWays, AreRisingHosts, IsDistance, entered_by};
+
+use crate::entered::Entered;
+use crate::exits::entered_by;
+use crate::ways::Ways;
+use fabric_map::{FabricMap, MapVertex};
+use net_defs::WalkFault;
+use port_graph::{Route, RoutePush, RouteSet, Walk};
+use std::alloc::{AllocError, Global};
+use updown::Orientation;
+
+/// One route for each ordered pair of different hosts: the least legal one, by length, then turn by turn.
+pub fn routes(alloc: Global, m: &FabricMap, o: &Orientation) -> Result<RouteSet, AllocError>
+    requires oriented { o.now ≡ orientation_of m.now }
+    requires connected { IsConnected m.now }
+    requires few { length (switches_of m.now.vertices) ≤ 64 }
+    ensures { IfOk result (λ set. AreRoutesOf m.now (order_of m.now) set) }
+{
+    let ways = all_ways(alloc, m, o)?;
+    let mut set = RouteSet::new(alloc);
+    for from in &ways {
+        add_routes(alloc, m, o, from, &ways, &mut set)?;
+    }
+    let _ = set.list();
+    Ok(set)
+}
+
+// The ways to each host, by address.
+fn all_ways(alloc: Global, m: &FabricMap, o: &Orientation) -> Result<Vec<Ways>, AllocError>
+    requires { o.now ≡ orientation_of m.now }
+    ensures { IfOk result (λ ws. AreAllWays m.now (order_of m.now) ws.items) }
+{
+    let mut ways = Vec::new(alloc);
+    for a in 0..usize::from(greatest_address(m)) + 1 {
+        if let Some(vertex) = m.vertex_of_host(a as u16) {
+            let way = Ways::to(alloc, m, o, a as u16, vertex)?;
+            ways.push(way)?;
+        }
+    }
+    Ok(ways)
+}
+
+// The greatest address of a host, or 0.
+fn greatest_address(m: &FabricMap) -> u16
+    ensures { (v h : ℕ) → host_of_vertex m.now v ≡ Some h → h ≤ result }
+{
+    let mut greatest = 0;
+    for v in m.vertices() {
+        if let MapVertex::Host(h) = v {
+            if greatest < *h {
+                greatest = *h;
+            }
+        }
+    }
+    greatest
+}
+
+// Adds the routes from one host.
+fn add_routes(
+    alloc: Global,
+    m: &FabricMap,
+    o: &Orientation,
+    from: &Ways,
+    ways: &[Ways],
+    set: &mut RouteSet,
+) -> Result<(), AllocError>
+    requires oriented { o.now ≡ orientation_of m.now }
+    requires connected { IsConnected m.now }
+    requires few { length (switches_of m.now.vertices) ≤ 64 }
+    requires from { AreWaysOf m.now (order_of m.now) from.now }
+    requires to { AllByRecursion (AreWaysOf m.now (order_of m.now)) ways.now }
+    requires rising { AreRisingHosts ways.now }
+    requires before { AllByRecursion (λ r. r.from < from.now.host) set.old }
+    ensures { OnOk result (AddsRoutes m.now (order_of m.now) from.now.host ways.now (length ways.now) set.old set.new) }
+{
+    let a = from.host();
+    for to in ways {
+        let b = to.host();
+        if a != b {
+            let walk = least_walk(alloc, m, o, from, to)?;
+            add_route(
+                Route {
+                    from: a,
+                    to: b,
+                    walk,
+                },
+                set,
+            )?;
+        }
+    }
+    Ok(())
+}
+
+// Adds a route that stands above the others.
+fn add_route(r: Route, set: &mut RouteSet) -> Result<(), AllocError>
+    requires { push_refusal set.old r ≡ None }
+    ensures { OnOk result (set.new ≡ set.old ++ r ∷ []) }
+{
+    match set.push(r) {
+        Ok(()) => Ok(()),
+        Err((_, RoutePush::NoMemory)) => Err(AllocError),
+        Err((_, RoutePush::Order)) => unreachable!(),
+    }
+}
+
+// The least legal walk from a host to another.
+fn least_walk(
+    alloc: Global,
+    m: &FabricMap,
+    o: &Orientation,
+    from: &Ways,
+    to: &Ways,
+) -> Result<Walk, AllocError>
+    requires oriented { o.now ≡ orientation_of m.now }
+    requires connected { IsConnected m.now }
+    requires few { length (switches_of m.now.vertices) ≤ 64 }
+    requires from { AreWaysOf m.now (order_of m.now) from.now }
+    requires to { AreWaysOf m.now (order_of m.now) to.now }
+    requires differ { from.now.host ≢ to.now.host }
+    ensures { IfOk result (λ w. IsLeastLegal m.now (order_of m.now) from.now.host to.now.host w) }
+{
+    let _ = m.vertices();
+    let (start, count) = least_start(m, o, from, to);
+    let turns = to.turns(alloc, m, o, start, count)?;
+    walk_of(alloc, &turns)
+}
+
+// The walk of turns that are one.
+fn walk_of(alloc: Global, turns: &[i8]) -> Result<Walk, AllocError>
+    requires { walk_refusal turns.now ≡ None }
+    ensures { IfOk result (λ w. w ≡ turns.now) }
+{
+    match Walk::new(alloc, turns) {
+        Ok(walk) => Ok(walk),
+        Err(WalkFault::NoMemory) => Err(AllocError),
+        Err(WalkFault::TooLong) => unreachable!(),
+        Err(WalkFault::TurnRange) => unreachable!(),
+    }
+}
+
+// Where a host's cable leads, and how many channels are left from there.
+fn least_start(m: &FabricMap, o: &Orientation, from: &Ways, to: &Ways) -> (Entered, usize)
+    requires oriented { o.now ≡ orientation_of m.now }
+    requires connected { IsConnected m.now }
+    requires from { AreWaysOf m.now (order_of m.now) from.now }
+    requires to { AreWaysOf m.now (order_of m.now) to.now }
+    requires differ { from.now.host ≢ to.now.host }
+    ensures start { entered_by m.now (order_of m.now) record { v = from.now.vertex; p = pos 0 } ≡ Some result.0 }
+    ensures port { IsTurn result.0.port }
+    ensures count { result.1 < length to.now.tables }
+    ensures distance { IsDistance m.now (order_of m.now) to.now.vertex result.1 result.0.v result.0.down }
+{
+    let _ = m.vertices();
+    match entered_by(m, o, from.vertex(), 0) {
+        None => unreachable!(),
+        Some(start) => match to.distance(start.v, start.down) {
+            None => unreachable!(),
+            Some(count) => (start, count),
+        },
+    }
+}
