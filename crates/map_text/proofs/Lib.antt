@@ -1,0 +1,7 @@
+pub mod Indexed
+pub mod Lines
+pub mod Words
+pub mod Free
+pub mod ReadBack
+pub mod Printed
+pub mod Placed

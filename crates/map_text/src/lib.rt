@@ -1,0 +1,32 @@
+//! The text of a map: printed, and read back.
+//!
+//! It makes no map of a journal, and prints no other line of a report. `specs/LineText.antt` of `run_defs` says what the lines of a map are;
+//! `specs/Declaring.antt` and `specs/Reading.antt` here say which texts are read, as which map, and what the first fault of others is.
+//!
+//! | module | has |
+//! |---|---|
+//! | `growing` | the map of the lines so far, its switches found by number |
+//! | `declaring` | a line, and what it declares or its first fault |
+//! | `reading` | a text up to its line `endmap` |
+//! | `printing` | the lines of a map |
+//!
+//! ```text
+//!   host a                a -- 0 #0 +3 -- b      ports of #0 count from the one that a is at
+//!   switch #0 core
+//!   host b
+//!   cable a 0 #0 0
+//!   cable #0 +3 b 0
+//!   endmap
+//! ```
+#![tactic(auto)]
+
+mod declaring;
+mod growing;
+mod printing;
+mod reading;
+#[cfg(test)]
+mod tests;
+
+pub use fab_text::{FaultKind, TextFault};
+pub use printing::print_map;
+pub use reading::read_map;
