@@ -1,0 +1,48 @@
+-- What a contract sees of the ports of a host.
+use Rattle.std.specs.Prelude.{◌≡◌, ℕ, Bool, List, map, length, replicate, slice_index_or, slice_set, Option, Some, None, option_map}
+use Rattle.gm_defs.specs.declared.token.TokenPlace.{TokenPlace}
+use Rattle.gm_defs.specs.Token.{PortState}
+use Rattle.gm_port.specs.Opened.{place_of}
+use Rattle.world_defs.specs.Node.{port_count}
+use Rattle.host_ports.specs.Numbered.{PortOf, port_in}
+
+-- The ports of a host by number, where they are open.
+pub record HostPorts : Type 0 where
+  pub host : ℕ
+  pub ports : List (Option PortState)
+
+-- a host without open ports
+abbrev pub none_open : ℕ → HostPorts
+none_open host = record { host = host; ports = replicate port_count None }
+
+-- a port, where it is open
+abbrev pub open_at : HostPorts → ℕ → Option PortState
+open_at h port = slice_index_or h.ports port None
+
+abbrev pub with_open : HostPorts → ℕ → Option PortState → HostPorts
+with_open h port p = record h { ports = slice_set h.ports port p }
+
+-- a port that may be open changes so where it is
+abbrev pub changed : HostPorts → ℕ → (PortState → PortState) → HostPorts
+changed h port f = with_open h port (option_map f (open_at h port))
+
+-- the states of ports
+abbrev pub state_at : Option PortOf → Option PortState
+state_at p = option_map (λ x. x.state) p
+
+abbrev pub states : List (Option PortOf) → List (Option PortState)
+states ps = map state_at ps
+
+-- the port of a host and a number, in another state
+abbrev pub changed_port : Option PortOf → (PortState → PortState) → Option PortOf
+changed_port p f = option_map (λ x. port_in x (f x.state)) p
+
+-- Eight ports, and each that is open knows whose it is.
+pub record IsHostPorts (host : ℕ) (ps : List (Option PortOf)) : Type 0 where
+  pub counted : length ps ≡ port_count
+  pub own : (port : ℕ) (p : PortOf) → slice_index_or ps port None ≡ Some p → (p.host ≡ host) × (p.port ≡ port)
+
+-- the place of a token of a port: none where the client has it, or the port isn't open
+abbrev pub place_at : Option PortState → Bool → ℕ → Option TokenPlace
+place_at None send number = None
+place_at (Some p) send number = place_of p send number

@@ -1,0 +1,47 @@
+//! What the ports of a host refuse.
+
+/// Why a port is not opened.
+#[derive(Clone, Copy, Debug, PartialEq, Eq)]
+pub enum PortBegin {
+    /// It is open.
+    Already,
+    /// There is no memory for it.
+    NoMemory,
+}
+
+/// Why a send is refused.
+#[derive(Clone, Copy, Debug, PartialEq, Eq)]
+pub enum PortSend {
+    /// The port isn't open.
+    NotOpen,
+    /// No message may be so long.
+    TooLong,
+    /// The buffer is shorter than the message.
+    BufferShort,
+}
+
+/// Why a buffer is not provided.
+#[derive(Clone, Copy, Debug, PartialEq, Eq)]
+pub enum PortProvide {
+    /// The port isn't open.
+    NotOpen,
+    /// The size is not from 4 to 16, or the priority is above 1.
+    BadSize,
+    /// The buffer is shorter than its size.
+    BufferShort,
+}
+
+/// Why a port is not closed.
+#[derive(Clone, Copy, Debug, PartialEq, Eq)]
+pub enum PortClose {
+    /// It isn't open.
+    NotOpen,
+    /// So many sends aren't finished.
+    Busy(usize),
+    /// So many events wait.
+    Unread(usize),
+}
+
+/// The port isn't open.
+#[derive(Clone, Copy, Debug, PartialEq, Eq)]
+pub struct NotOpen;

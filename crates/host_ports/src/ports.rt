@@ -1,0 +1,219 @@
+//! The ports of a host.
+
+ghost use Rattle.std.specs.Prelude.{◌≡◌, ◌<◌, map, length, true, is_some, None, Some, IfOk, IfErr, IfNone, IfSome, OnOk, OnErr, OnSome, MatchResult, MatchOption, option_map};
+ghost use Rattle.std.specs.Option.{ForSome};
+ghost use Rattle.net_defs.specs.Refusal.{Refuses};
+ghost use Rattle.gm_defs.specs.Body.{is_head};
+ghost use Rattle.gm_defs.specs.Token.{opened, place_of_send, place_of_recv};
+ghost use Rattle.gm_defs.specs.Port.{sent_with, provided_with, finished, delivered, next_event, polled};
+ghost use Rattle.gm_tokens.specs.Token.{token_at};
+ghost use Rattle.gm_port.specs.Held.{send_at, receive_at, event_at};
+ghost use Rattle.world_defs.specs.Hearing.{port_takes};
+ghost use Rattle.host_ports.specs.Held.{none_open, open_at, with_open, changed, place_at};
+ghost use Rattle.host_ports.specs.Refusal.{begin_bar, send_bar, provide_bar, close_bar};
+
+use crate::ask::{NotOpen, PortBegin, PortClose, PortProvide, PortSend};
+use crate::node_port::NodePort;
+use crate::slot;
+use gm_defs::{FrameHead, TokenPlace};
+use gm_port::{PortEvent, SendAsk, Wreck};
+use gm_tokens::{RecvToken, SendToken};
+use reg_mem::Reg;
+use std::alloc::{AllocError, Global};
+use std::marker::Model;
+
+// How many ports a host has.
+const PORTS: usize = 8;
+
+/// The eight ports of a host, each where it is open.
+///
+/// They must be spent, by [`Ports::end`] once all are closed.
+pub struct Ports {
+    host: u16,
+    ports: Vec<Option<NodePort>>,
+}
+
+impl Model for Ports {
+    ghost use Rattle.host_ports.specs.Held.{HostPorts, IsHostPorts, states};
+
+    ghost Value = { HostPorts };
+
+    ghost view = { λ p. record { host = p.host; ports = states p.ports.items } };
+
+    ghost invariant = { λ p. IsHostPorts p.host p.ports.items };
+}
+
+impl Ports {
+    /// The ports of a host, all of them closed.
+    pub fn new(alloc: Global, host: u16) -> Result<Ports, AllocError>
+        ensures { IfOk result (λ p. p ≡ none_open host) }
+    {
+        let mut ports = Vec::with_capacity(alloc, PORTS)?;
+        for _ in 0..PORTS {
+            ports.push_reserved(None);
+        }
+        Ok(Ports { host, ports })
+    }
+
+    /// Opens a port with room for all of its tokens. A refusal changes nothing: Already exactly where the port is open.
+    pub fn begin(
+        &mut self,
+        alloc: Global,
+        port: u8,
+        sends: u16,
+        recvs: u16,
+    ) -> Result<(), PortBegin>
+        requires { port < 8 }
+        ensures refused { Refuses (begin_bar (open_at self.old port)) PortBegin.NoMemory result }
+        ensures begun { OnOk result (self.new ≡ with_open self.old port (Some (opened sends recvs))) }
+        ensures unchanged { OnErr result (self.new ≡ self.old) }
+    {
+        let place = usize::from(port);
+        if self.ports[place].is_some() {
+            return Err(PortBegin::Already);
+        }
+        match NodePort::begin(alloc, self.host, port, sends, recvs) {
+            Ok(opened) => {
+                slot::put_back(&mut self.ports[place], opened);
+                Ok(())
+            }
+            Err(_) => Err(PortBegin::NoMemory),
+        }
+    }
+
+    /// The message of a token is acknowledged: token and buffer go into an event. Nothing changes where the port isn't open or the token has
+    /// no unfinished send.
+    pub fn finish(&mut self, port: u8, token: u16)
+        requires { port < 8 }
+        ensures { self.new ≡ changed self.old port (λ s. finished s token) }
+    {
+        slot::finish(&mut self.ports[usize::from(port)], token);
+    }
+
+    /// Whether the port is open and a provided token of it fits a message.
+    pub fn can_take(&self, port: u8, len: u32, prio: u8) -> bool
+        requires { port < 8 }
+        ensures { result ≡ port_takes (open_at self.now port) len prio }
+    {
+        slot::can_take(&self.ports[usize::from(port)], len, prio)
+    }
+
+    /// Why a send of so many bytes of a buffer is refused: NotOpen, TooLong above the greatest length of a message, BufferShort where the
+    /// buffer is shorter than the message.
+    pub fn refuse_send(&self, port: u8, len: u32, buffer: &[u8]) -> Option<PortSend>
+        requires { port < 8 }
+        ensures { result ≡ send_bar (open_at self.now port) len buffer.now }
+    {
+        slot::refuse_send(&self.ports[usize::from(port)], len, buffer)
+    }
+
+    /// Takes a message to send, which is not refused.
+    pub fn send(&mut self, port: u8, t: SendToken, b: Reg, a: SendAsk)
+        requires able { send_bar (open_at self.old port) a.len b ≡ None }
+        requires port { port < 8 }
+        requires own { t ≡ token_at self.old.host port t.number }
+        requires minted { ForSome (open_at self.old port) (λ p. t.number < p.sends) }
+        requires free { ForSome (open_at self.old port) (λ p. place_of_send p t.number ≡ None) }
+        requires dport { a.dport < 8 }
+        requires prio { a.prio < 2 }
+        ensures { self.new ≡ changed self.old port (λ s. sent_with s t.number b) }
+    {
+        slot::send(&mut self.ports[usize::from(port)], t, b, a);
+    }
+
+    /// Takes a buffer to receive into. A refusal hands token and buffer back and changes nothing: NotOpen, BadSize where the size is not from
+    /// 4 to 16 or the priority is above 1, BufferShort where the buffer has fewer bytes than its size has room for.
+    pub fn provide(
+        &mut self,
+        port: u8,
+        t: RecvToken,
+        b: Reg,
+        size: u8,
+        prio: u8,
+    ) -> Result<(), (RecvToken, Reg, PortProvide)>
+        requires port { port < 8 }
+        requires own { t ≡ token_at self.old.host port t.number }
+        requires minted { ForSome (open_at self.old port) (λ p. t.number < p.recvs) }
+        requires free { ForSome (open_at self.old port) (λ p. place_of_recv p t.number ≡ None) }
+        ensures refused { MatchResult result (λ _. provide_bar (open_at self.old port) b size prio ≡ None) (λ e. provide_bar (open_at self.old port) b size prio ≡ Some e.2) }
+        ensures handed_back { IfErr result (λ e. (e.0 ≡ t) × (e.1 ≡ b)) }
+        ensures unchanged { OnErr result (self.new ≡ self.old) }
+        ensures provided { OnOk result (self.new ≡ changed self.old port (λ s. provided_with s (record { token = t.number; size = size; prio = prio; buffer = b }))) }
+    {
+        slot::provide(&mut self.ports[usize::from(port)], t, b, size, prio)
+    }
+
+    /// A message came whole, and goes into the buffer of the token that fits and was provided first.
+    pub fn deliver(&mut self, h: &FrameHead, part: &[u8])
+        requires port { h.now.dport < 8 }
+        requires taken { port_takes (open_at self.old h.now.dport) h.now.total h.now.prio ≡ true }
+        requires head { is_head h.now ≡ true }
+        requires part { length part.now ≡ h.now.len }
+        ensures { self.new ≡ changed self.old h.now.dport (λ s. delivered s h.now part.now) }
+    {
+        slot::deliver(&mut self.ports[usize::from(h.dport)], h, part);
+    }
+
+    /// Hands out the event that was put in first. None exactly where no event waits, NotOpen exactly where the port isn't open.
+    pub fn poll(&mut self, port: u8) -> Result<Option<PortEvent>, NotOpen>
+        requires { port < 8 }
+        ensures open { MatchResult result (λ _. is_some (open_at self.old port) ≡ true) (λ _. open_at self.old port ≡ None) }
+        ensures first { IfOk result (λ e. IfSome (open_at self.old port) (λ p. e ≡ option_map (event_at self.old.host port) (next_event p))) }
+        ensures rest { self.new ≡ changed self.old port (λ s. polled s) }
+    {
+        slot::poll(&mut self.ports[usize::from(port)])
+    }
+
+    /// Closes a port, and hands each provided token back with its buffer, first provided first. A refusal changes nothing: NotOpen, Busy where
+    /// sends aren't finished, Unread where events wait.
+    pub fn close(&mut self, port: u8) -> Result<Vec<(RecvToken, Reg)>, PortClose>
+        requires { port < 8 }
+        ensures refused { MatchResult result (λ _. close_bar (open_at self.old port) ≡ None) (λ e. close_bar (open_at self.old port) ≡ Some e) }
+        ensures unchanged { OnErr result (self.new ≡ self.old) }
+        ensures closed { OnOk result (self.new ≡ with_open self.old port None) }
+        ensures provided { IfOk result (λ v. IfSome (open_at self.old port) (λ p. v.items ≡ map (receive_at self.old.host port) p.provided)) }
+    {
+        slot::close(&mut self.ports[usize::from(port)])
+    }
+
+    /// Ends a port, whatever it holds, and hands all of it back. None exactly where the port isn't open.
+    pub fn abandon(&mut self, port: u8) -> Option<Wreck>
+        requires { port < 8 }
+        ensures open { is_some result ≡ is_some (open_at self.old port) }
+        ensures sending { IfSome result (λ w. IfSome (open_at self.old port) (λ p. w.sending.items ≡ map (send_at self.old.host port) p.queue)) }
+        ensures provided { IfSome result (λ w. IfSome (open_at self.old port) (λ p. w.provided.items ≡ map (receive_at self.old.host port) p.provided)) }
+        ensures events { IfSome result (λ w. IfSome (open_at self.old port) (λ p. w.events.items ≡ map (event_at self.old.host port) p.events)) }
+        ensures ended { self.new ≡ with_open self.old port None }
+    {
+        slot::abandon(&mut self.ports[usize::from(port)])
+    }
+
+    /// Whether a port is open.
+    pub fn is_open(&self, port: u8) -> bool
+        requires { port < 8 }
+        ensures { result ≡ is_some (open_at self.now port) }
+    {
+        self.ports[usize::from(port)].is_some()
+    }
+
+    /// The place of a send token or of a receive token of a port, by its number. None where the client has it, or the port isn't open.
+    pub fn place(&self, port: u8, send: bool, number: u16) -> Option<TokenPlace>
+        requires { port < 8 }
+        ensures { result ≡ place_at (open_at self.now port) send number }
+    {
+        slot::place(&self.ports[usize::from(port)], send, number)
+    }
+
+    /// Spends the ports of a host, all of which are closed.
+    pub fn end(self)
+        requires { self ≡ none_open self.host }
+    {
+        let Ports { host: _, mut ports } = self;
+        while let Some(port) = ports.pop() {
+            if let Some(_open) = port {
+                unreachable!();
+            }
+        }
+        ports.destroy_empty();
+    }
+}

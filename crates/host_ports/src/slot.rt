@@ -1,0 +1,188 @@
+//! The place of one port, where it may be open.
+
+ghost use Rattle.std.specs.Prelude.{◌≡◌, ◌<◌, ℕ, map, true, None, length, is_some, Some, IfOk, IfErr, IfSome, OnOk, OnErr, MatchResult, MatchOption, option_map};
+ghost use Rattle.std.specs.Option.{ForSome};
+ghost use Rattle.gm_defs.specs.Body.{is_head};
+ghost use Rattle.gm_defs.specs.Token.{place_of_send, place_of_recv};
+ghost use Rattle.gm_defs.specs.Port.{sent_with, provided_with, finished, delivered, next_event, polled};
+ghost use Rattle.gm_tokens.specs.Token.{token_at};
+ghost use Rattle.gm_port.specs.Held.{send_at, receive_at, event_at};
+ghost use Rattle.world_defs.specs.Hearing.{port_takes};
+ghost use Rattle.host_ports.specs.Held.{state_at, changed_port, place_at};
+ghost use Rattle.host_ports.specs.Refusal.{send_bar, provide_bar, close_bar, close_word};
+
+use crate::ask::{NotOpen, PortClose, PortProvide, PortSend};
+use crate::node_port::NodePort;
+use gm_defs::{FrameHead, TokenPlace};
+use gm_port::{CloseRefusal, PortEvent, ProvideRefusal, SendAsk, Wreck};
+use gm_tokens::{RecvToken, SendToken};
+use reg_mem::Reg;
+
+// The most bytes of a message.
+const MESSAGE_LIMIT: u32 = 1_016;
+
+// Why a send of so many bytes of a buffer is refused.
+pub(crate) fn refuse_send(slot: &Option<NodePort>, len: u32, buffer: &[u8]) -> Option<PortSend>
+    ensures { result ≡ send_bar (state_at slot.now) len buffer.now }
+{
+    if slot.is_none() {
+        Some(PortSend::NotOpen)
+    } else if len > MESSAGE_LIMIT {
+        Some(PortSend::TooLong)
+    } else if buffer.len() < len as usize {
+        Some(PortSend::BufferShort)
+    } else {
+        None
+    }
+}
+
+// Takes a message to send.
+pub(crate) fn send(slot: &mut Option<NodePort>, t: SendToken, b: Reg, a: SendAsk)
+    requires able { send_bar (state_at slot.old) a.len b ≡ None }
+    requires own { ForSome slot.old (λ p. t ≡ token_at p.host p.port t.number) }
+    requires minted { ForSome slot.old (λ p. t.number < p.state.sends) }
+    requires free { ForSome slot.old (λ p. place_of_send p.state t.number ≡ None) }
+    requires dport { a.dport < 8 }
+    requires prio { a.prio < 2 }
+    ensures { slot.new ≡ changed_port slot.old (λ s. sent_with s t.number b) }
+{
+    match slot {
+        Some(port) => match port.send(t, b, a) {
+            Ok(()) => {}
+            Err(_) => unreachable!(),
+        },
+        None => unreachable!(),
+    }
+}
+
+// Takes a buffer to receive into. A refusal hands token and buffer back.
+pub(crate) fn provide(
+    slot: &mut Option<NodePort>,
+    t: RecvToken,
+    b: Reg,
+    size: u8,
+    prio: u8,
+) -> Result<(), (RecvToken, Reg, PortProvide)>
+    requires own { ForSome slot.old (λ p. t ≡ token_at p.host p.port t.number) }
+    requires minted { ForSome slot.old (λ p. t.number < p.state.recvs) }
+    requires free { ForSome slot.old (λ p. place_of_recv p.state t.number ≡ None) }
+    ensures refused { MatchResult result (λ _. provide_bar (state_at slot.old) b size prio ≡ None) (λ e. provide_bar (state_at slot.old) b size prio ≡ Some e.2) }
+    ensures handed_back { IfErr result (λ e. (e.0 ≡ t) × (e.1 ≡ b)) }
+    ensures unchanged { OnErr result (slot.new ≡ slot.old) }
+    ensures provided { OnOk result (slot.new ≡ changed_port slot.old (λ s. provided_with s (record { token = t.number; size = size; prio = prio; buffer = b }))) }
+{
+    match slot {
+        Some(port) => match port.provide(t, b, size, prio) {
+            Ok(()) => Ok(()),
+            Err((t, b, ProvideRefusal::BadSize)) => Err((t, b, PortProvide::BadSize)),
+            Err((t, b, ProvideRefusal::BufferShort)) => Err((t, b, PortProvide::BufferShort)),
+        },
+        None => Err((t, b, PortProvide::NotOpen)),
+    }
+}
+
+// The message of a token is acknowledged.
+pub(crate) fn finish(slot: &mut Option<NodePort>, number: u16)
+    ensures { slot.new ≡ changed_port slot.old (λ s. finished s number) }
+{
+    if let Some(port) = slot {
+        port.finish(number);
+    }
+}
+
+// Whether a provided token fits a message.
+pub(crate) fn can_take(slot: &Option<NodePort>, len: u32, prio: u8) -> bool
+    ensures { result ≡ port_takes (state_at slot.now) len prio }
+{
+    match slot {
+        Some(port) => port.can_take(len, prio),
+        None => false,
+    }
+}
+
+// A message came whole.
+pub(crate) fn deliver(slot: &mut Option<NodePort>, h: &FrameHead, part: &[u8])
+    requires taken { port_takes (state_at slot.old) h.now.total h.now.prio ≡ true }
+    requires head { is_head h.now ≡ true }
+    requires part { length part.now ≡ h.now.len }
+    ensures { slot.new ≡ changed_port slot.old (λ s. delivered s h.now part.now) }
+{
+    match slot {
+        Some(port) => port.deliver(h, part),
+        None => unreachable!(),
+    }
+}
+
+// Hands out the event that was put in first.
+pub(crate) fn poll(slot: &mut Option<NodePort>) -> Result<Option<PortEvent>, NotOpen>
+    ensures open { MatchResult result (λ _. is_some slot.old ≡ true) (λ _. slot.old ≡ None) }
+    ensures first { IfOk result (λ e. IfSome slot.old (λ p. e ≡ option_map (event_at p.host p.port) (next_event p.state))) }
+    ensures rest { slot.new ≡ changed_port slot.old (λ s. polled s) }
+{
+    match slot {
+        Some(port) => Ok(port.poll()),
+        None => Err(NotOpen),
+    }
+}
+
+// Closes a port, and hands each provided token back with its buffer.
+pub(crate) fn close(slot: &mut Option<NodePort>) -> Result<Vec<(RecvToken, Reg)>, PortClose>
+    ensures refused { MatchResult result (λ _. close_bar (state_at slot.old) ≡ None) (λ e. close_bar (state_at slot.old) ≡ Some e) }
+    ensures unchanged { OnErr result (slot.new ≡ slot.old) }
+    ensures closed { OnOk result (slot.new ≡ None) }
+    ensures provided { IfOk result (λ v. IfSome slot.old (λ p. v.items ≡ map (receive_at p.host p.port) p.state.provided)) }
+{
+    match slot.take() {
+        Some(port) => match port.close() {
+            Ok(provided) => Ok(provided),
+            Err((port, refusal)) => {
+                put_back(slot, port);
+                Err(word_of(refusal))
+            }
+        },
+        None => Err(PortClose::NotOpen),
+    }
+}
+
+// Ends a port, whatever it holds, and hands all of it back.
+pub(crate) fn abandon(slot: &mut Option<NodePort>) -> Option<Wreck>
+    ensures open { is_some result ≡ is_some slot.old }
+    ensures sending { IfSome result (λ w. IfSome slot.old (λ p. w.sending.items ≡ map (send_at p.host p.port) p.state.queue)) }
+    ensures provided { IfSome result (λ w. IfSome slot.old (λ p. w.provided.items ≡ map (receive_at p.host p.port) p.state.provided)) }
+    ensures events { IfSome result (λ w. IfSome slot.old (λ p. w.events.items ≡ map (event_at p.host p.port) p.state.events)) }
+    ensures ended { slot.new ≡ None }
+{
+    match slot.take() {
+        Some(port) => Some(port.abandon()),
+        None => None,
+    }
+}
+
+// The place of a token.
+pub(crate) fn place(slot: &Option<NodePort>, send: bool, number: u16) -> Option<TokenPlace>
+    ensures { result ≡ place_at (state_at slot.now) send number }
+{
+    match slot {
+        Some(port) => port.place(send, number),
+        None => None,
+    }
+}
+
+// Puts a port into an empty place.
+pub(crate) fn put_back(slot: &mut Option<NodePort>, port: NodePort)
+    requires { slot.old ≡ None }
+    ensures { slot.new ≡ Some port }
+{
+    if let Some(_lost) = slot.replace(port) {
+        unreachable!();
+    }
+}
+
+fn word_of(refusal: CloseRefusal) -> PortClose
+    ensures { result ≡ close_word refusal }
+{
+    match refusal {
+        CloseRefusal::Busy(n) => PortClose::Busy(n),
+        CloseRefusal::Unread(n) => PortClose::Unread(n),
+    }
+}
