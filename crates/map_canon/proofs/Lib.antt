@@ -1,0 +1,9 @@
+pub mod Expanding
+pub mod Firsts
+pub mod Named
+pub mod Ordered
+pub mod Places
+pub mod Sorting
+pub mod Standing
+pub mod Told
+pub mod Whole

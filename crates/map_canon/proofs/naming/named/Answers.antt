@@ -1,0 +1,15 @@
+use Rattle.std.proofs.Common.{ap, ◌∙◌}
+use Rattle.std.proofs.lemmas.List.{take_all}
+use Rattle.map_canon.specs.Naming.{bare_map, vertices_of}
+use Rattle.map_canon.proofs.Named.{named-next}
+use Rattle.map_canon.proofs.naming.named.Goals as goal
+
+pub loop-node-init : goal.loop-node-init
+loop-node-init c = c.new-map.ensures
+
+pub loop-node-preserved : goal.loop-node-preserved
+loop-node-preserved c =
+    named-next c.args.j.now.host c.args.j.now.entries c.args.walks.now c.args.least.now c.loop-node.node-index c.loop-node.map c.add_vertex.new.map c.address_of.result c.loop-node-test.true c.loop-node.invariant c.address_of.ensures c.in_ok-add_vertex.ensures
+
+pub returns : goal.returns
+returns c = c.loop-node.invariant ∙ ap (λ ns. bare_map (vertices_of c.args.j.now.host c.args.j.now.entries c.args.walks.now ns)) (take_all c.loop-node.node-index c.args.least.now c.loop-node-test.false)

@@ -1,0 +1,39 @@
+//! A map's vertices, from the least nodes of the classes.
+
+ghost use Rattle.std.specs.Prelude.{◌≡◌, IfOk, OnOk};
+ghost use Rattle.map_canon.specs.Naming.{bare_map, vertices_of, with_vertex};
+
+use crate::found::address_of;
+use fabric_map::FabricMap;
+use probe::{Journal, WalkIndex};
+use std::alloc::{AllocError, Global};
+
+/// The map of these nodes without cables: hosts by their addresses, all others switches.
+pub(crate) fn named(
+    alloc: Global,
+    j: &Journal,
+    walks: &WalkIndex,
+    least: &[u32],
+) -> Result<FabricMap, AllocError>
+    ensures { IfOk result (λ m. m ≡ bare_map (vertices_of j.now.host j.now.entries walks.now least.now)) }
+{
+    let mut map = FabricMap::new(alloc);
+    for node in least {
+        add_vertex(&mut map, address_of(j, walks, *node))?;
+    }
+    Ok(map)
+}
+
+// Adds a host of this address, or a switch.
+fn add_vertex(map: &mut FabricMap, address: Option<u16>) -> Result<(), AllocError>
+    ensures { OnOk result (map.new ≡ with_vertex map.old address) }
+{
+    let added = match address {
+        Some(h) => map.add_host(h),
+        None => map.add_switch(true),
+    };
+    match added {
+        Ok(_) => Ok(()),
+        Err(_) => Err(AllocError),
+    }
+}

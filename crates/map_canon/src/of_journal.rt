@@ -1,0 +1,36 @@
+//! The map of a journal.
+
+ghost use Rattle.std.specs.Prelude.{◌<◌, length, IfOk};
+ghost use Rattle.map_defs.specs.Quotient.{IsQuotient};
+ghost use Rattle.replicate_merge.specs.Table.{StandsFor, IsTrueOfOne};
+
+use crate::cables::add_in_order;
+use crate::found::found_walks;
+use crate::joining::join_all;
+use crate::naming::named;
+use crate::numbering::numbered;
+use crate::order::node_order;
+use fabric_map::FabricMap;
+use probe::Journal;
+use replicate_merge::Classes;
+use std::alloc::{AllocError, Global};
+
+/// The map of a journal, whose classes these are: a vertex for each class in the order of their least walks, the mapper's host first, and
+/// the cables that the walks tell of, once each in order. All vertices are of the core. The answers other than Nothing are true of one
+/// fabric.
+pub fn quotient(alloc: Global, j: &Journal, c: &Classes) -> Result<FabricMap, AllocError>
+    requires stands { StandsFor j.now.host j.now.entries c.now }
+    requires true_of_one { IsTrueOfOne j.now.host j.now.entries }
+    requires few { length j.now.entries < 4294967295 }
+    ensures { IfOk result (λ m. IsQuotient j.now.host j.now.entries m) }
+{
+    let _once = j.entries();
+    let walks = found_walks(alloc, j)?;
+    let order = node_order(alloc, &walks)?;
+    let numbering = numbered(alloc, c, &order)?;
+    let mut loose = named(alloc, j, &walks, &numbering.least)?;
+    join_all(&mut loose, &walks, c, &numbering.vertices)?;
+    let mut map = named(alloc, j, &walks, &numbering.least)?;
+    add_in_order(&mut map, &loose)?;
+    Ok(map)
+}
