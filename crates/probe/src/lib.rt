@@ -37,4 +37,5 @@ pub use journal_defs::Entry;
 pub use laws::bodies_of_probes_are_read;
 pub use net_defs::Answer;
 pub use prober::Prober;
+pub use route_bytes::{push_route, walk_of};
 pub use walk_index::WalkIndex;

@@ -35,7 +35,7 @@ fn turn_of(byte: u8) -> Option<i8>
 }
 
 /// Adds a route at the end of bytes.
-pub(crate) fn push_route(bytes: &mut Vec<u8>, turns: &[i8]) -> Result<(), AllocError>
+pub fn push_route(bytes: &mut Vec<u8>, turns: &[i8]) -> Result<(), AllocError>
     requires short { length turns.now ≤ 64 }
     requires in_range { All IsTurn turns.now }
     ensures { OnOk result (bytes.new.items ≡ bytes.old.items ++ route_bytes turns.now) }
@@ -64,8 +64,8 @@ pub(crate) fn whole_route(alloc: Global, bytes: &[u8]) -> Result<Walk, BodyFault
     walk_of(alloc, rest)
 }
 
-// The turns of route bytes. Memory is taken once all are known to be route bytes.
-fn walk_of(alloc: Global, bytes: &[u8]) -> Result<Walk, BodyFault>
+/// The turns of at most 64 route bytes. `Malformed` exactly where another byte is among them; memory is taken once all are known.
+pub fn walk_of(alloc: Global, bytes: &[u8]) -> Result<Walk, BodyFault>
     requires { length bytes.now ≤ 64 }
     ensures ok { IfOk result (λ walk. turns_of bytes.now ≡ Some walk) }
     ensures refused { Refuses (missing (turns_of bytes.now)) BodyFault.NoMemory result }
