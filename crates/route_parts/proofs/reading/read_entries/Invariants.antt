@@ -1,0 +1,9 @@
+use Rattle.std.proofs.Common.{◌≡◌, ◌++◌, option_map}
+use Rattle.gm_defs.specs.Mapping.{entries_front, whole}
+use Rattle.route_parts.proofs.reading.read_entries.Given as goal
+
+abbrev pub invariant-loop-left : goal.invariant-loop-left
+invariant-loop-left l = whole (entries_front l.fn.count l.fn.bytes) ≡ option_map (λ es. l.entries.items ++ es) (whole (entries_front l.left l.rest))
+
+abbrev pub decreases-loop-left : goal.decreases-loop-left
+decreases-loop-left l = l.left

@@ -1,0 +1,9 @@
+//! Why bytes are no body.
+
+/// Why bytes can't be read as a part of a table, or as its acknowledgement.
+#[derive(Clone, Copy, Debug, PartialEq, Eq)]
+pub enum BodyFault {
+    /// They are none.
+    Malformed,
+    NoMemory,
+}

@@ -1,0 +1,109 @@
+//! A part of a table.
+
+ghost use Rattle.std.specs.Prelude.{◌≡◌, ◌≤◌, ◌++◌, ◌∷◌, [], Some, true, length, IfOk, OnOk};
+ghost use Rattle.std.specs.Int.{w16, w32, to_be_bytes};
+ghost use Rattle.net_defs.specs.Refusal.{Refuses};
+ghost use Rattle.gm_defs.specs.Mapping.{MappingBody, is_part, mapping_bytes, decode_mapping, route_bytes, entry_bytes};
+ghost use Rattle.route_parts.specs.Reading.{part_in, missing};
+
+use crate::entry::{EntryList, TableEntry};
+use crate::fault::BodyFault;
+use crate::fronts::{byte_front, numbers_front};
+use crate::reading::part_behind;
+use gm_defs::mapping_is_read;
+use net_defs::Walk;
+use probe::push_route;
+use std::alloc::{AllocError, Global};
+use std::marker::Model;
+
+// The kind of its body.
+const KIND: u8 = 4;
+
+/// A part of a host's table. Contracts see the part of the definitions.
+#[derive(Debug, Drop)]
+pub struct RoutePart {
+    /// Which set of routes it is of.
+    pub epoch: u32,
+    /// The host that sends it.
+    pub mapper: u16,
+    /// The host whose table it is of.
+    pub dst: u16,
+    /// Its number, from 0, and how many parts the table has.
+    pub part: u8,
+    pub parts: u8,
+    /// The way back to the mapper.
+    pub back: Walk,
+    pub entries: EntryList,
+}
+
+impl Model for RoutePart {
+    ghost use Rattle.gm_defs.specs.Mapping.{RoutePart as PartOfTable};
+
+    ghost Value = { PartOfTable };
+
+    ghost view = { λ p. record { epoch = p.epoch; mapper = p.mapper; dst = p.dst; part = p.part; parts = p.parts; back = p.back; entries = p.entries } };
+}
+
+impl RoutePart {
+    /// Its bytes. It has at most 16 parts, and from 1 to 8 entries whose hosts rise.
+    pub fn encode(&self, alloc: Global) -> Result<Vec<u8>, AllocError>
+        requires { is_part self.now ≡ true }
+        ensures bytes { IfOk result (λ bytes. bytes.items ≡ mapping_bytes (MappingBody.Part self.now)) }
+        ensures read { IfOk result (λ bytes. decode_mapping bytes.items ≡ Some (MappingBody.Part self.now)) }
+    {
+        mapping_is_read();
+        let mut bytes = numbers_of(alloc, self)?;
+        push_route(&mut bytes, self.back.turns())?;
+        push_entries(&mut bytes, self.entries.list())?;
+        Ok(bytes)
+    }
+
+    /// The part that is all of the bytes. `Malformed` exactly where they are none, before it takes memory.
+    pub fn decode(alloc: Global, bytes: &[u8]) -> Result<RoutePart, BodyFault>
+        ensures ok { IfOk result (λ part. decode_mapping bytes.now ≡ Some (MappingBody.Part part)) }
+        ensures by_rules { IfOk result (λ part. is_part part ≡ true) }
+        ensures refused { Refuses (missing (part_in bytes.now)) BodyFault.NoMemory result }
+    {
+        let Some((KIND, rest)) = byte_front(bytes) else {
+            return Err(BodyFault::Malformed);
+        };
+        match numbers_front(rest) {
+            Some((head, rest)) => part_behind(alloc, head, rest),
+            None => Err(BodyFault::Malformed),
+        }
+    }
+}
+
+// The kind and the numbers in front of a part, with room for short routes.
+fn numbers_of(alloc: Global, part: &RoutePart) -> Result<Vec<u8>, AllocError>
+    ensures { IfOk result (λ bytes. bytes.items ≡ 4 ∷ to_be_bytes w32 part.now.epoch ++ to_be_bytes w16 part.now.mapper ++ to_be_bytes w16 part.now.dst ++ part.now.part ∷ part.now.parts ∷ []) }
+{
+    let mut bytes = Vec::with_capacity(alloc, 64)?;
+    bytes.push(KIND)?;
+    bytes.extend_from_slice(&part.epoch.to_be_bytes())?;
+    bytes.extend_from_slice(&part.mapper.to_be_bytes())?;
+    bytes.extend_from_slice(&part.dst.to_be_bytes())?;
+    bytes.push(part.part)?;
+    bytes.push(part.parts)?;
+    Ok(bytes)
+}
+
+// Adds entries at the end of bytes, with their number before them.
+fn push_entries(bytes: &mut Vec<u8>, entries: &[TableEntry]) -> Result<(), AllocError>
+    requires { length entries.now ≤ 8 }
+    ensures { OnOk result (bytes.new.items ≡ bytes.old.items ++ length entries.now ∷ entry_bytes entries.now) }
+{
+    bytes.push(entries.len() as u8)?;
+    for entry in entries {
+        push_entry(bytes, entry)?;
+    }
+    Ok(())
+}
+
+// Adds an entry at the end of bytes.
+fn push_entry(bytes: &mut Vec<u8>, entry: &TableEntry) -> Result<(), AllocError>
+    ensures { OnOk result (bytes.new.items ≡ bytes.old.items ++ (to_be_bytes w16 entry.now.to ++ route_bytes entry.now.walk)) }
+{
+    bytes.extend_from_slice(&entry.to.to_be_bytes())?;
+    push_route(bytes, entry.walk.turns())
+}

@@ -1,0 +1,93 @@
+//! Routes and entries in front of bytes, known to be such before memory is taken.
+
+ghost use Rattle.std.specs.Prelude.{◌≡◌, ◌<◌, ◌≤◌, ◌^◌, length, true, is_some, option_map, option_and_then, IfSome, IsSome};
+ghost use Rattle.std.specs.List.{list_all};
+ghost use Rattle.gm_defs.specs.Mapping.{route_front, entry_front, turns_of};
+ghost use Rattle.route_parts.specs.Reading.{rise_from, is_above};
+ghost use Rattle.route_parts.specs.Viewing.{is_route_byte, route_viewed, entry_viewed};
+
+use crate::fronts::{byte_front, short_front};
+
+// The most turns of a route.
+const MAX_TURNS: usize = 64;
+
+/// The route bytes in front, with their number before them, and the bytes behind.
+pub(crate) fn route_front(bytes: &[u8]) -> Option<(&[u8], &[u8])>
+    ensures value { route_viewed (option_map (λ p. (p.0.now, p.1.now)) result) ≡ route_front bytes.now }
+    ensures turns { IfSome result (λ p. (length p.0.now ≤ 64) × IsSome (turns_of p.0.now)) }
+{
+    let (count, rest) = byte_front(bytes)?;
+    let count = usize::from(count);
+    if count > MAX_TURNS || count > rest.len() {
+        return None;
+    }
+    let (turns, rest) = rest.split_at(count);
+    if are_turns(turns) {
+        Some((turns, rest))
+    } else {
+        None
+    }
+}
+
+// Whether each is a route byte.
+#[tactic(auto, using(crate::proofs::Entries::turns_there))]
+fn are_turns(bytes: &[u8]) -> bool
+    ensures { result ≡ is_some (turns_of bytes.now) }
+{
+    are_route_bytes(bytes)
+}
+
+// The same, byte by byte.
+fn are_route_bytes(bytes: &[u8]) -> bool
+    ensures { result ≡ list_all is_route_byte bytes.now }
+{
+    bytes.iter().all(|byte| is_route_byte(*byte))
+}
+
+// Whether a byte stands for a turn.
+fn is_route_byte(byte: u8) -> bool
+    ensures { result ≡ is_route_byte byte }
+{
+    matches!(byte, 0x80..=0x8f | 0xb1..=0xbf)
+}
+
+/// The host and the route bytes of the entry in front, and the bytes behind.
+pub(crate) fn entry_front(bytes: &[u8]) -> Option<((u16, &[u8]), &[u8])>
+    ensures value { entry_viewed (option_map (λ p. ((p.0.0, p.0.1.now), p.1.now)) result) ≡ entry_front bytes.now }
+    ensures turns { IfSome result (λ p. (p.0.0 < 2 ^ 16) × (length p.0.1.now ≤ 64) × IsSome (turns_of p.0.1.now)) }
+{
+    let (to, bytes) = short_front(bytes)?;
+    let (turns, bytes) = route_front(bytes)?;
+    Some(((to, turns), bytes))
+}
+
+/// Whether so many entries are all of the bytes, and rise above a host.
+pub(crate) fn rise_from(before: Option<u16>, count: u8, bytes: &[u8]) -> bool
+    ensures { result ≡ rise_from before count bytes.now }
+{
+    let mut before = before;
+    let mut left = count;
+    let mut rest = bytes;
+    while left > 0 {
+        let Some(((to, _), behind)) = entry_front(rest) else {
+            return false;
+        };
+        if !is_above(before, to) {
+            return false;
+        }
+        before = Some(to);
+        left -= 1;
+        rest = behind;
+    }
+    rest.is_empty()
+}
+
+// Whether a host stands above the one before.
+fn is_above(before: Option<u16>, to: u16) -> bool
+    ensures { result ≡ is_above before to }
+{
+    match before {
+        Some(before) => before < to,
+        None => true,
+    }
+}
