@@ -81,13 +81,16 @@ impl Ports {
         }
     }
 
-    /// The message of a token is acknowledged: token and buffer go into an event. Nothing changes where the port isn't open or the token has
-    /// no unfinished send.
+    /// The message of a token is acknowledged: token and buffer go into an event. Nothing changes where there is no
+    /// such port, it isn't open, or the token has no unfinished send.
     pub fn finish(&mut self, port: u8, token: u16)
-        requires { port < 8 }
         ensures { self.new ≡ changed self.old port (λ s. finished s token) }
     {
-        slot::finish(&mut self.ports[usize::from(port)], token);
+        let place = usize::from(port);
+        let _ = &self.host;
+        if place < PORTS {
+            slot::finish(&mut self.ports[place], token);
+        }
     }
 
     /// Whether the port is open and a provided token of it fits a message.
