@@ -1,0 +1,15 @@
+use Rattle.std.proofs.Common.{◌∙◌, sym, arith}
+use Rattle.host_peers.specs.Known.IsNext.{next, nobody_left}
+use Rattle.host_peers.proofs.peers.Peers.next_due.Goals as goal
+
+pub returns-then-has_due : goal.returns-then-has_due
+returns-then-has_due c =
+    let count = c.count-peer-end.ensures in
+    let within = c.loop-peer-test.true in
+    next c.loop-peer.auto.peer (omega (arith, count, within)) (sym c.has_due.ensures ∙ c.if-has_due.true) c.loop-peer.invariant
+
+pub returns : goal.returns
+returns c =
+    let count = c.count-peer-end.ensures in
+    let beyond = c.loop-peer-test.false in
+    nobody_left (λ peer from below. c.loop-peer.invariant peer from (omega (arith, count, beyond, below)))
