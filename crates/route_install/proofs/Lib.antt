@@ -1,0 +1,6 @@
+pub mod Numbers
+pub mod Applying
+pub mod Cutting
+pub mod Works
+pub mod Gathering
+pub mod Ruled
