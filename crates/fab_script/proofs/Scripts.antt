@@ -1,5 +1,5 @@
 -- One line more of a script, and the range of the turns that were read.
-use Rattle.std.proofs.Common.{◌≡◌, ◌≤◌, ℕ, zero, suc, ℤ, pos, List, [], ◌∷◌, ◌++◌, Bool, true, false, ◌&&◌, length, nat_le, nat_lt, nat_eq, Some, None, Result, Ok, Err, refl, ap, sym, subst, ◌∙◌, append_assoc, arith, if◌then◌else◌}
+use Rattle.std.proofs.Common.{◌≡◌, ◌≤◌, ℕ, zero, suc, ℤ, pos, List, [], ◌∷◌, ◌++◌, Bool, true, false, ◌&&◌, length, nat_le, nat_lt, nat_eq, Some, None, Result, Ok, Err, refl, ap, sym, ◌∙◌, append_assoc, arith, if◌then◌else◌}
 use Rattle.std.specs.List.{list_all}
 use Rattle.std.specs.Str.Parse.{digits_value}
 use Rattle.std.proofs.lemmas.Bool.Decides.{nat_tests}
@@ -9,12 +9,9 @@ use Rattle.net_defs.specs.Turn.{is_turn, walk_refusal}
 use Rattle.fab_text.specs.declared.fault.NumFault.{NumFault}
 use Rattle.fab_text.specs.declared.fault.NumFault.TheVariants.{NotNumber, TooLarge}
 use Rattle.fab_text.specs.declared.fault.FaultKind.{FaultKind}
-use Rattle.fab_text.specs.declared.fault.LineFault.{LineFault}
-use Rattle.fab_text.specs.declared.fault.LineFault.TheVariants.{Wrong, NoMemory}
-use Rattle.fab_text.specs.declared.fault.TextFault.{TextFault}
 use Rattle.fab_text.specs.Word.{number_test, number_within, with_sign, minus, turn_of}
 use Rattle.fab_text.specs.Line.{TextLine, words_of}
-use Rattle.fab_text.specs.Fault.{FirstFault, LineGives, TextGives, as_kind, at_line, and_then, fault_at}
+use Rattle.fab_text.specs.Fault.{FirstFault, as_kind, at_line, and_then}
 use Rattle.run_defs.specs.declared.command.Command.{Command}
 use Rattle.run_defs.specs.Script.{command_of, ended, is_end, script_from, turns_of}
 use Rattle.fab_script.specs.Lists.{behind}
@@ -34,10 +31,6 @@ pub script-more : (past : ℕ) (n : Network) (ls rest : List TextLine) (l : Text
     → script_from past n ls ≡ and_then (at_line l.number (command_of n (words_of l.bytes))) (λ c. behind (c ∷ []) (script_from past n rest))
 script-more past n ls rest l e s = ap (script_from past n) e ∙ sym (ap (from_line past n l rest) s)
 
--- the line `end`
-pub script-end : (past : ℕ) (n : Network) (ls rest : List TextLine) (l : TextLine) → ls ≡ l ∷ rest → true ≡ is_end (words_of l.bytes) → script_from past n ls ≡ ended rest
-script-end past n ls rest l e s = ap (script_from past n) e ∙ sym (ap (from_line past n l rest) s)
-
 -- one command more
 pub script-kept : (past : ℕ) (n : Network) (all : Result (List Command) FirstFault) (done new : List Command) (ls rest : List TextLine) (l : TextLine) (c : Command)
     → all ≡ behind done (script_from past n ls) → ls ≡ l ∷ rest → false ≡ is_end (words_of l.bytes)
@@ -47,22 +40,6 @@ script-kept past n all done new ls rest l c a e s g h =
     ∙ ap (behind done) (script-more past n ls rest l e s ∙ ap (λ r. and_then (at_line l.number r) (λ c. behind (c ∷ []) (script_from past n rest))) g)
     ∙ behind-one done c (script_from past n rest)
     ∙ ap (λ d. behind d (script_from past n rest)) (sym h)
-
--- a line that is refused makes its script refused
-pub script-refused : (past : ℕ) (n : Network) (all : Result (List Command) FirstFault) (done : List Command) (ls rest : List TextLine) (l : TextLine) (fault : LineFault)
-    → all ≡ behind done (script_from past n ls) → ls ≡ l ∷ rest → false ≡ is_end (words_of l.bytes)
-    → LineGives (command_of n (words_of l.bytes)) (Err fault) → TextGives all (Err (fault_at l.number fault))
-script-refused past n all done ls rest l (Wrong kind) a e s g =
-    a ∙ ap (behind done) (script-more past n ls rest l e s ∙ ap (λ r. and_then (at_line l.number r) (λ c. behind (c ∷ []) (script_from past n rest))) g)
-script-refused past n all done ls rest l NoMemory a e s g = tt
-
--- the line `end` ends its script
-pub script-ended : (past : ℕ) (n : Network) (all : Result (List Command) FirstFault) (done : List Command) (ls rest : List TextLine) (l : TextLine) (result : Result (List Command) TextFault)
-    → all ≡ behind done (script_from past n ls) → ls ≡ l ∷ rest → true ≡ is_end (words_of l.bytes)
-    → TextGives (behind done (ended rest)) result → TextGives all result
-script-ended past n all done ls rest l result a e s g =
-    let P : Result (List Command) FirstFault → Type 0 = λ r. TextGives r result in
-    subst P (sym (a ∙ ap (behind done) (script-end past n ls rest l e s))) g
 
 -- a number within a bound
 pub within : (most : ℕ) (w : List ℕ) (n : ℕ) → number_within most w ≡ Ok n → n ≤ most

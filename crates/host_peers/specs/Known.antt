@@ -17,6 +17,7 @@ all_unused host hosts = record { host = host; peers = replicate hosts new_peer }
 abbrev pub peer_in : HostPeers → ℕ → PeerState
 peer_in h peer = slice_index_or h.peers peer new_peer
 
+-- the connections with a peer, in another state
 abbrev pub with_state : HostPeers → ℕ → PeerState → HostPeers
 with_state h peer p = record h { peers = slice_set h.peers peer p }
 
@@ -54,5 +55,6 @@ pub data IsNext (test : ℕ → Bool) (from count : ℕ) : Option ℕ → Type 0
 abbrev pub owes_to : HostPeers → ℕ → Bool
 owes_to h peer = (peer_in h peer).owes
 
+-- a frame is due to the peer
 abbrev pub has_due : HostPeers → ℕ → Bool
 has_due h peer = is_some (due_to h peer)

@@ -19,6 +19,7 @@ none_open host = record { host = host; ports = replicate port_count None }
 abbrev pub open_at : HostPorts → ℕ → Option PortState
 open_at h port = slice_index_or h.ports port None
 
+-- the ports with another port of this number
 abbrev pub with_open : HostPorts → ℕ → Option PortState → HostPorts
 with_open h port p = record h { ports = slice_set h.ports port p }
 
@@ -30,6 +31,7 @@ changed h port f = with_open h port (option_map f (open_at h port))
 abbrev pub state_at : Option PortOf → Option PortState
 state_at p = option_map (λ x. x.state) p
 
+-- the state of each port, where it is open
 abbrev pub states : List (Option PortOf) → List (Option PortState)
 states ps = map state_at ps
 

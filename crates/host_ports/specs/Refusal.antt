@@ -27,10 +27,12 @@ abbrev pub send_word : SendRefusal → PortSend
 send_word TooLong = SendTooLong
 send_word BufferShort = SendShort
 
+-- a refusal of a provided buffer, as the host's
 abbrev pub provide_word : ProvideRefusal → PortProvide
 provide_word BadSize = ProvideBadSize
 provide_word Short = ProvideShort
 
+-- a refusal to close, as the host's
 abbrev pub close_word : CloseRefusal → PortClose
 close_word (Busy n) = CloseBusy n
 close_word (Unread n) = CloseUnread n

@@ -31,6 +31,7 @@ pub data TellsCable (walks : List (List ℤ)) (c : ClassTable) (vertices : List 
 abbrev pub joined : NetMap → MapCable → NetMap
 joined m c = if is_some (map_far m (first_end c)) then m else with_cable m c
 
+-- a map with the cable that a walk tells of, if it tells of one
 abbrev pub joined_by : NetMap → Option MapCable → NetMap
 joined_by m None = m
 joined_by m (Some c) = joined m c

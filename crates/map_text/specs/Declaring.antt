@@ -42,6 +42,7 @@ abbrev pub is_switch_numbered : ℕ → MapVertex → Bool
 is_switch_numbered s (MapHost h) = false
 is_switch_numbered s (MapSwitch t) = nat_eq t s
 
+-- the vertex of a switch of a map
 abbrev pub vertex_of_switch : NetMap → ℕ → Option ℕ
 vertex_of_switch m s = position (is_switch_numbered s) m.vertices
 
@@ -100,9 +101,11 @@ host_placed m None = Err NoVertex
 host_placed m (Some (Host h)) = unless (host_refusal m h) (with_host m h)
 host_placed m (Some (Switch s)) = Err NoVertex
 
+-- the map with the host of this name, which must be one of the fabric
 abbrev pub host_declared : Network → NetMap → List ℕ → Result NetMap FaultKind
 host_declared f m name = if name_test name then host_placed m (fabric_vertex f name) else Err BadWord
 
+-- what a line `host NAME` declares
 abbrev pub host_line : Network → NetMap → List (List ℕ) → Result NetMap FaultKind
 host_line f m args = where_there (one_of args) (host_declared f m)
 
@@ -110,6 +113,7 @@ host_line f m args = where_there (one_of args) (host_declared f m)
 abbrev pub switch_declared : NetMap → List ℕ → List ℕ → Result NetMap FaultKind
 switch_declared m number mark = if is_next m number then and_then (mark_word mark) (λ core. unless (switch_refusal m) (with_switch m core)) else Err BadWord
 
+-- what a line `switch #K MARK` declares
 abbrev pub switch_line : NetMap → List (List ℕ) → Result NetMap FaultKind
 switch_line m args = where_there (two_of args) (λ w. switch_declared m w.0 w.1)
 
@@ -127,6 +131,7 @@ cable_between m (Some v) p (Some w) q = cable_placed m (record { v = v; p = p; w
 abbrev pub cable_declared : Network → NetMap → List ℕ → List ℕ → List ℕ → List ℕ → Result NetMap FaultKind
 cable_declared f m v p w q = and_then (end_word v p) (λ i. and_then (end_word w q) (λ j. cable_between m (vertex_named f m v) i (vertex_named f m w) j))
 
+-- what a line `cable V P W Q` declares
 abbrev pub cable_line : Network → NetMap → List (List ℕ) → Result NetMap FaultKind
 cable_line f m args = where_there (four_of args) (λ w. cable_declared f m w.0.0 w.0.1 w.1.0 w.1.1)
 

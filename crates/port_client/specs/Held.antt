@@ -19,6 +19,7 @@ opened_client host port sends recvs = record { host = host; port = port; minted_
 abbrev pub with_sends : OpenClient → List ℕ → OpenClient
 with_sends c ts = record c { held = record c.held { sends = ts } }
 
+-- the client with these receive tokens
 abbrev pub with_recvs : OpenClient → List ℕ → OpenClient
 with_recvs c ts = record c { held = record c.held { recvs = ts } }
 
@@ -26,6 +27,7 @@ with_recvs c ts = record c { held = record c.held { recvs = ts } }
 abbrev pub numbers_of : List Token → List ℕ
 numbers_of ts = map (λ t. t.number) ts
 
+-- the tokens of numbers, of one port
 abbrev pub tokens_of : ℕ → ℕ → List ℕ → List Token
 tokens_of host port ns = map (token_at host port) ns
 

@@ -20,6 +20,7 @@ turned_by m order e (Some k) = option_map (λ next. ((pos k -ℤ pos 15) -ℤ e.
 abbrev pub best_turn : NetMap → List ℕ → (ℕ → Bool → Bool) → Entered → Option (ℤ × Entered)
 best_turn m order near e = turned_by m order e (least_exit m order near e.v e.down)
 
+-- a turn, and those from where it leads
 abbrev pub then_turns : Option (ℤ × Entered) → (Entered → List ℤ) → List ℤ
 then_turns None rest = []
 then_turns (Some t) rest = t.0 ∷ rest t.1

@@ -3,10 +3,12 @@
 //! It moves no packet. `specs/Routing.antt` of `map_defs` says what is legal and least.
 //!
 //! For each host the search goes backwards: the first table has the host alone, and the table for one channel more adds the switches that a
-//! legal channel joins to what is near already. A packet that went down at a vertex is told from one that didn't, since it may not go up
-//! again. A route then takes, at each switch, the least port that leads one channel nearer: its first turns decide, so it is the least of
-//! all ways of its length, and no shorter one is in a table. Each switch is left once in each phase by each of its ports: linear in cables for
-//! each host and table.
+//! legal channel joins to what is near already. A packet that went down is told from one that didn't, since it may not go up again. A route
+//! then takes, at each switch, the least port that leads one channel nearer: the first turns decide, so it is the least of all ways of its
+//! length, and a shorter one would stand in an earlier table.
+//!
+//! A table looks once at each port of each switch that isn't near yet, and a host has as many tables as its farthest switch is channels
+//! away, and one more.
 //!
 //! ```text
 //!   0 channels: b            a ---- s ---- t ---- b      From t, one channel is left to b. From s, two are left,

@@ -14,6 +14,7 @@ pub record Installation : Type 0 where
 abbrev pub parts_for : List ℕ → ℕ
 parts_for hosts = part_count (length hosts - 1)
 
+-- a host's work before its first part
 abbrev pub new_work : ℕ → Work
 new_work host = record { host = host; acked = 0; silences = 0 }
 
@@ -46,6 +47,7 @@ is_acked i w = nat_le i.parts w.acked
 abbrev pub is_given_up : Installation → Work → Bool
 is_given_up i w = nat_le i.tries w.silences
 
+-- a host's work is done: all parts acknowledged, or given up
 abbrev pub is_done : Installation → Work → Bool
 is_done i w = is_acked i w || is_given_up i w
 

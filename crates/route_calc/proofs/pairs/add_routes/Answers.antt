@@ -1,4 +1,4 @@
-use Rattle.std.proofs.Common.{◌≡◌, ◌+◌, List, Some, sym, ap, subst, ◌∙◌}
+use Rattle.std.proofs.Common.{arith, ◌≡◌, ◌+◌, List, Some, sym, ap, subst, ◌∙◌}
 use Rattle.std.specs.Prelude.{slice_get}
 use Rattle.std.proofs.lemmas.Option.{slice_get-get_or}
 use Rattle.net_defs.specs.declared.route.Route.{Route}
@@ -32,8 +32,8 @@ loop-to-preserved c =
       | then-a-b+in_ok-walk+in_ok-add_route w ↦
           (let r : Route = record { from = c.host-a.result; to = c.host-b.result; walk = w.in_ok-walk.walk } in
           let least : IsLeastLegal m (order_of m) c.host-a.result c.host-b.result w.in_ok-walk.walk = subst (λ h. IsLeastLegal m (order_of m) h c.host-b.result w.in_ok-walk.walk) (sym c.host-a.ensures) (subst (λ h. IsLeastLegal m (order_of m) from h w.in_ok-walk.walk) (sym c.host-b.ensures) w.in_ok-walk.ensures) in
-          let right : IsRightRoute m (order_of m) r = record { differ = λ e. absurd (w.if-a-b.true e); least = least } in
+          let right : IsRightRoute m (order_of m) r = record { differ = λ e. (let test = w.if-a-b.true in let same : c.host-a.result ≡ c.host-b.result = e in absurd (omega arith)); least = least } in
           subst (λ (new : List Route). AddsRoutes m (order_of m) from ways (k + 1) c.args.set.now new) (sym (w.set-is ∙ w.in_ok-add_route.ensures)) (adds-one m (order_of m) from ways k c.args.set.now c.loop-to.set at r c.loop-to.invariant c.requires.rising there c.host-a.ensures c.host-b.ensures right))
       | else-a-b w ↦
-          subst (λ (new : List Route). AddsRoutes m (order_of m) from ways (k + 1) c.args.set.now new) (sym w.set-is) (adds-itself m (order_of m) from ways k c.args.set.now c.loop-to.set at c.loop-to.invariant there (sym c.host-a.ensures ∙ w.if-a-b.false ∙ c.host-b.ensures))
+          subst (λ (new : List Route). AddsRoutes m (order_of m) from ways (k + 1) c.args.set.now new) (sym w.set-is) (adds-itself m (order_of m) from ways k c.args.set.now c.loop-to.set at c.loop-to.invariant there (let test = w.if-a-b.false in let same : c.host-a.result ≡ c.host-b.result = omega arith in sym c.host-a.ensures ∙ same ∙ c.host-b.ensures))
     ]
