@@ -1,0 +1,129 @@
+-- What one ask adds to a tree.
+use Rattle.std.proofs.Common.{◌≡◌, ◌<◌, ◌≤◌, ◌+◌, ℕ, List, [], ◌∷◌, ◌++◌, length, sym, ◌∙◌, subst, ap, refl, arith, append_assoc, append-nil}
+use Rattle.std.specs.Prelude.{ℤ, Result, Ok, Err, OnErr, Option, Some}
+use Rattle.mapper.specs.Finding.{IfFound}
+use Rattle.std.proofs.Common.{to_z, of_z, w8}
+use Rattle.std.proofs.lemmas.Int.{ints}
+use Rattle.net_defs.specs.Turn.{IsTurn}
+use Rattle.net_defs.specs.declared.place.Answer.{Answer}
+use Rattle.net_defs.specs.Network.{Network}
+use Rattle.net_defs.specs.Route.{answer}
+use Rattle.journal_defs.specs.declared.entry.Entry.{Entry}
+use Rattle.journal_defs.specs.Tree.{nodes}
+use Rattle.journal_defs.specs.Growth.{NextAsk, node_limit}
+use Rattle.journal_defs.specs.Growth.IsGrowing.{more as one_more_entry}
+use Rattle.growth_laws.proofs.Asks.{growing-tree}
+use Rattle.probe.specs.Drowning.{IsTrueOrDrowned}
+use Rattle.mapper.specs.Turns.{turn_at}
+use Rattle.mapper.specs.Growths.{StopsShort, IsLostAsk, IsAsk, HasGrown, IsUnderWay, ExpandsOrFills, grown_by}
+use Rattle.mapper.specs.Growths.ExpandsOrFills.{expands, fills}
+use Rattle.mapper.specs.declared.tree.Tree.{Tree}
+use Rattle.mapper.proofs.Growing.{nodes-push, grows-none, grows-join, grows-ask, stops-between, stops-lost}
+use Rattle.mapper.proofs.Midway.{IsMidway, midway-ask, midway-next, midway-expanded, midway-rest}
+
+-- a tree with an entry more has one node more where it found something
+pub counted-push : (t : Tree) (w : List ℤ) (a : Answer) → t.nodes ≡ length (nodes t.journal.entries) → (grown_by t w a).nodes ≡ length (nodes (grown_by t w a).journal.entries)
+counted-push t w a e = let p = nodes-push t.journal.entries (record { walk = w; answer = a }) in omega arith
+
+module _ (S : Type 0) (asked : S → List ℤ → Answer → S → Type 0) (n : Network) where
+  -- a tree from which nothing was asked yet
+  pub grown-none : (t : Tree) (s : S) (lost : ℕ) → IsUnderWay t → HasGrown S asked n t s lost t s lost
+  grown-none t s lost u = record { more = []; entries = sym (append-nil t.journal.entries); host = refl; depth = refl; by_asks = grows-none S asked n t.journal.host t.depth t.journal.entries s lost u.growing }
+
+  module _ (old : Tree) (before : S) (lost : ℕ) where
+    -- the next ask, in the fabric's own words
+    grown-push : (t : Tree) (s after : S) (l now : ℕ) (w : List ℤ) (a : Answer) → HasGrown S asked n old before lost t s l → NextAsk t.journal.host t.depth t.journal.entries w → asked s w a after → IsTrueOrDrowned (answer n t.journal.host w) l now a → l ≤ now → HasGrown S asked n old before lost (grown_by t w a) after now
+    grown-push t s after l now w a g next led told later =
+        let host = old.journal.host in
+        let depth = old.depth in
+        let j = old.journal.entries in
+        let e : Entry = record { walk = w; answer = a } in
+        let one : NextAsk host depth (j ++ g.more) w = subst (λ i. NextAsk host depth i w) g.entries (subst (λ h. NextAsk h depth t.journal.entries w) g.host (subst (λ d. NextAsk t.journal.host d t.journal.entries w) g.depth next)) in
+        record {
+          more = g.more ++ e ∷ [];
+          entries = ap (λ i. i ++ e ∷ []) g.entries ∙ append_assoc j g.more (e ∷ []);
+          host = g.host;
+          depth = g.depth;
+          by_asks = grows-join S asked n host depth j g.more (e ∷ []) before s after lost l now g.by_asks (grows-ask S asked n host depth (j ++ g.more) s after l now w a g.by_asks.growing one led (subst (λ h. IsTrueOrDrowned (answer n h w) l now a) g.host told) later);
+        }
+
+    pub grown-next : (t new : Tree) (s after : S) (l now : ℕ) (w : List ℤ) → HasGrown S asked n old before lost t s l → NextAsk t.journal.host t.depth t.journal.entries w → IsAsk S asked (answer n t.journal.host w) s l w t new after now → l ≤ now → HasGrown S asked n old before lost new after now
+    grown-next t new s after l now w g next ask later = subst (λ (x : Tree). HasGrown S asked n old before lost x after now) (sym ask.kept) (grown-push t s after l now w ask.told g next ask.as_asked ask.is_true later)
+
+    -- A node whose first k turns were asked since a tree was there.
+    pub record IsMidst (front : List ℤ) (k : ℕ) (t : Tree) (s : S) (l : ℕ) : Type 0 where
+      pub midway : IsMidway t.journal.host t.depth t.journal.entries front k
+      pub under_way : IsUnderWay t
+      pub grown : HasGrown S asked n old before lost t s l
+
+    -- the tree after one more turn
+    midst-push : (front : List ℤ) (k : ℕ) (t : Tree) (s after : S) (l now : ℕ) (a : Answer) → k < 30 → IsMidst front k t s l → (grown_by t (front ++ turn_at k ∷ []) a).nodes ≤ node_limit → HasGrown S asked n old before lost (grown_by t (front ++ turn_at k ∷ []) a) after now → IsMidst front (k + 1) (grown_by t (front ++ turn_at k ∷ []) a) after now
+    midst-push front k t s after l now a few m kept g =
+        let w = front ++ turn_at k ∷ [] in
+        let e : Entry = record { walk = w; answer = a } in
+        let host = t.journal.host in
+        record {
+          midway = midway-next host t.depth t.journal.entries e front k (growing-tree host t.depth t.journal.entries m.under_way.growing) m.midway few refl;
+          under_way = record { growing = one_more_entry t.journal.entries e m.under_way.growing (midway-ask host t.depth t.journal.entries front k m.midway few) refl; counted = counted-push t w a m.under_way.counted; kept = kept };
+          grown = g;
+        }
+
+    pub midst-next : (front : List ℤ) (k : ℕ) (t new : Tree) (s after : S) (l now : ℕ) → k < 30 → IsMidst front k t s l → IsAsk S asked (answer n t.journal.host (front ++ turn_at k ∷ [])) s l (front ++ turn_at k ∷ []) t new after now → l ≤ now → new.nodes ≤ node_limit → IsMidst front (k + 1) new after now
+    midst-next front k t new s after l now few m ask later kept =
+        let w = front ++ turn_at k ∷ [] in
+        let next = midway-ask t.journal.host t.depth t.journal.entries front k m.midway few in
+        subst (λ (x : Tree). IsMidst front (k + 1) x after now) (sym ask.kept) (midst-push front k t s after l now ask.told few m (subst (λ (x : Tree). x.nodes ≤ node_limit) ask.kept kept) (grown-push t s after l now w ask.told m.grown next ask.as_asked ask.is_true later))
+
+    pub midst-grown : (front : List ℤ) (k : ℕ) (t new : Tree) (s after : S) (l now : ℕ) → k < 30 → IsMidst front k t s l → IsAsk S asked (answer n t.journal.host (front ++ turn_at k ∷ [])) s l (front ++ turn_at k ∷ []) t new after now → l ≤ now → HasGrown S asked n old before lost new after now
+    midst-grown front k t new s after l now few m ask later = grown-next t new s after l now (front ++ turn_at k ∷ []) m.grown (midway-ask t.journal.host t.depth t.journal.entries front k m.midway few) ask later
+
+    -- the limit of nodes was passed
+    pub midst-full : (front : List ℤ) (k : ℕ) (t new : Tree) (s after : S) (l now : ℕ) → IsMidst front k t s l → IsAsk S asked (answer n t.journal.host (front ++ turn_at k ∷ [])) s l (front ++ turn_at k ∷ []) t new after now → node_limit < new.nodes → ExpandsOrFills new front
+    midst-full front k t new s after l now m ask passed = subst (λ (x : Tree). ExpandsOrFills x front) (sym ask.kept) (fills counted (record { before = t.journal.entries; last = record { walk = front ++ turn_at k ∷ []; answer = ask.told }; whole = refl; kept = (let c = m.under_way.counted in let h = m.under_way.kept in omega arith); passed = (let c = counted in let h = subst (λ (x : Tree). node_limit < x.nodes) ask.kept passed in omega arith) }))
+      where
+        counted : (grown_by t (front ++ turn_at k ∷ []) ask.told).nodes ≡ length (nodes (grown_by t (front ++ turn_at k ∷ []) ask.told).journal.entries)
+        counted = counted-push t (front ++ turn_at k ∷ []) ask.told m.under_way.counted
+
+    pub midst-whole : (front : List ℤ) (t : Tree) (s : S) (l : ℕ) → IsMidst front 30 t s l → ExpandsOrFills t front
+    midst-whole front t s l m = expands m.under_way (midway-rest t.journal.host t.depth t.journal.entries front m.midway) (midway-expanded t.journal.host t.depth t.journal.entries front m.midway)
+
+    module _ (cut : S → List ℤ → S → Type 0) where
+      within-limit : (t : Tree) (s : S) (l : ℕ) → IsUnderWay t → (g : HasGrown S asked n old before lost t s l) → length (nodes (old.journal.entries ++ g.more)) ≤ node_limit
+      within-limit t s l u g = let c = u.counted in let k = u.kept in let e : length (nodes t.journal.entries) ≡ length (nodes (old.journal.entries ++ g.more)) = ap (λ i. length (nodes i)) g.entries in omega arith
+
+      -- want of memory before the next ask, and in it
+      pub midst-stops : (front : List ℤ) (k : ℕ) (t : Tree) (s : S) (l : ℕ) → IsMidst front k t s l → StopsShort S asked cut old.journal.host old.depth old.journal.entries before s
+      midst-stops front k t s l m = stops-between S asked cut n old.journal.host old.depth old.journal.entries m.grown.more before s lost l m.grown.by_asks (within-limit t s l m.under_way m.grown)
+
+      pub midst-lost : (front : List ℤ) (k : ℕ) (t : Tree) (s after : S) (l : ℕ) → k < 30 → IsMidst front k t s l → IsLostAsk S asked cut s (front ++ turn_at k ∷ []) after → StopsShort S asked cut old.journal.host old.depth old.journal.entries before after
+      midst-lost front k t s after l few m lost_ask =
+          let host = old.journal.host in
+          let depth = old.depth in
+          let w = front ++ turn_at k ∷ [] in
+          let g = m.grown in
+          let next = midway-ask t.journal.host t.depth t.journal.entries front k m.midway few in
+          let one : NextAsk host depth (old.journal.entries ++ g.more) w = subst (λ i. NextAsk host depth i w) g.entries (subst (λ h. NextAsk h depth t.journal.entries w) g.host (subst (λ d. NextAsk t.journal.host d t.journal.entries w) g.depth next)) in
+          stops-lost S asked cut n host depth old.journal.entries g.more before s after lost l w g.by_asks (within-limit t s l m.under_way g) one lost_ask
+
+-- an ask in other words for the same fabric, host and walk
+pub as-asked : (S : Type 0) (asked : S → List ℤ → Answer → S → Type 0) (m n : Network) (h host : ℕ) (v w : List ℤ) (t new : Tree) (s after : S) (l now : ℕ) → m ≡ n → h ≡ host → v ≡ w → IsAsk S asked (answer m h v) s l v t new after now → IsAsk S asked (answer n host w) s l w t new after now
+as-asked S asked m n h host v w t new s after l now p q r ask = subst (λ u. IsAsk S asked (answer n host u) s l u t new after now) r (subst (λ a. IsAsk S asked (answer n a v) s l v t new after now) q (subst (λ f. IsAsk S asked (answer f h v) s l v t new after now) p ask))
+
+pub on-err : {T E P : Type 0} (r : Result T E) → P → OnErr r P
+on-err (Ok x) p = tt
+on-err (Err e) p = p
+
+-- a walk with a turn more, as the turn was kept in a byte
+pub walk-turn : (front w : List ℤ) (r t : ℤ) → IsTurn r → w ≡ front ++ to_z w8 (of_z w8 r) ∷ [] → r ≡ t → w ≡ front ++ t ∷ []
+walk-turn front w r t turn is same = is ∙ ap (λ u. front ++ u ∷ []) (back ∙ same)
+  where
+    back : to_z w8 (of_z w8 r) ≡ r
+    back = grind (arith, ints)
+
+-- want of memory before anything was asked
+pub stops-still : (S : Type 0) (asked : S → List ℤ → Answer → S → Type 0) (cut : S → List ℤ → S → Type 0) (n : Network) (t : Tree) (s : S) (lost : ℕ) → IsUnderWay t → StopsShort S asked cut t.journal.host t.depth t.journal.entries s s
+stops-still S asked cut n t s lost u = stops-between S asked cut n t.journal.host t.depth t.journal.entries [] s s lost lost (grows-none S asked n t.journal.host t.depth t.journal.entries s lost u.growing) (let c = u.counted in let k = u.kept in let e : length (nodes (t.journal.entries ++ [])) ≡ length (nodes t.journal.entries) = ap (λ i. length (nodes i)) (append-nil t.journal.entries) in omega arith)
+
+-- what holds of what was found
+pub found-some : {T : Type 0} (E : Type 0) (P : T → Type 0) (o : Option T) (x : T) → o ≡ Some x → IfFound {T = T} {E = E} (Ok o) P → P x
+found-some {T = T} E P o x e f = subst (λ q. IfFound {T = T} {E = E} (Ok q) P) e f

@@ -1,0 +1,9 @@
+pub mod Orders
+pub mod Turning
+pub mod Rising
+pub mod Midway
+pub mod Growing
+pub mod Telling
+pub mod Adding
+pub mod Sweeping
+pub mod Starting

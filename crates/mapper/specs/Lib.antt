@@ -1,0 +1,4 @@
+pub mod Asks
+pub mod Finding
+pub mod Growths
+pub mod Turns

@@ -1,0 +1,42 @@
+//! The 30 turns of one node.
+
+ghost use Rattle.std.specs.Prelude.{◌≡◌, ◌≤◌, OnOk, OnErr};
+ghost use Rattle.journal_defs.specs.Growth.{IsAtRest, IsChosen};
+ghost use Rattle.mapper.specs.Growths.{HasGrown, StopsShort, IsUnderWay, ExpandsOrFills};
+
+use crate::asking::ask;
+use crate::tree::{NODE_LIMIT, Tree};
+use crate::walks::{TURNS, onward, turn_at};
+use probe::Prober;
+use std::alloc::{AllocError, Global};
+
+/// Asks the turns of a node in rising order, up to the answer that passes the limit of nodes.
+pub(crate) fn expand<P: Prober>(
+    alloc: Global,
+    p: &mut P,
+    tree: &mut Tree,
+    front: &[i8],
+) -> Result<(), AllocError>
+    requires is_ready { P.ready p.old }
+    requires mapper { tree.old.journal.host ≡ P.mapper p.old }
+    requires shallow { tree.old.depth ≤ 32 }
+    requires under_way { IsUnderWay tree.old }
+    requires rest { IsAtRest tree.old.journal.entries }
+    requires chosen { IsChosen tree.old.journal.host tree.old.depth tree.old.journal.entries front.now }
+    ensures grown { OnOk result (HasGrown P.State P.asked (P.fabric p.old) tree.old (P.state p.old) (P.lost p.old) tree.new (P.state p.new) (P.lost p.new)) }
+    ensures expanded { OnOk result (ExpandsOrFills tree.new front.now) }
+    ensures stopped { OnErr result (StopsShort P.State P.asked P.cut tree.old.journal.host tree.old.depth tree.old.journal.entries (P.state p.old) (P.state p.new)) }
+    ensures later { P.lost p.old ≤ P.lost p.new }
+    ensures same_fabric { P.fabric p.new ≡ P.fabric p.old }
+    ensures same_mapper { P.mapper p.new ≡ P.mapper p.old }
+    ensures stays_ready { OnOk result (P.ready p.new) }
+{
+    for step in 0..TURNS {
+        let walk = onward(alloc, front, turn_at(step))?;
+        ask(alloc, p, tree, walk)?;
+        if tree.nodes > NODE_LIMIT {
+            return Ok(());
+        }
+    }
+    Ok(())
+}

@@ -1,0 +1,78 @@
+//! One node after another, in the order of their walks.
+
+ghost use Rattle.std.specs.Prelude.{◌≡◌, ◌<◌, ◌≤◌, true, false, length, IfOk, OnOk, OnErr, Ok};
+ghost use Rattle.replicate_merge.specs.Table.{IsTrueOfOne};
+ghost use Rattle.mapper.specs.Growths.{HasGrown, StopsShort, IsNextOpen, IsSettled, IsWhole, IsWalkAt};
+
+use crate::expanding::expand;
+use crate::opening::next_open;
+use crate::tree::{NODE_LIMIT, Tree};
+use probe::Prober;
+use std::alloc::{AllocError, Global};
+
+/// Expands the next node that is to be expanded; false where there is none, or where the limit of nodes was passed.
+pub(crate) fn expand_next<P: Prober>(
+    alloc: Global,
+    p: &mut P,
+    tree: &mut Tree,
+    next: &mut usize,
+) -> Result<bool, AllocError>
+    requires is_ready { P.ready p.old }
+    requires mapper { tree.old.journal.host ≡ P.mapper p.old }
+    requires shallow { tree.old.depth ≤ 32 }
+    requires true_of_one { IsTrueOfOne tree.old.journal.host tree.old.journal.entries }
+    requires settled { IsSettled tree.old next.old }
+    ensures grown { OnOk result (HasGrown P.State P.asked (P.fabric p.old) tree.old (P.state p.old) (P.lost p.old) tree.new (P.state p.new) (P.lost p.new)) }
+    ensures goes_on { result ≡ Ok true → IsSettled tree.new next.new }
+    ensures rises { result ≡ Ok true → next.old < next.new }
+    ensures ends { result ≡ Ok false → IsWhole tree.new }
+    ensures stopped { OnErr result (StopsShort P.State P.asked P.cut tree.old.journal.host tree.old.depth tree.old.journal.entries (P.state p.old) (P.state p.new)) }
+    ensures later { P.lost p.old ≤ P.lost p.new }
+    ensures same_fabric { P.fabric p.new ≡ P.fabric p.old }
+    ensures same_mapper { P.mapper p.new ≡ P.mapper p.old }
+    ensures stays_ready { OnOk result (P.ready p.new) }
+{
+    let found = next_open(alloc, &tree.journal, *next, tree.depth)?;
+    match found {
+        Some(place) => expand_at(alloc, p, tree, next, place),
+        None => Ok(false),
+    }
+}
+
+// Expands the node at the next place where one is to be expanded.
+fn expand_at<P: Prober>(
+    alloc: Global,
+    p: &mut P,
+    tree: &mut Tree,
+    next: &mut usize,
+    place: usize,
+) -> Result<bool, AllocError>
+    requires is_ready { P.ready p.old }
+    requires mapper { tree.old.journal.host ≡ P.mapper p.old }
+    requires shallow { tree.old.depth ≤ 32 }
+    requires settled { IsSettled tree.old next.old }
+    requires is_next { IsNextOpen tree.old.journal.host tree.old.depth tree.old.journal.entries next.old place }
+    ensures grown { OnOk result (HasGrown P.State P.asked (P.fabric p.old) tree.old (P.state p.old) (P.lost p.old) tree.new (P.state p.new) (P.lost p.new)) }
+    ensures goes_on { result ≡ Ok true → IsSettled tree.new next.new }
+    ensures rises { result ≡ Ok true → next.old < next.new }
+    ensures ends { result ≡ Ok false → IsWhole tree.new }
+    ensures stopped { OnErr result (StopsShort P.State P.asked P.cut tree.old.journal.host tree.old.depth tree.old.journal.entries (P.state p.old) (P.state p.new)) }
+    ensures later { P.lost p.old ≤ P.lost p.new }
+    ensures same_fabric { P.fabric p.new ≡ P.fabric p.old }
+    ensures same_mapper { P.mapper p.new ≡ P.mapper p.old }
+    ensures stays_ready { OnOk result (P.ready p.new) }
+{
+    let front = turns_at(alloc, tree, place)?;
+    expand(alloc, p, tree, &front)?;
+    *next = place + 1;
+    Ok(tree.nodes <= NODE_LIMIT)
+}
+
+// The turns of the walk at a place of the journal.
+fn turns_at(alloc: Global, tree: &Tree, place: usize) -> Result<Vec<i8>, AllocError>
+    requires { place < length tree.now.journal.entries }
+    ensures { IfOk result (λ turns. IsWalkAt tree.now.journal.entries place turns.items) }
+{
+    let entries = tree.journal.entries();
+    entries[place].walk.turns().to_vec(alloc)
+}
