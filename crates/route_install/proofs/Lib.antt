@@ -4,3 +4,4 @@ pub mod Cutting
 pub mod Works
 pub mod Gathering
 pub mod Ruled
+pub mod Sets

@@ -28,7 +28,7 @@ mod tests;
 
 pub use cut::part_for;
 pub use installer::{Installer, Work};
-pub use laws::parts_make_the_table;
+pub use laws::{hosts_have_their_parts, parts_make_the_table};
 pub use route_parts::{BodyFault, EntryList, PartAck, RoutePart, TableEntry};
 pub use table::Table;
 pub use world_defs::Applied;
