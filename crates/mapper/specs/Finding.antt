@@ -7,6 +7,7 @@ use Rattle.journal_defs.specs.Tree.Node.{Reached}
 use Rattle.journal_defs.specs.Growth.{HasExpanded, crossed}
 use Rattle.replicate_merge.specs.Table.{ClassTable, StandsFor}
 
+-- what holds of a value that was found
 abbrev pub IfFound : {T E : Type 0} → Result (Option T) E → (T → Type 0) → Type 0
 IfFound (Ok (Some x)) P = P x
 IfFound _ P = Unit {0}
