@@ -46,12 +46,12 @@ pub record IsQuiet (host : ℕ) (before after : WorldState) : Type 0 where
   pub injections_left : before.injected < 2 ^ 63
   pub small : IsSmallEnough (fabric_of before) host
 
--- on a quiet fabric a map to the depth that suffices says complete
+-- on a quiet fabric a map to the depth that suffices, with 1 to 8 tries an ask, says complete
 abbrev pub DeepIsComplete : Network → List Command → Type 0
 DeepIsComplete n commands =
     (out : List Piece) (s : SessionState) (host depth tries : ℕ) (after : WorldState) (j : List Entry) (m : NetMap) (words : MapWords)
     → IsRun n commands out s → IsMapped host depth tries s.world after j m words → IsQuiet host s.world after
-    → enough_depth n host ≤ depth → words ≡ Complete
+    → 1 ≤ tries → tries ≤ 8 → enough_depth n host ≤ depth → words ≡ Complete
 
 -- What may happen to a world: an event, a plan, or the adoption of routes.
 pub data Act : Type 0 where
