@@ -1,0 +1,25 @@
+use Rattle.std.proofs.Common.{◌∙◌, sym, ap, take}
+use Rattle.std.specs.Option.{option_copied}
+use Rattle.gm_defs.specs.Port.{finished}
+use Rattle.host_ports.specs.Held.{changed}
+use Rattle.host_peers.specs.Known.{peer_in}
+use Rattle.host_messages.proofs.Within.{finished-next, finished-none, finished-host}
+use Rattle.host_messages.proofs.hearing.finish.Goals as goal
+use Rattle.host_messages.proofs.hearing.finish.Goals.{in-Some, in_default}
+
+pub loop-place-preserved : goal.loop-place-preserved
+loop-place-preserved c =
+    elim c.match-pending.branch [
+      | in-Some w ↦
+          w.ports-is ∙ w.finish.ensures ∙ (λ i. changed c.loop-place.ports (w.port.ensures i) (λ s. finished s (w.token.ensures i)))
+          ∙ finished-next c.args.ports.now c.loop-place.ports (peer_in c.args.peers.now c.args.peer).pending c.loop-place.place w.in-Some.ticket.now
+          (sym c.pending.ensures ∙ ap option_copied w.in-Some.is) c.loop-place.invariant
+      | in_default w ↦
+          w.ports-is
+          ∙ finished-none c.args.ports.now c.loop-place.ports (peer_in c.args.peers.now c.args.peer).pending c.loop-place.place
+          (sym c.pending.ensures ∙ ap option_copied w.in_default.is) c.loop-place.invariant
+    ]
+
+pub returns-clause-host : goal.returns-clause-host
+returns-clause-host c =
+    ap (λ p. p.host) c.loop-place.invariant ∙ finished-host c.args.ports.now (take c.loop-place.place (peer_in c.args.peers.now c.args.peer).pending)
