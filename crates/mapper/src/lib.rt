@@ -25,6 +25,8 @@ mod expanding;
 mod growth;
 mod opening;
 mod sweep;
+#[cfg(test)]
+mod tests;
 mod tree;
 mod walks;
 
