@@ -29,6 +29,8 @@ mod expanding;
 mod merging;
 mod numbering;
 mod order;
+#[cfg(test)]
+mod plain;
 mod table;
 #[cfg(test)]
 mod tests;
