@@ -1,0 +1,57 @@
+//! What a host answers: the reply to a probe, and the acknowledgement of a part.
+
+ghost use Rattle.std.specs.Prelude.{ℕ, ◌≡◌, IfOk};
+ghost use Rattle.world_defs.specs.Node.{Outgoing, packet_for};
+ghost use Rattle.host_items.specs.Held.{reply_of, answer_of};
+
+use myri_packet::{Kind, Packet, encode};
+use net_defs::Walk;
+use probe::ProbeBody;
+use route_parts::PartAck;
+use std::alloc::{AllocError, Global};
+
+/// The reply to the probe of a number, and the way back.
+#[derive(Debug, Drop)]
+pub(crate) struct ProbeReply {
+    pub(crate) number: u64,
+    pub(crate) back: Walk,
+}
+
+impl ProbeReply {
+    /// Its packet. It carries the number of its probe.
+    #[tactic(auto, unfolding(world_defs::specs::Node::packet_for))]
+    pub(crate) fn packet(&self, alloc: Global, host: u16) -> Result<Packet, AllocError>
+        ensures { (number : ℕ) → IfOk result (λ p. p ≡ packet_for host number (Outgoing.Reply (reply_of self.now))) }
+    {
+        let body = ProbeBody::HostReply {
+            number: self.number,
+            host,
+        };
+        let payload = body.encode(alloc)?;
+        encode(alloc, self.back.turns(), Kind::Mapping, &payload)
+    }
+}
+
+/// The acknowledgement of a part, and the way back.
+#[derive(Debug, Drop)]
+pub(crate) struct PartAnswer {
+    pub(crate) epoch: u32,
+    pub(crate) part: u8,
+    pub(crate) back: Walk,
+}
+
+impl PartAnswer {
+    /// Its packet.
+    #[tactic(auto, unfolding(world_defs::specs::Node::packet_for))]
+    pub(crate) fn packet(&self, alloc: Global, host: u16) -> Result<Packet, AllocError>
+        ensures { (number : ℕ) → IfOk result (λ p. p ≡ packet_for host number (Outgoing.PartAnswer (answer_of self.now))) }
+    {
+        let ack = PartAck {
+            epoch: self.epoch,
+            host,
+            part: self.part,
+        };
+        let payload = ack.encode(alloc)?;
+        encode(alloc, self.back.turns(), Kind::Mapping, &payload)
+    }
+}

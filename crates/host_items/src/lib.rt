@@ -1,0 +1,26 @@
+//! What a host has staged to send besides messages, and the packet of the first of it.
+//!
+//! It hears nothing and keeps no connection. `specs/Node.antt` of `world_defs` says what is staged and in which order it is sent;
+//! `specs/Held.antt` sets the three items into a host of the world.
+//!
+//! ```text
+//!   staged probe or part  ---+
+//!   reply to a probe      ---+---> the first that stands ---> its packet
+//!   a part's acknowledgement +
+//!
+//!   a looped probe of 3, -1:   3 | -1 | 0 | 1 | -3     there, the turn that leads back, and its way back
+//! ```
+#![tactic(auto)]
+
+mod answers;
+mod items;
+mod laws;
+mod route;
+mod staged;
+#[cfg(test)]
+mod tests;
+
+pub use items::Items;
+pub use laws::items_are_a_hosts;
+pub use myri_packet::Packet;
+pub use route_parts::RoutePart;

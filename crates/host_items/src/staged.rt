@@ -1,0 +1,94 @@
+//! A probe or a part that a host was told to send.
+
+ghost use Rattle.std.specs.Prelude.{◌≡◌, ◌≤◌, length, true, false, IfOk};
+ghost use Rattle.packet_defs.specs.Packet.{packet_of};
+ghost use Rattle.gm_defs.specs.Mapping.{MappingBody, mapping_bytes, is_part};
+ghost use Rattle.world_defs.specs.Node.{outgoing_staged, probe_packet, packet_for};
+ghost use Rattle.host_items.specs.Held.{staged_of, IsSendable};
+
+use crate::route::{there_and_back, way_back};
+use myri_packet::{Kind, Packet, encode};
+use net_defs::Walk;
+use probe::ProbeBody;
+use route_parts::RoutePart;
+use std::alloc::{AllocError, Global};
+
+/// What a host was told to send.
+#[derive(Debug, Drop)]
+pub(crate) enum StagedItem {
+    /// A probe of a walk. A looped one returns to its host.
+    Probe { walk: Walk, looped: bool },
+    /// A part of a table, by a route.
+    Part { part: RoutePart, by: Walk },
+}
+
+impl StagedItem {
+    /// Its packet, injected by a host under a number.
+    #[tactic(auto, unfolding(world_defs::specs::Node::packet_for))]
+    pub(crate) fn packet(&self, alloc: Global, host: u16, number: u64) -> Result<Packet, AllocError>
+        requires { IsSendable (staged_of self.now) }
+        ensures { IfOk result (λ p. p ≡ packet_for host number (outgoing_staged (staged_of self.now))) }
+    {
+        match self {
+            StagedItem::Probe { walk, looped } => {
+                probe_packet(alloc, host, number, walk, *looped)
+            }
+            StagedItem::Part { part, by } => part_packet(alloc, part, by),
+        }
+    }
+}
+
+// The packet of a probe.
+fn probe_packet(
+    alloc: Global,
+    host: u16,
+    number: u64,
+    walk: &Walk,
+    looped: bool,
+) -> Result<Packet, AllocError>
+    requires { looped ≡ true → length walk.now ≤ 31 }
+    ensures { IfOk result (λ p. p ≡ probe_packet host number walk.now looped) }
+{
+    if looped {
+        loop_packet(alloc, host, number, walk)
+    } else {
+        host_packet(alloc, host, number, walk)
+    }
+}
+
+// The packet of a probe that asks a host.
+fn host_packet(alloc: Global, host: u16, number: u64, walk: &Walk) -> Result<Packet, AllocError>
+    ensures { IfOk result (λ p. p ≡ probe_packet host number walk.now false) }
+{
+    let back = way_back(alloc, walk)?;
+    let body = ProbeBody::HostProbe {
+        number,
+        mapper: host,
+        back,
+    };
+    let payload = body.encode(alloc)?;
+    encode(alloc, walk.turns(), Kind::Mapping, &payload)
+}
+
+// The packet of a probe that returns.
+fn loop_packet(alloc: Global, host: u16, number: u64, walk: &Walk) -> Result<Packet, AllocError>
+    requires { length walk.now ≤ 31 }
+    ensures { IfOk result (λ p. p ≡ probe_packet host number walk.now true) }
+{
+    let route = there_and_back(alloc, walk)?;
+    let body = ProbeBody::Loop {
+        number,
+        mapper: host,
+    };
+    let payload = body.encode(alloc)?;
+    encode(alloc, &route, Kind::Mapping, &payload)
+}
+
+// The packet of a part of a table.
+fn part_packet(alloc: Global, part: &RoutePart, by: &Walk) -> Result<Packet, AllocError>
+    requires { is_part part.now ≡ true }
+    ensures { IfOk result (λ p. p ≡ packet_of by.now Kind.Mapping (mapping_bytes (MappingBody.Part part.now))) }
+{
+    let payload = part.encode(alloc)?;
+    encode(alloc, by.turns(), Kind::Mapping, &payload)
+}
