@@ -7,3 +7,4 @@ pub mod Telling
 pub mod Adding
 pub mod Sweeping
 pub mod Starting
+pub mod Ending

@@ -1,4 +1,5 @@
 pub mod Asks
+pub mod Ends
 pub mod Finding
 pub mod Growths
 pub mod Turns

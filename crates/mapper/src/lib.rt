@@ -1,4 +1,4 @@
-//! The mapper: the journal of one host, grown by asks to a depth.
+//! The mapper: the journal of one host, grown by asks to a depth, and its map.
 //!
 //! It knows no fabric: it looks at what a prober answers. `specs/Growths.antt` says what a journal grows by, and `specs/Asks.antt` how the
 //! asks lead a prober from one state to another.
@@ -11,6 +11,7 @@
 //!
 //! | module | has |
 //! |---|---|
+//! | `mapping` | the map of a journal that has grown, and its end |
 //! | `growth` | the growth of a journal to its depth |
 //! | `sweep` | one node after another |
 //! | `opening` | which node is to be expanded next |
@@ -23,6 +24,7 @@
 mod asking;
 mod expanding;
 mod growth;
+mod mapping;
 mod opening;
 mod sweep;
 #[cfg(test)]
@@ -31,3 +33,5 @@ mod tree;
 mod walks;
 
 pub use growth::{Grown, grow};
+pub use map_canon::FabricMap;
+pub use mapping::{MapEnd, Mapped, map};
