@@ -1,4 +1,4 @@
-use crate::grow;
+use crate::{MapEnd, map};
 use net_defs::{End, Vertex};
 use port_graph::{Fabric, GraphFault};
 use probe::FabricProber;
@@ -38,14 +38,14 @@ fn ring(alloc: Global) -> Result<Fabric, GraphFault> {
     Ok(fabric)
 }
 
-// How many asks the journal of host 0 has that is grown to a depth.
-fn asks(alloc: Global, fabric: &Fabric, depth: u8) -> Result<usize, AllocError> {
+// How many asks the journal of host 0 has that is grown to a depth, and how its growth ends.
+fn asks(alloc: Global, fabric: &Fabric, depth: u8) -> Result<(usize, MapEnd), AllocError> {
     if fabric.hosts() == 0 || depth > 32 {
-        return Ok(0);
+        return Ok((0, MapEnd::OpenAtNodes));
     }
     let mut prober = FabricProber::new(fabric, 0);
-    let grown = grow(alloc, &mut prober, depth)?;
-    Ok(grown.journal.entries().len())
+    let mapped = map(alloc, &mut prober, depth)?;
+    Ok((mapped.journal.entries().len(), mapped.end))
 }
 
 #[test]
@@ -53,7 +53,7 @@ fn one_host_on_a_ring(rt: HostRuntime) -> Result<(), Fail> {
     let fabric = ring(rt.alloc())?;
     assert_eq!(rt;
         (asks(rt.alloc(), &fabric, 4)?, asks(rt.alloc(), &fabric, 7)?),
-        (151, 241)
+        ((151, MapEnd::OpenAtDepth), (241, MapEnd::Closed))
     );
     Ok(())
 }
