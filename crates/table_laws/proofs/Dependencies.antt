@@ -1,0 +1,107 @@
+-- Numbers that rise along the routes of the adopted set rise along the installed routes, so these have no cycle.
+use Rattle.std.proofs.Common.{◌≡◌, ◌<◌, ℕ, zero, suc, List, [], ◌∷◌, ◌++◌, map, Option, Some, None, IfSome, refl, sym, subst, arith}
+use Rattle.std.specs.List.{AllByRecursion, slice_get}
+use Rattle.std.proofs.lemmas.Bool.Decides.{nat_tests}
+use Rattle.std.proofs.lemmas.Option.{same_Some}
+use Rattle.net_defs.specs.declared.route.Route.{Route}
+use Rattle.net_defs.specs.Network.{Network}
+use Rattle.net_defs.specs.Route.{channels_of}
+use Rattle.packet_defs.specs.declared.kind.Kind.{Kind}
+use Rattle.gm_defs.specs.Mapping.{RouteEntry}
+use Rattle.map_defs.specs.Dependencies.{IsNext, IsBefore, HasNoCycle}
+use Rattle.map_defs.proofs.Cycles.{no_cycle-rising}
+use Rattle.world_defs.specs.Table.{Adoption, ActiveTable, entries_from}
+use Rattle.world_defs.specs.World.{WorldState, fabric_of, new_world, node_at, addresses}
+use Rattle.world_defs.specs.Sound.{entries_in, channels_from, channels_from_all, installed_channels}
+use Rattle.run_defs.specs.Headline.{channels_of_all}
+use Rattle.table_laws.specs.Set.{IsActive, IsActiveOfSet}
+use Rattle.table_laws.specs.Acts.{IsReached, TablesAreOfSet, ActiveIsOfSet, AdoptedIsAdoptable, PartsAreOfSet, InstalledHasNoCycle}
+use Rattle.table_laws.proofs.Medium.{honest-read}
+use Rattle.table_laws.proofs.Sets.{entries-all}
+use Rattle.table_laws.specs.Bodies.{IsBody}
+use Rattle.table_laws.specs.Packets.{IsHonest}
+use Rattle.table_laws.proofs.Steps.{IsOfSet, IsAdopted, acted_all-of, new-of}
+
+reached-of : (n : Network) (w : WorldState) → IsReached n w → IsOfSet n w
+reached-of n w r = subst (IsOfSet n) (sym r.leads) (acted_all-of n (new_world n) r.acts r.fabric r.bytes r.may (new-of n))
+
+pub tables-of_set : TablesAreOfSet
+tables-of_set n w r h = ((reached-of n w r).hosts h).table
+
+pub active-of_set : ActiveIsOfSet
+active-of_set n w h t r e = subst (λ o. IfSome o (IsActive w.adopted h)) e ((reached-of n w r).hosts h).table.active
+
+pub adopted-adoptable : AdoptedIsAdoptable
+adopted-adoptable n w a r e =
+    let is : IsAdopted n a = subst (λ o. IfSome o (IsAdopted n)) e (reached-of n w r).adopted in
+    (is.epoch, is.adoptable)
+
+pub parts-of_set : PartsAreOfSet
+parts-of_set n w c held payload p r e d m =
+    let is : IsHonest (IsBody w.adopted) held = subst (λ o. IfSome o (IsHonest (IsBody w.adopted))) e ((reached-of n w r).links.in_channels c) in
+    (honest-read (IsBody w.adopted) held Kind.Mapping payload is d).part p refl m
+
+-- numbers rise along channels
+abbrev Rises : (ℕ → ℕ) → List ℕ → Type 0
+Rises number cs = (c d : ℕ) → IsNext c d cs → number c < number d
+
+rise-all : (number : ℕ → ℕ) (css : List (List ℕ)) → ((c d : ℕ) → IsBefore css c d → number c < number d) → AllByRecursion (Rises number) css
+rise-all number [] f = tt
+rise-all number (cs ∷ css) f = (
+  (λ c d x. f c d (record { place = 0; route = cs; there = refl; next = x })),
+  rise-all number css (λ c d x. f c d (record { place = suc x.place; route = x.route; there = x.there; next = x.next })),
+)
+
+rise-at : (number : ℕ → ℕ) (css : List (List ℕ)) (k : ℕ) (cs : List ℕ) → AllByRecursion (Rises number) css → slice_get css k ≡ Some cs → Rises number cs
+rise-at number [] k cs all e = cc
+rise-at number (x ∷ css) zero cs all e = subst (Rises number) (same_Some x cs e) all.0
+rise-at number (x ∷ css) (suc k) cs all e = rise-at number css k cs all.1 e
+
+routes-rise : (n : Network) (number : ℕ → ℕ) (routes : List Route) → AllByRecursion (Rises number) (channels_of_all n routes) → AllByRecursion (λ r. Rises number (channels_of n r.from r.walk)) routes
+routes-rise n number [] all = tt
+routes-rise n number (r ∷ routes) all = (all.0, routes-rise n number routes all.1)
+
+mapped-rise : (n : Network) (number : ℕ → ℕ) (h : ℕ) (es : List RouteEntry) → AllByRecursion (λ e. Rises number (channels_of n h e.walk)) es → AllByRecursion (Rises number) (map (λ e. channels_of n h e.walk) es)
+mapped-rise n number h [] all = tt
+mapped-rise n number h (e ∷ es) all = (all.0, mapped-rise n number h es all.1)
+
+entries-rise : (n : Network) (number : ℕ → ℕ) (h : ℕ) (routes : List Route) → AllByRecursion (Rises number) (channels_of_all n routes) → AllByRecursion (Rises number) (map (λ e. channels_of n h e.walk) (entries_from routes h))
+entries-rise n number h routes all =
+    mapped-rise n number h (entries_from routes h)
+    (entries-all (λ r. Rises number (channels_of n r.from r.walk)) (λ e. Rises number (channels_of n h e.walk)) h routes
+    (λ r t rises. let from : r.from ≡ h = grind (arith, nat_tests) in subst (λ k. Rises number (channels_of n k r.walk)) from rises)
+    (routes-rise n number routes all))
+
+append-all : (P : List ℕ → Type 0) (xs ys : List (List ℕ)) → AllByRecursion P xs → AllByRecursion P ys → AllByRecursion P (xs ++ ys)
+append-all P [] ys a b = b
+append-all P (x ∷ xs) ys a b = (a.0, append-all P xs ys a.1 b)
+
+hosts-rise : (w : WorldState) (number : ℕ → ℕ) (hs : List ℕ) → ((h : ℕ) → AllByRecursion (Rises number) (channels_from w h)) → AllByRecursion (Rises number) (channels_from_all w hs)
+hosts-rise w number [] f = tt
+hosts-rise w number (h ∷ hs) f = append-all (Rises number) (channels_from w h) (channels_from_all w hs) (f h) (hosts-rise w number hs f)
+
+no_cycle-by : (w : WorldState) (number : ℕ → ℕ) → ((h : ℕ) → AllByRecursion (Rises number) (channels_from w h)) → HasNoCycle (IsBefore (installed_channels w))
+no_cycle-by w number f =
+    let all : AllByRecursion (Rises number) (installed_channels w) = hosts-rise w number (addresses w) f in
+    no_cycle-rising (IsBefore (installed_channels w)) number (λ c d b. rise-at number (installed_channels w) b.place b.route all b.there c d b.next)
+
+active-rise : (n : Network) (number : ℕ → ℕ) (h : ℕ) (a : Adoption) (t : Option ActiveTable) → AllByRecursion (Rises number) (channels_of_all n a.routes) → IfSome t (IsActiveOfSet a.routes h) → AllByRecursion (Rises number) (map (λ e. channels_of n h e.walk) (entries_in t))
+active-rise n number h a None all is = tt
+active-rise n number h a (Some t) all is = subst (λ es. AllByRecursion (Rises number) (map (λ e. channels_of n h e.walk) es)) (sym is.entries) (entries-rise n number h a.routes all)
+
+none-rise : (n : Network) (number : ℕ → ℕ) (h : ℕ) (t : Option ActiveTable) → IfSome t (IsActive None h) → AllByRecursion (Rises number) (map (λ e. channels_of n h e.walk) (entries_in t))
+none-rise n number h None is = tt
+none-rise n number h (Some t) is = absurd is
+
+no_cycle-of : (n : Network) (w : WorldState) (o : Option Adoption) → w.adopted ≡ o → IsOfSet n w → HasNoCycle (IsBefore (installed_channels w))
+no_cycle-of n w None e is =
+    no_cycle-by w (λ c. c) (λ h. none-rise (fabric_of w) (λ c. c) h (node_at w h).table.active (subst (λ o. IfSome (node_at w h).table.active (IsActive o h)) e (is.hosts h).table.active))
+no_cycle-of n w (Some a) e is =
+    let it : IsAdopted n a = subst (λ o. IfSome o (IsAdopted n)) e is.adopted in
+    let number : ℕ → ℕ = it.adoptable.number in
+    let all : AllByRecursion (Rises number) (channels_of_all n a.routes) = rise-all number (channels_of_all n a.routes) it.adoptable.rises in
+    let here : AllByRecursion (Rises number) (channels_of_all (fabric_of w) a.routes) = subst (λ m. AllByRecursion (Rises number) (channels_of_all m a.routes)) (sym is.net) all in
+    no_cycle-by w number (λ h. active-rise (fabric_of w) number h a (node_at w h).table.active here (subst (λ o. IfSome (node_at w h).table.active (IsActive o h)) e (is.hosts h).table.active))
+
+pub installed-no_cycle : InstalledHasNoCycle
+installed-no_cycle n w r = no_cycle-of n w w.adopted refl (reached-of n w r)

@@ -1,0 +1,66 @@
+-- What holds of tables after every list of acts.
+use Rattle.std.specs.Prelude.{◌≡◌, ℕ, ◌<◌, pos, List, [], ◌∷◌, Some, Ok}
+use Rattle.std.specs.List.{AllByRecursion}
+use Rattle.net_defs.specs.Network.{Network, IsFabric}
+use Rattle.packet_defs.specs.declared.kind.Kind.TheVariants.{Mapping, Gm}
+use Rattle.packet_defs.specs.Packet.{packet_of, difference}
+use Rattle.packet_defs.specs.Burst.{flipped}
+use Rattle.packet_defs.specs.Host.{decode}
+use Rattle.link_defs.specs.Links.{Held, packet_in}
+use Rattle.gm_defs.specs.Mapping.{RoutePart, Part, decode_mapping}
+use Rattle.map_defs.specs.Dependencies.{IsBefore, HasNoCycle}
+use Rattle.world_defs.specs.declared.event.Event.TheVariants.{Flip}
+use Rattle.world_defs.specs.declared.fault.Fault.{Fault}
+use Rattle.world_defs.specs.declared.fault.Fault.TheVariants.{Flip as FlipFault}
+use Rattle.world_defs.specs.Table.{Adoption, ActiveTable}
+use Rattle.world_defs.specs.World.{WorldState, new_world, node_at}
+use Rattle.world_defs.specs.Sound.{installed_channels}
+use Rattle.run_defs.specs.Headline.{Act, Happens, Plans, acted_all, AreAdoptable, MayActAll}
+use Rattle.table_laws.specs.Set.{IsPart, IsActive, IsTable}
+
+-- a flip's pattern has eight bits
+abbrev pub IsByteFault : Fault → Type 0
+IsByteFault (FlipFault bit pattern) = pattern < 256
+IsByteFault _ = Unit {0}
+
+-- an act whose flips have patterns of eight bits
+abbrev pub IsByteAct : Act → Type 0
+IsByteAct (Happens (Flip c bit pattern)) = pattern < 256
+IsByteAct (Plans ahead fault) = IsByteFault fault
+IsByteAct _ = Unit {0}
+
+-- Why eight bits: a burst of nine, with the divisor's own bits, leaves no difference. Here it changes both turns of a packet.
+abbrev pub WidePatternIsUnseen : Type 0
+WidePatternIsUnseen =
+    (flipped (packet_of (pos 1 ∷ pos 0 ∷ []) Gm (7 ∷ [])) 7 263 ≡ packet_of (pos 3 ∷ pos 14 ∷ []) Gm (7 ∷ []))
+    × (difference (flipped (packet_of (pos 1 ∷ pos 0 ∷ []) Gm (7 ∷ [])) 7 263) ≡ 0)
+
+-- A world that acts which may happen lead to from the new one of a fabric.
+pub record IsReached (n : Network) (w : WorldState) : Type 0 where
+  pub fabric : IsFabric n
+  pub acts : List Act
+  pub bytes : AllByRecursion IsByteAct acts
+  pub may : MayActAll (new_world n) acts
+  pub leads : w ≡ acted_all (new_world n) acts
+
+-- each host's table is of the adopted set
+abbrev pub TablesAreOfSet : Type 0
+TablesAreOfSet = (n : Network) (w : WorldState) → IsReached n w → (h : ℕ) → IsTable w.adopted h (node_at w h).table
+
+-- what is active is exactly the set's routes from its host, by the set's epoch; without a set nothing is
+abbrev pub ActiveIsOfSet : Type 0
+ActiveIsOfSet = (n : Network) (w : WorldState) (h : ℕ) (t : ActiveTable) → IsReached n w → (node_at w h).table.active ≡ Some t → IsActive w.adopted h t
+
+-- the adopted set has epoch 1, and may be adopted
+abbrev pub AdoptedIsAdoptable : Type 0
+AdoptedIsAdoptable = (n : Network) (w : WorldState) (a : Adoption) → IsReached n w → w.adopted ≡ Some a → (a.epoch ≡ 1) × AreAdoptable n a.routes
+
+-- whatever a host would read as a part of a packet on its way is a part of the adopted set
+abbrev pub PartsAreOfSet : Type 0
+PartsAreOfSet =
+    (n : Network) (w : WorldState) (c : ℕ) (held : Held) (payload : List ℕ) (p : RoutePart) → IsReached n w → packet_in w.links c ≡ Some held
+    → decode held.wire ≡ Ok (Mapping, payload) → decode_mapping payload ≡ Some (Part p) → IsPart w.adopted p.dst p
+
+-- no channel waits for itself along the installed routes
+abbrev pub InstalledHasNoCycle : Type 0
+InstalledHasNoCycle = (n : Network) (w : WorldState) → IsReached n w → HasNoCycle (IsBefore (installed_channels w))
