@@ -52,7 +52,7 @@ rise-all number (cs ∷ css) f = (
   rise-all number css (λ c d x. f c d (record { place = suc x.place; route = x.route; there = x.there; next = x.next })),
 )
 
-rise-at : (number : ℕ → ℕ) (css : List (List ℕ)) (k : ℕ) (cs : List ℕ) → AllByRecursion (Rises number) css → slice_get css k ≡ Some cs → Rises number cs
+pub rise-at : (number : ℕ → ℕ) (css : List (List ℕ)) (k : ℕ) (cs : List ℕ) → AllByRecursion (Rises number) css → slice_get css k ≡ Some cs → Rises number cs
 rise-at number [] k cs all e = cc
 rise-at number (x ∷ css) zero cs all e = subst (Rises number) (same_Some x cs e) all.0
 rise-at number (x ∷ css) (suc k) cs all e = rise-at number css k cs all.1 e

@@ -6,3 +6,4 @@ pub mod Sets
 pub mod Steps
 pub mod Travels
 pub mod Dependencies
+pub mod TwoHosts

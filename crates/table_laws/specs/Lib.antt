@@ -4,3 +4,4 @@ pub mod Bodies
 pub mod Laws
 pub mod Acts
 pub mod Provenance
+pub mod Examples

@@ -10,12 +10,15 @@
 //! | `Laws` | the laws of one part, read and taken |
 //! | `Provenance` | which host built each packet, and of what |
 //! | `Acts` | the laws of every reached world |
+//! | `Examples` | a reached world with an active table |
 #![tactic(auto)]
 
 mod packet;
 mod part;
 mod table;
+mod worked;
 
 pub use packet::packets_of_hosts;
 pub use part::{parts_as_read, tables_of_parts};
 pub use table::{channels_without_cycle, tables_of_set, wide_patterns};
+pub use worked::one_adoption;
