@@ -1,11 +1,12 @@
 -- Every act keeps the tables, the staged parts and the parts on their way parts of the adopted set.
-use Rattle.std.proofs.Common.{◌≡◌, ◌+◌, ℕ, zero, suc, Bool, true, false, ◌||◌, ℤ, List, [], ◌∷◌, length, replicate, get_or, set, nat_eq, nat_lt, nat_le, Option, Some, None, is_some, IfSome, Ok, refl, sym, ap, ◌∙◌, subst, if◌then◌else◌}
+use Rattle.std.proofs.Common.{◌≡◌, ◌+◌, ℕ, zero, suc, Bool, true, false, ◌||◌, ℤ, List, [], ◌∷◌, length, replicate, get_or, set, nat_eq, nat_lt, nat_le, Option, Some, None, is_some, IfSome, Ok, Ordering, Less, Equal, Greater, refl, sym, ap, ◌∙◌, subst, if◌then◌else◌}
 use Rattle.std.specs.List.{AllByRecursion}
 use Rattle.std.specs.Map.{lookup}
+use Rattle.std.specs.Ordering.{match_ordering, nat_cmp}
 use Rattle.net_defs.specs.declared.route.Route.{Route}
 use Rattle.net_defs.specs.Network.{Network, IsFabric}
 use Rattle.net_defs.specs.Route.{host_port, channel_from}
-use Rattle.net_defs.proofs.Distinct.{all-push, all-weaker}
+use Rattle.net_defs.proofs.Distinct.{all-weaker}
 use Rattle.packet_defs.specs.declared.kind.Kind.{Kind}
 use Rattle.packet_defs.specs.Packet.{difference}
 use Rattle.packet_defs.specs.Host.{decode}
@@ -33,7 +34,7 @@ use Rattle.world_defs.specs.Table.{Adoption, ActiveTable, TableState, entries_fr
 use Rattle.world_defs.specs.Node.{NodeState, Staged, StagedProbe, StagedPart, Outgoing, to_send, packet_for, after_sending, new_node, has_staged, given_up, node_expired, unacknowledged_to}
 use Rattle.world_defs.specs.Hearing.{hear}
 use Rattle.world_defs.specs.Client.{Called, begun, closed, provided_by, sent_by, polled_by}
-use Rattle.world_defs.specs.World.{WorldState, fabric_of, host_count, last_count, new_world, node_at, with_node, with_links, client_at, with_drop, without_fault, adopted_by}
+use Rattle.world_defs.specs.World.{WorldState, fabric_of, host_count, last_count, new_world, node_at, with_node, with_links, client_at, with_drop, without_fault, with_fault, adopted_by}
 use Rattle.world_defs.specs.Step.{of_links, of_limbo, of_replay, lost, was_reset, repeated, held, flipped, replayed, asked, stage_at, stage_part, part_staged, fault_on, struck_by, fault_strikes, planned_strikes, sent_out, inject_one, inject_into, injected, arrived, advanced_by, advanced, expired, gave_up, of_call, wanted, step}
 use Rattle.run_defs.specs.Headline.{Act, Happens, Plans, Adopts, acted, acted_all, AreAdoptable, IsSameSet, MayAct, MayActAll}
 use Rattle.table_laws.specs.Set.{IsPart, IsPartOfSet, IsActive, IsActiveOfSet, IsCollected, IsTable, IsFitPart}
@@ -165,11 +166,20 @@ fault_on-net s c (FlipFault bit pattern) = stepped-net s (FlipLinks c bit patter
 
 pub without-all : (number : ℕ) (fs : List (ℕ × Fault)) → AllByRecursion (λ f. IsByteFault f.1) fs → AllByRecursion (λ f. IsByteFault f.1) (without_fault number fs)
 without-all number [] all = tt
-without-all number (f ∷ fs) all = by (nat_eq f.0 number) (without-all number fs all.1)
+without-all number (f ∷ fs) all = by (nat_eq number f.0) (without-all number fs all.1)
   where
-    by : (b : Bool) → AllByRecursion (λ f. IsByteFault f.1) (without_fault number fs) → AllByRecursion (λ f. IsByteFault f.1) (if b then without_fault number fs else f ∷ without_fault number fs)
-    by true rest = rest
+    by : (b : Bool) → AllByRecursion (λ f. IsByteFault f.1) (without_fault number fs) → AllByRecursion (λ f. IsByteFault f.1) (if b then fs else f ∷ without_fault number fs)
+    by true rest = all.1
     by false rest = (all.0, rest)
+
+pub with-all : (number : ℕ) (fault : Fault) (fs : List (ℕ × Fault)) → IsByteFault fault → AllByRecursion (λ f. IsByteFault f.1) fs → AllByRecursion (λ f. IsByteFault f.1) (with_fault number fault fs)
+with-all number fault [] low all = (low, tt)
+with-all number fault (f ∷ fs) low all = by (nat_cmp number f.0) (with-all number fault fs low all.1)
+  where
+    by : (o : Ordering) → AllByRecursion (λ f. IsByteFault f.1) (with_fault number fault fs) → AllByRecursion (λ f. IsByteFault f.1) (match_ordering o ((number, fault) ∷ f ∷ fs) ((f.0, fault) ∷ fs) (f ∷ with_fault number fault fs))
+    by Less rest = (low, all)
+    by Equal rest = (low, all.1)
+    by Greater rest = (all.0, rest)
 
 pub planned_one : (number : ℕ) (fs : List (ℕ × Fault)) → AllByRecursion (λ f. IsByteFault f.1) fs → IfSome (lookup (nat_eq number) fs) IsByteFault
 planned_one number [] all = tt
@@ -317,7 +327,7 @@ acted-of n w (Plans ahead fault) f low may is = record {
   links = is.links;
   hosts = is.hosts;
   adopted = is.adopted;
-  plan = all-push (λ f. IsByteFault f.1) (without_fault (w.injected + ahead) w.plan) (w.injected + ahead, fault) (without-all (w.injected + ahead) w.plan is.plan) low;
+  plan = with-all (w.injected + ahead) fault w.plan low is.plan;
 }
 acted-of n w (Adopts mapper routes) f low may is = adopted-of n w mapper routes (subst (λ m. AreAdoptable m routes) is.net may.0) may.1 is
 

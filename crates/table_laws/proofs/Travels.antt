@@ -4,7 +4,7 @@ use Rattle.std.specs.List.{AllByRecursion}
 use Rattle.std.specs.Map.{lookup}
 use Rattle.net_defs.specs.Network.{Network}
 use Rattle.net_defs.specs.Route.{host_port, channel_from}
-use Rattle.net_defs.proofs.Distinct.{all-push, all-weaker}
+use Rattle.net_defs.proofs.Distinct.{all-weaker}
 use Rattle.packet_defs.specs.declared.host_drop.HostDrop.TheVariants.{BadCrc}
 use Rattle.packet_defs.specs.Packet.{difference, front_turn, stripped, packet_of}
 use Rattle.packet_defs.specs.Host.{decode}
@@ -43,7 +43,7 @@ use Rattle.table_laws.specs.Acts.{IsByteFault, IsByteAct}
 use Rattle.table_laws.specs.Provenance.{moment, IsLeftOf, ChannelsHoldWhatWasBuilt, LimboHoldsWhatWasBuilt, FlippedIsDropped}
 use Rattle.table_laws.proofs.Medium.{Holds, Carries, stepped-holds, weaker-holds, empty-holds, tells-stripped, flipped-tells, no_turn}
 use Rattle.table_laws.proofs.Hosts.{packet-shape}
-use Rattle.table_laws.proofs.Steps.{fault_on-net, without-all, planned_one}
+use Rattle.table_laws.proofs.Steps.{fault_on-net, without-all, with-all, planned_one}
 
 abbrev IsFairPlan : List (ℕ × Fault) → Type 0
 IsFairPlan fs = AllByRecursion (λ f. IsByteFault f.1) fs
@@ -182,7 +182,7 @@ acted-keep F w (Happens e) low s = step-keep F w e low s
 acted-keep F w (Plans ahead fault) low s = record {
   net = refl;
   links = s.links;
-  plan = all-push (λ f. IsByteFault f.1) (without_fault (w.injected + ahead) w.plan) (w.injected + ahead, fault) (without-all (w.injected + ahead) w.plan s.plan) low;
+  plan = with-all (w.injected + ahead) fault w.plan low s.plan;
 }
 acted-keep F w (Adopts mapper routes) low s = same-keeps F w (adopted_by w mapper routes) s refl refl
 

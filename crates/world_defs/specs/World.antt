@@ -1,6 +1,9 @@
 -- The world: the links of a fabric, its hosts and their clients, the adopted routes, the plan of faults, and counts.
-use Rattle.std.specs.Prelude.{ℕ, ◌+◌, ◌-◌, ◌^◌, List, [], ◌∷◌, ◌++◌, length, min, replicate, slice_index_or, slice_set, nat_eq, if◌then◌else◌, Option, Some, None}
+use Rattle.std.specs.Prelude.{ℕ, ◌+◌, ◌-◌, ◌^◌, List, [], ◌∷◌, length, min, replicate, slice_index_or, slice_set, nat_eq, Option, Some, None}
 use Rattle.std.specs.List.{range_with_len}
+use Rattle.std.specs.Map.{remove_entry}
+use Rattle.std.specs.BTreeMap.{insert_entry}
+use Rattle.std.specs.Ordering.{nat_cmp}
 use Rattle.net_defs.specs.declared.route.Route.{Route}
 use Rattle.net_defs.specs.Network.{Network}
 use Rattle.link_defs.specs.Links.{LinkState, empty_links}
@@ -75,14 +78,17 @@ with_client w h port c = record w { clients = slice_set w.clients h (slice_set (
 abbrev pub with_drop : WorldState → WorldState
 with_drop w = record w { dropped = counted w.dropped }
 
--- the faults without that of an injection
+-- the faults, by rising injection, without that of this one
 abbrev pub without_fault : ℕ → List (ℕ × Fault) → List (ℕ × Fault)
-without_fault number [] = []
-without_fault number (f ∷ fs) = if nat_eq f.0 number then without_fault number fs else f ∷ without_fault number fs
+without_fault number fs = remove_entry (nat_eq number) fs
 
--- a fault is planned for an injection, in the place of an earlier one: the number of the injection, so far ahead
+-- the faults, by rising injection, with one for this injection, in the place of an earlier one
+abbrev pub with_fault : ℕ → Fault → List (ℕ × Fault) → List (ℕ × Fault)
+with_fault number fault fs = insert_entry nat_cmp fs number fault
+
+-- a fault is planned for an injection so far ahead, in the place of an earlier one: the number of the injection
 abbrev pub planned : WorldState → ℕ → Fault → ℕ × WorldState
-planned w ahead fault = (w.injected + ahead, record w { plan = without_fault (w.injected + ahead) w.plan ++ (w.injected + ahead, fault) ∷ [] })
+planned w ahead fault = (w.injected + ahead, record w { plan = with_fault (w.injected + ahead) fault w.plan })
 
 -- a set of routes is adopted by a mapper, whose table is whole at once
 abbrev pub adopted_by : WorldState → ℕ → List Route → WorldState

@@ -84,11 +84,11 @@ pub fn step_by_step()
     ensures drops { stepwise_polls.1.dropped ≡ 59 }
 {}
 
-/// A later plan for an injection takes the earlier one's place.
+/// A later plan for an injection takes the earlier one's place; plans stand by rising injection.
 pub fn plans_for_one_injection()
     ensures number { (planned (new_world two_hosts) 3 Fault.Lose).0 ≡ 3 }
     ensures last { (planned (planned (new_world two_hosts) 3 Fault.Lose).1 3 Fault.Hold).1.plan ≡ (3, Fault.Hold) ∷ [] }
-    ensures others_stay { (planned (planned (new_world two_hosts) 3 Fault.Lose).1 1 Fault.Hold).1.plan ≡ (3, Fault.Lose) ∷ (1, Fault.Hold) ∷ [] }
+    ensures others_stay { (planned (planned (new_world two_hosts) 3 Fault.Lose).1 1 Fault.Hold).1.plan ≡ (1, Fault.Hold) ∷ (3, Fault.Lose) ∷ [] }
 {}
 
 /// Before anything happened a world is sound, and with a frame on its way; not where a host has got what nobody sent.

@@ -1,7 +1,6 @@
 -- What a planned fault leaves of the links, of the plan and of the counts.
 use Rattle.std.proofs.Common.{◌≡◌, ◌≤◌, ◌<◌, ◌+◌, ℕ, Bool, true, false, not, ◌&&◌, List, [], ◌∷◌, length, nat_eq, Option, Some, None, cond, refl, arith, length-append, if◌then◌else◌}
 use Rattle.std.specs.Map.{lookup}
-use Rattle.std.proofs.lemmas.Bool.Decides.{nat_tests}
 use Rattle.packet_defs.specs.Burst.{flipped, may_flip}
 use Rattle.link_defs.specs.Links.{Held, Caught, LinkState, packet_in, with_packet, emptied}
 use Rattle.link_defs.specs.Fault.{repeat_of, hold_of, flip_of, is_used_up, with_caught}
@@ -117,22 +116,13 @@ struck_by-kept w f fs (true, l) less k = record {
     more false = omega arith
 
 -- the plan without the fault of an injection is shorter where there was one
-without_fault-short : (number : ℕ) (fs : List (ℕ × Fault)) → length (without_fault number fs) ≤ length fs
-without_fault-short number [] = omega arith
-without_fault-short number (f ∷ fs) = by (nat_eq f.0 number) (without_fault-short number fs)
-  where
-    by : (t : Bool) → length (without_fault number fs) ≤ length fs → length (if t then without_fault number fs else f ∷ without_fault number fs) ≤ length (f ∷ fs)
-    by true h = omega (arith, h)
-    by false h = omega (arith, h)
-
 without_fault-less : (number : ℕ) (fs : List (ℕ × Fault)) (x : Fault) → lookup (nat_eq number) fs ≡ Some x → length (without_fault number fs) < length fs
 without_fault-less number [] x e = cc
-without_fault-less number (f ∷ fs) x e = by (nat_eq f.0 number) (nat_eq number f.0) refl refl e (without_fault-less number fs x) (without_fault-short number fs)
+without_fault-less number (f ∷ fs) x e = by (nat_eq number f.0) e (without_fault-less number fs x)
   where
-    by : (s t : Bool) → nat_eq f.0 number ≡ s → nat_eq number f.0 ≡ t → cond t (Some f.1) (lookup (nat_eq number) fs) ≡ Some x → (lookup (nat_eq number) fs ≡ Some x → length (without_fault number fs) < length fs) → length (without_fault number fs) ≤ length fs → length (if s then without_fault number fs else f ∷ without_fault number fs) < length (f ∷ fs)
-    by true t a b d ih short = omega (arith, short)
-    by false true a b d ih short = absurd (grind (arith, nat_tests))
-    by false false a b d ih short = let h = ih d in omega (arith, h)
+    by : (t : Bool) → cond t (Some f.1) (lookup (nat_eq number) fs) ≡ Some x → (lookup (nat_eq number) fs ≡ Some x → length (without_fault number fs) < length fs) → length (cond t fs (f ∷ without_fault number fs)) < length (f ∷ fs)
+    by true d ih = omega arith
+    by false d ih = let h = ih d in omega (arith, h)
 
 fault_strikes-kept : (w : WorldState) (c : ℕ) (o : Option Fault) → lookup (nat_eq w.injected) w.plan ≡ o → Strikes w (fault_strikes w c o)
 fault_strikes-kept w c None e = no_strike w
