@@ -95,8 +95,8 @@ planned_is_not_quiet q = by q.unplanned.0
     by (inl l) = omega arith
     by (inr l) = let few : 62 < 1 = subst (λ n. n < 1) injections l in omega arith
 
-adoptable : AreAdoptable two_hosts setup_routes
+pub adoptable : AreAdoptable two_hosts setup_routes
 adoptable = record { lead = (refl, (refl, tt)); number = rank; rises = rises }
 
 pub acts_may_happen : MayActAll (new_world two_hosts) adopting
-acts_may_happen = (omega arith, ((adoptable, tt), (tt, tt)))
+acts_may_happen = ((omega arith, tt), ((adoptable, tt), (tt, tt)))

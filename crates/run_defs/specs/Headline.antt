@@ -12,7 +12,9 @@ use Rattle.map_defs.specs.NetMap.{NetMap}
 use Rattle.map_defs.specs.Sameness.{IsMapOfPart}
 use Rattle.map_defs.specs.Dependencies.{IsBefore}
 use Rattle.world_defs.specs.declared.event.Event.{Event}
+use Rattle.world_defs.specs.declared.event.Event.TheVariants.{Flip}
 use Rattle.world_defs.specs.declared.fault.Fault.{Fault}
+use Rattle.world_defs.specs.declared.fault.Fault.TheVariants.{Flip as FlipFault}
 use Rattle.world_defs.specs.Table.{Adoption}
 use Rattle.world_defs.specs.World.{WorldState, fabric_of, new_world, planned, adopted_by}
 use Rattle.world_defs.specs.Step.{step}
@@ -86,10 +88,26 @@ pub record AreAdoptable (n : Network) (routes : List Route) : Type 0 where
   pub number : ℕ → ℕ
   pub rises : (c d : ℕ) → IsBefore (channels_of_all n routes) c d → number c < number d
 
--- an event may always happen; a plan names an injection to come; routes may be adopted where they are adoptable and no other set is
+-- a flip's pattern has eight bits
+abbrev pub IsByteFault : Fault → Type 0
+IsByteFault (FlipFault bit pattern) = pattern < 256
+IsByteFault _ = Unit {0}
+
+-- an event is no flip, or its pattern has eight bits
+abbrev pub IsByteEvent : Event → Type 0
+IsByteEvent (Flip c bit pattern) = pattern < 256
+IsByteEvent _ = Unit {0}
+
+-- an act whose flips have patterns of eight bits
+abbrev pub IsByteAct : Act → Type 0
+IsByteAct (Happens e) = IsByteEvent e
+IsByteAct (Plans ahead fault) = IsByteFault fault
+IsByteAct (Adopts mapper routes) = Unit {0}
+
+-- An event may always happen, and a plan names an injection to come, with flips of eight bits; routes may be adopted where they are adoptable and no other set is.
 abbrev pub MayAct : WorldState → Act → Type 0
-MayAct w (Happens e) = Unit {0}
-MayAct w (Plans ahead fault) = 1 ≤ ahead
+MayAct w (Happens e) = IsByteEvent e
+MayAct w (Plans ahead fault) = (1 ≤ ahead) × IsByteFault fault
 MayAct w (Adopts mapper routes) = AreAdoptable (fabric_of w) routes × IsSameSet routes w.adopted
 
 -- each act may happen in the world that those before it leave

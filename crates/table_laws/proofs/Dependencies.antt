@@ -23,7 +23,7 @@ use Rattle.table_laws.specs.Packets.{IsHonest}
 use Rattle.table_laws.proofs.Steps.{IsOfSet, IsAdopted, acted_all-of, new-of}
 
 reached-of : (n : Network) (w : WorldState) → IsReached n w → IsOfSet n w
-reached-of n w r = subst (IsOfSet n) (sym r.leads) (acted_all-of n (new_world n) r.acts r.fabric r.bytes r.may (new-of n))
+reached-of n w r = subst (IsOfSet n) (sym r.leads) (acted_all-of n (new_world n) r.acts r.fabric r.may (new-of n))
 
 pub tables-of_set : TablesAreOfSet
 tables-of_set n w r h = ((reached-of n w r).hosts h).table

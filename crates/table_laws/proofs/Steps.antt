@@ -36,11 +36,10 @@ use Rattle.world_defs.specs.Hearing.{hear}
 use Rattle.world_defs.specs.Client.{Called, begun, closed, provided_by, sent_by, polled_by}
 use Rattle.world_defs.specs.World.{WorldState, fabric_of, host_count, last_count, new_world, node_at, with_node, with_links, client_at, with_drop, without_fault, with_fault, adopted_by}
 use Rattle.world_defs.specs.Step.{of_links, of_limbo, of_replay, lost, was_reset, repeated, held, flipped, replayed, asked, stage_at, stage_part, part_staged, fault_on, struck_by, fault_strikes, planned_strikes, sent_out, inject_one, inject_into, injected, arrived, advanced_by, advanced, expired, gave_up, of_call, wanted, step}
-use Rattle.run_defs.specs.Headline.{Act, Happens, Plans, Adopts, acted, acted_all, AreAdoptable, IsSameSet, MayAct, MayActAll}
+use Rattle.run_defs.specs.Headline.{Act, Happens, Plans, Adopts, acted, acted_all, AreAdoptable, IsSameSet, IsByteFault, IsByteEvent, MayAct, MayActAll}
 use Rattle.table_laws.specs.Set.{IsPart, IsPartOfSet, IsActive, IsActiveOfSet, IsCollected, IsTable, IsFitPart}
 use Rattle.table_laws.specs.Packets.{Built, IsHonest, IsGoodStep}
 use Rattle.table_laws.specs.Bodies.{IsBody, IsStaged, IsHostOf}
-use Rattle.table_laws.specs.Acts.{IsByteFault, IsByteAct}
 use Rattle.table_laws.proofs.Medium.{Holds, stepped-holds, weaker-holds, empty-holds, carries-honest, honest-read}
 use Rattle.table_laws.proofs.Hosts.{hear-host, sent-built, after_sending-host, given_up-host, staged-host, node_expired-host, begun-host, closed-host, provided_by-host, sent_by-host, polled_by-host}
 use Rattle.table_laws.proofs.Sets.{routes-fit, part_for-fits}
@@ -249,7 +248,7 @@ call-of n w h port call is here =
     record { net = now.net; links = now.links; hosts = now.hosts; adopted = now.adopted; plan = now.plan }
 
 -- every event
-step-of : (n : Network) (w : WorldState) (e : Event) → IsFabric n → IsByteAct (Happens e) → IsOfSet n w → IsOfSet n (step w e).1
+step-of : (n : Network) (w : WorldState) (e : Event) → IsFabric n → IsByteEvent e → IsOfSet n w → IsOfSet n (step w e).1
 unfolding lost was_reset repeated held flipped replayed asked part_staged injected advanced expired gave_up
 step-of n w (Ask h walk looped) f low is = node-of n w h (record (node_at w h) { staged = Some (StagedProbe walk looped) }) is (staged-host w.adopted h (node_at w h) (StagedProbe walk looped) tt (is.hosts h))
 step-of n w (Part dst part) f low is = stage_part-of n w dst part w.adopted f is refl
@@ -320,20 +319,20 @@ adopted-of n w mapper routes may same is =
       plan = is.plan;
     }
 
-acted-of : (n : Network) (w : WorldState) (a : Act) → IsFabric n → IsByteAct a → MayAct w a → IsOfSet n w → IsOfSet n (acted w a)
-acted-of n w (Happens e) f low may is = step-of n w e f low is
-acted-of n w (Plans ahead fault) f low may is = record {
+acted-of : (n : Network) (w : WorldState) (a : Act) → IsFabric n → MayAct w a → IsOfSet n w → IsOfSet n (acted w a)
+acted-of n w (Happens e) f may is = step-of n w e f may is
+acted-of n w (Plans ahead fault) f may is = record {
   net = is.net;
   links = is.links;
   hosts = is.hosts;
   adopted = is.adopted;
-  plan = with-all (w.injected + ahead) fault w.plan low is.plan;
+  plan = with-all (w.injected + ahead) fault w.plan may.1 is.plan;
 }
-acted-of n w (Adopts mapper routes) f low may is = adopted-of n w mapper routes (subst (λ m. AreAdoptable m routes) is.net may.0) may.1 is
+acted-of n w (Adopts mapper routes) f may is = adopted-of n w mapper routes (subst (λ m. AreAdoptable m routes) is.net may.0) may.1 is
 
-pub acted_all-of : (n : Network) (w : WorldState) (acts : List Act) → IsFabric n → AllByRecursion IsByteAct acts → MayActAll w acts → IsOfSet n w → IsOfSet n (acted_all w acts)
-acted_all-of n w [] f low may is = is
-acted_all-of n w (a ∷ acts) f low may is = acted_all-of n (acted w a) acts f low.1 may.1 (acted-of n w a f low.0 may.0 is)
+pub acted_all-of : (n : Network) (w : WorldState) (acts : List Act) → IsFabric n → MayActAll w acts → IsOfSet n w → IsOfSet n (acted_all w acts)
+acted_all-of n w [] f may is = is
+acted_all-of n w (a ∷ acts) f may is = acted_all-of n (acted w a) acts f may.1 (acted-of n w a f may.0 is)
 
 at-replicate : {X : Type 0} (P : X → Type 0) (k j : ℕ) (x d : X) → P x → P d → P (get_or (replicate k x) j d)
 at-replicate P zero j x d p q = q

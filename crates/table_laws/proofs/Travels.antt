@@ -37,9 +37,8 @@ use Rattle.world_defs.specs.Hearing.{hear}
 use Rattle.world_defs.specs.Client.{Called, begun, closed, provided_by, sent_by, polled_by}
 use Rattle.world_defs.specs.World.{WorldState, fabric_of, host_count, last_count, new_world, node_at, with_node, with_links, client_at, without_fault, adopted_by}
 use Rattle.world_defs.specs.Step.{of_links, of_limbo, of_replay, lost, was_reset, repeated, held, flipped, replayed, asked, stage_at, stage_part, part_staged, fault_on, struck_by, fault_strikes, planned_strikes, sent_out, inject_one, inject_into, injected, arrived, advanced_by, advanced, expired, gave_up, of_call, wanted, step}
-use Rattle.run_defs.specs.Headline.{Act, Happens, Plans, Adopts, acted, acted_all}
+use Rattle.run_defs.specs.Headline.{Act, Happens, Plans, Adopts, acted, acted_all, IsByteFault, IsByteEvent, IsByteAct}
 use Rattle.table_laws.specs.Packets.{IsGoodStep}
-use Rattle.table_laws.specs.Acts.{IsByteFault, IsByteAct}
 use Rattle.table_laws.specs.Provenance.{moment, IsLeftOf, ChannelsHoldWhatWasBuilt, LimboHoldsWhatWasBuilt, FlippedIsDropped}
 use Rattle.table_laws.proofs.Medium.{Holds, Carries, stepped-holds, weaker-holds, empty-holds, tells-stripped, flipped-tells, no_turn}
 use Rattle.table_laws.proofs.Hosts.{packet-shape}
@@ -156,7 +155,7 @@ call-keep : (F : ℕ → Held → Type 0) (w : WorldState) (h port : ℕ) (call 
 call-keep F w h port call s = same-keeps F w (of_call w h port call).1 s refl refl
 
 -- every event
-pub step-keep : (F : ℕ → Held → Type 0) (w : WorldState) (e : Event) → IsByteAct (Happens e) → Stands F w → Keeps F w (step w e).1
+pub step-keep : (F : ℕ → Held → Type 0) (w : WorldState) (e : Event) → IsByteEvent e → Stands F w → Keeps F w (step w e).1
 unfolding lost was_reset repeated held flipped replayed asked part_staged injected advanced expired gave_up
 step-keep F w (Ask h walk looped) low s = same-keeps F w _ s refl refl
 step-keep F w (Part dst part) low s = stage_part-keep F w dst part w.adopted s

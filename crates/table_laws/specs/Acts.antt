@@ -1,6 +1,5 @@
 -- What holds of tables after every list of acts.
-use Rattle.std.specs.Prelude.{◌≡◌, ℕ, ◌<◌, pos, List, [], ◌∷◌, Some, Ok}
-use Rattle.std.specs.List.{AllByRecursion}
+use Rattle.std.specs.Prelude.{◌≡◌, ℕ, pos, List, [], ◌∷◌, Some, Ok}
 use Rattle.net_defs.specs.Network.{Network, IsFabric}
 use Rattle.packet_defs.specs.declared.kind.Kind.TheVariants.{Mapping, Gm}
 use Rattle.packet_defs.specs.Packet.{packet_of, difference}
@@ -9,27 +8,13 @@ use Rattle.packet_defs.specs.Host.{decode}
 use Rattle.link_defs.specs.Links.{Held, packet_in}
 use Rattle.gm_defs.specs.Mapping.{RoutePart, Part, decode_mapping}
 use Rattle.map_defs.specs.Dependencies.{IsBefore, HasNoCycle}
-use Rattle.world_defs.specs.declared.event.Event.TheVariants.{Flip}
-use Rattle.world_defs.specs.declared.fault.Fault.{Fault}
-use Rattle.world_defs.specs.declared.fault.Fault.TheVariants.{Flip as FlipFault}
 use Rattle.world_defs.specs.Table.{Adoption, ActiveTable}
 use Rattle.world_defs.specs.World.{WorldState, new_world, node_at}
 use Rattle.world_defs.specs.Sound.{installed_channels}
-use Rattle.run_defs.specs.Headline.{Act, Happens, Plans, acted_all, AreAdoptable, MayActAll}
+use Rattle.run_defs.specs.Headline.{Act, acted_all, AreAdoptable, MayActAll}
 use Rattle.table_laws.specs.Set.{IsPart, IsActive, IsTable}
 
--- a flip's pattern has eight bits
-abbrev pub IsByteFault : Fault → Type 0
-IsByteFault (FlipFault bit pattern) = pattern < 256
-IsByteFault _ = Unit {0}
-
--- an act whose flips have patterns of eight bits
-abbrev pub IsByteAct : Act → Type 0
-IsByteAct (Happens (Flip c bit pattern)) = pattern < 256
-IsByteAct (Plans ahead fault) = IsByteFault fault
-IsByteAct _ = Unit {0}
-
--- Why eight bits: a burst of nine, with the divisor's own bits, leaves no difference. Here it changes both turns of a packet.
+-- Why an act that may happen flips eight bits at most: a burst of nine, with the divisor's own bits, leaves no difference. Here it changes both turns of a packet.
 abbrev pub WidePatternIsUnseen : Type 0
 WidePatternIsUnseen =
     (flipped (packet_of (pos 1 ∷ pos 0 ∷ []) Gm (7 ∷ [])) 7 263 ≡ packet_of (pos 3 ∷ pos 14 ∷ []) Gm (7 ∷ []))
@@ -39,7 +24,6 @@ WidePatternIsUnseen =
 pub record IsReached (n : Network) (w : WorldState) : Type 0 where
   pub fabric : IsFabric n
   pub acts : List Act
-  pub bytes : AllByRecursion IsByteAct acts
   pub may : MayActAll (new_world n) acts
   pub leads : w ≡ acted_all (new_world n) acts
 
