@@ -1,0 +1,15 @@
+pub mod Lone
+pub mod Drained
+pub mod Struck
+pub mod Sends
+pub mod Along
+pub mod Few
+pub mod Back
+pub mod Comes
+pub mod Parcels
+pub mod Ready
+pub mod Tries
+pub mod Probing
+pub mod HostTries
+pub mod LoopTries
+pub mod Answering

@@ -1,0 +1,149 @@
+-- A packet of the mapper's protocol that is sent into idle links: a fault strikes it, or it comes where its route leads.
+use Rattle.std.proofs.Common.{◌≡◌, ◌≢◌, ◌<◌, ◌≤◌, ◌+◌, ℕ, true, false, nat_eq, ℤ, List, [], ◌∷◌, set, Option, Some, None, refl, sym, ap, ◌∙◌, subst, arith}
+use Rattle.std.specs.List.{AllByRecursion}
+use Rattle.std.specs.Map.{lookup}
+use Rattle.net_defs.specs.declared.place.Place.TheVariants.{Host as AtHostPlace}
+use Rattle.net_defs.specs.Network.{Network}
+use Rattle.net_defs.specs.Turn.{IsTurn}
+use Rattle.net_defs.specs.Route.{place, host_port, channel_from}
+use Rattle.packet_defs.specs.declared.kind.Kind.TheVariants.{Mapping}
+use Rattle.packet_defs.specs.declared.host_drop.HostDrop.TheVariants.{RouteLeft}
+use Rattle.packet_defs.specs.Packet.{packet_of, difference}
+use Rattle.packet_defs.proofs.Packets.{packet_of-difference}
+use Rattle.link_defs.specs.declared.moved.Moved.{Moved}
+use Rattle.gm_defs.specs.Mapping.{MappingBody, mapping_bytes, is_mapping}
+use Rattle.world_defs.specs.declared.effect.Effect.{Effect}
+use Rattle.world_defs.specs.Node.{Outgoing, to_send, packet_for, after_sending}
+use Rattle.world_defs.specs.Hearing.{hear_mapping}
+use Rattle.world_defs.specs.World.{WorldState, fabric_of, host_count, last_count, node_at, with_links}
+use Rattle.world_defs.specs.Step.{arrived}
+use Rattle.world_defs.specs.Asking.{Sent, sends}
+use Rattle.ask_laws.specs.Premises.{IsByteFlip, HasByteFlips}
+use Rattle.ask_laws.proofs.Lone.{bare, IsBare, Goes}
+use Rattle.ask_laws.proofs.Drained.{told, landed_in, Lands}
+use Rattle.ask_laws.proofs.Struck.{StrikeKeeps}
+use Rattle.ask_laws.proofs.Sends.{IsOut, Flight, Unsent, Sending, sending}
+use Rattle.ask_laws.proofs.Comes.{Comes, built-comes, hear-body, Unheard, unheard, marred-dropped}
+
+-- What is sent is a packet of a route and a body by the rules.
+pub record IsParcel (w : WorldState) (h : ℕ) (out : Outgoing) (route : List ℤ) (body : MappingBody) : Type 0 where
+  pub written : packet_for h (w.injected + 1) out ≡ packet_of route Mapping (mapping_bytes body)
+  pub turns : AllByRecursion IsTurn route
+  pub valid : is_mapping body ≡ true
+
+-- The world behind a send of which nothing was heard.
+pub record SendKeeps (w : WorldState) (h : ℕ) (out : Outgoing) (t : WorldState) : Type 0 where
+  pub net : fabric_of t ≡ fabric_of w
+  pub bare : IsBare t.links
+  pub nodes : t.nodes ≡ set w.nodes h (after_sending (node_at w h) out)
+  pub clients : t.clients ≡ w.clients
+  pub adopted : t.adopted ≡ w.adopted
+  pub injected : t.injected ≡ w.injected + 1
+  pub unplanned : (number : ℕ) → lookup (nat_eq number) w.plan ≡ None → lookup (nat_eq number) t.plan ≡ None
+  pub byte_flips : HasByteFlips w → HasByteFlips t
+  pub struck : w.struck ≤ t.struck
+  pub harmed : w.harmed ≤ t.harmed
+
+-- what a host made of a body
+abbrev pub hears_in : WorldState → ℕ → MappingBody → Effect × WorldState
+hears_in base g body = arrived base g (hear_mapping g (host_count base) (node_at base g) body)
+
+-- What became of it.
+pub data Delivery (n : Network) (w : WorldState) (h : ℕ) (out : Outgoing) (route : List ℤ) (body : MappingBody) (s : Sent) : Type 0 where
+  no_cable : channel_from n (host_port h) ≡ None → s.used_up ≡ false → s.number ≡ None → told s.effects ≡ [] → s.world ≡ w → Delivery n w h out route body s
+  none_left : last_count ≤ w.injected → s.used_up ≡ true → s.number ≡ None → told s.effects ≡ [] → s.world ≡ w → Delivery n w h out route body s
+  struck : s.used_up ≡ false → s.number ≡ Some (w.injected + 1) → told s.effects ≡ [] → SendKeeps w h out s.world → w.harmed < s.world.harmed → lookup (nat_eq (w.injected + 1)) w.plan ≢ None → Delivery n w h out route body s
+  astray : s.used_up ≡ false → s.number ≡ Some (w.injected + 1) → told s.effects ≡ [] → SendKeeps w h out s.world → s.world.harmed ≡ w.harmed → ((g : ℕ) → place n h route ≢ AtHostPlace g) → Delivery n w h out route body s
+  delivered : (g : ℕ) (base : WorldState) → w.injected < last_count → s.used_up ≡ false → s.number ≡ Some (w.injected + 1) → place n h route ≡ AtHostPlace g → SendKeeps w h out base → base.harmed ≡ w.harmed → s.world ≡ (hears_in base g body).1 → told s.effects ≡ told ((hears_in base g body).0 ∷ []) → Delivery n w h out route body s
+
+-- the world behind a strike, but for the links
+record Rest (v t : WorldState) : Type 0 where
+  net : fabric_of t ≡ fabric_of v
+  empty : IsBare t.links
+  nodes : t.nodes ≡ v.nodes
+  clients : t.clients ≡ v.clients
+  adopted : t.adopted ≡ v.adopted
+  plan : t.plan ≡ v.plan
+  injected : t.injected ≡ v.injected
+  struck : t.struck ≡ v.struck
+  harmed : t.harmed ≡ v.harmed
+
+keeps-of : (w : WorldState) (h c : ℕ) (out : Outgoing) (u v t : WorldState) → IsOut w h c out u → StrikeKeeps u v → Rest v t → SendKeeps w h out t
+keeps-of w h c out u v t o k r =
+    let s0 = o.struck in
+    let s1 = k.struck in
+    let s2 = r.struck in
+    let h0 = o.harmed in
+    let h1 = k.harmed in
+    let h2 = r.harmed in
+    record {
+      net = r.net ∙ k.net ∙ o.net;
+      bare = r.empty;
+      nodes = r.nodes ∙ k.nodes ∙ o.nodes;
+      clients = r.clients ∙ k.clients ∙ o.clients;
+      adopted = r.adopted ∙ k.adopted ∙ o.adopted;
+      injected = r.injected ∙ k.injected ∙ o.injected;
+      unplanned = λ number e. ap (lookup (nat_eq number)) r.plan ∙ k.unplanned number (ap (lookup (nat_eq number)) o.plan ∙ e);
+      byte_flips = λ all. subst (AllByRecursion (λ f. IsByteFlip f.1)) (sym r.plan) (k.byte_flips (subst (AllByRecursion (λ f. IsByteFlip f.1)) (sym o.plan) all));
+      struck = omega (arith, s0, s1, s2);
+      harmed = omega (arith, h0, h1, h2);
+    }
+
+rest-same : (v t : WorldState) → IsBare v.links → t ≡ v → Rest v t
+rest-same v t e is =
+    subst (Rest v) (sym is) (record { net = refl; empty = e; nodes = refl; clients = refl; adopted = refl; plan = refl; injected = refl; struck = refl; harmed = refl })
+
+rest-bare : (v : WorldState) → Rest v (with_links v (bare v.links))
+rest-bare v = record { net = refl; empty = refl; nodes = refl; clients = refl; adopted = refl; plan = refl; injected = refl; struck = refl; harmed = refl }
+
+rest-landed : (v : WorldState) (m : Moved (List ℕ)) (s : Sent) → Lands v m (s.effects, s.world) → Unheard v (landed_in v m) → Rest v s.world
+rest-landed v m s l q = record {
+  net = ap (λ x. x.net) l.links;
+  empty = subst IsBare (sym l.links) refl;
+  nodes = ap (λ x. x.nodes) l.world ∙ q.nodes;
+  clients = ap (λ x. x.clients) l.world ∙ q.clients;
+  adopted = ap (λ x. x.adopted) l.world ∙ q.adopted;
+  plan = ap (λ x. x.plan) l.world ∙ q.plan;
+  injected = ap (λ x. x.injected) l.world ∙ q.injected;
+  struck = ap (λ x. x.struck) l.world ∙ q.struck;
+  harmed = ap (λ x. x.harmed) l.world ∙ q.harmed;
+}
+
+came : (n : Network) (w : WorldState) (h c : ℕ) (out : Outgoing) (route : List ℤ) (body : MappingBody) (s : Sent) (u v : WorldState) (m : Moved (List ℕ)) → w.injected < last_count → s.used_up ≡ false → s.number ≡ Some (w.injected + 1) → is_mapping body ≡ true → IsOut w h c out u → StrikeKeeps u v → v.harmed ≡ w.harmed → Lands v m (s.effects, s.world) → Comes (place n h route) Mapping (mapping_bytes body) m → Delivery n w h out route body s
+came n w h c out route body s u v m low used number valid o k e l (Comes.taken g p q) =
+    let base : WorldState = with_links v (bare v.links) in
+    let r : landed_in v m ≡ hears_in base g body = ap (landed_in v) q ∙ ap (arrived base g) (hear-body g (host_count v) (node_at v g) body valid) in
+    Delivery.delivered g base low used number p (keeps-of w h c out u v base o k (rest-bare v)) e (l.world ∙ ap (λ x. x.1) r) (l.heard ∙ ap (λ x. told (x.0 ∷ [])) r)
+came n w h c out route body s u v m low used number valid o k e l (Comes.left_over p q) =
+    let quiet = unheard v m (λ g wire is. record { drop = RouteLeft; is = q g wire is }) in
+    let r = rest-landed v m s l quiet in
+    Delivery.astray used number (l.heard ∙ quiet.heard) (keeps-of w h c out u v s.world o k r) (r.harmed ∙ e) p
+
+flown : (n : Network) (w : WorldState) (h c : ℕ) (out : Outgoing) (route : List ℤ) (body : MappingBody) (s : Sent) → HasByteFlips w → channel_from n (host_port h) ≡ Some c → fabric_of w ≡ n → w.injected < last_count → s.used_up ≡ false → s.number ≡ Some (w.injected + 1) → IsParcel w h out route body → Flight w h c out s → Delivery n w h out route body s
+flown n w h c out route body s flips at net low used number parcel (Flight.lands u v m o k e g l) =
+    let goes : Goes n c (packet_of route Mapping (mapping_bytes body)) m = subst (λ x. Goes x c (packet_of route Mapping (mapping_bytes body)) m) net (subst (λ x. Goes (fabric_of w) c x m) parcel.written g) in
+    came n w h c out route body s u v m low used number parcel.valid o k e l (built-comes n h c route Mapping (mapping_bytes body) m parcel.turns at goes)
+flown n w h c out route body s flips at net low used number parcel (Flight.lost u v o k more planned b heard same) =
+    let harm : w.harmed < s.world.harmed = subst (λ x. w.harmed < x.harmed) (sym same) more in
+    Delivery.struck used number heard (keeps-of w h c out u v s.world o k (rest-same v s.world b same)) harm planned
+flown n w h c out route body s flips at net low used number parcel (Flight.marred u v wire m o k more planned differs g l) =
+    let none : difference (packet_for h (w.injected + 1) out) ≡ 0 = ap difference parcel.written ∙ packet_of-difference route Mapping (mapping_bytes body) in
+    let quiet = unheard v m (marred-dropped (fabric_of w) c wire m g (differs flips none)) in
+    let r = rest-landed v m s l quiet in
+    let same = r.harmed in
+    Delivery.struck used number (l.heard ∙ quiet.heard) (keeps-of w h c out u v s.world o k r) (omega (arith, more, same)) planned
+
+delivery : (n : Network) (w : WorldState) (h : ℕ) (out : Outgoing) (route : List ℤ) (body : MappingBody) (s : Sent) → HasByteFlips w → fabric_of w ≡ n → to_send h (node_at w h) ≡ Some out → (w.injected < last_count → IsParcel w h out route body) → Sending w h s → Delivery n w h out route body s
+delivery n w h out route body s flips net is parcel (Sending.unsent (Unsent.no_cable used at) number heard same) =
+    Delivery.no_cable (ap (λ x. channel_from x (host_port h)) (sym net) ∙ at) used number heard same
+delivery n w h out route body s flips net is parcel (Sending.unsent (Unsent.no_packet none) number heard same) = let bad : None ≡ Some out = sym none ∙ is in cc
+delivery n w h out route body s flips net is parcel (Sending.unsent (Unsent.none_left used most) number heard same) = Delivery.none_left most used number heard same
+delivery n w h out route body s flips net is parcel (Sending.sent c other at this low used number f) =
+    let same : other ≡ out = some-same other out (sym this ∙ is) in
+    flown n w h c out route body s flips (ap (λ x. channel_from x (host_port h)) (sym net) ∙ at) net low used number (parcel low) (subst (λ o. Flight w h c o s) same f)
+  where
+    some-same : (a b : Outgoing) → (let r : Option Outgoing = Some a in r) ≡ Some b → a ≡ b
+    some-same a b e = cc
+
+pub deliver : (n : Network) (w : WorldState) (h : ℕ) (out : Outgoing) (route : List ℤ) (body : MappingBody) → IsBare w.links → HasByteFlips w → fabric_of w ≡ n → to_send h (node_at w h) ≡ Some out → (w.injected < last_count → IsParcel w h out route body) → Delivery n w h out route body (sends w h)
+deliver n w h out route body e flips net is parcel = delivery n w h out route body (sends w h) flips net is parcel (sending w h e)

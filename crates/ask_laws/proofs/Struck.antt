@@ -1,0 +1,178 @@
+-- What a planned fault does to a packet alone: nothing, or it takes it away, or it spoils it.
+use Rattle.std.proofs.Common.{◌≡◌, ◌≢◌, ◌<◌, ◌≤◌, ◌+◌, ◌*◌, ℕ, Bool, true, false, not, ◌&&◌, nat_eq, nat_lt, List, [], ◌∷◌, length, Option, Some, None, cond, is_some, refl, sym, ap, ◌∙◌, subst, arith, true≢false, if◌then◌else◌}
+use Rattle.std.specs.List.{AllByRecursion}
+use Rattle.std.specs.Map.{lookup, remove_entry}
+use Rattle.std.proofs.lemmas.Bool.Decides.{nat_tests}
+use Rattle.net_defs.proofs.Ends.{both}
+use Rattle.packet_defs.specs.Packet.{difference}
+use Rattle.packet_defs.specs.Burst.{flipped, may_flip}
+use Rattle.packet_defs.proofs.Bursts.{flip-seen}
+use Rattle.link_defs.specs.Channel.{channel_count}
+use Rattle.link_defs.specs.Links.{Held, LinkState, packet_in, with_packet, emptied}
+use Rattle.link_defs.specs.Fault.{repeat_of, hold_of, is_used_up, with_caught, flip_of}
+use Rattle.link_defs.proofs.Idling.{pick}
+use Rattle.world_defs.specs.declared.fault.Fault.{Fault}
+use Rattle.world_defs.specs.declared.fault.Fault.TheVariants.{Lose as LoseFault, Repeat as RepeatFault, Hold as HoldFault, Flip as FlipFault}
+use Rattle.world_defs.specs.World.{WorldState, without_fault}
+use Rattle.world_defs.specs.Step.{fault_on, is_harm, struck_by, fault_strikes, planned_strikes}
+use Rattle.ask_laws.specs.Premises.{IsByteFlip, HasByteFlips}
+use Rattle.ask_laws.proofs.Lone.{IsBare, HasLone, has-lone, take-lone, other-lone, lone-there}
+
+-- a fault on a channel that has a packet alone
+pub data Fate (s : LinkState) (c : ℕ) (held : Held) (f : Fault) (o : Bool × LinkState) : Type 0 where
+  missed : o.0 ≡ false → Fate s c held f o
+  copied : is_harm f ≡ false → o.0 ≡ true → o.1.net ≡ s.net → HasLone o.1 c held → Fate s c held f o
+  taken : is_harm f ≡ true → o.0 ≡ true → o.1.net ≡ s.net → IsBare o.1 → Fate s c held f o
+  spoilt : (new : Held) → is_harm f ≡ true → o.0 ≡ true → o.1.net ≡ s.net → HasLone o.1 c new → (IsByteFlip f → held.marked ≡ false → difference held.wire ≡ 0 → 0 < difference new.wire) → Fate s c held f o
+
+-- what a test of serials answers
+abbrev caught_if : Bool → LinkState → ℕ → LinkState → Bool × LinkState
+caught_if t s serial l = (is_some (pick t (None, s) (Some serial, l)).0, (pick t (None, s) (Some serial, l)).1)
+
+repeat-fate : (s : LinkState) (c : ℕ) (held : Held) (t : Bool) → HasLone s c held → Fate s c held RepeatFault (caught_if t s s.next_serial (with_caught s c held))
+repeat-fate s c held true e = Fate.missed refl
+repeat-fate s c held false e = Fate.copied refl refl refl e
+
+hold-fate : (s : LinkState) (c : ℕ) (held : Held) (t : Bool) → HasLone s c held → Fate s c held HoldFault (caught_if t s s.next_serial (with_caught (emptied s c) c held))
+hold-fate s c held true e = Fate.missed refl
+hold-fate s c held false e = Fate.taken refl refl refl (take-lone s c held e)
+
+flip-differs : (held : Held) (bit pattern : ℕ) → (not held.marked && may_flip held.wire bit pattern) ≡ true → pattern < 256 → difference held.wire ≡ 0 → 0 < difference (flipped held.wire bit pattern)
+flip-differs held bit pattern e low none =
+    let two = both (not held.marked) (may_flip held.wire bit pattern) e in
+    let parts = both (nat_lt 0 pattern) (nat_lt (bit + 7) (8 * length held.wire)) two.1 in
+    let some = parts.0 in
+    let room = parts.1 in
+    flip-seen held.wire bit pattern none (grind (arith, nat_tests)) low (grind (arith, nat_tests))
+
+flip-fate : (s : LinkState) (c : ℕ) (held : Held) (bit pattern : ℕ) (t : Bool) → (not held.marked && may_flip held.wire bit pattern) ≡ t → HasLone s c held → Fate s c held (FlipFault bit pattern) (pick t (true, with_packet s c (Some (record { wire = flipped held.wire bit pattern; marked = true }))) (false, s))
+flip-fate s c held bit pattern true e is =
+    let new : Held = record { wire = flipped held.wire bit pattern; marked = true } in
+    Fate.spoilt new refl refl refl (other-lone s c held new is) (λ low m none. flip-differs held bit pattern e low none)
+flip-fate s c held bit pattern false e is = Fate.missed refl
+
+fault-fate : (s : LinkState) (c : ℕ) (held : Held) (f : Fault) → c < channel_count s.net → HasLone s c held → Fate s c held f (fault_on s c f)
+fault-fate s c held f low e = by f (packet_in s c) refl
+  where
+    there : packet_in s c ≡ Some held
+    there = ap (λ t. packet_in t c) (has-lone s c held e) ∙ lone-there s c held low
+
+    by : (f : Fault) (o : Option Held) → packet_in s c ≡ o → Fate s c held f (fault_on s c f)
+    by LoseFault o p = Fate.taken refl (ap is_some there) refl (take-lone s c held e)
+    by RepeatFault o p = subst (λ q. Fate s c held RepeatFault (is_some (repeat_of s c q).0, (repeat_of s c q).1)) (sym there) (repeat-fate s c held (is_used_up s) e)
+    by HoldFault o p = subst (λ q. Fate s c held HoldFault (is_some (hold_of s c q).0, (hold_of s c q).1)) (sym there) (hold-fate s c held (is_used_up s) e)
+    by (FlipFault bit pattern) o p = subst (λ q. Fate s c held (FlipFault bit pattern) (flip_of s c bit pattern q)) (sym there) (flip-fate s c held bit pattern (not held.marked && may_flip held.wire bit pattern) refl e)
+
+-- What a strike keeps of the world.
+pub record StrikeKeeps (u v : WorldState) : Type 0 where
+  pub net : v.links.net ≡ u.links.net
+  pub nodes : v.nodes ≡ u.nodes
+  pub clients : v.clients ≡ u.clients
+  pub adopted : v.adopted ≡ u.adopted
+  pub injected : v.injected ≡ u.injected
+  pub unplanned : (number : ℕ) → lookup (nat_eq number) u.plan ≡ None → lookup (nat_eq number) v.plan ≡ None
+  pub byte_flips : HasByteFlips u → HasByteFlips v
+  pub struck : u.struck ≤ v.struck
+  pub harmed : u.harmed ≤ v.harmed
+
+-- What a strike makes of the packet.
+pub data Outcome (u v : WorldState) (c : ℕ) (held : Held) : Type 0 where
+  intact : HasLone v.links c held → v.harmed ≡ u.harmed → Outcome u v c held
+  gone : IsBare v.links → v.harmed ≡ u.harmed + 1 → lookup (nat_eq u.injected) u.plan ≢ None → Outcome u v c held
+  marred : (new : Held) → HasLone v.links c new → (HasByteFlips u → held.marked ≡ false → difference held.wire ≡ 0 → 0 < difference new.wire) → v.harmed ≡ u.harmed + 1 → lookup (nat_eq u.injected) u.plan ≢ None → Outcome u v c held
+
+pub record StruckSo (u v : WorldState) (c : ℕ) (held : Held) : Type 0 where
+  pub keeps : StrikeKeeps u v
+  pub outcome : Outcome u v c held
+
+-- the plan without one fault
+without-all : (P : ℕ × Fault → Type 0) (test : ℕ → Bool) (fs : List (ℕ × Fault)) → AllByRecursion P fs → AllByRecursion P (remove_entry test fs)
+without-all P test [] all = tt
+without-all P test (f ∷ fs) all = by (test f.0) (without-all P test fs all.1)
+  where
+    by : (t : Bool) → AllByRecursion P (remove_entry test fs) → AllByRecursion P (if t then fs else f ∷ remove_entry test fs)
+    by true rest = all.1
+    by false rest = (all.0, rest)
+
+without-none : (test other : ℕ → Bool) (fs : List (ℕ × Fault)) → lookup other fs ≡ None → lookup other (remove_entry test fs) ≡ None
+without-none test other [] e = refl
+without-none test other (f ∷ fs) e = by (test f.0) (other f.0) refl e (without-none test other fs)
+  where
+    by : (t o : Bool) → other f.0 ≡ o → cond o (Some f.1) (lookup other fs) ≡ None → (lookup other fs ≡ None → lookup other (remove_entry test fs) ≡ None) → lookup other (cond t fs (f ∷ remove_entry test fs)) ≡ None
+    by t true p d rest = cc
+    by true false p d rest = d
+    by false false p d rest = rw p (rest d)
+
+looked-up : (test : ℕ → Bool) (fs : List (ℕ × Fault)) (x : Fault) → AllByRecursion (λ f. IsByteFlip f.1) fs → lookup test fs ≡ Some x → IsByteFlip x
+looked-up test [] x all e = cc
+looked-up test (f ∷ fs) x all e = by (test f.0) e (looked-up test fs x all.1)
+  where
+    by : (t : Bool) → cond t (Some f.1) (lookup test fs) ≡ Some x → (lookup test fs ≡ Some x → IsByteFlip x) → IsByteFlip x
+    by true d rest = let same : f.1 ≡ x = cc in subst IsByteFlip same all.0
+    by false d rest = rest d
+
+no-strike : (u : WorldState) → StrikeKeeps u u
+no-strike u = record { net = refl; nodes = refl; clients = refl; adopted = refl; injected = refl; unplanned = λ number e. e; byte_flips = λ all. all; struck = omega arith; harmed = omega arith }
+
+harm-more : (f : Fault) (n : ℕ) → is_harm f ≡ true → (if is_harm f then n + 1 else n) ≡ n + 1
+harm-more f n e = rw e refl
+
+harm-same : (f : Fault) (n : ℕ) → is_harm f ≡ false → (if is_harm f then n + 1 else n) ≡ n
+harm-same f n e = rw e refl
+
+harm-rises : (t : Bool) (n : ℕ) → n ≤ (if t then n + 1 else n)
+harm-rises true n = omega arith
+harm-rises false n = omega arith
+
+strike-so : (u : WorldState) (c : ℕ) (held : Held) (f : Fault) (o : Bool × LinkState) → lookup (nat_eq u.injected) u.plan ≡ Some f → HasLone u.links c held → Fate u.links c held f o → StruckSo u (struck_by (record u { plan = without_fault u.injected u.plan }) f o) c held
+strike-so u c held f (true, l) planned is fate = record {
+  keeps = record {
+    net = net fate;
+    nodes = refl;
+    clients = refl;
+    adopted = refl;
+    injected = refl;
+    unplanned = λ number e. without-none (nat_eq u.injected) (nat_eq number) u.plan e;
+    byte_flips = λ all. without-all (λ x. IsByteFlip x.1) (nat_eq u.injected) u.plan all;
+    struck = omega arith;
+    harmed = harm-rises (is_harm f) u.harmed;
+  };
+  outcome = by fate;
+}
+  where
+    some : lookup (nat_eq u.injected) u.plan ≢ None
+    some none = let bad : None ≡ Some f = sym none ∙ planned in cc
+
+    net : Fate u.links c held f (true, l) → l.net ≡ u.links.net
+    net (Fate.missed m) = absurd (true≢false m)
+    net (Fate.copied h s n e) = n
+    net (Fate.taken h s n e) = n
+    net (Fate.spoilt new h s n e d) = n
+
+    by : Fate u.links c held f (true, l) → Outcome u (struck_by (record u { plan = without_fault u.injected u.plan }) f (true, l)) c held
+    by (Fate.missed m) = absurd (true≢false m)
+    by (Fate.copied h s n e) = Outcome.intact e (harm-same f u.harmed h)
+    by (Fate.taken h s n e) = Outcome.gone e (harm-more f u.harmed h) some
+    by (Fate.spoilt new h s n e d) = Outcome.marred new e (λ all m none. d (looked-up (nat_eq u.injected) u.plan f all planned) m none) (harm-more f u.harmed h) some
+strike-so u c held f (false, l) planned is fate = record {
+  keeps = record {
+    net = refl;
+    nodes = refl;
+    clients = refl;
+    adopted = refl;
+    injected = refl;
+    unplanned = λ number e. without-none (nat_eq u.injected) (nat_eq number) u.plan e;
+    byte_flips = λ all. without-all (λ x. IsByteFlip x.1) (nat_eq u.injected) u.plan all;
+    struck = omega arith;
+    harmed = omega arith;
+  };
+  outcome = Outcome.intact is refl;
+}
+
+strikes-so : (u : WorldState) (c : ℕ) (held : Held) (o : Option Fault) → lookup (nat_eq u.injected) u.plan ≡ o → c < channel_count u.links.net → HasLone u.links c held → StruckSo u (fault_strikes u c o) c held
+strikes-so u c held None e low is = record { keeps = no-strike u; outcome = Outcome.intact is refl }
+strikes-so u c held (Some f) e low is = strike-so u c held f (fault_on u.links c f) e is (fault-fate u.links c held f low is)
+
+pub planned-so : (u : WorldState) (c : ℕ) (held : Held) → c < channel_count u.links.net → HasLone u.links c held → StruckSo u (planned_strikes u c) c held
+unfolding planned_strikes
+planned-so u c held low is = strikes-so u c held (lookup (nat_eq u.injected) u.plan) refl low is

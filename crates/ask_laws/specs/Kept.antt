@@ -1,0 +1,29 @@
+-- What an ask leaves as it was.
+use Rattle.std.specs.Prelude.{◌≡◌, ℕ, ◌≤◌, ℤ, List, nat_eq, None}
+use Rattle.std.specs.Map.{lookup}
+use Rattle.world_defs.specs.World.{WorldState, fabric_of, host_count, node_at}
+use Rattle.world_defs.specs.Asking.{ask}
+use Rattle.ask_laws.specs.Premises.{HasByteFlips, CanAsk}
+
+-- The fabric, each host's table, connections and ports, the clients and the adopted routes are as before; no fault is planned anew; and no count falls.
+pub record IsAskKept (w v : WorldState) : Type 0 where
+  pub fabric : fabric_of v ≡ fabric_of w
+  pub hosts : host_count v ≡ host_count w
+  pub table : (h : ℕ) → (node_at v h).table ≡ (node_at w h).table
+  pub peers : (h : ℕ) → (node_at v h).peers ≡ (node_at w h).peers
+  pub ports : (h : ℕ) → (node_at v h).ports ≡ (node_at w h).ports
+  pub clients : v.clients ≡ w.clients
+  pub adopted : v.adopted ≡ w.adopted
+  pub unplanned : (number : ℕ) → lookup (nat_eq number) w.plan ≡ None → lookup (nat_eq number) v.plan ≡ None
+  pub byte_flips : HasByteFlips w → HasByteFlips v
+  pub injected : w.injected ≤ v.injected
+  pub struck : w.struck ≤ v.struck
+  pub harmed : w.harmed ≤ v.harmed
+
+-- an ask keeps them
+abbrev pub AskKeeps : Type 0
+AskKeeps = (w : WorldState) (mapper tries : ℕ) (walk : List ℤ) → CanAsk w mapper walk → IsAskKept w (ask mapper tries walk w).world
+
+-- and the mapper can ask again, by another walk
+abbrev pub CanAskAgain : Type 0
+CanAskAgain = (w : WorldState) (mapper tries : ℕ) (walk next : List ℤ) → CanAsk w mapper walk → CanAsk w mapper next → CanAsk (ask mapper tries walk w).world mapper next

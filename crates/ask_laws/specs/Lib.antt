@@ -1,0 +1,4 @@
+pub mod Premises
+pub mod Row
+pub mod Kept
+pub mod Truth

@@ -1,0 +1,21 @@
+-- What an ask answers.
+use Rattle.std.specs.Prelude.{◌≡◌, ◌⊎◌, ℕ, ◌<◌, ◌≤◌, true, false, ℤ, List, nat_eq, None}
+use Rattle.std.specs.Map.{lookup}
+use Rattle.net_defs.specs.declared.place.Answer.TheVariants.{Nothing}
+use Rattle.net_defs.specs.Route.{answer}
+use Rattle.world_defs.specs.World.{WorldState, fabric_of, last_count}
+use Rattle.world_defs.specs.Asking.{ask}
+use Rattle.ask_laws.specs.Premises.{CanAsk}
+
+-- an ask answers the truth, or it answers that nothing was found, and drowned: so an answer of a host or of a switch is true, and so is each answer of an ask that didn't drown
+abbrev pub AskIsTrueOrDrowns : Type 0
+AskIsTrueOrDrowns =
+    (w : WorldState) (mapper tries : ℕ) (walk : List ℤ) → CanAsk w mapper walk
+    → ((ask mapper tries walk w).answer ≡ answer (fabric_of w) mapper walk) ⊎ (((ask mapper tries walk w).answer ≡ Nothing) × ((ask mapper tries walk w).drowned ≡ true))
+
+-- an ask with a try at least doesn't drown where no fault is planned for an injection of it, and injections are left behind it
+abbrev pub QuietAskIsHeard : Type 0
+QuietAskIsHeard =
+    (w : WorldState) (mapper tries : ℕ) (walk : List ℤ) → CanAsk w mapper walk → 0 < tries
+    → ((number : ℕ) → w.injected < number → number ≤ (ask mapper tries walk w).world.injected → lookup (nat_eq number) w.plan ≡ None)
+    → (ask mapper tries walk w).world.injected < last_count → (ask mapper tries walk w).drowned ≡ false

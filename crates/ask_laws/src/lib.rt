@@ -1,0 +1,17 @@
+//! What a mapper's ask comes to, over every world of a fabric whose links are idle.
+//!
+//! Each law is a function without parameters: its contract is the law, and its body is empty. The statements stand in `specs/`.
+//!
+//! | file of `specs/` | says |
+//! |---|---|
+//! | `Premises` | what an ask is made over |
+//! | `Row` | that an ask is events in a row, with few injections, and leaves idle links |
+//! | `Kept` | what an ask leaves as it was |
+//! | `Truth` | that an ask answers the truth or drowns, and when it doesn't drown |
+#![tactic(auto)]
+
+mod row;
+mod truth;
+
+pub use row::{kept_by_asks, rows_of_asks};
+pub use truth::true_asks;
