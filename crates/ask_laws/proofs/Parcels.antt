@@ -18,7 +18,7 @@ use Rattle.world_defs.specs.Hearing.{hear_mapping}
 use Rattle.world_defs.specs.World.{WorldState, fabric_of, host_count, last_count, node_at, with_links}
 use Rattle.world_defs.specs.Step.{arrived}
 use Rattle.world_defs.specs.Asking.{Sent, sends}
-use Rattle.ask_laws.specs.Premises.{IsByteFlip, HasByteFlips}
+use Rattle.world_defs.specs.EightBits.{IsByteFault, HasByteFaults}
 use Rattle.ask_laws.proofs.Lone.{bare, IsBare, Goes}
 use Rattle.ask_laws.proofs.Drained.{told, landed_in, Lands}
 use Rattle.ask_laws.proofs.Struck.{StrikeKeeps}
@@ -40,7 +40,7 @@ pub record SendKeeps (w : WorldState) (h : ℕ) (out : Outgoing) (t : WorldState
   pub adopted : t.adopted ≡ w.adopted
   pub injected : t.injected ≡ w.injected + 1
   pub unplanned : (number : ℕ) → lookup (nat_eq number) w.plan ≡ None → lookup (nat_eq number) t.plan ≡ None
-  pub byte_flips : HasByteFlips w → HasByteFlips t
+  pub byte_flips : HasByteFaults w → HasByteFaults t
   pub struck : w.struck ≤ t.struck
   pub harmed : w.harmed ≤ t.harmed
 
@@ -84,7 +84,7 @@ keeps-of w h c out u v t o k r =
       adopted = r.adopted ∙ k.adopted ∙ o.adopted;
       injected = r.injected ∙ k.injected ∙ o.injected;
       unplanned = λ number e. ap (lookup (nat_eq number)) r.plan ∙ k.unplanned number (ap (lookup (nat_eq number)) o.plan ∙ e);
-      byte_flips = λ all. subst (AllByRecursion (λ f. IsByteFlip f.1)) (sym r.plan) (k.byte_flips (subst (AllByRecursion (λ f. IsByteFlip f.1)) (sym o.plan) all));
+      byte_flips = λ all. subst (AllByRecursion (λ f. IsByteFault f.1)) (sym r.plan) (k.byte_flips (subst (AllByRecursion (λ f. IsByteFault f.1)) (sym o.plan) all));
       struck = omega (arith, s0, s1, s2);
       harmed = omega (arith, h0, h1, h2);
     }
@@ -119,7 +119,7 @@ came n w h c out route body s u v m low used number valid o k e l (Comes.left_ov
     let r = rest-landed v m s l quiet in
     Delivery.astray used number (l.heard ∙ quiet.heard) (keeps-of w h c out u v s.world o k r) (r.harmed ∙ e) p
 
-flown : (n : Network) (w : WorldState) (h c : ℕ) (out : Outgoing) (route : List ℤ) (body : MappingBody) (s : Sent) → HasByteFlips w → channel_from n (host_port h) ≡ Some c → fabric_of w ≡ n → w.injected < last_count → s.used_up ≡ false → s.number ≡ Some (w.injected + 1) → IsParcel w h out route body → Flight w h c out s → Delivery n w h out route body s
+flown : (n : Network) (w : WorldState) (h c : ℕ) (out : Outgoing) (route : List ℤ) (body : MappingBody) (s : Sent) → HasByteFaults w → channel_from n (host_port h) ≡ Some c → fabric_of w ≡ n → w.injected < last_count → s.used_up ≡ false → s.number ≡ Some (w.injected + 1) → IsParcel w h out route body → Flight w h c out s → Delivery n w h out route body s
 flown n w h c out route body s flips at net low used number parcel (Flight.lands u v m o k e g l) =
     let goes : Goes n c (packet_of route Mapping (mapping_bytes body)) m = subst (λ x. Goes x c (packet_of route Mapping (mapping_bytes body)) m) net (subst (λ x. Goes (fabric_of w) c x m) parcel.written g) in
     came n w h c out route body s u v m low used number parcel.valid o k e l (built-comes n h c route Mapping (mapping_bytes body) m parcel.turns at goes)
@@ -133,7 +133,7 @@ flown n w h c out route body s flips at net low used number parcel (Flight.marre
     let same = r.harmed in
     Delivery.struck used number (l.heard ∙ quiet.heard) (keeps-of w h c out u v s.world o k r) (omega (arith, more, same)) planned
 
-delivery : (n : Network) (w : WorldState) (h : ℕ) (out : Outgoing) (route : List ℤ) (body : MappingBody) (s : Sent) → HasByteFlips w → fabric_of w ≡ n → to_send h (node_at w h) ≡ Some out → (w.injected < last_count → IsParcel w h out route body) → Sending w h s → Delivery n w h out route body s
+delivery : (n : Network) (w : WorldState) (h : ℕ) (out : Outgoing) (route : List ℤ) (body : MappingBody) (s : Sent) → HasByteFaults w → fabric_of w ≡ n → to_send h (node_at w h) ≡ Some out → (w.injected < last_count → IsParcel w h out route body) → Sending w h s → Delivery n w h out route body s
 delivery n w h out route body s flips net is parcel (Sending.unsent (Unsent.no_cable used at) number heard same) =
     Delivery.no_cable (ap (λ x. channel_from x (host_port h)) (sym net) ∙ at) used number heard same
 delivery n w h out route body s flips net is parcel (Sending.unsent (Unsent.no_packet none) number heard same) = let bad : None ≡ Some out = sym none ∙ is in cc
@@ -145,5 +145,5 @@ delivery n w h out route body s flips net is parcel (Sending.sent c other at thi
     some-same : (a b : Outgoing) → (let r : Option Outgoing = Some a in r) ≡ Some b → a ≡ b
     some-same a b e = cc
 
-pub deliver : (n : Network) (w : WorldState) (h : ℕ) (out : Outgoing) (route : List ℤ) (body : MappingBody) → IsBare w.links → HasByteFlips w → fabric_of w ≡ n → to_send h (node_at w h) ≡ Some out → (w.injected < last_count → IsParcel w h out route body) → Delivery n w h out route body (sends w h)
+pub deliver : (n : Network) (w : WorldState) (h : ℕ) (out : Outgoing) (route : List ℤ) (body : MappingBody) → IsBare w.links → HasByteFaults w → fabric_of w ≡ n → to_send h (node_at w h) ≡ Some out → (w.injected < last_count → IsParcel w h out route body) → Delivery n w h out route body (sends w h)
 deliver n w h out route body e flips net is parcel = delivery n w h out route body (sends w h) flips net is parcel (sending w h e)

@@ -14,7 +14,8 @@ use Rattle.world_defs.specs.World.{WorldState, fabric_of, host_count, node_at, w
 use Rattle.world_defs.specs.Step.{asked, gave_up, step, after_all}
 use Rattle.world_defs.specs.Asking.{all_given_up}
 use Rattle.world_laws.proofs.Lists.{at-set}
-use Rattle.ask_laws.specs.Premises.{HasByteFlips, CanAsk}
+use Rattle.world_defs.specs.EightBits.{HasByteFaults}
+use Rattle.ask_laws.specs.Premises.{CanAsk}
 use Rattle.ask_laws.specs.Kept.{IsAskKept}
 use Rattle.ask_laws.proofs.Lone.{IsBare, idle-bare}
 use Rattle.ask_laws.proofs.Parcels.{SendKeeps}
@@ -135,7 +136,7 @@ pub record Ready (n : Network) (mapper : ℕ) (w : WorldState) : Type 0 where
   pub bare : IsBare w.links
   pub hosts : host_count w ≡ length n.hosts
   pub unstaged : (h : ℕ) → h ≢ mapper → IsUnstaged w h
-  pub flips : HasByteFlips w
+  pub flips : HasByteFaults w
 
 -- a probe is staged
 pub ready-staged : (n : Network) (mapper : ℕ) (w : WorldState) (walk : List ℤ) (looped : Bool) → Ready n mapper w → Ready n mapper (step w (Ask mapper walk looped)).1

@@ -16,7 +16,7 @@ use Rattle.world_defs.specs.World.{WorldState, fabric_of, last_count, node_at}
 use Rattle.world_defs.specs.Step.{planned_strikes, sent_out, inject_one, inject_into, injected}
 use Rattle.world_defs.specs.Asking.{is_used_up, Sent, drained_after, sends}
 use Rattle.world_laws.proofs.Resting.{idle-drain}
-use Rattle.ask_laws.specs.Premises.{HasByteFlips}
+use Rattle.world_defs.specs.EightBits.{HasByteFaults}
 use Rattle.ask_laws.proofs.Lone.{IsBare, HasLone, is-bare, has-lone, put-lone, bare-empty, bare-idle, Goes, going}
 use Rattle.ask_laws.proofs.Drained.{told, Lands, lone-drain}
 use Rattle.ask_laws.proofs.Struck.{StrikeKeeps, Outcome, StruckSo, planned-so}
@@ -65,7 +65,7 @@ sent-out w h c out e =
 pub data Flight (w : WorldState) (h c : ℕ) (out : Outgoing) (s : Sent) : Type 0 where
   lands : (u v : WorldState) (m : Moved (List ℕ)) → IsOut w h c out u → StrikeKeeps u v → v.harmed ≡ w.harmed → Goes (fabric_of w) c (packet_for h (w.injected + 1) out) m → Lands v m (s.effects, s.world) → Flight w h c out s
   lost : (u v : WorldState) → IsOut w h c out u → StrikeKeeps u v → w.harmed < v.harmed → lookup (nat_eq (w.injected + 1)) w.plan ≢ None → IsBare v.links → told s.effects ≡ [] → s.world ≡ v → Flight w h c out s
-  marred : (u v : WorldState) (wire : List ℕ) (m : Moved (List ℕ)) → IsOut w h c out u → StrikeKeeps u v → w.harmed < v.harmed → lookup (nat_eq (w.injected + 1)) w.plan ≢ None → (HasByteFlips w → difference (packet_for h (w.injected + 1) out) ≡ 0 → 0 < difference wire) → Goes (fabric_of w) c wire m → Lands v m (s.effects, s.world) → Flight w h c out s
+  marred : (u v : WorldState) (wire : List ℕ) (m : Moved (List ℕ)) → IsOut w h c out u → StrikeKeeps u v → w.harmed < v.harmed → lookup (nat_eq (w.injected + 1)) w.plan ≢ None → (HasByteFaults w → difference (packet_for h (w.injected + 1) out) ≡ 0 → 0 < difference wire) → Goes (fabric_of w) c wire m → Lands v m (s.effects, s.world) → Flight w h c out s
 
 -- why nothing was sent
 pub data Unsent (w : WorldState) (h : ℕ) (used : Bool) : Type 0 where
@@ -110,7 +110,7 @@ lone-flight w h c out used u v at o k = by k.outcome
         Flight.lost u v o k.keeps (more e) (planned some) b (ap (λ r. told r.0) d) (ap (λ r. r.1) d)
     by (Outcome.marred new l d e some) =
         let g = going v.links.net c new.wire in
-        Flight.marred u v new.wire g.end o k.keeps (more e) (planned some) (λ all none. d (subst (λ p. HasByteFlips (record u { plan = p })) (sym o.plan) all) refl none) (subst (λ n. Goes n c new.wire g.end) net g.goes) (lone-drain v g.end c new low (has-lone v.links c new l) g.goes)
+        Flight.marred u v new.wire g.end o k.keeps (more e) (planned some) (λ all none. d (subst (λ p. HasByteFaults (record u { plan = p })) (sym o.plan) all) refl none) (subst (λ n. Goes n c new.wire g.end) net g.goes) (lone-drain v g.end c new low (has-lone v.links c new l) g.goes)
 
 one : (w : WorldState) (h c : ℕ) (used : Bool) (o : Option Outgoing) → IsBare w.links → channel_from (fabric_of w) (host_port h) ≡ Some c → to_send h (node_at w h) ≡ o → used ≡ nat_le last_count w.injected → Sending w h (drained_after used (inject_one w h c o))
 one w h c used None e at is u = still w h used e (Unsent.no_packet is)

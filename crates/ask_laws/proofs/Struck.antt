@@ -15,7 +15,7 @@ use Rattle.world_defs.specs.declared.fault.Fault.{Fault}
 use Rattle.world_defs.specs.declared.fault.Fault.TheVariants.{Lose as LoseFault, Repeat as RepeatFault, Hold as HoldFault, Flip as FlipFault}
 use Rattle.world_defs.specs.World.{WorldState, without_fault}
 use Rattle.world_defs.specs.Step.{fault_on, is_harm, struck_by, fault_strikes, planned_strikes}
-use Rattle.ask_laws.specs.Premises.{IsByteFlip, HasByteFlips}
+use Rattle.world_defs.specs.EightBits.{IsByteFault, HasByteFaults}
 use Rattle.ask_laws.proofs.Lone.{IsBare, HasLone, has-lone, take-lone, other-lone, lone-there}
 
 -- a fault on a channel that has a packet alone
@@ -23,7 +23,7 @@ pub data Fate (s : LinkState) (c : ℕ) (held : Held) (f : Fault) (o : Bool × L
   missed : o.0 ≡ false → Fate s c held f o
   copied : is_harm f ≡ false → o.0 ≡ true → o.1.net ≡ s.net → HasLone o.1 c held → Fate s c held f o
   taken : is_harm f ≡ true → o.0 ≡ true → o.1.net ≡ s.net → IsBare o.1 → Fate s c held f o
-  spoilt : (new : Held) → is_harm f ≡ true → o.0 ≡ true → o.1.net ≡ s.net → HasLone o.1 c new → (IsByteFlip f → held.marked ≡ false → difference held.wire ≡ 0 → 0 < difference new.wire) → Fate s c held f o
+  spoilt : (new : Held) → is_harm f ≡ true → o.0 ≡ true → o.1.net ≡ s.net → HasLone o.1 c new → (IsByteFault f → held.marked ≡ false → difference held.wire ≡ 0 → 0 < difference new.wire) → Fate s c held f o
 
 -- what a test of serials answers
 abbrev caught_if : Bool → LinkState → ℕ → LinkState → Bool × LinkState
@@ -71,7 +71,7 @@ pub record StrikeKeeps (u v : WorldState) : Type 0 where
   pub adopted : v.adopted ≡ u.adopted
   pub injected : v.injected ≡ u.injected
   pub unplanned : (number : ℕ) → lookup (nat_eq number) u.plan ≡ None → lookup (nat_eq number) v.plan ≡ None
-  pub byte_flips : HasByteFlips u → HasByteFlips v
+  pub byte_flips : HasByteFaults u → HasByteFaults v
   pub struck : u.struck ≤ v.struck
   pub harmed : u.harmed ≤ v.harmed
 
@@ -79,7 +79,7 @@ pub record StrikeKeeps (u v : WorldState) : Type 0 where
 pub data Outcome (u v : WorldState) (c : ℕ) (held : Held) : Type 0 where
   intact : HasLone v.links c held → v.harmed ≡ u.harmed → Outcome u v c held
   gone : IsBare v.links → v.harmed ≡ u.harmed + 1 → lookup (nat_eq u.injected) u.plan ≢ None → Outcome u v c held
-  marred : (new : Held) → HasLone v.links c new → (HasByteFlips u → held.marked ≡ false → difference held.wire ≡ 0 → 0 < difference new.wire) → v.harmed ≡ u.harmed + 1 → lookup (nat_eq u.injected) u.plan ≢ None → Outcome u v c held
+  marred : (new : Held) → HasLone v.links c new → (HasByteFaults u → held.marked ≡ false → difference held.wire ≡ 0 → 0 < difference new.wire) → v.harmed ≡ u.harmed + 1 → lookup (nat_eq u.injected) u.plan ≢ None → Outcome u v c held
 
 pub record StruckSo (u v : WorldState) (c : ℕ) (held : Held) : Type 0 where
   pub keeps : StrikeKeeps u v
@@ -103,12 +103,12 @@ without-none test other (f ∷ fs) e = by (test f.0) (other f.0) refl e (without
     by true false p d rest = d
     by false false p d rest = rw p (rest d)
 
-looked-up : (test : ℕ → Bool) (fs : List (ℕ × Fault)) (x : Fault) → AllByRecursion (λ f. IsByteFlip f.1) fs → lookup test fs ≡ Some x → IsByteFlip x
+looked-up : (test : ℕ → Bool) (fs : List (ℕ × Fault)) (x : Fault) → AllByRecursion (λ f. IsByteFault f.1) fs → lookup test fs ≡ Some x → IsByteFault x
 looked-up test [] x all e = cc
 looked-up test (f ∷ fs) x all e = by (test f.0) e (looked-up test fs x all.1)
   where
-    by : (t : Bool) → cond t (Some f.1) (lookup test fs) ≡ Some x → (lookup test fs ≡ Some x → IsByteFlip x) → IsByteFlip x
-    by true d rest = let same : f.1 ≡ x = cc in subst IsByteFlip same all.0
+    by : (t : Bool) → cond t (Some f.1) (lookup test fs) ≡ Some x → (lookup test fs ≡ Some x → IsByteFault x) → IsByteFault x
+    by true d rest = let same : f.1 ≡ x = cc in subst IsByteFault same all.0
     by false d rest = rest d
 
 no-strike : (u : WorldState) → StrikeKeeps u u
@@ -133,7 +133,7 @@ strike-so u c held f (true, l) planned is fate = record {
     adopted = refl;
     injected = refl;
     unplanned = λ number e. without-none (nat_eq u.injected) (nat_eq number) u.plan e;
-    byte_flips = λ all. without-all (λ x. IsByteFlip x.1) (nat_eq u.injected) u.plan all;
+    byte_flips = λ all. without-all (λ x. IsByteFault x.1) (nat_eq u.injected) u.plan all;
     struck = omega arith;
     harmed = harm-rises (is_harm f) u.harmed;
   };
@@ -162,7 +162,7 @@ strike-so u c held f (false, l) planned is fate = record {
     adopted = refl;
     injected = refl;
     unplanned = λ number e. without-none (nat_eq u.injected) (nat_eq number) u.plan e;
-    byte_flips = λ all. without-all (λ x. IsByteFlip x.1) (nat_eq u.injected) u.plan all;
+    byte_flips = λ all. without-all (λ x. IsByteFault x.1) (nat_eq u.injected) u.plan all;
     struck = omega arith;
     harmed = omega arith;
   };

@@ -3,7 +3,8 @@ use Rattle.std.specs.Prelude.{◌≡◌, ℕ, ◌≤◌, ℤ, List, nat_eq, None
 use Rattle.std.specs.Map.{lookup}
 use Rattle.world_defs.specs.World.{WorldState, fabric_of, host_count, node_at}
 use Rattle.world_defs.specs.Asking.{ask}
-use Rattle.ask_laws.specs.Premises.{HasByteFlips, CanAsk}
+use Rattle.world_defs.specs.EightBits.{HasByteFaults}
+use Rattle.ask_laws.specs.Premises.{CanAsk}
 
 -- The fabric, each host's table, connections and ports, the clients and the adopted routes are as before; no fault is planned anew; and no count falls.
 pub record IsAskKept (w v : WorldState) : Type 0 where
@@ -15,7 +16,7 @@ pub record IsAskKept (w v : WorldState) : Type 0 where
   pub clients : v.clients ≡ w.clients
   pub adopted : v.adopted ≡ w.adopted
   pub unplanned : (number : ℕ) → lookup (nat_eq number) w.plan ≡ None → lookup (nat_eq number) v.plan ≡ None
-  pub byte_flips : HasByteFlips w → HasByteFlips v
+  pub byte_flips : HasByteFaults w → HasByteFaults v
   pub injected : w.injected ≤ v.injected
   pub struck : w.struck ≤ v.struck
   pub harmed : w.harmed ≤ v.harmed

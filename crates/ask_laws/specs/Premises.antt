@@ -4,19 +4,9 @@ use Rattle.std.specs.List.{AllByRecursion}
 use Rattle.net_defs.specs.Network.{IsFabric}
 use Rattle.net_defs.specs.Turn.{IsTurn}
 use Rattle.link_defs.specs.Links.{is_idle}
-use Rattle.world_defs.specs.declared.fault.Fault.{Fault}
-use Rattle.world_defs.specs.declared.fault.Fault.TheVariants.{Flip}
 use Rattle.world_defs.specs.World.{WorldState, fabric_of, host_count}
+use Rattle.world_defs.specs.EightBits.{HasByteFaults}
 use Rattle.world_laws.specs.Shape.{IsWorld}
-
--- a flip has a pattern of eight bits
-abbrev pub IsByteFlip : Fault → Type 0
-IsByteFlip (Flip bit pattern) = pattern < 2 ^ 8
-IsByteFlip _ = Unit {0}
-
--- all planned flips do
-abbrev pub HasByteFlips : WorldState → Type 0
-HasByteFlips w = AllByRecursion (λ f. IsByteFlip f.1) w.plan
 
 -- An ask of a mapper over the world of a fabric: the links are idle, the mapper is a host, the walk has at most 64 turns, and each planned flip has a pattern of eight bits.
 pub record CanAsk (w : WorldState) (mapper : ℕ) (walk : List ℤ) : Type 0 where
@@ -26,4 +16,4 @@ pub record CanAsk (w : WorldState) (mapper : ℕ) (walk : List ℤ) : Type 0 whe
   pub is_host : mapper < host_count w
   pub turns : AllByRecursion IsTurn walk
   pub few_turns : length walk ≤ 64
-  pub byte_flips : HasByteFlips w
+  pub byte_flips : HasByteFaults w

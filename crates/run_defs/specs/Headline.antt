@@ -12,12 +12,11 @@ use Rattle.map_defs.specs.NetMap.{NetMap}
 use Rattle.map_defs.specs.Sameness.{IsMapOfPart}
 use Rattle.map_defs.specs.Dependencies.{IsBefore}
 use Rattle.world_defs.specs.declared.event.Event.{Event}
-use Rattle.world_defs.specs.declared.event.Event.TheVariants.{Flip}
 use Rattle.world_defs.specs.declared.fault.Fault.{Fault}
-use Rattle.world_defs.specs.declared.fault.Fault.TheVariants.{Flip as FlipFault}
 use Rattle.world_defs.specs.Table.{Adoption}
 use Rattle.world_defs.specs.World.{WorldState, fabric_of, new_world, planned, adopted_by}
 use Rattle.world_defs.specs.Step.{step}
+use Rattle.world_defs.specs.EightBits.{IsByteFault, IsByteEvent}
 use Rattle.world_defs.specs.Sound.{IsSound}
 use Rattle.run_defs.specs.declared.command.Command.{Command}
 use Rattle.run_defs.specs.declared.line.MapWords.{MapWords}
@@ -87,16 +86,6 @@ pub record AreAdoptable (n : Network) (routes : List Route) : Type 0 where
   pub lead : AllByRecursion (λ r. place n r.from r.walk ≡ AtHost r.to) routes
   pub number : ℕ → ℕ
   pub rises : (c d : ℕ) → IsBefore (channels_of_all n routes) c d → number c < number d
-
--- a flip's pattern has eight bits
-abbrev pub IsByteFault : Fault → Type 0
-IsByteFault (FlipFault bit pattern) = pattern < 256
-IsByteFault _ = Unit {0}
-
--- an event is no flip, or its pattern has eight bits
-abbrev pub IsByteEvent : Event → Type 0
-IsByteEvent (Flip c bit pattern) = pattern < 256
-IsByteEvent _ = Unit {0}
 
 -- an act whose flips have patterns of eight bits
 abbrev pub IsByteAct : Act → Type 0

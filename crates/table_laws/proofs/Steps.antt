@@ -36,7 +36,8 @@ use Rattle.world_defs.specs.Hearing.{hear}
 use Rattle.world_defs.specs.Client.{Called, begun, closed, provided_by, sent_by, polled_by}
 use Rattle.world_defs.specs.World.{WorldState, fabric_of, host_count, last_count, new_world, node_at, with_node, with_links, client_at, with_drop, without_fault, with_fault, adopted_by}
 use Rattle.world_defs.specs.Step.{of_links, of_limbo, of_replay, lost, was_reset, repeated, held, flipped, replayed, asked, stage_at, stage_part, part_staged, fault_on, struck_by, fault_strikes, planned_strikes, sent_out, inject_one, inject_into, injected, arrived, advanced_by, advanced, expired, gave_up, of_call, wanted, step}
-use Rattle.run_defs.specs.Headline.{Act, Happens, Plans, Adopts, acted, acted_all, AreAdoptable, IsSameSet, IsByteFault, IsByteEvent, MayAct, MayActAll}
+use Rattle.run_defs.specs.Headline.{Act, Happens, Plans, Adopts, acted, acted_all, AreAdoptable, IsSameSet, MayAct, MayActAll}
+use Rattle.world_defs.specs.EightBits.{IsByteFault, IsByteEvent}
 use Rattle.table_laws.specs.Set.{IsPart, IsPartOfSet, IsActive, IsActiveOfSet, IsCollected, IsTable, IsFitPart}
 use Rattle.table_laws.specs.Packets.{Built, IsHonest, IsGoodStep}
 use Rattle.table_laws.specs.Bodies.{IsBody, IsStaged, IsHostOf}

@@ -37,7 +37,8 @@ use Rattle.world_defs.specs.Hearing.{hear}
 use Rattle.world_defs.specs.Client.{Called, begun, closed, provided_by, sent_by, polled_by}
 use Rattle.world_defs.specs.World.{WorldState, fabric_of, host_count, last_count, new_world, node_at, with_node, with_links, client_at, without_fault, adopted_by}
 use Rattle.world_defs.specs.Step.{of_links, of_limbo, of_replay, lost, was_reset, repeated, held, flipped, replayed, asked, stage_at, stage_part, part_staged, fault_on, struck_by, fault_strikes, planned_strikes, sent_out, inject_one, inject_into, injected, arrived, advanced_by, advanced, expired, gave_up, of_call, wanted, step}
-use Rattle.run_defs.specs.Headline.{Act, Happens, Plans, Adopts, acted, acted_all, IsByteFault, IsByteEvent, IsByteAct}
+use Rattle.run_defs.specs.Headline.{Act, Happens, Plans, Adopts, acted, acted_all, IsByteAct}
+use Rattle.world_defs.specs.EightBits.{IsByteFault, IsByteEvent}
 use Rattle.table_laws.specs.Packets.{IsGoodStep}
 use Rattle.table_laws.specs.Provenance.{moment, IsLeftOf, ChannelsHoldWhatWasBuilt, LimboHoldsWhatWasBuilt, FlippedIsDropped}
 use Rattle.table_laws.proofs.Medium.{Holds, Carries, stepped-holds, weaker-holds, empty-holds, tells-stripped, flipped-tells, no_turn}

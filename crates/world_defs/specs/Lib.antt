@@ -1,6 +1,7 @@
 pub mod Asking
 pub mod Client
 pub mod Drain
+pub mod EightBits
 pub mod Examples
 pub mod Hearing
 pub mod Install
