@@ -1,0 +1,2 @@
+pub mod OneMapping
+pub mod OneRun
