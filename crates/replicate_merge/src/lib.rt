@@ -29,8 +29,6 @@ mod expanding;
 mod merging;
 mod numbering;
 mod order;
-#[cfg(test)]
-mod plain;
 mod table;
 #[cfg(test)]
 mod tests;

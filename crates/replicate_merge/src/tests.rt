@@ -3,7 +3,6 @@ ghost use Rattle.net_defs.specs.Route.{answer_at};
 ghost use Rattle.journal_defs.specs.Truth.{IsTrueWhereFound};
 ghost use Rattle.probe.specs.Keeping.{with_entry};
 
-use crate::plain::replicates;
 use crate::{Classes, aligned};
 use net_defs::{Answer, End, Place, Vertex, Walk};
 use port_graph::{Fabric, GraphFault};
@@ -158,112 +157,5 @@ fn two_cables_between_two_switches(rt: HostRuntime) -> Result<(), Fail> {
 fn two_hosts_on_one_cable(rt: HostRuntime) -> Result<(), Fail> {
     let fabric = one_cable(rt.alloc())?;
     assert_eq!(rt; cable_classes(rt.alloc(), &fabric)?, (2, 1));
-    Ok(())
-}
-
-// The address of the mapper's host, and of each host that a walk found.
-fn addresses(
-    alloc: Global,
-    fabric: &Fabric,
-    walks: &[&[i8]],
-) -> Result<Vec<Option<u16>>, AllocError> {
-    let mut addresses = vec![in alloc; Some(0)]?;
-    for turns in walks {
-        addresses.push(match fabric.walk(0, turns) {
-            Place::Host(h) => Some(h),
-            _ => None,
-        })?;
-    }
-    Ok(addresses)
-}
-
-// Whether each two of these walks lie in one class, as far apart as the plain closure says, exactly where it says so.
-fn are_as_closed(alloc: Global, fabric: &Fabric, walks: &[&[i8]]) -> Result<bool, AllocError> {
-    let pairs = replicates(alloc, walks, &addresses(alloc, fabric, walks)?)?;
-    let classes = classes_of(alloc, fabric, walks)?;
-    for (u, v) in walks.iter().enumerate() {
-        for (w, x) in walks.iter().enumerate() {
-            let apart = between(alloc, &classes, v, x)?;
-            let told = pairs.iter().find(|p| p.0.checked_sub(1) == Some(u)
-                && p.1.checked_sub(1) == Some(w));
-            if told.map(|p| p.2) != apart.map(i16::from) {
-                return Ok(false);
-            }
-        }
-    }
-    Ok(true)
-}
-
-// Four switches in a ring, with a host at each.
-fn ring(alloc: Global) -> Result<Fabric, GraphFault> {
-    let mut fabric = Fabric::new(alloc);
-    for name in [b"a", b"b", b"c", b"d"] {
-        fabric.add_host(alloc, name)?;
-    }
-    for name in [b"w", b"x", b"y", b"z"] {
-        fabric.add_switch(alloc, name, 4)?;
-    }
-    for (s, t) in [(0, 1), (1, 2), (2, 3), (3, 0)] {
-        fabric.add_cable(switch(s, 0), switch(t, 1))?;
-        fabric.add_cable(host(s), switch(s, 2))?;
-    }
-    Ok(fabric)
-}
-
-// Two hosts at a switch, and behind it another that is cabled to itself.
-fn self_cabled(alloc: Global) -> Result<Fabric, GraphFault> {
-    let mut fabric = switches(alloc)?;
-    fabric.add_cable(host(0), switch(0, 0))?;
-    fabric.add_cable(host(1), switch(0, 1))?;
-    fabric.add_cable(switch(0, 3), switch(1, 0))?;
-    fabric.add_cable(switch(1, 1), switch(1, 2))?;
-    Ok(fabric)
-}
-
-#[test]
-fn classes_of_parallel_cables_are_the_plain_closure(rt: HostRuntime) -> Result<(), Fail> {
-    let fabric = parallel(rt.alloc())?;
-    let walks: [&[i8]; 5] = [&[], &[1], &[2], &[1, 1], &[2, -2]];
-    assert!(rt; are_as_closed(rt.alloc(), &fabric, &walks)?);
-    Ok(())
-}
-
-#[test]
-fn classes_of_the_ring_are_the_plain_closure(rt: HostRuntime) -> Result<(), Fail> {
-    let fabric = ring(rt.alloc())?;
-    let walks: [&[i8]; 13] = [
-        &[],
-        &[-2],
-        &[-1],
-        &[-2, -1],
-        &[-2, 1],
-        &[-1, 1],
-        &[-1, 2],
-        &[-2, -1, -1],
-        &[-2, -1, 1],
-        &[-1, 1, 1],
-        &[-1, 1, 2],
-        &[-2, -1, -1, 1],
-        &[-1, 1, 1, 2],
-    ];
-    assert!(rt; are_as_closed(rt.alloc(), &fabric, &walks)?);
-    Ok(())
-}
-
-#[test]
-fn classes_of_the_self_cabled_switch_are_the_plain_closure(rt: HostRuntime) -> Result<(), Fail> {
-    let fabric = self_cabled(rt.alloc())?;
-    let walks: [&[i8]; 9] = [
-        &[],
-        &[1],
-        &[3],
-        &[3, 1],
-        &[3, 2],
-        &[3, 1, -2],
-        &[3, 1, -1],
-        &[3, 2, 1],
-        &[3, 1, -2, -3],
-    ];
-    assert!(rt; are_as_closed(rt.alloc(), &fabric, &walks)?);
     Ok(())
 }

@@ -19,9 +19,13 @@ pub(crate) fn replicates(
             }
         }
     }
-    // More rounds than any of the small trees has ways.
-    for _ in 0..12 {
+    // Each round but the last adds a pair.
+    for _ in 0..hosts.len().saturating_mul(hosts.len()) {
+        let known = pairs.len();
         follow(alloc, walks, &mut pairs)?;
+        if pairs.len() == known {
+            break;
+        }
     }
     Ok(pairs)
 }
