@@ -1,0 +1,67 @@
+-- A packet reaches a host that the fabric has.
+use Rattle.std.proofs.Common.{◌≡◌, ◌<◌, ◌/◌, ◌%◌, ℕ, Bool, true, false, nat_eq, nat_lt, List, length, Option, Some, None, refl, subst, arith, if◌then◌else◌}
+use Rattle.std.specs.List.{slice_get}
+use Rattle.std.specs.Option.{option_map}
+use Rattle.std.proofs.lemmas.Bool.Decides.{nat_tests}
+use Rattle.net_defs.specs.declared.vertex.Vertex.{Vertex}
+use Rattle.net_defs.specs.declared.vertex.Vertex.TheVariants.{Host, Switch}
+use Rattle.net_defs.specs.declared.vertex.Cable.{Cable}
+use Rattle.net_defs.specs.Network.{Network, IsFabric, has_port, ports_of}
+use Rattle.net_defs.specs.Route.{channel_from}
+use Rattle.link_defs.specs.declared.turned.Turned.{Turned}
+use Rattle.link_defs.specs.declared.turned.Turned.TheVariants.{Out, OutOfRange as TurnedTooFar, NotRoute as NoTurn}
+use Rattle.link_defs.specs.declared.moved.Course.{Course}
+use Rattle.link_defs.specs.declared.moved.Course.TheVariants.{Arrives, Enters, Drops}
+use Rattle.link_defs.specs.declared.moved.Moved.TheVariants.{AtHost}
+use Rattle.link_defs.specs.Switch.{aim}
+use Rattle.link_defs.specs.Links.{Held, LinkState, packet_in, emptied}
+use Rattle.link_defs.specs.Advance.{course_by_channel, course_out, course_at, course_into, course, entered, gone_on, advance_of, advance}
+use Rattle.link_model.proofs.Wirings.{cable_ports}
+
+host_below : (n : Network) (g p : ℕ) → has_port n (record { v = Host g; p = p }) ≡ true → g < length n.hosts
+host_below n g p e = by (nat_lt g (length n.hosts)) refl e
+  where
+    by : (t : Bool) → nat_lt g (length n.hosts) ≡ t → nat_lt p (if t then 1 else 0) ≡ true → g < length n.hosts
+    by true is e = grind (arith, nat_tests)
+    by false is e = absurd (grind (arith, nat_tests))
+
+course_out-host : (n : Network) (s : ℕ) (t : Turned) (h : ℕ) → course_out n s t ≡ Arrives h → ⊥
+course_out-host n s (Out port) h e = by (channel_from n (record { v = Switch s; p = port })) e
+  where
+    by : (o : Option ℕ) → course_by_channel o ≡ Arrives h → ⊥
+    by None e = cc
+    by (Some next) e = cc
+course_out-host n s TurnedTooFar h e = cc
+course_out-host n s NoTurn h e = cc
+
+course_at-host : (n : Network) (v : Vertex) (p : ℕ) (wire : List ℕ) (h : ℕ) → has_port n (record { v = v; p = p }) ≡ true → course_at n v p wire ≡ Arrives h → h < length n.hosts
+course_at-host n (Host g) p wire h port e = let same : g ≡ h = cc in subst (λ k. k < length n.hosts) same (host_below n g p port)
+course_at-host n (Switch s) p wire h port e = absurd (course_out-host n s (aim (ports_of n (Switch s)) p wire) h e)
+
+course-host : (n : Network) (c : ℕ) (wire : List ℕ) (h : ℕ) → IsFabric n → course n c wire ≡ Arrives h → h < length n.hosts
+course-host n c wire h fabric e = by (slice_get n.cables (c / 2)) refl e
+  where
+    side : (cable : Cable) (t : Bool) → (has_port n cable.a ≡ true) × (has_port n cable.b ≡ true) → course_into n (Some (if t then cable.b else cable.a)) wire ≡ Arrives h → h < length n.hosts
+    side cable true ports e = course_at-host n cable.b.v cable.b.p wire h ports.1 e
+    side cable false ports e = course_at-host n cable.a.v cable.a.p wire h ports.0 e
+
+    by : (o : Option Cable) → slice_get n.cables (c / 2) ≡ o → course_into n (option_map (λ cable. if nat_eq (c % 2) 0 then cable.b else cable.a) o) wire ≡ Arrives h → h < length n.hosts
+    by None is e = cc
+    by (Some cable) is e = side cable (nat_eq (c % 2) 0) (cable_ports n (c / 2) cable fabric is) e
+
+entered-host : (s : LinkState) (c : ℕ) (held : Held) (next : ℕ) (o : Option Held) (h : ℕ) (wire : List ℕ) → (entered s c held next o).0 ≡ AtHost h wire → ⊥
+entered-host s c held next None h wire e = cc
+entered-host s c held next (Some other) h wire e = cc
+
+gone_on-host : (s : LinkState) (c : ℕ) (held : Held) (to : Course) (h : ℕ) (wire : List ℕ) → (gone_on s c held to).0 ≡ AtHost h wire → to ≡ Arrives h
+gone_on-host s c held (Arrives g) h wire e = cc
+gone_on-host s c held (Enters next) h wire e = absurd (entered-host s c held next (packet_in (emptied s c) next) h wire e)
+gone_on-host s c held (Drops why) h wire e = cc
+
+-- the host that a packet reaches is one of the fabric's
+pub host_there : (s : LinkState) (c h : ℕ) (wire : List ℕ) → IsFabric s.net → (advance s c).0 ≡ AtHost h wire → h < length s.net.hosts
+host_there s c h wire fabric e = by (packet_in s c) e
+  where
+    by : (o : Option Held) → (advance_of s c o).0 ≡ AtHost h wire → h < length s.net.hosts
+    by None e = cc
+    by (Some held) e = course-host s.net c held.wire h fabric (gone_on-host s c held (course s.net c held.wire) h wire e)

@@ -1,0 +1,85 @@
+-- The part of a world that its links keep: what the channels and limbo hold, the plan of faults, and the counts.
+use Rattle.std.specs.Prelude.{◌≡◌, ℕ, ◌+◌, ◌<◌, ◌||◌, Bool, true, false, not, nat_le, List, length, Some, is_some, if◌then◌else◌}
+use Rattle.net_defs.specs.Network.{Network}
+use Rattle.link_defs.specs.Links.{LinkState, packet_in, put}
+use Rattle.world_defs.specs.declared.effect.Effect.{Effect}
+use Rattle.world_defs.specs.declared.effect.Effect.TheVariants.{Idle, Injected}
+use Rattle.world_defs.specs.declared.fault.Fault.{Fault}
+use Rattle.world_defs.specs.Node.{Outgoing, packet_for, after_sending}
+use Rattle.world_defs.specs.Hearing.{hear}
+use Rattle.world_defs.specs.World.{WorldState, host_count, last_count, node_at, with_node}
+use Rattle.world_defs.specs.Step.{arrived, inject_one, planned_strikes}
+use Rattle.faulty_links.specs.declared.gone.Gone.{Gone}
+use Rattle.faulty_links.specs.declared.gone.Gone.TheVariants.{Done, AtHost}
+
+-- How many injections there were, how many packets were dropped, and how many planned faults struck, and of these how many lost, held or flipped their packet.
+pub record CountState : Type 0 where
+  pub injected : ℕ
+  pub dropped : ℕ
+  pub struck : ℕ
+  pub harmed : ℕ
+
+-- the counts behind an injection for which a fault was planned: whether it struck, and whether it is one that harms
+abbrev pub behind_fault : CountState → Bool → Bool → CountState
+behind_fault n strikes is_harm = record n {
+  injected = n.injected + 1;
+  struck = if strikes then n.struck + 1 else n.struck;
+  harmed = if strikes then (if is_harm then n.harmed + 1 else n.harmed) else n.harmed;
+}
+
+-- The links with their fabric, the planned faults by rising injection, and the counts: a world without its hosts, their clients and the adopted routes.
+pub record LinksAndPlan : Type 0 where
+  pub links : LinkState
+  pub plan : List (ℕ × Fault)
+  pub injected : ℕ
+  pub dropped : ℕ
+  pub struck : ℕ
+  pub harmed : ℕ
+
+-- the part of a world
+abbrev pub of_world : WorldState → LinksAndPlan
+of_world w = record { links = w.links; plan = w.plan; injected = w.injected; dropped = w.dropped; struck = w.struck; harmed = w.harmed }
+
+-- the world with this part, and the hosts, clients and routes that it has
+abbrev pub with_part : WorldState → LinksAndPlan → WorldState
+with_part w p = record w { links = p.links; plan = p.plan; injected = p.injected; dropped = p.dropped; struck = p.struck; harmed = p.harmed }
+
+-- the part of these links, this plan and these counts
+abbrev pub part_of : LinkState → List (ℕ × Fault) → CountState → LinksAndPlan
+part_of links plan counts = record { links = links; plan = plan; injected = counts.injected; dropped = counts.dropped; struck = counts.struck; harmed = counts.harmed }
+
+-- a channel is empty, and an injection is left for it
+abbrev pub can_inject : LinksAndPlan → ℕ → Bool
+can_inject p c = not (is_some (packet_in p.links c) || nat_le last_count p.injected)
+
+-- the world in which a packet of these bytes was put into a channel under the next number, before a planned fault strikes
+abbrev pub put_under_next : WorldState → ℕ → List ℕ → WorldState
+put_under_next w c wire = record w { links = (put w.links c wire).1; injected = w.injected + 1 }
+
+-- what a world makes of a packet that went on: where it reached a host, the host hears it
+abbrev pub heard_of : WorldState → Gone (List ℕ) → Effect × WorldState
+heard_of w (Done effect) = (effect, w)
+heard_of w (AtHost h wire) = arrived w h (hear h (host_count w) (node_at w h) wire)
+
+-- a packet that reached a host reached one that the fabric has
+abbrev pub IsToHostOf : Network → Gone (List ℕ) → Type 0
+IsToHostOf n (Done effect) = Unit {0}
+IsToHostOf n (AtHost h wire) = h < length n.hosts
+
+-- a world with its own part is that world
+abbrev pub WorldHasItsPart : Type 0
+WorldHasItsPart = (w : WorldState) → with_part w (of_world w) ≡ w
+
+-- the part of a world with a part is that part
+abbrev pub PartOfWorldWithPart : Type 0
+PartOfWorldWithPart = (w : WorldState) (p : LinksAndPlan) → of_world (with_part w p) ≡ p
+
+-- an injection from a host into a channel that can take it is the put under the next number, in the world whose host counts it as sent
+abbrev pub InjectionIsPut : Type 0
+InjectionIsPut =
+    (w : WorldState) (h c : ℕ) (out : Outgoing) → can_inject (of_world w) c ≡ true
+    → inject_one w h c (Some out) ≡ (Injected (w.injected + 1), planned_strikes (put_under_next (with_node w h (after_sending (node_at w h) out)) c (packet_for h (w.injected + 1) out)) c)
+
+-- an injection into a channel that can't take it is idle
+abbrev pub InjectionIsIdle : Type 0
+InjectionIsIdle = (w : WorldState) (h c : ℕ) (out : Outgoing) → can_inject (of_world w) c ≡ false → inject_one w h c (Some out) ≡ (Idle, w)

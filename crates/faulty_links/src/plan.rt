@@ -1,0 +1,60 @@
+//! The planned faults.
+
+ghost use Rattle.std.specs.Prelude.{◌≡◌, [], nat_eq, OnOk, OnErr};
+ghost use Rattle.std.specs.Map.{lookup};
+ghost use Rattle.world_defs.specs.World.{with_fault, without_fault};
+
+use std::alloc::{AllocError, Global};
+use std::collections::BTreeMap;
+use std::marker::Model;
+use world_defs::Fault;
+
+/// Faults by the number of the injection that they are for, one for each at most.
+#[derive(Drop)]
+pub(crate) struct Plan {
+    faults: BTreeMap<u128, Fault>,
+}
+
+impl Model for Plan {
+    ghost use Rattle.std.specs.Prelude.{List, ℕ};
+    ghost use Rattle.world_defs.specs.declared.fault.Fault.{Fault};
+
+    ghost Value = { List (ℕ × Fault) };
+
+    ghost view = { λ p. p.faults.entries };
+}
+
+impl Plan {
+    pub(crate) fn new(alloc: Global) -> Plan
+        ensures { result ≡ [] }
+    {
+        Plan {
+            faults: BTreeMap::new(alloc),
+        }
+    }
+
+    /// The fault for an injection.
+    pub(crate) fn at(&self, number: u64) -> Option<Fault>
+        ensures { result ≡ lookup (nat_eq number) self.now }
+    {
+        self.faults.get(&u128::from(number)).copied()
+    }
+
+    /// Plans a fault for an injection, in the place of an earlier one.
+    pub(crate) fn put(&mut self, number: u128, fault: Fault) -> Result<(), AllocError>
+        ensures ok { OnOk result (self.new ≡ with_fault number fault self.old) }
+        ensures err { OnErr result (self.new ≡ self.old) }
+    {
+        match self.faults.insert(number, fault) {
+            Ok(_) => Ok(()),
+            Err(_) => Err(AllocError),
+        }
+    }
+
+    /// Plans no fault for an injection any more.
+    pub(crate) fn remove(&mut self, number: u64)
+        ensures { self.new ≡ without_fault number self.old }
+    {
+        let _ = self.faults.remove(&u128::from(number));
+    }
+}
