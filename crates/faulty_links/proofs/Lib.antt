@@ -1,2 +1,3 @@
 pub mod Arrivals
+pub mod HopsBelow
 pub mod Parts

@@ -4,6 +4,7 @@ ghost use Rattle.std.specs.Prelude.{◌≡◌, ◌<◌, ◌≤◌, ℕ, length, 
 ghost use Rattle.net_defs.specs.Network.{IsFabric};
 ghost use Rattle.net_defs.specs.Route.{channel_from};
 ghost use Rattle.link_defs.specs.Channel.{channel_count, channel_tail, channel_head};
+ghost use Rattle.link_defs.specs.Hops.{total_hops};
 ghost use Rattle.link_defs.specs.Links.{packet_in, is_idle};
 ghost use Rattle.link_defs.specs.Fault.{next_limbo};
 ghost use Rattle.link_model.specs.Full.{next_full, IsNextFull};
@@ -16,6 +17,7 @@ mod injection;
 
 use crate::counts::Counts;
 use crate::plan::Plan;
+use crate::reach::hops_bound;
 use link_model::Links;
 use net_defs::End;
 use port_graph::Fabric;
@@ -136,5 +138,13 @@ impl FaultyLinks {
         ensures most { result ≤ self.now.struck }
     {
         self.counts.harmed()
+    }
+
+    /// At least the hops that all packets in channels have left: so many advances at most change something before none does.
+    pub fn hops_bound(&self) -> u64
+        ensures enough { total_hops self.now.links ≤ result }
+        ensures few { result ≤ 1275264 }
+    {
+        hops_bound(&self.links)
     }
 }

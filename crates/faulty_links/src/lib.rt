@@ -16,6 +16,7 @@
 //! | `counts` | injections, drops, strikes and harms |
 //! | `faulty` | the links with both: reading them, faults, injections, an advance |
 //! | `gone` | what became of a packet that went on |
+//! | `reach` | how far packets may still go |
 //! | `laws` | a world and its part; injections of hosts |
 #![tactic(auto)]
 
@@ -24,6 +25,7 @@ mod faulty;
 mod gone;
 mod laws;
 mod plan;
+mod reach;
 #[cfg(test)]
 mod tests;
 
