@@ -1,17 +1,18 @@
 -- What an ask comes to: the laws.
 use Rattle.std.proofs.Common.{◌≡◌, ◌<◌, ◌≤◌, ℕ, zero, suc, Bool, true, false, not, ◌&&◌, ◌||◌, ℤ, List, Option, Some, None, is_some, ◌⊎◌, inl, inr, refl, sym, ap, ◌∙◌, subst, arith, true≢false, if◌then◌else◌}
+use Rattle.std.proofs.lemmas.Bool.{cases_lt}
 use Rattle.net_defs.specs.declared.place.Place.{Place}
 use Rattle.net_defs.specs.declared.place.Place.TheVariants.{Host as AtHostPlace, Switch as AtSwitch, Nothing as Stuck}
 use Rattle.net_defs.specs.declared.place.Answer.TheVariants.{Switch as IsSwitch, Nothing as IsNothing}
 use Rattle.net_defs.specs.Network.{Network, IsFabric}
 use Rattle.net_defs.specs.Route.{place, answer_at, answer}
-use Rattle.world_defs.specs.World.{WorldState, fabric_of}
+use Rattle.world_defs.specs.World.{WorldState, fabric_of, last_count}
 use Rattle.world_defs.specs.Asking.{Tried, also_harmed, or_further, tries_of, host_try, loop_try, host_tries, loop_tries, Asked, loop_answer, asked_loops, asked_hosts, all_given_up, ask}
 use Rattle.world_laws.proofs.Reached.{reached-kept}
 use Rattle.ask_laws.specs.Premises.{CanAsk}
 use Rattle.ask_laws.specs.Row.{IsOfAsk}
 use Rattle.ask_laws.specs.Kept.{IsAskKept, AskKeeps, CanAskAgain}
-use Rattle.ask_laws.specs.Truth.{AskIsTrueOrDrowns, QuietAskIsHeard}
+use Rattle.ask_laws.specs.Truth.{AskIsTrueOrDrowns, QuietAskIsHeard, DrownedAskFoundNothing, DrownedAskWasHarmed}
 use Rattle.ask_laws.proofs.Along.{ask-events, ask-idle}
 use Rattle.ask_laws.proofs.Ready.{Ready, kept-same, kept-both, kept-start, ready-start}
 use Rattle.ask_laws.proofs.Tries.{Premises, IsQuietTo, IsTry}
@@ -31,16 +32,18 @@ both-harmed a b (inl p) (inl q) = inl (rw (p, q) refl)
 both-harmed a b (inl p) (inr q) = inr q
 both-harmed a b (inr p) q = inr p
 
--- a quiet stretch is quiet up to each world on the way
-quiet-first : (w u v : WorldState) → u.injected ≤ v.injected → IsQuietTo w v → IsQuietTo w u
-quiet-first w u v e q =
-    let l = q.left in
-    record { unplanned = λ number a b. q.unplanned number a (omega (arith, e, b)); left = omega (arith, e, l) }
+-- a quiet stretch is quiet up to each world on the way, and from it
+quiet-first : (w u v : WorldState) → IsAskKept w u → IsAskKept u v → IsQuietTo w v → IsQuietTo w u
+quiet-first w u v k l (IsQuietTo.unplanned none left) = let e = l.injected in IsQuietTo.unplanned (λ number a b. none number a (omega (arith, e, b))) (omega (arith, e, left))
+quiet-first w u v k l (IsQuietTo.unharmed same left) =
+    let e = l.injected in
+    let a = k.harmed in
+    let b = l.harmed in
+    IsQuietTo.unharmed (omega (arith, same, a, b)) (omega (arith, e, left))
 
-quiet-last : (w u v : WorldState) → IsAskKept w u → IsQuietTo w v → IsQuietTo u v
-quiet-last w u v k q =
-    let i = k.injected in
-    record { unplanned = λ number a b. k.unplanned number (q.unplanned number (omega (arith, i, a)) b); left = q.left }
+quiet-last : (w u v : WorldState) → IsAskKept w u → IsAskKept u v → IsQuietTo w v → IsQuietTo u v
+quiet-last w u v k l (IsQuietTo.unplanned none left) = let i = k.injected in IsQuietTo.unplanned (λ number a b. k.unplanned number (none number (omega (arith, i, a)) b)) left
+quiet-last w u v k l (IsQuietTo.unharmed same left) = let a = k.harmed in let b = l.harmed in IsQuietTo.unharmed (omega (arith, same, a, b)) left
 
 further-so : {A : Type 0} (n : Network) (mapper : ℕ) (is_found : A → Bool) (Sound : A → Type 0) (Absent : Type 0) (tries : ℕ) (w : WorldState) (t : Tried A) (rest : WorldState → Tried A) → IsTry n mapper is_found Sound Absent w t → IsTries n mapper is_found Sound Absent tries t.world (rest t.world) → IsTries n mapper is_found Sound Absent (suc tries) w (or_further is_found t rest)
 further-so {A} n mapper is_found Sound Absent tries w t rest one others = by (is_found t.found) refl
@@ -58,7 +61,7 @@ further-so {A} n mapper is_found Sound Absent tries w t rest one others = by (is
       kept = kept-both w t.world (rest t.world).world one.kept others.kept;
       sound = others.sound;
       missed = λ f. both-harmed t.harmed (rest t.world).harmed (one.missed e) (others.missed f);
-      unharmed = λ f some q. ap (λ x. x && (rest t.world).harmed) (one.unharmed e (quiet-first w t.world (rest t.world).world others.kept.injected q));
+      unharmed = λ f some q. ap (λ x. x && (rest t.world).harmed) (one.unharmed e (quiet-first w t.world (rest t.world).world one.kept others.kept q));
     }
 
 tries-so : {A : Type 0} (n : Network) (mapper : ℕ) (is_found : A → Bool) (Sound : A → Type 0) (Absent : Type 0) (nothing : A) (one : WorldState → Tried A) → is_found nothing ≡ false → ((w : WorldState) → Ready n mapper w → IsTry n mapper is_found Sound Absent w (one w)) → (tries : ℕ) (w : WorldState) → Ready n mapper w → IsTries n mapper is_found Sound Absent tries w (tries_of is_found nothing one tries w)
@@ -118,8 +121,8 @@ loops-so n mapper walk tries w u harmed t k missed unharmed loops = by t.found r
       kept = more;
       answers = subst (λ b. (loop_answer b ≡ answer n mapper walk) ⊎ ((loop_answer b ≡ IsNothing) × ((not b && (harmed || t.harmed)) ≡ true))) (sym e) (said (drowns n mapper walk harmed t.harmed missed (loops.missed e)));
       heard = λ some q.
-          let a : harmed ≡ false = unharmed some (quiet-first w u t.world loops.kept.injected q) in
-          let b : t.harmed ≡ false = loops.unharmed e some (quiet-last w u t.world k q) in
+          let a : harmed ≡ false = unharmed some (quiet-first w u t.world k loops.kept q) in
+          let b : t.harmed ≡ false = loops.unharmed e some (quiet-last w u t.world k loops.kept q) in
           rw (e, a, b) refl;
     }
 
@@ -139,7 +142,7 @@ from-start : (n : Network) (mapper : ℕ) (walk : List ℤ) (tries : ℕ) (w : W
 from-start n mapper walk tries w a is = record {
   kept = kept-both w (all_given_up w) a.world (kept-start w) is.kept;
   answers = is.answers;
-  heard = λ some q. is.heard some (quiet-last w (all_given_up w) a.world (kept-start w) q);
+  heard = λ some q. is.heard some (quiet-last w (all_given_up w) a.world (kept-start w) is.kept q);
 }
 
 premises : (w : WorldState) (mapper : ℕ) (walk : List ℤ) → CanAsk w mapper walk → Premises (fabric_of w) mapper walk
@@ -164,7 +167,40 @@ pub ask-true : AskIsTrueOrDrowns
 ask-true w mapper tries walk can = (ask-so w mapper tries walk can).answers
 
 pub ask-heard : QuietAskIsHeard
-ask-heard w mapper tries walk can some unplanned left = (ask-so w mapper tries walk can).heard some (record { unplanned = unplanned; left = left })
+ask-heard w mapper tries walk can some unplanned left = (ask-so w mapper tries walk can).heard some (IsQuietTo.unplanned unplanned left)
+
+pub ask-harmed : DrownedAskWasHarmed
+ask-harmed w mapper tries walk can some drowned = by (cases_lt w.harmed v.harmed) (cases_lt v.injected last_count)
+  where
+    v : WorldState
+    v = (ask mapper tries walk w).world
+
+    all : IsAsk (fabric_of w) mapper walk tries w (ask mapper tries walk w)
+    all = ask-so w mapper tries walk can
+
+    by : (w.harmed < v.harmed) ⊎ (v.harmed ≤ w.harmed) → (v.injected < last_count) ⊎ (last_count ≤ v.injected) → (w.harmed < v.harmed) ⊎ (last_count ≤ v.injected)
+    by (inl more) left = inl more
+    by (inr same) (inr most) = inr most
+    by (inr same) (inl left) =
+        let h = all.kept.harmed in
+        absurd (true≢false (sym drowned ∙ all.heard some (IsQuietTo.unharmed (omega (arith, h, same)) left)))
+
+-- only an answer of nothing drowns
+loops-nothing : (harmed : Bool) (t : Tried Bool) → (asked_loops harmed t).drowned ≡ true → (asked_loops harmed t).answer ≡ IsNothing
+loops-nothing harmed t = by t.found
+  where
+    by : (b : Bool) → (not b && (harmed || t.harmed)) ≡ true → loop_answer b ≡ IsNothing
+    by true e = absurd (true≢false (sym e))
+    by false e = refl
+
+hosts-nothing : (mapper : ℕ) (walk : List ℤ) (tries : ℕ) (harmed : Bool) (w : WorldState) (o : Option ℕ) → (asked_hosts mapper walk tries harmed w o).drowned ≡ true → (asked_hosts mapper walk tries harmed w o).answer ≡ IsNothing
+hosts-nothing mapper walk tries harmed w (Some h) e = absurd (true≢false (sym e))
+hosts-nothing mapper walk tries harmed w None e = loops-nothing harmed (loop_tries mapper walk tries w) e
+
+pub ask-nothing : DrownedAskFoundNothing
+unfolding ask
+ask-nothing w mapper tries walk e =
+    let hosts : Tried (Option ℕ) = host_tries mapper walk tries (all_given_up w) in hosts-nothing mapper walk tries hosts.harmed hosts.world hosts.found e
 
 pub ask-again : CanAskAgain
 ask-again w mapper tries walk next can other =

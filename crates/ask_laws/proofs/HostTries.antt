@@ -89,7 +89,7 @@ replied-so n mapper walk g number w probe reply p b (Delivery.struck used num he
     (ready-sent n mapper probe.world out g reply.world b.heeded.ready k (unstaged-reply probe.world g (record { number = number; back = way_back walk }) reply.world k b.heeded.unstaged))
     (kept-both w probe.world reply.world b.heeded.kept (kept-sent probe.world g out reply.world tt k))
     (inl (harm (probe.used_up || reply.used_up) w reply.world (omega (arith, more, h))))
-    (λ q. absurd (not_quiet w probe.world reply.world b.heeded.kept k.injected planned q))
+    (λ q. absurd (not_quiet w probe.world reply.world b.heeded.kept k.injected more planned q))
 replied-so n mapper walk g number w probe reply p b (Delivery.astray used num heard k same away) = absurd (away mapper (reply-place n mapper g walk p.fabric b.at))
 replied-so n mapper walk g number w probe reply p b (Delivery.delivered to base left used num at k same world heard) =
     let out : Outgoing = reply_of number walk in

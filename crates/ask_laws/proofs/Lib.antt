@@ -13,3 +13,4 @@ pub mod Probing
 pub mod HostTries
 pub mod LoopTries
 pub mod Answering
+pub mod Lost

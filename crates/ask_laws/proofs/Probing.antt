@@ -45,14 +45,16 @@ pub record Delivered (n : Network) (mapper : ℕ) (route : List ℤ) (body : Map
   pub world : s.world ≡ (hears_in base host body).1
   pub heard : told s.effects ≡ told ((hears_in base host body).0 ∷ [])
 
--- a fault was planned for the injection that is the next, so the injections weren't quiet
-pub not_quiet : (w u v : WorldState) → IsAskKept w u → v.injected ≡ u.injected + 1 → lookup (nat_eq (u.injected + 1)) u.plan ≢ None → IsQuietTo w v → ⊥
-not_quiet w u v k e planned q =
-    let i = k.injected in planned (k.unplanned (u.injected + 1) (q.unplanned (u.injected + 1) (omega (arith, i)) (omega (arith, e))))
+-- a fault struck the next injection, so the injections weren't quiet
+pub not_quiet : (w u v : WorldState) → IsAskKept w u → v.injected ≡ u.injected + 1 → u.harmed < v.harmed → lookup (nat_eq (u.injected + 1)) u.plan ≢ None → IsQuietTo w v → ⊥
+not_quiet w u v k e more planned (IsQuietTo.unplanned none left) =
+    let i = k.injected in planned (k.unplanned (u.injected + 1) (none (u.injected + 1) (omega (arith, i)) (omega (arith, e))))
+not_quiet w u v k e more planned (IsQuietTo.unharmed same left) = let h = k.harmed in absurd (omega (arith, h, more, same))
 
 -- none were left
 pub none-quiet : (w v : WorldState) → last_count ≤ v.injected → IsQuietTo w v → ⊥
-none-quiet w v most q = let l = q.left in omega (arith, most, l)
+none-quiet w v most (IsQuietTo.unplanned none left) = absurd (omega (arith, most, left))
+none-quiet w v most (IsQuietTo.unharmed same left) = absurd (omega (arith, most, left))
 
 sent-so : (n : Network) (mapper : ℕ) (walk : List ℤ) (looped : Bool) (route : List ℤ) (body : MappingBody) (w : WorldState) (s : Sent) → mapper < host_count (staged_in w mapper walk looped) → Ready n mapper (staged_in w mapper walk looped) → Delivery n (staged_in w mapper walk looped) mapper (Probe walk looped) route body s → Silent n mapper route w s ⊎ Delivered n mapper route body ((staged_in w mapper walk looped).injected + 1) w s
 sent-so n mapper walk looped route body w s low r (Delivery.no_cable none used number heard same) =
@@ -84,7 +86,7 @@ sent-so n mapper walk looped route body w s low r (Delivery.struck used number h
       ready = ready-sent n mapper u (Probe walk looped) mapper s.world r k (unstaged-probe n mapper u walk looped s.world r low k);
       kept = kept-both w u s.world first (kept-sent u mapper (Probe walk looped) s.world tt k);
       missed = inl (harm s.used_up w s.world (omega (arith, more, h)));
-      unharmed = λ q. absurd (not_quiet w u s.world first k.injected planned q);
+      unharmed = λ q. absurd (not_quiet w u s.world first k.injected more planned q);
     })
 sent-so n mapper walk looped route body w s low r (Delivery.astray used number heard k same away) =
     let u : WorldState = staged_in w mapper walk looped in

@@ -51,17 +51,17 @@ flip-fate s c held bit pattern true e is =
     Fate.spoilt new refl refl refl (other-lone s c held new is) (λ low m none. flip-differs held bit pattern e low none)
 flip-fate s c held bit pattern false e is = Fate.missed refl
 
-fault-fate : (s : LinkState) (c : ℕ) (held : Held) (f : Fault) → c < channel_count s.net → HasLone s c held → Fate s c held f (fault_on s c f)
-fault-fate s c held f low e = by f (packet_in s c) refl
-  where
-    there : packet_in s c ≡ Some held
-    there = ap (λ t. packet_in t c) (has-lone s c held e) ∙ lone-there s c held low
+there : (s : LinkState) (c : ℕ) (held : Held) → c < channel_count s.net → HasLone s c held → packet_in s c ≡ Some held
+there s c held low e = ap (λ t. packet_in t c) (has-lone s c held e) ∙ lone-there s c held low
 
-    by : (f : Fault) (o : Option Held) → packet_in s c ≡ o → Fate s c held f (fault_on s c f)
-    by LoseFault o p = Fate.taken refl (ap is_some there) refl (take-lone s c held e)
-    by RepeatFault o p = subst (λ q. Fate s c held RepeatFault (is_some (repeat_of s c q).0, (repeat_of s c q).1)) (sym there) (repeat-fate s c held (is_used_up s) e)
-    by HoldFault o p = subst (λ q. Fate s c held HoldFault (is_some (hold_of s c q).0, (hold_of s c q).1)) (sym there) (hold-fate s c held (is_used_up s) e)
-    by (FlipFault bit pattern) o p = subst (λ q. Fate s c held (FlipFault bit pattern) (flip_of s c bit pattern q)) (sym there) (flip-fate s c held bit pattern (not held.marked && may_flip held.wire bit pattern) refl e)
+fault-fate : (s : LinkState) (c : ℕ) (held : Held) (f : Fault) → c < channel_count s.net → HasLone s c held → Fate s c held f (fault_on s c f)
+fault-fate s c held LoseFault low e = Fate.taken refl (ap is_some (there s c held low e)) refl (take-lone s c held e)
+fault-fate s c held RepeatFault low e =
+    subst (λ q. Fate s c held RepeatFault (is_some (repeat_of s c q).0, (repeat_of s c q).1)) (sym (there s c held low e)) (repeat-fate s c held (is_used_up s) e)
+fault-fate s c held HoldFault low e =
+    subst (λ q. Fate s c held HoldFault (is_some (hold_of s c q).0, (hold_of s c q).1)) (sym (there s c held low e)) (hold-fate s c held (is_used_up s) e)
+fault-fate s c held (FlipFault bit pattern) low e =
+    subst (λ q. Fate s c held (FlipFault bit pattern) (flip_of s c bit pattern q)) (sym (there s c held low e)) (flip-fate s c held bit pattern (not held.marked && may_flip held.wire bit pattern) refl e)
 
 -- What a strike keeps of the world.
 pub record StrikeKeeps (u v : WorldState) : Type 0 where

@@ -99,10 +99,10 @@ pub record Premises (n : Network) (mapper : ℕ) (walk : List ℤ) : Type 0 wher
   pub turns : AllByRecursion IsTurn walk
   pub few_turns : length walk ≤ 64
 
--- no fault is planned for the injections between two worlds, and injections are left
-pub record IsQuietTo (w v : WorldState) : Type 0 where
-  pub unplanned : (number : ℕ) → w.injected < number → number ≤ v.injected → lookup (nat_eq number) w.plan ≡ None
-  pub left : v.injected < last_count
+-- no fault that harms struck between two worlds, or none was planned for an injection between them; and injections are left
+pub data IsQuietTo (w v : WorldState) : Type 0 where
+  unplanned : ((number : ℕ) → w.injected < number → number ≤ v.injected → lookup (nat_eq number) w.plan ≡ None) → v.injected < last_count → IsQuietTo w v
+  unharmed : v.harmed ≡ w.harmed → v.injected < last_count → IsQuietTo w v
 
 -- What a try comes to: it finds what is there, or a fault met it, or it isn't there.
 pub record IsTry {A : Type 0} (n : Network) (mapper : ℕ) (is_found : A → Bool) (Sound : A → Type 0) (Absent : Type 0) (w : WorldState) (t : Tried A) : Type 0 where

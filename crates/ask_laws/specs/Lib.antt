@@ -1,3 +1,4 @@
+pub mod Examples
 pub mod Premises
 pub mod Row
 pub mod Kept

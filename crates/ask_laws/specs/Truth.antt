@@ -19,3 +19,13 @@ QuietAskIsHeard =
     (w : WorldState) (mapper tries : ℕ) (walk : List ℤ) → CanAsk w mapper walk → 0 < tries
     → ((number : ℕ) → w.injected < number → number ≤ (ask mapper tries walk w).world.injected → lookup (nat_eq number) w.plan ≡ None)
     → (ask mapper tries walk w).world.injected < last_count → (ask mapper tries walk w).drowned ≡ false
+
+-- a drowned ask answers that nothing was found
+abbrev pub DrownedAskFoundNothing : Type 0
+DrownedAskFoundNothing = (w : WorldState) (mapper tries : ℕ) (walk : List ℤ) → (ask mapper tries walk w).drowned ≡ true → (ask mapper tries walk w).answer ≡ Nothing
+
+-- where an ask with a try at least drowned, a planned fault harmed a packet of it, or the injections were used up
+abbrev pub DrownedAskWasHarmed : Type 0
+DrownedAskWasHarmed =
+    (w : WorldState) (mapper tries : ℕ) (walk : List ℤ) → CanAsk w mapper walk → 0 < tries → (ask mapper tries walk w).drowned ≡ true
+    → (w.harmed < (ask mapper tries walk w).world.harmed) ⊎ (last_count ≤ (ask mapper tries walk w).world.injected)
