@@ -1,0 +1,5 @@
+pub mod After
+pub mod Choosing
+pub mod First
+pub mod Going
+pub mod Kept

@@ -1,0 +1,9 @@
+use Rattle.std.proofs.Common.{◌∙◌}
+use Rattle.gm_defs.specs.Body.{ack_bytes}
+use Rattle.nic_node.proofs.First.{packet-as}
+use Rattle.nic_node.proofs.sending.ack_packet.Goals as goal
+
+pub returns : goal.returns
+returns c =
+    packet-as c.encode.result c.turns.result.now c.args.by.now c.deref.result.now (ack_bytes c.args.ack.now) c.turns.ensures.value (c.deref.ensures.value ∙ c.in_ok-payload.ensures.bytes)
+    c.encode.ensures

@@ -1,0 +1,169 @@
+//! One host.
+
+ghost use Rattle.std.specs.Prelude.{◌≡◌, ◌<◌, ◌≤◌, nat_lt, length, replicate, true, if◌then◌else◌, Some, None, IfOk};
+ghost use Rattle.gm_defs.specs.Mapping.{is_part};
+ghost use Rattle.world_defs.specs.Node.{StagedProbe, StagedPart, port_count, has_staged, given_up, node_expired, unacknowledged_to, peer_at};
+ghost use Rattle.world_defs.specs.Table.{active_epoch};
+ghost use Rattle.nic_node.specs.Held.{unused_node, in_state};
+
+use host_items::Items;
+use host_peers::{Message, Peers};
+use host_ports::Ports;
+use net_defs::Walk;
+use route_install::Table;
+use route_parts::RoutePart;
+use std::alloc::{AllocError, Global};
+use std::marker::Model;
+
+/// One host among others. Contracts see the host of the world that its parts make, beside its address and the number of hosts.
+///
+/// It must be spent, by [`NicNode::end`] once all of its ports are closed.
+pub struct NicNode {
+    pub(crate) host: u16,
+    pub(crate) items: Items,
+    pub(crate) table: Table,
+    pub(crate) peers: Peers,
+    pub(crate) ports: Ports,
+}
+
+impl Model for NicNode {
+    ghost use Rattle.std.specs.Prelude.{length};
+    ghost use Rattle.nic_node.specs.Held.{HostNode, state_of, AreOfHost};
+
+    ghost Value = { HostNode };
+
+    ghost view = { λ n. record { host = n.host; hosts = length n.peers.peers; state = state_of n.items n.table n.peers n.ports } };
+
+    ghost invariant = { λ n. AreOfHost n.host n.table n.peers n.ports };
+}
+
+impl NicNode {
+    /// A host among so many, before anything happened.
+    pub fn new(alloc: Global, host: u16, hosts: u16) -> Result<NicNode, AllocError>
+        requires { host < hosts }
+        ensures { IfOk result (λ n. n ≡ unused_node host hosts) }
+    {
+        let peers = Peers::new(alloc, host, hosts)?;
+        let ports = Ports::new(alloc, host)?;
+        Ok(NicNode {
+            host,
+            items: Items::new(),
+            table: Table::new(alloc, host),
+            peers,
+            ports,
+        })
+    }
+
+    /// Its address, and how many hosts there are.
+    pub fn host(&self) -> u16
+        ensures host { result ≡ self.now.host }
+        ensures among { result < self.now.hosts }
+    {
+        self.host
+    }
+
+    /// How many hosts there are.
+    pub fn hosts(&self) -> u16
+        ensures hosts { result ≡ self.now.hosts }
+        ensures peers { result ≡ length self.now.state.peers }
+    {
+        self.peers.count()
+    }
+
+    /// Stages a probe of a walk, in the place of what was staged before. A looped one returns to this host: its walk has at most 31 turns.
+    pub fn ask(&mut self, walk: Walk, looped: bool)
+        requires { looped ≡ true → length walk ≤ 31 }
+        ensures { self.new ≡ in_state self.old (record self.old.state { staged = Some (StagedProbe walk looped) }) }
+    {
+        self.items.ask(walk, looped);
+    }
+
+    /// Stages a part of a table, in the place of what was staged before; it travels by a route. The part is by the rules of its body.
+    pub fn part(&mut self, part: RoutePart, by: Walk)
+        requires { is_part part ≡ true }
+        ensures { self.new ≡ in_state self.old (record self.old.state { staged = Some (StagedPart part by) }) }
+    {
+        self.items.part(part, by);
+    }
+
+    /// Puts a table of this host in the place of the one that it has.
+    pub fn take_table(&mut self, table: Table)
+        requires { table.host ≡ self.old.host }
+        ensures { self.new ≡ in_state self.old (record self.old.state { table = table.state }) }
+    {
+        self.table = table;
+    }
+
+    /// Drops the staged probe or part, the reply to a probe and the acknowledgement of a part. False exactly where none of them stood.
+    pub fn give_up(&mut self) -> bool
+        ensures told { result ≡ has_staged self.old.state }
+        ensures after { self.new ≡ in_state self.old (given_up self.old.state) }
+    {
+        self.items.give_up()
+    }
+
+    /// What a peer didn't acknowledge is sent again. False exactly where nothing is unacknowledged, and then nothing changes.
+    pub fn expire(&mut self, peer: u16) -> bool
+        requires { peer < self.old.hosts }
+        ensures told { result ≡ nat_lt 0 (unacknowledged_to self.old.state peer) }
+        ensures after { self.new ≡ in_state self.old (if result then node_expired self.old.state peer else self.old.state) }
+    {
+        if self.peers.unacked(peer) == 0 {
+            return false;
+        }
+        self.peers.expire(peer);
+        true
+    }
+
+    /// Its table.
+    pub fn table(&self) -> &Table
+        ensures { result.now ≡ record { host = self.now.host; state = self.now.state.table } }
+    {
+        &self.table
+    }
+
+    /// The epoch of its active table.
+    pub fn active(&self) -> Option<u32>
+        ensures { result ≡ active_epoch self.now.state.table }
+    {
+        self.table.active()
+    }
+
+    /// The messages that were accepted for a peer, in order.
+    pub fn sent(&self, peer: u16) -> &[Message]
+        requires { peer < self.now.hosts }
+        ensures { result.now ≡ (peer_at self.now.state peer).sent }
+    {
+        self.peers.sent(peer)
+    }
+
+    /// The messages that were taken from a peer, in order.
+    pub fn got(&self, peer: u16) -> &[Message]
+        requires { peer < self.now.hosts }
+        ensures { result.now ≡ (peer_at self.now.state peer).got }
+    {
+        self.peers.got(peer)
+    }
+
+    /// How many fragments to a peer aren't acknowledged, sent or not.
+    pub fn unacked(&self, peer: u16) -> u32
+        requires { peer < self.now.hosts }
+        ensures { result ≡ unacknowledged_to self.now.state peer }
+    {
+        self.peers.unacked(peer)
+    }
+
+    /// Spends a host whose ports are all closed.
+    pub fn end(self)
+        requires { self.state.ports ≡ replicate port_count None }
+    {
+        let NicNode {
+            host: _,
+            items: _items,
+            table: _table,
+            peers: _peers,
+            ports,
+        } = self;
+        ports.end();
+    }
+}

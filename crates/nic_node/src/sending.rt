@@ -1,0 +1,94 @@
+//! The packet that a host sends next.
+
+ghost use Rattle.std.specs.Prelude.{◌≡◌, ◌<◌, ℕ, is_some, option_map, length, true, IfOk};
+ghost use Rattle.packet_defs.specs.Packet.{packet_of};
+ghost use Rattle.gm_defs.specs.Body.{is_head, frame_bytes, ack_bytes};
+ghost use Rattle.world_defs.specs.Node.{owed_to, due_to, to_send, packet_for, peer_at};
+ghost use Rattle.nic_node.specs.Held.{in_state};
+ghost use Rattle.nic_node.specs.Sending.{after_first};
+
+use crate::next::NextSend;
+use crate::node::NicNode;
+use gm_frame::{encode_ack, encode_frame};
+use host_peers::{Ack, DueFrame};
+use myri_packet::{Kind, Packet, encode};
+use net_defs::Walk;
+use std::alloc::{AllocError, Global};
+
+impl NicNode {
+    /// Whether it has something to send.
+    pub fn has_to_send(&self) -> bool
+        ensures { result ≡ is_some (to_send self.now.host self.now.state) }
+    {
+        self.next_send().is_some()
+    }
+
+    /// The packet of what it sends first, injected under a number. None exactly where it has nothing to send. It stays as it is: see
+    /// [`NicNode::staged`].
+    pub fn stage(&self, alloc: Global, number: u64) -> Result<Option<Packet>, AllocError>
+        ensures { IfOk result (λ packet. packet ≡ option_map (packet_for self.now.host number) (to_send self.now.host self.now.state)) }
+    {
+        match self.next_send() {
+            Some(NextSend::Item) => self.items.packet(alloc, self.host, number),
+            Some(NextSend::Answer(peer)) => self.answer_packet(alloc, peer),
+            Some(NextSend::Fragment(peer)) => self.fragment_packet(alloc, peer),
+            None => Ok(None),
+        }
+    }
+
+    /// What it sends first counts as sent. Nothing changes where it has nothing to send.
+    pub fn staged(&mut self)
+        ensures { self.new ≡ in_state self.old (after_first self.old) }
+    {
+        match self.next_send() {
+            Some(NextSend::Item) => self.items.sent(),
+            Some(NextSend::Answer(peer)) => self.peers.answered(peer),
+            Some(NextSend::Fragment(peer)) => self.peers.sent_one(peer),
+            None => {}
+        }
+    }
+
+    // The packet of the acknowledgement that is owed to a peer, where the table has a route.
+    fn answer_packet(&self, alloc: Global, peer: u16) -> Result<Option<Packet>, AllocError>
+        requires within { peer < self.now.hosts }
+        requires owes { (peer_at self.now.state peer).owes ≡ true }
+        ensures { (number : ℕ) → IfOk result (λ packet. packet ≡ option_map (packet_for self.now.host number) (owed_to self.now.state peer)) }
+    {
+        match self.table.route(peer) {
+            Some(by) => Ok(Some(ack_packet(alloc, &self.peers.ack(peer), by)?)),
+            None => Ok(None),
+        }
+    }
+
+    // The packet of the fragment that is due to a peer, where one is and the table has a route.
+    fn fragment_packet(&self, alloc: Global, peer: u16) -> Result<Option<Packet>, AllocError>
+        requires { peer < self.now.hosts }
+        ensures { (number : ℕ) → IfOk result (λ packet. packet ≡ option_map (packet_for self.now.host number) (due_to self.now.host self.now.state peer)) }
+    {
+        let Some(frame) = self.peers.due(peer) else {
+            return Ok(None);
+        };
+        match self.table.route(peer) {
+            Some(by) => Ok(Some(frame_packet(alloc, &frame, by)?)),
+            None => Ok(None),
+        }
+    }
+}
+
+// The packet of an acknowledgement, by a route.
+fn ack_packet(alloc: Global, ack: &Ack, by: &Walk) -> Result<Packet, AllocError>
+    ensures { IfOk result (λ packet. packet ≡ packet_of by.now Kind.Gm (ack_bytes ack.now)) }
+{
+    let payload = encode_ack(alloc, ack)?;
+    encode(alloc, by.turns(), Kind::Gm, &payload)
+}
+
+// The packet of a fragment, by a route.
+fn frame_packet(alloc: Global, frame: &DueFrame<'_>, by: &Walk) -> Result<Packet, AllocError>
+    requires head { is_head frame.now.head ≡ true }
+    requires part { length frame.now.part.now ≡ frame.now.head.len }
+    ensures { IfOk result (λ packet. packet ≡ packet_of by.now Kind.Gm (frame_bytes frame.now.head frame.now.part.now)) }
+{
+    let payload = encode_frame(alloc, &frame.head, frame.part)?;
+    encode(alloc, by.turns(), Kind::Gm, &payload)
+}
