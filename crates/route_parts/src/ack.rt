@@ -1,7 +1,6 @@
 //! The acknowledgement of a part.
 
-ghost use Rattle.std.specs.Prelude.{◌≡◌, Some, IfOk};
-ghost use Rattle.net_defs.specs.Refusal.{Refuses};
+ghost use Rattle.std.specs.Prelude.{◌≡◌, Some, IfOk, IfErr};
 ghost use Rattle.gm_defs.specs.Mapping.{mapping_bytes, decode_mapping};
 ghost use Rattle.route_parts.specs.Reading.{ack_body, ack_in, missing};
 
@@ -40,7 +39,7 @@ impl PartAck {
     /// The acknowledgement that is all of the bytes. `Malformed` exactly where they are none; it takes no memory.
     pub fn decode(bytes: &[u8]) -> Result<PartAck, BodyFault>
         ensures ok { IfOk result (λ ack. decode_mapping bytes.now ≡ Some (ack_body ack)) }
-        ensures refused { Refuses (missing (ack_in bytes.now)) BodyFault.Malformed result }
+        ensures refused { IfErr result (λ fault. missing (ack_in bytes.now) ≡ Some fault) }
     {
         let Some((KIND, rest)) = byte_front(bytes) else {
             return Err(BodyFault::Malformed);
