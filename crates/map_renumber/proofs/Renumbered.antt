@@ -36,9 +36,6 @@ moved_to p q a e = omega (arith, ints)
 less_is_neg : (p a : ℤ) → p -ℤ a ≡ p +ℤ neg_ℤ a
 less_is_neg p a = omega (arith, ints)
 
-cancelled : (p q a : ℤ) → p +ℤ neg_ℤ a ≡ q -ℤ a → p ≡ q
-cancelled p q a e = omega (arith, ints)
-
 module _ (m : NetMap) (is_map : IsMap m) (h : ℕ) (host : host_of_vertex m 0 ≡ Some h) (connected : IsConnected m) (found : List MapPort) (numbers : List (Option ℕ)) (ways : List Node) (s : IsSearch m found numbers ways (length m.vertices) 0) where
   abbrev image : ℕ → ℕ
   image = number_of numbers

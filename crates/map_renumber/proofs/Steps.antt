@@ -1,5 +1,5 @@
 -- The steps of a search as the code takes them, with pairs for ports.
-use Rattle.std.proofs.Common.{◌≡◌, ◌<◌, ◌+◌, ◌⊎◌, inl, inr, ℕ, zero, suc, List, [], ◌∷◌, ◌++◌, map, true, length, get_or, set, replicate, Option, Some, None, is_some, refl, ap, sym, ◌∙◌, subst, arith, w8, to_z, of_z, FitsSigned}
+use Rattle.std.proofs.Common.{◌≡◌, ◌<◌, ◌+◌, ◌⊎◌, inl, inr, ℕ, List, [], ◌∷◌, ◌++◌, map, true, length, get_or, set, replicate, Option, Some, None, is_some, refl, ap, sym, ◌∙◌, subst, arith, w8, to_z, of_z, FitsSigned}
 use Rattle.std.specs.Prelude.{ℤ, pos, ◌+ℤ◌, ◌-ℤ◌, slice_get}
 use Rattle.std.proofs.lemmas.Bool.{false≢true}
 use Rattle.std.proofs.lemmas.Bool.Decides.{nat_tests}
@@ -9,9 +9,8 @@ use Rattle.std.proofs.lemmas.Option.{slice_get-get_or, get_or_from_slice_get}
 use Rattle.net_defs.specs.Turn.{IsTurn, is_turn}
 use Rattle.journal_defs.specs.Tree.{Node}
 use Rattle.journal_defs.specs.Tree.Node.{Mapper}
-use Rattle.map_defs.specs.declared.vertex.MapVertex.{MapVertex}
 use Rattle.map_defs.specs.declared.vertex.MapCable.{MapCable}
-use Rattle.map_defs.specs.NetMap.{NetMap, MapPort, IsMap, IsCabled, IsConnected, first_end, second_end, host_at, host_of_vertex, map_far}
+use Rattle.map_defs.specs.NetMap.{NetMap, MapPort, IsMap, IsCabled, IsConnected, first_end, second_end, host_of_vertex, map_far}
 use Rattle.map_defs.specs.NetMap.IsCabled.{forth, back}
 use Rattle.map_defs.proofs.Ports.{far_is_cabled}
 use Rattle.map_laws.proofs.Least.{below-get, get-map}
@@ -19,7 +18,7 @@ use Rattle.fabric_map.specs.Table.{far_pair, pair_of}
 use Rattle.fabric_map.proofs.Ends.{port-holds}
 use Rattle.fabric_map.proofs.Tables.{shift}
 use Rattle.map_renumber.specs.Canon.{start_port, is_of_core}
-use Rattle.map_renumber.specs.Search.{HasNumber, GoesOn, GoesOnFrom, IsBehind, free, IsSearch, IsSearchTo, IsKnown, after, turn_at, port_of_pair, entry_of}
+use Rattle.map_renumber.specs.Search.{HasNumber, GoesOn, GoesOnFrom, IsBehind, IsSearch, IsSearchTo, IsKnown, after, turn_at, port_of_pair, entry_of}
 use Rattle.map_renumber.proofs.Places.{one-there, push-old, get-less}
 use Rattle.map_renumber.proofs.Levels.{far-back}
 use Rattle.map_renumber.proofs.Finds.{search-skip, search-row, search-past, search-find}
@@ -69,11 +68,6 @@ less-entry p x a t u is =
     ∙ ap (λ z. to_z w8 (of_z w8 (p -ℤ z))) (to_z-of_z w8 a (turn-fits a u))
     ∙ to_z-of_z w8 (p -ℤ a) fits
 
--- a host is a vertex
-pub host-low : (vs : List MapVertex) (h : ℕ) → host_at (slice_get vs 0) ≡ Some h → 0 < length vs
-host-low [] h e = cc
-host-low (x ∷ vs) h e = omega arith
-
 pub begins : (m : NetMap) (items : List (ℕ × ℤ)) (numbers : List (Option ℕ)) → 0 < length m.vertices → items ≡ (0, pos 0) ∷ [] → numbers ≡ set (replicate (length m.vertices) None) 0 (Some 0) → IsSearchTo m items numbers 0 0
 begins m items numbers l a b = record { ways = Mapper ∷ []; search = subst (λ (ps : List (ℕ × ℤ)). IsSearch m (map port_of_pair ps) numbers (Mapper ∷ []) 0 0) (sym a) (search-begin m numbers l b) }
 
@@ -95,16 +89,7 @@ module _ (m : NetMap) (items : List (ℕ × ℤ)) (numbers : List (Option ℕ)) 
       by (inl z) = ap (λ (y : MapPort). is_turn y.p) (one-there found 0 (port_of_pair d) start_port (subst (λ n. slice_get found n ≡ Some (port_of_pair d)) z there) s.search.start_entry)
       by (inr b) = port-holds (λ (y : MapPort). IsTurn y.p) m.cables (port_of_pair d) (record { v = b.entry.v; p = b.entry.p +ℤ turn_at b.place }) is_map.ports_in_range (far-back m (record { v = b.entry.v; p = b.entry.p +ℤ turn_at b.place }) (port_of_pair d) is_map b.far)
 
-  -- fewer were found than there are vertices
-  pub found-few : (x : ℕ) → slice_get numbers x ≡ Some None → length items < length m.vertices
-  found-few x e = let a = free-some numbers x e in let b = s.search.left in let c = length-map items port_of_pair in omega arith
-    where
-      free-some : (os : List (Option ℕ)) (i : ℕ) → slice_get os i ≡ Some None → 0 < free os
-      free-some [] i q = cc
-      free-some (None ∷ os) i q = omega arith
-      free-some (Some y ∷ os) zero q = cc
-      free-some (Some y ∷ os) (suc i) q = free-some os i q
-
+  -- a port behind which nothing is new
   pub skips : (d : ℕ × ℤ) → slice_get items next ≡ Some d → ((e : MapPort) → map_far m (record { v = d.0; p = d.1 +ℤ turn_at k }) ≡ Some e → (x : ℕ) × HasNumber numbers e.v x) → IsSearchTo m items numbers next (k + 1)
   skips d at known = record { ways = s.ways; search = search-skip m found numbers s.ways next k s.search (port_of_pair d) (get-map port_of_pair items next d at) known }
 
