@@ -16,6 +16,7 @@ mod hearing;
 mod mapping;
 mod next;
 mod node;
+mod ports;
 mod sending;
 #[cfg(test)]
 mod tests;
@@ -23,5 +24,6 @@ mod tests;
 pub use host_items::{Packet, RoutePart};
 pub use host_messages::{Arrival, Heard};
 pub use host_peers::Message;
+pub use host_ports::{NotOpen, PortBegin, PortClose, PortEvent, PortProvide, Wreck};
 pub use node::NicNode;
 pub use route_install::Table;

@@ -1,0 +1,110 @@
+//! The calls of a host's clients, each on one of its ports.
+
+ghost use Rattle.std.specs.Prelude.{◌≡◌, ◌<◌, map, true, is_some, None, Some, IfOk, IfErr, IfSome, OnOk, OnErr, MatchResult, option_map};
+ghost use Rattle.std.specs.Option.{ForSome};
+ghost use Rattle.net_defs.specs.Refusal.{Refuses};
+ghost use Rattle.gm_defs.specs.Token.{opened, place_of_recv};
+ghost use Rattle.gm_defs.specs.Port.{provided_with, next_event, polled};
+ghost use Rattle.gm_tokens.specs.Token.{token_at};
+ghost use Rattle.gm_port.specs.Held.{send_at, receive_at, event_at};
+ghost use Rattle.world_defs.specs.Node.{port_at, with_port};
+ghost use Rattle.host_ports.specs.Held.{place_at};
+ghost use Rattle.host_ports.specs.Refusal.{begin_bar, provide_bar, close_bar};
+ghost use Rattle.nic_node.specs.Held.{in_state};
+
+use crate::node::NicNode;
+use gm_defs::TokenPlace;
+use gm_tokens::RecvToken;
+use host_ports::{NotOpen, PortBegin, PortClose, PortEvent, PortProvide, Wreck};
+use reg_mem::Reg;
+use std::alloc::Global;
+
+impl NicNode {
+    /// Opens a port with room for all of its tokens. A refusal changes nothing: Already exactly where the port is open.
+    pub fn begin(
+        &mut self,
+        alloc: Global,
+        port: u8,
+        sends: u16,
+        recvs: u16,
+    ) -> Result<(), PortBegin>
+        requires { port < 8 }
+        ensures refused { Refuses (begin_bar (port_at self.old.state port)) PortBegin.NoMemory result }
+        ensures begun { OnOk result (self.new ≡ in_state self.old (with_port self.old.state port (Some (opened sends recvs)))) }
+        ensures unchanged { OnErr result (self.new ≡ self.old) }
+    {
+        self.ports.begin(alloc, port, sends, recvs)
+    }
+
+    /// Closes a port, and hands each provided token back with its buffer, first provided first. A refusal changes nothing: NotOpen, Busy where
+    /// sends aren't finished, Unread where events wait.
+    pub fn close(&mut self, port: u8) -> Result<Vec<(RecvToken, Reg)>, PortClose>
+        requires { port < 8 }
+        ensures refused { MatchResult result (λ _. close_bar (port_at self.old.state port) ≡ None) (λ e. close_bar (port_at self.old.state port) ≡ Some e) }
+        ensures unchanged { OnErr result (self.new ≡ self.old) }
+        ensures closed { OnOk result (self.new ≡ in_state self.old (with_port self.old.state port None)) }
+        ensures provided { IfOk result (λ v. IfSome (port_at self.old.state port) (λ p. v.items ≡ map (receive_at self.old.host port) p.provided)) }
+    {
+        self.ports.close(port)
+    }
+
+    /// Takes a buffer to receive into. A refusal hands token and buffer back and changes nothing: NotOpen, BadSize where the size is not from
+    /// 4 to 16 or the priority is above 1, BufferShort where the buffer has fewer bytes than its size has room for.
+    pub fn provide(
+        &mut self,
+        port: u8,
+        t: RecvToken,
+        b: Reg,
+        size: u8,
+        prio: u8,
+    ) -> Result<(), (RecvToken, Reg, PortProvide)>
+        requires port { port < 8 }
+        requires own { t ≡ token_at self.old.host port t.number }
+        requires minted { ForSome (port_at self.old.state port) (λ p. t.number < p.recvs) }
+        requires free { ForSome (port_at self.old.state port) (λ p. place_of_recv p t.number ≡ None) }
+        ensures refused { MatchResult result (λ _. provide_bar (port_at self.old.state port) b size prio ≡ None) (λ e. provide_bar (port_at self.old.state port) b size prio ≡ Some e.2) }
+        ensures handed_back { IfErr result (λ e. (e.0 ≡ t) × (e.1 ≡ b)) }
+        ensures unchanged { OnErr result (self.new ≡ self.old) }
+        ensures provided { OnOk result (self.new ≡ in_state self.old (with_port self.old.state port (option_map (λ s. provided_with s (record { token = t.number; size = size; prio = prio; buffer = b })) (port_at self.old.state port)))) }
+    {
+        self.ports.provide(port, t, b, size, prio)
+    }
+
+    /// Hands out the event that was put in first. None exactly where no event waits, NotOpen exactly where the port isn't open.
+    pub fn poll(&mut self, port: u8) -> Result<Option<PortEvent>, NotOpen>
+        requires { port < 8 }
+        ensures open { MatchResult result (λ _. is_some (port_at self.old.state port) ≡ true) (λ _. port_at self.old.state port ≡ None) }
+        ensures first { IfOk result (λ e. IfSome (port_at self.old.state port) (λ p. e ≡ option_map (event_at self.old.host port) (next_event p))) }
+        ensures rest { self.new ≡ in_state self.old (with_port self.old.state port (option_map (λ s. polled s) (port_at self.old.state port))) }
+    {
+        self.ports.poll(port)
+    }
+
+    /// Ends a port, whatever it holds, and hands all of it back. None exactly where the port isn't open.
+    pub fn abandon(&mut self, port: u8) -> Option<Wreck>
+        requires { port < 8 }
+        ensures open { is_some result ≡ is_some (port_at self.old.state port) }
+        ensures sending { IfSome result (λ w. IfSome (port_at self.old.state port) (λ p. w.sending.items ≡ map (send_at self.old.host port) p.queue)) }
+        ensures provided { IfSome result (λ w. IfSome (port_at self.old.state port) (λ p. w.provided.items ≡ map (receive_at self.old.host port) p.provided)) }
+        ensures events { IfSome result (λ w. IfSome (port_at self.old.state port) (λ p. w.events.items ≡ map (event_at self.old.host port) p.events)) }
+        ensures ended { self.new ≡ in_state self.old (with_port self.old.state port None) }
+    {
+        self.ports.abandon(port)
+    }
+
+    /// Whether a port is open.
+    pub fn is_open(&self, port: u8) -> bool
+        requires { port < 8 }
+        ensures { result ≡ is_some (port_at self.now.state port) }
+    {
+        self.ports.is_open(port)
+    }
+
+    /// The place of a send token or of a receive token of a port, by its number. None where the client has it, or the port isn't open.
+    pub fn token_place(&self, port: u8, send: bool, number: u16) -> Option<TokenPlace>
+        requires { port < 8 }
+        ensures { result ≡ place_at (port_at self.now.state port) send number }
+    {
+        self.ports.place(port, send, number)
+    }
+}
