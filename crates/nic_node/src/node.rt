@@ -54,7 +54,7 @@ impl NicNode {
         })
     }
 
-    /// Its address, and how many hosts there are.
+    /// Its address, which is below the number of hosts.
     pub fn host(&self) -> u16
         ensures host { result ≡ self.now.host }
         ensures among { result < self.now.hosts }
