@@ -1,5 +1,5 @@
 -- A packet reaches a host that the fabric has.
-use Rattle.std.proofs.Common.{◌≡◌, ◌<◌, ◌/◌, ◌%◌, ℕ, Bool, true, false, nat_eq, nat_lt, List, length, Option, Some, None, refl, subst, arith, if◌then◌else◌}
+use Rattle.std.proofs.Common.{◌≡◌, ◌<◌, ◌/◌, ◌%◌, ℕ, Bool, true, false, nat_eq, nat_lt, List, length, Option, Some, None, is_some, refl, sym, ap, ◌∙◌, subst, arith, if◌then◌else◌}
 use Rattle.std.specs.List.{slice_get}
 use Rattle.std.specs.Option.{option_map}
 use Rattle.std.proofs.lemmas.Bool.Decides.{nat_tests}
@@ -13,6 +13,7 @@ use Rattle.link_defs.specs.declared.turned.Turned.TheVariants.{Out, OutOfRange a
 use Rattle.link_defs.specs.declared.moved.Course.{Course}
 use Rattle.link_defs.specs.declared.moved.Course.TheVariants.{Arrives, Enters, Drops}
 use Rattle.link_defs.specs.declared.moved.Moved.TheVariants.{AtHost}
+use Rattle.link_defs.specs.Fault.{lose}
 use Rattle.link_defs.specs.Switch.{aim}
 use Rattle.link_defs.specs.Links.{Held, LinkState, packet_in, emptied}
 use Rattle.link_defs.specs.Advance.{course_by_channel, course_out, course_at, course_into, course, entered, gone_on, advance_of, advance}
@@ -65,3 +66,17 @@ host_there s c h wire fabric e = by (packet_in s c) e
     by : (o : Option Held) → (advance_of s c o).0 ≡ AtHost h wire → h < length s.net.hosts
     by None e = cc
     by (Some held) e = course-host s.net c held.wire h fabric (gone_on-host s c held (course s.net c held.wire) h wire e)
+
+-- what reaches a host is gone from its channel, as if it were lost
+pub taken_there : (s : LinkState) (c h : ℕ) (wire : List ℕ) → (advance s c).0 ≡ AtHost h wire → lose s c ≡ (true, (advance s c).1)
+taken_there s c h wire e = by (packet_in s c) refl e
+  where
+    gone : (held : Held) (to : Course) → to ≡ Arrives h → (gone_on s c held to).1 ≡ emptied s c
+    gone held to is = ap (λ t. (gone_on s c held t).1) is
+
+    by : (o : Option Held) → packet_in s c ≡ o → (advance_of s c o).0 ≡ AtHost h wire → lose s c ≡ (true, (advance_of s c o).1)
+    by None is e = cc
+    by (Some held) is e =
+        let there : is_some (packet_in s c) ≡ true = ap is_some is in
+        let out : (gone_on s c held (course s.net c held.wire)).1 ≡ emptied s c = gone held (course s.net c held.wire) (gone_on-host s c held (course s.net c held.wire) h wire e) in
+        ap (λ b. (b, emptied s c)) there ∙ ap (λ l. (true, l)) (sym out)

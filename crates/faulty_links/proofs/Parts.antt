@@ -22,6 +22,7 @@ use Rattle.world_defs.specs.Node.{Outgoing, packet_for, after_sending}
 use Rattle.world_defs.specs.World.{WorldState, last_count, counted, node_at, with_node, without_fault}
 use Rattle.world_defs.specs.Step.{of_links, of_limbo, of_replay, lost, was_reset, repeated, held, flipped, replayed, advanced, advanced_by, cause_at_switch, fault_on, is_harm, struck_by, fault_strikes, planned_strikes, sent_out}
 use Rattle.world_defs.specs.declared.fault.Fault.TheVariants.{Lose as LoseFault, Repeat as RepeatFault, Hold as HoldFault, Flip as FlipFault}
+use Rattle.faulty_links.proofs.Arrivals.{taken_there}
 use Rattle.faulty_links.specs.declared.gone.Gone.{Gone}
 use Rattle.faulty_links.specs.declared.gone.Gone.TheVariants.{Done, AtHost}
 use Rattle.faulty_links.specs.Held.{LinksAndPlan, with_part, heard_of, put_under_next, WorldHasItsPart, PartOfWorldWithPart, InjectionIsPut, InjectionIsIdle}
@@ -64,6 +65,13 @@ so F old p a x k l same effect links part w =
 pub lost_part : (w : WorldState) (p : LinksAndPlan) (c : ℕ) → lost (with_part w p) c ≡ (told (lose p.links c).0 Lost, with_part w (linked p (lose p.links c).1))
 unfolding lost
 lost_part w p c = of_links-part w p Lost (lose p.links c) (lose-idle p.links c)
+
+-- a packet that reaches a host is gone from its channel
+pub taken_part : (old p : LinksAndPlan) (c h : ℕ) (wire : List ℕ) (l : LinkState) → p ≡ old → MovedToHost h wire ≡ (advance p.links c).0 → l ≡ (advance p.links c).1
+    → (w : WorldState) → lost (with_part w old) c ≡ (Lost, with_part w (linked p l))
+taken_part old p c h wire l same moved links w =
+    ap (λ q. lost (with_part w q) c) (sym same) ∙ lost_part w p c
+    ∙ ap (λ o. (told o.0 Lost, with_part w (linked p o.1))) (taken_there p.links c h wire (sym moved)) ∙ ap (λ k. (Lost, with_part w (linked p k))) (sym links)
 
 pub reset_part : (w : WorldState) (p : LinksAndPlan) (c : ℕ) → was_reset (with_part w p) c ≡ (told (reset p.links c).0 WasReset, with_part w (linked p (reset p.links c).1))
 unfolding was_reset

@@ -3,12 +3,12 @@ use Rattle.std.specs.Prelude.{◌≡◌, ℕ, ◌+◌, ◌<◌, ◌||◌, Bool, 
 use Rattle.net_defs.specs.Network.{Network}
 use Rattle.link_defs.specs.Links.{LinkState, packet_in, put}
 use Rattle.world_defs.specs.declared.effect.Effect.{Effect}
-use Rattle.world_defs.specs.declared.effect.Effect.TheVariants.{Idle, Injected}
+use Rattle.world_defs.specs.declared.effect.Effect.TheVariants.{Idle, Injected, Lost}
 use Rattle.world_defs.specs.declared.fault.Fault.{Fault}
 use Rattle.world_defs.specs.Node.{Outgoing, packet_for, after_sending}
 use Rattle.world_defs.specs.Hearing.{hear}
 use Rattle.world_defs.specs.World.{WorldState, host_count, last_count, node_at, with_node}
-use Rattle.world_defs.specs.Step.{arrived, inject_one, planned_strikes}
+use Rattle.world_defs.specs.Step.{lost, arrived, inject_one, planned_strikes}
 use Rattle.faulty_links.specs.declared.gone.Gone.{Gone}
 use Rattle.faulty_links.specs.declared.gone.Gone.TheVariants.{Done, AtHost}
 
@@ -65,6 +65,11 @@ heard_of w (AtHost h wire) = arrived w h (hear h (host_count w) (node_at w h) wi
 abbrev pub IsToHostOf : Network → Gone (List ℕ) → Type 0
 IsToHostOf n (Done effect) = Unit {0}
 IsToHostOf n (AtHost h wire) = h < length n.hosts
+
+-- a packet that reached a host is gone from its channel, as if it were lost there
+abbrev pub IsTaken : LinksAndPlan → ℕ → LinksAndPlan → Gone (List ℕ) → Type 0
+IsTaken old c new (Done effect) = Unit {0}
+IsTaken old c new (AtHost h wire) = (w : WorldState) → lost (with_part w old) c ≡ (Lost, with_part w new)
 
 -- a world with its own part is that world
 abbrev pub WorldHasItsPart : Type 0

@@ -3,7 +3,7 @@
 ghost use Rattle.std.specs.Prelude.{◌≡◌, ◌<◌, length};
 ghost use Rattle.world_defs.specs.World.{WorldState, with_drop};
 ghost use Rattle.world_defs.specs.Step.{advanced, cause_at_switch};
-ghost use Rattle.faulty_links.specs.Held.{with_part, heard_of, IsToHostOf};
+ghost use Rattle.faulty_links.specs.Held.{with_part, heard_of, IsToHostOf, IsTaken};
 
 use super::FaultyLinks;
 use crate::gone::Gone;
@@ -25,6 +25,7 @@ impl FaultyLinks {
         requires { c < length self.old.links.channels }
         ensures gone { (w : WorldState) → advanced (with_part w self.old) c ≡ heard_of (with_part w self.new) result }
         ensures host { IsToHostOf self.old.links.net result }
+        ensures taken { IsTaken self.old c self.new result }
     {
         match self.links.advance(c) {
             Moved::To(next) => Gone::Done(Effect::Moved(next)),

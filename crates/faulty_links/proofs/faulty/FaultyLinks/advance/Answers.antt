@@ -6,7 +6,7 @@ use Rattle.link_defs.specs.Step.{Advance}
 use Rattle.link_defs.proofs.Shapes.{stepped-net}
 use Rattle.faulty_links.proofs.Arrivals.{host_there}
 use Rattle.faulty_links.specs.Held.{LinksAndPlan, part_of, with_part}
-use Rattle.faulty_links.proofs.Parts.{goes}
+use Rattle.faulty_links.proofs.Parts.{goes, taken_part}
 use Rattle.faulty_links.proofs.faulty.FaultyLinks.advance.Goals as goal
 
 pub returns-in-To-clause-gone : goal.returns-in-To-clause-gone
@@ -42,3 +42,8 @@ pub returns-in-Empty-clause-gone : goal.returns-in-Empty-clause-gone
 returns-in-Empty-clause-gone c =
     let p : LinksAndPlan = part_of c.self.inside.links c.self.inside.plan c.self.inside.counts in
     goes c.args.self.now p _ c.args.c Empty c.advance.new.self c.self.view_is c.in-Empty.ensures.moved c.advance.ensures.links refl
+
+pub returns-in-AtHost-clause-taken : goal.returns-in-AtHost-clause-taken
+returns-in-AtHost-clause-taken c =
+    let p : LinksAndPlan = part_of c.self.inside.links c.self.inside.plan c.self.inside.counts in
+    taken_part c.args.self.now p c.args.c c.in-AtHost.h c.in-AtHost.p c.advance.new.self c.self.view_is c.in-AtHost.ensures.moved c.advance.ensures.links
