@@ -1,0 +1,3 @@
+pub mod Words
+pub mod Hosts
+pub mod Marks
