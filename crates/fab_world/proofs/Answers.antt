@@ -1,0 +1,10 @@
+-- What follows of an answer, where it is one or a want of memory.
+use Rattle.std.specs.Prelude.{Result, Ok, Err, OnOk, OnErr, IfOk}
+
+pub if-ok : {A E : Type 0} {P Q : A → Type 0} (r : Result A E) → ((a : A) → P a → Q a) → IfOk r P → IfOk r Q
+if-ok (Ok a) f h = f a h
+if-ok (Err e) f h = tt
+
+pub on-err : {A E : Type 0} {P Q : Type 0} (r : Result A E) → (P → Q) → OnErr r P → OnErr r Q
+on-err (Ok a) f h = tt
+on-err (Err e) f h = f h

@@ -1,0 +1,143 @@
+-- Every event, and every plan of a fault with a pattern of eight bits, leads from one moment of a world to another.
+use Rattle.std.proofs.Common.{◌≡◌, ◌<◌, ◌+◌, ℕ, zero, suc, Bool, true, false, List, [], ◌∷◌, length, replicate, get_or, nat_eq, true≢false, Option, Some, None, is_some, Ordering, Less, Equal, Greater, refl, sym, ◌∙◌, ap, subst, arith, if◌then◌else◌}
+use Rattle.std.specs.Prelude.{Result, Ok, Err, OnOk, OnErr, IfOk}
+use Rattle.std.specs.List.{AllByRecursion}
+use Rattle.std.specs.Map.{lookup}
+use Rattle.std.specs.Ordering.{match_ordering, nat_cmp}
+use Rattle.net_defs.specs.Network.{Network, IsFabric}
+use Rattle.link_defs.specs.Channel.{channel_count}
+use Rattle.link_defs.specs.Links.{LinkState}
+use Rattle.world_defs.specs.declared.event.Event.{Event}
+use Rattle.world_defs.specs.declared.effect.Effect.{Effect}
+use Rattle.world_defs.specs.declared.fault.Fault.{Fault}
+use Rattle.world_defs.specs.Node.{NodeState, Outgoing, to_send, new_node, port_count}
+use Rattle.world_defs.specs.Client.{Called, ClientState}
+use Rattle.world_hosts.specs.Known.{IsClosed}
+use Rattle.world_defs.specs.World.{WorldState, fabric_of, host_count, last_count, node_at, new_world, planned, without_fault, with_fault}
+use Rattle.world_defs.specs.Step.{sent_out, fault_on, struck_by, fault_strikes, planned_strikes, step, after_all}
+use Rattle.world_laws.specs.Shape.{IsWorld}
+use Rattle.world_laws.proofs.Shapes.{step-kept, after_all-kept, new-world, planned-world}
+use Rattle.world_laws.proofs.Leaves.{Follows, FollowsCalls, step-leaves}
+use Rattle.world_defs.specs.EightBits.{IsByteFault}
+use Rattle.fab_world.specs.Held.{IsMoment, IsLater, no_clients}
+
+abbrev AreByteFaults : List (ℕ × Fault) → Type 0
+AreByteFaults fs = AllByRecursion (λ f. IsByteFault f.1) fs
+
+-- fair plans stay fair
+without-fair : (number : ℕ) (fs : List (ℕ × Fault)) → AreByteFaults fs → AreByteFaults (without_fault number fs)
+without-fair number [] all = tt
+without-fair number (f ∷ fs) all = by (nat_eq number f.0) (without-fair number fs all.1)
+  where
+    by : (b : Bool) → AreByteFaults (without_fault number fs) → AreByteFaults (if b then fs else f ∷ without_fault number fs)
+    by true rest = all.1
+    by false rest = (all.0, rest)
+
+pub with-fair : (number : ℕ) (fault : Fault) (fs : List (ℕ × Fault)) → IsByteFault fault → AreByteFaults fs → AreByteFaults (with_fault number fault fs)
+with-fair number fault [] low all = (low, tt)
+with-fair number fault (f ∷ fs) low all = by (nat_cmp number f.0) (with-fair number fault fs low all.1)
+  where
+    by : (o : Ordering) → AreByteFaults (with_fault number fault fs) → AreByteFaults (match_ordering o ((number, fault) ∷ f ∷ fs) ((f.0, fault) ∷ fs) (f ∷ with_fault number fault fs))
+    by Less rest = (low, all)
+    by Equal rest = (low, all.1)
+    by Greater rest = (all.0, rest)
+
+abbrev StaysFair : WorldState → WorldState → Type 0
+StaysFair w v = AreByteFaults w.plan → AreByteFaults v.plan
+
+struck_by-fair : (w : WorldState) (f : Fault) (o : Bool × LinkState) → AreByteFaults w.plan → AreByteFaults (struck_by w f o).plan
+struck_by-fair w f (true, l) all = all
+struck_by-fair w f (false, l) all = all
+
+fault_strikes-fair : (w : WorldState) (c : ℕ) (o : Option Fault) → AreByteFaults w.plan → AreByteFaults (fault_strikes w c o).plan
+fault_strikes-fair w c None all = all
+fault_strikes-fair w c (Some f) all = struck_by-fair (record w { plan = without_fault w.injected w.plan }) f (fault_on w.links c f) (without-fair w.injected w.plan all)
+
+injection-fair : (w : WorldState) (h c : ℕ) (out : Outgoing) → AreByteFaults w.plan → AreByteFaults (planned_strikes (sent_out w h c out) c).plan
+unfolding sent_out planned_strikes
+injection-fair w h c out all =
+    let u : WorldState = sent_out w h c out in
+    fault_strikes-fair u c (lookup (nat_eq u.injected) u.plan) all
+
+follows-fair : Follows StaysFair
+follows-fair = record {
+  same = λ w all. all;
+  both = λ u v w f g all. g (f all);
+  links = λ w x all. all;
+  node = λ w h n k all. all;
+  drop = λ w all. all;
+  injection = λ w h c out low e all. injection-fair w h c out all;
+}
+
+calls-fair : FollowsCalls StaysFair
+calls-fair w h port call k all = all
+
+pub step-moment : (w : WorldState) (e : Event) → IsMoment w → IsMoment (step w e).1
+step-moment w e m = record { fabric = subst IsFabric (sym (step-kept w e).net) m.fabric; world = (step-kept w e).world m.world; plan = step-leaves StaysFair follows-fair calls-fair w e m.plan }
+
+after-moment : (w : WorldState) (es : List Event) → IsMoment w → IsMoment (after_all w es)
+after-moment w [] m = m
+after-moment w (e ∷ es) m = after-moment (step w e).1 es (step-moment w e m)
+
+pub later-moment : (w v : WorldState) → IsMoment w → IsLater w v → IsMoment v
+later-moment w v m (es, is) = subst IsMoment (sym is) (after-moment w es m)
+
+pub later-fabric : (w v : WorldState) → IsLater w v → fabric_of v ≡ fabric_of w
+later-fabric w v (es, is) = ap fabric_of is ∙ (after_all-kept w es).net
+
+pub later-hosts : (w v : WorldState) → IsMoment w → IsLater w v → host_count v ≡ host_count w
+later-hosts w v m l =
+    (later-moment w v m l).world.hosts ∙ ap (λ n. length n.hosts) (later-fabric w v l) ∙ sym m.world.hosts
+
+pub later-channels : (w v : WorldState) → IsMoment w → IsLater w v → length v.links.channels ≡ length w.links.channels
+later-channels w v m l =
+    (later-moment w v m l).world.links.slots ∙ ap channel_count (later-fabric w v l) ∙ sym m.world.links.slots
+
+-- the world after a step, or what a want of memory leaves
+pub step-later : {E : Type 0} (w v : WorldState) (e : Event) (r : Result Effect E) → IfOk r (λ x. step w e ≡ (x, v)) → OnErr r (IsLater w v) → IsLater w v
+step-later w v e (Ok x) is err = (e ∷ [], sym (ap (λ p. p.1) is))
+step-later w v e (Err y) is err = err
+
+pub new-moment : (n : Network) → IsFabric n → IsMoment (new_world n)
+new-moment n f = record { fabric = f; world = new-world n; plan = tt }
+
+pub planned-moment : (w : WorldState) (ahead : ℕ) (fault : Fault) → IsByteFault fault → IsMoment w → IsMoment (planned w ahead fault).1
+planned-moment w ahead fault low m = record { fabric = m.fabric; world = planned-world w ahead fault m.world; plan = with-fair (w.injected + ahead) fault w.plan low m.plan }
+
+-- the world after a plan, or after one that wanted memory
+pub plan-later : {E : Type 0} (w v : WorldState) (ahead : ℕ) (fault : Fault) (r : Result ℕ E) → IsByteFault fault → IsMoment w → IfOk r (λ number. planned w ahead fault ≡ (number, v)) → OnErr r (v ≡ w) → IsMoment v × (fabric_of v ≡ fabric_of w)
+plan-later w v ahead fault (Ok number) low m is err =
+    let same : (planned w ahead fault).1 ≡ v = ap (λ p. p.1) is in
+    (subst IsMoment same (planned-moment w ahead fault low m), sym (ap fabric_of same))
+plan-later w v ahead fault (Err e) low m is err = (subst IsMoment (sym err) m, ap fabric_of err)
+
+-- where no port has a client none is open
+closed-row : (n : NodeState) → length n.ports ≡ port_count → ((port : ℕ) → is_some (get_or n.ports port None) ≡ false) → n.ports ≡ replicate port_count None
+closed-row n long none = all-none n.ports port_count long none
+  where
+    all-none : {A : Type 0} (ps : List (Option A)) (k : ℕ) → length ps ≡ k → ((port : ℕ) → is_some (get_or ps port None) ≡ false) → ps ≡ replicate k None
+    all-none [] zero e none = refl
+    all-none [] (suc k) e none = absurd (omega (arith, e))
+    all-none (p ∷ ps) zero e none = absurd (omega (arith, e))
+    all-none (None ∷ ps) (suc k) e none = ap (λ l. None ∷ l) (all-none ps k (omega (arith, e)) (λ port. none (suc port)))
+    all-none (Some p ∷ ps) (suc k) e none = absurd (true≢false (none 0))
+
+no-client : (hosts h port : ℕ) → is_some (get_or (get_or (no_clients hosts) h []) port None) ≡ false
+no-client zero h port = refl
+no-client (suc hosts) zero port = empty-row port_count port
+  where
+    empty-row : (k port : ℕ) → is_some (get_or (replicate k (let o : Option ClientState = None in o)) port None) ≡ false
+    empty-row zero port = refl
+    empty-row (suc k) zero = refl
+    empty-row (suc k) (suc port) = empty-row k port
+no-client (suc hosts) (suc h) port = no-client hosts h port
+
+all-from : (ns : List NodeState) → ((h : ℕ) → h < length ns → IsClosed (get_or ns h (new_node 0))) → AllByRecursion IsClosed ns
+all-from [] each = tt
+all-from (n ∷ ns) each = (each 0 (omega arith), all-from ns (λ h low. each (suc h) (omega (arith, low))))
+
+-- a world without clients has all ports closed
+pub closed-world : (w : WorldState) → IsMoment w → w.clients ≡ no_clients (host_count w) → AllByRecursion IsClosed w.nodes
+closed-world w m e =
+    all-from w.nodes (λ h low. closed-row (node_at w h) (m.world.each_node h low).ports
+    (λ port. sym (m.world.open_ports h port) ∙ ap (λ cs. is_some (get_or (get_or cs h []) port None)) e ∙ no-client (host_count w) h port))

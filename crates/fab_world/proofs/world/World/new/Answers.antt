@@ -1,0 +1,9 @@
+use Rattle.std.proofs.Common.{ap, sym, subst, ◌∙◌}
+use Rattle.world_defs.specs.World.{fabric_of}
+use Rattle.fab_world.specs.Held.{IsMoment}
+use Rattle.fab_world.proofs.Moments.{new-moment}
+use Rattle.fab_world.proofs.world.World.new.Goals as goal
+
+pub invariant_of-result : goal.invariant_of-result
+invariant_of-result c =
+    (subst IsMoment (sym c.in_ok-machine.ensures.new) (new-moment c.args.fabric c.in_ok-machine.ensures.fabric), sym (ap fabric_of c.in_ok-machine.ensures.new))

@@ -1,0 +1,64 @@
+//! The links and the hosts of a world.
+
+ghost use Rattle.std.specs.Prelude.{◌≡◌, None, IfOk};
+ghost use Rattle.std.specs.List.{AllByRecursion};
+ghost use Rattle.net_defs.specs.Network.{IsFabric};
+ghost use Rattle.world_defs.specs.World.{new_world, host_count};
+ghost use Rattle.world_hosts.specs.Known.{IsClosed};
+ghost use Rattle.fab_world.specs.Held.{no_clients};
+
+mod channels;
+mod dispatch;
+mod injection;
+mod staging;
+mod steps;
+
+use faulty_links::FaultyLinks;
+use port_graph::Fabric;
+use std::alloc::{AllocError, Global};
+use std::marker::Model;
+use world_hosts::Hosts;
+
+/// Links and hosts, as many as the fabric has. It must be spent, by [`Machine::end`].
+pub(crate) struct Machine {
+    pub(crate) links: FaultyLinks,
+    pub(crate) hosts: Hosts,
+}
+
+impl Model for Machine {
+    ghost use Rattle.world_defs.specs.World.{WorldState};
+    ghost use Rattle.fab_world.specs.Held.{world_of};
+
+    ghost Value = { WorldState };
+
+    ghost view = { λ m. world_of m.links m.hosts };
+}
+
+impl Machine {
+    /// The links and hosts of a fabric, before anything happened.
+    pub(crate) fn new(alloc: Global, f: &Fabric) -> Result<Machine, AllocError>
+        ensures new { IfOk result (λ m. m ≡ new_world f.now) }
+        ensures fabric { IsFabric f.now }
+    {
+        let count = f.hosts();
+        let links = FaultyLinks::new(alloc, f)?;
+        let hosts = Hosts::new(alloc, count)?;
+        Ok(Machine { links, hosts })
+    }
+
+    /// No routes are adopted, and no port is open.
+    pub(crate) fn state(&self)
+        ensures routes { self.now.adopted ≡ None }
+        ensures clients { self.now.clients ≡ no_clients (host_count self.now) }
+    {
+        let _ = &self.hosts;
+    }
+
+    /// Spends links and hosts whose ports are all closed.
+    pub(crate) fn end(self)
+        requires { self.clients ≡ no_clients (host_count self) → AllByRecursion IsClosed self.nodes }
+    {
+        let Machine { links: _, hosts } = self;
+        hosts.end();
+    }
+}

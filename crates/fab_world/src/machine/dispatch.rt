@@ -1,0 +1,55 @@
+//! Each event, by what it is.
+
+ghost use Rattle.std.specs.Prelude.{◌≡◌, ◌≤◌, length, IfOk, OnErr};
+ghost use Rattle.world_defs.specs.World.{fabric_of, host_count, planned};
+ghost use Rattle.world_defs.specs.Step.{step};
+ghost use Rattle.fab_world.specs.Events.{IsGiven};
+ghost use Rattle.fab_world.specs.Held.{IsLater};
+
+use super::Machine;
+use std::alloc::{AllocError, Global};
+use world_defs::{Effect, Event, Fault};
+
+impl Machine {
+    /// One event: its effect, and links and hosts after it.
+    pub(crate) fn step(&mut self, alloc: Global, e: Event) -> Result<Effect, AllocError>
+        requires given { IsGiven self.old e }
+        requires hosts { host_count self.old ≡ length (fabric_of self.old).hosts }
+        ensures ok { IfOk result (λ x. step self.old e ≡ (x, self.new)) }
+        ensures err { OnErr result (IsLater self.old self.new) }
+    {
+        match e {
+            Event::Ask { host, walk, looped } => Ok(self.ask(host, walk, looped)),
+            Event::Inject(host) => self.inject(alloc, host),
+            Event::Advance(c) => self.advance(alloc, c),
+            Event::Lose(c) => Ok(self.lose(c)),
+            Event::Repeat(c) => self.repeat(alloc, c),
+            Event::Hold(c) => self.hold(c),
+            Event::Flip {
+                channel,
+                bit,
+                pattern,
+            } => self.flip(channel, bit, pattern),
+            Event::Replay(serial) => Ok(self.replay(serial)),
+            Event::Reset(c) => Ok(self.reset(c)),
+            Event::Expire { host, peer } => Ok(self.expire(host, peer)),
+            Event::GiveUp(host) => Ok(self.give_up(host)),
+            Event::Part { dst, part } => Ok(self.part(dst, part)),
+            // No client makes a call.
+            Event::Begin { .. }
+            | Event::Close { .. }
+            | Event::Provide { .. }
+            | Event::Send { .. }
+            | Event::Poll { .. } => Ok(Effect::Idle),
+        }
+    }
+
+    /// Plans a fault for the injection so far ahead.
+    pub(crate) fn plan(&mut self, ahead: u64, fault: Fault) -> Result<u128, AllocError>
+        requires { 1 ≤ ahead }
+        ensures ok { IfOk result (λ number. planned self.old ahead fault ≡ (number, self.new)) }
+        ensures err { OnErr result (self.new ≡ self.old) }
+    {
+        self.links.plan(ahead, fault)
+    }
+}

@@ -1,0 +1,73 @@
+//! A host puts a packet into its channel.
+
+ghost use Rattle.std.specs.Prelude.{◌≡◌, ◌+◌, true, Some, option_map, IfOk, OnErr};
+ghost use Rattle.world_defs.specs.Node.{to_send, packet_for};
+ghost use Rattle.world_defs.specs.World.{node_at};
+ghost use Rattle.world_defs.specs.Step.{injected, inject_one};
+ghost use Rattle.faulty_links.specs.Held.{of_world, can_inject};
+ghost use Rattle.fab_world.specs.Events.{IsHostOf, IsChannelOf};
+
+use super::Machine;
+use net_defs::{End, Vertex};
+use std::alloc::{AllocError, Global};
+use world_defs::Effect;
+use world_hosts::Packet;
+
+impl Machine {
+    #[tactic(auto, unfolding(world_defs::specs::Step::injected))]
+    pub(crate) fn inject(&mut self, alloc: Global, host: u16) -> Result<Effect, AllocError>
+        requires { IsHostOf self.old host }
+        ensures ok { IfOk result (λ x. injected self.old host ≡ (x, self.new)) }
+        ensures err { OnErr result (self.new ≡ self.old) }
+    {
+        let port = End {
+            v: Vertex::Host(host),
+            p: 0,
+        };
+        match self.links.channel_from(port) {
+            Some(c) => self.inject_into(alloc, host, c),
+            None => Ok(Effect::Idle),
+        }
+    }
+
+    // The host's channel is this one.
+    fn inject_into(&mut self, alloc: Global, host: u16, c: u16) -> Result<Effect, AllocError>
+        requires there { IsHostOf self.old host }
+        requires channel { IsChannelOf self.old c }
+        ensures ok { IfOk result (λ x. inject_one self.old host c (to_send host (node_at self.old host)) ≡ (x, self.new)) }
+        ensures err { OnErr result (self.new ≡ self.old) }
+    {
+        if !self.links.can_inject(c) {
+            return Ok(Effect::Idle);
+        }
+        let number = self.links.injected() + 1;
+        match self.hosts.stage(alloc, host, number)? {
+            Some(packet) => self.put(alloc, host, c, packet),
+            None => Ok(Effect::Idle),
+        }
+    }
+
+    // The packet of what the host sends first enters its channel, and counts as sent.
+    fn put(
+        &mut self,
+        alloc: Global,
+        host: u16,
+        c: u16,
+        packet: Packet,
+    ) -> Result<Effect, AllocError>
+        requires there { IsHostOf self.old host }
+        requires channel { IsChannelOf self.old c }
+        requires free { can_inject (of_world self.old) c ≡ true }
+        requires first { Some packet ≡ option_map (packet_for host (self.old.injected + 1)) (to_send host (node_at self.old host)) }
+        ensures ok { IfOk result (λ x. inject_one self.old host c (to_send host (node_at self.old host)) ≡ (x, self.new)) }
+        ensures err { OnErr result (self.new ≡ self.old) }
+    {
+        match self.links.inject(alloc, c, packet) {
+            Ok(effect) => {
+                self.hosts.staged(host);
+                Ok(effect)
+            }
+            Err((_, wanting)) => Err(wanting),
+        }
+    }
+}

@@ -1,0 +1,234 @@
+//! The world.
+
+ghost use Rattle.std.specs.Prelude.{◌≡◌, ◌≤◌, ℕ, length, is_some, Some, None, IfOk, IfSome, IfNone, OnErr};
+ghost use Rattle.net_defs.specs.Route.{channel_from};
+ghost use Rattle.link_defs.specs.Channel.{channel_count, channel_tail, channel_head};
+ghost use Rattle.link_defs.specs.Hops.{total_hops};
+ghost use Rattle.link_defs.specs.Links.{packet_in, is_idle};
+ghost use Rattle.link_defs.specs.Fault.{next_limbo};
+ghost use Rattle.link_model.specs.Full.{IsNextFull};
+ghost use Rattle.world_defs.specs.Node.{to_send, peer_at};
+ghost use Rattle.world_defs.specs.Table.{active_epoch};
+ghost use Rattle.world_defs.specs.World.{fabric_of, host_count, new_world, node_at, planned};
+ghost use Rattle.world_defs.specs.EightBits.{IsByteFault};
+ghost use Rattle.world_defs.specs.Step.{step};
+ghost use Rattle.fab_world.specs.Events.{IsHostOf, IsChannelOf, IsGiven};
+ghost use Rattle.fab_world.specs.Held.{IsMoment, IsLater, IsOfHosts, no_clients};
+
+use crate::machine::Machine;
+use net_defs::End;
+use port_graph::Fabric;
+use std::alloc::{AllocError, Global};
+use std::marker::Model;
+use world_defs::{Effect, Event, Fault};
+use world_hosts::Message;
+
+/// The world of a fabric: its links and what they hold, its hosts, the plan of faults, and the counts. Hosts and channels in arguments are there.
+///
+/// It must be spent, by [`World::end`].
+pub struct World {
+    fabric: Fabric,
+    machine: Machine,
+}
+
+impl Model for World {
+    ghost use Rattle.std.specs.Prelude.{◌≡◌};
+    ghost use Rattle.world_defs.specs.World.{WorldState, fabric_of};
+    ghost use Rattle.fab_world.specs.Held.{IsMoment};
+
+    ghost Value = { WorldState };
+
+    ghost view = { λ w. w.machine };
+
+    ghost invariant = { λ w. IsMoment w.machine × (w.fabric ≡ fabric_of w.machine) };
+}
+
+impl World {
+    /// The world of a fabric before anything happened: empty, and without faults.
+    pub fn new(alloc: Global, fabric: Fabric) -> Result<World, AllocError>
+        ensures { IfOk result (λ w. w ≡ new_world fabric) }
+    {
+        let machine = Machine::new(alloc, &fabric)?;
+        Ok(World { fabric, machine })
+    }
+
+    /// One event: its effect, and the world after it. Where memory is wanting, nothing has changed, or the packet that would have reached a host
+    /// is lost.
+    pub fn step(&mut self, alloc: Global, e: Event) -> Result<Effect, AllocError>
+        requires { IsGiven self.old e }
+        ensures ok { IfOk result (λ x. step self.old e ≡ (x, self.new)) }
+        ensures host { IfOk result (IsOfHosts (host_count self.old)) }
+        ensures err { OnErr result (IsLater self.old self.new) }
+        ensures fabric { fabric_of self.new ≡ fabric_of self.old }
+        ensures hosts { host_count self.new ≡ host_count self.old }
+        ensures channels { length self.new.links.channels ≡ length self.old.links.channels }
+    {
+        self.machine.step(alloc, e)
+    }
+
+    /// Plans a fault for the injection so far ahead, in the place of an earlier one, and answers that injection's number.
+    pub fn plan(&mut self, ahead: u64, fault: Fault) -> Result<u128, AllocError>
+        requires { 1 ≤ ahead }
+        ensures ok { IfOk result (λ number. planned self.old ahead fault ≡ (number, self.new)) }
+        ensures err { OnErr result (self.new ≡ self.old) }
+    {
+        pattern_is_a_byte(fault);
+        self.machine.plan(ahead, fault)
+    }
+
+    /// Its fabric.
+    pub fn fabric(&self) -> &Fabric
+        ensures { result.now ≡ fabric_of self.now }
+    {
+        &self.fabric
+    }
+
+    /// What holds of it at every moment: no routes are adopted yet, and no port is open.
+    pub fn moment(&self)
+        ensures kept { IsMoment self.now }
+        ensures routes { self.now.adopted ≡ None }
+        ensures clients { self.now.clients ≡ no_clients (host_count self.now) }
+    {
+        self.machine.state();
+    }
+
+    /// The number of hosts.
+    pub fn hosts(&self) -> u16
+        ensures { result ≡ host_count self.now }
+    {
+        self.machine.hosts.count()
+    }
+
+    /// The number of channels.
+    pub fn channels(&self) -> u16
+        ensures count { result ≡ length self.now.links.channels }
+        ensures same { result ≡ channel_count (fabric_of self.now) }
+        ensures few { result ≤ 1152 }
+    {
+        self.machine.links.channels()
+    }
+
+    /// The channel that leaves by an end; none where no cable ends there.
+    pub fn channel_from(&self, e: End) -> Option<u16>
+        ensures channel { result ≡ channel_from (fabric_of self.now) e }
+        ensures there { IfSome result (IsChannelOf self.now) }
+    {
+        self.machine.links.channel_from(e)
+    }
+
+    /// The ends that a channel leaves and enters.
+    pub fn ends(&self, c: u16) -> (End, End)
+        requires { IsChannelOf self.now c }
+        ensures tail { channel_tail (fabric_of self.now) c ≡ Some result.0 }
+        ensures head { channel_head (fabric_of self.now) c ≡ Some result.1 }
+    {
+        self.machine.links.ends(c)
+    }
+
+    /// Whether no channel holds a packet.
+    pub fn links_idle(&self) -> bool
+        ensures { result ≡ is_idle self.now.links }
+    {
+        self.machine.links.idle()
+    }
+
+    /// The least channel that isn't below a number and holds a packet.
+    pub fn next_full(&self, from: u16) -> Option<u16>
+        ensures found { IfSome result (IsNextFull self.now.links from) }
+        ensures none { IfNone result ((k : ℕ) → from ≤ k → packet_in self.now.links k ≡ None) }
+    {
+        self.machine.links.next_full(from)
+    }
+
+    /// At least the hops that all packets in channels have left: so many advances at most change something before none does.
+    pub fn hops_bound(&self) -> u64
+        ensures enough { total_hops self.now.links ≤ result }
+        ensures few { result ≤ 1275264 }
+    {
+        self.machine.links.hops_bound()
+    }
+
+    /// The least serial in limbo that isn't below a number.
+    pub fn next_limbo(&self, from: u64) -> Option<u64>
+        ensures { result ≡ next_limbo self.now.links from }
+    {
+        self.machine.links.next_limbo(from)
+    }
+
+    /// How many injections there were.
+    pub fn injected(&self) -> u64
+        ensures { result ≡ self.now.injected }
+    {
+        self.machine.links.injected()
+    }
+
+    /// How many packets were dropped; the count stays at its last value.
+    pub fn dropped(&self) -> u64
+        ensures { result ≡ self.now.dropped }
+    {
+        self.machine.links.dropped()
+    }
+
+    /// How many planned faults struck.
+    pub fn struck(&self) -> u64
+        ensures { result ≡ self.now.struck }
+    {
+        self.machine.links.struck()
+    }
+
+    /// How many of those lost, held or flipped their packet.
+    pub fn harmed(&self) -> u64
+        ensures { result ≡ self.now.harmed }
+    {
+        self.machine.links.harmed()
+    }
+
+    /// Whether a host has something to send.
+    pub fn has_to_send(&self, host: u16) -> bool
+        requires { IsHostOf self.now host }
+        ensures { result ≡ is_some (to_send host (node_at self.now host)) }
+    {
+        self.machine.hosts.has_to_send(host)
+    }
+
+    /// The epoch of a host's active table.
+    pub fn table(&self, host: u16) -> Option<u32>
+        requires { IsHostOf self.now host }
+        ensures { result ≡ active_epoch (node_at self.now host).table }
+    {
+        self.machine.hosts.table(host)
+    }
+
+    /// The messages of a host that were accepted for a peer, in order.
+    pub fn sent(&self, host: u16, peer: u16) -> &[Message]
+        requires there { IsHostOf self.now host }
+        requires peer { IsHostOf self.now peer }
+        ensures { result.now ≡ (peer_at (node_at self.now host) peer).sent }
+    {
+        self.machine.hosts.sent(host, peer)
+    }
+
+    /// The messages that a host took from a peer, in order.
+    pub fn got(&self, host: u16, peer: u16) -> &[Message]
+        requires there { IsHostOf self.now host }
+        requires peer { IsHostOf self.now peer }
+        ensures { result.now ≡ (peer_at (node_at self.now host) peer).got }
+    {
+        self.machine.hosts.got(host, peer)
+    }
+
+    /// Spends it. Takes no memory.
+    pub fn end(self) {
+        let World { fabric: _, machine } = self;
+        machine.end();
+    }
+}
+
+// The pattern of a flip has eight bits.
+fn pattern_is_a_byte(fault: Fault)
+    ensures { IsByteFault fault }
+{
+    if let Fault::Flip { bit: _, pattern } = fault {
+        let _byte: u8 = pattern;
+    }
+}

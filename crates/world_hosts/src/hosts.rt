@@ -1,0 +1,181 @@
+//! The hosts of a world.
+
+ghost use Rattle.std.specs.Prelude.{◌≡◌, ◌<◌, ◌≤◌, length, true, is_some, nat_lt, if◌then◌else◌, Some, option_map, slice_index_or, IfOk, OnOk, OnErr};
+ghost use Rattle.std.specs.List.{AllByRecursion};
+ghost use Rattle.world_defs.specs.Node.{StagedProbe, to_send, packet_for, has_staged, given_up, node_expired, unacknowledged_to, peer_at};
+ghost use Rattle.world_defs.specs.Hearing.{hear};
+ghost use Rattle.world_defs.specs.Table.{active_epoch};
+ghost use Rattle.nic_node.specs.Sending.{once_sent};
+ghost use Rattle.world_hosts.specs.Known.{new_hosts, no_node, host_in, with_host, IsClosed};
+
+use crate::spending::end_all;
+use net_defs::Walk;
+use nic_node::{Arrival, Message, NicNode, Packet};
+use std::alloc::{AllocError, Global};
+use std::marker::Model;
+
+/// The hosts of a world, by address. Addresses in arguments are of hosts.
+///
+/// They must be spent, by [`Hosts::end`] once all ports are closed.
+pub struct Hosts {
+    nodes: Vec<NicNode>,
+}
+
+impl Model for Hosts {
+    ghost use Rattle.std.specs.Prelude.{List};
+    ghost use Rattle.world_defs.specs.Node.{NodeState};
+    ghost use Rattle.world_hosts.specs.Known.{AreHosts, states};
+
+    ghost Value = { List NodeState };
+
+    ghost view = { λ h. states h.nodes.items };
+
+    ghost invariant = { λ h. AreHosts h.nodes.items };
+}
+
+impl Hosts {
+    /// So many hosts, before anything happened.
+    pub fn new(alloc: Global, hosts: u16) -> Result<Hosts, AllocError>
+        ensures { IfOk result (λ h. h ≡ new_hosts hosts) }
+    {
+        let mut nodes = Vec::with_capacity(alloc, usize::from(hosts))?;
+        for host in 0..hosts {
+            match NicNode::new(alloc, host, hosts) {
+                Ok(node) => nodes.push_reserved(node),
+                Err(wanting) => {
+                    end_all(nodes);
+                    return Err(wanting);
+                }
+            }
+        }
+        Ok(Hosts { nodes })
+    }
+
+    /// How many there are.
+    pub fn count(&self) -> u16
+        ensures { result ≡ length self.now }
+    {
+        count_of(&self.nodes)
+    }
+
+    /// A packet reached a host: what was made of it is exactly what the definition makes of its bytes. Want of memory changes nothing.
+    pub fn on_packet(&mut self, alloc: Global, host: u16, p: &Packet) -> Result<Arrival, AllocError>
+        requires { host < length self.old }
+        ensures heard { IfOk result (λ arrival. arrival ≡ (hear host (length self.old) (host_in self.old host) p.now).0) }
+        ensures after { OnOk result (self.new ≡ with_host self.old host (hear host (length self.old) (host_in self.old host) p.now).1) }
+        ensures unchanged { OnErr result (self.new ≡ self.old) }
+    {
+        self.nodes[usize::from(host)].on_packet(alloc, p)
+    }
+
+    /// Stages a probe of a walk at a host, in the place of what was staged before. The walk of a looped one has at most 31 turns.
+    pub fn ask(&mut self, host: u16, walk: Walk, looped: bool)
+        requires there { host < length self.old }
+        requires short { looped ≡ true → length walk ≤ 31 }
+        ensures { self.new ≡ with_host self.old host (record (host_in self.old host) { staged = Some (StagedProbe walk looped) }) }
+    {
+        self.nodes[usize::from(host)].ask(walk, looped);
+    }
+
+    /// A host drops its staged probe or part, its reply and its acknowledgement of a part. False exactly where none of them stood.
+    pub fn give_up(&mut self, host: u16) -> bool
+        requires { host < length self.old }
+        ensures told { result ≡ has_staged (host_in self.old host) }
+        ensures after { self.new ≡ with_host self.old host (given_up (host_in self.old host)) }
+    {
+        self.nodes[usize::from(host)].give_up()
+    }
+
+    /// What a peer of a host didn't acknowledge is sent again. False exactly where nothing is unacknowledged, and then nothing changes.
+    pub fn expire(&mut self, host: u16, peer: u16) -> bool
+        requires there { host < length self.old }
+        requires peer { peer < length self.old }
+        ensures told { result ≡ nat_lt 0 (unacknowledged_to (host_in self.old host) peer) }
+        ensures after { self.new ≡ with_host self.old host (if result then node_expired (host_in self.old host) peer else host_in self.old host) }
+    {
+        self.nodes[usize::from(host)].expire(peer)
+    }
+
+    /// Whether a host has something to send.
+    pub fn has_to_send(&self, host: u16) -> bool
+        requires { host < length self.now }
+        ensures { result ≡ is_some (to_send host (host_in self.now host)) }
+    {
+        node_at(&self.nodes, host).has_to_send()
+    }
+
+    /// The packet of what a host sends first, injected under a number. None exactly where it has nothing to send.
+    pub fn stage(&self, alloc: Global, host: u16, number: u64) -> Result<Option<Packet>, AllocError>
+        requires { host < length self.now }
+        ensures { IfOk result (λ packet. packet ≡ option_map (packet_for host number) (to_send host (host_in self.now host))) }
+    {
+        node_at(&self.nodes, host).stage(alloc, number)
+    }
+
+    /// What a host sends first counts as sent. Nothing changes where it has nothing to send.
+    pub fn staged(&mut self, host: u16)
+        requires { host < length self.old }
+        ensures { self.new ≡ with_host self.old host (once_sent (host_in self.old host) (to_send host (host_in self.old host))) }
+    {
+        self.nodes[usize::from(host)].staged();
+    }
+
+    /// The epoch of a host's active table.
+    pub fn table(&self, host: u16) -> Option<u32>
+        requires { host < length self.now }
+        ensures { result ≡ active_epoch (host_in self.now host).table }
+    {
+        node_at(&self.nodes, host).active()
+    }
+
+    /// The messages of a host that were accepted for a peer, in order.
+    pub fn sent(&self, host: u16, peer: u16) -> &[Message]
+        requires there { host < length self.now }
+        requires peer { peer < length self.now }
+        ensures { result.now ≡ (peer_at (host_in self.now host) peer).sent }
+    {
+        node_at(&self.nodes, host).sent(peer)
+    }
+
+    /// The messages that a host took from a peer, in order.
+    pub fn got(&self, host: u16, peer: u16) -> &[Message]
+        requires there { host < length self.now }
+        requires peer { peer < length self.now }
+        ensures { result.now ≡ (peer_at (host_in self.now host) peer).got }
+    {
+        node_at(&self.nodes, host).got(peer)
+    }
+
+    /// How many fragments of a host to a peer aren't acknowledged, sent or not.
+    pub fn unacked(&self, host: u16, peer: u16) -> u32
+        requires there { host < length self.now }
+        requires peer { peer < length self.now }
+        ensures { result ≡ unacknowledged_to (host_in self.now host) peer }
+    {
+        node_at(&self.nodes, host).unacked(peer)
+    }
+
+    /// Spends hosts whose ports are all closed. Takes no memory.
+    pub fn end(self)
+        requires { AllByRecursion IsClosed self }
+    {
+        let Hosts { nodes } = self;
+        end_all(nodes);
+    }
+}
+
+// How many there are.
+fn count_of(nodes: &[NicNode]) -> u16
+    requires { length nodes.now < 65536 }
+    ensures { result ≡ length nodes.now }
+{
+    nodes.len() as u16
+}
+
+// The host at an address.
+fn node_at(nodes: &[NicNode], host: u16) -> &NicNode
+    requires { host < length nodes.now }
+    ensures { result.now ≡ slice_index_or nodes.now host no_node }
+{
+    &nodes[usize::from(host)]
+}
