@@ -1,0 +1,24 @@
+-- Events that lead on from where other events led.
+use Rattle.std.proofs.Common.{◌≡◌, ℕ, List, [], ◌∷◌, ◌++◌, refl, sym, ◌∙◌, ap}
+use Rattle.std.specs.Prelude.{Result, Ok, Err, OnErr}
+use Rattle.world_defs.specs.declared.event.Event.{Event}
+use Rattle.world_defs.specs.World.{WorldState}
+use Rattle.world_defs.specs.Step.{step, after_all}
+use Rattle.fab_world.specs.Held.{IsLater}
+
+after-append : (w : WorldState) (es fs : List Event) → after_all w (es ++ fs) ≡ after_all (after_all w es) fs
+after-append w [] fs = refl
+after-append w (e ∷ es) fs = after-append (step w e).1 es fs
+
+pub later-same : (w : WorldState) → IsLater w w
+later-same w = ([], refl)
+
+pub later-both : (u v w : WorldState) → IsLater u v → IsLater v w → IsLater u w
+later-both u v w (es, is) (fs, on) = (es ++ fs, on ∙ ap (λ x. after_all x fs) is ∙ sym (after-append u es fs))
+
+pub later-step : (w v : WorldState) (e : Event) → v ≡ (step w e).1 → IsLater w v
+later-step w v e is = (e ∷ [], is)
+
+pub on-any : {A E : Type 0} {P : Type 0} (r : Result A E) → P → OnErr r P
+on-any (Ok a) p = tt
+on-any (Err e) p = p

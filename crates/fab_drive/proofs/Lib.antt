@@ -1,0 +1,10 @@
+pub mod Drained
+pub mod GivingUp
+pub mod Later
+pub mod Leading
+pub mod Passed
+pub mod Passing
+pub mod Running
+pub mod Tries
+pub mod Truthful
+pub mod Watching

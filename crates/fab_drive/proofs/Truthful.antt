@@ -1,0 +1,49 @@
+-- An ask over a world answers the truth, or it drowns.
+use Rattle.std.proofs.Common.{◌≡◌, ◌<◌, ◌≤◌, ◌⊎◌, inl, inr, ℕ, ℤ, Bool, true, false, true≢false, List, [], ◌∷◌, suc, length, refl, sym, ◌∙◌, ap, subst, arith}
+use Rattle.std.specs.List.{All, AllByRecursion}
+use Rattle.fab_outer.specs.Fault.{Rose}
+use Rattle.net_defs.specs.declared.place.Answer.{Answer}
+use Rattle.net_defs.specs.declared.place.Answer.TheVariants.{Nothing}
+use Rattle.net_defs.specs.Turn.{IsTurn}
+use Rattle.net_defs.specs.Route.{answer}
+use Rattle.link_defs.specs.Links.{is_idle}
+use Rattle.world_defs.specs.World.{WorldState, fabric_of, host_count}
+use Rattle.world_defs.specs.Asking.{ask}
+use Rattle.probe.specs.Drowning.{IsTrueOrDrowned}
+use Rattle.ask_laws.specs.Premises.{CanAsk}
+use Rattle.ask_laws.proofs.Answering.{ask-true}
+use Rattle.fab_world.specs.Held.{IsMoment}
+
+by_recursion : (xs : List ℤ) → All IsTurn xs → AllByRecursion IsTurn xs
+by_recursion [] all = tt
+by_recursion (x ∷ xs) all = (all 0 x (omega arith), by_recursion xs (λ i d low. all (suc i) d (omega (arith, low))))
+
+pub turns-in_range : (turns walk : List ℤ) → turns ≡ walk → All IsTurn turns → AllByRecursion IsTurn walk
+turns-in_range turns walk e all = subst (AllByRecursion IsTurn) e (by_recursion turns all)
+
+pub can-ask : (w : WorldState) (mapper : ℕ) (walk : List ℤ) → IsMoment w → is_idle w.links ≡ true → mapper < host_count w → AllByRecursion IsTurn walk → length walk ≤ 31 → CanAsk w mapper walk
+can-ask w mapper walk m idle there turns few = record {
+  fabric = m.fabric;
+  world = m.world;
+  idle = idle;
+  is_host = there;
+  turns = turns;
+  few_turns = omega (arith, few);
+  byte_flips = m.plan;
+}
+
+pub told-drowned : (w : WorldState) (mapper tries : ℕ) (walk : List ℤ) (a : Answer) (before now : ℕ) → CanAsk w mapper walk → a ≡ (ask mapper tries walk w).answer → Rose before now
+    → IsTrueOrDrowned (answer (fabric_of w) mapper walk) before now a
+told-drowned w mapper tries walk a before now can told rose = by (ask-true w mapper tries walk can)
+  where
+    by : ((ask mapper tries walk w).answer ≡ answer (fabric_of w) mapper walk) ⊎ (((ask mapper tries walk w).answer ≡ Nothing) × ((ask mapper tries walk w).drowned ≡ true)) → IsTrueOrDrowned (answer (fabric_of w) mapper walk) before now a
+    by (inl e) = inl (told ∙ e)
+    by (inr (e, d)) = inr (told ∙ e, rose)
+
+pub told-true : (w : WorldState) (mapper tries : ℕ) (walk : List ℤ) (a : Answer) (before now : ℕ) → CanAsk w mapper walk → a ≡ (ask mapper tries walk w).answer → (ask mapper tries walk w).drowned ≡ false
+    → IsTrueOrDrowned (answer (fabric_of w) mapper walk) before now a
+told-true w mapper tries walk a before now can told alive = by (ask-true w mapper tries walk can)
+  where
+    by : ((ask mapper tries walk w).answer ≡ answer (fabric_of w) mapper walk) ⊎ (((ask mapper tries walk w).answer ≡ Nothing) × ((ask mapper tries walk w).drowned ≡ true)) → IsTrueOrDrowned (answer (fabric_of w) mapper walk) before now a
+    by (inl e) = inl (told ∙ e)
+    by (inr (e, d)) = absurd (true≢false (sym d ∙ alive))

@@ -1,0 +1,2 @@
+pub mod Prober
+pub mod Watch
