@@ -1,0 +1,4 @@
+pub mod Addresses
+mod Few
+mod Lines
+pub mod Naming

@@ -1,0 +1,33 @@
+use Rattle.std.proofs.Common.{◌≡◌, ◌<◌, ◌≤◌, ◌^◌, List, length, sym, subst, ◌∙◌, arith}
+use Rattle.net_defs.specs.declared.route.Route.{Route}
+use Rattle.map_defs.specs.Orientation.{order_of}
+use Rattle.map_defs.specs.Dependencies.{ranks_of}
+use Rattle.route_making.specs.Listed.{AreBetweenHosts}
+use Rattle.route_making.proofs.Few.{few-routes}
+use Rattle.route_making.proofs.Lines.{parts-text, whole-text}
+use Rattle.route_making.proofs.Naming.{between-hosts}
+use Rattle.route_making.proofs.making.make_routes.Goals as goal
+
+pub routes_text-requires-clause-between : goal.routes_text-requires-clause-between
+routes_text-requires-clause-between c =
+    let f = c.args.f.now in
+    let m = c.args.m.now in
+    subst (AreBetweenHosts f) (sym c.list.ensures.value) (between-hosts f m (order_of m) c.in_ok-set.set c.requires.hosts c.in_ok-set.ensures.routes.least)
+
+pub routes_text-requires-clause-few : goal.routes_text-requires-clause-few
+routes_text-requires-clause-few c =
+    let f = c.args.f.now in
+    let m = c.args.m.now in
+    let count = c.hosts.ensures.count in
+    let bound = c.hosts.ensures.bound in
+    let small : length f.hosts ≤ 128 = omega arith in
+    subst (λ (rs : List Route). length rs < 2 ^ 32) (sym c.list.ensures.value)
+    (few-routes f c.in_ok-set.set small c.in_ok-set.ensures.routes.in_order (between-hosts f m (order_of m) c.in_ok-set.set c.requires.hosts c.in_ok-set.ensures.routes.least))
+
+pub returns-clause-text : goal.returns-clause-text
+returns-clause-text c =
+    let f = c.args.f.now in
+    let m = c.args.m.now in
+    let set : c.list.result.now ≡ c.in_ok-set.set = c.list.ensures.value in
+    let ranks : c.list-2.result.now ≡ ranks_of m (order_of m) = c.list-2.ensures ∙ c.in_ok-set.ensures.ranks in
+    c.in_ok-text.ensures ∙ (λ i. parts-text f m (set i) (ranks i)) ∙ whole-text f m c.in_ok-set.set

@@ -1,0 +1,57 @@
+//! The routes of a map with their text.
+
+ghost use Rattle.std.specs.Prelude.{◌≡◌, ◌≤◌, length, IfOk};
+ghost use Rattle.map_defs.specs.NetMap.{IsConnected, switches_of};
+ghost use Rattle.map_defs.specs.Orientation.{order_of};
+ghost use Rattle.map_defs.specs.Routing.{AreRoutesOf};
+ghost use Rattle.map_defs.specs.Dependencies.{ranks_of};
+ghost use Rattle.map_text.specs.Printing.{AreOfFabric};
+ghost use Rattle.run_defs.specs.LineText.{output_text};
+ghost use Rattle.run_defs.specs.Output.{lines};
+ghost use Rattle.run_defs.specs.Run.{routes_lines};
+
+use crate::printing::routes_text;
+use fabric_map::FabricMap;
+use port_graph::{Fabric, RouteSet};
+use rank_cert::{Ranks, certify, check};
+use route_calc::routes;
+use std::alloc::{AllocError, Global};
+use updown::orient;
+
+/// The routes of a map, and the text of their lines.
+#[derive(Drop)]
+pub struct MadeRoutes {
+    pub set: RouteSet,
+    pub text: Vec<u8>,
+}
+
+/// The routes of a connected map, whose hosts are hosts of a fabric: for each two the least legal one. They are printed with the fabric's
+/// names, and only behind the check that the ranks rise along each of them.
+pub fn make_routes(alloc: Global, m: &FabricMap, f: &Fabric) -> Result<MadeRoutes, AllocError>
+    requires connected { IsConnected m.now }
+    requires few { length (switches_of m.now.vertices) ≤ 64 }
+    requires hosts { AreOfFabric f.now m.now }
+    ensures routes { IfOk result (λ made. AreRoutesOf m.now (order_of m.now) made.set) }
+    ensures text { IfOk result (λ made. made.text.items ≡ output_text f.now (lines (routes_lines m.now made.set))) }
+{
+    let (set, ranks) = certified_routes(alloc, m)?;
+    let _ = f.hosts();
+    let text = routes_text(alloc, m, f, set.list(), ranks.list())?;
+    Ok(MadeRoutes { set, text })
+}
+
+// The routes of a map with their ranks, behind the check of both.
+fn certified_routes(alloc: Global, m: &FabricMap) -> Result<(RouteSet, Ranks), AllocError>
+    requires connected { IsConnected m.now }
+    requires few { length (switches_of m.now.vertices) ≤ 64 }
+    ensures routes { IfOk result (λ made. AreRoutesOf m.now (order_of m.now) made.0) }
+    ensures ranks { IfOk result (λ made. made.1 ≡ ranks_of m.now (order_of m.now)) }
+{
+    let o = orient(alloc, m)?;
+    let set = routes(alloc, m, &o)?;
+    let ranks = certify(alloc, m, o.order())?;
+    match check(m, &set, &ranks) {
+        Ok(()) => Ok((set, ranks)),
+        Err(_) => unreachable!(),
+    }
+}

@@ -1,0 +1,138 @@
+//! The lines of routes and ranks.
+
+ghost use Rattle.std.specs.Prelude.{◌≡◌, ◌<◌, ◌^◌, ◌++◌, ◌∷◌, [], length, flat_map, slice_get, IfOk, OnOk};
+ghost use Rattle.map_text.specs.Printing.{AreOfFabric, IsOfFabric};
+ghost use Rattle.run_defs.specs.LineText.{line_text};
+ghost use Rattle.run_defs.specs.Run.{rank_line, route_line, vertex_in};
+ghost use Rattle.run_defs.specs.declared.line.Line.TheVariants.{Routes, EndRoutes};
+ghost use Rattle.fab_report.specs.There.{AreThere};
+ghost use Rattle.route_making.specs.Listed.{AreBetweenHosts};
+
+use fab_report::print_line;
+use fabric_map::{FabricMap, MapVertex};
+use map_defs::RankEntry;
+use net_defs::{Route, Walk};
+use port_graph::Fabric;
+use run_defs::Line;
+use std::alloc::{AllocError, Global};
+
+/// The number of the routes, each route, each rank, and the end.
+pub(crate) fn routes_text(
+    alloc: Global,
+    m: &FabricMap,
+    f: &Fabric,
+    routes: &[Route],
+    ranks: &[RankEntry],
+) -> Result<Vec<u8>, AllocError>
+    requires hosts { AreOfFabric f.now m.now }
+    requires between { AreBetweenHosts f.now routes.now }
+    requires few { length routes.now < 2 ^ 32 }
+    ensures { IfOk result (λ text. text.items ≡ line_text f.now (Routes (length routes.now)) ++ (flat_map (λ r. line_text f.now (route_line r)) routes.now ++ (flat_map (λ k. line_text f.now (rank_line m.now k)) ranks.now ++ line_text f.now EndRoutes))) }
+{
+    let mut text = Vec::new(alloc);
+    append_line(alloc, &mut text, &Line::Routes(routes.len() as u32), f)?;
+    append_routes(alloc, &mut text, f, routes)?;
+    append_ranks(alloc, &mut text, m, f, ranks)?;
+    append_line(alloc, &mut text, &Line::EndRoutes, f)?;
+    Ok(text)
+}
+
+// A line for each route.
+fn append_routes(
+    alloc: Global,
+    text: &mut Vec<u8>,
+    f: &Fabric,
+    routes: &[Route],
+) -> Result<(), AllocError>
+    requires { AreBetweenHosts f.now routes.now }
+    ensures { OnOk result (text.new.items ≡ text.old.items ++ flat_map (λ r. line_text f.now (route_line r)) routes.now) }
+{
+    for r in routes {
+        append_route(alloc, text, f, r)?;
+    }
+    Ok(())
+}
+
+// A line for each rank.
+fn append_ranks(
+    alloc: Global,
+    text: &mut Vec<u8>,
+    m: &FabricMap,
+    f: &Fabric,
+    ranks: &[RankEntry],
+) -> Result<(), AllocError>
+    requires { AreOfFabric f.now m.now }
+    ensures { OnOk result (text.new.items ≡ text.old.items ++ flat_map (λ k. line_text f.now (rank_line m.now k)) ranks.now) }
+{
+    for k in ranks {
+        append_rank(alloc, text, m, f, *k)?;
+    }
+    Ok(())
+}
+
+// The line of a route.
+fn append_route(alloc: Global, text: &mut Vec<u8>, f: &Fabric, r: &Route) -> Result<(), AllocError>
+    requires { AreThere f.now (route_line r.now) }
+    ensures { OnOk result (text.new.items ≡ text.old.items ++ line_text f.now (route_line r.now)) }
+{
+    let line = Line::Route {
+        from: r.from,
+        to: r.to,
+        walk: copied(alloc, &r.walk)?,
+    };
+    append_line(alloc, text, &line, f)
+}
+
+// The line of a rank.
+fn append_rank(
+    alloc: Global,
+    text: &mut Vec<u8>,
+    m: &FabricMap,
+    f: &Fabric,
+    k: RankEntry,
+) -> Result<(), AllocError>
+    requires { AreThere f.now (rank_line m.now k) }
+    ensures { OnOk result (text.new.items ≡ text.old.items ++ line_text f.now (rank_line m.now k)) }
+{
+    append_line(alloc, text, &rank_line(m, k), f)
+}
+
+// A rank by the vertex of its channel.
+fn rank_line(m: &FabricMap, k: RankEntry) -> Line
+    ensures { result ≡ rank_line m.now k }
+{
+    Line::Rank {
+        v: vertex_at(m, k.v),
+        p: k.p,
+        rank: k.rank,
+    }
+}
+
+// The vertex of a number; a switch stands for none.
+fn vertex_at(m: &FabricMap, v: u32) -> MapVertex
+    ensures { result ≡ vertex_in (slice_get m.now.vertices v) }
+{
+    match m.vertices().get(v as usize) {
+        Some(vertex) => *vertex,
+        None => MapVertex::Switch(0),
+    }
+}
+
+// A walk of the same turns.
+fn copied(alloc: Global, walk: &Walk) -> Result<Walk, AllocError>
+    ensures { IfOk result (λ copy. copy ≡ walk.now) }
+{
+    match Walk::new(alloc, walk.turns()) {
+        Ok(copy) => Ok(copy),
+        Err(_) => Err(AllocError),
+    }
+}
+
+// The text of a line behind a text.
+fn append_line(alloc: Global, text: &mut Vec<u8>, l: &Line, f: &Fabric) -> Result<(), AllocError>
+    requires { AreThere f.now l.now }
+    ensures { OnOk result (text.new.items ≡ text.old.items ++ line_text f.now l.now) }
+{
+    let printed = print_line(alloc, l, f)?;
+    text.extend_from_slice(&printed)
+}
