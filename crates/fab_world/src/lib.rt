@@ -17,6 +17,8 @@
 #![tactic(auto)]
 
 mod machine;
+#[cfg(test)]
+mod tests;
 mod world;
 
 pub use port_graph::Fabric;
