@@ -1,0 +1,116 @@
+-- What asks in a row come to, by the walks.
+use Rattle.std.proofs.Common.{◌≡◌, ◌≢◌, ◌<◌, ◌≤◌, ◌+◌, ◌*◌, ℕ, Bool, true, false, List, [], ◌∷◌, length, nat_eq, ◌⊎◌, inl, inr, None, refl, ap, subst, arith}
+use Rattle.std.specs.Prelude.{ℤ}
+use Rattle.std.specs.List.{AllByRecursion}
+use Rattle.std.specs.Map.{lookup}
+use Rattle.net_defs.specs.declared.place.Answer.{Answer}
+use Rattle.net_defs.specs.declared.place.Answer.TheVariants.{Nothing}
+use Rattle.net_defs.specs.Network.{Network}
+use Rattle.net_defs.specs.Route.{answer}
+use Rattle.net_defs.specs.Turn.{IsTurn}
+use Rattle.journal_defs.specs.Truth.{IsTrueJournal, IsTrueWhereFound}
+use Rattle.world_defs.specs.World.{WorldState, fabric_of, last_count}
+use Rattle.world_defs.specs.Asking.{Asked, ask}
+use Rattle.ask_laws.specs.Premises.{CanAsk}
+use Rattle.ask_laws.specs.Kept.{IsAskKept}
+use Rattle.ask_laws.proofs.Answering.{ask-keeps, ask-again, ask-true, ask-heard}
+use Rattle.ask_laws.proofs.Few.{ask-few}
+use Rattle.ask_laws.proofs.Ready.{kept-same, kept-both}
+use Rattle.run_defs.specs.Mapped.{AskedAll, one_if, asked_all}
+
+-- a walk that a probe can carry
+pub record IsCarried (walk : List ℤ) : Type 0 where
+  pub turns : AllByRecursion IsTurn walk
+  pub few : length walk ≤ 64
+
+-- a host that can ask by the empty walk can ask by each of these
+pub ask-by : (w : WorldState) (host : ℕ) (walk : List ℤ) → CanAsk w host [] → IsCarried walk → CanAsk w host walk
+ask-by w host walk can is = record {
+  fabric = can.fabric;
+  world = can.world;
+  idle = can.idle;
+  is_host = can.is_host;
+  turns = is.turns;
+  few_turns = is.few;
+  byte_flips = can.byte_flips;
+}
+
+-- no fault is planned from one world to another, and injections are left there
+pub record IsQuietFor (w v : WorldState) : Type 0 where
+  pub unplanned : (number : ℕ) → w.injected < number → number ≤ v.injected → lookup (nat_eq number) w.plan ≡ None
+  pub left : v.injected < last_count
+
+-- what asks in a row came to
+pub record AreAsked (host tries : ℕ) (w : WorldState) (walks : List (List ℤ)) (a : AskedAll) : Type 0 where
+  pub kept : IsAskKept w a.world
+  pub can : CanAsk a.world host []
+  pub found : IsTrueWhereFound (fabric_of w) host a.entries
+  pub truth : a.drowned ≡ 0 → IsTrueJournal (fabric_of w) host a.entries
+  pub heard : 0 < tries → IsQuietFor w a.world → a.drowned ≡ 0
+  pub few : tries ≤ 8 → a.world.injected ≤ w.injected + 24 * length walks
+
+answer-there : (n : Network) (host : ℕ) (walk : List ℤ) (x : Answer) (drowned : Bool) → (x ≡ answer n host walk) ⊎ ((x ≡ Nothing) × (drowned ≡ true)) → x ≢ Nothing → x ≡ answer n host walk
+answer-there n host walk x drowned (inl e) some = e
+answer-there n host walk x drowned (inr p) some = absurd (some p.0)
+
+answer-true : (n : Network) (host : ℕ) (walk : List ℤ) (x : Answer) (drowned : Bool) (k : ℕ) → (x ≡ answer n host walk) ⊎ ((x ≡ Nothing) × (drowned ≡ true)) → one_if drowned + k ≡ 0 → x ≡ answer n host walk
+answer-true n host walk x drowned k (inl e) none = e
+answer-true n host walk x drowned k (inr p) none = let one : one_if drowned ≡ 1 = ap one_if p.1 in absurd (omega (arith, none, one))
+
+rest-none : (drowned : Bool) (k : ℕ) → one_if drowned + k ≡ 0 → k ≡ 0
+rest-none drowned k none = omega (arith, none)
+
+none-both : (drowned : Bool) (k : ℕ) → drowned ≡ false → k ≡ 0 → one_if drowned + k ≡ 0
+none-both drowned k a b = let one : one_if drowned ≡ 0 = ap one_if a in omega (arith, one, b)
+
+-- an ask, and those behind it
+ask-push : (host tries : ℕ) (walk : List ℤ) (walks : List (List ℤ)) (w : WorldState) → CanAsk w host [] → IsCarried walk → ((u : WorldState) → CanAsk u host [] → AreAsked host tries u walks (asked_all host tries walks u)) → AreAsked host tries w (walk ∷ walks) (asked_all host tries (walk ∷ walks) w)
+ask-push host tries walk walks w can is others = record {
+  kept = kept-both w a.world rest.world kept r.kept;
+  can = r.can;
+  found = (answer-there n host walk a.answer a.drowned answers, subst (λ k. IsTrueWhereFound k host rest.entries) kept.fabric r.found);
+  truth = λ none. (answer-true n host walk a.answer a.drowned rest.drowned answers none, subst (λ k. IsTrueJournal k host rest.entries) kept.fabric (r.truth (rest-none a.drowned rest.drowned none)));
+  heard = λ some quiet. none-both a.drowned rest.drowned (first some quiet) (r.heard some (later quiet));
+  few = λ low. (let one = ask-few w host tries walk in let more = r.few low in omega (arith, one, more, low));
+}
+  where
+    n : Network
+    n = fabric_of w
+
+    a : Asked
+    a = ask host tries walk w
+
+    rest : AskedAll
+    rest = asked_all host tries walks a.world
+
+    here : CanAsk w host walk
+    here = ask-by w host walk can is
+
+    kept : IsAskKept w a.world
+    kept = ask-keeps w host tries walk here
+
+    r : AreAsked host tries a.world walks rest
+    r = others a.world (ask-again w host tries walk [] here can)
+
+    answers : (a.answer ≡ answer n host walk) ⊎ ((a.answer ≡ Nothing) × (a.drowned ≡ true))
+    answers = ask-true w host tries walk here
+
+    first : 0 < tries → IsQuietFor w rest.world → a.drowned ≡ false
+    first some quiet =
+        let up = r.kept.injected in
+        let left = quiet.left in
+        ask-heard w host tries walk here some (λ number low high. quiet.unplanned number low (omega (arith, high, up))) (omega (arith, up, left))
+
+    later : IsQuietFor w rest.world → IsQuietFor a.world rest.world
+    later quiet = let up = kept.injected in record { unplanned = λ number low high. kept.unplanned number (quiet.unplanned number (omega (arith, low, up)) high); left = quiet.left }
+
+pub asks-so : (host tries : ℕ) (walks : List (List ℤ)) (w : WorldState) → CanAsk w host [] → AllByRecursion IsCarried walks → AreAsked host tries w walks (asked_all host tries walks w)
+asks-so host tries [] w can all = record {
+  kept = kept-same w;
+  can = can;
+  found = tt;
+  truth = λ none. tt;
+  heard = λ some quiet. refl;
+  few = λ low. omega arith;
+}
+asks-so host tries (walk ∷ walks) w can all = ask-push host tries walk walks w can all.0 (λ u c. asks-so host tries walks u c all.1)

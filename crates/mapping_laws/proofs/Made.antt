@@ -1,0 +1,152 @@
+-- What a mapping comes to: the laws.
+use Rattle.std.proofs.Common.{◌≡◌, ◌<◌, ◌≤◌, ◌+◌, ℕ, Bool, true, false, List, [], ◌∷◌, ◌++◌, map, length, nat_eq, cond, ◌⊎◌, inl, inr, Some, None, refl, sym, ap, ◌∙◌, subst, arith, length-append}
+use Rattle.std.specs.List.{AllByRecursion}
+use Rattle.std.specs.Map.{lookup}
+use Rattle.std.proofs.lemmas.Bool.Decides.{nat_tests}
+use Rattle.std.proofs.lemmas.List.{length-map}
+use Rattle.net_defs.specs.declared.vertex.Vertex.TheVariants.{Host}
+use Rattle.net_defs.specs.Network.{Network, has_vertex}
+use Rattle.net_defs.specs.Turn.{IsTurn}
+use Rattle.net_defs.proofs.Distinct.{all-weaker}
+use Rattle.journal_defs.specs.declared.entry.Entry.{Entry}
+use Rattle.journal_defs.specs.Walks.{IsOnward}
+use Rattle.journal_defs.specs.Tree.{reached}
+use Rattle.journal_defs.specs.Growth.{IsGrown, IsGrowing, IsEndedByDepth, IsEndedAtLimit, IsClosed}
+use Rattle.journal_defs.specs.Growth.IsGrowing.{nothing, more}
+use Rattle.journal_defs.proofs.Members.{IsMember, all-from-members, all-map}
+use Rattle.map_defs.specs.NetMap.{NetMap, IsMap}
+use Rattle.map_defs.specs.Core.{core_of}
+use Rattle.map_defs.specs.Sameness.{IsMapOfPart}
+use Rattle.map_defs.proofs.Sameness.{same_map_is_right}
+use Rattle.growth_laws.proofs.Asks.{growing-tree, push-parts, not_empty}
+use Rattle.growth_laws.proofs.Near.{are-short, few-turns, onward-walk}
+use Rattle.growth_laws.proofs.Few.{asks_are_few, member-asked}
+use Rattle.growth_laws.proofs.Depth.{depth_suffices}
+use Rattle.map_laws.proofs.Alike.{marks_do_not_matter}
+use Rattle.map_laws.proofs.Assembly.{closed_map_is_right}
+use Rattle.map_laws.proofs.Marked.{marked_map_is_map}
+use Rattle.map_laws.proofs.Ruled.{quotient_is_map}
+use Rattle.world_defs.specs.declared.fault.Fault.{Fault}
+use Rattle.world_defs.specs.World.{WorldState, fabric_of}
+use Rattle.ask_laws.specs.Premises.{CanAsk}
+use Rattle.run_defs.specs.Mapped.{AskedAll, IsMapped, IsCalled}
+use Rattle.run_defs.specs.Mapped.IsCalled.{too_many_nodes, too_shallow, doubted, right}
+use Rattle.run_defs.specs.declared.line.MapWords.{MapWords}
+use Rattle.run_defs.specs.declared.line.MapWords.TheVariants.{Complete}
+use Rattle.mapping_laws.specs.Laws.{CanMap, FoundIsThere, UndrownedIsTrue, MadeMapIsMap, MadeMapIsRight, MappingKeeps, DeepMapIsComplete}
+use Rattle.mapping_laws.proofs.Asks.{IsCarried, AreAsked, asks-so}
+
+-- the walks of a grown journal are carried
+carried : (host depth : ℕ) (j : List Entry) → depth ≤ 65 → IsGrowing host depth j → AllByRecursion IsCarried (map (λ e. e.walk) j)
+carried host depth j low g = all-map IsCarried (λ (e : Entry). e.walk) j (all-from-members (λ (e : Entry). IsCarried e.walk) j each)
+  where
+    each : (e : Entry) → IsMember e j → IsCarried e.walk
+    each e m =
+        let tree = growing-tree host depth j g in
+        let asked = member-asked j e m in
+        let few : length e.walk ≤ 64 = few-turns j e.walk depth 64 tree (are-short host depth j g) low asked in
+        record { turns = all-weaker IsOnward IsTurn e.walk (λ t o. o.0) (onward-walk j 64 e.walk tree asked few); few = few }
+
+start : (host depth : ℕ) (w : WorldState) → CanMap host depth w → CanAsk w host []
+start host depth w can = record {
+  fabric = can.fabric;
+  world = can.world;
+  idle = can.idle;
+  is_host = can.is_host;
+  turns = tt;
+  few_turns = omega arith;
+  byte_flips = can.byte_flips;
+}
+
+module _ (host depth tries : ℕ) (before after : WorldState) (j : List Entry) (m : NetMap) (words : MapWords) (can : CanMap host depth before) (made : IsMapped host depth tries before after j m words) where
+  abbrev came : AskedAll
+  came = record { entries = j; drowned = made.drowned; world = after }
+
+  -- what the mapping's asks came to
+  asked-so : AreAsked host tries before (map (λ e. e.walk) j) came
+  asked-so =
+      subst (AreAsked host tries before (map (λ e. e.walk) j)) made.asked
+      (asks-so host tries (map (λ e. e.walk) j) before (start host depth before can) (carried host depth j can.shallow made.grown.growing))
+
+pub found_is_there : FoundIsThere
+found_is_there host depth tries before after j m words can made = (asked-so host depth tries before after j m words can made).found
+
+pub undrowned_is_true : UndrownedIsTrue
+undrowned_is_true host depth tries before after j m words can made none = (asked-so host depth tries before after j m words can made).truth none
+
+pub made_map_is_map : MadeMapIsMap
+made_map_is_map host depth tries before after j m words can made =
+    let found = found_is_there host depth tries before after j m words can made in
+    subst IsMap (sym made.marked) (marked_map_is_map made.unmarked (quotient_is_map (fabric_of before) host j made.unmarked can.fabric found made.quotient))
+
+-- when a map is called complete
+complete-parts : (host : ℕ) (j : List Entry) (drowned : ℕ) → IsCalled host j drowned Complete → (drowned ≡ 0) × IsClosed host j
+complete-parts host j drowned (right l c none) = (none, c)
+
+pub made_map_is_right : MadeMapIsRight
+made_map_is_right host depth tries before after j m can made =
+    let n : Network = fabric_of before in
+    let k : NetMap = made.unmarked in
+    let parts = complete-parts host j made.drowned made.called in
+    let truth = undrowned_is_true host depth tries before after j m Complete can made parts.0 in
+    let unmarked = closed_map_is_right n host depth j k can.fabric truth made.grown parts.1 made.quotient in
+    subst (IsMapOfPart n host) (sym made.marked)
+    (same_map_is_right n host k (record k { core = core_of k }) (marks_do_not_matter (record k { core = core_of k }) k refl refl) unmarked)
+
+pub mapping_keeps : MappingKeeps
+mapping_keeps host depth tries before after j m words can made =
+    let r = asked-so host depth tries before after j m words can made in
+    let is = r.can in
+    (r.kept, record { fabric = is.fabric; world = is.world; idle = is.idle; is_host = is.is_host; byte_flips = is.byte_flips; shallow = can.shallow })
+
+-- a journal that has grown has few asks
+few-of : (host depth : ℕ) (j : List Entry) → IsGrowing host depth j → length (reached j) ≤ 65535 → length j ≤ 1966051
+few-of host depth j g few = let asks = asks_are_few host depth j g in omega (arith, asks, few)
+
+growing-before : (host depth : ℕ) (j i : List Entry) (last : Entry) → IsGrowing host depth j → j ≡ i ++ last ∷ [] → IsGrowing host depth i
+growing-before host depth j i last (nothing) whole = absurd (not_empty i last (sym whole))
+growing-before host depth j i last (more b e g ask is) whole = subst (IsGrowing host depth) (sym (push-parts i b last e (sym whole ∙ is)).0) g
+
+grown-few : (host depth : ℕ) (j : List Entry) → IsGrown host depth j → length j ≤ 1966052
+grown-few host depth j g = by g.ended
+  where
+    by : IsEndedByDepth host depth j ⊎ IsEndedAtLimit j → length j ≤ 1966052
+    by (inl e) = let kept = e.kept in let few = few-of host depth j g.growing (omega (arith, kept)) in omega (arith, few)
+    by (inr l) =
+        let kept = l.kept in
+        let few = few-of host depth l.before (growing-before host depth j l.before l.last g.growing l.whole) (omega (arith, kept)) in
+        let longer : length j ≡ length l.before + 1 = ap length l.whole ∙ length-append l.before (l.last ∷ []) in
+        omega (arith, few, longer)
+
+-- no fault is planned for an injection between two
+unplanned-between : (number low high : ℕ) (fs : List (ℕ × Fault)) → AllByRecursion (λ f. (f.0 ≤ low) ⊎ (high < f.0)) fs → low < number → number ≤ high → lookup (nat_eq number) fs ≡ None
+unplanned-between number low high [] all above below = refl
+unplanned-between number low high (f ∷ fs) all above below = by (nat_eq number f.0) refl all.0 (unplanned-between number low high fs all.1 above below)
+  where
+    by : (b : Bool) → nat_eq number f.0 ≡ b → (f.0 ≤ low) ⊎ (high < f.0) → lookup (nat_eq number) fs ≡ None → cond b (Some f.1) (lookup (nat_eq number) fs) ≡ None
+    by true e (inl l) rest = absurd (grind (arith, nat_tests))
+    by true e (inr l) rest = absurd (grind (arith, nat_tests))
+    by false e l rest = rest
+
+-- the words where nothing keeps a map from being complete
+called-complete : (host : ℕ) (j : List Entry) (drowned : ℕ) (words : MapWords) → IsCalled host j drowned words → ¬ IsEndedAtLimit j → IsClosed host j → drowned ≡ 0 → words ≡ Complete
+called-complete host j drowned words (too_many_nodes l) within closed none = absurd (within l)
+called-complete host j drowned words (too_shallow l c) within closed none = absurd (c closed)
+called-complete host j drowned words (doubted l c some) within closed none = absurd (omega (arith, some, none))
+called-complete host j drowned words (right l c d) within closed none = refl
+
+pub deep_map_is_complete : DeepMapIsComplete
+deep_map_is_complete host depth tries before after j m words can made quiet some low deep =
+    let n : Network = fabric_of before in
+    let r = asked-so host depth tries before after j m words can made in
+    let few = r.few low in
+    let asks = grown-few host depth j made.grown in
+    let same = length-map j (λ (e : Entry). e.walk) in
+    let start_at = quiet.injections_left in
+    let none = r.heard (omega (arith, some)) (record {
+      unplanned = λ number above below. unplanned-between number before.injected after.injected before.plan quiet.unplanned above below;
+      left = omega (arith, few, asks, same, start_at);
+    }) in
+    let there : has_vertex n (Host host) ≡ true = (let is = can.is_host in let hosts = can.world.hosts in grind (arith, nat_tests)) in
+    let ends = depth_suffices n host depth j can.fabric there deep quiet.small (r.truth none) made.grown in
+    called-complete host j made.drowned words made.called ends.not_at_limit ends.closed none

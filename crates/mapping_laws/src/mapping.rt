@@ -1,0 +1,21 @@
+//! What a mapping finds and leaves: `specs/Laws.antt` has the statements.
+
+ghost use Rattle.mapping_laws.specs.Laws.{FoundIsThere, UndrownedIsTrue, MadeMapIsMap, MadeMapIsRight, MappingKeeps, DeepMapIsComplete};
+
+/// Whatever a mapping found is there, its map is a map, and where it is called complete it is the mapper's part of the fabric.
+pub fn made_maps()
+    ensures found { FoundIsThere }
+    ensures undrowned { UndrownedIsTrue }
+    ensures rules { MadeMapIsMap }
+    ensures complete { MadeMapIsRight }
+{}
+
+/// A mapping leaves what asks leave, and its host can map again.
+pub fn kept_by_mappings()
+    ensures { MappingKeeps }
+{}
+
+/// On a quiet fabric a map that is deep enough is called complete.
+pub fn deep_maps()
+    ensures { DeepMapIsComplete }
+{}
