@@ -1,2 +1,5 @@
 pub mod Asks
 pub mod Made
+pub mod Worlds
+pub mod Sessions
+pub mod Printed

@@ -1,12 +1,15 @@
-//! What holds of every mapping over the world of a fabric.
+//! What holds of every mapping over the world of a fabric, and of the maps that every run prints.
 //!
 //! Each law is a function without parameters: its contract is the law, and its body is empty. The statements stand in `specs/`.
 //!
 //! | file of `specs/` | says |
 //! |---|---|
 //! | `Laws` | whatever a mapping found is there; a map called complete is right; on a quiet fabric a deep map is called so |
+//! | `Runs` | a run keeps a world of its fabric, and each map that it prints under the word complete is right |
 #![tactic(auto)]
 
 mod mapping;
+mod running;
 
 pub use mapping::{deep_maps, kept_by_mappings, made_maps};
+pub use running::{kept_by_runs, maps_of_runs};

@@ -1,0 +1,180 @@
+-- Each line that says complete is followed by a right map, in what every command prints and so in what a run prints.
+use Rattle.std.proofs.Common.{◌≡◌, ◌≤◌, ℕ, Bool, true, false, not, List, [], ◌∷◌, ◌++◌, map, Option, Some, None, refl, sym, subst, if◌then◌else◌}
+use Rattle.std.specs.List.{AllByRecursion}
+use Rattle.net_defs.specs.declared.route.Route.{Route}
+use Rattle.net_defs.specs.Network.{Network, IsFabric}
+use Rattle.link_defs.specs.Links.{is_idle}
+use Rattle.journal_defs.specs.Depth.{enough_depth}
+use Rattle.journal_defs.proofs.Members.{all-join}
+use Rattle.gm_defs.specs.Token.{PortState}
+use Rattle.map_defs.specs.NetMap.{NetMap}
+use Rattle.map_defs.specs.Dependencies.{ranks_of}
+use Rattle.map_defs.specs.Orientation.{order_of}
+use Rattle.map_defs.specs.Sameness.{IsMapOfPart}
+use Rattle.world_defs.specs.declared.event.Event.{Event}
+use Rattle.world_defs.specs.declared.effect.Effect.{Effect}
+use Rattle.world_defs.specs.Node.{port_at}
+use Rattle.world_defs.specs.World.{WorldState, node_at, adopted_by}
+use Rattle.world_defs.specs.Step.{step}
+use Rattle.world_defs.specs.Install.{installed}
+use Rattle.run_defs.specs.declared.command.Command.{Command}
+use Rattle.run_defs.specs.declared.command.Command.TheVariants.{Walk, Map, Routes, Install, Begin as BeginCommand, Close as CloseCommand, Poll as PollCommand, Tokens, Provide as ProvideCommand, Send as SendCommand, Plan, Step, Settle, Finish}
+use Rattle.run_defs.specs.declared.line.Line.{Line}
+use Rattle.run_defs.specs.declared.line.Line.TheVariants.{Map as MapLine, MapBusy, EndRoutes, InstallRefused}
+use Rattle.run_defs.specs.declared.line.InstallCause.TheVariants.{Busy, Installed as OtherInstalled}
+use Rattle.run_defs.specs.declared.line.MapWords.{MapWords}
+use Rattle.run_defs.specs.declared.line.MapWords.TheVariants.{Complete, Doubtful, IncompleteDepth, IncompleteNodes}
+use Rattle.run_defs.specs.Mapped.{IsMapped}
+use Rattle.run_defs.specs.Output.{Piece, OneLine, MapLines, lines}
+use Rattle.run_defs.specs.Session.{SessionState, LastMap, LastRoutes, complete_map}
+use Rattle.run_defs.specs.Outcome.{Outcome, says_only, event_of, stepped, step_or_idle, token_lines, table_line, adoption_of, install_done, install_now, install, is_other, map_refused, routes_refused, outcome}
+use Rattle.run_defs.specs.Run.{Does, Runs, map_pieces, route_line, rank_line, routes_lines}
+use Rattle.run_defs.specs.Run.Does.{determined, maps, routes}
+use Rattle.run_defs.specs.Run.Runs.{ended, goes_on}
+use Rattle.mapping_laws.specs.Runs.{IsCommandOf, IsSessionOf, CompleteMapsAreTrue, DeepMapsAreComplete}
+use Rattle.mapping_laws.proofs.Made.{made_map_is_right, deep_map_is_complete}
+use Rattle.mapping_laws.proofs.Sessions.{can-map, can-map-now, does-stays, new-session, run_keeps_world}
+
+-- the mapper of a line that says complete
+abbrev complete_line : Line → Option ℕ
+complete_line (MapLine mapper Complete asks packets) = Some mapper
+complete_line _ = None
+
+abbrev complete_of : Piece → Option ℕ
+complete_of (OneLine l) = complete_line l
+complete_of (MapLines m) = None
+
+-- a right map comes first
+abbrev IsRightFirst : Network → ℕ → List Piece → Type 0
+IsRightFirst n mapper (MapLines m ∷ rest) = IsMapOfPart n mapper m
+IsRightFirst n mapper _ = ⊥
+
+abbrev IsFollowed : Network → Option ℕ → List Piece → Type 0
+IsFollowed n None rest = Unit {0}
+IsFollowed n (Some mapper) rest = IsRightFirst n mapper rest
+
+abbrev AreRight : Network → List Piece → Type 0
+AreRight n [] = Unit {0}
+AreRight n (p ∷ ps) = IsFollowed n (complete_of p) ps × AreRight n ps
+
+-- what holds of two outputs holds of both in a row
+first-both : (n : Network) (mapper : ℕ) (xs ys : List Piece) → IsRightFirst n mapper xs → IsRightFirst n mapper (xs ++ ys)
+first-both n mapper [] ys is = absurd is
+first-both n mapper (MapLines m ∷ xs) ys is = is
+first-both n mapper (OneLine l ∷ xs) ys is = absurd is
+
+followed-both : (n : Network) (o : Option ℕ) (xs ys : List Piece) → IsFollowed n o xs → IsFollowed n o (xs ++ ys)
+followed-both n None xs ys is = tt
+followed-both n (Some mapper) xs ys is = first-both n mapper xs ys is
+
+right-both : (n : Network) (xs ys : List Piece) → AreRight n xs → AreRight n ys → AreRight n (xs ++ ys)
+right-both n [] ys a b = b
+right-both n (x ∷ xs) ys a b = (followed-both n (complete_of x) xs ys a.0, right-both n xs ys a.1 b)
+
+-- a map printed under complete is right
+printed-right : (n : Network) (mapper asks packets : ℕ) (m : NetMap) (before behind : List Piece) → AreRight n (before ++ OneLine (MapLine mapper Complete asks packets) ∷ MapLines m ∷ behind) → IsMapOfPart n mapper m
+printed-right n mapper asks packets m [] behind all = all.0
+printed-right n mapper asks packets m (p ∷ before) behind all = printed-right n mapper asks packets m before behind all.1
+
+-- lines that don't say complete
+abbrev IsOther : Line → Type 0
+IsOther l = complete_line l ≡ None
+
+lines-right : (n : Network) (ls : List Line) → AllByRecursion IsOther ls → AreRight n (lines ls)
+lines-right n [] all = tt
+lines-right n (l ∷ ls) all = (subst (λ o. IsFollowed n o (lines ls)) (sym all.0) tt, lines-right n ls all.1)
+
+each-other : {X : Type 0} (f : X → Line) (xs : List X) → ((x : X) → IsOther (f x)) → AllByRecursion IsOther (map f xs)
+each-other f [] e = tt
+each-other f (x ∷ xs) e = (e x, each-other f xs e)
+
+abbrev RightIn : Network → Option Outcome → Type 0
+RightIn n None = Unit {0}
+RightIn n (Some o) = AreRight n o.output
+
+token-right : (n : Network) (h port : ℕ) (o : Option PortState) → AreRight n (lines (token_lines h port o))
+token-right n h port None = (tt, tt)
+token-right n h port (Some p) = (tt, tt)
+
+stepped-right : (n : Network) (s : SessionState) (r : Effect × WorldState) → RightIn n (Some (stepped s r))
+stepped-right n s (x, w) = (tt, tt)
+
+step-right : (n : Network) (s : SessionState) (o : Option Event) → RightIn n (Some (step_or_idle s o))
+step-right n s None = (tt, tt)
+step-right n s (Some e) = stepped-right n s (step s.world e)
+
+done-right : (n : Network) (s : SessionState) (hosts : List ℕ) (r : ℕ × WorldState) → RightIn n (Some (install_done s hosts r))
+done-right n s hosts (acked, w) = (tt, lines-right n (map (table_line w) hosts) (each-other (table_line w) hosts (λ h. refl)))
+
+install-right : (n : Network) (s : SessionState) (tries : ℕ) (o : Option LastRoutes) → RightIn n (Some (install s tries o))
+install-right n s tries None = (tt, tt)
+install-right n s tries (Some l) = by (not (is_idle s.world.links)) (is_other l.routes s.world.adopted)
+  where
+    by : (busy other : Bool) → RightIn n (Some (if busy then says_only s (InstallRefused Busy ∷ []) else if other then says_only s (InstallRefused OtherInstalled ∷ []) else install_now s l tries))
+    by true other = (tt, tt)
+    by false true = (tt, tt)
+    by false false = done-right n s l.hosts (installed (adoption_of l) l.hosts tries (adopted_by s.world l.mapper l.routes))
+
+refused-right : (n : Network) (s : SessionState) (o : Option LastMap) → RightIn n (routes_refused s o)
+refused-right n s None = (tt, tt)
+refused-right n s (Some l) = tt
+
+busy-right : (n : Network) (s : SessionState) (host : ℕ) → RightIn n (map_refused s host)
+busy-right n s host = by (is_idle s.world.links)
+  where
+    by : (idle : Bool) → RightIn n (if idle then None else Some (says_only s (MapBusy host ∷ [])))
+    by true = tt
+    by false = (tt, tt)
+
+outcome-right : (n : Network) (s : SessionState) (c : Command) → RightIn n (outcome s c)
+outcome-right n s (Walk host walk) = (tt, tt)
+outcome-right n s (Map host depth tries) = busy-right n s host
+outcome-right n s Routes = refused-right n s (complete_map s.last_map)
+outcome-right n s (Install tries) = install-right n s tries s.last_routes
+outcome-right n s (BeginCommand h port sends recvs) = (tt, tt)
+outcome-right n s (CloseCommand h port) = (tt, tt)
+outcome-right n s (PollCommand h port) = (tt, tt)
+outcome-right n s (Tokens h port) = token-right n h port (port_at (node_at s.world h) port)
+outcome-right n s (ProvideCommand h port size prio) = (tt, tt)
+outcome-right n s (SendCommand h port dest dport prio len seed) = (tt, tt)
+outcome-right n s (Plan ahead kind) = (tt, tt)
+outcome-right n s (Step line) = step-right n s (event_of s.world line)
+outcome-right n s Settle = (tt, tt)
+outcome-right n s Finish = (tt, tt)
+
+map-right : (n : Network) (host asks packets : ℕ) (m : NetMap) (words : MapWords) → (words ≡ Complete → IsMapOfPart n host m) → AreRight n (OneLine (MapLine host words asks packets) ∷ map_pieces words m)
+map-right n host asks packets m Complete is = (is refl, (tt, tt))
+map-right n host asks packets m (Doubtful drowned) is = (tt, (tt, tt))
+map-right n host asks packets m IncompleteDepth is = (tt, (tt, tt))
+map-right n host asks packets m IncompleteNodes is = (tt, tt)
+
+routes-right : (n : Network) (m : NetMap) (found : List Route) → AreRight n (lines (routes_lines m found))
+routes-right n m found = lines-right n (routes_lines m found) (
+  refl,
+  all-join IsOther (map route_line found ++ map (rank_line m) (ranks_of m (order_of m))) (EndRoutes ∷ [])
+      (all-join IsOther (map route_line found) (map (rank_line m) (ranks_of m (order_of m))) (each-other route_line found (λ r. refl)) (each-other (rank_line m) (ranks_of m (order_of m)) (λ k. refl)))
+      (refl, tt),
+)
+
+does-right : {s next : SessionState} {c : Command} {out : List Piece} → (n : Network) → IsFabric n → IsCommandOf n c → IsSessionOf n s → Does s c out next → AreRight n out
+does-right {s = s} {c = c} n f of_n is (determined e) = subst (RightIn n) e (outcome-right n s c)
+does-right {s = s} n f of_n is (maps {host = host} {depth = depth} {tries = tries} after j m words none made printed left) =
+    let can = can-map-now n s host depth tries f of_n is none in
+    subst (AreRight n) (sym printed) (map-right n host _ _ m words
+    (λ e. subst (λ k. IsMapOfPart k host m) is.fabric (made_map_is_right host depth tries s.world after j m can (subst (IsMapped host depth tries s.world after j m) e made))))
+does-right {s = s} n f of_n is (routes l found complete are printed left) = subst (AreRight n) (sym printed) (routes-right n l.made found)
+
+runs-right : {s last : SessionState} {cs : List Command} {out : List Piece} → (n : Network) → IsFabric n → AllByRecursion (IsCommandOf n) cs → IsSessionOf n s → Runs s cs out last → AreRight n out
+runs-right n f all is ended = tt
+runs-right n f all is (goes_on {out = out} {rest = rest} d r e) =
+    subst (AreRight n) (sym e) (right-both n out rest (does-right n f all.0 is d) (runs-right n f all.1 (does-stays n f all.0 is d) r))
+
+pub complete_maps_are_true : CompleteMapsAreTrue
+complete_maps_are_true n commands f all out last mapper m r p =
+    printed-right n mapper p.asks p.packets m p.before p.behind (subst (AreRight n) p.there (runs-right n f all (new-session n) r))
+
+pub deep_maps_are_complete : DeepMapsAreComplete
+deep_maps_are_complete n commands out s host depth tries after j m words f all r of_n made quiet some low deep =
+    let is = run_keeps_world n commands out s f all r in
+    deep_map_is_complete host depth tries s.world after j m words (can-map n s host depth f of_n.0 of_n.1 is quiet.idle) made quiet some low
+    (subst (λ k. enough_depth k host ≤ depth) (sym is.fabric) deep)
