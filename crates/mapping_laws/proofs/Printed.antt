@@ -31,7 +31,8 @@ use Rattle.run_defs.specs.Outcome.{Outcome, says_only, event_of, stepped, step_o
 use Rattle.run_defs.specs.Run.{Does, Runs, map_pieces, route_line, rank_line, routes_lines}
 use Rattle.run_defs.specs.Run.Does.{determined, maps, routes}
 use Rattle.run_defs.specs.Run.Runs.{ended, goes_on}
-use Rattle.mapping_laws.specs.Runs.{IsCommandOf, IsSessionOf, CompleteMapsAreTrue, DeepMapsAreComplete}
+use Rattle.run_defs.specs.Headline.{IsCommandOf}
+use Rattle.mapping_laws.specs.Runs.{IsSessionOf, CompleteMapsAreTrue, DeepMapsAreComplete}
 use Rattle.mapping_laws.proofs.Made.{made_map_is_right, deep_map_is_complete}
 use Rattle.mapping_laws.proofs.Sessions.{can-map, can-map-now, does-stays, new-session, run_keeps_world}
 

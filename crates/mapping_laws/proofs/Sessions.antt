@@ -22,7 +22,8 @@ use Rattle.run_defs.specs.Run.{Does, Runs}
 use Rattle.run_defs.specs.Run.Does.{determined, maps, routes}
 use Rattle.run_defs.specs.Run.Runs.{ended, goes_on}
 use Rattle.mapping_laws.specs.Laws.{CanMap}
-use Rattle.mapping_laws.specs.Runs.{IsCommandOf, IsSessionOf, RunKeepsWorld}
+use Rattle.run_defs.specs.Headline.{IsCommandOf}
+use Rattle.mapping_laws.specs.Runs.{IsSessionOf, RunKeepsWorld}
 use Rattle.mapping_laws.proofs.Made.{mapping_keeps}
 use Rattle.mapping_laws.proofs.Worlds.{Stays, stays-same, stays-both, stays-event, stays-settle, stays-plan, stays-adopted, stays-installed}
 

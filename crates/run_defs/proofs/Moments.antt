@@ -44,7 +44,7 @@ none_printed out mapper m e p = by p.before (sym e ∙ p.there)
     by (x ∷ before) d = cc
 
 pub no_command_is_right : (n : Network) → CompleteIsTrue n []
-no_command_is_right n out last mapper m r p = absurd (none_printed out mapper m (only_ended r) p)
+no_command_is_right n fabric fair out last mapper m r p = absurd (none_printed out mapper m (only_ended r) p)
 
 -- flips of eight bits may happen, and of nine may not
 pub eight_bits_are_planned : MayActAll (new_world two_hosts) (planned_flip 255)

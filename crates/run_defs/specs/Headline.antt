@@ -1,9 +1,9 @@
 -- What a run promises: a map that says complete is the mapper's part of the fabric; on a quiet fabric, probed deeply enough, it says so; every moment is sound.
-use Rattle.std.specs.Prelude.{◌≡◌, ◌⊎◌, ℕ, ◌<◌, ◌≤◌, ◌^◌, true, List, [], ◌∷◌, ◌++◌, Option, Some, None}
+use Rattle.std.specs.Prelude.{◌≡◌, ◌⊎◌, ℕ, ◌<◌, ◌≤◌, ◌^◌, true, List, [], ◌∷◌, ◌++◌, length, Option, Some, None}
 use Rattle.std.specs.List.{AllByRecursion}
 use Rattle.net_defs.specs.declared.place.Place.TheVariants.{Host as AtHost}
 use Rattle.net_defs.specs.declared.route.Route.{Route}
-use Rattle.net_defs.specs.Network.{Network}
+use Rattle.net_defs.specs.Network.{Network, IsFabric}
 use Rattle.net_defs.specs.Route.{place, channels_of}
 use Rattle.link_defs.specs.Links.{is_idle}
 use Rattle.journal_defs.specs.declared.entry.Entry.{Entry}
@@ -19,10 +19,12 @@ use Rattle.world_defs.specs.Step.{step}
 use Rattle.world_defs.specs.EightBits.{IsByteFault, IsByteEvent}
 use Rattle.world_defs.specs.Sound.{IsSound}
 use Rattle.run_defs.specs.declared.command.Command.{Command}
+use Rattle.run_defs.specs.declared.command.Command.TheVariants.{Map, Plan}
 use Rattle.run_defs.specs.declared.line.MapWords.{MapWords}
 use Rattle.run_defs.specs.declared.line.MapWords.TheVariants.{Complete}
 use Rattle.run_defs.specs.declared.line.Line.TheVariants.{Map as MapLine}
 use Rattle.run_defs.specs.Mapped.{IsMapped}
+use Rattle.run_defs.specs.Outcome.{fault_of}
 use Rattle.run_defs.specs.Output.{Piece, OneLine, MapLines}
 use Rattle.run_defs.specs.Session.{SessionState}
 use Rattle.run_defs.specs.Run.{IsRun}
@@ -35,10 +37,17 @@ pub record HasPrinted (out : List Piece) (mapper : ℕ) (m : NetMap) : Type 0 wh
   pub packets : ℕ
   pub there : out ≡ before ++ OneLine (MapLine mapper Complete asks packets) ∷ MapLines m ∷ behind
 
+-- a command over a fabric: it maps from a host of the fabric to at most 65 cables, and plans flips of eight bits
+abbrev pub IsCommandOf : Network → Command → Type 0
+IsCommandOf n (Map host depth tries) = (host < length n.hosts) × (depth ≤ 65)
+IsCommandOf n (Plan ahead kind) = IsByteFault (fault_of kind)
+IsCommandOf n _ = Unit {0}
+
 -- every map that says complete is the mapper's part of the fabric, the ports of each switch counted from elsewhere
 abbrev pub CompleteIsTrue : Network → List Command → Type 0
 CompleteIsTrue n commands =
-    (out : List Piece) (last : SessionState) (mapper : ℕ) (m : NetMap) → IsRun n commands out last → HasPrinted out mapper m → IsMapOfPart n mapper m
+    IsFabric n → AllByRecursion (IsCommandOf n) commands
+    → (out : List Piece) (last : SessionState) (mapper : ℕ) (m : NetMap) → IsRun n commands out last → HasPrinted out mapper m → IsMapOfPart n mapper m
 
 -- Mapping meets a quiet fabric: no packet is on its way, no planned fault names an injection of it, injections are left in plenty, and the tree stays small.
 pub record IsQuiet (host : ℕ) (before after : WorldState) : Type 0 where
@@ -51,7 +60,8 @@ pub record IsQuiet (host : ℕ) (before after : WorldState) : Type 0 where
 abbrev pub DeepIsComplete : Network → List Command → Type 0
 DeepIsComplete n commands =
     (out : List Piece) (s : SessionState) (host depth tries : ℕ) (after : WorldState) (j : List Entry) (m : NetMap) (words : MapWords)
-    → IsRun n commands out s → IsMapped host depth tries s.world after j m words → IsQuiet host s.world after
+    → IsFabric n → AllByRecursion (IsCommandOf n) commands → IsRun n commands out s
+    → IsCommandOf n (Map host depth tries) → IsMapped host depth tries s.world after j m words → IsQuiet host s.world after
     → 1 ≤ tries → tries ≤ 8 → enough_depth n host ≤ depth → words ≡ Complete
 
 -- What may happen to a world: an event, a plan, or the adoption of routes.

@@ -98,4 +98,4 @@ run-right depth out last mapper m deep (goes_on {next = next} {out = piece} {res
     subst (λ h. IsMapOfPart two_hosts h m) found.0 (subst (λ k. IsMapOfPart two_hosts 0 k) (sym four.2 ∙ found.1) right)
 
 pub maps_are_right : MapsAreRight
-maps_are_right depth deep out last mapper m r p = run-right depth out last mapper m deep r p
+maps_are_right depth deep fabric fair out last mapper m r p = run-right depth out last mapper m deep r p

@@ -11,7 +11,7 @@ use Rattle.run_defs.specs.declared.command.PlanKind.TheVariants.{Lose, Repeat, H
 use Rattle.run_defs.specs.Script.{script_reading}
 use Rattle.fab_script.specs.Ranges.{IsCommandOf as IsSaid}
 use Rattle.fab_script.proofs.Ranged.{reading_ranged}
-use Rattle.mapping_laws.specs.Runs.{IsCommandOf}
+use Rattle.run_defs.specs.Headline.{IsCommandOf}
 use Rattle.mapping_laws.proofs.Printed.{complete_maps_are_true, deep_maps_are_complete}
 use Rattle.script_laws.specs.Laws.{ScriptMapsAreTrue, DeepMapsOfScriptsAreComplete}
 
@@ -41,7 +41,7 @@ said-all : (n : Network) (line : ℕ) (text : List ℕ) (commands : List Command
 said-all n line text commands said = all-weaker (IsSaid n) (IsCommandOf n) commands (said-command n) (reading_ranged n line text (Ok commands) said)
 
 pub script_maps_are_true : ScriptMapsAreTrue
-script_maps_are_true n line text commands f said = complete_maps_are_true n commands f (said-all n line text commands said)
+script_maps_are_true n line text commands out last mapper m f said r p = complete_maps_are_true n commands f (said-all n line text commands said) out last mapper m r p
 
 pub deep_maps_of_scripts_are_complete : DeepMapsOfScriptsAreComplete
 deep_maps_of_scripts_are_complete n line text commands out s host depth tries after j m words f said r there low made quiet some few deep =

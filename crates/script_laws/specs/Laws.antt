@@ -4,6 +4,7 @@ use Rattle.net_defs.specs.Network.{Network, IsFabric}
 use Rattle.journal_defs.specs.declared.entry.Entry.{Entry}
 use Rattle.journal_defs.specs.Depth.{enough_depth}
 use Rattle.map_defs.specs.NetMap.{NetMap}
+use Rattle.map_defs.specs.Sameness.{IsMapOfPart}
 use Rattle.world_defs.specs.World.{WorldState}
 use Rattle.run_defs.specs.declared.command.Command.{Command}
 use Rattle.run_defs.specs.declared.line.MapWords.{MapWords}
@@ -13,11 +14,13 @@ use Rattle.run_defs.specs.Output.{Piece}
 use Rattle.run_defs.specs.Script.{script_reading}
 use Rattle.run_defs.specs.Session.{SessionState}
 use Rattle.run_defs.specs.Run.{IsRun}
-use Rattle.run_defs.specs.Headline.{CompleteIsTrue, IsQuiet}
+use Rattle.run_defs.specs.Headline.{HasPrinted, IsQuiet}
 
 -- Every map that its run prints under the word complete is the mapper's part of the fabric.
 abbrev pub ScriptMapsAreTrue : Type 0
-ScriptMapsAreTrue = (n : Network) (line : ℕ) (text : List ℕ) (commands : List Command) → IsFabric n → script_reading n line text ≡ Ok commands → CompleteIsTrue n commands
+ScriptMapsAreTrue =
+    (n : Network) (line : ℕ) (text : List ℕ) (commands : List Command) (out : List Piece) (last : SessionState) (mapper : ℕ) (m : NetMap)
+    → IsFabric n → script_reading n line text ≡ Ok commands → IsRun n commands out last → HasPrinted out mapper m → IsMapOfPart n mapper m
 
 -- Behind its run, on a quiet fabric, a map from a host of the fabric to the depth that suffices, of at most 65 cables, with 1 to 8 tries an ask, says complete.
 abbrev pub DeepMapsOfScriptsAreComplete : Type 0
