@@ -3,3 +3,4 @@ pub mod Made
 pub mod Worlds
 pub mod Sessions
 pub mod Printed
+pub mod Holding

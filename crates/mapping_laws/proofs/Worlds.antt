@@ -94,71 +94,123 @@ stays-event w e = let k = step-kept w e in record { fabric = k.net; world = k.wo
 stays-along : (Q : Event → Type 0) → Along Stays Q
 stays-along Q = record { same = stays-same; both = stays-both; event = λ w e q. stays-event w e }
 
-pub stays-settle : (w : WorldState) → Stays w (settle w).world
-stays-settle w =
-    let r = settle-reached w in
-    subst (Stays w) (sym r.there) (after_all-along Stays IsOfSettle (stays-along IsOfSettle) w r.events r.kinds)
-
 pub stays-plan : (w : WorldState) (ahead : ℕ) (fault : Fault) → IsByteFault fault → Stays w (planned w ahead fault).1
 stays-plan w ahead fault low = record { fabric = refl; world = planned-world w ahead fault; bytes = λ all. with-bytes (w.injected + ahead) fault w.plan low all }
 
 pub stays-adopted : (w : WorldState) (mapper : ℕ) (routes : List Route) → Stays w (adopted_by w mapper routes)
 stays-adopted w mapper routes = record { fabric = refl; world = adopted-world w mapper routes; bytes = λ all. all }
 
--- installations
-stays-sends : (w : WorldState) (h : ℕ) → Stays w (sends w h).world
-unfolding sends
-stays-sends w h =
-    let u : WorldState = (step w (Inject h)).1 in
-    stays-both w u (drain u).1 (stays-event w (Inject h)) (drain-along Stays (λ e. Unit {0}) (stays-along (λ e. Unit {0})) (λ c. tt) u)
+-- what holds from a world to the next at every event holds along settles and installations
+abbrev Any : Event → Type 0
+Any e = Unit {0}
 
-stays-asks : Asks Stays
-stays-asks = record {
-  same = stays-same;
-  both = stays-both;
-  give_up = λ w h. stays-event w (GiveUp h);
-  stage = λ w h walk looped. stays-event w (Ask h walk looped);
-  send = stays-sends;
-}
+module _ (R : WorldState → WorldState → Type 0) (g : Along R Any) where
+  of_settles : Along R IsOfSettle
+  of_settles = record { same = g.same; both = g.both; event = λ w e q. g.event w e tt }
 
-part_try-stays : (mapper dst part : ℕ) (w : WorldState) → Stays w (part_try mapper dst part w).world
-unfolding part_try
-part_try-stays mapper dst part w = by (has_staged_answer sent.world dst sent.effects)
-  where
-    staged : WorldState
-    staged = (step w (Part dst part)).1
+  pub settle-of : (w : WorldState) → R w (settle w).world
+  settle-of w = let r = settle-reached w in subst (R w) (sym r.there) (after_all-along R IsOfSettle of_settles w r.events r.kinds)
 
-    sent : Sent
-    sent = sends staged mapper
+  sends-of : (w : WorldState) (h : ℕ) → R w (sends w h).world
+  unfolding sends
+  sends-of w h =
+      let u : WorldState = (step w (Inject h)).1 in
+      g.both w u (drain u).1 (g.event w (Inject h) tt) (drain-along R Any g (λ c. tt) u)
 
-    first : Stays w sent.world
-    first = stays-both w staged sent.world (stays-event w (Part dst part)) (stays-sends staged mapper)
+  asks-of : Asks R
+  asks-of = record {
+    same = g.same;
+    both = g.both;
+    give_up = λ w h. g.event w (GiveUp h) tt;
+    stage = λ w h walk looped. g.event w (Ask h walk looped) tt;
+    send = sends-of;
+  }
 
-    by : (b : Bool) → Stays w (if b then answered w mapper dst part sent (sends sent.world dst) else (let r : Tried Bool = record { found = false; harmed = is_harmed sent.used_up w sent.world; world = sent.world } in r)).world
-    by true = stays-both w sent.world (sends sent.world dst).world first (stays-sends sent.world dst)
-    by false = first
+  part_try-of : (mapper dst part : ℕ) (w : WorldState) → R w (part_try mapper dst part w).world
+  unfolding part_try
+  part_try-of mapper dst part w = by (has_staged_answer sent.world dst sent.effects)
+    where
+      staged : WorldState
+      staged = (step w (Part dst part)).1
 
-parts-stay : (mapper dst tries : ℕ) (ps : List ℕ) (w : WorldState) → Stays w (parts_installed mapper dst tries ps w).1
-parts-stay mapper dst tries [] w = stays-same w
-parts-stay mapper dst tries (p ∷ ps) w = by t.found (tries-of Stays stays-asks (λ b. b) false (part_try mapper dst p) (part_try-stays mapper dst p) tries w) (parts-stay mapper dst tries ps t.world)
-  where
-    t : Tried Bool
-    t = part_tries mapper dst tries p w
+      sent : Sent
+      sent = sends staged mapper
 
-    by : (b : Bool) → Stays w t.world → Stays t.world (parts_installed mapper dst tries ps t.world).1 → Stays w (if b then parts_installed mapper dst tries ps t.world else (false, t.world)).1
-    by true first rest = stays-both w t.world (parts_installed mapper dst tries ps t.world).1 first rest
-    by false first rest = first
+      first : R w sent.world
+      first = g.both w staged sent.world (g.event w (Part dst part) tt) (sends-of staged mapper)
 
-hosts-stay : (a : Adoption) (tries : ℕ) (hs : List ℕ) (w : WorldState) → Stays w (hosts_installed a tries hs w).1
-hosts-stay a tries [] w = stays-same w
-hosts-stay a tries (h ∷ hs) w = by (parts_installed a.mapper h tries (parts_of a h) w) (parts-stay a.mapper h tries (parts_of a h) w) (λ v. hosts-stay a tries hs v)
-  where
-    by : (r : Bool × WorldState) → Stays w r.1 → ((v : WorldState) → Stays v (hosts_installed a tries hs v).1) → Stays w (host_counted r (hosts_installed a tries hs)).1
-    by (true, v) first rest = stays-both w v (hosts_installed a tries hs v).1 first (rest v)
-    by (false, v) first rest = stays-both w v (hosts_installed a tries hs v).1 first (rest v)
+      by : (b : Bool) → R w (if b then answered w mapper dst part sent (sends sent.world dst) else (let r : Tried Bool = record { found = false; harmed = is_harmed sent.used_up w sent.world; world = sent.world } in r)).world
+      by true = g.both w sent.world (sends sent.world dst).world first (sends-of sent.world dst)
+      by false = first
+
+  parts-of : (mapper dst tries : ℕ) (ps : List ℕ) (w : WorldState) → R w (parts_installed mapper dst tries ps w).1
+  parts-of mapper dst tries [] w = g.same w
+  parts-of mapper dst tries (p ∷ ps) w = by t.found (tries-of R asks-of (λ b. b) false (part_try mapper dst p) (part_try-of mapper dst p) tries w) (parts-of mapper dst tries ps t.world)
+    where
+      t : Tried Bool
+      t = part_tries mapper dst tries p w
+
+      by : (b : Bool) → R w t.world → R t.world (parts_installed mapper dst tries ps t.world).1 → R w (if b then parts_installed mapper dst tries ps t.world else (false, t.world)).1
+      by true first rest = g.both w t.world (parts_installed mapper dst tries ps t.world).1 first rest
+      by false first rest = first
+
+  hosts-of : (a : Adoption) (tries : ℕ) (hs : List ℕ) (w : WorldState) → R w (hosts_installed a tries hs w).1
+  hosts-of a tries [] w = g.same w
+  hosts-of a tries (h ∷ hs) w = by (parts_installed a.mapper h tries (parts_of a h) w) (parts-of a.mapper h tries (parts_of a h) w) (λ v. hosts-of a tries hs v)
+    where
+      by : (r : Bool × WorldState) → R w r.1 → ((v : WorldState) → R v (hosts_installed a tries hs v).1) → R w (host_counted r (hosts_installed a tries hs)).1
+      by (true, v) first rest = g.both w v (hosts_installed a tries hs v).1 first (rest v)
+      by (false, v) first rest = g.both w v (hosts_installed a tries hs v).1 first (rest v)
+
+  pub installed-of : (a : Adoption) (hosts : List ℕ) (tries : ℕ) (w : WorldState) → R w (installed a hosts tries w).1
+  unfolding installed
+  installed-of a hosts tries w =
+      let start : WorldState = all_given_up w in
+      g.both w start (hosts_installed a tries hosts start).1 (given_up-of R asks-of w (addresses w)) (hosts-of a tries hosts start)
+
+pub stays-settle : (w : WorldState) → Stays w (settle w).world
+stays-settle w = settle-of Stays (stays-along Any) w
 
 pub stays-installed : (a : Adoption) (hosts : List ℕ) (tries : ℕ) (w : WorldState) → Stays w (installed a hosts tries w).1
-unfolding installed
-stays-installed a hosts tries w =
-    let start : WorldState = all_given_up w in
-    stays-both w start (hosts_installed a tries hosts start).1 (given_up-of Stays stays-asks w (addresses w)) (hosts-stay a tries hosts start)
+stays-installed a hosts tries w = installed-of Stays (stays-along Any) a hosts tries w
+
+-- the adopted set stays
+abbrev pub SameSet : WorldState → WorldState → Type 0
+SameSet w v = v.adopted ≡ w.adopted
+
+struck_by-set : (w : WorldState) (f : Fault) (o : Bool × LinkState) → (struck_by w f o).adopted ≡ w.adopted
+struck_by-set w f (true, l) = refl
+struck_by-set w f (false, l) = refl
+
+fault_strikes-set : (w : WorldState) (c : ℕ) (o : Option Fault) → (fault_strikes w c o).adopted ≡ w.adopted
+fault_strikes-set w c None = refl
+fault_strikes-set w c (Some f) = struck_by-set (record w { plan = without_fault w.injected w.plan }) f (fault_on w.links c f)
+
+injection-set : (w : WorldState) (h c : ℕ) (out : Outgoing) → (planned_strikes (sent_out w h c out) c).adopted ≡ w.adopted
+unfolding sent_out planned_strikes
+injection-set w h c out = let u : WorldState = sent_out w h c out in fault_strikes-set u c (lookup (nat_eq u.injected) u.plan)
+
+follows-set : Follows SameSet
+follows-set = record {
+  same = λ w. refl;
+  both = λ u v w f g. g ∙ f;
+  links = λ w x. refl;
+  node = λ w h n k. refl;
+  drop = λ w. refl;
+  injection = λ w h c out low e. injection-set w h c out;
+}
+
+calls-set : FollowsCalls SameSet
+calls-set w h port call k = refl
+
+pub event-set : (w : WorldState) (e : Event) → SameSet w (step w e).1
+event-set w e = step-leaves SameSet follows-set calls-set w e
+
+along-set : Along SameSet Any
+along-set = record { same = λ w. refl; both = λ u v w f g. g ∙ f; event = λ w e q. event-set w e }
+
+pub settle-set : (w : WorldState) → SameSet w (settle w).world
+settle-set w = settle-of SameSet along-set w
+
+pub installed-set : (a : Adoption) (hosts : List ℕ) (tries : ℕ) (w : WorldState) → SameSet w (installed a hosts tries w).1
+installed-set a hosts tries w = installed-of SameSet along-set a hosts tries w

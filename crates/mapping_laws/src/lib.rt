@@ -6,10 +6,11 @@
 //! |---|---|
 //! | `Laws` | whatever a mapping found is there; a map called complete is right; on a quiet fabric a deep map is called so |
 //! | `Runs` | a run keeps a world of its fabric, and each map that it prints under the word complete is right |
+//! | `Held` | the map that a run holds under complete is right, and so are its routes and the adopted ones |
 #![tactic(auto)]
 
 mod mapping;
 mod running;
 
 pub use mapping::{deep_maps, kept_by_mappings, made_maps};
-pub use running::{kept_by_runs, maps_of_runs};
+pub use running::{held_by_runs, kept_by_runs, maps_of_runs};

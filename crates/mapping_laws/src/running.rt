@@ -1,6 +1,7 @@
-//! What holds along every run: `specs/Runs.antt` has the statements.
+//! What holds along every run: `specs/Runs.antt` and `specs/Held.antt` have the statements.
 
 ghost use Rattle.mapping_laws.specs.Runs.{RunKeepsWorld, CompleteMapsAreTrue, DeepMapsAreComplete};
+ghost use Rattle.mapping_laws.specs.Held.{RunHoldsRight};
 
 /// A run over a fabric keeps a world of it.
 pub fn kept_by_runs()
@@ -11,4 +12,9 @@ pub fn kept_by_runs()
 pub fn maps_of_runs()
     ensures complete { CompleteMapsAreTrue }
     ensures deep { DeepMapsAreComplete }
+{}
+
+/// A run holds a right map where it says complete; the routes that it computed from one are right, and so are those that it adopted.
+pub fn held_by_runs()
+    ensures { RunHoldsRight }
 {}
