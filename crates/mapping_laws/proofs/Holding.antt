@@ -131,7 +131,7 @@ kept-map n r l right e = by r.words refl e
 kept-routes : (n : Network) (r l : LastRoutes) → AreRightRoutes n r.mapper r.routes → Some r ≡ Some l → AreRightRoutes n l.mapper l.routes
 kept-routes n r l right e = let one : r ≡ l = cc in subst (λ (x : LastRoutes). AreRightRoutes n x.mapper x.routes) one right
 
-does-hold : {s next : SessionState} {c : Command} {out : List Piece} → (n : Network) → IsFabric n → IsCommandOf n c → IsSessionOf n s → HoldsRight n s → Does s c out next → HoldsRight n next
+pub does-hold : {s next : SessionState} {c : Command} {out : List Piece} → (n : Network) → IsFabric n → IsCommandOf n c → IsSessionOf n s → HoldsRight n s → Does s c out next → HoldsRight n next
 does-hold {s = s} {next = next} {c = c} n f of_n is h (determined e) = held-right n s next (subst (HeldIn s) e (outcome-held s c)) h
 does-hold {s = s} {next = next} n f of_n is h (maps {host = host} {depth = depth} {tries = tries} after j m words none made printed left) =
     let can = can-map-now n s host depth tries f of_n is none in
@@ -154,7 +154,7 @@ runs-hold : {s last : SessionState} {cs : List Command} {out : List Piece} → (
 runs-hold n f all is h ended = h
 runs-hold n f all is h (goes_on d r e) = runs-hold n f all.1 (does-stays n f all.0 is d) (does-hold n f all.0 is h d) r
 
-new-holds : (n : Network) → HoldsRight n (new_session n)
+pub new-holds : (n : Network) → HoldsRight n (new_session n)
 new-holds n = record { complete = λ l e. cc; routes = λ l e. cc; adopted = λ a e. cc }
 
 pub run_holds_right : RunHoldsRight

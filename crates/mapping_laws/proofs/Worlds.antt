@@ -6,7 +6,7 @@ use Rattle.std.specs.Ordering.{match_ordering, nat_cmp}
 use Rattle.net_defs.specs.declared.route.Route.{Route}
 use Rattle.link_defs.specs.Links.{LinkState}
 use Rattle.world_defs.specs.declared.event.Event.{Event}
-use Rattle.world_defs.specs.declared.event.Event.TheVariants.{Ask, Part, Inject, GiveUp}
+use Rattle.world_defs.specs.declared.event.Event.TheVariants.{Ask, Part, Inject, Flip, GiveUp}
 use Rattle.world_defs.specs.declared.fault.Fault.{Fault}
 use Rattle.world_defs.specs.Node.{Outgoing}
 use Rattle.world_defs.specs.Table.{Adoption}
@@ -16,7 +16,7 @@ use Rattle.world_defs.specs.Drain.{drain}
 use Rattle.world_defs.specs.Asking.{Tried, Sent, sends, is_harmed, all_given_up}
 use Rattle.world_defs.specs.Install.{has_staged_answer, answered, part_try, part_tries, parts_installed, parts_of, host_counted, hosts_installed, installed}
 use Rattle.world_defs.specs.Settle.{settle}
-use Rattle.world_defs.specs.EightBits.{IsByteFault, HasByteFaults}
+use Rattle.world_defs.specs.EightBits.{IsByteFault, IsByteEvent, HasByteFaults}
 use Rattle.world_laws.specs.Shape.{IsWorld}
 use Rattle.world_laws.specs.Reached.{IsOfSettle}
 use Rattle.world_laws.proofs.Shapes.{step-kept, adopted-world, planned-world}
@@ -100,13 +100,15 @@ stays-plan w ahead fault low = record { fabric = refl; world = planned-world w a
 pub stays-adopted : (w : WorldState) (mapper : ℕ) (routes : List Route) → Stays w (adopted_by w mapper routes)
 stays-adopted w mapper routes = record { fabric = refl; world = adopted-world w mapper routes; bytes = λ all. all }
 
--- what holds from a world to the next at every event holds along settles and installations
-abbrev Any : Event → Type 0
-Any e = Unit {0}
+-- a settle flips no bits
+settle-bytes : (e : Event) → IsOfSettle e → IsByteEvent e
+settle-bytes (Flip c bit pattern) q = absurd q
+settle-bytes e q = tt
 
-module _ (R : WorldState → WorldState → Type 0) (g : Along R Any) where
+-- what holds from a world to the next at every event holds along settles, asks and installations
+module _ (R : WorldState → WorldState → Type 0) (g : Along R IsByteEvent) where
   of_settles : Along R IsOfSettle
-  of_settles = record { same = g.same; both = g.both; event = λ w e q. g.event w e tt }
+  of_settles = record { same = g.same; both = g.both; event = λ w e q. g.event w e (settle-bytes e q) }
 
   pub settle-of : (w : WorldState) → R w (settle w).world
   settle-of w = let r = settle-reached w in subst (R w) (sym r.there) (after_all-along R IsOfSettle of_settles w r.events r.kinds)
@@ -115,9 +117,9 @@ module _ (R : WorldState → WorldState → Type 0) (g : Along R Any) where
   unfolding sends
   sends-of w h =
       let u : WorldState = (step w (Inject h)).1 in
-      g.both w u (drain u).1 (g.event w (Inject h) tt) (drain-along R Any g (λ c. tt) u)
+      g.both w u (drain u).1 (g.event w (Inject h) tt) (drain-along R IsByteEvent g (λ c. tt) u)
 
-  asks-of : Asks R
+  pub asks-of : Asks R
   asks-of = record {
     same = g.same;
     both = g.both;
@@ -169,10 +171,10 @@ module _ (R : WorldState → WorldState → Type 0) (g : Along R Any) where
       g.both w start (hosts_installed a tries hosts start).1 (given_up-of R asks-of w (addresses w)) (hosts-of a tries hosts start)
 
 pub stays-settle : (w : WorldState) → Stays w (settle w).world
-stays-settle w = settle-of Stays (stays-along Any) w
+stays-settle w = settle-of Stays (stays-along IsByteEvent) w
 
 pub stays-installed : (a : Adoption) (hosts : List ℕ) (tries : ℕ) (w : WorldState) → Stays w (installed a hosts tries w).1
-stays-installed a hosts tries w = installed-of Stays (stays-along Any) a hosts tries w
+stays-installed a hosts tries w = installed-of Stays (stays-along IsByteEvent) a hosts tries w
 
 -- the adopted set stays
 abbrev pub SameSet : WorldState → WorldState → Type 0
@@ -206,7 +208,7 @@ calls-set w h port call k = refl
 pub event-set : (w : WorldState) (e : Event) → SameSet w (step w e).1
 event-set w e = step-leaves SameSet follows-set calls-set w e
 
-along-set : Along SameSet Any
+along-set : Along SameSet IsByteEvent
 along-set = record { same = λ w. refl; both = λ u v w f g. g ∙ f; event = λ w e q. event-set w e }
 
 pub settle-set : (w : WorldState) → SameSet w (settle w).world
