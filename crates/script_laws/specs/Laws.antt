@@ -5,7 +5,10 @@ use Rattle.journal_defs.specs.declared.entry.Entry.{Entry}
 use Rattle.journal_defs.specs.Depth.{enough_depth}
 use Rattle.map_defs.specs.NetMap.{NetMap}
 use Rattle.map_defs.specs.Sameness.{IsMapOfPart}
+use Rattle.map_defs.specs.Dependencies.{IsBefore, HasNoCycle}
 use Rattle.world_defs.specs.World.{WorldState}
+use Rattle.world_defs.specs.Sound.{installed_channels}
+use Rattle.table_laws.specs.Acts.{IsReached}
 use Rattle.run_defs.specs.declared.command.Command.{Command}
 use Rattle.run_defs.specs.declared.line.MapWords.{MapWords}
 use Rattle.run_defs.specs.declared.line.MapWords.TheVariants.{Complete}
@@ -29,3 +32,15 @@ DeepMapsOfScriptsAreComplete =
     → IsFabric n → script_reading n line text ≡ Ok commands → IsRun n commands out s
     → host < length n.hosts → depth ≤ 65 → IsMapped host depth tries s.world after j m words → IsQuiet host s.world after
     → 1 ≤ tries → tries ≤ 8 → enough_depth n host ≤ depth → words ≡ Complete
+
+-- Acts that may happen lead to the world behind its run.
+abbrev pub ScriptIsReached : Type 0
+ScriptIsReached =
+    (n : Network) (line : ℕ) (text : List ℕ) (commands : List Command) (out : List Piece) (last : SessionState)
+    → IsFabric n → script_reading n line text ≡ Ok commands → IsRun n commands out last → IsReached n last.world
+
+-- So no channel waits for itself along the routes that it installed.
+abbrev pub ScriptHasNoCycle : Type 0
+ScriptHasNoCycle =
+    (n : Network) (line : ℕ) (text : List ℕ) (commands : List Command) (out : List Piece) (last : SessionState)
+    → IsFabric n → script_reading n line text ≡ Ok commands → IsRun n commands out last → HasNoCycle (IsBefore (installed_channels last.world))

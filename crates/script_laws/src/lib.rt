@@ -3,4 +3,4 @@
 
 mod maps;
 
-pub use maps::maps_of_scripts;
+pub use maps::{acts_of_scripts, maps_of_scripts};
