@@ -33,7 +33,8 @@ use Rattle.run_defs.specs.Run.Does.{determined, maps, routes}
 use Rattle.run_defs.specs.Run.Runs.{ended, goes_on}
 use Rattle.run_defs.specs.Headline.{AreAdoptable, IsSameSet}
 use Rattle.table_laws.proofs.Dependencies.{installed-no_cycle}
-use Rattle.mapping_laws.specs.Runs.{IsCommandOf, IsSessionOf}
+use Rattle.run_defs.specs.Headline.{IsCommandOf}
+use Rattle.mapping_laws.specs.Runs.{IsSessionOf}
 use Rattle.mapping_laws.specs.Held.{HoldsRight}
 use Rattle.mapping_laws.proofs.Worlds.{settle-of, installed-of}
 use Rattle.mapping_laws.proofs.Sessions.{does-stays, new-session}
