@@ -1,0 +1,6 @@
+pub mod Places
+pub mod Moves
+pub mod Hosts
+pub mod Callers
+pub mod Owners
+pub mod Busy
