@@ -1,0 +1,4 @@
+pub mod Peers
+pub mod Frames
+pub mod Nodes
+pub mod Worlds

@@ -1,0 +1,13 @@
+//! What each host got from another is a front part of what the other sent there, after every list of acts that may happen.
+//!
+//! A law is a function without parameters: its contract is the law, and its body is empty. The statements stand in `specs/`.
+//!
+//! | file of `specs/` | says |
+//! |---|---|
+//! | `Order` | the laws of every reached world |
+//! | `Says` | what a frame on its way says |
+#![tactic(auto)]
+
+mod order;
+
+pub use order::{frames_on_their_way, messages_in_order};
