@@ -2,3 +2,4 @@ pub mod Peers
 pub mod Frames
 pub mod Nodes
 pub mod Worlds
+pub mod Arriving

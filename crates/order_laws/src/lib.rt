@@ -6,8 +6,11 @@
 //! |---|---|
 //! | `Order` | the laws of every reached world |
 //! | `Says` | what a frame on its way says |
+//! | `Examples` | a reached world in which a message came |
 #![tactic(auto)]
 
 mod order;
+mod worked;
 
 pub use order::{frames_on_their_way, messages_in_order};
+pub use worked::one_message;
