@@ -1,7 +1,8 @@
 use crate::{MapWords, make_map};
+use fabric_map::MapVertex;
 use net_defs::{End, Vertex};
 use port_graph::{Fabric, GraphFault};
-use probe::FabricProber;
+use probe::{FabricProber, FakeProber};
 use std::alloc::{AllocError, Global};
 use std::test::Fail;
 
@@ -43,5 +44,28 @@ fn made(alloc: Global, fabric: &Fabric) -> Result<(MapWords, u64, usize), AllocE
 fn two_hosts_take_an_ask_for_each_turn(rt: HostRuntime) -> Result<(), Fail> {
     let fabric = two_hosts(rt.alloc())?;
     assert_eq!(rt; made(rt.alloc(), &fabric)?, (MapWords::Complete, 31, 3));
+    Ok(())
+}
+
+// What the map of host 0 to a depth of 8 is called whose asks of these numbers drown, and whether it shows one host and one switch alone.
+fn drowned(alloc: Global, fabric: &Fabric, asks: Vec<u32>) -> Result<(MapWords, bool), AllocError> {
+    if fabric.hosts() == 0 {
+        return Ok((MapWords::IncompleteNodes, false));
+    }
+    let mut prober = FakeProber::new(fabric, 0, asks);
+    let made = make_map(alloc, &mut prober, 8)?;
+    let alone = made.map.vertices() == [MapVertex::Host(0), MapVertex::Switch(0)].as_slice();
+    Ok((made.words, alone))
+}
+
+// The ask of the walk to the second host is the 19th: behind the empty walk and the turns from -15 to +2.
+#[test]
+fn a_host_whose_ask_drowns_is_missing_and_told(rt: HostRuntime) -> Result<(), Fail> {
+    let fabric = two_hosts(rt.alloc())?;
+    let asks = [19].to_vec(rt.alloc())?;
+    assert_eq!(rt;
+        drowned(rt.alloc(), &fabric, asks)?,
+        (MapWords::Doubtful(1), true)
+    );
     Ok(())
 }

@@ -1,7 +1,7 @@
 //! What no clause says: that a call succeeds where memory is ample, and that the definitions mean what is drawn.
 
 ghost use Rattle.std.specs.Prelude.{◌≡◌, IfOk};
-ghost use Rattle.map_renumber.specs.Examples.{shuffled_map};
+ghost use Rattle.map_renumber.specs.Examples.{ring_map, shuffled_map};
 
 use super::*;
 use fabric_map::MapFault;
@@ -49,5 +49,32 @@ fn vertices_are_numbered_by_their_least_walks(rt: HostRuntime) -> Result<(), Fai
         [cable(0, 0, 1, 0), cable(1, -2, 2, 0), cable(1, 1, 3, 0)].as_slice()
     );
     assert_eq!(rt; map.core(), [true, true, true, false].as_slice());
+    Ok(())
+}
+
+// A host at a ring of four switches, as its mapper numbers them.
+fn ring(alloc: Global) -> Result<FabricMap, MapFault>
+    ensures { IfOk result (λ m. m ≡ ring_map) }
+{
+    let mut map = FabricMap::new(alloc);
+    map.add_host(0)?;
+    map.add_switch(true)?;
+    map.add_switch(true)?;
+    map.add_switch(true)?;
+    map.add_switch(true)?;
+    map.add_cable(cable(0, 0, 1, 0))?;
+    map.add_cable(cable(1, -2, 2, 0))?;
+    map.add_cable(cable(1, -1, 3, 0))?;
+    map.add_cable(cable(2, -1, 4, 0))?;
+    map.add_cable(cable(3, 1, 4, -1))?;
+    Ok(map)
+}
+
+#[test]
+fn a_mappers_map_is_numbered_so_already(rt: HostRuntime) -> Result<(), Fail> {
+    let ring = ring(rt.alloc())?;
+    let map = canon(rt.alloc(), &ring)?;
+    assert!(rt; map.vertices() == ring.vertices());
+    assert!(rt; map.cables() == ring.cables());
     Ok(())
 }
