@@ -1,2 +1,4 @@
 pub mod OneMapping
 pub mod OneRun
+pub mod OneRoutes
+pub mod RunsOnce

@@ -1,0 +1,5 @@
+pub mod Fewness
+pub mod Hosts
+pub mod Lengths
+pub mod ReadAgain
+pub mod Pieces

@@ -1,0 +1,38 @@
+-- Every map that was made can be printed, and what can be printed is read again.
+use Rattle.std.proofs.Common.{◌≡◌, ◌<◌, length, sym, ap, subst, arith}
+use Rattle.net_defs.specs.Network.{Network}
+use Rattle.map_defs.specs.NetMap.{NetMap}
+use Rattle.map_text.specs.Printing.{AreOfFabric}
+use Rattle.map_text.proofs.ReadBack.{map-read-back}
+use Rattle.world_defs.specs.World.{fabric_of}
+use Rattle.mapping_laws.proofs.Made.{found_is_there, made_map_is_map}
+use Rattle.print_laws.specs.Printed.{MadeMapIsPrintable, PrintableIsReadAgain}
+use Rattle.print_laws.proofs.Fewness.{few-vertices, few-nodes, few-cables}
+use Rattle.print_laws.proofs.Hosts.{hosts-of_fabric}
+use Rattle.print_laws.proofs.Lengths.{text-short}
+
+pub made_map_is_printable : MadeMapIsPrintable
+made_map_is_printable host depth tries before after j m words can made =
+    let n : Network = fabric_of before in
+    let k : NetMap = made.unmarked in
+    let rules = made_map_is_map host depth tries before after j m words can made in
+    let found = found_is_there host depth tries before after j m words can made in
+    let there : host < length n.hosts = subst (λ c. host < c) can.world.hosts can.is_host in
+    let vertices = few-vertices host j k made.quotient in
+    let nodes = few-nodes host depth j made.grown in
+    let same : length m.vertices ≡ length k.vertices = ap (λ (z : NetMap). length z.vertices) made.marked in
+    record {
+      rules = rules;
+      hosts = subst (AreOfFabric n) (sym made.marked) (hosts-of_fabric n host j k can.fabric there found made.quotient);
+      few_vertices = omega arith;
+      few_cables = few-cables m rules;
+    }
+
+pub printable_is_read_again : PrintableIsReadAgain
+printable_is_read_again n m fabric named is =
+    let few = is.few_vertices in
+    let few_too = is.few_cables in
+    record {
+      read = map-read-back n m (record { is_map = is.rules; few_vertices = omega arith; few_cables = omega arith }) is.hosts fabric named;
+      short = text-short n m fabric named is;
+    }

@@ -1,0 +1,8 @@
+use Rattle.print_laws.proofs.Pieces.{maps_of_runs_read_back, complete_maps_read_back}
+use Rattle.print_laws.proofs.printed_maps.Goals as goal
+
+pub returns-clause-any : goal.returns-clause-any
+returns-clause-any c = maps_of_runs_read_back
+
+pub returns-clause-complete : goal.returns-clause-complete
+returns-clause-complete c = complete_maps_read_back

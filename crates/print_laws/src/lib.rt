@@ -1,0 +1,19 @@
+//! What is proved of printed maps: every map that a run prints is read back from its lines as the map that was printed.
+//!
+//! Each law is a function without parameters: its contract is the law, and its body is empty. The statements stand in `specs/Printed.antt`.
+//! The reader of maps itself is in `map_text`, and that a complete map is right is a law of `mapping_laws`.
+#![tactic(auto)]
+
+ghost use Rattle.print_laws.specs.Printed.{MadeMapIsPrintable, PrintableIsReadAgain, MapsOfRunsReadBack, CompleteMapsReadBack};
+
+/// A map that was made can be printed, and its lines are read as that map.
+pub fn printable_maps()
+    ensures made { MadeMapIsPrintable }
+    ensures read { PrintableIsReadAgain }
+{}
+
+/// Every map that a run prints is read back from its lines.
+pub fn printed_maps()
+    ensures any { MapsOfRunsReadBack }
+    ensures complete { CompleteMapsReadBack }
+{}
