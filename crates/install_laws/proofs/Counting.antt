@@ -1,0 +1,70 @@
+-- How many hosts are counted.
+use Rattle.std.proofs.Common.{◌≡◌, ◌<◌, ◌≤◌, ◌+◌, ◌*◌, ℕ, Bool, true, false, List, [], ◌∷◌, length, ⊎_elim, refl, sym, arith, true≢false}
+use Rattle.std.proofs.Math.Nat.{mul-le-mul_left}
+use Rattle.std.proofs.lemmas.Bool.{cases_lt}
+use Rattle.world_defs.specs.Table.{Adoption}
+use Rattle.world_defs.specs.World.{WorldState}
+use Rattle.world_defs.specs.Asking.{all_given_up}
+use Rattle.world_defs.specs.Install.{host_counted, hosts_installed, installed}
+use Rattle.install_laws.specs.Cause.{host_installed}
+use Rattle.install_laws.specs.Counts.{EachIsAcknowledged, CountsAtMostAll, CountsAllWhereAcknowledged, UnharmedCountsAll}
+use Rattle.install_laws.proofs.Installing.{misses-cost}
+
+most-counted : (r : Bool × WorldState) (rest : WorldState → ℕ × WorldState) (k : ℕ) → (rest r.1).0 ≤ k → (host_counted r rest).0 ≤ k + 1
+most-counted (true, v) rest k most = omega (arith, most)
+most-counted (false, v) rest k most = omega (arith, most)
+
+hosts-most : (a : Adoption) (tries : ℕ) (hs : List ℕ) (w : WorldState) → (hosts_installed a tries hs w).0 ≤ length hs
+hosts-most a tries [] w = omega arith
+hosts-most a tries (h ∷ hs) w =
+    let r : Bool × WorldState = host_installed a tries h w in
+    let all = most-counted r (hosts_installed a tries hs) (length hs) (hosts-most a tries hs r.1) in
+    omega (arith, all)
+
+pub counts-most : CountsAtMostAll
+unfolding installed
+counts-most a hosts tries w = hosts-most a tries hosts (all_given_up w)
+
+-- all are counted
+all-counted : (r : Bool × WorldState) (rest : WorldState → ℕ × WorldState) (k : ℕ) → (rest r.1).0 ≤ k → (host_counted r rest).0 ≡ k + 1 → (r.0 ≡ true) × ((rest r.1).0 ≡ k)
+all-counted (true, v) rest k most e = (refl, omega (arith, e))
+all-counted (false, v) rest k most e = absurd (omega (arith, most, e))
+
+each-counted : (r : Bool × WorldState) (rest : WorldState → ℕ × WorldState) (k : ℕ) → r.0 ≡ true → (rest r.1).0 ≡ k → (host_counted r rest).0 ≡ k + 1
+each-counted (true, v) rest k e same = omega (arith, same)
+each-counted (false, v) rest k e same = absurd (true≢false (sym e))
+
+to-each : (a : Adoption) (tries : ℕ) (hs : List ℕ) (w : WorldState) → (hosts_installed a tries hs w).0 ≡ length hs → EachIsAcknowledged a tries hs w
+to-each a tries [] w e = tt
+to-each a tries (h ∷ hs) w e =
+    let r : Bool × WorldState = host_installed a tries h w in
+    let both = all-counted r (hosts_installed a tries hs) (length hs) (hosts-most a tries hs r.1) (omega (arith, e)) in
+    (both.0, to-each a tries hs r.1 both.1)
+
+from-each : (a : Adoption) (tries : ℕ) (hs : List ℕ) (w : WorldState) → EachIsAcknowledged a tries hs w → (hosts_installed a tries hs w).0 ≡ length hs
+from-each a tries [] w all = refl
+from-each a tries (h ∷ hs) w all =
+    let r : Bool × WorldState = host_installed a tries h w in
+    let e = each-counted r (hosts_installed a tries hs) (length hs) all.0 (from-each a tries hs r.1 all.1) in
+    omega (arith, e)
+
+pub counts-all : CountsAllWhereAcknowledged
+unfolding installed
+counts-all a hosts tries w = (to-each a tries hosts (all_given_up w), from-each a tries hosts (all_given_up w))
+
+-- a product is no less where its factor is
+no-less : (tries k m : ℕ) → 0 < tries → tries * k ≤ tries * m → k ≤ m
+no-less tries k m some e = ⊎_elim (λ low. absurd (over low)) (λ least. least) (cases_lt m k)
+  where
+    over : m < k → ⊥
+    over low =
+        let more : tries * (m + 1) ≤ tries * k = mul-le-mul_left tries (omega (arith, low)) in
+        let split : tries * (m + 1) ≡ tries * m + tries = omega arith in
+        absurd (omega (arith, some, e, more, split))
+
+pub unharmed-all : UnharmedCountsAll
+unharmed-all a hosts tries w can some left same =
+    let cost = misses-cost a hosts tries w can left in
+    let most = counts-most a hosts tries w in
+    let least = no-less tries (length hosts) (installed a hosts tries w).0 some (omega (arith, cost, same)) in
+    omega (arith, most, least)

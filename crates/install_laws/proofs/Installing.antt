@@ -1,0 +1,97 @@
+-- An installation from its start to its end: the cause of each host that isn't counted, and what is kept.
+use Rattle.std.proofs.Common.{ℕ, List, [], ◌∷◌, IfSome, refl, sym, ap, ◌∙◌, subst, arith}
+use Rattle.net_defs.specs.Network.{Network}
+use Rattle.link_defs.specs.Links.{LinkState, is_idle}
+use Rattle.world_defs.specs.Table.{Adoption}
+use Rattle.world_defs.specs.World.{WorldState, fabric_of, new_world}
+use Rattle.world_defs.specs.Asking.{all_given_up}
+use Rattle.world_defs.specs.Install.{hosts_installed, installed}
+use Rattle.world_laws.specs.Shape.{IsWorld}
+use Rattle.world_laws.proofs.Shapes.{step-kept, new-world, planned-world, adopted-world}
+use Rattle.ask_laws.proofs.Lone.{IsBare, is-bare, bare-idle}
+use Rattle.ask_laws.proofs.Ready.{kept-start}
+use Rattle.run_defs.specs.Headline.{Act, Happens, Plans, Adopts, acted, acted_all}
+use Rattle.table_laws.specs.Acts.{IsReached}
+use Rattle.table_laws.proofs.Steps.{IsAdopted}
+use Rattle.mapping_laws.proofs.Worlds.{installed-of}
+use Rattle.act_laws.proofs.Leads.{Leads, leads-both, along-leads}
+use Rattle.install_laws.specs.Premises.{CanInstall}
+use Rattle.install_laws.specs.Kept.{IsInstallKept, InstallingKeeps, InstallingEndsIdle, CanInstallAgain}
+use Rattle.install_laws.specs.Cause.{MissedHostsWereHarmed}
+use Rattle.install_laws.specs.Counts.{EachMissCostsFaults}
+use Rattle.install_laws.proofs.Epochs.{reached-low, reached-of_set}
+use Rattle.install_laws.proofs.Between.{Between, kept-ask, kept-both, between-start}
+use Rattle.install_laws.proofs.Parts.{are-ways}
+use Rattle.install_laws.proofs.Walking.{IsInstallable, AreInstalled, hosts-so}
+
+-- acts lead to worlds of the fabric
+acts-world : (w : WorldState) (acts : List Act) → IsWorld w → IsWorld (acted_all w acts)
+acts-world w [] is = is
+acts-world w (Happens e ∷ acts) is = acts-world (acted w (Happens e)) acts ((step-kept w e).world is)
+acts-world w (Plans ahead fault ∷ acts) is = acts-world (acted w (Plans ahead fault)) acts (planned-world w ahead fault is)
+acts-world w (Adopts mapper routes ∷ acts) is = acts-world (acted w (Adopts mapper routes)) acts (adopted-world w mapper routes is)
+
+reached-world : (n : Network) (w : WorldState) → IsReached n w → IsWorld w
+reached-world n w r = subst IsWorld (sym r.leads) (acts-world (new_world n) r.acts (new-world n))
+
+-- the whole
+record IsInstallation (n : Network) (a : Adoption) (tries : ℕ) (hosts : List ℕ) (w : WorldState) (r : ℕ × WorldState) : Type 0 where
+  hosts_are : AreInstalled n a tries hosts (all_given_up w) r
+  kept : IsInstallKept w r.1
+
+installable : (a : Adoption) (hosts : List ℕ) (w : WorldState) → CanInstall a hosts w → IsInstallable (fabric_of w) a
+installable a hosts w can =
+    let it : IsAdopted (fabric_of w) a = subst (λ o. IfSome o (IsAdopted (fabric_of w))) can.adopted (reached-of_set (fabric_of w) w can.reached).adopted in
+    record { fabric = can.reached.fabric; epoch = it.epoch; in_order = can.in_order; ways = are-ways (fabric_of w) a.routes can.reached.fabric it.adoptable.lead can.few_turns }
+
+pub start-between : (a : Adoption) (hosts : List ℕ) (w : WorldState) → CanInstall a hosts w → Between (fabric_of w) a (all_given_up w)
+start-between a hosts w can =
+    let n : Network = fabric_of w in
+    between-start n a w refl (reached-world n w can.reached) can.idle can.adopted (reached-of_set n w can.reached).plan (reached-low n w can.reached).each
+
+installation : (a : Adoption) (hosts : List ℕ) (tries : ℕ) (w : WorldState) → CanInstall a hosts w → IsInstallation (fabric_of w) a tries hosts w (installed a hosts tries w)
+unfolding installed
+installation a hosts tries w can =
+    let start : WorldState = all_given_up w in
+    let all = hosts-so (fabric_of w) a tries hosts start (installable a hosts w can) can.joined (start-between a hosts w can) in
+    record { hosts_are = all; kept = kept-both w start (hosts_installed a tries hosts start).1 (kept-ask w start (kept-start w)) all.kept }
+
+pub missed-harmed : MissedHostsWereHarmed
+missed-harmed a hosts tries w can left = (installation a hosts tries w can).hosts_are.missed left
+
+pub misses-cost : EachMissCostsFaults
+misses-cost a hosts tries w can left =
+    let i = installation a hosts tries w can in
+    let cost = i.hosts_are.cost left in
+    let before = (kept-start w).harmed in
+    omega (arith, cost, before)
+
+pub installing-keeps : InstallingKeeps
+installing-keeps a hosts tries w can = (installation a hosts tries w can).kept
+
+pub installing-idle : InstallingEndsIdle
+installing-idle a hosts tries w can =
+    let l : LinkState = (installed a hosts tries w).1.links in
+    let e : IsBare l = (installation a hosts tries w can).hosts_are.between.bare in
+    ap is_idle (is-bare l e) ∙ bare-idle l
+
+-- and again
+pub reached-further : (n : Network) (w v : WorldState) → IsReached n w → Leads w v → IsReached n v
+reached-further n w v r l =
+    let start : Leads (new_world n) w = record { acts = r.acts; may = r.may; there = r.leads } in
+    let on = leads-both (new_world n) w v start l in
+    record { fabric = r.fabric; acts = on.acts; may = on.may; leads = on.there }
+
+pub install-again : CanInstallAgain
+install-again a hosts tries w can =
+    let v : WorldState = (installed a hosts tries w).1 in
+    let k = installing-keeps a hosts tries w can in
+    let on = reached-further (fabric_of w) w v can.reached (installed-of Leads along-leads a hosts tries w) in
+    record {
+      reached = subst (λ n. IsReached n v) (sym k.fabric) on;
+      idle = installing-idle a hosts tries w can;
+      adopted = k.adopted ∙ can.adopted;
+      in_order = can.in_order;
+      few_turns = can.few_turns;
+      joined = can.joined;
+    }

@@ -1,0 +1,15 @@
+mod Lists
+mod Tables
+mod Epochs
+mod Parts
+mod Between
+mod Heard
+mod Trying
+mod Walking
+pub mod Installing
+mod Counting
+mod Unplanned
+mod TwoHosts
+pub mod Shortest
+mod SameSet
+pub mod Lines

@@ -1,0 +1,93 @@
+-- Where no fault is planned for an injection of an installation, none harms.
+use Rattle.std.proofs.Common.{◌≡◌, ◌<◌, ◌≤◌, ◌+◌, ℕ, Bool, true, false, nat_eq, List, [], ◌∷◌, Option, Some, None, cond, refl, sym, ap, ◌∙◌, arith}
+use Rattle.std.specs.Map.{lookup, remove_entry}
+use Rattle.link_defs.specs.Links.{LinkState}
+use Rattle.world_defs.specs.declared.fault.Fault.{Fault}
+use Rattle.world_defs.specs.Node.{Outgoing}
+use Rattle.world_defs.specs.World.{WorldState}
+use Rattle.world_defs.specs.Step.{fault_on, struck_by, fault_strikes, planned_strikes, sent_out}
+use Rattle.world_defs.specs.EightBits.{IsByteEvent}
+use Rattle.world_laws.proofs.Leaves.{Follows, FollowsCalls, step-leaves}
+use Rattle.world_laws.proofs.Along.{Along}
+use Rattle.mapping_laws.proofs.Worlds.{installed-of}
+use Rattle.install_laws.specs.Counts.{UnplannedCountsAll}
+use Rattle.install_laws.proofs.Counting.{unharmed-all}
+
+-- no fault is planned for an injection between two worlds
+abbrev IsUnplanned : WorldState → WorldState → Type 0
+IsUnplanned w v = (number : ℕ) → w.injected < number → number ≤ v.injected → lookup (nat_eq number) w.plan ≡ None
+
+-- what follows
+record Unharmed (w v : WorldState) : Type 0 where
+  injected : w.injected ≤ v.injected
+  unplanned : (number : ℕ) → lookup (nat_eq number) w.plan ≡ None → lookup (nat_eq number) v.plan ≡ None
+  harmed : IsUnplanned w v → v.harmed ≡ w.harmed
+
+unharmed-same : (w v : WorldState) → v.injected ≡ w.injected → v.plan ≡ w.plan → v.harmed ≡ w.harmed → Unharmed w v
+unharmed-same w v i p h = record { injected = omega (arith, i); unplanned = λ number e. ap (lookup (nat_eq number)) p ∙ e; harmed = λ none. h }
+
+unharmed-both : (u v w : WorldState) → Unharmed u v → Unharmed v w → Unharmed u w
+unharmed-both u v w a b =
+    let i = a.injected in
+    let j = b.injected in
+    record {
+      injected = omega (arith, i, j);
+      unplanned = λ number e. b.unplanned number (a.unplanned number e);
+      harmed = λ none.
+          b.harmed (λ number low high. a.unplanned number (none number (omega (arith, i, low)) high))
+          ∙ a.harmed (λ number low high. none number low (omega (arith, j, high)));
+    }
+
+without-none : (test other : ℕ → Bool) (fs : List (ℕ × Fault)) → lookup other fs ≡ None → lookup other (remove_entry test fs) ≡ None
+without-none test other [] e = refl
+without-none test other (f ∷ fs) e = by (test f.0) (other f.0) refl e (without-none test other fs)
+  where
+    by : (t o : Bool) → other f.0 ≡ o → cond o (Some f.1) (lookup other fs) ≡ None → (lookup other fs ≡ None → lookup other (remove_entry test fs) ≡ None) → lookup other (cond t fs (f ∷ remove_entry test fs)) ≡ None
+    by t true p d rest = cc
+    by true false p d rest = d
+    by false false p d rest = rw p (rest d)
+
+-- an injection
+struck-counts : (w : WorldState) (f : Fault) (r : Bool × LinkState) → ((struck_by w f r).injected ≡ w.injected) × ((struck_by w f r).plan ≡ w.plan)
+struck-counts w f (true, l) = (refl, refl)
+struck-counts w f (false, l) = (refl, refl)
+
+strikes-so : (w u : WorldState) (c : ℕ) (o : Option Fault) → u.injected ≡ w.injected + 1 → u.plan ≡ w.plan → u.harmed ≡ w.harmed → lookup (nat_eq u.injected) u.plan ≡ o → Unharmed w (fault_strikes u c o)
+strikes-so w u c None i p h e = record { injected = omega (arith, i); unplanned = λ number none. ap (lookup (nat_eq number)) p ∙ none; harmed = λ none. h }
+strikes-so w u c (Some f) i p h e =
+    let v : WorldState = record u { plan = remove_entry (nat_eq u.injected) u.plan } in
+    let s = struck-counts v f (fault_on u.links c f) in
+    let count = s.0 in
+    record {
+      injected = omega (arith, i, count);
+      unplanned = λ number none. ap (lookup (nat_eq number)) s.1 ∙ without-none (nat_eq u.injected) (nat_eq number) u.plan (ap (lookup (nat_eq number)) p ∙ none);
+      harmed = λ none.
+          let bad : None ≡ Some f = sym (none u.injected (omega (arith, i)) (omega (arith, count))) ∙ ap (lookup (nat_eq u.injected)) (sym p) ∙ e in
+          absurd (none-some f bad);
+    }
+  where
+    none-some : (f : Fault) → None ≡ Some f → ⊥
+    none-some f e = cc
+
+injection-so : (w : WorldState) (h c : ℕ) (out : Outgoing) → Unharmed w (planned_strikes (sent_out w h c out) c)
+unfolding sent_out planned_strikes
+injection-so w h c out = let u : WorldState = sent_out w h c out in strikes-so w u c (lookup (nat_eq u.injected) u.plan) refl refl refl refl
+
+follows-so : Follows Unharmed
+follows-so = record {
+  same = λ w. unharmed-same w w refl refl refl;
+  both = unharmed-both;
+  links = λ w x. unharmed-same w _ refl refl refl;
+  node = λ w h n k. unharmed-same w _ refl refl refl;
+  drop = λ w. unharmed-same w _ refl refl refl;
+  injection = λ w h c out low e. injection-so w h c out;
+}
+
+calls-so : FollowsCalls Unharmed
+calls-so w h port call k = unharmed-same w _ refl refl refl
+
+along-so : Along Unharmed IsByteEvent
+along-so = record { same = λ w. unharmed-same w w refl refl refl; both = unharmed-both; event = λ w e q. step-leaves Unharmed follows-so calls-so w e }
+
+pub unplanned-all : UnplannedCountsAll
+unplanned-all a hosts tries w can some left none = unharmed-all a hosts tries w can some left ((installed-of Unharmed along-so a hosts tries w).harmed none)

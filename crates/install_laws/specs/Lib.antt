@@ -1,0 +1,6 @@
+pub mod Premises
+pub mod Kept
+pub mod Cause
+pub mod Counts
+pub mod Examples
+pub mod Runs

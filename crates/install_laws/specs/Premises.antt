@@ -1,0 +1,23 @@
+-- What an installation is made over.
+use Rattle.std.specs.Prelude.{◌≡◌, ◌≢◌, ℕ, ◌≤◌, true, List, length, Some}
+use Rattle.std.specs.List.{AllByRecursion}
+use Rattle.link_defs.specs.Links.{is_idle}
+use Rattle.map_defs.specs.Routing.{AreRising, HasRoute}
+use Rattle.world_defs.specs.Table.{Adoption}
+use Rattle.world_defs.specs.World.{WorldState, fabric_of}
+use Rattle.table_laws.specs.Acts.{IsReached}
+
+-- a set has a route from its adopter to a host, and one back
+pub record IsJoined (a : Adoption) (host : ℕ) : Type 0 where
+  pub there : HasRoute a.routes a.mapper host
+  pub back : HasRoute a.routes host a.mapper
+
+-- An installation of the adopted set on these hosts, in a world that acts which may happen lead to: the links are idle; the set's routes stand in
+-- their order, and each has at most 64 turns, as many as a part carries; and to each of the hosts but the adopter a route leads, and one back.
+pub record CanInstall (a : Adoption) (hosts : List ℕ) (w : WorldState) : Type 0 where
+  pub reached : IsReached (fabric_of w) w
+  pub idle : is_idle w.links ≡ true
+  pub adopted : w.adopted ≡ Some a
+  pub in_order : AreRising a.routes
+  pub few_turns : AllByRecursion (λ r. length r.walk ≤ 64) a.routes
+  pub joined : AllByRecursion (λ h. h ≢ a.mapper → IsJoined a h) hosts

@@ -1,0 +1,18 @@
+//! Which hosts are counted: `specs/Cause.antt` and `specs/Counts.antt` have the statements.
+
+ghost use Rattle.install_laws.specs.Cause.{MissedHostsWereHarmed};
+ghost use Rattle.install_laws.specs.Counts.{CountsAtMostAll, CountsAllWhereAcknowledged, EachMissCostsFaults, UnharmedCountsAll, UnplannedCountsAll};
+
+/// Each host that an installation doesn't count has a part each of whose tries met a planned fault, on the part or on its acknowledgement.
+pub fn missed_hosts()
+    ensures harmed { MissedHostsWereHarmed }
+    ensures cost { EachMissCostsFaults }
+{}
+
+/// At most all hosts are counted; all exactly where each part was acknowledged, and so where no planned fault harms.
+pub fn counted_hosts()
+    ensures at_most { CountsAtMostAll }
+    ensures acknowledged { CountsAllWhereAcknowledged }
+    ensures unharmed { UnharmedCountsAll }
+    ensures unplanned { UnplannedCountsAll }
+{}

@@ -1,0 +1,23 @@
+//! Why an installation counts fewer hosts than it has, and what it leaves as it was.
+//!
+//! Each law is a function without parameters: its contract is the law, and its body is empty. The statements stand in `specs/`.
+//!
+//! | file of `specs/` | says |
+//! |---|---|
+//! | `Premises` | what an installation is made over |
+//! | `Cause` | that each host that isn't counted has a part each of whose tries met a planned fault |
+//! | `Counts` | how many hosts are counted, and when all are |
+//! | `Kept` | what an installation leaves as it was, and that the same set can be installed again |
+//! | `Runs` | that each `installed K of N` of a run has this cause |
+//! | `Examples` | installations in which a part or its acknowledgement is lost |
+#![tactic(auto)]
+
+mod cause;
+mod kept;
+mod running;
+mod worked;
+
+pub use cause::{counted_hosts, missed_hosts};
+pub use kept::kept_by_installations;
+pub use running::{installed_lines, short_routes};
+pub use worked::lost_packets;

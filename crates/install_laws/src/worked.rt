@@ -1,0 +1,12 @@
+//! Installations on two hosts, worked out: `specs/Examples.antt` has the statements.
+
+ghost use Rattle.install_laws.specs.Examples.{BothCanInstall, BothAreCounted, LostPartIsMissed, LostAnswerIsMissed, SecondTryCounts};
+
+/// One try counts both hosts where nothing is lost; where the part or its acknowledgement is, it takes a second try.
+pub fn lost_packets()
+    ensures can { BothCanInstall }
+    ensures quiet { BothAreCounted }
+    ensures part { LostPartIsMissed }
+    ensures answer { LostAnswerIsMissed }
+    ensures second_try { SecondTryCounts }
+{}
