@@ -1,5 +1,5 @@
 -- Events that lead on from where other events led.
-use Rattle.std.proofs.Common.{◌≡◌, ℕ, List, [], ◌∷◌, ◌++◌, refl, sym, ◌∙◌, ap}
+use Rattle.std.proofs.Common.{◌≡◌, List, [], ◌∷◌, ◌++◌, refl, sym, ◌∙◌, ap}
 use Rattle.std.specs.Prelude.{Result, Ok, Err, OnErr}
 use Rattle.world_defs.specs.declared.event.Event.{Event}
 use Rattle.world_defs.specs.World.{WorldState}
@@ -22,3 +22,7 @@ later-step w v e is = (e ∷ [], is)
 pub on-any : {A E : Type 0} {P : Type 0} (r : Result A E) → P → OnErr r P
 on-any (Ok a) p = tt
 on-any (Err e) p = p
+
+pub on-err : {A E : Type 0} {P Q : Type 0} (r : Result A E) → (P → Q) → OnErr r P → OnErr r Q
+on-err (Ok a) f p = tt
+on-err (Err e) f p = f p

@@ -1,11 +1,11 @@
 -- The parts of an ask lead from world to world by events.
-use Rattle.std.proofs.Common.{◌≡◌, ℕ, ℤ, Bool, List, map, Option, None, refl, sym, subst}
+use Rattle.std.proofs.Common.{◌≡◌, ℕ, ℤ, List, map, None, refl, sym, subst}
 use Rattle.std.specs.Prelude.{is_some}
 use Rattle.world_defs.specs.declared.event.Event.TheVariants.{Ask, Inject, GiveUp}
 use Rattle.world_defs.specs.World.{WorldState, addresses}
 use Rattle.world_defs.specs.Step.{step}
 use Rattle.world_defs.specs.Drain.{drain}
-use Rattle.world_defs.specs.Asking.{all_given_up, sends, host_try, loop_try, host_tries, loop_tries}
+use Rattle.world_defs.specs.Asking.{all_given_up, sends, host_try, loop_try, host_tries}
 use Rattle.ask_laws.proofs.Along.{Asks, host_try-of, loop_try-of, tries-of}
 use Rattle.fab_world.specs.Held.{IsLater}
 use Rattle.fab_drive.proofs.Later.{later-same, later-both, later-step}
@@ -15,7 +15,10 @@ sends-later : (w : WorldState) (h : ℕ) → IsLater w (sends w h).world
 unfolding sends
 sends-later w h = later-both w (step w (Inject h)).1 (drain (step w (Inject h)).1).1 (later-step w (step w (Inject h)).1 (Inject h) refl) (drain-later (step w (Inject h)).1 (drain (step w (Inject h)).1).1 refl)
 
-asks-later : Asks IsLater
+pub sends-world : (w v : WorldState) (h : ℕ) → v ≡ (sends w h).world → IsLater w v
+sends-world w v h is = subst (IsLater w) (sym is) (sends-later w h)
+
+pub asks-later : Asks IsLater
 asks-later = record {
   same = later-same;
   both = later-both;

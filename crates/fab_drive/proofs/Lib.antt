@@ -1,10 +1,14 @@
 pub mod Drained
 pub mod GivingUp
+pub mod InstallHosts
+pub mod Installs
 pub mod Later
 pub mod Leading
+pub mod PartTries
 pub mod Passed
 pub mod Passing
 pub mod Running
 pub mod Tries
 pub mod Truthful
+pub mod TwoHosts
 pub mod Watching

@@ -1,9 +1,9 @@
 -- Tries in a row.
-use Rattle.std.proofs.Common.{◌≡◌, ◌<◌, ◌-◌, ℕ, zero, suc, Bool, true, false, ◌&&◌, refl, sym, ◌∙◌, ap, subst, arith}
+use Rattle.std.proofs.Common.{◌≡◌, ◌<◌, ◌-◌, ℕ, zero, suc, Bool, true, false, ◌&&◌, refl, sym, ◌∙◌, ap, arith}
 use Rattle.world_defs.specs.World.{WorldState, fabric_of, host_count}
 use Rattle.fab_world.specs.Held.{IsLater}
 use Rattle.fab_drive.proofs.Later.{later-same, later-both}
-use Rattle.world_defs.specs.Asking.{Tried, also_harmed, or_further, tries_of}
+use Rattle.world_defs.specs.Asking.{Tried, also_harmed, tries_of}
 
 -- a fault met all of some tries, and all of those after them
 pub also-also : {A : Type 0} (a b : Bool) (t : Tried A) → also_harmed a (also_harmed b t) ≡ also_harmed (a && b) t

@@ -1,5 +1,5 @@
 -- An ask over a world answers the truth, or it drowns.
-use Rattle.std.proofs.Common.{◌≡◌, ◌<◌, ◌≤◌, ◌⊎◌, inl, inr, ℕ, ℤ, Bool, true, false, true≢false, List, [], ◌∷◌, suc, length, refl, sym, ◌∙◌, ap, subst, arith}
+use Rattle.std.proofs.Common.{◌≡◌, ◌<◌, ◌≤◌, ◌⊎◌, inl, inr, ℕ, ℤ, true, false, true≢false, List, [], ◌∷◌, suc, length, sym, ◌∙◌, subst, arith}
 use Rattle.std.specs.List.{All, AllByRecursion}
 use Rattle.fab_outer.specs.Fault.{Rose}
 use Rattle.net_defs.specs.declared.place.Answer.{Answer}

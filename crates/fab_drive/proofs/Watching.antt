@@ -1,15 +1,16 @@
 -- What is seen of effects in a row is what is seen of the first, and then of the others.
 use Rattle.std.proofs.Common.{◌≡◌, ℕ, ◌+◌, Bool, true, false, ◌&&◌, ◌||◌, List, [], ◌∷◌, ◌++◌, nat_eq, if◌then◌else◌, Option, Some, None, refl, sym, ◌∙◌, ap, arith}
-use Rattle.world_defs.specs.declared.heard.Heard.{Heard}
 use Rattle.world_defs.specs.declared.heard.Heard.TheVariants.{Probe, Reply, Loop, Routes, RoutesAck, Message, Fragment, NotNext, NoToken, Ack}
 use Rattle.world_defs.specs.declared.effect.Effect.{Effect}
 use Rattle.world_defs.specs.declared.effect.Effect.TheVariants.{Idle, Injected, Moved, Blocked, Arrived, Dropped, Lost, Reset as WasReset, Flipped, Expired, GaveUp, Repeated, Held, Replayed, Staged, Said}
 use Rattle.world_defs.specs.Node.{either}
-use Rattle.world_defs.specs.Drain.{changed, changes}
 use Rattle.world_defs.specs.Asking.{probed_host, replied_host, has_returned, reply_in, returned_in}
+use Rattle.world_defs.specs.Install.{has_part_come, is_acknowledged}
 use Rattle.world_laws.proofs.Draining.{changes-append}
+use Rattle.fab_drive.specs.declared.seen.AwaitedPart.{AwaitedPart}
+use Rattle.fab_drive.specs.declared.seen.Watch.{Watch}
 use Rattle.fab_drive.specs.declared.seen.Seen.{Seen}
-use Rattle.fab_drive.specs.Watch.{seen_in, seen_then}
+use Rattle.fab_drive.specs.Watch.{came_in, acknowledged_in, seen_in, seen_then}
 
 first_if : (b : Bool) (from : ℕ) (rest : Option ℕ) → (if b then Some from else rest) ≡ either (if b then Some from else None) rest
 first_if true from rest = refl
@@ -109,6 +110,60 @@ returned-push mapper number (Arrived h NotNext) xs = refl
 returned-push mapper number (Arrived h NoToken) xs = refl
 returned-push mapper number (Arrived h Ack) xs = refl
 
+come-push : (dst : ℕ) (x : Effect) (xs : List Effect) → has_part_come dst (x ∷ xs) ≡ (has_part_come dst (x ∷ []) || has_part_come dst xs)
+come-push dst Idle xs = refl
+come-push dst (Injected n) xs = refl
+come-push dst (Moved c) xs = refl
+come-push dst (Blocked c) xs = refl
+come-push dst (Dropped x) xs = refl
+come-push dst Lost xs = refl
+come-push dst WasReset xs = refl
+come-push dst Flipped xs = refl
+come-push dst Expired xs = refl
+come-push dst GaveUp xs = refl
+come-push dst (Repeated s) xs = refl
+come-push dst (Held s) xs = refl
+come-push dst (Replayed c) xs = refl
+come-push dst Staged xs = refl
+come-push dst (Said s) xs = refl
+come-push dst (Arrived h Probe) xs = refl
+come-push dst (Arrived h (Reply n from)) xs = refl
+come-push dst (Arrived h (Loop n)) xs = refl
+come-push dst (Arrived h Routes) xs = first_or (nat_eq h dst) (has_part_come dst xs)
+come-push dst (Arrived h (RoutesAck e from p)) xs = refl
+come-push dst (Arrived h Message) xs = refl
+come-push dst (Arrived h Fragment) xs = refl
+come-push dst (Arrived h NotNext) xs = refl
+come-push dst (Arrived h NoToken) xs = refl
+come-push dst (Arrived h Ack) xs = refl
+
+acknowledged-push : (mapper dst part : ℕ) (x : Effect) (xs : List Effect) → is_acknowledged mapper dst part (x ∷ xs) ≡ (is_acknowledged mapper dst part (x ∷ []) || is_acknowledged mapper dst part xs)
+acknowledged-push mapper dst part Idle xs = refl
+acknowledged-push mapper dst part (Injected n) xs = refl
+acknowledged-push mapper dst part (Moved c) xs = refl
+acknowledged-push mapper dst part (Blocked c) xs = refl
+acknowledged-push mapper dst part (Dropped x) xs = refl
+acknowledged-push mapper dst part Lost xs = refl
+acknowledged-push mapper dst part WasReset xs = refl
+acknowledged-push mapper dst part Flipped xs = refl
+acknowledged-push mapper dst part Expired xs = refl
+acknowledged-push mapper dst part GaveUp xs = refl
+acknowledged-push mapper dst part (Repeated s) xs = refl
+acknowledged-push mapper dst part (Held s) xs = refl
+acknowledged-push mapper dst part (Replayed c) xs = refl
+acknowledged-push mapper dst part Staged xs = refl
+acknowledged-push mapper dst part (Said s) xs = refl
+acknowledged-push mapper dst part (Arrived h Probe) xs = refl
+acknowledged-push mapper dst part (Arrived h (Reply n from)) xs = refl
+acknowledged-push mapper dst part (Arrived h (Loop n)) xs = refl
+acknowledged-push mapper dst part (Arrived h Routes) xs = refl
+acknowledged-push mapper dst part (Arrived h (RoutesAck e from p)) xs = first_or (nat_eq h mapper && nat_eq from dst && nat_eq p part) (is_acknowledged mapper dst part xs)
+acknowledged-push mapper dst part (Arrived h Message) xs = refl
+acknowledged-push mapper dst part (Arrived h Fragment) xs = refl
+acknowledged-push mapper dst part (Arrived h NotNext) xs = refl
+acknowledged-push mapper dst part (Arrived h NoToken) xs = refl
+acknowledged-push mapper dst part (Arrived h Ack) xs = refl
+
 -- effects in a row
 probed-append : (xs ys : List Effect) → probed_host (xs ++ ys) ≡ either (probed_host xs) (probed_host ys)
 probed-append [] ys = refl
@@ -138,19 +193,39 @@ returned_in-append : (mapper : ℕ) (number : Option ℕ) (xs ys : List Effect) 
 returned_in-append mapper None xs ys = refl
 returned_in-append mapper (Some n) xs ys = returned-append mapper n xs ys
 
-same_seen : (a b : Seen) → a.changes ≡ b.changes → a.probed ≡ b.probed → a.replied ≡ b.replied → a.returned ≡ b.returned → a ≡ b
-same_seen a b c p r t =
-    let made : ℕ → Option ℕ → Option ℕ → Bool → Seen = λ n x y z. record { changes = n; probed = x; replied = y; returned = z } in
-    ap (λ n. made n a.probed a.replied a.returned) c ∙ ap (λ x. made b.changes x a.replied a.returned) p
-    ∙ ap (λ y. made b.changes b.probed y a.returned) r ∙ ap (λ z. made b.changes b.probed b.replied z) t
+come-append : (dst : ℕ) (xs ys : List Effect) → has_part_come dst (xs ++ ys) ≡ (has_part_come dst xs || has_part_come dst ys)
+come-append dst [] ys = refl
+come-append dst (x ∷ xs) ys =
+    come-push dst x (xs ++ ys) ∙ ap (λ b. has_part_come dst (x ∷ []) || b) (come-append dst xs ys)
+    ∙ or-in-a-row (has_part_come dst (x ∷ [])) (has_part_come dst xs) (has_part_come dst ys)
+    ∙ sym (ap (λ b. b || has_part_come dst ys) (come-push dst x xs))
 
-pub seen-append : (mapper : ℕ) (number : Option ℕ) (xs ys : List Effect) → seen_in mapper number (xs ++ ys) ≡ seen_then (seen_in mapper number xs) (seen_in mapper number ys)
-seen-append mapper number xs ys =
-    same_seen (seen_in mapper number (xs ++ ys)) (seen_then (seen_in mapper number xs) (seen_in mapper number ys))
-    (changes-append xs ys) (probed-append xs ys) (reply_in-append mapper number xs ys) (returned_in-append mapper number xs ys)
+acknowledged-append : (mapper dst part : ℕ) (xs ys : List Effect) → is_acknowledged mapper dst part (xs ++ ys) ≡ (is_acknowledged mapper dst part xs || is_acknowledged mapper dst part ys)
+acknowledged-append mapper dst part [] ys = refl
+acknowledged-append mapper dst part (x ∷ xs) ys =
+    acknowledged-push mapper dst part x (xs ++ ys) ∙ ap (λ b. is_acknowledged mapper dst part (x ∷ []) || b) (acknowledged-append mapper dst part xs ys)
+    ∙ or-in-a-row (is_acknowledged mapper dst part (x ∷ [])) (is_acknowledged mapper dst part xs) (is_acknowledged mapper dst part ys)
+    ∙ sym (ap (λ b. b || is_acknowledged mapper dst part ys) (acknowledged-push mapper dst part x xs))
 
-pub seen-push : (mapper : ℕ) (number : Option ℕ) (x : Effect) (xs : List Effect) → seen_in mapper number (x ∷ xs) ≡ seen_then (seen_in mapper number (x ∷ [])) (seen_in mapper number xs)
-seen-push mapper number x xs = seen-append mapper number (x ∷ []) xs
+came_in-append : (p : Option AwaitedPart) (xs ys : List Effect) → came_in p (xs ++ ys) ≡ (came_in p xs || came_in p ys)
+came_in-append None xs ys = refl
+came_in-append (Some p) xs ys = come-append p.dst xs ys
+
+acknowledged_in-append : (mapper : ℕ) (p : Option AwaitedPart) (xs ys : List Effect) → acknowledged_in mapper p (xs ++ ys) ≡ (acknowledged_in mapper p xs || acknowledged_in mapper p ys)
+acknowledged_in-append mapper None xs ys = refl
+acknowledged_in-append mapper (Some p) xs ys = acknowledged-append mapper p.dst p.part xs ys
+
+same_seen : (a b : Seen) → a.changes ≡ b.changes → a.probed ≡ b.probed → a.replied ≡ b.replied → a.returned ≡ b.returned → a.came ≡ b.came → a.acknowledged ≡ b.acknowledged → a ≡ b
+same_seen a b c p r t m k = λ i. record { changes = c i; probed = p i; replied = r i; returned = t i; came = m i; acknowledged = k i }
+
+pub seen-append : (watch : Watch) (xs ys : List Effect) → seen_in watch (xs ++ ys) ≡ seen_then (seen_in watch xs) (seen_in watch ys)
+seen-append watch xs ys =
+    same_seen (seen_in watch (xs ++ ys)) (seen_then (seen_in watch xs) (seen_in watch ys))
+    (changes-append xs ys) (probed-append xs ys) (reply_in-append watch.mapper watch.number xs ys) (returned_in-append watch.mapper watch.number xs ys)
+    (came_in-append watch.part xs ys) (acknowledged_in-append watch.mapper watch.part xs ys)
+
+pub seen-push : (watch : Watch) (x : Effect) (xs : List Effect) → seen_in watch (x ∷ xs) ≡ seen_then (seen_in watch (x ∷ [])) (seen_in watch xs)
+seen-push watch x xs = seen-append watch (x ∷ []) xs
 
 idle-reply : (mapper : ℕ) (number : Option ℕ) (xs : List Effect) → reply_in mapper number (Idle ∷ xs) ≡ reply_in mapper number xs
 idle-reply mapper None xs = refl
@@ -160,16 +235,26 @@ idle-return : (mapper : ℕ) (number : Option ℕ) (xs : List Effect) → return
 idle-return mapper None xs = refl
 idle-return mapper (Some n) xs = refl
 
+idle-come : (p : Option AwaitedPart) (xs : List Effect) → came_in p (Idle ∷ xs) ≡ came_in p xs
+idle-come None xs = refl
+idle-come (Some p) xs = refl
+
+idle-acknowledged : (mapper : ℕ) (p : Option AwaitedPart) (xs : List Effect) → acknowledged_in mapper p (Idle ∷ xs) ≡ acknowledged_in mapper p xs
+idle-acknowledged mapper None xs = refl
+idle-acknowledged mapper (Some p) xs = refl
+
 -- an event that wasn't possible shows nothing
-pub seen-idle : (mapper : ℕ) (number : Option ℕ) (xs : List Effect) → seen_in mapper number (Idle ∷ xs) ≡ seen_in mapper number xs
-seen-idle mapper number xs =
-    same_seen (seen_in mapper number (Idle ∷ xs)) (seen_in mapper number xs) refl refl (idle-reply mapper number xs) (idle-return mapper number xs)
+pub seen-idle : (watch : Watch) (xs : List Effect) → seen_in watch (Idle ∷ xs) ≡ seen_in watch xs
+seen-idle watch xs =
+    same_seen (seen_in watch (Idle ∷ xs)) (seen_in watch xs) refl refl (idle-reply watch.mapper watch.number xs) (idle-return watch.mapper watch.number xs)
+    (idle-come watch.part xs) (idle-acknowledged watch.mapper watch.part xs)
 
 pub then-in-a-row : (a b c : Seen) → seen_then a (seen_then b c) ≡ seen_then (seen_then a b) c
 then-in-a-row a b c =
     let sum : a.changes + (b.changes + c.changes) ≡ a.changes + b.changes + c.changes = omega arith in
     same_seen (seen_then a (seen_then b c)) (seen_then (seen_then a b) c)
     sum (either-in-a-row a.probed b.probed c.probed) (either-in-a-row a.replied b.replied c.replied) (or-in-a-row a.returned b.returned c.returned)
+    (or-in-a-row a.came b.came c.came) (or-in-a-row a.acknowledged b.acknowledged c.acknowledged)
 
 or-none : (a : Option ℕ) → either a None ≡ a
 or-none (Some x) = refl
@@ -187,8 +272,17 @@ none-returned : (mapper : ℕ) (number : Option ℕ) → returned_in mapper numb
 none-returned mapper None = refl
 none-returned mapper (Some n) = refl
 
+none-came : (p : Option AwaitedPart) → came_in p [] ≡ false
+none-came None = refl
+none-came (Some p) = refl
+
+none-acknowledged : (mapper : ℕ) (p : Option AwaitedPart) → acknowledged_in mapper p [] ≡ false
+none-acknowledged mapper None = refl
+none-acknowledged mapper (Some p) = refl
+
 -- nothing seen behind it changes nothing
-pub then-nothing : (mapper : ℕ) (number : Option ℕ) (s : Seen) → seen_then s (seen_in mapper number []) ≡ s
-then-nothing mapper number s =
-    same_seen (seen_then s (seen_in mapper number [])) s (omega arith) (or-none s.probed)
-    (ap (either s.replied) (none-replied mapper number) ∙ or-none s.replied) (ap (λ b. s.returned || b) (none-returned mapper number) ∙ or-false s.returned)
+pub then-nothing : (watch : Watch) (s : Seen) → seen_then s (seen_in watch []) ≡ s
+then-nothing watch s =
+    same_seen (seen_then s (seen_in watch [])) s (omega arith) (or-none s.probed)
+    (ap (either s.replied) (none-replied watch.mapper watch.number) ∙ or-none s.replied) (ap (λ b. s.returned || b) (none-returned watch.mapper watch.number) ∙ or-false s.returned)
+    (ap (λ b. s.came || b) (none-came watch.part) ∙ or-false s.came) (ap (λ b. s.acknowledged || b) (none-acknowledged watch.mapper watch.part) ∙ or-false s.acknowledged)

@@ -1,2 +1,3 @@
+pub mod Installing
 pub mod Prober
 pub mod Watch

@@ -57,8 +57,8 @@ pub(crate) fn ask(
     })
 }
 
-// Every host gives up what it staged, by rising address.
-fn give_up_all(alloc: Global, w: &mut World) -> Result<(), AllocError>
+/// Every host gives up what it staged, by rising address.
+pub(crate) fn give_up_all(alloc: Global, w: &mut World) -> Result<(), AllocError>
     ensures after { OnOk result (w.new ≡ all_given_up w.old) }
     ensures err { OnErr result (IsLater w.old w.new) }
     ensures fabric { fabric_of w.new ≡ fabric_of w.old }

@@ -21,6 +21,7 @@ pub fn drain(alloc: Global, w: &mut World) -> Result<u64, AllocError>
     let watch = Watch {
         mapper: 0,
         number: None,
+        part: None,
     };
     let seen = drain_watching(alloc, w, watch)?;
     Ok(seen.changes)
@@ -28,7 +29,7 @@ pub fn drain(alloc: Global, w: &mut World) -> Result<u64, AllocError>
 
 /// A drain, with what a mapper sees of it.
 pub(crate) fn drain_watching(alloc: Global, w: &mut World, watch: Watch) -> Result<Seen, AllocError>
-    ensures seen { IfOk result (λ s. s ≡ seen_in watch.mapper watch.number (drain w.old).0) }
+    ensures seen { IfOk result (λ s. s ≡ seen_in watch (drain w.old).0) }
     ensures heard { IfOk result (λ s. IfSome s.probed (λ h. h < host_count w.old)) }
     ensures after { OnOk result (w.new ≡ (drain w.old).1) }
     ensures err { OnErr result (IsLater w.old w.new) }
@@ -48,7 +49,7 @@ pub(crate) fn drain_watching(alloc: Global, w: &mut World, watch: Watch) -> Resu
 
 // One pass: an advance of each full channel by rising number. Those that are empty have nothing to advance.
 fn pass(alloc: Global, w: &mut World, watch: &Watch) -> Result<Seen, AllocError>
-    ensures seen { IfOk result (λ s. s ≡ seen_in watch.now.mapper watch.now.number (pass w.old).0) }
+    ensures seen { IfOk result (λ s. s ≡ seen_in watch.now (pass w.old).0) }
     ensures heard { IfOk result (λ s. IfSome s.probed (λ h. h < host_count w.old)) }
     ensures after { OnOk result (w.new ≡ (pass w.old).1) }
     ensures err { OnErr result (IsLater w.old w.new) }
@@ -70,7 +71,7 @@ fn pass(alloc: Global, w: &mut World, watch: &Watch) -> Result<Seen, AllocError>
 // An advance of one channel, with what is seen of it.
 fn advance(alloc: Global, w: &mut World, watch: &Watch, c: u16) -> Result<Seen, AllocError>
     requires there { c < length w.old.links.channels }
-    ensures seen { IfOk result (λ s. s ≡ seen_in watch.now.mapper watch.now.number ((step w.old (Advance c)).0 ∷ [])) }
+    ensures seen { IfOk result (λ s. s ≡ seen_in watch.now ((step w.old (Advance c)).0 ∷ [])) }
     ensures few { IfOk result (λ s. s.changes ≤ 1) }
     ensures heard { IfOk result (λ s. IfSome s.probed (λ h. h < host_count w.old)) }
     ensures after { OnOk result (w.new ≡ (step w.old (Advance c)).1) }

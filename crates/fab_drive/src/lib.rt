@@ -1,4 +1,4 @@
-//! What drives a world: drains, and the mapper that asks by probe packets.
+//! What drives a world: drains, the mapper that asks by probe packets, and the installation of adopted routes.
 //!
 //! It keeps nothing of its own but the mapper's count: all that it does are events of the world.
 //!
@@ -6,6 +6,9 @@
 //!   ask of a walk --> every host gives up --> host probes, each alone --> loopback probes, each alone
 //!                                                |  inject, drain           |  inject, drain
 //!                                                +--> Host(h)               +--> Switch, or Nothing
+//!
+//!   install   --> every host gives up --> host by host, part by part, try by try: the part alone, and then its acknowledgement
+//!                                                      inject, drain                inject, drain
 //! ```
 //!
 //! | module | has |
@@ -15,11 +18,14 @@
 //! | `seen` | what a mapper looks for in what happens |
 //! | `trying`, `asking` | the tries of a probe, and an ask |
 //! | `prober` | the mapper over a world |
+//! | `parts`, `installing` | the parts of one host, and an installation |
 #![tactic(auto)]
 
 mod asking;
 mod draining;
 mod happening;
+mod installing;
+mod parts;
 mod prober;
 mod seen;
 #[cfg(test)]
@@ -27,4 +33,5 @@ mod tests;
 mod trying;
 
 pub use draining::drain;
+pub use installing::{Installed, install};
 pub use prober::WorldProber;

@@ -1,17 +1,25 @@
 //! What a mapper looks for in what happens.
 
-ghost use Rattle.std.specs.Prelude.{◌≡◌, ◌≤◌, ◌+◌, ◌^◌, ◌<◌, ◌&&◌, ◌∷◌, [], nat_eq, Option, Some, None};
+ghost use Rattle.std.specs.Prelude.{◌≡◌, ◌≤◌, ◌+◌, ◌^◌, ◌<◌, ◌&&◌, ◌∷◌, [], nat_eq, false, Option, Some, None};
 ghost use Rattle.world_defs.specs.Asking.{reply_in, returned_in};
 ghost use Rattle.world_defs.specs.declared.effect.Effect.TheVariants.{Arrived};
-ghost use Rattle.fab_drive.specs.Watch.{seen_in, seen_then, is_own};
+ghost use Rattle.fab_drive.specs.Watch.{seen_in, seen_then, is_own, is_awaited_host, is_own_ack};
 
 use world_defs::{Effect, Heard};
 
-/// Whose replies and returning probes are looked for: those of a mapper to its probe of a number, where that was injected.
+/// A part of a host's table whose acknowledgement a mapper awaits.
+#[derive(Clone, Copy, Debug, PartialEq, Eq)]
+pub struct AwaitedPart {
+    pub dst: u16,
+    pub part: u8,
+}
+
+/// What a mapper looks for: replies to its probe of a number and the probe's return, where that was injected, and what becomes of a part that it awaits.
 #[derive(Clone, Copy, Debug, PartialEq, Eq)]
 pub struct Watch {
     pub mapper: u16,
     pub number: Option<u64>,
+    pub part: Option<AwaitedPart>,
 }
 
 /// What was seen of events.
@@ -25,53 +33,48 @@ pub struct Seen {
     pub replied: Option<u16>,
     /// Whether the mapper's loopback probe came back.
     pub returned: bool,
+    /// Whether the host of the awaited part heard a part.
+    pub came: bool,
+    /// Whether the mapper heard the acknowledgement of the awaited part.
+    pub acknowledged: bool,
 }
 
 impl Watch {
     /// Nothing happened yet.
     pub(crate) fn nothing(&self) -> Seen
-        ensures { result ≡ seen_in self.now.mapper self.now.number [] }
+        ensures { result ≡ seen_in self.now [] }
     {
-        Seen {
-            changes: 0,
-            probed: None,
-            replied: None,
-            returned: false,
-        }
+        seen_nothing(0)
     }
 
     /// What is seen of one event.
     pub(crate) fn see(&self, x: &Effect) -> Seen
-        ensures { result ≡ seen_in self.now.mapper self.now.number (x.now ∷ []) }
+        ensures { result ≡ seen_in self.now (x.now ∷ []) }
     {
         match x {
             Effect::Idle | Effect::Blocked(_) => self.nothing(),
             Effect::Arrived(host, heard) => self.see_arrival(*host, *heard),
-            _ => Seen {
-                changes: 1,
-                probed: None,
-                replied: None,
-                returned: false,
-            },
+            _ => seen_nothing(1),
         }
     }
 
     // What is seen where a packet reached a host.
     fn see_arrival(&self, host: u16, heard: Heard) -> Seen
-        ensures { result ≡ seen_in self.now.mapper self.now.number (Arrived host heard ∷ []) }
+        ensures { result ≡ seen_in self.now (Arrived host heard ∷ []) }
     {
-        let mut seen = Seen {
-            changes: 1,
-            probed: None,
-            replied: None,
-            returned: false,
-        };
+        let mut seen = seen_nothing(1);
         match heard {
             Heard::Probe => seen.probed = Some(host),
             Heard::Reply { number, host: from } if self.is_own(host, number) => seen.replied = Some(
                 from,
             ),
             Heard::Loop { number } => seen.returned = self.is_own(host, number),
+            Heard::Routes => seen.came = self.is_awaited_host(host),
+            Heard::RoutesAck {
+                epoch: _,
+                host: from,
+                part,
+            } => seen.acknowledged = self.is_own_ack(host, from, part),
             _ => {}
         }
         seen
@@ -86,6 +89,40 @@ impl Watch {
             None => false,
         }
     }
+
+    // A host is that of the awaited part.
+    fn is_awaited_host(&self, host: u16) -> bool
+        ensures { result ≡ is_awaited_host self.now.part host }
+    {
+        match self.part {
+            Some(awaited) => host == awaited.dst,
+            None => false,
+        }
+    }
+
+    // A mapper heard the acknowledgement of the awaited part.
+    fn is_own_ack(&self, host: u16, from: u16, part: u8) -> bool
+        ensures { result ≡ is_own_ack self.now.mapper self.now.part host from part }
+    {
+        match self.part {
+            Some(awaited) => { host == self.mapper && from == awaited.dst && part == awaited.part }
+            None => false,
+        }
+    }
+}
+
+// So many changes, and nothing that is looked for.
+fn seen_nothing(changes: u64) -> Seen
+    ensures { result ≡ record { changes = changes; probed = None; replied = None; returned = false; came = false; acknowledged = false } }
+{
+    Seen {
+        changes,
+        probed: None,
+        replied: None,
+        returned: false,
+        came: false,
+        acknowledged: false,
+    }
 }
 
 impl Seen {
@@ -99,6 +136,8 @@ impl Seen {
             probed: self.probed.or(next.probed),
             replied: self.replied.or(next.replied),
             returned: self.returned || next.returned,
+            came: self.came || next.came,
+            acknowledged: self.acknowledged || next.acknowledged,
         }
     }
 }

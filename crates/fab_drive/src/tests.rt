@@ -4,12 +4,15 @@
 //!   host a --2 switch s 5-- host b
 //! ```
 
-ghost use Rattle.std.specs.Prelude.{◌≡◌, ◌≤◌, length, true};
+ghost use Rattle.std.specs.Prelude.{◌≡◌, ◌≤◌, ◌++◌, ◌∷◌, [], length, true, Some, IfOk, OnOk};
+ghost use Rattle.net_defs.specs.Examples.{two_hosts};
 ghost use Rattle.link_defs.specs.Links.{is_idle};
+ghost use Rattle.world_defs.specs.World.{fabric_of, host_count};
+ghost use Rattle.world_defs.specs.Examples.{setup_routes, setup_adoption};
 
 use super::*;
-use fab_world::{Fabric, Fault, World};
-use net_defs::{Answer, End, Vertex, Walk};
+use fab_world::{Fabric, Fault, RouteSet, World};
+use net_defs::{Answer, End, Route, Vertex, Walk};
 use probe::Prober;
 use std::alloc::{AllocError, Global};
 use std::test::Fail;
@@ -26,7 +29,9 @@ struct Findings {
 }
 
 // The fabric of two hosts at one switch.
-fn two_hosts(alloc: Global) -> Result<Fabric, Fail> {
+fn two_hosts(alloc: Global) -> Result<Fabric, Fail>
+    ensures { IfOk result (λ f. f ≡ two_hosts) }
+{
     let mut fabric = Fabric::new(alloc);
     fabric.add_host(alloc, b"a")?;
     fabric.add_host(alloc, b"b")?;
@@ -36,7 +41,9 @@ fn two_hosts(alloc: Global) -> Result<Fabric, Fail> {
     Ok(fabric)
 }
 
-const fn end(v: Vertex, p: u8) -> End {
+const fn end(v: Vertex, p: u8) -> End
+    ensures { result ≡ record { v = v; p = p } }
+{
     End { v, p }
 }
 
@@ -129,5 +136,111 @@ fn an_ask_whose_host_probe_is_lost_drowns(rt: HostRuntime) -> Result<(), Fail> {
     };
     assert!(rt; planned.is_ok());
     assert!(rt; told == Some(expected));
+    Ok(())
+}
+
+// The routes of the two hosts.
+fn routes(alloc: Global) -> Result<RouteSet, Fail>
+    ensures { IfOk result (λ set. set ≡ setup_routes) }
+{
+    let mut set = RouteSet::new(alloc);
+    let there = Walk::new(alloc, &[3])?;
+    push(&mut set, 0, 1, there)?;
+    let back = Walk::new(alloc, &[-3])?;
+    push(&mut set, 1, 0, back)?;
+    Ok(set)
+}
+
+// Adds a route.
+fn push(set: &mut RouteSet, from: u16, to: u16, walk: Walk) -> Result<(), AllocError>
+    ensures { OnOk result (set.new ≡ set.old ++ record { from = from; to = to; walk = walk } ∷ []) }
+{
+    match set.push(Route { from, to, walk }) {
+        Ok(()) => Ok(()),
+        Err(_) => Err(AllocError),
+    }
+}
+
+// Host a adopts the routes.
+fn adopt(alloc: Global, w: &mut World, set: RouteSet) -> Result<(), AllocError>
+    requires fabric { fabric_of w.old ≡ two_hosts }
+    requires hosts { host_count w.old ≡ 2 }
+    requires idle { is_idle w.old.links ≡ true }
+    requires set { set ≡ setup_routes }
+    ensures adopted { OnOk result (w.new.adopted ≡ Some setup_adoption) }
+    ensures idle { OnOk result (is_idle w.new.links ≡ true) }
+    ensures hosts { host_count w.new ≡ 2 }
+{
+    match w.adopt(alloc, 0, set) {
+        Ok(()) => Ok(()),
+        Err(_) => Err(AllocError),
+    }
+}
+
+// Two installations of the adopted routes, with one try each, and the epoch of the table of host b between them.
+fn install_twice(
+    alloc: Global,
+    w: &mut World,
+) -> Result<(Installed, Option<u32>, Installed), AllocError>
+    requires adopted { w.old.adopted ≡ Some setup_adoption }
+    requires idle { is_idle w.old.links ≡ true }
+    requires hosts { host_count w.old ≡ 2 }
+{
+    let first = install(alloc, w, &[0, 1], 1)?;
+    let table = w.table(1);
+    let second = install(alloc, w, &[0, 1], 1)?;
+    Ok((first, table, second))
+}
+
+// What two installations come to in a world that began so: also how many injections there were.
+fn installed(
+    alloc: Global,
+    mut world: World,
+    set: RouteSet,
+) -> Option<(Installed, Option<u32>, Installed, u64)>
+    requires fabric { fabric_of world ≡ two_hosts }
+    requires hosts { host_count world ≡ 2 }
+    requires idle { is_idle world.links ≡ true }
+    requires set { set ≡ setup_routes }
+{
+    let adopted = adopt(alloc, &mut world, set);
+    let came = match adopted {
+        Ok(()) => install_twice(alloc, &mut world),
+        Err(wanting) => Err(wanting),
+    };
+    let injected = world.injected();
+    world.end();
+    match came {
+        Ok((first, table, second)) => Some((first, table, second, injected)),
+        Err(_) => None,
+    }
+}
+
+// So many hosts of the two have their tables.
+const fn of_two(acked: u16) -> Installed {
+    Installed { acked, of: 2 }
+}
+
+#[test]
+fn a_table_is_installed_by_two_packets(rt: HostRuntime) -> Result<(), Fail> {
+    let alloc = rt.alloc();
+    let set = routes(alloc)?;
+    let fabric = two_hosts(alloc)?;
+    let world = World::new(alloc, fabric)?;
+    let came = installed(alloc, world, set);
+    assert!(rt; came == Some((of_two(2), Some(1), of_two(2), 4)));
+    Ok(())
+}
+
+#[test]
+fn a_host_whose_part_is_lost_has_no_table(rt: HostRuntime) -> Result<(), Fail> {
+    let alloc = rt.alloc();
+    let set = routes(alloc)?;
+    let fabric = two_hosts(alloc)?;
+    let mut world = World::new(alloc, fabric)?;
+    let planned = world.plan(1, Fault::Lose);
+    let came = installed(alloc, world, set);
+    assert!(rt; planned.is_ok());
+    assert!(rt; came == Some((of_two(1), None, of_two(2), 3)));
     Ok(())
 }

@@ -124,6 +124,7 @@ fn host_try(alloc: Global, w: &mut World, mapper: u16, walk: &Walk) -> Result<Ho
     let watch = Watch {
         mapper,
         number: probe.number,
+        part: None,
     };
     let seen = drain_watching(alloc, w, watch)?;
     let Some(host) = seen.probed else {
@@ -158,6 +159,7 @@ fn loop_try(alloc: Global, w: &mut World, mapper: u16, walk: &Walk) -> Result<Lo
     let watch = Watch {
         mapper,
         number: probe.number,
+        part: None,
     };
     let seen = drain_watching(alloc, w, watch)?;
     Ok(LoopTry {

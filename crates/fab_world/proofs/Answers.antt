@@ -1,5 +1,5 @@
 -- What follows of an answer, where it is one or a want of memory.
-use Rattle.std.specs.Prelude.{Result, Ok, Err, OnOk, OnErr, IfOk}
+use Rattle.std.specs.Prelude.{Result, Ok, Err, OnErr, IfOk}
 
 pub if-ok : {A E : Type 0} {P Q : A → Type 0} (r : Result A E) → ((a : A) → P a → Q a) → IfOk r P → IfOk r Q
 if-ok (Ok a) f h = f a h

@@ -1,6 +1,5 @@
 -- A packet arrives only at hosts that are there.
-use Rattle.std.proofs.Common.{◌≡◌, ◌<◌, ◌+◌, ℕ, Bool, true, false, ◌||◌, ℤ, List, length, Option, Some, None, is_some, nat_le, nat_lt, refl, sym, ◌∙◌, ap, subst, if◌then◌else◌}
-use Rattle.net_defs.specs.Network.{IsFabric}
+use Rattle.std.proofs.Common.{◌≡◌, ◌<◌, ◌+◌, ℕ, Bool, true, false, ◌||◌, ℤ, List, Option, Some, None, is_some, nat_le, nat_lt, refl, sym, subst, if◌then◌else◌}
 use Rattle.net_defs.specs.Route.{host_port, channel_from}
 use Rattle.link_defs.specs.declared.moved.Moved.{Moved}
 use Rattle.link_defs.specs.declared.moved.Moved.TheVariants.{To, AtHost, Dropped as MovedDropped, Blocked as MovedBlocked, Empty}

@@ -1,10 +1,11 @@
 -- A packet that a host puts into its channel is its injection.
-use Rattle.std.proofs.Common.{◌≡◌, ◌+◌, ℕ, true, false, List, length, Option, Some, None, refl, sym, ◌∙◌, ap, subst}
+use Rattle.std.proofs.Common.{◌≡◌, ◌+◌, ℕ, true, List, length, Option, Some, None, sym, ◌∙◌, ap}
 use Rattle.std.specs.Prelude.{option_map}
 use Rattle.std.specs.Option.{unwrap_or}
 use Rattle.std.proofs.lemmas.List.{length-set}
 use Rattle.world_defs.specs.declared.effect.Effect.{Effect}
 use Rattle.world_defs.specs.declared.effect.Effect.TheVariants.{Injected}
+use Rattle.world_defs.specs.Table.{Adoption}
 use Rattle.world_defs.specs.Node.{NodeState, Outgoing, to_send, packet_for, after_sending}
 use Rattle.world_defs.specs.World.{WorldState, node_at, with_node}
 use Rattle.world_defs.specs.Step.{inject_one, planned_strikes}
@@ -15,24 +16,24 @@ use Rattle.world_hosts.specs.Known.{host_in, with_host}
 use Rattle.fab_world.specs.Held.{no_clients, world_of}
 
 -- the same hosts in other states have the same clients
-same-clients : (w : WorldState) (v : LinksAndPlan) (links : LinksAndPlan) (hosts nodes : List NodeState) → length nodes ≡ length hosts
-    → with_part (record (world_of links hosts) { nodes = nodes }) v ≡ world_of v nodes
-same-clients w v links hosts nodes e = ap (λ k. record (world_of v nodes) { clients = no_clients k }) (sym e)
+same-clients : (w : WorldState) (v : LinksAndPlan) (links : LinksAndPlan) (hosts nodes : List NodeState) (adopted : Option Adoption) → length nodes ≡ length hosts
+    → with_part (record (world_of links hosts adopted) { nodes = nodes }) v ≡ world_of v nodes adopted
+same-clients w v links hosts nodes adopted e = ap (λ k. record (world_of v nodes adopted) { clients = no_clients k }) (sym e)
 
-pub put-is : (links : LinksAndPlan) (hosts : List NodeState) (h c : ℕ) (o : Option Outgoing) (packet : List ℕ) (effect : Effect) (v : LinksAndPlan) (nodes : List NodeState)
-    → can_inject (of_world (world_of links hosts)) c ≡ true → to_send h (host_in hosts h) ≡ o
+pub put-is : (links : LinksAndPlan) (hosts : List NodeState) (adopted : Option Adoption) (h c : ℕ) (o : Option Outgoing) (packet : List ℕ) (effect : Effect) (v : LinksAndPlan) (nodes : List NodeState)
+    → can_inject (of_world (world_of links hosts adopted)) c ≡ true → to_send h (host_in hosts h) ≡ o
     → Some packet ≡ option_map (packet_for h (links.injected + 1)) o → effect ≡ Injected (links.injected + 1)
     → ((u : WorldState) → planned_strikes (put_under_next (with_part u links) c packet) c ≡ with_part u v)
     → nodes ≡ with_host hosts h (once_sent (host_in hosts h) (to_send h (host_in hosts h)))
-    → inject_one (world_of links hosts) h c o ≡ (effect, world_of v nodes)
-put-is links hosts h c None packet effect v nodes free first made told strikes now = cc
-put-is links hosts h c (Some out) packet effect v nodes free first made told strikes now =
-    let w : WorldState = world_of links hosts in
+    → inject_one (world_of links hosts adopted) h c o ≡ (effect, world_of v nodes adopted)
+put-is links hosts adopted h c None packet effect v nodes free first made told strikes now = cc
+put-is links hosts adopted h c (Some out) packet effect v nodes free first made told strikes now =
+    let w : WorldState = world_of links hosts adopted in
     let sent : NodeState = after_sending (node_at w h) out in
     let is : packet ≡ packet_for h (links.injected + 1) out = ap (λ o. unwrap_or o packet) made in
     let hosts_are : nodes ≡ with_host hosts h sent = now ∙ ap (λ o. with_host hosts h (once_sent (host_in hosts h) o)) first in
     let put = injection_is_put w h c out free in
     let struck : planned_strikes (put_under_next (with_node w h sent) c (packet_for h (links.injected + 1) out)) c ≡ with_part (with_node w h sent) v =
     ap (λ p. planned_strikes (put_under_next (with_node w h sent) c p) c) (sym is) ∙ strikes (with_node w h sent) in
-    let same : with_part (with_node w h sent) v ≡ world_of v (with_host hosts h sent) = same-clients w v links hosts (with_host hosts h sent) (length-set hosts h sent) in
-    put ∙ ap (λ u. (Injected (links.injected + 1), u)) (struck ∙ same ∙ ap (world_of v) (sym hosts_are)) ∙ ap (λ x. (x, world_of v nodes)) (sym told)
+    let same : with_part (with_node w h sent) v ≡ world_of v (with_host hosts h sent) adopted = same-clients w v links hosts (with_host hosts h sent) adopted (length-set hosts h sent) in
+    put ∙ ap (λ u. (Injected (links.injected + 1), u)) (struck ∙ same ∙ ap (λ ns. world_of v ns adopted) (sym hosts_are)) ∙ ap (λ x. (x, world_of v nodes adopted)) (sym told)

@@ -2,3 +2,6 @@ pub mod Answers
 pub mod Arriving
 pub mod Injecting
 pub mod Moments
+pub mod SameRoutes
+pub mod Sets
+pub mod TwoHosts

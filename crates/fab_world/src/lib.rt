@@ -1,27 +1,32 @@
 //! The world: the links of a fabric, its hosts, the plan of faults and the counts, and one event of it.
 //!
 //! [`World::step`] answers exactly the effect and leaves exactly the world of the definition `step` of `world_defs`. So each law of worlds after
-//! every list of events is a law of this one. Nobody has a port yet, and no routes are adopted: calls of clients and adoptions come.
+//! every list of events is a law of this one. Routes are adopted once: no others after them. `specs/Adopting.antt` says which may be. Nobody has a port
+//! yet: calls of clients come.
 //!
 //! ```text
 //!             World                      hosts and links, each at its own
 //!   event --> step --+--> links, plan    a packet moves, a fault strikes
 //!                    +--> hosts          a host stages, sends and hears
+//!   routes --> adopt ----> the adopter's table; parts of the others are staged at the adopter
 //!   effect <---------+
 //! ```
 //!
 //! | module | has |
 //! |---|---|
+//! | `adopted` | the adopted routes, and the parts of them |
 //! | `machine` | links and hosts, and each event of theirs |
 //! | `world` | the world: what it keeps, and every event |
 #![tactic(auto)]
 
+mod adopted;
 mod machine;
 #[cfg(test)]
 mod tests;
 mod world;
 
-pub use port_graph::Fabric;
+pub use adopted::AdoptRefusal;
+pub use port_graph::{Fabric, RouteSet};
 pub use world::World;
 pub use world_defs::{Cause, Effect, Event, Fault, Heard};
 pub use world_hosts::Message;

@@ -1,28 +1,31 @@
-//! The links and the hosts of a world.
+//! The links, the hosts and the adopted routes of a world.
 
-ghost use Rattle.std.specs.Prelude.{◌≡◌, None, IfOk};
+ghost use Rattle.std.specs.Prelude.{◌≡◌, IfOk};
 ghost use Rattle.std.specs.List.{AllByRecursion};
 ghost use Rattle.net_defs.specs.Network.{IsFabric};
 ghost use Rattle.world_defs.specs.World.{new_world, host_count};
 ghost use Rattle.world_hosts.specs.Known.{IsClosed};
 ghost use Rattle.fab_world.specs.Held.{no_clients};
 
+mod adopting;
 mod channels;
 mod dispatch;
 mod injection;
 mod staging;
 mod steps;
 
+use crate::adopted::Adopted;
 use faulty_links::FaultyLinks;
 use port_graph::Fabric;
 use std::alloc::{AllocError, Global};
 use std::marker::Model;
 use world_hosts::Hosts;
 
-/// Links and hosts, as many as the fabric has. It must be spent, by [`Machine::end`].
+/// Links and hosts, as many as the fabric has, and the routes that are adopted. It must be spent, by [`Machine::end`].
 pub(crate) struct Machine {
     pub(crate) links: FaultyLinks,
     pub(crate) hosts: Hosts,
+    pub(crate) adopted: Option<Adopted>,
 }
 
 impl Model for Machine {
@@ -31,7 +34,7 @@ impl Model for Machine {
 
     ghost Value = { WorldState };
 
-    ghost view = { λ m. world_of m.links m.hosts };
+    ghost view = { λ m. world_of m.links m.hosts m.adopted };
 }
 
 impl Machine {
@@ -43,13 +46,16 @@ impl Machine {
         let count = f.hosts();
         let links = FaultyLinks::new(alloc, f)?;
         let hosts = Hosts::new(alloc, count)?;
-        Ok(Machine { links, hosts })
+        Ok(Machine {
+            links,
+            hosts,
+            adopted: None,
+        })
     }
 
-    /// No routes are adopted, and no port is open.
+    /// No port is open.
     pub(crate) fn state(&self)
-        ensures routes { self.now.adopted ≡ None }
-        ensures clients { self.now.clients ≡ no_clients (host_count self.now) }
+        ensures { self.now.clients ≡ no_clients (host_count self.now) }
     {
         let _ = &self.hosts;
     }
@@ -58,7 +64,11 @@ impl Machine {
     pub(crate) fn end(self)
         requires { self.clients ≡ no_clients (host_count self) → AllByRecursion IsClosed self.nodes }
     {
-        let Machine { links: _, hosts } = self;
+        let Machine {
+            links: _,
+            hosts,
+            adopted: _,
+        } = self;
         hosts.end();
     }
 }

@@ -6,12 +6,14 @@
 //!             <- channel 1
 //! ```
 
-ghost use Rattle.std.specs.Prelude.{◌≡◌, length};
-ghost use Rattle.world_defs.specs.World.{host_count};
+ghost use Rattle.std.specs.Prelude.{◌≡◌, ◌++◌, ◌∷◌, [], length, IfOk, OnOk};
+ghost use Rattle.net_defs.specs.Examples.{two_hosts as two_hosts_at_a_switch, host_end, switch_end};
+ghost use Rattle.world_defs.specs.Examples.{setup_routes};
+ghost use Rattle.world_defs.specs.World.{host_count, new_world};
 ghost use Rattle.fab_world.specs.Events.{IsGiven};
 
 use super::*;
-use net_defs::{End, Vertex, Walk};
+use net_defs::{End, Route, Vertex, Walk};
 use std::alloc::{AllocError, Global};
 use std::test::Fail;
 
@@ -25,7 +27,9 @@ fn two_hosts(alloc: Global) -> Result<World, Fail> {
 }
 
 // The port of a host.
-const fn port(h: u16) -> End {
+const fn port(h: u16) -> End
+    ensures { result ≡ host_end h }
+{
     End {
         v: Vertex::Host(h),
         p: 0,
@@ -118,5 +122,92 @@ fn a_probe_reaches_the_host_at_the_other_end(rt: HostRuntime) -> Result<(), Fail
     world.end();
     assert!(rt; arrives?);
     assert_eq!(rt; dropped, 0);
+    Ok(())
+}
+
+// The world of hosts a and b at ports 2 and 5 of a switch.
+fn at_a_switch(alloc: Global) -> Result<World, Fail>
+    ensures { IfOk result (λ w. w ≡ new_world two_hosts_at_a_switch) }
+{
+    let mut fabric = Fabric::new(alloc);
+    fabric.add_host(alloc, b"a")?;
+    fabric.add_host(alloc, b"b")?;
+    fabric.add_switch(alloc, b"s", 8)?;
+    fabric.add_cable(port(0), switch_port(2))?;
+    fabric.add_cable(port(1), switch_port(5))?;
+    Ok(World::new(alloc, fabric)?)
+}
+
+// A port of the switch.
+const fn switch_port(p: u8) -> End
+    ensures { result ≡ switch_end 0 p }
+{
+    End {
+        v: Vertex::Switch(0),
+        p,
+    }
+}
+
+// The routes of the two hosts.
+fn routes(alloc: Global) -> Result<RouteSet, Fail>
+    ensures { IfOk result (λ set. set ≡ setup_routes) }
+{
+    let mut set = RouteSet::new(alloc);
+    let there = Walk::new(alloc, &[3])?;
+    push(&mut set, 0, 1, there)?;
+    let back = Walk::new(alloc, &[-3])?;
+    push(&mut set, 1, 0, back)?;
+    Ok(set)
+}
+
+// Adds a route.
+fn push(set: &mut RouteSet, from: u16, to: u16, walk: Walk) -> Result<(), AllocError>
+    ensures { OnOk result (set.new ≡ set.old ++ record { from = from; to = to; walk = walk } ∷ []) }
+{
+    match set.push(Route { from, to, walk }) {
+        Ok(()) => Ok(()),
+        Err(_) => Err(AllocError),
+    }
+}
+
+// Whether routes are adopted and a part of them staged, whether other routes are refused, and who adopts the same ones then.
+fn adopt_thrice(
+    alloc: Global,
+    world: &mut World,
+    set: RouteSet,
+    again: RouteSet,
+) -> Result<(bool, bool, Option<u16>), AllocError>
+    requires world { world.old ≡ new_world two_hosts_at_a_switch }
+    requires set { set ≡ setup_routes }
+    requires again { again ≡ setup_routes }
+{
+    let adopted = world.adopt(alloc, 0, set).is_ok();
+    let staged = world.step(alloc, Event::Part { dst: 1, part: 0 })?;
+    let other = world.adopt(alloc, 0, RouteSet::new(alloc));
+    let refused = matches!(&other, Err((_, AdoptRefusal::Another)));
+    let anew = world.adopt(alloc, 1, again).is_ok();
+    let adopter = if anew { world.adopter() } else { None };
+    Ok((
+        adopted && matches!(&staged, Effect::Staged),
+        refused,
+        adopter,
+    ))
+}
+
+#[test]
+fn one_set_is_adopted_and_no_other(rt: HostRuntime) -> Result<(), Fail> {
+    let alloc = rt.alloc();
+    let set = routes(alloc)?;
+    let again = routes(alloc)?;
+    let mut world = at_a_switch(alloc)?;
+    let came = adopt_thrice(alloc, &mut world, set, again);
+    let table = if world.hosts() > 1 {
+        world.table(1)
+    } else {
+        None
+    };
+    world.end();
+    assert_eq!(rt; came?, (true, true, Some(1)));
+    assert_eq!(rt; table, Some(1));
     Ok(())
 }

@@ -1,29 +1,33 @@
 //! The world.
 
-ghost use Rattle.std.specs.Prelude.{◌≡◌, ◌≤◌, ℕ, length, is_some, Some, None, IfOk, IfSome, IfNone, OnErr};
+ghost use Rattle.std.specs.Prelude.{◌≡◌, ◌≤◌, ℕ, length, is_some, option_map, Some, None, IfOk, IfSome, IfNone, OnOk, OnErr};
 ghost use Rattle.net_defs.specs.Route.{channel_from};
 ghost use Rattle.link_defs.specs.Channel.{channel_count, channel_tail, channel_head};
 ghost use Rattle.link_defs.specs.Hops.{total_hops};
 ghost use Rattle.link_defs.specs.Links.{packet_in, is_idle};
 ghost use Rattle.link_defs.specs.Fault.{next_limbo};
 ghost use Rattle.link_model.specs.Full.{IsNextFull};
+ghost use Rattle.port_graph.specs.Routes.{HandsBack};
 ghost use Rattle.world_defs.specs.Node.{to_send, peer_at};
 ghost use Rattle.world_defs.specs.Table.{active_epoch};
-ghost use Rattle.world_defs.specs.World.{fabric_of, host_count, new_world, node_at, planned};
+ghost use Rattle.world_defs.specs.World.{fabric_of, host_count, new_world, node_at, planned, adopted_by};
 ghost use Rattle.world_defs.specs.EightBits.{IsByteFault};
 ghost use Rattle.world_defs.specs.Step.{step};
+ghost use Rattle.fab_world.specs.Adopting.{IsAdoptable, adopt_refusal, part_count_for};
 ghost use Rattle.fab_world.specs.Events.{IsHostOf, IsChannelOf, IsGiven};
 ghost use Rattle.fab_world.specs.Held.{IsMoment, IsLater, IsOfHosts, no_clients};
 
+use crate::adopted::AdoptRefusal;
 use crate::machine::Machine;
 use net_defs::End;
-use port_graph::Fabric;
+use port_graph::{Fabric, RouteSet};
 use std::alloc::{AllocError, Global};
 use std::marker::Model;
 use world_defs::{Effect, Event, Fault};
 use world_hosts::Message;
 
-/// The world of a fabric: its links and what they hold, its hosts, the plan of faults, and the counts. Hosts and channels in arguments are there.
+/// The world of a fabric: its links and what they hold, its hosts, the routes that are adopted, the plan of faults, and the counts. Hosts and channels
+/// in arguments are there.
 ///
 /// It must be spent, by [`World::end`].
 pub struct World {
@@ -62,8 +66,45 @@ impl World {
         ensures fabric { fabric_of self.new ≡ fabric_of self.old }
         ensures hosts { host_count self.new ≡ host_count self.old }
         ensures channels { length self.new.links.channels ≡ length self.old.links.channels }
+        ensures adopted { self.new.adopted ≡ self.old.adopted }
     {
         self.machine.step(alloc, e)
+    }
+
+    /// Adopts routes: a host is their adopter from now on, and its table is theirs at once. The same routes may be adopted again, by any host.
+    ///
+    /// Refused routes are handed back, and nothing has changed: `Another` exactly where other routes are adopted.
+    pub fn adopt(
+        &mut self,
+        alloc: Global,
+        mapper: u16,
+        set: RouteSet,
+    ) -> Result<(), (RouteSet, AdoptRefusal)>
+        requires there { IsHostOf self.old mapper }
+        requires adoptable { IsAdoptable (fabric_of self.old) mapper set }
+        ensures adopted { OnOk result (self.new ≡ adopted_by self.old mapper set) }
+        ensures refused { HandsBack (adopt_refusal set self.old.adopted) AdoptRefusal.NoMemory set result }
+        ensures unchanged { OnErr result (self.new ≡ self.old) }
+        ensures fabric { fabric_of self.new ≡ fabric_of self.old }
+        ensures hosts { host_count self.new ≡ host_count self.old }
+        ensures channels { length self.new.links.channels ≡ length self.old.links.channels }
+    {
+        let _rising = set.list();
+        self.machine.adopt(alloc, mapper, set)
+    }
+
+    /// The adopter of the adopted routes. None exactly where none are adopted.
+    pub fn adopter(&self) -> Option<u16>
+        ensures { result ≡ option_map (λ a. a.mapper) self.now.adopted }
+    {
+        self.machine.adopter()
+    }
+
+    /// How many parts the adopted routes have for a host's table: none for their adopter's, and none where no routes are adopted.
+    pub fn part_count(&self, dst: u16) -> u8
+        ensures { result ≡ part_count_for self.now.adopted dst }
+    {
+        self.machine.part_count(dst)
     }
 
     /// Plans a fault for the injection so far ahead, in the place of an earlier one, and answers that injection's number.
@@ -83,10 +124,9 @@ impl World {
         &self.fabric
     }
 
-    /// What holds of it at every moment: no routes are adopted yet, and no port is open.
+    /// What holds of it at every moment. No port is open yet.
     pub fn moment(&self)
         ensures kept { IsMoment self.now }
-        ensures routes { self.now.adopted ≡ None }
         ensures clients { self.now.clients ≡ no_clients (host_count self.now) }
     {
         self.machine.state();
@@ -189,6 +229,14 @@ impl World {
         ensures { result ≡ is_some (to_send host (node_at self.now host)) }
     {
         self.machine.hosts.has_to_send(host)
+    }
+
+    /// Whether a host has staged the acknowledgement of a part.
+    pub fn has_part_ack(&self, host: u16) -> bool
+        requires { IsHostOf self.now host }
+        ensures { result ≡ is_some (node_at self.now host).part_ack }
+    {
+        self.machine.hosts.has_part_ack(host)
     }
 
     /// The epoch of a host's active table.

@@ -86,6 +86,13 @@ impl Items {
         self.staged.is_some() || self.reply.is_some() || self.answer.is_some()
     }
 
+    /// Whether the acknowledgement of a part stands.
+    pub fn has_answer(&self) -> bool
+        ensures { result ≡ is_some self.now.part_ack }
+    {
+        self.answer.is_some()
+    }
+
     /// The packet of the first that stands, injected by a host under a number. None exactly where none stands.
     pub fn packet(
         &self,

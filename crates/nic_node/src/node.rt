@@ -1,6 +1,6 @@
 //! One host.
 
-ghost use Rattle.std.specs.Prelude.{◌≡◌, ◌<◌, ◌≤◌, nat_lt, length, replicate, true, if◌then◌else◌, Some, None, IfOk};
+ghost use Rattle.std.specs.Prelude.{◌≡◌, ◌<◌, ◌≤◌, nat_lt, length, replicate, true, is_some, if◌then◌else◌, Some, None, IfOk};
 ghost use Rattle.gm_defs.specs.Mapping.{is_part};
 ghost use Rattle.world_defs.specs.Node.{StagedProbe, StagedPart, port_count, has_staged, given_up, node_expired, unacknowledged_to, peer_at};
 ghost use Rattle.world_defs.specs.Table.{active_epoch};
@@ -100,6 +100,13 @@ impl NicNode {
         ensures after { self.new ≡ in_state self.old (given_up self.old.state) }
     {
         self.items.give_up()
+    }
+
+    /// Whether the acknowledgement of a part is staged.
+    pub fn has_part_ack(&self) -> bool
+        ensures { result ≡ is_some self.now.state.part_ack }
+    {
+        self.items.has_answer()
     }
 
     /// What a peer didn't acknowledge is sent again. False exactly where nothing is unacknowledged, and then nothing changes.

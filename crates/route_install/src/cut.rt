@@ -51,6 +51,14 @@ pub fn part_for(
     }
 }
 
+/// How many parts the set has for a host's table.
+pub fn parts_of(r: &RouteSet, dst: u16) -> u8
+    requires { length (entries_from r.now dst) ≤ 128 }
+    ensures { result ≡ part_count (length (entries_from r.now dst)) }
+{
+    part_count(routes_from(r.list(), dst).len())
+}
+
 /// The set's routes from a host, as entries of its table.
 pub(crate) fn entries_from(alloc: Global, r: &RouteSet, host: u16) -> Result<EntryList, AllocError>
     ensures { IfOk result (λ es. es ≡ entries_from r.now host) }

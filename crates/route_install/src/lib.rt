@@ -26,7 +26,7 @@ mod table;
 #[cfg(test)]
 mod tests;
 
-pub use cut::part_for;
+pub use cut::{part_for, parts_of};
 pub use installer::{Installer, Work};
 pub use laws::{hosts_have_their_parts, parts_make_the_table};
 pub use route_parts::{BodyFault, EntryList, PartAck, RoutePart, TableEntry};

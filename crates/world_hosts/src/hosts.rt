@@ -2,7 +2,8 @@
 
 ghost use Rattle.std.specs.Prelude.{◌≡◌, ◌<◌, ◌≤◌, length, true, is_some, nat_lt, if◌then◌else◌, Some, option_map, slice_index_or, IfOk, OnOk, OnErr};
 ghost use Rattle.std.specs.List.{AllByRecursion};
-ghost use Rattle.world_defs.specs.Node.{StagedProbe, to_send, packet_for, has_staged, given_up, node_expired, unacknowledged_to, peer_at};
+ghost use Rattle.gm_defs.specs.Mapping.{is_part};
+ghost use Rattle.world_defs.specs.Node.{StagedProbe, StagedPart, to_send, packet_for, has_staged, given_up, node_expired, unacknowledged_to, peer_at};
 ghost use Rattle.world_defs.specs.Hearing.{hear};
 ghost use Rattle.world_defs.specs.Table.{active_epoch};
 ghost use Rattle.nic_node.specs.Sending.{once_sent};
@@ -10,7 +11,7 @@ ghost use Rattle.world_hosts.specs.Known.{new_hosts, no_node, host_in, with_host
 
 use crate::spending::end_all;
 use net_defs::Walk;
-use nic_node::{Arrival, Message, NicNode, Packet};
+use nic_node::{Arrival, Message, NicNode, Packet, RoutePart, Table};
 use std::alloc::{AllocError, Global};
 use std::marker::Model;
 
@@ -77,6 +78,24 @@ impl Hosts {
         self.nodes[usize::from(host)].ask(walk, looped);
     }
 
+    /// Stages a part of a table at a host, in the place of what was staged before; it travels by a route. The part is by the rules of its body.
+    pub fn part(&mut self, host: u16, part: RoutePart, by: Walk)
+        requires there { host < length self.old }
+        requires by_rules { is_part part ≡ true }
+        ensures { self.new ≡ with_host self.old host (record (host_in self.old host) { staged = Some (StagedPart part by) }) }
+    {
+        self.nodes[usize::from(host)].part(part, by);
+    }
+
+    /// Puts a host's table in the place of the one that it has.
+    pub fn take_table(&mut self, host: u16, table: Table)
+        requires there { host < length self.old }
+        requires own { table.host ≡ host }
+        ensures { self.new ≡ with_host self.old host (record (host_in self.old host) { table = table.state }) }
+    {
+        self.nodes[usize::from(host)].take_table(table);
+    }
+
     /// A host drops its staged probe or part, its reply and its acknowledgement of a part. False exactly where none of them stood.
     pub fn give_up(&mut self, host: u16) -> bool
         requires { host < length self.old }
@@ -118,6 +137,14 @@ impl Hosts {
         ensures { self.new ≡ with_host self.old host (once_sent (host_in self.old host) (to_send host (host_in self.old host))) }
     {
         self.nodes[usize::from(host)].staged();
+    }
+
+    /// Whether a host has staged the acknowledgement of a part.
+    pub fn has_part_ack(&self, host: u16) -> bool
+        requires { host < length self.now }
+        ensures { result ≡ is_some (host_in self.now host).part_ack }
+    {
+        node_at(&self.nodes, host).has_part_ack()
     }
 
     /// The epoch of a host's active table.

@@ -10,4 +10,4 @@ mod spending;
 mod tests;
 
 pub use hosts::Hosts;
-pub use nic_node::{Arrival, Heard, Message, Packet};
+pub use nic_node::{Arrival, Heard, Message, Packet, RoutePart, Table};

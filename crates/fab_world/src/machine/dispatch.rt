@@ -1,8 +1,9 @@
 //! Each event, by what it is.
 
-ghost use Rattle.std.specs.Prelude.{◌≡◌, ◌≤◌, length, IfOk, OnErr};
+ghost use Rattle.std.specs.Prelude.{◌≡◌, ◌≤◌, length, IfOk, IfSome, OnErr};
 ghost use Rattle.world_defs.specs.World.{fabric_of, host_count, planned};
 ghost use Rattle.world_defs.specs.Step.{step};
+ghost use Rattle.fab_world.specs.Adopting.{IsSetOfHosts};
 ghost use Rattle.fab_world.specs.Events.{IsGiven};
 ghost use Rattle.fab_world.specs.Held.{IsLater};
 
@@ -15,6 +16,7 @@ impl Machine {
     pub(crate) fn step(&mut self, alloc: Global, e: Event) -> Result<Effect, AllocError>
         requires given { IsGiven self.old e }
         requires hosts { host_count self.old ≡ length (fabric_of self.old).hosts }
+        requires routes { IfSome self.old.adopted (IsSetOfHosts (host_count self.old)) }
         ensures ok { IfOk result (λ x. step self.old e ≡ (x, self.new)) }
         ensures err { OnErr result (IsLater self.old self.new) }
     {
@@ -34,7 +36,7 @@ impl Machine {
             Event::Reset(c) => Ok(self.reset(c)),
             Event::Expire { host, peer } => Ok(self.expire(host, peer)),
             Event::GiveUp(host) => Ok(self.give_up(host)),
-            Event::Part { dst, part } => Ok(self.part(dst, part)),
+            Event::Part { dst, part } => self.part(alloc, dst, part),
             // No client makes a call.
             Event::Begin { .. }
             | Event::Close { .. }

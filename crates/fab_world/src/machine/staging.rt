@@ -1,7 +1,7 @@
 //! What a host stages and gives up.
 
 ghost use Rattle.std.specs.Prelude.{◌≡◌, ◌≤◌, length, true};
-ghost use Rattle.world_defs.specs.Step.{asked, part_staged, expired, gave_up};
+ghost use Rattle.world_defs.specs.Step.{asked, expired, gave_up};
 ghost use Rattle.fab_world.specs.Events.{IsHostOf};
 
 use super::Machine;
@@ -42,14 +42,5 @@ impl Machine {
         } else {
             Effect::Idle
         }
-    }
-
-    /// No routes are adopted, so no part of a table is staged.
-    #[tactic(auto, unfolding(world_defs::specs::Step::part_staged))]
-    pub(crate) fn part(&self, dst: u16, part: u8) -> Effect
-        ensures { part_staged self.now dst part ≡ (result, self.now) }
-    {
-        self.state();
-        Effect::Idle
     }
 }

@@ -1,4 +1,4 @@
-use Rattle.std.proofs.Common.{◌≡◌, ◌∙◌, sym, arith}
+use Rattle.std.proofs.Common.{arith}
 use Rattle.fab_drive.proofs.GivingUp.{giving-none, giving-on, giving-all}
 use Rattle.fab_drive.proofs.Later.{later-both, on-any}
 use Rattle.fab_drive.proofs.asking.give_up_all.Goals as goal

@@ -4,7 +4,7 @@ use Rattle.fab_drive.proofs.Running.{Running}
 use Rattle.fab_drive.proofs.draining.drain_watching.Given as goal
 
 abbrev pub invariant-loop-once : goal.invariant-loop-once
-invariant-loop-once l = Running l.watch.mapper l.watch.number l.fn.w l.w l.seen
+invariant-loop-once l = Running l.watch l.fn.w l.w l.seen
 
 abbrev pub decreases-loop-once : goal.decreases-loop-once
 decreases-loop-once l = total_hops l.w.links

@@ -4,7 +4,7 @@ use Rattle.fab_drive.proofs.Passed.{Passed}
 use Rattle.fab_drive.proofs.draining.pass.Given as goal
 
 abbrev pub invariant-loop-c : goal.invariant-loop-c
-invariant-loop-c l = Passed l.watch.mapper l.watch.number l.fn.w l.w l.from l.seen
+invariant-loop-c l = Passed l.watch l.fn.w l.w l.from l.seen
 
 abbrev pub decreases-loop-c : goal.decreases-loop-c
 decreases-loop-c l = length l.w.links.channels - l.from

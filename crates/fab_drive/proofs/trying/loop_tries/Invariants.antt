@@ -1,5 +1,5 @@
 -- What was tried so far, and what the tries that are left come to, is what all tries come to.
-use Rattle.std.specs.Prelude.{is_some, None, false}
+use Rattle.std.specs.Prelude.{false}
 use Rattle.world_defs.specs.Asking.{loop_try}
 use Rattle.fab_drive.proofs.Tries.{Trying}
 use Rattle.fab_drive.proofs.trying.loop_tries.Given as goal

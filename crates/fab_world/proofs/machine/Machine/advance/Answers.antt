@@ -14,11 +14,11 @@ hear-requires c =
 pub returns-in-AtHost-clause-ok : goal.returns-in-AtHost-clause-ok
 returns-in-AtHost-clause-ok c =
     if-ok c.hear.result
-    (λ x h. ap (λ w. advanced w c.args.c) (sym c.self.view_is) ∙ c.in-AtHost.ensures.gone (world_of c.self.inside.links c.self.inside.hosts) ∙ h)
+    (λ x h. ap (λ w. advanced w c.args.c) (sym c.self.view_is) ∙ c.in-AtHost.ensures.gone (world_of c.self.inside.links c.self.inside.hosts c.self.inside.adopted) ∙ h)
     c.hear.ensures.ok
 
 pub returns-in-AtHost-clause-err : goal.returns-in-AtHost-clause-err
 returns-in-AtHost-clause-err c =
     on-err c.hear.result
-    (λ h. h ∙ sym (ap (λ r. r.1) (ap (λ w. lost w c.args.c) (sym c.self.view_is) ∙ c.in-AtHost.ensures.taken (world_of c.self.inside.links c.self.inside.hosts))))
+    (λ h. h ∙ sym (ap (λ r. r.1) (ap (λ w. lost w c.args.c) (sym c.self.view_is) ∙ c.in-AtHost.ensures.taken (world_of c.self.inside.links c.self.inside.hosts c.self.inside.adopted))))
     c.hear.ensures.err

@@ -6,4 +6,4 @@ use Rattle.fab_world.proofs.machine.Machine.flip.Goals as goal
 
 pub returns-clause-ok : goal.returns-clause-ok
 returns-clause-ok c =
-    if-ok c.flip.result (λ x h. ap (λ w. flipped w c.args.c c.args.bit c.args.pattern) (sym c.self.view_is) ∙ h (world_of c.self.inside.links c.self.inside.hosts)) c.flip.ensures.ok
+    if-ok c.flip.result (λ x h. ap (λ w. flipped w c.args.c c.args.bit c.args.pattern) (sym c.self.view_is) ∙ h (world_of c.self.inside.links c.self.inside.hosts c.self.inside.adopted)) c.flip.ensures.ok

@@ -4,4 +4,4 @@ use Rattle.fab_world.specs.Held.{world_of}
 use Rattle.fab_world.proofs.machine.Machine.lose.Goals as goal
 
 pub returns : goal.returns
-returns c = ap (λ w. lost w c.args.c) (sym c.self.view_is) ∙ c.lose.ensures (world_of c.self.inside.links c.self.inside.hosts)
+returns c = ap (λ w. lost w c.args.c) (sym c.self.view_is) ∙ c.lose.ensures (world_of c.self.inside.links c.self.inside.hosts c.self.inside.adopted)

@@ -6,4 +6,4 @@ use Rattle.fab_world.proofs.machine.Machine.repeat.Goals as goal
 
 pub returns-clause-ok : goal.returns-clause-ok
 returns-clause-ok c =
-    if-ok c.repeat.result (λ x h. ap (λ w. repeated w c.args.c) (sym c.self.view_is) ∙ h (world_of c.self.inside.links c.self.inside.hosts)) c.repeat.ensures.ok
+    if-ok c.repeat.result (λ x h. ap (λ w. repeated w c.args.c) (sym c.self.view_is) ∙ h (world_of c.self.inside.links c.self.inside.hosts c.self.inside.adopted)) c.repeat.ensures.ok

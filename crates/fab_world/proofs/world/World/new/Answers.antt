@@ -1,4 +1,4 @@
-use Rattle.std.proofs.Common.{ap, sym, subst, ◌∙◌}
+use Rattle.std.proofs.Common.{ap, sym, subst}
 use Rattle.world_defs.specs.World.{fabric_of}
 use Rattle.fab_world.specs.Held.{IsMoment}
 use Rattle.fab_world.proofs.Moments.{new-moment}

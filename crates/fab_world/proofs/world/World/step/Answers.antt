@@ -3,7 +3,7 @@ use Rattle.world_defs.specs.World.{WorldState, fabric_of, host_count}
 use Rattle.fab_world.specs.Held.{IsLater, IsOfHosts}
 use Rattle.fab_world.proofs.Answers.{if-ok}
 use Rattle.fab_world.proofs.Arriving.{effect-hosts}
-use Rattle.fab_world.proofs.Moments.{step-later, later-moment, later-fabric, later-hosts, later-channels}
+use Rattle.fab_world.proofs.Moments.{step-later, later-moment, later-fabric, later-hosts, later-channels, later-adopted}
 use Rattle.fab_world.proofs.world.World.step.Goals as goal
 
 pub invariant_of-self : goal.invariant_of-self
@@ -36,3 +36,9 @@ returns-clause-channels c =
     let w : WorldState = c.self.inside.machine in
     let l : IsLater w c.step.new.self = step-later w c.step.new.self c.args.e c.step.result c.step.ensures.ok c.step.ensures.err in
     later-channels w c.step.new.self c.self.invariant.0 l ∙ ap (λ v. length v.links.channels) c.self.view_is
+
+pub returns-clause-adopted : goal.returns-clause-adopted
+returns-clause-adopted c =
+    let w : WorldState = c.self.inside.machine in
+    let l : IsLater w c.step.new.self = step-later w c.step.new.self c.args.e c.step.result c.step.ensures.ok c.step.ensures.err in
+    later-adopted w c.step.new.self l ∙ ap (λ v. v.adopted) c.self.view_is
