@@ -1,0 +1,124 @@
+-- The asks of a journal, one after another, are what the command `map` does to its world.
+use Rattle.std.proofs.Common.{◌≡◌, ◌<◌, ◌≤◌, ◌+◌, ◌-◌, ◌^◌, ℕ, ℤ, Bool, true, false, List, [], ◌∷◌, map, length, min, refl, sym, ◌∙◌, ap, subst, arith, if◌then◌else◌}
+use Rattle.fab_outer.specs.Fault.{one_more}
+use Rattle.journal_defs.specs.declared.entry.Entry.{Entry}
+use Rattle.world_defs.specs.World.{WorldState}
+use Rattle.world_defs.specs.declared.event.Event.{Event}
+use Rattle.world_defs.specs.Step.{step, after_all}
+use Rattle.world_defs.specs.Asking.{Asked, ask}
+use Rattle.world_laws.proofs.Counting.{step-counts}
+use Rattle.ask_laws.proofs.Along.{ask-events}
+use Rattle.map_making.specs.declared.making.MadeMap.{MadeMap}
+use Rattle.map_making.specs.Made.{IsMade}
+use Rattle.run_session.specs.Told.{IsMadeOver}
+use Rattle.run_defs.specs.Mapped.{AskedAll, one_if, asked_all, IsCalled}
+use Rattle.mapper.specs.Asks.{AreAsked}
+use Rattle.fab_drive.specs.Prober.{WorldAsking, IsAsked, next_ask, after_ask}
+
+-- What asks in a row came to: their answers, how many drowned, and the world then.
+pub record Came (s : WorldAsking) (j : List Entry) (t : WorldAsking) : Type 0 where
+  pub drowned : ℕ
+  pub asked : asked_all s.host s.tries (map (λ e. e.walk) j) s.world ≡ record { entries = j; drowned = drowned; world = t.world }
+  pub few : drowned ≤ length j
+  pub counted : t.drowned ≡ min (s.drowned + drowned) (2 ^ 64 - 1)
+  pub host : t.host ≡ s.host
+  pub rises : s.world.injected ≤ t.world.injected
+
+-- no event lowers the count of injections, nor does an ask
+events-rise : (w : WorldState) (es : List Event) → w.injected ≤ (after_all w es).injected
+events-rise w [] = omega arith
+events-rise w (e ∷ es) = let a = (step-counts w e).injected in let b = events-rise (step w e).1 es in omega (arith, a, b)
+
+ask-rises : (w : WorldState) (mapper tries : ℕ) (walk : List ℤ) → w.injected ≤ (ask mapper tries walk w).world.injected
+ask-rises w mapper tries walk =
+    let r = ask-events w mapper tries walk in
+    let e : (ask mapper tries walk w).world.injected ≡ (after_all w r.events).injected = ap (λ v. v.injected) r.there in
+    let k = events-rise w r.events in
+    omega (arith, e, k)
+
+counted-on : (b : Bool) (before between after more : ℕ) → between ≡ (if b then one_more before else before) → after ≡ min (between + more) (2 ^ 64 - 1) → after ≡ min (before + (one_if b + more)) (2 ^ 64 - 1)
+counted-on true before between after more e f = omega (arith, e, f)
+counted-on false before between after more e f = omega (arith, e, f)
+
+one_if-few : (b : Bool) → one_if b ≤ 1
+one_if-few true = omega arith
+one_if-few false = omega arith
+
+pub came-from : (s : WorldAsking) (j : List Entry) (t : WorldAsking) → s.drowned < 2 ^ 64 → AreAsked WorldAsking IsAsked s j t → Came s j t
+came-from s [] t low same = record {
+  drowned = 0;
+  asked = ap (λ (u : WorldAsking). record { entries = []; drowned = 0; world = u.world }) same;
+  few = omega arith;
+  counted = let e : t.drowned ≡ s.drowned = sym (ap (λ u. u.drowned) same) in omega (arith, low, e);
+  host = sym (ap (λ u. u.host) same);
+  rises = let e : t.world.injected ≡ s.world.injected = sym (ap (λ u. u.world.injected) same) in omega (arith, e);
+}
+came-from s (e ∷ rest) t low (between, is, more) =
+    let a : Asked = next_ask s e.walk in
+    let at : between ≡ after_ask s e.walk = is.led in
+    let count : between.drowned ≡ (if a.drowned then one_more s.drowned else s.drowned) = ap (λ u. u.drowned) at in
+    let below : between.drowned < 2 ^ 64 = count-below a.drowned s.drowned between.drowned low count in
+    let r = came-from between rest t below more in
+    let few = r.few in
+    let one = one_if-few a.drowned in
+    let first = ask-rises s.world s.host s.tries e.walk in
+    let here : between.world.injected ≡ a.world.injected = ap (λ u. u.world.injected) at in
+    let later = r.rises in
+    let rest_is : asked_all s.host s.tries (map (λ x. x.walk) rest) a.world ≡ record { entries = rest; drowned = r.drowned; world = t.world } =
+    ap (λ (u : WorldAsking). asked_all u.host u.tries (map (λ x. x.walk) rest) u.world) (sym at) ∙ r.asked in
+    record {
+      drowned = one_if a.drowned + r.drowned;
+      asked = ap (λ (x : AskedAll). record { entries = record { walk = e.walk; answer = a.answer } ∷ x.entries; drowned = one_if a.drowned + x.drowned; world = x.world }) rest_is
+          ∙ ap (λ y. record { entries = record { walk = e.walk; answer = y } ∷ rest; drowned = one_if a.drowned + r.drowned; world = t.world }) (sym is.told);
+      few = omega (arith, few, one);
+      counted = counted-on a.drowned s.drowned between.drowned t.drowned r.drowned count r.counted;
+      host = r.host ∙ ap (λ u. u.host) at;
+      rises = omega (arith, first, here, later);
+    }
+  where
+    count-below : (b : Bool) (before between : ℕ) → before < 2 ^ 64 → between ≡ (if b then one_more before else before) → between < 2 ^ 64
+    count-below true before between low e = omega (arith, low, e)
+    count-below false before between low e = omega (arith, low, e)
+
+-- a map that was made by a mapper over a world is made over that world
+pub made-over : (s : WorldAsking) (depth : ℕ) (m : MadeMap) (t : WorldAsking) (packets : ℕ) → s.drowned ≡ 0 → m.asks < 2 ^ 64 → IsMade WorldAsking IsAsked s.host depth s t.drowned m t → packets ≡ t.world.injected - s.world.injected → IsMadeOver s.host depth s.tries s.world t.world m packets
+made-over s depth m t packets none few k p =
+    let r = came-from s k.journal t (omega (arith, none)) k.led in
+    let counted = r.counted in
+    let most = r.few in
+    let asks = k.asks in
+    let e : t.drowned ≡ r.drowned = omega (arith, none, few, counted, most, asks) in
+    record {
+      journal = k.journal;
+      mapped = record {
+        drowned = r.drowned;
+        asked = r.asked;
+        grown = k.grown;
+        unmarked = k.unmarked;
+        quotient = k.quotient;
+        marked = k.marked;
+        called = subst (λ d. IsCalled s.host k.journal d m.words) e k.called;
+      };
+      asks = asks;
+      injected = p;
+    }
+
+-- the asks of that map never lowered the count of injections
+pub made-rises : (s : WorldAsking) (depth : ℕ) (m : MadeMap) (t : WorldAsking) → s.drowned ≡ 0 → IsMade WorldAsking IsAsked s.host depth s t.drowned m t → s.world.injected ≤ t.world.injected
+made-rises s depth m t none k = (came-from s k.journal t (omega (arith, none)) k.led).rises
+
+-- the same for the mapper that a world is given to, and the counts of injections before and behind it
+pub made-from : (w : WorldState) (host depth tries : ℕ) (s t : WorldAsking) (m : MadeMap) (after : WorldState) (b a : ℕ) → s ≡ record { world = w; host = host; tries = tries; drowned = 0 } → after ≡ t.world → b ≡ w.injected → a ≡ after.injected → m.asks < 2 ^ 64 → IsMade WorldAsking IsAsked s.host depth s t.drowned m t → IsMadeOver host depth tries w after m (a - b)
+made-from w host depth tries s t m after b a e f g h few k =
+    let p : WorldAsking = record { world = w; host = host; tries = tries; drowned = 0 } in
+    let k0 : IsMade WorldAsking IsAsked host depth p t.drowned m t = subst (λ (u : WorldAsking). IsMade WorldAsking IsAsked u.host depth u t.drowned m t) e k in
+    let packets : a - b ≡ t.world.injected - w.injected = ap (λ x. x - b) (h ∙ ap (λ v. v.injected) f) ∙ ap (λ y. t.world.injected - y) g in
+    subst (λ v. IsMadeOver host depth tries w v m (a - b)) (sym f) (made-over p depth m t (a - b) refl few k0 packets)
+
+pub rises-from : (w : WorldState) (host depth tries : ℕ) (s t : WorldAsking) (m : MadeMap) (after : WorldState) (b a : ℕ) → s ≡ record { world = w; host = host; tries = tries; drowned = 0 } → after ≡ t.world → b ≡ w.injected → a ≡ after.injected → IsMade WorldAsking IsAsked s.host depth s t.drowned m t → b ≤ a
+rises-from w host depth tries s t m after b a e f g h k =
+    let p : WorldAsking = record { world = w; host = host; tries = tries; drowned = 0 } in
+    let k0 : IsMade WorldAsking IsAsked host depth p t.drowned m t = subst (λ (u : WorldAsking). IsMade WorldAsking IsAsked u.host depth u t.drowned m t) e k in
+    let r : w.injected ≤ t.world.injected = made-rises p depth m t refl k0 in
+    let i : after.injected ≡ t.world.injected = ap (λ v. v.injected) f in
+    omega (arith, r, i, g, h)

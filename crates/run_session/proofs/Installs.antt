@@ -1,0 +1,94 @@
+-- That an installation of the last routes is told, and so obeyed.
+use Rattle.std.proofs.Common.{◌≡◌, ℕ, ◌∷◌, [], ◌++◌, List, length, map, Bool, true, false, not, Option, Some, None, refl, sym, ◌∙◌, ap, subst, append-nil, if◌then◌else◌}
+use Rattle.std.specs.Prelude.{flat_map, IfSome}
+use Rattle.net_defs.specs.Network.{Network}
+use Rattle.link_defs.specs.Links.{is_idle}
+use Rattle.world_defs.specs.World.{WorldState, fabric_of, adopted_by}
+use Rattle.world_defs.specs.Table.{Adoption}
+use Rattle.world_defs.specs.Install.{installed}
+use Rattle.run_defs.specs.declared.command.Command.TheVariants.{Install}
+use Rattle.run_defs.specs.declared.line.Line.{Line}
+use Rattle.run_defs.specs.declared.line.Line.TheVariants.{Installed, InstallRefused}
+use Rattle.run_defs.specs.declared.line.InstallCause.{InstallCause}
+use Rattle.run_defs.specs.declared.line.InstallCause.TheVariants.{NoRoutes, Busy, Installed as OtherInstalled}
+use Rattle.run_defs.specs.LineText.{line_text, output_text}
+use Rattle.run_defs.specs.Output.{lines}
+use Rattle.run_defs.specs.Outcome.{Outcome, adoption_of, install, install_done, install_now, is_other, says_only, table_line}
+use Rattle.run_defs.specs.Run.{Does}
+use Rattle.run_defs.specs.Session.{SessionState, LastMap, LastRoutes}
+use Rattle.run_session.specs.Obeyed.{IsObeyed}
+use Rattle.run_session.specs.Told.{AreInstalledTold, IsInstallTold, session_of}
+
+-- an installation whose outcome says one line alone
+refused : (w : WorldState) (last : Option LastRoutes) (tries : ℕ) (cause : InstallCause) (text : List ℕ) → ((made : Option LastMap) → install (session_of w made last) tries last ≡ says_only (session_of w made last) (InstallRefused cause ∷ [])) → text ≡ line_text (fabric_of w) (InstallRefused cause) → IsInstallTold w last tries w text
+refused w last tries cause text is e = record {
+  printed = λ made. e ∙ sym (append-nil (line_text (fabric_of w) (InstallRefused cause))) ∙ sym (ap (λ (o : Outcome). output_text (fabric_of w) o.output) (is made));
+  left = λ made. ap (λ (o : Outcome). o.after) (is made);
+}
+
+pub none_told : (w : WorldState) (tries : ℕ) (text : List ℕ) → text ≡ line_text (fabric_of w) (InstallRefused NoRoutes) → IsInstallTold w None tries w text
+none_told w tries text e = refused w None tries NoRoutes text (λ made. refl) e
+
+-- what comes of last routes, by whether a channel holds a packet and another set is adopted
+abbrev choice : SessionState → LastRoutes → ℕ → Bool → Bool → Outcome
+choice s l tries idle other =
+    if not idle then says_only s (InstallRefused Busy ∷ [])
+    else if other then says_only s (InstallRefused OtherInstalled ∷ [])
+    else install_now s l tries
+
+pub busy_told : (w : WorldState) (l : LastRoutes) (tries : ℕ) (text : List ℕ) → is_idle w.links ≡ false → text ≡ line_text (fabric_of w) (InstallRefused Busy) → IsInstallTold w (Some l) tries w text
+busy_told w l tries text busy e = refused w (Some l) tries Busy text (λ made. ap (λ b. choice (session_of w made (Some l)) l tries b (is_other l.routes w.adopted)) busy) e
+
+pub other_told : (w after : WorldState) (l : LastRoutes) (tries : ℕ) (text : List ℕ) → is_idle w.links ≡ true → is_other l.routes w.adopted ≡ true → after ≡ w → text ≡ line_text (fabric_of after) (InstallRefused OtherInstalled) → IsInstallTold w (Some l) tries after text
+other_told w after l tries text idle other same e =
+    subst (λ v. IsInstallTold w (Some l) tries v text) (sym same)
+    (refused w (Some l) tries OtherInstalled text
+    (λ made. ap (λ b. choice (session_of w made (Some l)) l tries b (is_other l.routes w.adopted)) idle ∙ ap (choice (session_of w made (Some l)) l tries true) other)
+    (e ∙ ap (λ (v : WorldState). line_text (fabric_of v) (InstallRefused OtherInstalled)) same))
+
+pub installed_told : (w mid after : WorldState) (l : LastRoutes) (tries : ℕ) (text : List ℕ) → is_idle w.links ≡ true → is_other l.routes w.adopted ≡ false → mid ≡ adopted_by w l.mapper l.routes → AreInstalledTold mid l tries after text → IsInstallTold w (Some l) tries after text
+installed_told w mid after l tries text idle other is told = record {
+  printed = λ made. told.printed ∙ ap (λ (v : WorldState). output_text (fabric_of v) (done made).output) is ∙ sym (ap (λ (o : Outcome). output_text (fabric_of w) o.output) (all made));
+  left = λ made. ap (λ (o : Outcome). o.after) (all made);
+}
+  where
+    done : Option LastMap → Outcome
+    done made = install_done (session_of w made (Some l)) l.hosts (told.acked, after)
+
+    counted : installed (adoption_of l) l.hosts tries (adopted_by w l.mapper l.routes) ≡ (told.acked, after)
+    counted = ap (installed (adoption_of l) l.hosts tries) (sym is) ∙ told.counted
+
+    all : (made : Option LastMap) → install (session_of w made (Some l)) tries (Some l) ≡ done made
+    all made =
+        ap (λ b. choice (session_of w made (Some l)) l tries b (is_other l.routes w.adopted)) idle
+        ∙ ap (choice (session_of w made (Some l)) l tries true) other
+        ∙ ap (install_done (session_of w made (Some l)) l.hosts) counted
+
+-- the lines of tables, one after another
+tables-text : (n : Network) (w : WorldState) (hosts : List ℕ) → flat_map (λ h. line_text n (table_line w h)) hosts ≡ output_text n (lines (map (table_line w) hosts))
+tables-text n w [] = refl
+tables-text n w (h ∷ hosts) = ap (λ t. line_text n (table_line w h) ++ t) (tables-text n w hosts)
+
+-- a line, and the tables behind it
+pub tables-told : (n : Network) (w : WorldState) (l : Line) (hosts text after : List ℕ) → text ≡ line_text n l → after ≡ text ++ flat_map (λ h. line_text n (table_line w h)) hosts → after ≡ output_text n (lines (l ∷ map (table_line w) hosts))
+tables-told n w l hosts text after first rest = rest ∙ ap (λ t. t ++ flat_map (λ h. line_text n (table_line w h)) hosts) first ∙ ap (λ t. line_text n l ++ t) (tables-text n w hosts)
+
+-- an installation that was counted is told
+pub counted-told : (w after : WorldState) (l : LastRoutes) (tries acked total : ℕ) (hosts text : List ℕ) → w.adopted ≡ Some (adoption_of l) → IfSome w.adopted (λ a. installed a hosts tries w ≡ (acked, after)) → total ≡ length hosts → hosts ≡ l.hosts → fabric_of after ≡ fabric_of w → text ≡ output_text (fabric_of after) (lines (Installed acked total ∷ map (table_line after) hosts)) → AreInstalledTold w l tries after text
+counted-told w after l tries acked total hosts text adopted counted all same net e = record {
+  acked = acked;
+  counted = subst (λ (hs : List ℕ). installed (adoption_of l) hs tries w ≡ (acked, after)) same
+      (subst (λ (o : Option Adoption). IfSome o (λ a. installed a hosts tries w ≡ (acked, after))) adopted counted);
+  printed = e
+      ∙ ap (λ n. output_text n (lines (Installed acked total ∷ map (table_line after) hosts))) net
+      ∙ ap (λ (k : ℕ). output_text (fabric_of w) (lines (Installed acked k ∷ map (table_line after) hosts))) all
+      ∙ ap (λ (hs : List ℕ). output_text (fabric_of w) (lines (Installed acked (length hs) ∷ map (table_line after) hs))) same;
+}
+
+-- the command was obeyed
+pub installed_so : (s : SessionState) (tries : ℕ) (after : WorldState) (text : List ℕ) → IsInstallTold s.world s.last_routes tries after text → IsObeyed s (Install tries) (record s { world = after }) text
+installed_so s tries after text told = record {
+  output = (install s tries s.last_routes).output;
+  does = Does.determined (ap (λ (t : SessionState). Some (record { output = (install s tries s.last_routes).output; after = t })) (told.left s.last_map));
+  printed = told.printed s.last_map;
+}

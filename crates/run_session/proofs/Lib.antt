@@ -1,0 +1,5 @@
+pub mod Asks
+pub mod Installable
+pub mod Installs
+pub mod Keeping
+pub mod Obeying

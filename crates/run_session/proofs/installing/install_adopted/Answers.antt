@@ -1,0 +1,44 @@
+use Rattle.std.proofs.Common.{◌≡◌, ◌∷◌, ◌<◌, ◌∙◌, map, sym, subst}
+use Rattle.std.specs.Prelude.{ℕ, List}
+use Rattle.std.specs.List.{AllByRecursion}
+use Rattle.world_defs.specs.World.{fabric_of}
+use Rattle.run_defs.specs.declared.line.Line.TheVariants.{Installed}
+use Rattle.run_defs.specs.LineText.{output_text}
+use Rattle.run_defs.specs.Output.{lines}
+use Rattle.run_defs.specs.Outcome.{table_line}
+use Rattle.fab_world.specs.Events.{IsHostOf}
+use Rattle.run_session.specs.Told.{AreInstalledTold}
+use Rattle.run_session.proofs.Keeping.{if-ok}
+use Rattle.run_session.proofs.Installable.{kept-installable, hosts-there}
+use Rattle.run_session.proofs.Installs.{counted-told}
+use Rattle.run_session.proofs.installing.install_adopted.Goals as goal
+
+pub install-requires : goal.install-requires
+install-requires c =
+    let hosts : c.l.inside.hosts.items ≡ c.args.l.now.hosts = cc in
+    kept-installable c.args.w.now c.args.l.now c.deref.result.now c.args.tries c.requires.adopted c.requires.idle c.requires.kept c.requires.some c.requires.few
+    (c.deref.ensures.value ∙ hosts)
+
+pub installed_text-requires : goal.installed_text-requires
+installed_text-requires c =
+    let hosts : c.l.inside.hosts.items ≡ c.args.l.now.hosts = cc in
+    let there = hosts-there c.args.w.now c.args.l.now c.moment.ensures.kept c.requires.kept in
+    record {
+      hosts = subst (λ (count : ℕ). AllByRecursion (λ h. h < count) c.deref-2.result.now) (sym c.in_ok-installed.ensures.hosts)
+          (subst (AllByRecursion (IsHostOf c.args.w.now)) (sym (c.deref-2.ensures.value ∙ hosts)) there);
+    }
+
+pub returns-clause-told : goal.returns-clause-told
+returns-clause-told c =
+    let w = c.args.w.now in
+    let after = c.install.new.w in
+    let x = c.in_ok-installed.installed in
+    let hosts : c.l.inside.hosts.items ≡ c.args.l.now.hosts = cc in
+    let one : c.deref.result.now ≡ c.deref-2.result.now = c.deref.ensures.value ∙ sym c.deref-2.ensures.value in
+    if-ok c.installed_text.result
+    (λ text. text.items ≡ output_text (fabric_of after) (lines (Installed x.acked x.of ∷ map (table_line after) c.deref-2.result.now)))
+    (λ text. AreInstalledTold w c.args.l.now c.args.tries after text.items)
+    (λ text e. counted-told w after c.args.l.now c.args.tries x.acked x.of c.deref.result.now text.items c.requires.adopted c.in_ok-installed.ensures.acked c.in_ok-installed.ensures.of
+    (c.deref.ensures.value ∙ hosts) c.in_ok-installed.ensures.fabric
+    (subst (λ (hs : List ℕ). text.items ≡ output_text (fabric_of after) (lines (Installed x.acked x.of ∷ map (table_line after) hs))) (sym one) e))
+    c.installed_text.ensures

@@ -1,0 +1,43 @@
+//! A run's session: what is held from command to command, and what each command does.
+//!
+//! It reads no script and prints no report of its own: a command comes in, and the text of what it printed goes out. `specs/Run.antt` of
+//! `run_defs` says what each command does; `specs/Obeyed.antt` here that a text is that of what was done.
+//!
+//! ```text
+//!   Walk                   a packet, alone in the session's own links --> its line
+//!   Plan, Finish           their one line
+//!   Map, links busy        map a refused busy
+//!   Map, links idle        world --> prober --> map --> its line, then the lines of the map; the map is kept
+//!   Routes, no such map    routes refused nomap
+//!   Routes                 the last map, which says complete --> routes --> their lines; the routes are kept
+//!   Install, refused       install refused noroutes, busy or installed
+//!   Install                the last routes --> adopted --> their parts, host by host --> its line, then each host's table
+//! ```
+//!
+//! A session's type keeps what the routes rest on (`specs/Kept.antt`): a last map that says complete is its mapper's part of the fabric.
+//! It keeps too that its own links are empty, of which contracts see nothing.
+//!
+//! | module | has |
+//! |---|---|
+//! | `session` | the session, and every command |
+//! | `last` | the last map and the last routes |
+//! | `telling` | the texts of commands of one line |
+//! | `mapping` | a map made over a world, with its text |
+//! | `routing` | the routes of a map, with their text |
+//! | `installing` | an installation of the last routes, with its text |
+//! | `copying` | another set of the same routes |
+#![tactic(auto)]
+
+mod copying;
+mod installing;
+mod last;
+mod mapping;
+mod routing;
+mod session;
+mod telling;
+#[cfg(test)]
+mod tests;
+
+pub use fab_world::{Fabric, World};
+pub use run_defs::Command;
+pub use session::Session;
