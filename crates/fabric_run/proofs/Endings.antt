@@ -1,15 +1,16 @@
 -- How a run ends, from how its parts end.
-use Rattle.std.proofs.Common.{◌≡◌, ℕ, List, [], ◌∷◌, Bool, length, get_or, IsTrue, Option, Err, subst, ap, sym, ◌∙◌, arith}
+use Rattle.std.proofs.Common.{◌≡◌, ◌⊎◌, inl, inr, ℕ, List, [], ◌∷◌, Bool, length, get_or, IsTrue, Option, Some, None, Ok, Err, refl, subst, ap, sym, ◌∙◌, arith}
 use Rattle.std.specs.Prelude.{bytes_eq, codes}
 use Rattle.std.proofs.lemmas.Slice.Eq.{bytes_eq-Decides}
-use Rattle.std.specs.Io.KnownBytes.{Appends}
+use Rattle.std.specs.Io.KnownBytes.{Appends, Keeps}
+use Rattle.std.proofs.KnownBytes.{Appends-nil}
 use Rattle.fab_outer.specs.Whole.{TakesPrefix}
 use Rattle.fab_text.specs.Fault.{FirstFault}
+use Rattle.run_defs.specs.Session.{SessionState}
 use Rattle.fabric_run.specs.declared.status.Status.{Status}
 use Rattle.fabric_run.specs.declared.status.Status.TheVariants.{Done, Usage, Refused, ReadFault, WriteFault, NoMemory, TooLong}
-use Rattle.fabric_run.specs.Reading.{reading}
-use Rattle.fabric_run.specs.Report.{due_to}
-use Rattle.fabric_run.specs.Ends.{IsForm, RefusalEnds, TextEnds}
+use Rattle.fabric_run.specs.Reading.{AcceptedText, reading}
+use Rattle.fabric_run.specs.Ends.{IsForm, Came, IsWriteCut, IsMemoryCut, refusal_text, Moment, RefusalEnds, ReportEnds, TextEnds, InputEnds}
 
 -- one word is the form exactly where it is `run`
 pub one-word : (words : List (List ℕ)) (w : List ℕ) → length words ≡ 1 → w ≡ get_or words 0 w → words ≡ w ∷ []
@@ -25,16 +26,57 @@ form-word words w test e f t =
       (λ form. t ∙ d.1 (f ∙ ap (λ l. get_or l 0 w) form)),
     )
 
+-- bytes stay as they are
+pub keeps-same : (taken : Option (List ℕ)) → Keeps taken taken
+keeps-same None = tt
+keeps-same (Some bytes) = refl
+
+-- nothing is the front of every text
+pub takes-nothing : (taken : Option (List ℕ)) (text : List ℕ) → TakesPrefix taken taken text
+takes-nothing taken text = ([], text, refl, Appends-nil taken)
+
+-- where memory was wanting before a refusal was written, and before the first command
+pub refusal-nothing : (f : FirstFault) (taken : Option (List ℕ)) (faults risen : ℕ) (s : Status) (held : Option SessionState) → s ≡ NoMemory → held ≡ None → RefusalEnds f taken taken faults risen s held
+refusal-nothing f taken faults risen s held e h = subst (λ t. RefusalEnds f taken taken faults risen t held) (sym e) (takes-nothing taken (refusal_text f), h)
+
+-- the commands ended so, by the answer's two parts
+pub report-so : (a : AcceptedText) (taken now : Option (List ℕ)) (faults risen : ℕ) (s t : Status) (held back : Option SessionState) → t ≡ s → back ≡ held
+    → ReportEnds a taken now faults risen s held → ReportEnds a taken now faults risen t back
+report-so a taken now faults risen s t held back e h k =
+    subst (λ x. ReportEnds a taken now faults risen x back) (sym e) (subst (ReportEnds a taken now faults risen s) (sym h) k)
+
 -- a refusal that was written, or not, ends the work on its text
-pub refusal-text-ends : (text : List ℕ) (f : FirstFault) (taken now : Option (List ℕ)) (faults risen : ℕ) (s : Status) → reading text ≡ Err f
-    → RefusalEnds f taken now faults risen s → TextEnds text taken now faults risen s
-refusal-text-ends text f taken now faults risen (Refused line kind) e h = (
-  e ∙ (λ i. Err (record { line = sym h.0 i; kind = sym h.1 i })),
-  subst (Appends taken now) (sym (ap due_to e)) h.2,
-)
-refusal-text-ends text f taken now faults risen WriteFault e h = (h.0, subst (TakesPrefix taken now) (sym (ap due_to e)) h.1)
-refusal-text-ends text f taken now faults risen NoMemory e h = subst (TakesPrefix taken now) (sym (ap due_to e)) h
-refusal-text-ends text f taken now faults risen Done e h = absurd h
-refusal-text-ends text f taken now faults risen Usage e h = absurd h
-refusal-text-ends text f taken now faults risen ReadFault e h = absurd h
-refusal-text-ends text f taken now faults risen TooLong e h = absurd h
+pub refusal-text-ends : (text : List ℕ) (f : FirstFault) (taken now : Option (List ℕ)) (faults risen : ℕ) (s : Status) (held : Option SessionState) → reading text ≡ Err f
+    → RefusalEnds f taken now faults risen s held → TextEnds text taken now faults risen s held
+refusal-text-ends text f taken now faults risen (Refused line kind) held e h =
+    let same : record { line = line; kind = kind } ≡ f = λ i. record { line = h.0 i; kind = h.1 i } in
+    (e ∙ ap Err (sym same), subst (λ g. Appends taken now (refusal_text g)) (sym same) h.2, h.3)
+refusal-text-ends text f taken now faults risen WriteFault held e h = (h.0, subst (λ r. IsWriteCut r taken now held) (sym e) (h.1, h.2))
+refusal-text-ends text f taken now faults risen NoMemory held e h = inr (subst (λ r. IsMemoryCut r taken now held) (sym e) h)
+refusal-text-ends text f taken now faults risen Done held e h = absurd h
+refusal-text-ends text f taken now faults risen Usage held e h = absurd h
+refusal-text-ends text f taken now faults risen ReadFault held e h = absurd h
+refusal-text-ends text f taken now faults risen TooLong held e h = absurd h
+
+-- a report that was written, or not, ends the work on its text
+pub report-text-ends : (text : List ℕ) (a : AcceptedText) (taken now : Option (List ℕ)) (faults risen : ℕ) (s : Status) (held : Option SessionState) → reading text ≡ Ok a
+    → ReportEnds a taken now faults risen s held → TextEnds text taken now faults risen s held
+report-text-ends text a taken now faults risen Done held e h = (a, e, h)
+report-text-ends text a taken now faults risen WriteFault held e h = (h.0, subst (λ r. IsWriteCut r taken now held) (sym e) h.1)
+report-text-ends text a taken now faults risen NoMemory held e h = inr (subst (λ r. IsMemoryCut r taken now held) (sym e) h)
+report-text-ends text a taken now faults risen (Refused line kind) held e h = absurd h
+report-text-ends text a taken now faults risen Usage held e h = absurd h
+report-text-ends text a taken now faults risen ReadFault held e h = absurd h
+report-text-ends text a taken now faults risen TooLong held e h = absurd h
+
+-- the work on a text that came ends the run
+pub text-input-ends : (before now : Moment) (text : List ℕ) (s : Status) (held : Option SessionState) → Came before.left now.left text
+    → TextEnds text before.taken now.taken before.write_faults now.write_faults s held → InputEnds before now s held
+text-input-ends before now text Done held c h = (text, c, h)
+text-input-ends before now text (Refused line kind) held c h = (text, c, h)
+text-input-ends before now text WriteFault held c h = (text, c, h)
+text-input-ends before now text NoMemory held c h =
+    elim h as (λ x. Keeps before.taken now.taken ⊎ ((t : List ℕ) × Came before.left now.left t × IsMemoryCut (reading t) before.taken now.taken held)) [ inl k ↦ inl k | inr k ↦ inr (text, c, k) ]
+text-input-ends before now text Usage held c h = absurd h
+text-input-ends before now text ReadFault held c h = absurd h
+text-input-ends before now text TooLong held c h = absurd h

@@ -1,3 +1,4 @@
+pub mod Built
 pub mod Endings
-pub mod Scripts
+pub mod Promises
 pub mod Writing

@@ -1,32 +1,22 @@
--- A report that is written in turns.
-use Rattle.std.proofs.Common.{◌≡◌, ◌<◌, ◌≤◌, true, Result, Ok, Err, is_err, OnErr, true≢false, arith, ℕ, suc, List, ◌∷◌, ◌++◌, length, take, drop, get_or, Option, ap, sym, ◌∙◌, append_assoc}
-use Rattle.std.specs.Prelude.{flat_map}
+-- A report that is written command by command.
+use Rattle.std.proofs.Common.{◌≡◌, ◌<◌, ◌≤◌, true, false, Result, Ok, Err, is_err, OnErr, OnOk, true≢false, arith, ℕ, zero, suc, List, [], ◌∷◌, ◌++◌, length, take, get_or, Option, Some, refl, ap, sym, subst, ◌∙◌, append_assoc, append-nil}
+use Rattle.std.specs.List.{AllByRecursion}
 use Rattle.std.specs.Io.KnownBytes.{Appends}
-use Rattle.std.proofs.KnownBytes.{Appends-trans}
-use Rattle.std.proofs.lemmas.List.{take-append-drop}
-use Rattle.std.proofs.lemmas.List.Concat.{flat_map-append}
-use Rattle.std.proofs.Math.Seq.{drop-cons}
+use Rattle.std.proofs.KnownBytes.{Appends-nil, Appends-trans}
+use Rattle.net_defs.specs.Network.{Network}
 use Rattle.fab_outer.specs.Fault.{Rose}
 use Rattle.fab_outer.specs.Whole.{TakesPrefix}
-
--- what is written for a list, cut before a place
-pub flat_map-cut : {X : Type 0} (f : X → List ℕ) (xs : List X) (i : ℕ) → flat_map f xs ≡ flat_map f (take i xs) ++ flat_map f (drop i xs)
-flat_map-cut f xs i = ap (flat_map f) (sym (take-append-drop i xs)) ∙ flat_map-append f (take i xs) (drop i xs)
-
--- cut before and behind a place
-pub flat_map-around : {X : Type 0} (f : X → List ℕ) (xs : List X) (i : ℕ) (x : X) → i < length xs → x ≡ get_or xs i x → flat_map f xs ≡ flat_map f (take i xs) ++ (f x ++ flat_map f (drop (suc i) xs))
-flat_map-around f xs i x h e =
-    flat_map-cut f xs i
-    ∙ ap (λ l. flat_map f (take i xs) ++ flat_map f l) (drop-cons xs i x h ∙ ap (λ y. y ∷ drop (suc i) xs) (sym e))
-
--- a front part was taken, and then a front part of what follows it
-pub takes-more : (a b c : Option (List ℕ)) (bytes done lines after : List ℕ) → bytes ≡ done ++ (lines ++ after) → Appends a b done → TakesPrefix b c lines → TakesPrefix a c bytes
-takes-more a b c bytes done lines after e first more = (
-  done ++ more.0,
-  more.1 ++ after,
-  e ∙ ap (λ l. done ++ (l ++ after)) more.2 ∙ ap (λ l. done ++ l) (append_assoc more.0 more.1 after) ∙ sym (append_assoc done more.0 (more.1 ++ after)),
-  Appends-trans a b c done more.0 first more.3,
-)
+use Rattle.world_defs.specs.World.{fabric_of}
+use Rattle.run_defs.specs.declared.command.Command.{Command}
+use Rattle.run_defs.specs.Output.{Piece}
+use Rattle.run_defs.specs.Session.{SessionState, new_session}
+use Rattle.run_defs.specs.Run.{Runs}
+use Rattle.run_defs.specs.Run.Runs.{ended}
+use Rattle.run_defs.specs.LineText.{output_text}
+use Rattle.run_laws.proofs.RunsOnce.{runs-more, first_runs_are_part, text_of_both}
+use Rattle.run_session.specs.Obeyed.{IsObeyed}
+use Rattle.fabric_run.specs.Reading.{AcceptedText}
+use Rattle.fabric_run.specs.Ends.{HaveRun, IsPartOfReport, IsReported, IsCutOff, IsInterrupted}
 
 -- a count that rose since a later moment rose
 pub rose-earlier : (before between now : ℕ) → before ≤ between → Rose between now → Rose before now
@@ -36,3 +26,104 @@ rose-earlier before between now h r = omega arith
 pub on_err : {T E : Type 0} (r : Result T E) (P : Type 0) → true ≡ is_err r → OnErr r P → P
 on_err (Ok x) P e h = absurd (true≢false e)
 on_err (Err x) P e h = h
+
+-- what an answer says at an `Ok`, of one that is no `Err`
+pub on_ok : {T E : Type 0} (r : Result T E) (P : Type 0) → false ≡ is_err r → OnOk r P → P
+on_ok (Ok x) P e h = h
+on_ok (Err x) P e h = absurd (true≢false (sym e))
+
+-- what holds of each holds of one by its place
+pub at-place : {X : Type 0} (P : X → Type 0) (xs : List X) (i : ℕ) (x : X) → AllByRecursion P xs → i < length xs → x ≡ get_or xs i x → P x
+at-place P [] i x all h e = absurd (omega arith)
+at-place P (y ∷ ys) zero x all h e = subst P (sym e) all.0
+at-place P (y ∷ ys) (suc i) x all h e = at-place P ys i x all.1 (omega arith) e
+
+-- one more
+pub take-one : {X : Type 0} (xs : List X) (i : ℕ) (x : X) → i < length xs → x ≡ get_or xs i x → take (suc i) xs ≡ take i xs ++ x ∷ []
+take-one [] i x h e = absurd (omega arith)
+take-one (y ∷ ys) zero x h e = ap (λ z. z ∷ []) (sym e)
+take-one (y ∷ ys) (suc i) x h e = ap (λ zs. y ∷ zs) (take-one ys i x (omega arith) e)
+
+-- nothing was taken where nothing ran
+pub none-ran : (n : Network) (cs : List Command) (taken : Option (List ℕ)) (s : SessionState) → s ≡ new_session n → HaveRun n (take 0 cs) taken taken s
+none-ran n cs taken s e = record {
+  output = [];
+  run = subst (λ t. Runs (new_session n) [] [] t) (sym e) ended;
+  took = Appends-nil taken;
+}
+
+-- the text of what was printed before a command and by it
+output-on : (n m : Network) (before own : List Piece) → m ≡ n → output_text n (before ++ own) ≡ output_text n before ++ output_text m own
+output-on n m before own e = text_of_both n before own ∙ ap (λ k. output_text n before ++ output_text k own) (sym e)
+
+-- the front of what first commands printed is the front of what all commands print
+part-of-all : (n : Network) (cs : List Command) (k : ℕ) (taken now : Option (List ℕ)) (s : SessionState) (out : List Piece) (part rest : List ℕ) → Runs (new_session n) (take k cs) out s
+    → output_text n out ≡ part ++ rest → Appends taken now part → IsPartOfReport (record { network = n; commands = cs }) taken now
+part-of-all n cs k taken now s out part rest r e took all end whole =
+    let more = first_runs_are_part k (new_session n) s end cs out all r whole in (
+      part,
+      rest ++ output_text n more.0,
+      ap (output_text n) more.1 ∙ text_of_both n out more.0 ∙ ap (λ l. l ++ output_text n more.0) e ∙ append_assoc part rest (output_text n more.0),
+      took,
+    )
+
+-- one command more ran, and its text was taken
+pub more-ran : (n : Network) (cs : List Command) (i : ℕ) (taken between now : Option (List ℕ)) (s next : SessionState) (c : Command) (text : List ℕ) → i < length cs → c ≡ get_or cs i c
+    → HaveRun n (take i cs) taken between s → fabric_of s.world ≡ n → IsObeyed s c next text → Appends between now text → HaveRun n (take (suc i) cs) taken now next
+more-ran n cs i taken between now s next c text low at ran net does took = record {
+  output = ran.output ++ does.output;
+  run = subst (λ l. Runs (new_session n) l (ran.output ++ does.output) next) (sym (take-one cs i c low at)) (runs-more c does.output ran.run does.does);
+  took = subst (Appends taken now) (ap (λ l. output_text n ran.output ++ l) does.printed ∙ sym (output-on n (fabric_of s.world) ran.output does.output net))
+      (Appends-trans taken between now (output_text n ran.output) text ran.took took);
+}
+
+-- one command more ran, and the front of its text was taken
+pub cut-ran : (n : Network) (cs : List Command) (i : ℕ) (taken between now : Option (List ℕ)) (s next : SessionState) (c : Command) (text : List ℕ) → i < length cs → c ≡ get_or cs i c
+    → HaveRun n (take i cs) taken between s → fabric_of s.world ≡ n → IsObeyed s c next text → TakesPrefix between now text
+    → IsCutOff (record { network = n; commands = cs }) taken now (Some next)
+cut-ran n cs i taken between now s next c text low at ran net does took =
+    let run : Runs (new_session n) (take (suc i) cs) (ran.output ++ does.output) next =
+    subst (λ l. Runs (new_session n) l (ran.output ++ does.output) next) (sym (take-one cs i c low at)) (runs-more c does.output ran.run does.does) in
+    let own : output_text n does.output ≡ took.0 ++ took.1 = ap (λ k. output_text k does.output) (sym net) ∙ sym does.printed ∙ took.2 in
+    let front : Appends taken now (output_text n ran.output ++ took.0) = Appends-trans taken between now (output_text n ran.output) took.0 ran.took took.3 in
+    let whole : output_text n (ran.output ++ does.output) ≡ (output_text n ran.output ++ took.0) ++ took.1 =
+    text_of_both n ran.output does.output ∙ ap (λ l. output_text n ran.output ++ l) own ∙ sym (append_assoc (output_text n ran.output) took.0 took.1) in
+    record {
+      count = i;
+      between = s;
+      last = next;
+      before = ran.output;
+      own = does.output;
+      run_before = ran.run;
+      run = run;
+      took = (took.0, took.1, own, front);
+      part = part-of-all n cs (suc i) taken now next (ran.output ++ does.output) (output_text n ran.output ++ took.0) took.1 run whole front;
+      hands_back = refl;
+    }
+
+-- memory was wanting behind first commands
+pub interrupted : (n : Network) (cs : List Command) (i : ℕ) (taken now : Option (List ℕ)) (s : SessionState) → HaveRun n (take i cs) taken now s → IsInterrupted (record { network = n; commands = cs }) taken now
+interrupted n cs i taken now s ran = record {
+  count = i;
+  last = s;
+  ran = ran;
+  part = part-of-all n cs i taken now s ran.output (output_text n ran.output) [] ran.run (sym (append-nil (output_text n ran.output))) ran.took;
+}
+
+-- before the first command
+pub unstarted : (a : AcceptedText) (taken : Option (List ℕ)) → IsInterrupted a taken taken
+unstarted a taken = interrupted a.network a.commands 0 taken taken (new_session a.network) (none-ran a.network a.commands taken (new_session a.network) refl)
+
+-- all commands ran
+pub all-ran : (n : Network) (cs : List Command) (i : ℕ) (taken now : Option (List ℕ)) (s : SessionState) → length cs ≤ i → HaveRun n (take i cs) taken now s → IsReported (record { network = n; commands = cs }) taken now (Some s)
+all-ran n cs i taken now s e ran = record {
+  last = s;
+  ran = subst (λ l. HaveRun n l taken now s) (take-all cs i e) ran;
+  hands_back = refl;
+}
+  where
+    take-all : {X : Type 0} (xs : List X) (i : ℕ) → length xs ≤ i → take i xs ≡ xs
+    take-all [] zero h = refl
+    take-all [] (suc i) h = refl
+    take-all (x ∷ xs) zero h = absurd (omega arith)
+    take-all (x ∷ xs) (suc i) h = ap (λ l. x ∷ l) (take-all xs i (omega arith))

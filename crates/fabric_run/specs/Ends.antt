@@ -1,14 +1,20 @@
--- How a run may end: its answer, what was read, and what was written.
-use Rattle.std.specs.Prelude.{◌≡◌, ◌⊎◌, ℕ, ◌≤◌, true, List, [], ◌∷◌, length, nat_lt, if◌then◌else◌, Option, Result, Ok, Err, is_ok, codes}
+-- How a run may end: its answer, what was read, what was written, and the session that it hands back.
+use Rattle.std.specs.Prelude.{◌≡◌, ◌⊎◌, ℕ, suc, ◌≤◌, Bool, true, false, List, [], ◌∷◌, ◌++◌, length, take, nat_lt, if◌then◌else◌, Option, Some, None, Result, Ok, Err, codes, decimal}
 use Rattle.std.specs.Io.KnownBytes.{Appends, Keeps}
+use Rattle.net_defs.specs.Network.{Network}
 use Rattle.fab_outer.specs.Fault.{Rose}
 use Rattle.fab_outer.specs.Whole.{IsWhole, IsLonger, TakesPrefix}
 use Rattle.fab_text.specs.declared.fault.FaultKind.{FaultKind}
-use Rattle.fab_text.specs.Fault.{FirstFault}
+use Rattle.fab_text.specs.Fault.{FirstFault, kind_word}
+use Rattle.fab_text.specs.Written.{line_text}
+use Rattle.run_defs.specs.declared.command.Command.{Command}
+use Rattle.run_defs.specs.Output.{Piece}
+use Rattle.run_defs.specs.Session.{SessionState}
+use Rattle.run_defs.specs.Run.{IsRun}
+use Rattle.run_defs.specs.LineText.{output_text}
 use Rattle.fabric_run.specs.declared.status.Status.{Status}
 use Rattle.fabric_run.specs.declared.status.Status.TheVariants.{Done, Usage, Refused, ReadFault, WriteFault, NoMemory, TooLong}
 use Rattle.fabric_run.specs.Reading.{AcceptedText, reading}
-use Rattle.fabric_run.specs.Report.{text_due, refusal_text}
 
 -- the words that ask for a run: `run` alone
 abbrev pub IsForm : List (List ℕ) → Type 0
@@ -22,13 +28,17 @@ input_limit = 1048576
 abbrev pub Came : Option (List ℕ) → Option (List ℕ) → List ℕ → Type 0
 Came before now text = IsWhole before now text × (length text ≤ input_limit)
 
--- a text is accepted
-abbrev pub IsAccepted : List ℕ → Type 0
-IsAccepted text = is_ok (reading text) ≡ true
+-- a text is accepted: it says this
+abbrev pub IsAccepted : List ℕ → AcceptedText → Type 0
+IsAccepted text a = reading text ≡ Ok a
 
 -- a text is refused: this is the kind of its first fault, in this line
 abbrev pub IsRefused : List ℕ → ℕ → FaultKind → Type 0
 IsRefused text line kind = reading text ≡ Err (record { line = line; kind = kind })
+
+-- the one line of a text that isn't accepted: the line of its first fault, and the fault's kind
+abbrev pub refusal_text : FirstFault → List ℕ
+refusal_text f = line_text (codes "refused" ∷ decimal f.line ∷ kind_word f.kind ∷ [])
 
 -- the answer to what was read where nothing fails
 abbrev pub answer_to : Result AcceptedText FirstFault → Status
@@ -39,6 +49,79 @@ answer_to (Err f) = Refused f.line f.kind
 abbrev pub own_answer : List ℕ → Status
 own_answer text = if nat_lt input_limit (length text) then TooLong else answer_to (reading text)
 
+-- Commands ran over a fabric, one after another from its first world on, and led to this session; the sink took exactly what they printed.
+pub record HaveRun (n : Network) (commands : List Command) (taken now : Option (List ℕ)) (last : SessionState) : Type 0 where
+  pub output : List Piece
+  pub run : IsRun n commands output last
+  pub took : Appends taken now (output_text n output)
+
+-- The whole report was taken: all commands ran, and their session is handed back.
+pub record IsReported (a : AcceptedText) (taken now : Option (List ℕ)) (held : Option SessionState) : Type 0 where
+  pub last : SessionState
+  pub ran : HaveRun a.network a.commands taken now last
+  pub hands_back : held ≡ Some last
+
+-- What the sink took is the front of the report of the whole text: of what every run of all its commands prints.
+abbrev pub IsPartOfReport : AcceptedText → Option (List ℕ) → Option (List ℕ) → Type 0
+IsPartOfReport a taken now = (all : List Piece) (end : SessionState) → IsRun a.network a.commands all end → TakesPrefix taken now (output_text a.network all)
+
+-- The sink took the whole of a first text, and then the front of a second.
+abbrev pub TakesPast : Option (List ℕ) → Option (List ℕ) → List ℕ → List ℕ → Type 0
+TakesPast taken now first second = (part : List ℕ) × (rest : List ℕ) × (second ≡ part ++ rest) × Appends taken now (first ++ part)
+
+-- A write failed behind a command: all that those before it printed was taken, and the front of its own text; its session is handed back.
+pub record IsCutOff (a : AcceptedText) (taken now : Option (List ℕ)) (held : Option SessionState) : Type 0 where
+  pub count : ℕ
+  pub between : SessionState
+  pub last : SessionState
+  pub before : List Piece
+  pub own : List Piece
+  pub run_before : IsRun a.network (take count a.commands) before between
+  pub run : IsRun a.network (take (suc count) a.commands) (before ++ own) last
+  pub took : TakesPast taken now (output_text a.network before) (output_text a.network own)
+  pub part : IsPartOfReport a taken now
+  pub hands_back : held ≡ Some last
+
+-- Memory was wanting for a command: the sink took exactly what those before it printed.
+pub record IsInterrupted (a : AcceptedText) (taken now : Option (List ℕ)) : Type 0 where
+  pub count : ℕ
+  pub last : SessionState
+  pub ran : HaveRun a.network (take count a.commands) taken now last
+  pub part : IsPartOfReport a taken now
+
+-- How the commands of an accepted text may end.
+abbrev pub ReportEnds : AcceptedText → Option (List ℕ) → Option (List ℕ) → ℕ → ℕ → Status → Option SessionState → Type 0
+ReportEnds a taken now faults risen Done held = IsReported a taken now held
+ReportEnds a taken now faults risen WriteFault held = Rose faults risen × IsCutOff a taken now held
+ReportEnds a taken now faults risen NoMemory held = IsInterrupted a taken now
+ReportEnds a taken now faults risen _ held = ⊥
+
+-- How the writing of a refusal may end. No session was made.
+abbrev pub RefusalEnds : FirstFault → Option (List ℕ) → Option (List ℕ) → ℕ → ℕ → Status → Option SessionState → Type 0
+RefusalEnds f taken now faults risen (Refused line kind) held = (line ≡ f.line) × (kind ≡ f.kind) × Appends taken now (refusal_text f) × (held ≡ None)
+RefusalEnds f taken now faults risen WriteFault held = Rose faults risen × TakesPrefix taken now (refusal_text f) × (held ≡ None)
+RefusalEnds f taken now faults risen NoMemory held = TakesPrefix taken now (refusal_text f) × (held ≡ None)
+RefusalEnds f taken now faults risen _ held = ⊥
+
+-- A write failed: behind a command of an accepted text, or in the one line of a refused text, which has no session.
+abbrev pub IsWriteCut : Result AcceptedText FirstFault → Option (List ℕ) → Option (List ℕ) → Option SessionState → Type 0
+IsWriteCut (Ok a) taken now held = IsCutOff a taken now held
+IsWriteCut (Err f) taken now held = TakesPrefix taken now (refusal_text f) × (held ≡ None)
+
+-- Memory was wanting: for a command of an accepted text, or for the one line of a refused text, which has no session.
+abbrev pub IsMemoryCut : Result AcceptedText FirstFault → Option (List ℕ) → Option (List ℕ) → Option SessionState → Type 0
+IsMemoryCut (Ok a) taken now held = IsInterrupted a taken now
+IsMemoryCut (Err f) taken now held = TakesPrefix taken now (refusal_text f) × (held ≡ None)
+
+-- How the work on a text that came may end.
+abbrev pub TextEnds : List ℕ → Option (List ℕ) → Option (List ℕ) → ℕ → ℕ → Status → Option SessionState → Type 0
+TextEnds text taken now faults risen Done held = (a : AcceptedText) × IsAccepted text a × IsReported a taken now held
+TextEnds text taken now faults risen (Refused line kind) held =
+    IsRefused text line kind × Appends taken now (refusal_text (record { line = line; kind = kind })) × (held ≡ None)
+TextEnds text taken now faults risen WriteFault held = Rose faults risen × IsWriteCut (reading text) taken now held
+TextEnds text taken now faults risen NoMemory held = Keeps taken now ⊎ IsMemoryCut (reading text) taken now held
+TextEnds text taken now faults risen _ held = ⊥
+
 -- what is told of the source and the sink at a moment
 pub record Moment : Type 0 where
   pub left : Option (List ℕ)
@@ -46,42 +129,27 @@ pub record Moment : Type 0 where
   pub taken : Option (List ℕ)
   pub write_faults : ℕ
 
--- How the writing of what is due may end.
-abbrev pub ReportEnds : List ℕ → Option (List ℕ) → Option (List ℕ) → ℕ → ℕ → Status → Type 0
-ReportEnds due taken now faults risen Done = Appends taken now due
-ReportEnds due taken now faults risen WriteFault = Rose faults risen × TakesPrefix taken now due
-ReportEnds due taken now faults risen NoMemory = TakesPrefix taken now due
-ReportEnds due taken now faults risen _ = ⊥
-
--- How the writing of a refusal may end.
-abbrev pub RefusalEnds : FirstFault → Option (List ℕ) → Option (List ℕ) → ℕ → ℕ → Status → Type 0
-RefusalEnds f taken now faults risen (Refused line kind) = (line ≡ f.line) × (kind ≡ f.kind) × Appends taken now (refusal_text f)
-RefusalEnds f taken now faults risen WriteFault = Rose faults risen × TakesPrefix taken now (refusal_text f)
-RefusalEnds f taken now faults risen NoMemory = TakesPrefix taken now (refusal_text f)
-RefusalEnds f taken now faults risen _ = ⊥
-
--- How the work on a text that came may end.
-abbrev pub TextEnds : List ℕ → Option (List ℕ) → Option (List ℕ) → ℕ → ℕ → Status → Type 0
-TextEnds text taken now faults risen Done = IsAccepted text × Appends taken now (text_due text)
-TextEnds text taken now faults risen (Refused line kind) = IsRefused text line kind × Appends taken now (text_due text)
-TextEnds text taken now faults risen WriteFault = Rose faults risen × TakesPrefix taken now (text_due text)
-TextEnds text taken now faults risen NoMemory = TakesPrefix taken now (text_due text)
-TextEnds text taken now faults risen _ = ⊥
-
 -- Some text came whole, and the work on it ended so.
-abbrev pub SomeTextEnds : Moment → Moment → Status → Type 0
-SomeTextEnds before now status =
-    (text : List ℕ) × Came before.left now.left text × TextEnds text before.taken now.taken before.write_faults now.write_faults status
+abbrev pub SomeTextEnds : Moment → Moment → Status → Option SessionState → Type 0
+SomeTextEnds before now status held =
+    (text : List ℕ) × Came before.left now.left text × TextEnds text before.taken now.taken before.write_faults now.write_faults status held
 
 -- How a run of the form `run` may end.
-abbrev pub InputEnds : Moment → Moment → Status → Type 0
-InputEnds before now Done = SomeTextEnds before now Done
-InputEnds before now (Refused line kind) = SomeTextEnds before now (Refused line kind)
-InputEnds before now WriteFault = SomeTextEnds before now WriteFault
-InputEnds before now NoMemory = Keeps before.taken now.taken ⊎ SomeTextEnds before now NoMemory
-InputEnds before now ReadFault = Rose before.read_faults now.read_faults
-InputEnds before now TooLong = IsLonger before.left input_limit
-InputEnds before now Usage = ⊥
+abbrev pub InputEnds : Moment → Moment → Status → Option SessionState → Type 0
+InputEnds before now Done held = SomeTextEnds before now Done held
+InputEnds before now (Refused line kind) held = SomeTextEnds before now (Refused line kind) held
+InputEnds before now WriteFault held = SomeTextEnds before now WriteFault held
+InputEnds before now NoMemory held = Keeps before.taken now.taken ⊎ ((text : List ℕ) × Came before.left now.left text × IsMemoryCut (reading text) before.taken now.taken held)
+InputEnds before now ReadFault held = Rose before.read_faults now.read_faults × (held ≡ None)
+InputEnds before now TooLong held = IsLonger before.left input_limit × (held ≡ None)
+InputEnds before now Usage held = ⊥
+
+-- a run that ends so may hand back a session
+abbrev pub may_hold : Status → Bool
+may_hold Done = true
+may_hold WriteFault = true
+may_hold NoMemory = true
+may_hold _ = false
 
 -- the exit status of the program
 abbrev pub status_number : Status → ℕ

@@ -1,3 +1,4 @@
+pub mod Built
 pub mod Ends
+pub mod Promise
 pub mod Reading
-pub mod Report

@@ -1,22 +1,34 @@
-//! The top call: a text comes in, a report goes out.
+//! The top call: a text comes in, a report goes out, and the session of its run is handed back.
 //!
-//! `run` reads a fabric and a script, and writes a line for each command. It makes no source and no sink: `myrifab` does.
-//! `specs/Reading.antt` says which texts are accepted, what they say, and what the first fault of the others is;
-//! `specs/Report.antt` what is written for them, `specs/Ends.antt` how a run may end.
+//! `run` reads a fabric and a script, makes one session, and lets it do each command. It makes no source and no sink: `myrifab` does.
+//! `specs/Reading.antt` says which texts are accepted, what they say, and what the first fault of the others is; `specs/Ends.antt` how a
+//! run may end, `specs/Promise.antt` what every accepted text promises.
+//!
+//! ```text
+//!   words -> text -> fabric and commands -> session -> command -> its text -> sink
+//!                          |                   ^          |
+//!                          +--> refused        +----------+
+//! ```
 //!
 //! | module | has |
 //! |---|---|
-//! | `script` | the commands of a text |
-//! | `report` | the lines of a command |
 //! | `top` | `run`, and how it ends |
+//! | `reading` | what a text says |
+//! | `unbuilt` | the commands that are not built yet |
+//! | `promise` | what every accepted text promises |
+//! | `status`, `ran` | how a run ended, and what it hands back |
 #![tactic(auto)]
 
-mod report;
-mod script;
+mod promise;
+mod ran;
+mod reading;
 mod status;
 #[cfg(test)]
 mod tests;
 mod top;
+mod unbuilt;
 
+pub use ran::Ran;
+pub use run_session::{Session, World};
 pub use status::Status;
 pub use top::run;

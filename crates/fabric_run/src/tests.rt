@@ -1,6 +1,6 @@
 //! Whole texts, from bytes to bytes, over a source and a sink in memory.
 
-use crate::{Status, run};
+use crate::{Ran, Session, Status, run};
 use fab_outer::{MemSink, MemSource};
 use fab_text::{FaultKind, Word};
 use std::alloc::Global;
@@ -28,7 +28,8 @@ fn expect(
         &words(rt.alloc(), &["run"])?,
         &mut input,
         &mut out,
-    );
+    )
+    .end();
     assert!(rt; ended == status, "{ended:?} for {text:?}");
     assert!(rt; out.taken() == written, "written for {text:?}");
     Ok(())
@@ -84,7 +85,7 @@ fn the_first_fault_of_a_script_is_told(rt: HostRuntime) -> Result<(), Fail> {
         ("walk a\n", 8, FaultKind::NoEnd, "refused 8 noend\n"),
         ("end\r", 7, FaultKind::BadWord, "refused 7 badword\n"),
         (
-            "\nsettle x\nwalk\n",
+            "\nwander x\nwalk\n",
             8,
             FaultKind::BadWord,
             "refused 8 badword\n",
@@ -156,7 +157,7 @@ fn other_words_do_nothing(rt: HostRuntime) -> Result<(), Fail> {
     for texts in [&[][..], &["run", "now"][..], &["runs"][..], &[""][..]] {
         let mut input = MemSource::new(b"end".to_vec(rt.alloc())?, 1, Vec::new(rt.alloc()));
         let mut out = MemSink::new(rt.alloc(), 1, Vec::new(rt.alloc()));
-        let ended = run(rt.alloc(), &words(rt.alloc(), texts)?, &mut input, &mut out);
+        let ended = run(rt.alloc(), &words(rt.alloc(), texts)?, &mut input, &mut out).end();
         assert_eq!(rt; ended, Status::Usage);
         assert!(rt; out.taken().is_empty());
     }
@@ -171,14 +172,14 @@ fn each_failing_read_and_write_is_told(rt: HostRuntime) -> Result<(), Fail> {
     for call in 1..76u32 {
         let mut input = MemSource::new(text.to_vec(rt.alloc())?, 1, [call].to_vec(rt.alloc())?);
         let mut out = MemSink::new(rt.alloc(), 1, Vec::new(rt.alloc()));
-        let ended = run(rt.alloc(), &words, &mut input, &mut out);
+        let ended = run(rt.alloc(), &words, &mut input, &mut out).end();
         assert_eq!(rt; ended, Status::ReadFault, "at read {call}");
         assert!(rt; out.taken().is_empty());
     }
     for (taken, call) in (1..38u32).enumerate() {
         let mut input = MemSource::new(text.to_vec(rt.alloc())?, 100, Vec::new(rt.alloc()));
         let mut out = MemSink::new(rt.alloc(), 1, [call].to_vec(rt.alloc())?);
-        let ended = run(rt.alloc(), &words, &mut input, &mut out);
+        let ended = run(rt.alloc(), &words, &mut input, &mut out).end();
         assert_eq!(rt; ended, Status::WriteFault, "at write {call}");
         assert!(rt; Some(out.taken()) == report.get(..taken));
     }
@@ -216,8 +217,109 @@ fn the_input_has_a_limit(rt: HostRuntime) -> Result<(), Fail> {
     ] {
         let mut input = MemSource::new(spaces(rt.alloc(), count)?, 65536, Vec::new(rt.alloc()));
         let mut out = MemSink::new(rt.alloc(), 100, Vec::new(rt.alloc()));
-        let ended = run(rt.alloc(), &words, &mut input, &mut out);
+        let ended = run(rt.alloc(), &words, &mut input, &mut out).end();
         assert_eq!(rt; ended, status, "for {count} spaces");
+    }
+    Ok(())
+}
+
+#[test]
+fn a_map_and_its_routes_are_reported(rt: HostRuntime) -> Result<(), Fail> {
+    let text = joined(rt.alloc(), TWO_HOSTS, "map a 4 1\nroutes\nend\n")?;
+    let report = b"map a complete asks 31 packets 62\n\
+        host a\nswitch #0 core\nhost b\ncable a 0 #0 0\ncable #0 +3 b 0\nendmap\n\
+        routes 2\nroute a b +3\nroute b a -3\n\
+        rank a 0 1\nrank #0 0 3\nrank #0 +3 3\nrank b 0 0\nendroutes\n\
+        end injected 62 dropped 59\n";
+    expect(&rt, &text, Status::Done, report)
+}
+
+#[test]
+fn lost_probes_make_a_map_doubtful(rt: HostRuntime) -> Result<(), Fail> {
+    let script = "plan lose 72\nplan lose 73\nmap a 8 2\nroutes\nend\n";
+    let text = joined(rt.alloc(), TWO_HOSTS, script)?;
+    let report = b"plan at 72\nplan at 73\nmap a doubtful 1 asks 31 packets 123\n\
+        host a\nswitch #0 core\ncable a 0 #0 0\nendmap\n\
+        routes refused nomap\nend injected 123 dropped 120\n";
+    expect(&rt, &text, Status::Done, report)
+}
+
+#[test]
+fn an_installation_is_reported(rt: HostRuntime) -> Result<(), Fail> {
+    let script = "map a 4 1\nroutes\ninstall 1\nend\n";
+    let text = joined(rt.alloc(), TWO_HOSTS, script)?;
+    let report = b"map a complete asks 31 packets 62\n\
+        host a\nswitch #0 core\nhost b\ncable a 0 #0 0\ncable #0 +3 b 0\nendmap\n\
+        routes 2\nroute a b +3\nroute b a -3\n\
+        rank a 0 1\nrank #0 0 3\nrank #0 +3 3\nrank b 0 0\nendroutes\n\
+        installed 2 of 2\ntable a active\ntable b active\n\
+        end injected 64 dropped 59\n";
+    expect(&rt, &text, Status::Done, report)
+}
+
+#[test]
+fn a_command_that_is_not_built_is_no_command(rt: HostRuntime) -> Result<(), Fail> {
+    for (script, line, kind, written) in [
+        (
+            "settle\nend\n",
+            7,
+            FaultKind::BadWord,
+            "refused 7 badword\n",
+        ),
+        (
+            "walk a\nsend c x\n",
+            8,
+            FaultKind::BadWord,
+            "refused 8 badword\n",
+        ),
+        (
+            "tokens a 1\nwalk c\nend\n",
+            7,
+            FaultKind::BadWord,
+            "refused 7 badword\n",
+        ),
+        (
+            "walk c\nsettle\nend\n",
+            7,
+            FaultKind::NoVertex,
+            "refused 7 novertex\n",
+        ),
+        (
+            "end\nsettle\n",
+            8,
+            FaultKind::AfterEnd,
+            "refused 8 afterend\n",
+        ),
+    ] {
+        let text = joined(rt.alloc(), TWO_HOSTS, script)?;
+        expect(&rt, &text, refused(line, kind), written.as_bytes())?;
+    }
+    Ok(())
+}
+
+// How many packets the world of a session had injected, which is ended.
+fn injections(session: Option<Session>) -> Option<u64> {
+    match session {
+        Some(session) => {
+            let injected = session.world().injected();
+            session.end();
+            Some(injected)
+        }
+        None => None,
+    }
+}
+
+#[test]
+fn a_failing_sink_gets_the_session_back(rt: HostRuntime) -> Result<(), Fail> {
+    let text = joined(rt.alloc(), TWO_HOSTS, "walk a\nmap a 4 1\nend\n")?;
+    let words = words(rt.alloc(), &["run"])?;
+    for (call, packets) in [(1u32, 0), (2, 62), (3, 62)] {
+        let mut input = MemSource::new(text.to_vec(rt.alloc())?, 100, Vec::new(rt.alloc()));
+        let mut out = MemSink::new(rt.alloc(), 1000, [call].to_vec(rt.alloc())?);
+        let Ran { status, session } = run(rt.alloc(), &words, &mut input, &mut out);
+        let injected = injections(session);
+        assert_eq!(rt; status, Status::WriteFault, "at write {call}");
+        assert!(rt; injected == Some(packets), "at write {call}");
     }
     Ok(())
 }

@@ -15,7 +15,7 @@ fn main(rt: HostRuntime) -> ExitCode {
         Ok(words) => {
             let mut input = StdSource::new(rt.stdin());
             let mut out = StdSink::new(rt.stdout());
-            ExitCode::from(run(rt.alloc(), &words, &mut input, &mut out).number())
+            ExitCode::from(run(rt.alloc(), &words, &mut input, &mut out).end().number())
         }
         Err(e) if e.kind() == io::ErrorKind::OutOfMemory => ExitCode::from(6),
         Err(_) => ExitCode::from(8),

@@ -22,7 +22,7 @@ use Rattle.script_laws.specs.Laws.{ScriptMapsAreTrue, DeepMapsOfScriptsAreComple
 host-below : (n : Network) (h : ℕ) → has_vertex n (Host h) ≡ true → h < length n.hosts
 host-below n h there = grind (arith, nat_tests)
 
-said-command : (n : Network) (c : Command) → IsSaid n c → IsCommandOf n c
+pub said-command : (n : Network) (c : Command) → IsSaid n c → IsCommandOf n c
 said-command n (Walk h turns) is = tt
 said-command n (Map h depth tries) is = (host-below n h is.0, (let low = is.1.1 in omega (arith, low)))
 said-command n Routes is = tt
@@ -56,7 +56,7 @@ said-step : (n : Network) (line : StepLine) → IsStepOf n line → IsByteStep l
 said-step n (FlipStep e bit pattern) is = let low = is.1.1.1 in omega (arith, low)
 said-step n line is = tt
 
-said-act : (n : Network) (c : Command) → IsSaid n c → IsActOf n c
+pub said-act : (n : Network) (c : Command) → IsSaid n c → IsActOf n c
 said-act n (Map h depth tries) is = said-command n (Map h depth tries) is
 said-act n (Plan ahead kind) is = (is.0.0, said-command n (Plan ahead kind) is)
 said-act n (Step line) is = said-step n line is

@@ -1,0 +1,134 @@
+-- What every accepted text promises, from the laws of runs: its commands are over its fabric, and so are its first commands.
+use Rattle.std.proofs.Common.{◌≡◌, ◌≤◌, ◌+◌, ◌-◌, ℕ, zero, suc, true, List, [], ◌∷◌, length, take, drop, Option, Some, None, Result, Ok, Err, refl, sym, ap, subst, ◌∙◌, arith, if◌then◌else◌}
+use Rattle.std.specs.List.{AllByRecursion}
+use Rattle.net_defs.specs.Network.{Network, IsFabric}
+use Rattle.net_defs.proofs.Distinct.{all-weaker}
+use Rattle.map_defs.specs.NetMap.{NetMap}
+use Rattle.link_defs.specs.Links.{is_idle}
+use Rattle.fab_text.specs.Line.{lines_left}
+use Rattle.fab_text.specs.Fault.{FirstFault, and_then}
+use Rattle.journal_defs.specs.declared.entry.Entry.{Entry}
+use Rattle.run_defs.specs.declared.line.MapWords.{MapWords}
+use Rattle.run_defs.specs.declared.line.MapWords.TheVariants.{Complete}
+use Rattle.run_defs.specs.declared.line.Line.TheVariants.{Map as MapLine, MapBusy}
+use Rattle.run_defs.specs.Mapped.{IsMapped}
+use Rattle.run_defs.specs.Outcome.{Outcome, outcome, says_only}
+use Rattle.run_defs.specs.Run.{Does, map_pieces}
+use Rattle.run_defs.specs.Run.Does.{determined, maps, routes}
+use Rattle.fabric_file.specs.declared.reading.FabricText.{FabricText}
+use Rattle.fabric_file.specs.Reading.{fabric_reading, AreNamed}
+use Rattle.fabric_file.proofs.Readings.{reading-fabric, reading-named}
+use Rattle.fabric_file.proofs.Names.{all-nth}
+use Rattle.run_defs.specs.declared.command.Command.{Command}
+use Rattle.run_defs.specs.declared.command.Command.TheVariants.{Map, Install}
+use Rattle.run_defs.specs.Script.{script_reading}
+use Rattle.run_defs.specs.Output.{Piece, OneLine}
+use Rattle.run_defs.specs.Session.{SessionState}
+use Rattle.run_defs.specs.Headline.{IsCommandOf, HasPrinted, IsPromised as IsPromisedOf}
+use Rattle.fab_script.specs.Ranges.{IsCommandOf as IsSaid}
+use Rattle.fab_script.proofs.Ranged.{reading_ranged}
+use Rattle.act_laws.specs.Laws.{IsActOf}
+use Rattle.act_laws.proofs.Reaching.{run_has_no_cycle}
+use Rattle.install_laws.proofs.Lines.{line-true}
+use Rattle.print_laws.proofs.Pieces.{complete_maps_read_back}
+use Rattle.script_laws.proofs.Said.{said-command, said-act}
+use Rattle.sound_laws.proofs.Sound.{always_promised}
+use Rattle.fabric_run.specs.Built.{built_only, first_unbuilt}
+use Rattle.fabric_run.specs.Reading.{AcceptedText, reading_from, reading}
+use Rattle.fabric_run.specs.Promise.{IsPromised, DeepMapsAreComplete, InstalledLinesAreTrue}
+
+-- An accepted text has a fabric, with names of the text's form, and its commands are over that fabric.
+record IsOver (a : AcceptedText) : Type 0 where
+  fabric : IsFabric a.network
+  named : AreNamed a.network
+  said : AllByRecursion (IsSaid a.network) a.commands
+
+is-over : (text : List ℕ) (a : AcceptedText) → reading text ≡ Ok a → IsOver a
+is-over text a e = by (fabric_reading text) refl e
+  where
+    of : (t : FabricText) → fabric_reading text ≡ Ok t → (o : Option ℕ) (r : Result (List Command) FirstFault) → script_reading t.fabric t.line (drop t.next text) ≡ r
+        → and_then (built_only o r) (λ cs. Ok (record { network = t.fabric; commands = cs })) ≡ Ok a → IsOver a
+    of t f None (Ok cs) g e =
+        let same : record { network = t.fabric; commands = cs } ≡ a = cc in
+        subst IsOver same (record {
+          fabric = reading-fabric text t f;
+          named = reading-named text t f;
+          said = reading_ranged t.fabric t.line (drop t.next text) (Ok cs) g;
+        })
+    of t f None (Err k) g e = cc
+    of t f (Some line) (Ok cs) g e = cc
+    of t f (Some line) (Err k) g e = cc
+
+    by : (r : Result FabricText FirstFault) → fabric_reading text ≡ r → and_then r (reading_from text) ≡ Ok a → IsOver a
+    by (Ok t) f e = of t f (first_unbuilt (lines_left (record { number = t.line + 1; text = drop t.next text }))) (script_reading t.fabric t.line (drop t.next text)) refl e
+    by (Err k) f e = cc
+
+-- what holds of each holds of each of the first
+all-take : {X : Type 0} (P : X → Type 0) (k : ℕ) (xs : List X) → AllByRecursion P xs → AllByRecursion P (take k xs)
+all-take P zero xs all = tt
+all-take P (suc k) [] all = tt
+all-take P (suc k) (x ∷ xs) all = (all.0, all-take P k xs all.1)
+
+-- a map of idle links that must say complete prints so, and then its lines
+does-print : {s next : SessionState} {c : Command} {out : List Piece} → (host depth tries : ℕ) → c ≡ Map host depth tries → is_idle s.world.links ≡ true
+    → ((j : List Entry) (m : NetMap) (words : MapWords) → IsMapped host depth tries s.world next.world j m words → words ≡ Complete)
+    → Does s c out next → (m : NetMap) × HasPrinted out host m
+does-print {s = s} {next = next} {out = out} host depth tries same idle says (determined e) =
+    let none : outcome s (Map host depth tries) ≡ None = ap (λ b. if b then None else Some (says_only s (MapBusy host ∷ []))) idle in
+    let got : Outcome = record { output = out; after = next } in
+    let bad : None ≡ Some got = sym none ∙ sym (ap (outcome s) same) ∙ e in
+    cc
+does-print {s = s} {next = next} {out = out} host depth tries same idle says (maps {host = h} {depth = d} {tries = t} after j m words none made printed left) =
+    let at : h ≡ host = cc in
+    let deep : d ≡ depth = cc in
+    let tried : t ≡ tries = cc in
+    let world : after ≡ next.world = sym (ap (λ (x : SessionState). x.world) left) in
+    let here : IsMapped host depth tries s.world next.world j m words =
+    subst (λ w. IsMapped host depth tries s.world w j m words) world
+    (subst (λ k. IsMapped host depth k s.world after j m words) tried
+    (subst (λ k. IsMapped host k t s.world after j m words) deep
+    (subst (λ k. IsMapped k d t s.world after j m words) at made))) in
+    let word : words ≡ Complete = says j m words here in
+    let packets : ℕ = after.injected - s.world.injected in (
+      m,
+      record {
+        before = [];
+        behind = [];
+        asks = length j;
+        packets = packets;
+        there = printed ∙ ap (λ k. OneLine (MapLine k words (length j) packets) ∷ map_pieces words m) at ∙ ap (λ x. OneLine (MapLine host x (length j) packets) ∷ map_pieces x m) word;
+      },
+    )
+does-print {s = s} host depth tries same idle says (routes l found complete are printed left) = cc
+
+-- every accepted text keeps its promise
+pub text_promised : (text : List ℕ) (a : AcceptedText) → reading text ≡ Ok a → IsPromised a
+text_promised text a e =
+    let o : IsOver a = is-over text a e in
+    let n : Network = a.network in
+    let cs : List Command = a.commands in
+    let promised : (k : ℕ) → IsPromisedOf n (take k cs) = λ k. always_promised n (take k cs) o.fabric in
+    let commands : (k : ℕ) → AllByRecursion (IsCommandOf n) (take k cs) = λ k. all-take (IsCommandOf n) k cs (all-weaker (IsSaid n) (IsCommandOf n) cs (said-command n) o.said) in
+    let acts : (k : ℕ) → AllByRecursion (IsActOf n) (take k cs) = λ k. all-take (IsActOf n) k cs (all-weaker (IsSaid n) (IsActOf n) cs (said-act n) o.said) in
+    let deep : DeepMapsAreComplete a =
+    λ k out s host depth tries after j m words r there low made quiet some few enough. (promised k).deep out s host depth tries after j m words o.fabric (commands k) r (there, low) made quiet some few enough in
+    let installed : InstalledLinesAreTrue a =
+    λ k out rest s next tries acked total r at does. line-true n (take k cs) out rest s next tries acked total o.fabric (acts k) r does in
+    record {
+      complete = λ k out last mapper m r p. record {
+        part = (promised k).complete o.fabric (commands k) out last mapper m r p;
+        read_back = (complete_maps_read_back n (take k cs) out last mapper m o.fabric o.named (commands k) r p).read;
+      };
+      deep = deep;
+      printed = λ k out printed s next host depth tries r at does quiet enough.
+          let is : IsSaid n (Map host depth tries) = all-nth (IsSaid n) cs k (Map host depth tries) o.said at in
+          let of_n : IsCommandOf n (Map host depth tries) = said-command n (Map host depth tries) is in
+          does-print host depth tries refl quiet.idle (λ j m words made. deep k out s host depth tries next.world j m words r of_n.0 of_n.1 made quiet is.2.0 is.2.1 enough) does;
+      installed = installed;
+      unharmed = λ k out rest s next tries acked total r at does left same.
+          let is : IsSaid n (Install tries) = all-nth (IsSaid n) cs k (Install tries) o.said at in
+          let some : 1 ≤ tries = is.0 in
+          (installed k out rest s next tries acked total r at does).unharmed (omega (arith, some)) left same;
+      sound = (promised 0).sound;
+      no_cycle = λ k out last r. run_has_no_cycle n (take k cs) out last o.fabric (acts k) r;
+    }

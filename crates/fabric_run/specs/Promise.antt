@@ -1,0 +1,77 @@
+-- What every accepted text promises, behind each of its commands.
+use Rattle.std.specs.Prelude.{◌≡◌, ℕ, ◌<◌, ◌≤◌, List, ◌∷◌, length, take, Some, Ok, slice_get}
+use Rattle.net_defs.specs.Network.{Network}
+use Rattle.journal_defs.specs.declared.entry.Entry.{Entry}
+use Rattle.journal_defs.specs.Depth.{enough_depth}
+use Rattle.map_defs.specs.NetMap.{NetMap}
+use Rattle.map_defs.specs.Sameness.{IsMapOfPart}
+use Rattle.map_defs.specs.Dependencies.{IsBefore, HasNoCycle}
+use Rattle.world_defs.specs.World.{WorldState, last_count}
+use Rattle.world_defs.specs.Sound.{installed_channels}
+use Rattle.run_defs.specs.declared.command.Command.TheVariants.{Map, Install}
+use Rattle.run_defs.specs.declared.line.Line.TheVariants.{Installed}
+use Rattle.run_defs.specs.declared.line.MapWords.{MapWords}
+use Rattle.run_defs.specs.declared.line.MapWords.TheVariants.{Complete}
+use Rattle.run_defs.specs.Mapped.{IsMapped}
+use Rattle.run_defs.specs.LineText.{map_text}
+use Rattle.run_defs.specs.Output.{Piece, OneLine}
+use Rattle.run_defs.specs.Session.{SessionState}
+use Rattle.run_defs.specs.Run.{Does, IsRun}
+use Rattle.run_defs.specs.Headline.{HasPrinted, IsQuiet, AlwaysSound}
+use Rattle.map_text.specs.Reading.{map_reading}
+use Rattle.install_laws.specs.Runs.{IsInstalledLine}
+use Rattle.fabric_run.specs.Reading.{AcceptedText}
+
+-- A map is the mapper's part of the fabric, and its lines are read as that map.
+pub record IsRight (n : Network) (mapper : ℕ) (m : NetMap) : Type 0 where
+  pub part : IsMapOfPart n mapper m
+  pub read_back : map_reading n (map_text n m) ≡ Ok m
+
+-- every map that a run of first commands of a text prints under the word complete is right
+abbrev pub CompleteMapsAreTrue : AcceptedText → Type 0
+CompleteMapsAreTrue a =
+    (count : ℕ) (out : List Piece) (last : SessionState) (mapper : ℕ) (m : NetMap) → IsRun a.network (take count a.commands) out last → HasPrinted out mapper m → IsRight a.network mapper m
+
+-- behind first commands of a text, on a quiet fabric, a map from a host of the fabric to the depth that suffices, of at most 65 cables, with 1 to 8 tries an ask, says complete
+abbrev pub DeepMapsAreComplete : AcceptedText → Type 0
+DeepMapsAreComplete a =
+    (count : ℕ) (out : List Piece) (s : SessionState) (host depth tries : ℕ) (after : WorldState) (j : List Entry) (m : NetMap) (words : MapWords)
+    → IsRun a.network (take count a.commands) out s
+    → host < length a.network.hosts → depth ≤ 65 → IsMapped host depth tries s.world after j m words → IsQuiet host s.world after
+    → 1 ≤ tries → tries ≤ 8 → enough_depth a.network host ≤ depth → words ≡ Complete
+
+-- so the next command of a text, where it is such a map, prints a map under the word complete
+abbrev pub DeepMapsArePrinted : AcceptedText → Type 0
+DeepMapsArePrinted a =
+    (count : ℕ) (out printed : List Piece) (s next : SessionState) (host depth tries : ℕ)
+    → IsRun a.network (take count a.commands) out s → slice_get a.commands count ≡ Some (Map host depth tries)
+    → Does s (Map host depth tries) printed next → IsQuiet host s.world next.world → enough_depth a.network host ≤ depth → (m : NetMap) × HasPrinted printed host m
+
+-- behind first commands of a text no channel waits for itself along the installed routes
+abbrev pub RoutesHaveNoCycle : AcceptedText → Type 0
+RoutesHaveNoCycle a = (count : ℕ) (out : List Piece) (last : SessionState) → IsRun a.network (take count a.commands) out last → HasNoCycle (IsBefore (installed_channels last.world))
+
+-- behind first commands of a text, where the next one is an installation that prints `installed K of N`, that line has its cause
+abbrev pub InstalledLinesAreTrue : AcceptedText → Type 0
+InstalledLinesAreTrue a =
+    (count : ℕ) (out rest : List Piece) (s next : SessionState) (tries acked total : ℕ)
+    → IsRun a.network (take count a.commands) out s → slice_get a.commands count ≡ Some (Install tries)
+    → Does s (Install tries) (OneLine (Installed acked total) ∷ rest) next → IsInstalledLine s next tries acked total
+
+-- so it counts all hosts where injections are left behind it and no planned fault lost, held or flipped a packet of it
+abbrev pub UnharmedInstallationsCountAll : AcceptedText → Type 0
+UnharmedInstallationsCountAll a =
+    (count : ℕ) (out rest : List Piece) (s next : SessionState) (tries acked total : ℕ)
+    → IsRun a.network (take count a.commands) out s → slice_get a.commands count ≡ Some (Install tries)
+    → Does s (Install tries) (OneLine (Installed acked total) ∷ rest) next
+    → next.world.injected < last_count → next.world.harmed ≡ s.world.harmed → acked ≡ total
+
+-- The promise of an accepted text: its maps under the word complete are true, deep maps of a quiet fabric say so, each count of installed hosts has its cause, every moment is sound, and the installed routes have no cycle.
+pub record IsPromised (a : AcceptedText) : Type 0 where
+  pub complete : CompleteMapsAreTrue a
+  pub deep : DeepMapsAreComplete a
+  pub printed : DeepMapsArePrinted a
+  pub installed : InstalledLinesAreTrue a
+  pub unharmed : UnharmedInstallationsCountAll a
+  pub sound : AlwaysSound a.network
+  pub no_cycle : RoutesHaveNoCycle a
