@@ -1,5 +1,5 @@
 -- Every event, and every plan of a fault with a pattern of eight bits, leads from one moment of a world to another.
-use Rattle.std.proofs.Common.{◌≡◌, ◌<◌, ◌+◌, ℕ, zero, suc, Bool, true, false, List, [], ◌∷◌, length, replicate, get_or, nat_eq, true≢false, Option, Some, None, is_some, Ordering, Less, Equal, Greater, refl, sym, ◌∙◌, ap, subst, arith, if◌then◌else◌}
+use Rattle.std.proofs.Common.{◌≡◌, ◌<◌, ◌+◌, ℕ, Bool, true, false, List, [], ◌∷◌, length, nat_eq, Option, Some, None, Ordering, Less, Equal, Greater, refl, sym, ◌∙◌, ap, subst, if◌then◌else◌}
 use Rattle.std.specs.Prelude.{Result, Ok, Err, OnOk, OnErr, IfOk, IfSome}
 use Rattle.std.specs.List.{AllByRecursion}
 use Rattle.std.specs.Map.{lookup}
@@ -14,16 +14,14 @@ use Rattle.world_defs.specs.declared.event.Event.{Event}
 use Rattle.world_defs.specs.declared.effect.Effect.{Effect}
 use Rattle.world_defs.specs.declared.fault.Fault.{Fault}
 use Rattle.world_defs.specs.Table.{Adoption, whole_table}
-use Rattle.world_defs.specs.Node.{NodeState, Outgoing, new_node, port_count}
-use Rattle.world_defs.specs.Client.{ClientState}
-use Rattle.world_hosts.specs.Known.{IsClosed}
+use Rattle.world_defs.specs.Node.{Outgoing}
 use Rattle.world_defs.specs.World.{WorldState, fabric_of, host_count, node_at, new_world, planned, without_fault, with_fault, adopted_by}
 use Rattle.world_defs.specs.Step.{sent_out, fault_on, struck_by, fault_strikes, planned_strikes, step, after_all}
 use Rattle.world_laws.proofs.Shapes.{step-kept, after_all-kept, new-world, planned-world, adopted-world}
 use Rattle.world_laws.proofs.Leaves.{Follows, FollowsCalls, step-leaves}
 use Rattle.world_defs.specs.EightBits.{IsByteFault}
 use Rattle.fab_world.specs.Adopting.{IsAdoptable, IsSetOfHosts}
-use Rattle.fab_world.specs.Held.{IsMoment, IsLater, no_clients}
+use Rattle.fab_world.specs.Held.{IsMoment, IsLater}
 use Rattle.fab_world.proofs.Sets.{set-of-hosts}
 
 abbrev AreByteFaults : List (ℕ × Fault) → Type 0
@@ -197,34 +195,3 @@ adopt-leaves w v mapper routes (Ok a) m low up may is err = record {
 }
 adopt-leaves w v mapper routes (Err e) m low up may is err =
     record { moment = subst IsMoment (sym err) m; fabric = ap fabric_of err; hosts = ap host_count err; channels = ap (λ u. length u.links.channels) err }
-
--- where no port has a client none is open
-closed-row : (n : NodeState) → length n.ports ≡ port_count → ((port : ℕ) → is_some (get_or n.ports port None) ≡ false) → n.ports ≡ replicate port_count None
-closed-row n long none = all-none n.ports port_count long none
-  where
-    all-none : {A : Type 0} (ps : List (Option A)) (k : ℕ) → length ps ≡ k → ((port : ℕ) → is_some (get_or ps port None) ≡ false) → ps ≡ replicate k None
-    all-none [] zero e none = refl
-    all-none [] (suc k) e none = absurd (omega (arith, e))
-    all-none (p ∷ ps) zero e none = absurd (omega (arith, e))
-    all-none (None ∷ ps) (suc k) e none = ap (λ l. None ∷ l) (all-none ps k (omega (arith, e)) (λ port. none (suc port)))
-    all-none (Some p ∷ ps) (suc k) e none = absurd (true≢false (none 0))
-
-no-client : (hosts h port : ℕ) → is_some (get_or (get_or (no_clients hosts) h []) port None) ≡ false
-no-client zero h port = refl
-no-client (suc hosts) zero port = empty-row port_count port
-  where
-    empty-row : (k port : ℕ) → is_some (get_or (replicate k (let o : Option ClientState = None in o)) port None) ≡ false
-    empty-row zero port = refl
-    empty-row (suc k) zero = refl
-    empty-row (suc k) (suc port) = empty-row k port
-no-client (suc hosts) (suc h) port = no-client hosts h port
-
-all-from : (ns : List NodeState) → ((h : ℕ) → h < length ns → IsClosed (get_or ns h (new_node 0))) → AllByRecursion IsClosed ns
-all-from [] each = tt
-all-from (n ∷ ns) each = (each 0 (omega arith), all-from ns (λ h low. each (suc h) (omega (arith, low))))
-
--- a world without clients has all ports closed
-pub closed-world : (w : WorldState) → IsMoment w → w.clients ≡ no_clients (host_count w) → AllByRecursion IsClosed w.nodes
-closed-world w m e =
-    all-from w.nodes (λ h low. closed-row (node_at w h) (m.world.each_node h low).ports
-    (λ port. sym (m.world.open_ports h port) ∙ ap (λ cs. is_some (get_or (get_or cs h []) port None)) e ∙ no-client (host_count w) h port))

@@ -1,29 +1,26 @@
 -- The world that its links and its hosts make.
-use Rattle.std.specs.Prelude.{◌≡◌, ℕ, ◌<◌, List, length, replicate, Option, None, IfSome}
+use Rattle.std.specs.Prelude.{◌≡◌, ℕ, ◌<◌, List, Option, IfSome}
 use Rattle.net_defs.specs.Network.{IsFabric}
 use Rattle.world_defs.specs.declared.event.Event.{Event}
+use Rattle.world_defs.specs.declared.event.Event.TheVariants.{Poll}
 use Rattle.world_defs.specs.declared.effect.Effect.{Effect}
-use Rattle.world_defs.specs.declared.effect.Effect.TheVariants.{Arrived}
-use Rattle.world_defs.specs.Node.{NodeState, port_count}
-use Rattle.world_defs.specs.Client.{ClientState}
+use Rattle.world_defs.specs.declared.effect.Effect.TheVariants.{Arrived, Said}
 use Rattle.world_defs.specs.Table.{Adoption}
 use Rattle.world_defs.specs.World.{WorldState, fabric_of, host_count}
 use Rattle.world_defs.specs.Step.{after_all}
 use Rattle.world_defs.specs.EightBits.{HasByteFaults}
 use Rattle.world_laws.specs.Shape.{IsWorld}
 use Rattle.faulty_links.specs.Held.{LinksAndPlan}
+use Rattle.client_host.specs.Held.{IsFromHosts}
+use Rattle.world_hosts.specs.Known.{HostsState}
 use Rattle.fab_world.specs.Adopting.{IsSetOfHosts}
 
--- no host has an open port
-abbrev pub no_clients : ℕ → List (List (Option ClientState))
-no_clients hosts = replicate hosts (replicate port_count None)
-
--- the world that these links, their plan and counts, these hosts and these adopted routes make, where no port is open
-abbrev pub world_of : LinksAndPlan → List NodeState → Option Adoption → WorldState
-world_of p nodes adopted = record {
+-- the world that these links, their plan and counts, these hosts with their clients and these adopted routes make
+abbrev pub world_of : LinksAndPlan → HostsState → Option Adoption → WorldState
+world_of p hosts adopted = record {
   links = p.links;
-  nodes = nodes;
-  clients = no_clients (length nodes);
+  nodes = hosts.nodes;
+  clients = hosts.clients;
   adopted = adopted;
   plan = p.plan;
   injected = p.injected;
@@ -43,7 +40,13 @@ pub record IsMoment (w : WorldState) : Type 0 where
 abbrev pub IsLater : WorldState → WorldState → Type 0
 IsLater w v = (es : List Event) × (v ≡ after_all w es)
 
--- a packet reaches a host that is there
+-- a packet reaches a host that is there, and a message that a client receives is from one
 abbrev pub IsOfHosts : ℕ → Effect → Type 0
 IsOfHosts hosts (Arrived h heard) = h < hosts
+IsOfHosts hosts (Said said) = IsFromHosts hosts said
 IsOfHosts hosts _ = Unit {0}
+
+-- a message that a poll hands out is from a host that is there
+abbrev pub IsPolledOfHosts : ℕ → Event → Effect → Type 0
+IsPolledOfHosts hosts (Poll h port) (Said said) = IsFromHosts hosts said
+IsPolledOfHosts hosts _ _ = Unit {0}

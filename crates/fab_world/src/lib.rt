@@ -1,13 +1,13 @@
-//! The world: the links of a fabric, its hosts, the plan of faults and the counts, and one event of it.
+//! The world: the links of a fabric, its hosts with their clients, the plan of faults and the counts, and one event of it.
 //!
 //! [`World::step`] answers exactly the effect and leaves exactly the world of the definition `step` of `world_defs`. So each law of worlds after
-//! every list of events is a law of this one. Routes are adopted once: no others after them. `specs/Adopting.antt` says which may be. Nobody has a port
-//! yet: calls of clients come.
+//! every list of events is a law of this one. `specs/Events.antt` says which events may be given. Routes are adopted once: no others after them.
+//! `specs/Adopting.antt` says which may be.
 //!
 //! ```text
 //!             World                      hosts and links, each at its own
 //!   event --> step --+--> links, plan    a packet moves, a fault strikes
-//!                    +--> hosts          a host stages, sends and hears
+//!                    +--> hosts          a host stages, sends and hears; a client makes a call at its port
 //!   routes --> adopt ----> the adopter's table; parts of the others are staged at the adopter
 //!   effect <---------+
 //! ```
@@ -29,4 +29,4 @@ pub use adopted::AdoptRefusal;
 pub use port_graph::{Fabric, RouteSet};
 pub use world::World;
 pub use world_defs::{Cause, Effect, Event, Fault, Heard};
-pub use world_hosts::Message;
+pub use world_hosts::{Message, Said, TokenPlace};

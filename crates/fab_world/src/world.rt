@@ -1,6 +1,6 @@
 //! The world.
 
-ghost use Rattle.std.specs.Prelude.{◌≡◌, ◌≤◌, ℕ, length, is_some, option_map, Some, None, IfOk, IfSome, IfNone, OnOk, OnErr};
+ghost use Rattle.std.specs.Prelude.{◌≡◌, ◌≤◌, ◌<◌, ℕ, length, is_some, option_map, Some, None, IfOk, IfSome, IfNone, OnOk, OnErr};
 ghost use Rattle.net_defs.specs.Route.{channel_from};
 ghost use Rattle.link_defs.specs.Channel.{channel_count, channel_tail, channel_head};
 ghost use Rattle.link_defs.specs.Hops.{total_hops};
@@ -8,14 +8,15 @@ ghost use Rattle.link_defs.specs.Links.{packet_in, is_idle};
 ghost use Rattle.link_defs.specs.Fault.{next_limbo};
 ghost use Rattle.link_model.specs.Full.{IsNextFull};
 ghost use Rattle.port_graph.specs.Routes.{HandsBack};
-ghost use Rattle.world_defs.specs.Node.{to_send, peer_at};
+ghost use Rattle.world_defs.specs.Node.{to_send, peer_at, port_at};
 ghost use Rattle.world_defs.specs.Table.{active_epoch};
 ghost use Rattle.world_defs.specs.World.{fabric_of, host_count, new_world, node_at, planned, adopted_by};
 ghost use Rattle.world_defs.specs.EightBits.{IsByteFault};
 ghost use Rattle.world_defs.specs.Step.{step};
+ghost use Rattle.host_ports.specs.Held.{place_at};
 ghost use Rattle.fab_world.specs.Adopting.{IsAdoptable, adopt_refusal, part_count_for};
 ghost use Rattle.fab_world.specs.Events.{IsHostOf, IsChannelOf, IsGiven};
-ghost use Rattle.fab_world.specs.Held.{IsMoment, IsLater, IsOfHosts, no_clients};
+ghost use Rattle.fab_world.specs.Held.{IsMoment, IsLater, IsOfHosts};
 
 use crate::adopted::AdoptRefusal;
 use crate::machine::Machine;
@@ -24,10 +25,10 @@ use port_graph::{Fabric, RouteSet};
 use std::alloc::{AllocError, Global};
 use std::marker::Model;
 use world_defs::{Effect, Event, Fault};
-use world_hosts::Message;
+use world_hosts::{Message, TokenPlace};
 
-/// The world of a fabric: its links and what they hold, its hosts, the routes that are adopted, the plan of faults, and the counts. Hosts and channels
-/// in arguments are there.
+/// The world of a fabric: its links and what they hold, its hosts with their clients, the routes that are adopted, the plan of faults, and the
+/// counts. Hosts and channels in arguments are there, and a host has eight ports.
 ///
 /// It must be spent, by [`World::end`].
 pub struct World {
@@ -124,12 +125,11 @@ impl World {
         &self.fabric
     }
 
-    /// What holds of it at every moment. No port is open yet.
+    /// What holds of it at every moment.
     pub fn moment(&self)
         ensures kept { IsMoment self.now }
-        ensures clients { self.now.clients ≡ no_clients (host_count self.now) }
     {
-        self.machine.state();
+        let _ = &self.machine;
     }
 
     /// The number of hosts.
@@ -265,7 +265,25 @@ impl World {
         self.machine.hosts.got(host, peer)
     }
 
-    /// Spends it. Takes no memory.
+    /// How many send tokens and how many receive tokens a port of a host was opened with. None exactly where it isn't open.
+    pub fn minted(&self, host: u16, port: u8) -> Option<(u16, u16)>
+        requires there { IsHostOf self.now host }
+        requires port { port < 8 }
+        ensures { result ≡ option_map (λ p. (p.sends, p.recvs)) (port_at (node_at self.now host) port) }
+    {
+        self.machine.hosts.minted(host, port)
+    }
+
+    /// The place of a send token or of a receive token of a port, by its number. None where the client has it, or the port isn't open.
+    pub fn token_place(&self, host: u16, port: u8, send: bool, number: u16) -> Option<TokenPlace>
+        requires there { IsHostOf self.now host }
+        requires port { port < 8 }
+        ensures { result ≡ place_at (port_at (node_at self.now host) port) send number }
+    {
+        self.machine.hosts.token_place(host, port, send, number)
+    }
+
+    /// Spends it, with whatever its ports hold. Takes no memory.
     pub fn end(self) {
         let World { fabric: _, machine } = self;
         machine.end();

@@ -2,6 +2,7 @@
 use Rattle.std.proofs.Common.{◌≡◌, ℕ, ℤ, List, [], ◌∷◌, Bool, true, false, ◌||◌, length, ◌+◌, nat_lt, Option, Some, None, Result, Ok, Err, IfOk, refl, sym, subst, ◌∙◌, true≢false, if◌then◌else◌, bytes_eq}
 use Rattle.std.specs.Prelude.{codes}
 use Rattle.std.specs.List.{AllByRecursion, list_any}
+use Rattle.net_defs.specs.declared.vertex.End.{End}
 use Rattle.net_defs.specs.Network.{Network}
 use Rattle.net_defs.specs.Building.{vertex_named}
 use Rattle.fab_text.specs.declared.fault.FaultKind.{FaultKind}
@@ -12,10 +13,12 @@ use Rattle.fab_text.specs.Word.{name_test}
 use Rattle.fab_text.specs.Line.{TextLine, lines_left, line_count, words_of}
 use Rattle.fab_text.specs.Fault.{FirstFault, TextGives, at_line, and_then}
 use Rattle.run_defs.specs.declared.command.Command.{Command}
-use Rattle.run_defs.specs.declared.command.Command.TheVariants.{Walk, Map, Routes, Install, Plan, Finish}
+use Rattle.run_defs.specs.declared.command.Command.TheVariants.{Walk, Map, Routes, Install, Begin, Close, Poll, Tokens, Provide, Send, Plan, Step, Finish}
 use Rattle.run_defs.specs.declared.command.PlanKind.{PlanKind}
 use Rattle.run_defs.specs.declared.command.PlanKind.TheVariants.{Lose as PlanLose, Repeat as PlanRepeat, Hold as PlanHold, Flip as PlanFlip}
-use Rattle.run_defs.specs.Script.{Value, Name, Number, said_by, LineKind, command_by, address_of, at_host, map_meant, alone_meant, install_meant, plan_meant, plan_flip_meant, line_kinds, plan_kinds, step_kinds, by_second, turns_of, walk_said, command_as, command_of, is_end, ended, script_from, script_reading}
+use Rattle.run_defs.specs.declared.command.StepLine.{StepLine}
+use Rattle.run_defs.specs.declared.command.StepLine.TheVariants.{Inject, GiveUp, Advance, Lose as StepLose, Repeat as StepRepeat, Hold as StepHold, Reset, Flip as StepFlip, Expire, Replay}
+use Rattle.run_defs.specs.Script.{Value, Name, Number, said_by, LineKind, command_by, address_of, at_host, at_hosts, end_at, at_end, map_meant, alone_meant, install_meant, open_meant, at_port_meant, provide_meant, send_meant, host_step_meant, end_step_meant, flip_step_meant, expire_meant, replay_meant, plan_meant, plan_flip_meant, line_kinds, plan_kinds, step_kinds, by_second, turns_of, walk_said, command_as, command_of, is_end, ended, script_from, script_reading}
 use Rattle.run_session.specs.Obeyed.{IsBuilt}
 use Rattle.fabric_run.specs.Built.{unbuilt_words, is_unbuilt, first_unbuilt, built_only}
 use Rattle.fabric_run.specs.Reading.{commands_reading}
@@ -26,6 +29,22 @@ host-built n name command c k e = by (address_of (vertex_named n name)) e
   where
     by : (r : Result ℕ FaultKind) → and_then r (λ h. Ok (command h)) ≡ Ok c → IsBuilt c
     by (Ok h) e = let one : command h ≡ c = cc in subst IsBuilt one (k h)
+    by (Err f) e = cc
+
+-- a command at two hosts
+hosts-built : (n : Network) (a b : List ℕ) (command : ℕ → ℕ → Command) (c : Command) → ((g h : ℕ) → IsBuilt (command g h)) → at_hosts n a b command ≡ Ok c → IsBuilt c
+hosts-built n a b command c k e = by (address_of (vertex_named n a)) e
+  where
+    by : (r : Result ℕ FaultKind) → and_then r (λ g. at_host n b (command g)) ≡ Ok c → IsBuilt c
+    by (Ok g) e = host-built n b (command g) c (k g) e
+    by (Err f) e = cc
+
+-- a command at an end
+end-built : (n : Network) (name : List ℕ) (p : ℕ) (command : End → Command) (c : Command) → ((x : End) → IsBuilt (command x)) → at_end n name p command ≡ Ok c → IsBuilt c
+end-built n name p command c k e = by (end_at n (vertex_named n name) p) e
+  where
+    by : (r : Result End FaultKind) → and_then r (λ x. Ok (command x)) ≡ Ok c → IsBuilt c
+    by (Ok x) e = let one : command x ≡ c = cc in subst IsBuilt one (k x)
     by (Err f) e = cc
 
 -- a walk
@@ -66,6 +85,60 @@ install-built : (n : Network) (vs : List Value) (c : Command) → install_meant 
 install-built n (Number tries ∷ []) c e = let one : Install tries ≡ c = cc in subst IsBuilt one tt
 install-built n vs c e = cc
 
+-- the calls of clients
+open-built : (n : Network) (vs : List Value) (c : Command) → open_meant n vs ≡ Ok c → IsBuilt c
+open-built n (Name h ∷ Number port ∷ Number sends ∷ Number recvs ∷ []) c e = host-built n h (λ a. Begin a port sends recvs) c (λ a. tt) e
+open-built n vs c e = cc
+
+port-built : (n : Network) (command : ℕ → ℕ → Command) (vs : List Value) (c : Command) → ((h port : ℕ) → IsBuilt (command h port)) → at_port_meant command n vs ≡ Ok c → IsBuilt c
+port-built n command (Name h ∷ Number port ∷ []) c k e = host-built n h (λ a. command a port) c (λ a. k a port) e
+port-built n command vs c k e = cc
+
+provide-built : (n : Network) (vs : List Value) (c : Command) → provide_meant n vs ≡ Ok c → IsBuilt c
+provide-built n (Name h ∷ Number port ∷ Number size ∷ Number prio ∷ []) c e = host-built n h (λ a. Provide a port size prio) c (λ a. tt) e
+provide-built n vs c e = cc
+
+send-built : (n : Network) (vs : List Value) (c : Command) → send_meant n vs ≡ Ok c → IsBuilt c
+send-built n (Name h ∷ Number port ∷ Name b ∷ Number dport ∷ Number prio ∷ Number len ∷ Number seed ∷ []) c e =
+    hosts-built n h b (λ a dest. Send a port dest dport prio len seed) c (λ a dest. tt) e
+send-built n vs c e = cc
+
+-- the kinds of lines that begin with `step`
+host_step-built : (n : Network) (line : ℕ → StepLine) (vs : List Value) (c : Command) → host_step_meant line n vs ≡ Ok c → IsBuilt c
+host_step-built n line (Name h ∷ []) c e = host-built n h (λ a. Step (line a)) c (λ a. tt) e
+host_step-built n line vs c e = cc
+
+end_step-built : (n : Network) (line : End → StepLine) (vs : List Value) (c : Command) → end_step_meant line n vs ≡ Ok c → IsBuilt c
+end_step-built n line (Name v ∷ Number p ∷ []) c e = end-built n v p (λ x. Step (line x)) c (λ x. tt) e
+end_step-built n line vs c e = cc
+
+flip_step-built : (n : Network) (vs : List Value) (c : Command) → flip_step_meant n vs ≡ Ok c → IsBuilt c
+flip_step-built n (Name v ∷ Number p ∷ Number bit ∷ Number pattern ∷ []) c e = end-built n v p (λ x. Step (StepFlip x bit pattern)) c (λ x. tt) e
+flip_step-built n vs c e = cc
+
+expire-built : (n : Network) (vs : List Value) (c : Command) → expire_meant n vs ≡ Ok c → IsBuilt c
+expire-built n (Name h ∷ Name b ∷ []) c e = hosts-built n h b (λ a peer. Step (Expire a peer)) c (λ a peer. tt) e
+expire-built n vs c e = cc
+
+replay-built : (n : Network) (vs : List Value) (c : Command) → replay_meant n vs ≡ Ok c → IsBuilt c
+replay-built n (Number serial ∷ []) c e = let one : Step (Replay serial) ≡ c = cc in subst IsBuilt one tt
+replay-built n vs c e = cc
+
+steps-built : (n : Network) → AllByRecursion (IsBuiltKind n) step_kinds
+steps-built n = (
+  host_step-built n Inject,
+  (
+    host_step-built n GiveUp,
+    (
+      end_step-built n Advance,
+      (
+        end_step-built n StepLose,
+        (end_step-built n StepRepeat, (end_step-built n StepHold, (end_step-built n Reset, (flip_step-built n, (expire-built n, (replay-built n, tt)))))),
+      ),
+    ),
+  ),
+)
+
 -- a line by the table: its kind is of built commands, or the line doesn't begin with its word
 abbrev IsFine : Network → List ℕ → LineKind → Type 0
 IsFine n first k = bytes_eq first k.word ≡ true → IsBuiltKind n k
@@ -99,7 +172,7 @@ none-of first (w ∷ ws) e = by (bytes_eq first w) refl (none-of first ws) e
     by true f rest e = cc
     by false f rest e = (f, rest e)
 
--- the kinds of lines that begin with one word: `map`, `routes` and `install` are built, and no line begins with the others
+-- the kinds of lines that begin with one word: all are built but `settle`, with which no line begins
 lines-fine : (n : Network) (first : List ℕ) → AllByRecursion (IsNone first) unbuilt_words → AllByRecursion (IsFine n first) line_kinds
 lines-fine n first u = (
   (λ t. map-built n),
@@ -108,19 +181,19 @@ lines-fine n first u = (
     (
       (λ t. install-built n),
       (
-        (λ t. absurd (true≢false (sym t ∙ u.0))),
+        (λ t. open-built n),
         (
-          (λ t. absurd (true≢false (sym t ∙ u.1.0))),
+          (λ t vs c. port-built n Close vs c (λ h port. tt)),
           (
-            (λ t. absurd (true≢false (sym t ∙ u.1.1.0))),
+            (λ t vs c. port-built n Poll vs c (λ h port. tt)),
             (
-              (λ t. absurd (true≢false (sym t ∙ u.1.1.1.0))),
+              (λ t vs c. port-built n Tokens vs c (λ h port. tt)),
               (
-                (λ t. absurd (true≢false (sym t ∙ u.1.1.1.1.0))),
+                (λ t. provide-built n),
                 (
-                  (λ t. absurd (true≢false (sym t ∙ u.1.1.1.1.1.0))),
+                  (λ t. send-built n),
                   (
-                    (λ t. absurd (true≢false (sym t ∙ u.1.1.1.1.1.1.1.0))),
+                    (λ t. absurd (true≢false (sym t ∙ u.0))),
                     tt,
                   ),
                 ),
@@ -138,14 +211,13 @@ by-second n ks [] c h e = cc
 by-second n ks (second ∷ args) c h e = by-kinds n ks second args c (always n second ks h) e
 
 as-built : (n : Network) (first : List ℕ) (args : List (List ℕ)) (c : Command) → AllByRecursion (IsNone first) unbuilt_words → command_as n first args ≡ Ok c → IsBuilt c
-as-built n first args c u e = by (bytes_eq first (codes "walk")) (bytes_eq first (codes "plan")) (bytes_eq first (codes "step")) refl e
+as-built n first args c u e = by (bytes_eq first (codes "walk")) (bytes_eq first (codes "plan")) (bytes_eq first (codes "step")) e
   where
-    by : (w p s : Bool) → bytes_eq first (codes "step") ≡ s
-        → (if w then walk_said n args else if p then by_second n plan_kinds args else if s then by_second n step_kinds args else command_by n line_kinds first args) ≡ Ok c → IsBuilt c
-    by true p s f e = walk-built n args c e
-    by false true s f e = by-second n plan_kinds args c (plans-built n) e
-    by false false true f e = absurd (true≢false (sym f ∙ u.1.1.1.1.1.1.0))
-    by false false false f e = by-kinds n line_kinds first args c (lines-fine n first u) e
+    by : (w p s : Bool) → (if w then walk_said n args else if p then by_second n plan_kinds args else if s then by_second n step_kinds args else command_by n line_kinds first args) ≡ Ok c → IsBuilt c
+    by true p s e = walk-built n args c e
+    by false true s e = by-second n plan_kinds args c (plans-built n) e
+    by false false true e = by-second n step_kinds args c (steps-built n) e
+    by false false false e = by-kinds n line_kinds first args c (lines-fine n first u) e
 
 command-built : (n : Network) (words : List (List ℕ)) (c : Command) → is_unbuilt words ≡ false → command_of n words ≡ Ok c → IsBuilt c
 command-built n [] c u e = cc

@@ -1,4 +1,4 @@
--- Commands that are not built yet: a line of one is no command.
+-- The command that is not built yet: a line of it is no command.
 use Rattle.std.specs.Prelude.{ℕ, Bool, false, List, [], ◌∷◌, nat_lt, if◌then◌else◌, Option, Some, None, Result, Ok, Err, codes, bytes_eq}
 use Rattle.std.specs.List.{list_any}
 use Rattle.fab_text.specs.declared.fault.FaultKind.TheVariants.{BadWord}
@@ -7,10 +7,9 @@ use Rattle.fab_text.specs.Fault.{FirstFault}
 use Rattle.run_defs.specs.declared.command.Command.{Command}
 use Rattle.run_defs.specs.Script.{is_end}
 
--- the first words of the commands that are not built yet
+-- the first words of the commands that are not built yet: `settle` alone
 abbrev pub unbuilt_words : List (List ℕ)
-unbuilt_words =
-    codes "open" ∷ codes "close" ∷ codes "poll" ∷ codes "tokens" ∷ codes "provide" ∷ codes "send" ∷ codes "step" ∷ codes "settle" ∷ []
+unbuilt_words = codes "settle" ∷ []
 
 -- a line of these words begins with such a word
 abbrev pub is_unbuilt : List (List ℕ) → Bool

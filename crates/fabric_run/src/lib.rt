@@ -14,7 +14,7 @@
 //! |---|---|
 //! | `top` | `run`, and how it ends |
 //! | `reading` | what a text says |
-//! | `unbuilt` | the commands that are not built yet |
+//! | `unbuilt` | the command that is not built yet, `settle` |
 //! | `promise` | what every accepted text promises |
 //! | `status`, `ran` | how a run ended, and what it hands back |
 #![tactic(auto)]

@@ -267,13 +267,13 @@ fn a_command_that_is_not_built_is_no_command(rt: HostRuntime) -> Result<(), Fail
             "refused 7 badword\n",
         ),
         (
-            "walk a\nsend c x\n",
+            "walk a\nsettle x\n",
             8,
             FaultKind::BadWord,
             "refused 8 badword\n",
         ),
         (
-            "tokens a 1\nwalk c\nend\n",
+            "settle 1\nwalk c\nend\n",
             7,
             FaultKind::BadWord,
             "refused 7 badword\n",

@@ -1,4 +1,4 @@
-//! The commands that are not built yet: a line of one is `badword`, before anything else of it is read.
+//! The command that is not built yet, `settle`: a line of it is `badword`, before anything else of it is read.
 
 ghost use Rattle.std.specs.Prelude.{◌≡◌, ◌≤◌, ◌+◌, length, bytes_eq};
 ghost use Rattle.std.specs.List.{list_any};
@@ -49,12 +49,7 @@ fn is_unbuilt(line: &[u8]) -> bool
 fn is_unbuilt_word(word: &[u8]) -> bool
     ensures { result ≡ list_any (bytes_eq word.now) unbuilt_words }
 {
-    is_one_of(
-        word,
-        &[
-            b"open", b"close", b"poll", b"tokens", b"provide", b"send", b"step", b"settle",
-        ],
-    )
+    is_one_of(word, &[b"settle"])
 }
 
 // Whether a word is one of these.

@@ -22,8 +22,8 @@ mod sending;
 mod tests;
 
 pub use host_items::{Packet, RoutePart};
-pub use host_messages::{Arrival, Heard};
+pub use host_messages::{Arrival, Heard, NodeSend};
 pub use host_peers::Message;
-pub use host_ports::{NotOpen, PortBegin, PortClose, PortEvent, PortProvide, Wreck};
+pub use host_ports::{NotOpen, PortBegin, PortClose, PortEvent, PortProvide, SendAsk, Wreck};
 pub use node::NicNode;
 pub use route_install::Table;

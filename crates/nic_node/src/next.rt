@@ -66,8 +66,8 @@ impl NicNode {
         None
     }
 
-    // Whether the table has a route to a host.
-    fn has_route(&self, to: u16) -> bool
+    /// Whether the table has a route to a host.
+    pub(crate) fn has_route(&self, to: u16) -> bool
         ensures { result ≡ is_some (table_route self.now.state.table to) }
     {
         self.table.route(to).is_some()

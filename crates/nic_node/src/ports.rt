@@ -1,9 +1,9 @@
 //! The calls of a host's clients, each on one of its ports.
 
-ghost use Rattle.std.specs.Prelude.{◌≡◌, ◌<◌, map, true, is_some, None, Some, IfOk, IfErr, IfSome, OnOk, OnErr, MatchResult, option_map};
+ghost use Rattle.std.specs.Prelude.{◌≡◌, ◌⊎◌, ◌<◌, map, true, is_some, None, Some, IfOk, IfErr, IfSome, OnOk, OnErr, MatchResult, option_map};
 ghost use Rattle.std.specs.Option.{ForSome};
 ghost use Rattle.net_defs.specs.Refusal.{Refuses};
-ghost use Rattle.gm_defs.specs.Token.{opened, place_of_recv};
+ghost use Rattle.gm_defs.specs.Token.{opened, place_of_send, place_of_recv};
 ghost use Rattle.gm_defs.specs.Port.{provided_with, next_event, polled};
 ghost use Rattle.gm_tokens.specs.Token.{token_at};
 ghost use Rattle.gm_port.specs.Held.{send_at, receive_at, event_at};
@@ -11,11 +11,13 @@ ghost use Rattle.world_defs.specs.Node.{port_at, with_port};
 ghost use Rattle.host_ports.specs.Held.{place_at};
 ghost use Rattle.host_ports.specs.Refusal.{begin_bar, provide_bar, close_bar};
 ghost use Rattle.nic_node.specs.Held.{in_state};
+ghost use Rattle.nic_node.specs.Accepting.{send_bar, accepted};
 
 use crate::node::NicNode;
 use gm_defs::TokenPlace;
-use gm_tokens::RecvToken;
-use host_ports::{NotOpen, PortBegin, PortClose, PortEvent, PortProvide, Wreck};
+use gm_tokens::{RecvToken, SendToken};
+use host_messages::{NodeSend, send};
+use host_ports::{NotOpen, PortBegin, PortClose, PortEvent, PortProvide, SendAsk, Wreck};
 use reg_mem::Reg;
 use std::alloc::Global;
 
@@ -68,6 +70,41 @@ impl NicNode {
         ensures provided { OnOk result (self.new ≡ in_state self.old (with_port self.old.state port (option_map (λ s. provided_with s (record { token = t.number; size = size; prio = prio; buffer = b })) (port_at self.old.state port)))) }
     {
         self.ports.provide(port, t, b, size, prio)
+    }
+
+    /// Accepts a message of a port for a peer. The port has token and buffer until the message is acknowledged. A refusal hands both back and
+    /// changes nothing: NotOpen, TooLong, BufferShort, NoRoute, Spent, in this order, and only then want of memory.
+    pub fn send(
+        &mut self,
+        alloc: Global,
+        port: u8,
+        t: SendToken,
+        b: Reg,
+        a: SendAsk,
+    ) -> Result<(), (SendToken, Reg, NodeSend)>
+        requires port { port < 8 }
+        requires dest { a.dest < self.old.hosts }
+        requires own { t ≡ token_at self.old.host port t.number }
+        requires minted { ForSome (port_at self.old.state port) (λ p. t.number < p.sends) }
+        requires free { ForSome (port_at self.old.state port) (λ p. place_of_send p t.number ≡ None) }
+        requires dport { a.dport < 8 }
+        requires prio { a.prio < 2 }
+        ensures refused { MatchResult result (λ _. send_bar self.old port a b ≡ None) (λ e. (send_bar self.old port a b ≡ Some e.2) ⊎ ((send_bar self.old port a b ≡ None) × (e.2 ≡ NodeSend.NoMemory))) }
+        ensures handed_back { IfErr result (λ e. (e.0 ≡ t) × (e.1 ≡ b)) }
+        ensures unchanged { OnErr result (self.new ≡ self.old) }
+        ensures sent { OnOk result (self.new ≡ in_state self.old (accepted self.old.state port t.number a b)) }
+    {
+        let route = self.has_route(a.dest);
+        send(
+            alloc,
+            &mut self.peers,
+            &mut self.ports,
+            route,
+            port,
+            t,
+            b,
+            a,
+        )
     }
 
     /// Hands out the event that was put in first. None exactly where no event waits, NotOpen exactly where the port isn't open.

@@ -12,6 +12,9 @@
 //!   Routes                 the last map, which says complete --> routes --> their lines; the routes are kept
 //!   Install, refused       install refused noroutes, busy or installed
 //!   Install                the last routes --> adopted --> their parts, host by host --> its line, then each host's table
+//!   Begin, Close, Poll     one event of a client --> what it was answered, as a line; so do Provide and Send
+//!   Tokens                 the port's tokens, one by one --> where each is; or tokens refused notopen
+//!   Step                   one event --> what it did; no event where the port that it names has no cable
 //! ```
 //!
 //! A session's type keeps what the routes rest on (`specs/Kept.antt`): a last map that says complete is its mapper's part of the fabric.
@@ -19,21 +22,25 @@
 //!
 //! | module | has |
 //! |---|---|
-//! | `session` | the session, and every command |
+//! | `session` | the session, and every command but `settle`, which isn't built yet |
 //! | `last` | the last map and the last routes |
 //! | `telling` | the texts of commands of one line |
 //! | `mapping` | a map made over a world, with its text |
 //! | `routing` | the routes of a map, with their text |
 //! | `installing` | an installation of the last routes, with its text |
 //! | `copying` | another set of the same routes |
+//! | `calling` | a client's call, and where tokens are, as texts |
+//! | `stepping` | a single event, and its text |
 #![tactic(auto)]
 
+mod calling;
 mod copying;
 mod installing;
 mod last;
 mod mapping;
 mod routing;
 mod session;
+mod stepping;
 mod telling;
 #[cfg(test)]
 mod tests;

@@ -1,21 +1,20 @@
 //! The session, and every command.
 
-ghost use Rattle.std.specs.Prelude.{◌≡◌, ◌≤◌, true, length, All, IfOk, IfErr, Ok, Some, None};
+ghost use Rattle.std.specs.Prelude.{◌≡◌, ◌≤◌, length, All, IfOk, IfErr, Ok};
 ghost use Rattle.net_defs.specs.Turn.{IsTurn};
-ghost use Rattle.link_defs.specs.Links.{empty_links, is_idle};
 ghost use Rattle.world_defs.specs.World.{fabric_of};
-ghost use Rattle.run_defs.specs.Session.{LastRoutes, new_session};
-ghost use Rattle.run_defs.specs.declared.command.Command.TheVariants.{Walk, Map, Routes, Install, Plan, Finish};
-ghost use Rattle.run_defs.specs.declared.line.MapWords.TheVariants.{Complete};
-ghost use Rattle.fab_script.specs.Ranges.{IsCommandOf, IsHost};
-ghost use Rattle.run_session.specs.Kept.{IsKept, IsKeptMap, AreKeptRoutes};
+ghost use Rattle.run_defs.specs.Session.{new_session};
+ghost use Rattle.run_defs.specs.declared.command.Command.TheVariants.{Walk, Plan, Finish};
+ghost use Rattle.fab_script.specs.Ranges.{IsCommandOf};
+ghost use Rattle.run_session.specs.Kept.{IsKept};
 ghost use Rattle.run_session.specs.Obeyed.{IsObeyed, IsBuilt, IsOverSame};
 
-use crate::installing::install_text;
-use crate::last::{LastFound, LastMade, complete};
-use crate::mapping::{ToldMap, told_map};
-use crate::routing::{ToldRoutes, told_routes};
-use crate::telling::{busy_text, finish_text, no_map_text, plan_text, walk_text};
+mod calls;
+mod maps;
+mod steps;
+
+use crate::last::{LastFound, LastMade};
+use crate::telling::{finish_text, plan_text, walk_text};
 use fab_world::{Fabric, World};
 use link_model::Links;
 use run_defs::{Command, PlanKind};
@@ -27,10 +26,10 @@ use std::marker::Model;
 /// A walk's packet takes links of its own, which are empty between commands, so that it meets no other packet. It must be spent, by
 /// [`Session::end`].
 pub struct Session {
-    world: World,
-    links: Links,
-    last_map: Option<LastMade>,
-    last_routes: Option<LastFound>,
+    pub(crate) world: World,
+    pub(crate) links: Links,
+    pub(crate) last_map: Option<LastMade>,
+    pub(crate) last_routes: Option<LastFound>,
 }
 
 impl Model for Session {
@@ -83,16 +82,34 @@ impl Session {
             Command::Map { host, depth, tries } => self.map(alloc, *host, *depth, *tries),
             Command::Routes => self.routes(alloc),
             Command::Install { tries } => self.install(alloc, *tries),
+            Command::Begin {
+                host,
+                port,
+                sends,
+                recvs,
+            } => self.open(alloc, *host, *port, *sends, *recvs),
+            Command::Close { host, port } => self.close(alloc, *host, *port),
+            Command::Poll { host, port } => self.poll(alloc, *host, *port),
+            Command::Tokens { host, port } => self.tokens(alloc, *host, *port),
+            Command::Provide {
+                host,
+                port,
+                size,
+                prio,
+            } => self.provide(alloc, *host, *port, *size, *prio),
+            Command::Send {
+                host,
+                port,
+                dest,
+                dport,
+                prio,
+                len,
+                seed,
+            } => self.send(alloc, *host, *port, *dest, *dport, *prio, *len, *seed),
             Command::Plan { ahead, kind } => self.plan(alloc, *ahead, *kind),
+            Command::Step(line) => self.step(alloc, *line),
             Command::Finish => self.finish(alloc),
-            Command::Begin { .. }
-            | Command::Close { .. }
-            | Command::Poll { .. }
-            | Command::Tokens { .. }
-            | Command::Provide { .. }
-            | Command::Send { .. }
-            | Command::Step(_)
-            | Command::Settle => unreachable!(),
+            Command::Settle => unreachable!(),
         }
     }
 
@@ -190,137 +207,8 @@ impl Session {
         session.with_text(text)
     }
 
-    // `map`
-    #[tactic(auto, using(crate::proofs::Obeying::busy))]
-    fn map(
-        self,
-        alloc: Global,
-        host: u16,
-        depth: u8,
-        tries: u8,
-    ) -> Result<(Session, Vec<u8>), (Session, AllocError)>
-        requires there { IsHost (fabric_of self.world) host }
-        requires shallow { depth ≤ 32 }
-        requires some { 1 ≤ tries }
-        requires few { tries ≤ 8 }
-        ensures ok { IfOk result (λ r. IsObeyed self (Map host depth tries) r.0 r.1.items) }
-        ensures fabric { IfOk result (λ r. fabric_of r.0.world ≡ fabric_of self.world) }
-        ensures err { IfErr result (λ r. IsOverSame self r.0) }
-    {
-        if self.world.links_idle() {
-            return self.map_idle(alloc, host, depth, tries);
-        }
-        let text = busy_text(alloc, &self.world, host);
-        self.with_text(text)
-    }
-
-    // `map` while no channel holds a packet: the map is the last one then.
-    fn map_idle(
-        self,
-        alloc: Global,
-        host: u16,
-        depth: u8,
-        tries: u8,
-    ) -> Result<(Session, Vec<u8>), (Session, AllocError)>
-        requires idle { is_idle self.world.links ≡ true }
-        requires there { IsHost (fabric_of self.world) host }
-        requires shallow { depth ≤ 32 }
-        requires some { 1 ≤ tries }
-        requires few { tries ≤ 8 }
-        ensures ok { IfOk result (λ r. IsObeyed self (Map host depth tries) r.0 r.1.items) }
-        ensures fabric { IfOk result (λ r. fabric_of r.0.world ≡ fabric_of self.world) }
-        ensures err { IfErr result (λ r. IsOverSame self r.0) }
-    {
-        let Session {
-            world,
-            links,
-            last_map,
-            last_routes,
-        } = self;
-        let (world, told) = told_map(alloc, world, host, depth, tries);
-        match told {
-            Ok(told) => Ok(with_map(world, links, last_routes, host, told)),
-            Err(wanting) => Err((
-                Session {
-                    world,
-                    links,
-                    last_map,
-                    last_routes,
-                },
-                wanting,
-            )),
-        }
-    }
-
-    // `routes`
-    #[tactic(auto, using(crate::proofs::Obeying::routes_refused_so))]
-    fn routes(self, alloc: Global) -> Result<(Session, Vec<u8>), (Session, AllocError)>
-        ensures ok { IfOk result (λ r. IsObeyed self Routes r.0 r.1.items) }
-        ensures fabric { IfOk result (λ r. r.0.world ≡ self.world) }
-        ensures err { IfErr result (λ r. r.0 ≡ self) }
-    {
-        self.kept();
-        self.world.moment();
-        match complete(&self.last_map) {
-            Some(last) => match told_routes(alloc, &self.world, last) {
-                Ok(told) => Ok(self.with_routes(told)),
-                Err(wanting) => Err((self, wanting)),
-            },
-            None => {
-                let text = no_map_text(alloc, &self.world);
-                self.with_text(text)
-            }
-        }
-    }
-
-    // `install`
-    fn install(self, alloc: Global, tries: u8) -> Result<(Session, Vec<u8>), (Session, AllocError)>
-        requires some { 1 ≤ tries }
-        requires few { tries ≤ 8 }
-        ensures ok { IfOk result (λ r. IsObeyed self (Install tries) r.0 r.1.items) }
-        ensures fabric { IfOk result (λ r. fabric_of r.0.world ≡ fabric_of self.world) }
-        ensures err { IfErr result (λ r. IsOverSame self r.0) }
-    {
-        self.kept();
-        let Session {
-            mut world,
-            links,
-            last_map,
-            last_routes,
-        } = self;
-        let text = install_text(alloc, &mut world, &last_routes, tries);
-        let session = Session {
-            world,
-            links,
-            last_map,
-            last_routes,
-        };
-        session.with_text(text)
-    }
-
-    // The session whose last routes are these, and their text.
-    fn with_routes(self, told: ToldRoutes) -> (Session, Vec<u8>)
-        requires { AreKeptRoutes (fabric_of self.world) told.found }
-        ensures session { result.0 ≡ record { world = self.world; last_map = self.last_map; last_routes = Some told.found } }
-        ensures text { result.1 ≡ told.text }
-    {
-        let Session {
-            world,
-            links,
-            last_map,
-            last_routes: _,
-        } = self;
-        let session = Session {
-            world,
-            links,
-            last_map,
-            last_routes: Some(told.found),
-        };
-        (session, told.text)
-    }
-
     // The session with a text, unless memory was wanting for that.
-    fn with_text(
+    pub(crate) fn with_text(
         self,
         text: Result<Vec<u8>, AllocError>,
     ) -> Result<(Session, Vec<u8>), (Session, AllocError)>
@@ -333,32 +221,4 @@ impl Session {
             Err(wanting) => Err((self, wanting)),
         }
     }
-}
-
-// The session of a world whose last map is this one, and the text of that.
-fn with_map(
-    world: World,
-    links: Links,
-    last_routes: Option<LastFound>,
-    host: u16,
-    told: ToldMap,
-) -> (Session, Vec<u8>)
-    requires links { links ≡ empty_links (fabric_of world) }
-    requires right { told.made.words ≡ Complete → IsKeptMap (fabric_of world) host told.made.map }
-    requires routes { (l : LastRoutes) → last_routes ≡ Some l → AreKeptRoutes (fabric_of world) l }
-    ensures session { result.0 ≡ record { world = world; last_map = Some (record { mapper = host; words = told.made.words; made = told.made.map }); last_routes = last_routes } }
-    ensures text { result.1 ≡ told.text }
-{
-    let last = LastMade {
-        mapper: host,
-        words: told.made.words,
-        made: told.made.map,
-    };
-    let session = Session {
-        world,
-        links,
-        last_map: Some(last),
-        last_routes,
-    };
-    (session, told.text)
 }

@@ -11,7 +11,7 @@ ghost use Rattle.run_session.specs.Obeyed.{IsBuilt};
 
 use super::*;
 use net_defs::{End, Vertex, Walk};
-use run_defs::PlanKind;
+use run_defs::{PlanKind, StepLine};
 use std::alloc::Global;
 use std::test::Fail;
 
@@ -76,6 +76,12 @@ installed 2 of 2
 table a active
 table b active
 end injected 64 dropped 59
+";
+
+const IDLE: &[u8] = b"tokens a 1 refused notopen
+step idle
+step idle
+end injected 0 dropped 0
 ";
 
 const fn end(v: Vertex, p: u8) -> End {
@@ -221,5 +227,19 @@ fn routes_are_installed_once_they_are_computed(rt: HostRuntime) -> Result<(), Fa
     let s = install_once(alloc, s, &mut printed)?;
     finish(alloc, s, &mut printed)?;
     assert_eq!(rt; printed.as_slice(), INSTALLED);
+    Ok(())
+}
+
+#[test]
+fn an_event_that_is_not_possible_is_idle(rt: HostRuntime) -> Result<(), Fail> {
+    let alloc = rt.alloc();
+    let mut printed = Vec::new(alloc);
+    let tokens = Command::Tokens { host: 0, port: 1 };
+    let s = Session::new(alloc, two_hosts(alloc)?)?;
+    let s = obey_host(alloc, s, &tokens, &mut printed)?;
+    let s = obey_host(alloc, s, &Command::Step(StepLine::Inject(0)), &mut printed)?;
+    let s = obey_host(alloc, s, &Command::Step(StepLine::GiveUp(0)), &mut printed)?;
+    finish(alloc, s, &mut printed)?;
+    assert_eq!(rt; printed.as_slice(), IDLE);
     Ok(())
 }

@@ -1,35 +1,32 @@
 //! The hosts of a world.
 
 ghost use Rattle.std.specs.Prelude.{◌≡◌, ◌<◌, ◌≤◌, length, true, is_some, nat_lt, if◌then◌else◌, Some, option_map, slice_index_or, IfOk, OnOk, OnErr};
-ghost use Rattle.std.specs.List.{AllByRecursion};
 ghost use Rattle.gm_defs.specs.Mapping.{is_part};
 ghost use Rattle.world_defs.specs.Node.{StagedProbe, StagedPart, to_send, packet_for, has_staged, given_up, node_expired, unacknowledged_to, peer_at};
 ghost use Rattle.world_defs.specs.Hearing.{hear};
 ghost use Rattle.world_defs.specs.Table.{active_epoch};
 ghost use Rattle.nic_node.specs.Sending.{once_sent};
-ghost use Rattle.world_hosts.specs.Known.{new_hosts, no_node, host_in, with_host, IsClosed};
+ghost use Rattle.world_hosts.specs.Known.{new_hosts, no_host, host_in, with_host};
 
 use crate::spending::end_all;
+use client_host::{Arrival, ClientHost, Message, Packet, RoutePart, Table};
 use net_defs::Walk;
-use nic_node::{Arrival, Message, NicNode, Packet, RoutePart, Table};
 use std::alloc::{AllocError, Global};
 use std::marker::Model;
 
-/// The hosts of a world, by address. Addresses in arguments are of hosts.
+/// The hosts of a world, by address, with the clients of their ports. Addresses in arguments are of hosts.
 ///
-/// They must be spent, by [`Hosts::end`] once all ports are closed.
+/// They must be spent, by [`Hosts::end`].
 pub struct Hosts {
-    nodes: Vec<NicNode>,
+    pub(crate) nodes: Vec<ClientHost>,
 }
 
 impl Model for Hosts {
-    ghost use Rattle.std.specs.Prelude.{List};
-    ghost use Rattle.world_defs.specs.Node.{NodeState};
-    ghost use Rattle.world_hosts.specs.Known.{AreHosts, states};
+    ghost use Rattle.world_hosts.specs.Known.{HostsState, AreHosts, hosts_of};
 
-    ghost Value = { List NodeState };
+    ghost Value = { HostsState };
 
-    ghost view = { λ h. states h.nodes.items };
+    ghost view = { λ h. hosts_of h.nodes.items };
 
     ghost invariant = { λ h. AreHosts h.nodes.items };
 }
@@ -41,7 +38,7 @@ impl Hosts {
     {
         let mut nodes = Vec::with_capacity(alloc, usize::from(hosts))?;
         for host in 0..hosts {
-            match NicNode::new(alloc, host, hosts) {
+            match ClientHost::new(alloc, host, hosts) {
                 Ok(node) => nodes.push_reserved(node),
                 Err(wanting) => {
                     end_all(nodes);
@@ -54,16 +51,16 @@ impl Hosts {
 
     /// How many there are.
     pub fn count(&self) -> u16
-        ensures { result ≡ length self.now }
+        ensures { result ≡ length self.now.nodes }
     {
         count_of(&self.nodes)
     }
 
     /// A packet reached a host: what was made of it is exactly what the definition makes of its bytes. Want of memory changes nothing.
     pub fn on_packet(&mut self, alloc: Global, host: u16, p: &Packet) -> Result<Arrival, AllocError>
-        requires { host < length self.old }
-        ensures heard { IfOk result (λ arrival. arrival ≡ (hear host (length self.old) (host_in self.old host) p.now).0) }
-        ensures after { OnOk result (self.new ≡ with_host self.old host (hear host (length self.old) (host_in self.old host) p.now).1) }
+        requires { host < length self.old.nodes }
+        ensures heard { IfOk result (λ arrival. arrival ≡ (hear host (length self.old.nodes) (host_in self.old host) p.now).0) }
+        ensures after { OnOk result (self.new ≡ with_host self.old host (hear host (length self.old.nodes) (host_in self.old host) p.now).1) }
         ensures unchanged { OnErr result (self.new ≡ self.old) }
     {
         self.nodes[usize::from(host)].on_packet(alloc, p)
@@ -71,7 +68,7 @@ impl Hosts {
 
     /// Stages a probe of a walk at a host, in the place of what was staged before. The walk of a looped one has at most 31 turns.
     pub fn ask(&mut self, host: u16, walk: Walk, looped: bool)
-        requires there { host < length self.old }
+        requires there { host < length self.old.nodes }
         requires short { looped ≡ true → length walk ≤ 31 }
         ensures { self.new ≡ with_host self.old host (record (host_in self.old host) { staged = Some (StagedProbe walk looped) }) }
     {
@@ -80,7 +77,7 @@ impl Hosts {
 
     /// Stages a part of a table at a host, in the place of what was staged before; it travels by a route. The part is by the rules of its body.
     pub fn part(&mut self, host: u16, part: RoutePart, by: Walk)
-        requires there { host < length self.old }
+        requires there { host < length self.old.nodes }
         requires by_rules { is_part part ≡ true }
         ensures { self.new ≡ with_host self.old host (record (host_in self.old host) { staged = Some (StagedPart part by) }) }
     {
@@ -89,7 +86,7 @@ impl Hosts {
 
     /// Puts a host's table in the place of the one that it has.
     pub fn take_table(&mut self, host: u16, table: Table)
-        requires there { host < length self.old }
+        requires there { host < length self.old.nodes }
         requires own { table.host ≡ host }
         ensures { self.new ≡ with_host self.old host (record (host_in self.old host) { table = table.state }) }
     {
@@ -98,7 +95,7 @@ impl Hosts {
 
     /// A host drops its staged probe or part, its reply and its acknowledgement of a part. False exactly where none of them stood.
     pub fn give_up(&mut self, host: u16) -> bool
-        requires { host < length self.old }
+        requires { host < length self.old.nodes }
         ensures told { result ≡ has_staged (host_in self.old host) }
         ensures after { self.new ≡ with_host self.old host (given_up (host_in self.old host)) }
     {
@@ -107,8 +104,8 @@ impl Hosts {
 
     /// What a peer of a host didn't acknowledge is sent again. False exactly where nothing is unacknowledged, and then nothing changes.
     pub fn expire(&mut self, host: u16, peer: u16) -> bool
-        requires there { host < length self.old }
-        requires peer { peer < length self.old }
+        requires there { host < length self.old.nodes }
+        requires peer { peer < length self.old.nodes }
         ensures told { result ≡ nat_lt 0 (unacknowledged_to (host_in self.old host) peer) }
         ensures after { self.new ≡ with_host self.old host (if result then node_expired (host_in self.old host) peer else host_in self.old host) }
     {
@@ -117,7 +114,7 @@ impl Hosts {
 
     /// Whether a host has something to send.
     pub fn has_to_send(&self, host: u16) -> bool
-        requires { host < length self.now }
+        requires { host < length self.now.nodes }
         ensures { result ≡ is_some (to_send host (host_in self.now host)) }
     {
         node_at(&self.nodes, host).has_to_send()
@@ -125,7 +122,7 @@ impl Hosts {
 
     /// The packet of what a host sends first, injected under a number. None exactly where it has nothing to send.
     pub fn stage(&self, alloc: Global, host: u16, number: u64) -> Result<Option<Packet>, AllocError>
-        requires { host < length self.now }
+        requires { host < length self.now.nodes }
         ensures { IfOk result (λ packet. packet ≡ option_map (packet_for host number) (to_send host (host_in self.now host))) }
     {
         node_at(&self.nodes, host).stage(alloc, number)
@@ -133,7 +130,7 @@ impl Hosts {
 
     /// What a host sends first counts as sent. Nothing changes where it has nothing to send.
     pub fn staged(&mut self, host: u16)
-        requires { host < length self.old }
+        requires { host < length self.old.nodes }
         ensures { self.new ≡ with_host self.old host (once_sent (host_in self.old host) (to_send host (host_in self.old host))) }
     {
         self.nodes[usize::from(host)].staged();
@@ -141,7 +138,7 @@ impl Hosts {
 
     /// Whether a host has staged the acknowledgement of a part.
     pub fn has_part_ack(&self, host: u16) -> bool
-        requires { host < length self.now }
+        requires { host < length self.now.nodes }
         ensures { result ≡ is_some (host_in self.now host).part_ack }
     {
         node_at(&self.nodes, host).has_part_ack()
@@ -149,7 +146,7 @@ impl Hosts {
 
     /// The epoch of a host's active table.
     pub fn table(&self, host: u16) -> Option<u32>
-        requires { host < length self.now }
+        requires { host < length self.now.nodes }
         ensures { result ≡ active_epoch (host_in self.now host).table }
     {
         node_at(&self.nodes, host).active()
@@ -157,8 +154,8 @@ impl Hosts {
 
     /// The messages of a host that were accepted for a peer, in order.
     pub fn sent(&self, host: u16, peer: u16) -> &[Message]
-        requires there { host < length self.now }
-        requires peer { peer < length self.now }
+        requires there { host < length self.now.nodes }
+        requires peer { peer < length self.now.nodes }
         ensures { result.now ≡ (peer_at (host_in self.now host) peer).sent }
     {
         node_at(&self.nodes, host).sent(peer)
@@ -166,8 +163,8 @@ impl Hosts {
 
     /// The messages that a host took from a peer, in order.
     pub fn got(&self, host: u16, peer: u16) -> &[Message]
-        requires there { host < length self.now }
-        requires peer { peer < length self.now }
+        requires there { host < length self.now.nodes }
+        requires peer { peer < length self.now.nodes }
         ensures { result.now ≡ (peer_at (host_in self.now host) peer).got }
     {
         node_at(&self.nodes, host).got(peer)
@@ -175,24 +172,22 @@ impl Hosts {
 
     /// How many fragments of a host to a peer aren't acknowledged, sent or not.
     pub fn unacked(&self, host: u16, peer: u16) -> u32
-        requires there { host < length self.now }
-        requires peer { peer < length self.now }
+        requires there { host < length self.now.nodes }
+        requires peer { peer < length self.now.nodes }
         ensures { result ≡ unacknowledged_to (host_in self.now host) peer }
     {
         node_at(&self.nodes, host).unacked(peer)
     }
 
-    /// Spends hosts whose ports are all closed. Takes no memory.
-    pub fn end(self)
-        requires { AllByRecursion IsClosed self }
-    {
+    /// Spends them, with whatever their ports hold. Takes no memory.
+    pub fn end(self) {
         let Hosts { nodes } = self;
         end_all(nodes);
     }
 }
 
 // How many there are.
-fn count_of(nodes: &[NicNode]) -> u16
+fn count_of(nodes: &[ClientHost]) -> u16
     requires { length nodes.now < 65536 }
     ensures { result ≡ length nodes.now }
 {
@@ -200,9 +195,9 @@ fn count_of(nodes: &[NicNode]) -> u16
 }
 
 // The host at an address.
-fn node_at(nodes: &[NicNode], host: u16) -> &NicNode
+pub(crate) fn node_at(nodes: &[ClientHost], host: u16) -> &ClientHost
     requires { host < length nodes.now }
-    ensures { result.now ≡ slice_index_or nodes.now host no_node }
+    ensures { result.now ≡ slice_index_or nodes.now host no_host }
 {
     &nodes[usize::from(host)]
 }

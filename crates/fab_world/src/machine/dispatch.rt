@@ -5,7 +5,7 @@ ghost use Rattle.world_defs.specs.World.{fabric_of, host_count, planned};
 ghost use Rattle.world_defs.specs.Step.{step};
 ghost use Rattle.fab_world.specs.Adopting.{IsSetOfHosts};
 ghost use Rattle.fab_world.specs.Events.{IsGiven};
-ghost use Rattle.fab_world.specs.Held.{IsLater};
+ghost use Rattle.fab_world.specs.Held.{IsLater, IsPolledOfHosts};
 
 use super::Machine;
 use std::alloc::{AllocError, Global};
@@ -18,6 +18,7 @@ impl Machine {
         requires hosts { host_count self.old ≡ length (fabric_of self.old).hosts }
         requires routes { IfSome self.old.adopted (IsSetOfHosts (host_count self.old)) }
         ensures ok { IfOk result (λ x. step self.old e ≡ (x, self.new)) }
+        ensures polled { IfOk result (λ x. IsPolledOfHosts (host_count self.old) e x) }
         ensures err { OnErr result (IsLater self.old self.new) }
     {
         match e {
@@ -37,12 +38,29 @@ impl Machine {
             Event::Expire { host, peer } => Ok(self.expire(host, peer)),
             Event::GiveUp(host) => Ok(self.give_up(host)),
             Event::Part { dst, part } => self.part(alloc, dst, part),
-            // No client makes a call.
-            Event::Begin { .. }
-            | Event::Close { .. }
-            | Event::Provide { .. }
-            | Event::Send { .. }
-            | Event::Poll { .. } => Ok(Effect::Idle),
+            Event::Begin {
+                host,
+                port,
+                sends,
+                recvs,
+            } => self.begin(alloc, host, port, sends, recvs),
+            Event::Close { host, port } => Ok(self.close(host, port)),
+            Event::Provide {
+                host,
+                port,
+                size,
+                prio,
+            } => self.provide(alloc, host, port, size, prio),
+            Event::Send {
+                host,
+                port,
+                dest,
+                dport,
+                prio,
+                len,
+                seed,
+            } => self.send(alloc, host, port, dest, dport, prio, len, seed),
+            Event::Poll { host, port } => Ok(self.poll(host, port)),
         }
     }
 

@@ -7,7 +7,7 @@ use Rattle.fab_world.proofs.machine.Machine.advance.Goals as goal
 
 pub hear-requires : goal.hear-requires
 hear-requires c =
-    let same : length c.self.inside.hosts ≡ length c.self.inside.links.links.net.hosts = subst (λ w. length w.nodes ≡ length (fabric_of w).hosts) (sym c.self.view_is) c.requires.hosts in
+    let same : length c.self.inside.hosts.nodes ≡ length c.self.inside.links.links.net.hosts = subst (λ w. length w.nodes ≡ length (fabric_of w).hosts) (sym c.self.view_is) c.requires.hosts in
     let below = c.in-AtHost.ensures.host in
     omega (arith, same, below)
 

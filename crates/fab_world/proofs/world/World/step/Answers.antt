@@ -1,7 +1,7 @@
 use Rattle.std.proofs.Common.{ap, sym, subst, ◌∙◌, length}
 use Rattle.world_defs.specs.World.{WorldState, fabric_of, host_count}
-use Rattle.fab_world.specs.Held.{IsLater, IsOfHosts}
-use Rattle.fab_world.proofs.Answers.{if-ok}
+use Rattle.fab_world.specs.Held.{IsLater, IsOfHosts, IsPolledOfHosts}
+use Rattle.fab_world.proofs.Answers.{if-ok-both}
 use Rattle.fab_world.proofs.Arriving.{effect-hosts}
 use Rattle.fab_world.proofs.Moments.{step-later, later-moment, later-fabric, later-hosts, later-channels, later-adopted}
 use Rattle.fab_world.proofs.world.World.step.Goals as goal
@@ -15,9 +15,10 @@ invariant_of-self c =
 pub returns-clause-host : goal.returns-clause-host
 returns-clause-host c =
     let w : WorldState = c.self.inside.machine in
-    if-ok c.step.result
-    (λ x h. subst (λ n. IsOfHosts n x) (ap host_count c.self.view_is) (subst (IsOfHosts (host_count w)) (ap (λ p. p.0) h) (effect-hosts w c.args.e c.self.invariant.0)))
-    c.step.ensures.ok
+    if-ok-both c.step.result
+    (λ x h polled. subst (λ n. IsOfHosts n x) (ap host_count c.self.view_is)
+    (subst (IsOfHosts (host_count w)) (ap (λ p. p.0) h) (effect-hosts w c.args.e c.self.invariant.0 (subst (IsPolledOfHosts (host_count w) c.args.e) (sym (ap (λ p. p.0) h)) polled))))
+    c.step.ensures.ok c.step.ensures.polled
 
 pub returns-clause-fabric : goal.returns-clause-fabric
 returns-clause-fabric c =

@@ -1,4 +1,4 @@
-use Rattle.std.proofs.Common.{◌≡◌, ◌<◌, length, ap, arith}
+use Rattle.std.proofs.Common.{ap, arith}
 use Rattle.std.specs.Prelude.{Some}
 use Rattle.world_defs.specs.Node.{NodeState, StagedPart}
 use Rattle.world_hosts.proofs.Places.{changed-hosts, count-is, kept-hosts}

@@ -1,0 +1,4 @@
+pub mod Held
+pub mod Tied
+pub mod Telling
+pub mod Back

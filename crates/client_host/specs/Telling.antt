@@ -1,0 +1,34 @@
+-- What a client is told of what its host refused.
+use Rattle.std.specs.Prelude.{ℕ, ◌<◌, ◌^◌, Option, Some, None, if◌then◌else◌}
+use Rattle.gm_defs.specs.Port.{is_bad_size}
+use Rattle.host_ports.specs.declared.ask.PortClose.{PortClose}
+use Rattle.host_ports.specs.declared.ask.PortClose.TheVariants.{NotOpen as NothingToClose, Busy as CloseBusy, Unread as CloseUnread}
+use Rattle.host_messages.specs.declared.refusal.NodeSend.{NodeSend}
+use Rattle.host_messages.specs.declared.refusal.NodeSend.TheVariants.{NotOpen as NothingSends, TooLong as SendTooLong, BufferShort, NoRoute as SendNoRoute, Spent as SendSpent, NoMemory}
+use Rattle.world_defs.specs.declared.client.ClientCause.{ClientCause}
+use Rattle.world_defs.specs.declared.client.ClientCause.TheVariants.{NotOpen, TooLong, NoRoute, Spent, Busy, Unread, BadSize}
+
+-- a refusal to close, as the client is told of it
+abbrev pub close_cause : PortClose → ClientCause
+close_cause NothingToClose = NotOpen
+close_cause (CloseBusy n) = Busy n
+close_cause (CloseUnread n) = Unread n
+
+-- the count of a refusal to close is of 32 bits
+abbrev pub IsCounted : PortClose → Type 0
+IsCounted NothingToClose = Unit {0}
+IsCounted (CloseBusy n) = n < 2 ^ 32
+IsCounted (CloseUnread n) = n < 2 ^ 32
+
+-- a buffer isn't provided for its size or its priority
+abbrev pub size_cause : ℕ → ℕ → Option ClientCause
+size_cause size prio = if is_bad_size size prio then Some BadSize else None
+
+-- a message isn't accepted, as the client is told of it: none for want of memory, and for a buffer that is too short, which a client's never is
+abbrev pub send_cause : NodeSend → Option ClientCause
+send_cause NothingSends = Some NotOpen
+send_cause SendTooLong = Some TooLong
+send_cause BufferShort = None
+send_cause SendNoRoute = Some NoRoute
+send_cause SendSpent = Some Spent
+send_cause NoMemory = None

@@ -1,0 +1,32 @@
+//! One host with the clients of its ports.
+//!
+//! It moves no packet and knows no other host. Here a client makes its calls: it takes its tokens and its buffers, hands them to the
+//! host's port, and takes them back. `specs/Client.antt` of `world_defs` says what each call does; `specs/Held.antt` says what a contract
+//! sees, and `specs/Tied.antt` what ties a port to its client: each token has one owner.
+//!
+//! ```text
+//!             open: mint     provide, send: token and buffer
+//!   Client <----------+     +-------------------------------> port of the host
+//!      ^              |     |                                       |
+//!      +-- tokens held longest first <------------------------------+
+//!                              poll, close: token and buffer
+//! ```
+#![tactic(auto)]
+
+mod calls;
+mod closing;
+mod ending;
+mod host;
+mod opening;
+mod polling;
+mod providing;
+mod returning;
+mod sending;
+mod telling;
+#[cfg(test)]
+mod tests;
+
+pub use gm_defs::TokenPlace;
+pub use host::ClientHost;
+pub use nic_node::{Arrival, Heard, Message, Packet, RoutePart, Table};
+pub use world_defs::Said;

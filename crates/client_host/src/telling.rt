@@ -1,0 +1,42 @@
+//! What is read of a client, and what it is told.
+
+ghost use Rattle.std.specs.Prelude.{◌≡◌, option_map, MatchResult, IfOk, OnErr, Ok};
+ghost use Rattle.client_host.specs.Telling.{close_cause, IsCounted};
+
+use nic_node::PortClose;
+use port_client::Client;
+use std::alloc::AllocError;
+use world_defs::{ClientCause, Said};
+
+/// How many send tokens and receive tokens were minted, where there is a client.
+pub(crate) fn minted_of(slot: &Option<Client>) -> Option<(u16, u16)>
+    ensures { result ≡ option_map (λ c. (c.minted_sends, c.minted_recvs)) slot.now }
+{
+    match slot {
+        Some(client) => Some(client.minted()),
+        None => None,
+    }
+}
+
+/// A refusal to close, as the client is told of it.
+pub(crate) fn close_cause(refusal: PortClose) -> ClientCause
+    requires { IsCounted refusal }
+    ensures { result ≡ close_cause refusal }
+{
+    match refusal {
+        PortClose::NotOpen => ClientCause::NotOpen,
+        PortClose::Busy(n) => ClientCause::Busy(n as u32),
+        PortClose::Unread(n) => ClientCause::Unread(n as u32),
+    }
+}
+
+/// A call that was refused for a cause, or for want of memory where there is none.
+pub(crate) fn refused(cause: Option<ClientCause>) -> Result<Said, AllocError>
+    ensures told { IfOk result (λ said. option_map (λ c. Said.Refused c) cause ≡ Some said) }
+    ensures wanting { OnErr result (cause ≡ None) }
+{
+    match cause {
+        Some(cause) => Ok(Said::Refused(cause)),
+        None => Err(AllocError),
+    }
+}

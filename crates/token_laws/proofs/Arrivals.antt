@@ -1,0 +1,264 @@
+-- Every act leaves the received events of each port of messages that were got.
+use Rattle.std.proofs.Common.{◌≡◌, ◌<◌, ◌≤◌, ℕ, Bool, true, false, List, [], ◌∷◌, ◌++◌, length, get_or, set, nat_eq, nat_lt, Option, Some, None, option_map, Ok, refl, sym, ap, ◌∙◌, subst, arith, if◌then◌else◌}
+use Rattle.std.specs.Prelude.{find, slice_get}
+use Rattle.std.specs.List.{AllByRecursion}
+use Rattle.std.proofs.lemmas.Bool.Decides.{nat_tests}
+use Rattle.std.proofs.lemmas.List.{get_or_past}
+use Rattle.net_defs.specs.Network.{Network}
+use Rattle.packet_defs.specs.declared.kind.Kind.{Kind}
+use Rattle.packet_defs.specs.declared.kind.Kind.TheVariants.{Gm}
+use Rattle.packet_defs.specs.Host.{decode as decode_packet}
+use Rattle.gm_defs.specs.declared.message.Message.{Message}
+use Rattle.gm_defs.specs.declared.frame.FrameHead.{FrameHead}
+use Rattle.gm_defs.specs.declared.token.Took.{Took}
+use Rattle.gm_defs.specs.declared.token.Took.TheVariants.{NotNext, NoToken, Whole}
+use Rattle.gm_defs.specs.Body.{piece, part_in}
+use Rattle.gm_defs.specs.Fragment.{IsHonestFrame}
+use Rattle.gm_defs.specs.Token.{Provided, PortEvent, Sent, Received, PortState, is_size, size_for_length, fits, fitting}
+use Rattle.gm_defs.specs.Port.{finished, filled, delivered, sent_with}
+use Rattle.gm_defs.proofs.Fronts.{both}
+use Rattle.world_defs.specs.Peer.{PeerState, Ticket, new_peer, with_message, peer_acknowledged, tickets_finished, peer_expired, peer_sent_one, peer_answered, peer_after}
+use Rattle.world_defs.specs.Node.{NodeState, Outgoing, Probe, TablePart, Reply, PartAnswer, FrameAnswer, Fragment, peer_at, with_peer, port_at, with_port, after_sending, new_node, port_count}
+use Rattle.world_defs.specs.Hearing.{message_of, delivered_after, frame_took, all_finished}
+use Rattle.world_defs.specs.Client.{ClientState, Called, Wanted, wanted_message, client_bytes, empty_buffer}
+use Rattle.world_defs.specs.World.{WorldState, host_count, new_world, node_at, client_at}
+use Rattle.world_defs.specs.Sound.{IsFront}
+use Rattle.world_defs.specs.Traffic.{sent_between}
+use Rattle.run_defs.specs.Headline.{Act, acted, acted_all, MayAct, MayActAll}
+use Rattle.table_laws.specs.Acts.{IsReached}
+use Rattle.order_laws.specs.Says.{SaysTrue}
+use Rattle.order_laws.proofs.Peers.{front-same, frame-message}
+use Rattle.order_laws.proofs.Nodes.{set-each, begun-peers, closed-peers, provided_by-peers, polled_by-peers}
+use Rattle.owner_laws.proofs.Moves.{found-passes}
+use Rattle.window_laws.proofs.Heard.{IsHeard, quietly, of_frame, of_ack, hear-is}
+use Rattle.window_laws.proofs.Sends.{IsSend, stays as no_send, accepts, sent_by-is}
+use Rattle.window_laws.proofs.Hosts.{Rules, Goes, acted-goes}
+use Rattle.window_laws.proofs.Numbers.{all_finished-peers}
+use Rattle.window_laws.proofs.Reaching.{reached-next}
+use Rattle.window_laws.proofs.Windows.{reached-windowed}
+use Rattle.token_laws.specs.Untouched.{IsUntouched}
+use Rattle.token_laws.specs.Received.{IsOfMessage, ReceivedEventsAreOfMessages}
+use Rattle.token_laws.proofs.Calls.{IsCall, begun-is, closed-is, provided_by-is, polled_by-is}
+use Rattle.token_laws.proofs.Hosts.{peer-new}
+use Rattle.token_laws.proofs.Events.{AreAll, all-more, PortStill, port-same, called-still, finished-still, delivered-still, event-at, ports-same, ports-set}
+use Rattle.token_laws.proofs.Buffers.{provided-untouched}
+use Rattle.token_laws.proofs.Reaching.{reached-count, reached-known}
+use Rattle.token_laws.proofs.Lists.{at-replicate, get-front, get-last}
+
+-- an event is of a message that was got
+abbrev IsEventOf : (ℕ → List Message) → ℕ → PortEvent → Type 0
+IsEventOf got port (Sent t b) = Unit {0}
+IsEventOf got port (Received t b from sport prio len) = IsOfMessage got port b from sport prio len
+
+abbrev AreOf : (ℕ → List Message) → ℕ → Option PortState → Type 0
+AreOf got port o = AreAll (IsEventOf got port) o
+
+-- more is got
+event-more : (G H : ℕ → List Message) (port : ℕ) → ((k : ℕ) → IsFront (G k) (H k)) → (e : PortEvent) → IsEventOf G port e → IsEventOf H port e
+event-more G H port more (Sent t b) is = tt
+event-more G H port more (Received t b from sport prio len) is = record {
+  place = is.place;
+  message = is.message;
+  size = is.size;
+  there = ap (λ l. slice_get l is.place) (more from).both ∙ get-front (G from) (more from).rest is.place is.message is.there;
+  to_port = is.to_port;
+  from_port = is.from_port;
+  priority = is.priority;
+  long = is.long;
+  least = is.least;
+  bytes = is.bytes;
+}
+
+-- what a host got from a peer
+abbrev got_at : NodeState → ℕ → List Message
+got_at n k = (peer_at n k).got
+
+record AllOf (n : NodeState) : Type 0 where
+  each : (port : ℕ) → AreOf (got_at n) port (port_at n port)
+
+-- more is got, and each port goes on so
+record HostGoes (n m : NodeState) : Type 0 where
+  more : (k : ℕ) → IsFront (got_at n k) (got_at m k)
+  ports : (port : ℕ) → PortStill (IsEventOf (got_at m) port) (port_at n port) (port_at m port)
+
+all-of : (n m : NodeState) → HostGoes n m → AllOf n → AllOf m
+all-of n m g is = record { each = λ port. (g.ports port).still (all-more (IsEventOf (got_at n) port) (IsEventOf (got_at m) port) (event-more (got_at n) (got_at m) port g.more) (port_at n port) (is.each port)) }
+
+got-same : (n m : NodeState) → m.peers ≡ n.peers → (k : ℕ) → IsFront (got_at n k) (got_at m k)
+got-same n m e k = subst (λ l. IsFront (got_at n k) (get_or l k new_peer).got) (sym e) (front-same (got_at n k))
+
+got-set : (n m : NodeState) (k : ℕ) (q : PeerState) → m.peers ≡ set n.peers k q → IsFront (got_at n k) q.got → (j : ℕ) → IsFront (got_at n j) (got_at m j)
+got-set n m k q e here j =
+    subst (λ l. IsFront (got_at n j) (get_or l j new_peer).got) (sym e) (set-each (λ i x. IsFront (got_at n i) x.got) n.peers k j q new_peer here (λ i. front-same (got_at n i)))
+
+quiet-goes : (n m : NodeState) → m.peers ≡ n.peers → m.ports ≡ n.ports → HostGoes n m
+quiet-goes n m e f = record { more = got-same n m e; ports = ports-same (IsEventOf (got_at m)) n m f }
+
+peer-goes : (n : NodeState) (k : ℕ) (q : PeerState) → IsFront (got_at n k) q.got → HostGoes n (with_peer n k q)
+peer-goes n k q here = record { more = got-set n (with_peer n k q) k q refl here; ports = ports-same (IsEventOf (got_at (with_peer n k q))) n (with_peer n k q) refl }
+
+all-finished : (got : ℕ → List Message) (n : NodeState) (ts : List Ticket) (port : ℕ) → PortStill (IsEventOf got port) (port_at n port) (port_at (all_finished n ts) port)
+all-finished got n [] port = port-same (IsEventOf got port) (port_at n port)
+all-finished got n (t ∷ ts) port =
+    let o : Option PortState = option_map (λ p. finished p t.token) (port_at n t.port) in
+    let m : NodeState = with_port n t.port o in
+    let one : PortStill (IsEventOf got port) (port_at n port) (port_at m port) = ports-set (IsEventOf got) n m t.port o refl (finished-still (IsEventOf got t.port) t.token (port_at n t.port) (λ p s e d. tt)) port in
+    let rest : PortStill (IsEventOf got port) (port_at m port) (port_at (all_finished m ts) port) = all-finished got m ts port in
+    record { still = λ a. rest.still (one.still a) }
+
+found-all : (P : Provided → Type 0) (test : Provided → Bool) (xs : List Provided) (y : Provided) → AllByRecursion P xs → find test xs ≡ Some y → P y
+found-all P test [] y all e = cc
+found-all P test (x ∷ xs) y all e = by (test x) (found-all P test xs y all.1) e
+  where
+    by : (b : Bool) → (find test xs ≡ Some y → P y) → (if b then Some x else find test xs) ≡ Some y → P y
+    by true rest d = let same : x ≡ y = cc in subst P same all.0
+    by false rest d = rest d
+
+least-size : (size : ℕ) (o : Option ℕ) → is_size size o ≡ true → o ≡ Some size
+least-size size None e = cc
+least-size size (Some least) e = ap Some (same e)
+  where
+    same : nat_eq size least ≡ true → least ≡ size
+    same t = grind (arith, nat_tests)
+
+-- each provided buffer of a host's ports is untouched
+abbrev HasUntouched : NodeState → Type 0
+HasUntouched n = (port : ℕ) (p : PortState) → port_at n port ≡ Some p → AllByRecursion IsUntouched p.provided
+
+module _ (n : NodeState) (hosts : ℕ) (long : length n.peers ≡ hosts) (untouched : HasUntouched n) where
+  -- a frame that carries a whole message
+  frame-goes : (h : FrameHead) (part : List ℕ) (t : Took) → h.src < hosts → length part ≡ h.total → HostGoes n (delivered_after (with_peer n h.src (peer_after (peer_at n h.src) t (message_of h part))) h part t)
+  frame-goes h part NotNext low whole = peer-goes n h.src (peer_after (peer_at n h.src) NotNext (message_of h part)) (front-same (got_at n h.src))
+  frame-goes h part NoToken low whole = peer-goes n h.src (peer_after (peer_at n h.src) NoToken (message_of h part)) (front-same (got_at n h.src))
+  frame-goes h part Whole low whole = record {
+    more = got-set n m h.src q refl (record { rest = message_of h part ∷ []; both = refl });
+    ports = ports-set (IsEventOf (got_at m)) n m h.dport (option_map (λ p. delivered p h part) (port_at n h.dport)) refl (delivered-still (IsEventOf (got_at m) h.dport) h part (port_at n h.dport) new);
+  }
+    where
+      q : PeerState
+      q = peer_after (peer_at n h.src) Whole (message_of h part)
+
+      m : NodeState
+      m = delivered_after (with_peer n h.src q) h part Whole
+
+      now : got_at m h.src ≡ got_at n h.src ++ message_of h part ∷ []
+      now = ap (λ x. x.got) (peer-new n m h.src q refl (omega (arith, long, low)))
+
+      new : (p : PortState) (r : Provided) → port_at n h.dport ≡ Some p → fitting p h.total h.prio ≡ Some r → IsOfMessage (got_at m) h.dport (filled r.buffer part) h.src h.sport h.prio h.total
+      new p r e f =
+          let test : Provided → Bool = λ x. fits x.size x.prio h.total h.prio in
+          let passes : fits r.size r.prio h.total h.prio ≡ true = found-passes test (λ x. x.token) p.provided r f in
+          let clean : r.buffer ≡ empty_buffer r.size = found-all IsUntouched test p.provided r (untouched h.dport p e) f in
+          record {
+            place = length (got_at n h.src);
+            message = message_of h part;
+            size = r.size;
+            there = ap (λ l. slice_get l (length (got_at n h.src))) now ∙ get-last (got_at n h.src) (message_of h part);
+            to_port = refl;
+            from_port = refl;
+            priority = refl;
+            long = whole;
+            least = least-size r.size (size_for_length h.total) (both (is_size r.size (size_for_length h.total)) (nat_eq r.prio h.prio) passes).0;
+            bytes = ap (λ b. filled b part) clean;
+          }
+
+  -- all that is read is so, of messages of one fragment
+  heard-goes : (S : ℕ → ℕ → List Message) (host : ℕ) (wire : List ℕ) (m : NodeState) → ((a : ℕ) → AllByRecursion (λ x. length x.body ≤ piece) (S a host)) → ((k : Kind) (body : List ℕ) → decode_packet wire ≡ Ok (k, body) → SaysTrue S k body) → IsHeard host hosts n wire m → HostGoes n m
+  heard-goes S host wire m short good (quietly e f) = quiet-goes n m e f
+  heard-goes S host wire m short good (of_frame body h e d mine low now) =
+      let frame : IsHonestFrame h.src h.dst (S h.src h.dst) h (part_in body) = good Gm body e h d in
+      let carried = frame-message h.src h.dst h.seq (S h.src h.dst) h.seq (h, part_in body) (subst (λ x. AllByRecursion (λ y. length y.body ≤ piece) (S h.src x)) (sym mine) (short h.src)) frame in
+      let total : h.total ≡ length carried.message.body = ap (λ x. x.0.total) carried.is in
+      let bytes : length (part_in body) ≡ length carried.message.body = ap (λ x. length x.1) carried.is in
+      subst (HostGoes n) (sym now) (frame-goes h (part_in body) (frame_took n h) low (bytes ∙ sym total))
+  heard-goes S host wire m short good (of_ack body a e d mine low now) =
+      let v : NodeState = with_peer n a.src (peer_acknowledged (peer_at n a.src) a.next) in
+      let gone : List Ticket = tickets_finished (peer_at n a.src) a.next in
+      let after : NodeState = all_finished v gone in
+      let goes : HostGoes n after = record {
+        more = got-set n after a.src (peer_acknowledged (peer_at n a.src) a.next) (all_finished-peers v gone) (front-same (got_at n a.src));
+        ports = all-finished (got_at after) v gone;
+      } in
+      subst (HostGoes n) (sym now) goes
+
+module _ (n : NodeState) where
+  sending-goes : (out : Outgoing) → HostGoes n (after_sending n out)
+  unfolding after_sending
+  sending-goes (Probe walk looped) = quiet-goes n (record n { staged = None }) refl refl
+  sending-goes (TablePart part by) = quiet-goes n (record n { staged = None }) refl refl
+  sending-goes (Reply r) = quiet-goes n (record n { reply = None }) refl refl
+  sending-goes (PartAnswer a) = quiet-goes n (record n { part_ack = None }) refl refl
+  sending-goes (FrameAnswer peer next by) = peer-goes n peer (peer_answered (peer_at n peer)) (front-same (got_at n peer))
+  sending-goes (Fragment peer head part by) = peer-goes n peer (peer_sent_one (peer_at n peer)) (front-same (got_at n peer))
+
+  call-goes : (port : ℕ) (call : Called) → IsCall n port call → call.node.peers ≡ n.peers → HostGoes n call.node
+  call-goes port call is e = record { more = got-same n call.node e; ports = ports-set (IsEventOf (got_at call.node)) n call.node port is.after is.ports (called-still (IsEventOf (got_at call.node) port) (port_at n port) is.after is.change) }
+
+  send-goes : (s : Wanted) (o : Option ClientState) (m : NodeState) → IsSend n s o m → HostGoes n m
+  send-goes s o m (no_send e) = quiet-goes n m (ap (λ x. x.peers) e) (ap (λ x. x.ports) e)
+  send-goes s o m (accepts p c t ts e d f none now) =
+      let q : PeerState = with_message (peer_at n s.dest) (wanted_message s) (record { port = s.port; token = t }) in
+      record {
+        more = got-set n m s.dest q (ap (λ x. x.peers) now) (front-same (got_at n s.dest));
+        ports = ports-set (IsEventOf (got_at m)) n m s.port (Some (sent_with p t (client_bytes s.len s.seed))) (ap (λ x. x.ports) now) (record { still = λ a. subst (AreOf (got_at m) s.port) e a });
+      }
+
+-- a change of a host of the fabric
+record Still (count h : ℕ) (n m : NodeState) : Type 0 where
+  still : h < count → AllOf n → AllOf m
+
+abbrev StillOf : Network → ℕ → NodeState → NodeState → Type 0
+StillOf n h a b = Still (length n.hosts) h a b
+
+event-rules : (n : Network) (w : WorldState) → IsReached n w → Rules w (SaysTrue (sent_between w)) (StillOf n)
+event-rules n w is = record {
+  quiet = λ h m e f. record { still = λ low. all-of (node_at w h) m (quiet-goes (node_at w h) m e f) };
+  hears = λ h wire good. record { still = λ low. all-of (node_at w h) _ (heard-goes (node_at w h) (host_count w) (reached-known n w h is low).peers (provided-untouched n w is h) (sent_between w) h wire _ (λ a. (((reached-windowed n w is).ordered.hosts a).peers h).short) good (hear-is h (host_count w) (node_at w h) wire)) };
+  sends = λ h out e. record { still = λ low. all-of (node_at w h) _ (sending-goes (node_at w h) out) };
+  expires = λ h peer. record { still = λ low. all-of (node_at w h) _ (peer-goes (node_at w h) peer (peer_expired (peer_at (node_at w h) peer)) (front-same (got_at (node_at w h) peer))) };
+  begins = λ h port sends recvs. record { still = λ low. all-of (node_at w h) _ (call-goes (node_at w h) port _ (begun-is (node_at w h) port sends recvs (client_at w h port)) (begun-peers (node_at w h) port sends recvs (client_at w h port))) };
+  closes = λ h port. record { still = λ low. all-of (node_at w h) _ (call-goes (node_at w h) port _ (closed-is (node_at w h) port (client_at w h port)) (closed-peers (node_at w h) port (client_at w h port))) };
+  provides = λ h port size prio. record { still = λ low. all-of (node_at w h) _ (call-goes (node_at w h) port _ (provided_by-is (node_at w h) port size prio (client_at w h port)) (provided_by-peers (node_at w h) port size prio (client_at w h port))) };
+  accepts = λ h s. record { still = λ low. all-of (node_at w h) _ (send-goes (node_at w h) s (client_at w h s.port) _ (sent_by-is (node_at w h) s (client_at w h s.port))) };
+  polls = λ h port. record { still = λ low. all-of (node_at w h) _ (call-goes (node_at w h) port _ (polled_by-is (node_at w h) port (client_at w h port)) (polled_by-peers (node_at w h) port (client_at w h port))) };
+}
+
+-- the invariant
+record HasMessages (n : Network) (w : WorldState) : Type 0 where
+  reached : IsReached n w
+  hosts : (h : ℕ) → h < length n.hosts → AllOf (node_at w h)
+
+acted-messages : (n : Network) (w : WorldState) (a : Act) → MayAct w a → HasMessages n w → HasMessages n (acted w a)
+acted-messages n w a may is =
+    let g : Goes (StillOf n) w (acted w a) = acted-goes w (SaysTrue (sent_between w)) (StillOf n) (event-rules n w is.reached) a (reached-windowed n w is.reached).ordered.links in
+    record { reached = reached-next n w a is.reached may; hosts = λ h low. (g.nodes h).still low (is.hosts h low) }
+
+all-messages : (n : Network) (w : WorldState) (acts : List Act) → MayActAll w acts → HasMessages n w → HasMessages n (acted_all w acts)
+all-messages n w [] may is = is
+all-messages n w (a ∷ acts) may is = all-messages n (acted w a) acts may.1 (acted-messages n w a may.0 is)
+
+new-of : (k : ℕ) → AllOf (new_node k)
+new-of k = record { each = λ port. at-replicate (AreOf (got_at (new_node k)) port) port_count port None None tt tt }
+
+reached-of : (n : Network) (w : WorldState) → IsReached n w → (h : ℕ) → AllOf (node_at w h)
+reached-of n w is h = by (nat_lt h (length n.hosts)) refl
+  where
+    k : ℕ
+    k = length n.hosts
+
+    start : HasMessages n (new_world n)
+    start = record { reached = record { fabric = is.fabric; acts = []; may = tt; leads = refl }; hosts = λ j low. at-replicate AllOf k j (new_node k) (new_node 0) (new-of k) (new-of 0) }
+
+    all : HasMessages n w
+    all = subst (HasMessages n) (sym is.leads) (all-messages n (new_world n) is.acts is.may start)
+
+    by : (b : Bool) → nat_lt h (length n.hosts) ≡ b → AllOf (node_at w h)
+    by true e = all.hosts h (grind (arith, nat_tests))
+    by false e =
+        let count = reached-count n w is in
+        let past : length n.hosts ≤ h = grind (arith, nat_tests) in
+        subst AllOf (sym (get_or_past w.nodes h (new_node 0) (omega (arith, count, past)))) (new-of 0)
+
+pub received-messages : ReceivedEventsAreOfMessages
+received-messages n w is h port place p t buffer from sport prio len e d =
+    event-at (IsEventOf (got_at (node_at w h)) port) p.events place (Received t buffer from sport prio len) (subst (AreOf (got_at (node_at w h)) port) e ((reached-of n w is h).each port)) d

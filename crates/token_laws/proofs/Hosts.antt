@@ -1,0 +1,342 @@
+-- What each change of a host leaves of its sends, tickets and messages.
+use Rattle.std.proofs.Common.{◌≡◌, ◌≢◌, ◌<◌, ◌≤◌, ◌+◌, ℕ, Bool, true, false, List, [], ◌∷◌, ◌++◌, length, take, drop, max, set, get_or, nat_lt, nat_le, is_none, Option, Some, None, option_map, ◌⊎◌, inl, inr, refl, sym, ap, ◌∙◌, subst, arith, if◌then◌else◌}
+use Rattle.std.specs.List.{AllByRecursion}
+use Rattle.std.proofs.lemmas.Bool.Decides.{nat_tests}
+use Rattle.std.proofs.lemmas.List.{get_or-set_same, get_or-set_other, length-drop, length-take-le, take-append-drop, drop-append-le, drop-drop}
+use Rattle.net_defs.specs.Network.{Apart}
+use Rattle.gm_defs.specs.declared.message.Message.{Message}
+use Rattle.gm_defs.specs.declared.frame.FrameHead.{FrameHead}
+use Rattle.gm_defs.specs.declared.token.Took.{Took}
+use Rattle.gm_defs.specs.declared.token.Took.TheVariants.{NotNext, NoToken, Whole}
+use Rattle.gm_defs.specs.Body.{part_in}
+use Rattle.gm_defs.specs.Fragment.{piece_count, whole_below}
+use Rattle.gm_defs.specs.Connection.{SenderState, IsSender, is_spent, is_taken, acknowledged}
+use Rattle.gm_defs.specs.Token.{Sending, PortState, sent_tokens}
+use Rattle.gm_defs.specs.Port.{is_too_long, sent_with, delivered}
+use Rattle.gm_defs.proofs.Fronts.{both}
+use Rattle.world_defs.specs.declared.client.ClientCause.TheVariants.{TooLong, NoRoute, Spent}
+use Rattle.world_defs.specs.Table.{table_route}
+use Rattle.world_defs.specs.Peer.{PeerState, Ticket, new_peer, with_message, finished_by, peer_acknowledged, tickets_finished, peer_expired, peer_sent_one, peer_answered, peer_after}
+use Rattle.world_defs.specs.Node.{NodeState, Outgoing, Probe, TablePart, Reply, PartAnswer, FrameAnswer, Fragment, peer_at, with_peer, port_at, after_sending, node_expired}
+use Rattle.world_defs.specs.Hearing.{message_of, delivered_after, frame_took, all_finished, hear}
+use Rattle.world_defs.specs.Client.{ClientState, Called, Wanted, client_bytes, wanted_message, send_accepted, send_refusal, sent_by}
+use Rattle.world_defs.specs.Sound.{HasOwners, AreOwned}
+use Rattle.order_laws.proofs.Peers.{IsNumbered}
+use Rattle.window_laws.proofs.Heard.{IsHeard, quietly, of_frame, of_ack, hear-is}
+use Rattle.window_laws.proofs.Sends.{IsSend, stays, accepts, sent_by-is}
+use Rattle.window_laws.proofs.Numbers.{all_finished-peers, delivered_after-peers}
+use Rattle.window_laws.proofs.Taken.{whole-below}
+use Rattle.token_laws.specs.Unfinished.{send_at, tickets_with}
+use Rattle.token_laws.proofs.Matching.{same-or, OneAfter, the_one, another, tickets-long, matched-same, matched-accepted}
+use Rattle.token_laws.proofs.Sendings.{under, tokens, under-none, under-joined, under-new}
+use Rattle.token_laws.proofs.Calls.{IsCall}
+use Rattle.token_laws.proofs.Ports.{send_in, delivered-sends, called-sends, set-sends, SameTickets, peers-same, peers-set, left_to, HostMatched, host-same, HasApartSends, AllApart, port-there, same-ticket, at, at-here, at-other, all-finished}
+
+-- what is known of a host, one of so many, and of its clients
+pub record IsKnown (n : NodeState) (client : ℕ → Option ClientState) (hosts : ℕ) : Type 0 where
+  pub numbered : (k : ℕ) → IsNumbered (peer_at n k)
+  pub senders : (k : ℕ) → IsSender (peer_at n k).sender
+  pub owned : (port : ℕ) → AreOwned (port_at n port) (client port)
+  pub peers : length n.peers ≡ hosts
+  pub routed : (dest : ℕ) → is_none (table_route n.table dest) ≡ false → dest < hosts
+
+-- parts of what is apart
+all-front : {X : Type 0} (P : X → Type 0) (xs ys : List X) → AllByRecursion P (xs ++ ys) → AllByRecursion P xs
+all-front P [] ys all = tt
+all-front P (z ∷ xs) ys all = (all.0, all-front P xs ys all.1)
+
+apart-front : {X : Type 0} (xs ys : List X) → Apart (xs ++ ys) → Apart xs
+apart-front [] ys a = tt
+apart-front (x ∷ xs) ys a = (all-front (λ y. x ≢ y) xs ys a.0, apart-front xs ys a.1)
+
+apart-back : {X : Type 0} (xs ys : List X) → Apart (xs ++ ys) → Apart ys
+apart-back [] ys a = a
+apart-back (x ∷ xs) ys a = apart-back xs ys a.1
+
+all-middle : {X : Type 0} (P : X → Type 0) (xs ys zs : List X) → AllByRecursion P (xs ++ (ys ++ zs)) → AllByRecursion P ys
+all-middle P [] [] zs all = tt
+all-middle P [] (y ∷ ys) zs all = (all.0, all-middle P [] ys zs all.1)
+all-middle P (x ∷ xs) ys zs all = all-middle P xs ys zs all.1
+
+owned-apart : (o : Option PortState) (c : Option ClientState) → AreOwned o c → HasApartSends o
+owned-apart None c own = tt
+owned-apart (Some p) None own = absurd own
+owned-apart (Some p) (Some c) own = apart-front (tokens p.queue) (sent_tokens p.events) (apart-back c.sends (tokens p.queue ++ sent_tokens p.events) own.sends.once)
+
+-- one connection of a host
+pub peer-new : (n m : NodeState) (k : ℕ) (q : PeerState) → m.peers ≡ set n.peers k q → k < length n.peers → peer_at m k ≡ q
+peer-new n m k q e low = ap (λ l. get_or l k new_peer) e ∙ get_or-set_same n.peers k q new_peer low
+
+peer-old : (n m : NodeState) (k : ℕ) (q : PeerState) → m.peers ≡ set n.peers k q → (j : ℕ) → j ≢ k → peer_at m j ≡ peer_at n j
+peer-old n m k q e j other = ap (λ l. get_or l j new_peer) e ∙ get_or-set_other n.peers k j q new_peer other
+
+-- an acknowledgement raises the first number that isn't acknowledged, to the top at most
+pub record IsRaised (s : SenderState) (base : ℕ) : Type 0 where
+  pub up : s.base ≤ base
+  pub below : base ≤ s.top
+
+pub raised : (s : SenderState) (next : ℕ) → IsSender s → IsRaised s (acknowledged s next).base
+raised s next is = by (is_taken s next) refl
+  where
+    by : (b : Bool) → is_taken s next ≡ b → IsRaised s (if b then record s { base = next; cursor = max s.cursor next } else s).base
+    by true e =
+        let two = both (nat_lt s.base next) (nat_le next s.top) e in
+        let a = two.0 in
+        let b = two.1 in
+        record { up = grind (arith, nat_tests); below = grind (arith, nat_tests) }
+    by false e = let a = is.base_below in let b = is.cursor_below in record { up = omega arith; below = omega (arith, a, b) }
+
+not_refused : (a b c : Bool) → (if a then Some TooLong else if b then Some NoRoute else if c then Some Spent else None) ≡ None → b ≡ false
+not_refused true b c e = cc
+not_refused false true c e = cc
+not_refused false false c e = refl
+
+module _ (n : NodeState) where
+  -- a frame leaves the sends and the tickets
+  delivered-same : (m : NodeState) (h : FrameHead) (part : List ℕ) (t : Took) → m.ports ≡ n.ports → (x : Ticket) → send_at (delivered_after m h part t) x ≡ send_at n x
+  delivered-same m h part NotNext e x = ap (λ ps. send_in (get_or ps x.port None) x.token) e
+  delivered-same m h part NoToken e x = ap (λ ps. send_in (get_or ps x.port None) x.token) e
+  delivered-same m h part Whole e x =
+      set-sends m (delivered_after m h part Whole) h.dport (option_map (λ p. delivered p h part) (port_at m h.dport)) refl (delivered-sends h part (port_at m h.dport)) x ∙ ap (λ ps. send_in (get_or ps x.port None) x.token) e
+
+  -- a call that is no send leaves them too
+  pub call-same : (port : ℕ) (call : Called) → IsCall n port call → call.node.peers ≡ n.peers → HostMatched n → HostMatched call.node
+  call-same port call is e = host-same n call.node (set-sends n call.node port is.after is.ports (called-sends (port_at n port) is.after is.change)) (peers-same n call.node e)
+
+  pub quiet-same : (m : NodeState) → m.peers ≡ n.peers → m.ports ≡ n.ports → HostMatched n → HostMatched m
+  quiet-same m e f = host-same n m (λ x. ap (λ ps. send_in (get_or ps x.port None) x.token) f) (peers-same n m e)
+
+  -- one connection that keeps its tickets and messages
+  peer-matched : (k : ℕ) (q : PeerState) → SameTickets (peer_at n k) q → HostMatched n → HostMatched (with_peer n k q)
+  peer-matched k q here = host-same n (with_peer n k q) (λ x. refl) (peers-set n (with_peer n k q) k q refl here)
+
+  pub sending-same : (out : Outgoing) → HostMatched n → HostMatched (after_sending n out)
+  unfolding after_sending
+  sending-same (Probe walk looped) = quiet-same (record n { staged = None }) refl refl
+  sending-same (TablePart part by) = quiet-same (record n { staged = None }) refl refl
+  sending-same (Reply r) = quiet-same (record n { reply = None }) refl refl
+  sending-same (PartAnswer a) = quiet-same (record n { part_ack = None }) refl refl
+  sending-same (FrameAnswer peer next by) = peer-matched peer (peer_answered (peer_at n peer)) (record { tickets = refl; messages = refl })
+  sending-same (Fragment peer head part by) = peer-matched peer (peer_sent_one (peer_at n peer)) (record { tickets = refl; messages = refl })
+
+  pub expired-same : (peer : ℕ) → HostMatched n → HostMatched (node_expired n peer)
+  expired-same peer = peer-matched peer (peer_expired (peer_at n peer)) (record { tickets = refl; messages = refl })
+
+-- An acknowledgement of a peer finishes as many sends as it raises the first number that isn't acknowledged, and as many tickets wait at least.
+pub record IsFinishing (n : NodeState) (k next : ℕ) : Type 0 where
+  pub counted : (peer_at n k).sender.base + finished_by (peer_at n k) next ≡ (acknowledged (peer_at n k).sender next).base
+  pub many : length (take (finished_by (peer_at n k) next) (peer_at n k).pending) ≡ finished_by (peer_at n k) next
+  pub there : k < length n.peers
+
+module _ (n : NodeState) (client : ℕ → Option ClientState) (hosts : ℕ) (known : IsKnown n client hosts) where
+  pub all-apart : AllApart n
+  all-apart = record { each = λ port. owned-apart (port_at n port) (client port) (known.owned port) }
+
+  -- how many sends to a peer an acknowledgement finishes
+  pub finishing : (k next : ℕ) → k < hosts → HostMatched n → IsFinishing n k next
+  finishing k next low is = record { counted = counted; many = many; there = there }
+    where
+      p : PeerState
+      p = peer_at n k
+
+      base : ℕ
+      base = (acknowledged p.sender next).base
+
+      count : ℕ
+      count = finished_by p next
+
+      rise : IsRaised p.sender base
+      rise = raised p.sender next (known.senders k)
+
+      counted : p.sender.base + count ≡ base
+      counted =
+          let numbers = known.numbered k in
+          let long = numbers.numbered in
+          let top = (known.senders k).top_below in
+          let up = rise.up in
+          let below = rise.below in
+          let a : whole_below p.sent base ≡ base = whole-below p.sent base numbers.short (omega (arith, below, top, long)) in
+          let b : whole_below p.sent p.sender.base ≡ p.sender.base = whole-below p.sent p.sender.base numbers.short (omega (arith, up, below, top, long)) in
+          omega (arith, a, b, up)
+
+      many : length (take count p.pending) ≡ count
+      many =
+          let as_many = tickets-long (send_at n) p.pending (left_to n k) (is.of_messages k) in
+          let fewer = length-drop p.sender.base p.sent in
+          let long = (known.numbered k).numbered in
+          let top = (known.senders k).top_below in
+          let below = rise.below in
+          let all = counted in
+          length-take-le count p.pending (omega (arith, as_many, fewer, long, top, below, all))
+
+      there : k < length n.peers
+      there = let e = known.peers in omega (arith, e, low)
+
+  -- an acknowledgement finishes the first sends to its peer
+  acknowledged-matched : (k next : ℕ) → k < hosts → HostMatched n → HostMatched (all_finished (with_peer n k (peer_acknowledged (peer_at n k) next)) (tickets_finished (peer_at n k) next))
+  acknowledged-matched k next low is =
+      matched-same (send_at m) (send_at m) (at k left (tickets_with n)) (tickets_with m) (at k (drop (length gone) (left_to n k)) (left_to n)) (left_to m) (λ x. refl) tickets messages
+      (all-finished before (tickets_with n) (left_to n) k gone left (sym (take-append-drop count p.pending)) apart is)
+    where
+      p : PeerState
+      p = peer_at n k
+
+      base : ℕ
+      base = (acknowledged p.sender next).base
+
+      count : ℕ
+      count = finished_by p next
+
+      q : PeerState
+      q = peer_acknowledged p next
+
+      gone : List Ticket
+      gone = take count p.pending
+
+      left : List Ticket
+      left = drop count p.pending
+
+      before : NodeState
+      before = with_peer n k q
+
+      m : NodeState
+      m = all_finished before gone
+
+      apart : AllApart before
+      apart = record { each = λ port. all-apart.each port }
+
+      known_here : IsFinishing n k next
+      known_here = finishing k next low is
+
+      peers : m.peers ≡ set n.peers k q
+      peers = all_finished-peers before gone
+
+      now : peer_at m k ≡ q
+      now = peer-new n m k q peers known_here.there
+
+      tickets : (j : ℕ) → tickets_with m j ≡ at k left (tickets_with n) j
+      tickets j = by (same-or j k)
+        where
+          by : (j ≡ k) ⊎ (j ≢ k) → tickets_with m j ≡ at k left (tickets_with n) j
+          by (inl same) = ap (tickets_with m) same ∙ (ap (λ x. x.pending) now ∙ (sym (at-here k left (tickets_with n)) ∙ ap (at k left (tickets_with n)) (sym same)))
+          by (inr other) = ap (λ x. x.pending) (peer-old n m k q peers j other) ∙ sym (at-other k left (tickets_with n) j other)
+
+      messages : (j : ℕ) → left_to m j ≡ at k (drop (length gone) (left_to n k)) (left_to n) j
+      messages j = by (same-or j k)
+        where
+          rest : List Message
+          rest = drop (length gone) (left_to n k)
+
+          here : left_to m k ≡ rest
+          here =
+              let all = known_here.counted in
+              let long = known_here.many in
+              let sum : p.sender.base + length gone ≡ base = omega (arith, all, long) in
+              ap (λ x. drop x.sender.base x.sent) now ∙ sym (drop-drop (length gone) p.sender.base p.sent ∙ ap (λ i. drop i p.sent) sum)
+
+          by : (j ≡ k) ⊎ (j ≢ k) → left_to m j ≡ at k rest (left_to n) j
+          by (inl same) = ap (left_to m) same ∙ (here ∙ (sym (at-here k rest (left_to n)) ∙ ap (at k rest (left_to n)) (sym same)))
+          by (inr other) = ap (λ x. drop x.sender.base x.sent) (peer-old n m k q peers j other) ∙ sym (at-other k rest (left_to n) j other)
+
+  heard-matched : (host : ℕ) (wire : List ℕ) (m : NodeState) → IsHeard host hosts n wire m → HostMatched n → HostMatched m
+  heard-matched host wire m (quietly e f) is = quiet-same n m e f is
+  heard-matched host wire m (of_frame body h e d mine there now) is =
+      let q : PeerState = peer_after (peer_at n h.src) (frame_took n h) (message_of h (part_in body)) in
+      let v : NodeState = with_peer n h.src q in
+      let after : NodeState = delivered_after v h (part_in body) (frame_took n h) in
+      subst HostMatched (sym now)
+      (host-same n after (delivered-same n v h (part_in body) (frame_took n h) refl) (peers-set n after h.src q (delivered_after-peers v h (part_in body) (frame_took n h)) (record { tickets = refl; messages = refl })) is)
+  heard-matched host wire m (of_ack body a e d mine there now) is = subst HostMatched (sym now) (acknowledged-matched a.src a.next there is)
+
+  pub hear-matched : (host : ℕ) (wire : List ℕ) → HostMatched n → HostMatched (hear host hosts n wire).1
+  hear-matched host wire is = heard-matched host wire (hear host hosts n wire).1 (hear-is host hosts n wire) is
+
+  -- a message is accepted
+  accepted-matched : (s : Wanted) (p : PortState) (c : ClientState) (t : ℕ) (ts : List ℕ) → port_at n s.port ≡ Some p → c.sends ≡ t ∷ ts → HasOwners p c → send_refusal n s ≡ None → HostMatched n → HostMatched (send_accepted n s p c t ts).node
+  accepted-matched s p c t ts e f own none is =
+      matched-accepted (send_at n) (send_at m) (tickets_with n) (tickets_with m) (left_to n) (left_to m) k ticket message more messages others others_too free refl sends is
+    where
+      k : ℕ
+      k = s.dest
+
+      ticket : Ticket
+      ticket = record { port = s.port; token = t }
+
+      message : Message
+      message = wanted_message s
+
+      bytes : List ℕ
+      bytes = client_bytes s.len s.seed
+
+      new : Sending
+      new = record { token = t; buffer = bytes }
+
+      q : PeerState
+      q = with_message (peer_at n k) message ticket
+
+      m : NodeState
+      m = (send_accepted n s p c t ts).node
+
+      there : k < length n.peers
+      there =
+          let low = known.routed k (not_refused (is_too_long s.len) (is_none (table_route n.table k)) (is_spent (peer_at n k).sender (piece_count s.len)) none) in
+          let long = known.peers in
+          omega (arith, low, long)
+
+      now : peer_at m k ≡ q
+      now = peer-new n m k q refl there
+
+      more : tickets_with m k ≡ tickets_with n k ++ ticket ∷ []
+      more = ap (λ x. x.pending) now
+
+      messages : left_to m k ≡ left_to n k ++ message ∷ []
+      messages =
+          let long = (known.numbered k).numbered in
+          let a = (known.senders k).base_below in
+          let b = (known.senders k).cursor_below in
+          let d = (known.senders k).top_below in
+          ap (λ x. drop x.sender.base x.sent) now ∙ drop-append-le (peer_at n k).sender.base (peer_at n k).sent (message ∷ []) (omega (arith, long, a, b, d))
+
+      others : (j : ℕ) → j ≢ k → tickets_with m j ≡ tickets_with n j
+      others j other = ap (λ x. x.pending) (peer-old n m k q refl j other)
+
+      others_too : (j : ℕ) → j ≢ k → left_to m j ≡ left_to n j
+      others_too j other = ap (λ x. drop x.sender.base x.sent) (peer-old n m k q refl j other)
+
+      -- the client had the token
+      apart : AllByRecursion (λ y. t ≢ y) (tokens p.queue)
+      apart = all-middle (λ y. t ≢ y) ts (tokens p.queue) (sent_tokens p.events) (subst (λ l. Apart (l ++ (tokens p.queue ++ sent_tokens p.events))) f own.sends.once).0
+
+      empty : under t p.queue ≡ None
+      empty = under-none t p.queue apart
+
+      free : send_at n ticket ≡ None
+      free = ap (λ z. send_in z t) e ∙ empty
+
+      at_port : port_at m s.port ≡ Some (sent_with p t bytes)
+      at_port = get_or-set_same n.ports s.port (Some (sent_with p t bytes)) None (port-there n s.port p e)
+
+      sends : (x : Ticket) → OneAfter x ticket (send_at n x) (send_at m x) (Some new)
+      sends x = by (same-or x.port s.port) (same-or x.token t)
+        where
+          after : x.port ≡ s.port → send_at m x ≡ under x.token (sent_with p t bytes).queue
+          after same = ap (λ j. send_in (port_at m j) x.token) same ∙ ap (λ z. send_in z x.token) at_port
+
+          was : x.port ≡ s.port → send_at n x ≡ under x.token p.queue
+          was same = ap (λ j. send_in (port_at n j) x.token) same ∙ ap (λ z. send_in z x.token) e
+
+          by : (x.port ≡ s.port) ⊎ (x.port ≢ s.port) → (x.token ≡ t) ⊎ (x.token ≢ t) → OneAfter x ticket (send_at n x) (send_at m x) (Some new)
+          by (inl same) (inl too) = the_one (same-ticket x ticket same too) (after same ∙ (ap (λ u. under u (sent_with p t bytes).queue) too ∙ under-new new p.queue empty))
+          by (inl same) (inr other) = another (λ d. other (ap (λ z. z.token) d)) (after same ∙ (under-joined new x.token p.queue other ∙ sym (was same)))
+          by (inr other) y = another (λ d. other (ap (λ z. z.port) d)) (ap (λ z. send_in z x.token) (get_or-set_other n.ports s.port x.port (Some (sent_with p t bytes)) None other))
+
+  owners : (o : Option PortState) (d : Option ClientState) (p : PortState) (c : ClientState) → o ≡ Some p → d ≡ Some c → AreOwned o d → HasOwners p c
+  owners o d p c e f own = subst (λ z. AreOwned (Some p) z) f (subst (λ z. AreOwned z d) e own)
+
+  send-matched : (s : Wanted) (m : NodeState) → IsSend n s (client s.port) m → HostMatched n → HostMatched m
+  send-matched s m (stays e) is = subst HostMatched (sym e) is
+  send-matched s m (accepts p c t ts e d f none now) is =
+      subst HostMatched (sym now) (accepted-matched s p c t ts e f (owners (port_at n s.port) (client s.port) p c e d (known.owned s.port)) none is)
+
+  pub sent_by-matched : (s : Wanted) → HostMatched n → HostMatched (sent_by n s (client s.port)).node
+  sent_by-matched s is = send-matched s (sent_by n s (client s.port)).node (sent_by-is n s (client s.port)) is

@@ -1,0 +1,14 @@
+pub mod Lists
+pub mod Matching
+pub mod Sendings
+pub mod Calls
+pub mod Ports
+pub mod Routed
+pub mod Hosts
+pub mod Reaching
+pub mod Matched
+pub mod Buffers
+pub mod Working
+pub mod Arrivals
+pub mod Events
+pub mod Returning

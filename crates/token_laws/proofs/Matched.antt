@@ -1,0 +1,113 @@
+-- Every act leaves the sends, tickets and messages of each host matched.
+use Rattle.std.proofs.Common.{◌≡◌, ◌<◌, ◌≤◌, ℕ, Bool, true, false, List, [], ◌∷◌, length, drop, nat_lt, None, refl, sym, ap, ◌∙◌, subst, arith}
+use Rattle.std.proofs.lemmas.Bool.Decides.{nat_tests}
+use Rattle.std.proofs.lemmas.List.{get_or_past}
+use Rattle.net_defs.specs.Network.{Network}
+use Rattle.world_defs.specs.Peer.{Ticket, new_peer}
+use Rattle.world_defs.specs.Node.{NodeState, peer_at, port_at, new_node, port_count}
+use Rattle.world_defs.specs.World.{WorldState, host_count, new_world, node_at, client_at}
+use Rattle.run_defs.specs.Headline.{Act, acted, acted_all, MayAct, MayActAll}
+use Rattle.table_laws.specs.Acts.{IsReached}
+use Rattle.order_laws.proofs.Nodes.{begun-peers, closed-peers, provided_by-peers, polled_by-peers}
+use Rattle.window_laws.proofs.Hosts.{Rules, Goes, acted-goes}
+use Rattle.window_laws.proofs.Taken.{whole-below}
+use Rattle.window_laws.proofs.Reaching.{reached-next}
+use Rattle.window_laws.proofs.Windows.{IsWindowed, numbers_of, reached-windowed}
+use Rattle.token_laws.specs.Tickets.{AreMatched}
+use Rattle.token_laws.specs.Unfinished.{send_at, tickets_with, unfinished_to, QueueIsUnfinished, EachSendHasOneTicket}
+use Rattle.token_laws.proofs.Matching.{matched-same}
+use Rattle.token_laws.proofs.Sendings.{under-some}
+use Rattle.token_laws.proofs.Calls.{begun-is, closed-is, provided_by-is, polled_by-is}
+use Rattle.token_laws.proofs.Ports.{send_in, left_to, HostMatched}
+use Rattle.token_laws.proofs.Hosts.{call-same, sending-same, expired-same, quiet-same, hear-matched, sent_by-matched}
+use Rattle.token_laws.proofs.Reaching.{reached-count, reached-known}
+use Rattle.token_laws.proofs.Lists.{at-replicate}
+
+-- a change of a host of the fabric leaves its sends, tickets and messages matched
+record MatchedStill (count h : ℕ) (n m : NodeState) : Type 0 where
+  still : h < count → HostMatched n → HostMatched m
+
+abbrev Still : Network → ℕ → NodeState → NodeState → Type 0
+Still n h a b = MatchedStill (length n.hosts) h a b
+
+matched-rules : (n : Network) (w : WorldState) → IsReached n w → Rules w (numbers_of w) (Still n)
+matched-rules n w is = record {
+  quiet = λ h m e f. record { still = λ low. quiet-same (node_at w h) m e f };
+  hears = λ h wire good. record { still = λ low. hear-matched (node_at w h) (client_at w h) (host_count w) (reached-known n w h is low) h wire };
+  sends = λ h out e. record { still = λ low. sending-same (node_at w h) out };
+  expires = λ h peer. record { still = λ low. expired-same (node_at w h) peer };
+  begins = λ h port sends recvs. record { still = λ low. call-same (node_at w h) port _ (begun-is (node_at w h) port sends recvs (client_at w h port)) (begun-peers (node_at w h) port sends recvs (client_at w h port)) };
+  closes = λ h port. record { still = λ low. call-same (node_at w h) port _ (closed-is (node_at w h) port (client_at w h port)) (closed-peers (node_at w h) port (client_at w h port)) };
+  provides = λ h port size prio. record { still = λ low. call-same (node_at w h) port _ (provided_by-is (node_at w h) port size prio (client_at w h port)) (provided_by-peers (node_at w h) port size prio (client_at w h port)) };
+  accepts = λ h s. record { still = λ low. sent_by-matched (node_at w h) (client_at w h) (host_count w) (reached-known n w h is low) s };
+  polls = λ h port. record { still = λ low. call-same (node_at w h) port _ (polled_by-is (node_at w h) port (client_at w h port)) (polled_by-peers (node_at w h) port (client_at w h port)) };
+}
+
+-- the invariant
+record IsMatched (n : Network) (w : WorldState) : Type 0 where
+  reached : IsReached n w
+  hosts : (h : ℕ) → h < length n.hosts → HostMatched (node_at w h)
+
+acted-matched : (n : Network) (w : WorldState) (a : Act) → MayAct w a → IsMatched n w → IsMatched n (acted w a)
+acted-matched n w a may is =
+    let g : Goes (Still n) w (acted w a) = acted-goes w (numbers_of w) (Still n) (matched-rules n w is.reached) a (reached-windowed n w is.reached).links in
+    record { reached = reached-next n w a is.reached may; hosts = λ h low. (g.nodes h).still low (is.hosts h low) }
+
+all-matched : (n : Network) (w : WorldState) (acts : List Act) → MayActAll w acts → IsMatched n w → IsMatched n (acted_all w acts)
+all-matched n w [] may is = is
+all-matched n w (a ∷ acts) may is = all-matched n (acted w a) acts may.1 (acted-matched n w a may.0 is)
+
+-- a host before anything happened
+none-matched : AreMatched (λ (t : Ticket). None) (λ k. []) (λ k. [])
+none-matched = record { of_messages = λ k. tt; one_each = λ t s e. cc }
+
+new-matched : (k : ℕ) → HostMatched (new_node k)
+new-matched k =
+    let peer : (j : ℕ) → peer_at (new_node k) j ≡ new_peer = λ j. at-replicate (λ x. x ≡ new_peer) k j new_peer new_peer refl refl in
+    let port : (j : ℕ) → port_at (new_node k) j ≡ None = λ j. at-replicate (λ o. o ≡ None) port_count j None None refl refl in
+    matched-same (λ (t : Ticket). None) (send_at (new_node k)) (λ j. []) (tickets_with (new_node k)) (λ j. []) (left_to (new_node k)) (λ x. ap (λ o. send_in o x.token) (port x.port)) (λ j. ap (λ p. p.pending) (peer j))
+    (λ j. ap (λ p. drop p.sender.base p.sent) (peer j)) none-matched
+
+new-world-matched : (n : Network) (is : IsReached n (new_world n)) → IsMatched n (new_world n)
+new-world-matched n is =
+    let k : ℕ = length n.hosts in
+    record { reached = is; hosts = λ h low. at-replicate HostMatched k h (new_node k) (new_node 0) (new-matched k) (new-matched 0) }
+
+pub reached-matched : (n : Network) (w : WorldState) → IsReached n w → (h : ℕ) → HostMatched (node_at w h)
+reached-matched n w is h = by (nat_lt h (length n.hosts)) refl
+  where
+    start : IsReached n (new_world n)
+    start = record { fabric = is.fabric; acts = []; may = tt; leads = refl }
+
+    all : IsMatched n w
+    all = subst (IsMatched n) (sym is.leads) (all-matched n (new_world n) is.acts is.may (new-world-matched n start))
+
+    by : (b : Bool) → nat_lt h (length n.hosts) ≡ b → HostMatched (node_at w h)
+    by true e = all.hosts h (grind (arith, nat_tests))
+    by false e =
+        let count = reached-count n w is in
+        let past : length n.hosts ≤ h = grind (arith, nat_tests) in
+        subst HostMatched (sym (get_or_past w.nodes h (new_node 0) (omega (arith, count, past)))) (new-matched 0)
+
+-- as many messages lie wholly below the first number that isn't acknowledged as it says
+unfinished-left : (n : Network) (w : WorldState) (h k : ℕ) → IsReached n w → unfinished_to (node_at w h) k ≡ left_to (node_at w h) k
+unfinished-left n w h k is =
+    let r : IsWindowed w = reached-windowed n w is in
+    let numbers = (r.ordered.hosts h).peers k in
+    let long = numbers.numbered in
+    let s = r.senders.in_order h k in
+    let a = s.base_below in
+    let b = s.cursor_below in
+    let c = s.top_below in
+    let p = peer_at (node_at w h) k in
+    ap (λ i. drop i p.sent) (whole-below p.sent p.sender.base numbers.short (omega (arith, long, a, b, c)))
+
+pub queue-unfinished : QueueIsUnfinished
+queue-unfinished n w is h =
+    let m : NodeState = node_at w h in
+    matched-same (send_at m) (send_at m) (tickets_with m) (tickets_with m) (left_to m) (unfinished_to m) (λ x. refl) (λ k. refl) (λ k. unfinished-left n w h k is) (reached-matched n w is h)
+
+pub each-once : EachSendHasOneTicket
+each-once n w is h port place p s e d =
+    let y = under-some p.queue place s d in
+    (reached-matched n w is h).one_each (record { port = port; token = s.token }) y.0 (ap (λ o. send_in o s.token) e ∙ y.1)

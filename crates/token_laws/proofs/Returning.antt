@@ -1,0 +1,298 @@
+-- Every act leaves the sent events of each port of messages that are acknowledged.
+use Rattle.std.proofs.Common.{◌≡◌, ◌<◌, ◌≤◌, ◌+◌, ℕ, zero, suc, Bool, true, false, List, [], ◌∷◌, ◌++◌, length, take, drop, get_or, set, nat_lt, Option, Some, None, option_map, refl, sym, ap, ◌∙◌, subst, arith}
+use Rattle.std.specs.Prelude.{slice_get}
+use Rattle.std.proofs.lemmas.Bool.Decides.{nat_tests}
+use Rattle.std.proofs.lemmas.List.{get_or_past, take-append-drop}
+use Rattle.net_defs.specs.Network.{Network}
+use Rattle.gm_defs.specs.declared.message.Message.{Message}
+use Rattle.gm_defs.specs.declared.frame.FrameHead.{FrameHead}
+use Rattle.gm_defs.specs.declared.token.Took.{Took}
+use Rattle.gm_defs.specs.declared.token.Took.TheVariants.{NotNext, NoToken, Whole}
+use Rattle.gm_defs.specs.Body.{part_in}
+use Rattle.gm_defs.specs.Fragment.{whole_below}
+use Rattle.gm_defs.specs.Connection.{acknowledged}
+use Rattle.gm_defs.specs.Token.{Sending, PortEvent, Sent, Received, PortState}
+use Rattle.gm_defs.specs.Port.{send_of, finished, delivered, sent_with}
+use Rattle.world_defs.specs.Peer.{PeerState, Ticket, new_peer, with_message, finished_by, peer_acknowledged, peer_expired, peer_sent_one, peer_answered, peer_after}
+use Rattle.world_defs.specs.Node.{NodeState, Outgoing, Probe, TablePart, Reply, PartAnswer, FrameAnswer, Fragment, peer_at, with_peer, port_at, after_sending, new_node, port_count}
+use Rattle.world_defs.specs.Hearing.{message_of, delivered_after, frame_took, all_finished}
+use Rattle.world_defs.specs.Client.{ClientState, Called, Wanted, wanted_message, client_bytes}
+use Rattle.world_defs.specs.World.{WorldState, host_count, new_world, node_at, client_at}
+use Rattle.world_defs.specs.Sound.{IsFront}
+use Rattle.run_defs.specs.Headline.{Act, acted, acted_all, MayAct, MayActAll}
+use Rattle.table_laws.specs.Acts.{IsReached}
+use Rattle.order_laws.proofs.Peers.{front-same}
+use Rattle.order_laws.proofs.Nodes.{set-each, begun-peers, closed-peers, provided_by-peers, polled_by-peers}
+use Rattle.window_laws.proofs.Heard.{IsHeard, quietly, of_frame, of_ack, hear-is}
+use Rattle.window_laws.proofs.Sends.{IsSend, stays as no_send, accepts, sent_by-is}
+use Rattle.window_laws.proofs.Hosts.{Rules, Goes, acted-goes}
+use Rattle.window_laws.proofs.Numbers.{all_finished-peers}
+use Rattle.window_laws.proofs.Reaching.{reached-next}
+use Rattle.window_laws.proofs.Taken.{whole-below}
+use Rattle.window_laws.proofs.Windows.{IsWindowed, numbers_of, reached-windowed}
+use Rattle.token_laws.specs.Tickets.{IsTicketOf, AreTicketsOf, AreMatched}
+use Rattle.token_laws.specs.Unfinished.{send_at, tickets_with}
+use Rattle.token_laws.specs.Returned.{IsReturned, SentEventsAreOfMessages}
+use Rattle.token_laws.proofs.Calls.{IsCall, begun-is, closed-is, provided_by-is, polled_by-is}
+use Rattle.token_laws.proofs.Ports.{send_in, left_to, HostMatched, AllApart, finish, finish-apart, at, at-here, first-finished}
+use Rattle.token_laws.proofs.Hosts.{IsKnown, peer-new, raised, all-apart, IsFinishing, finishing}
+use Rattle.token_laws.proofs.Events.{AreAll, all-more, PortStill, port-same, called-still, finished-still, delivered-still, event-at, ports-same, ports-set}
+use Rattle.token_laws.proofs.Matched.{reached-matched}
+use Rattle.token_laws.proofs.Reaching.{reached-count, reached-known}
+use Rattle.token_laws.proofs.Lists.{at-replicate, get-front}
+
+-- a sent event is of an acknowledged message
+abbrev IsReturnOf : (ℕ → List Message) → (ℕ → ℕ) → ℕ → PortEvent → Type 0
+IsReturnOf sent base port (Sent t b) = IsReturned sent base port b
+IsReturnOf sent base port (Received t b from sport prio len) = Unit {0}
+
+get-drop : {X : Type 0} (b : ℕ) (xs : List X) (i : ℕ) (x : X) → slice_get (drop b xs) i ≡ Some x → slice_get xs (b + i) ≡ Some x
+get-drop zero xs i x e = let s : i ≡ 0 + i = omega arith in ap (slice_get xs) (sym s) ∙ e
+get-drop (suc b) [] i x e = cc
+get-drop (suc b) (y ∷ xs) i x e = let s : suc b + i ≡ suc (b + i) = omega arith in ap (slice_get (y ∷ xs)) s ∙ get-drop b xs i x e
+
+-- more is sent, and more is acknowledged
+record PeerUp (p q : PeerState) : Type 0 where
+  sent : IsFront p.sent q.sent
+  base : p.sender.base ≤ q.sender.base
+
+up-same : (p q : PeerState) → q.sent ≡ p.sent → q.sender.base ≡ p.sender.base → PeerUp p q
+up-same p q e d = record { sent = subst (IsFront p.sent) (sym e) (front-same p.sent); base = omega (arith, d) }
+
+abbrev sent_at : NodeState → ℕ → List Message
+sent_at n k = (peer_at n k).sent
+
+abbrev base_at : NodeState → ℕ → ℕ
+base_at n k = (peer_at n k).sender.base
+
+-- an event of a host's port
+abbrev IsOf : NodeState → ℕ → PortEvent → Type 0
+IsOf n port e = IsReturnOf (sent_at n) (base_at n) port e
+
+record AllOf (n : NodeState) : Type 0 where
+  each : (port : ℕ) → AreAll (IsOf n port) (port_at n port)
+
+record HostGoes (n m : NodeState) : Type 0 where
+  more : (k : ℕ) → PeerUp (peer_at n k) (peer_at m k)
+  ports : (port : ℕ) → PortStill (IsOf m port) (port_at n port) (port_at m port)
+
+event-more : (n m : NodeState) → ((k : ℕ) → PeerUp (peer_at n k) (peer_at m k)) → (port : ℕ) (e : PortEvent) → IsOf n port e → IsOf m port e
+event-more n m more port (Received t b from sport prio len) is = tt
+event-more n m more port (Sent t b) is = record {
+  peer = is.peer;
+  place = is.place;
+  message = is.message;
+  there = ap (λ l. slice_get l is.place) (more is.peer).sent.both ∙ get-front (sent_at n is.peer) (more is.peer).sent.rest is.place is.message is.there;
+  acknowledged = let low = is.acknowledged in let up = (more is.peer).base in omega (arith, low, up);
+  from_port = is.from_port;
+  bytes = is.bytes;
+}
+
+all-of : (n m : NodeState) → HostGoes n m → AllOf n → AllOf m
+all-of n m g is = record { each = λ port. (g.ports port).still (all-more (IsOf n port) (IsOf m port) (event-more n m g.more port) (port_at n port) (is.each port)) }
+
+peers-same : (n m : NodeState) → m.peers ≡ n.peers → (k : ℕ) → PeerUp (peer_at n k) (peer_at m k)
+peers-same n m e k = subst (λ l. PeerUp (peer_at n k) (get_or l k new_peer)) (sym e) (up-same (peer_at n k) (peer_at n k) refl refl)
+
+peers-set : (n m : NodeState) (k : ℕ) (q : PeerState) → m.peers ≡ set n.peers k q → PeerUp (peer_at n k) q → (j : ℕ) → PeerUp (peer_at n j) (peer_at m j)
+peers-set n m k q e here j =
+    subst (λ l. PeerUp (peer_at n j) (get_or l j new_peer)) (sym e) (set-each (λ i x. PeerUp (peer_at n i) x) n.peers k j q new_peer here (λ i. up-same (peer_at n i) (peer_at n i) refl refl))
+
+quiet-goes : (n m : NodeState) → m.peers ≡ n.peers → m.ports ≡ n.ports → HostGoes n m
+quiet-goes n m e f = record { more = peers-same n m e; ports = ports-same (IsOf m) n m f }
+
+peer-goes : (n : NodeState) (k : ℕ) (q : PeerState) → PeerUp (peer_at n k) q → HostGoes n (with_peer n k q)
+peer-goes n k q here = record { more = peers-set n (with_peer n k q) k q refl here; ports = ports-same (IsOf (with_peer n k q)) n (with_peer n k q) refl }
+
+-- the message of the first ticket
+first-message : (S : Ticket → Option Sending) (t : Ticket) (rest : List Ticket) (ms : List Message) → AreTicketsOf S (t ∷ rest) ms → (x : Message) × ((slice_get ms 0 ≡ Some x) × IsTicketOf S t x)
+first-message S t rest [] are = absurd are
+first-message S t rest (x ∷ ms) are = (x, (refl, are.0))
+
+same-buffer : (a b : Sending) → Some a ≡ Some b → a.buffer ≡ b.buffer
+same-buffer a b e = cc
+
+-- sends of messages are finished
+finished-all : (E : ℕ → PortEvent → Type 0) (n : NodeState) (P : ℕ → List Ticket) (U : ℕ → List Message) (k : ℕ) (ts rest : List Ticket) → P k ≡ ts ++ rest → AllApart n → AreMatched (send_at n) P U → ((i : ℕ) (x : Message) (t : ℕ) → i < length ts → slice_get (U k) i ≡ Some x → E x.sport (Sent t x.body)) → (port : ℕ) → PortStill (E port) (port_at n port) (port_at (all_finished n ts) port)
+finished-all E n P U k [] rest e apart is new port = port-same (E port) (port_at n port)
+finished-all E n P U k (t ∷ ts) rest e apart is new port =
+    let m : NodeState = finish n t in
+    let Q : ℕ → List Ticket = at k (ts ++ rest) P in
+    let V : ℕ → List Message = at k (drop 1 (U k)) U in
+    let o : Option PortState = option_map (λ p. finished p t.token) (port_at n t.port) in
+    let first = first-message (send_at n) t (ts ++ rest) (U k) (subst (λ l. AreTicketsOf (send_at n) l (U k)) e (is.of_messages k)) in
+    let x : Message = first.0 in
+    let sent : E t.port (Sent t.token x.body) = subst (λ j. E j (Sent t.token x.body)) (sym first.1.1.0) (new 0 x t.token (omega arith) first.1.0) in
+    let ended : (p : PortState) (s : Sending) → port_at n t.port ≡ Some p → send_of p t.token ≡ Some s → E t.port (Sent t.token s.buffer) = λ p s a b.
+    subst (λ z. E t.port (Sent t.token z)) (same-buffer (record { token = t.token; buffer = x.body }) s (sym first.1.1.1 ∙ (ap (λ z. send_in z t.token) a ∙ b))) sent in
+    let one : PortStill (E port) (port_at n port) (port_at m port) = ports-set E n m t.port o refl (finished-still (E t.port) t.token (port_at n t.port) ended) port in
+    let more : PortStill (E port) (port_at m port) (port_at (all_finished m ts) port) =
+    finished-all E m Q V k ts rest (at-here k (ts ++ rest) P) (finish-apart n t apart) (first-finished n P U k t (ts ++ rest) e apart is)
+    (λ i y j low d. let s : 1 + i ≡ suc i = omega arith in new (suc i) y j (omega (arith, low)) (ap (slice_get (U k)) (sym s) ∙ get-drop 1 (U k) i y (ap (λ l. slice_get l i) (sym (at-here k (drop 1 (U k)) U)) ∙ d)))
+    port in
+    record { still = λ a. more.still (one.still a) }
+
+module _ (n : NodeState) (client : ℕ → Option ClientState) (hosts : ℕ) (known : IsKnown n client hosts) where
+  -- an acknowledgement
+  acknowledged-goes : (k next : ℕ) → k < hosts → HostMatched n → HostGoes n (all_finished (with_peer n k (peer_acknowledged (peer_at n k) next)) (take (finished_by (peer_at n k) next) (peer_at n k).pending))
+  acknowledged-goes k next low is = record { more = peers-set n m k q peers up; ports = ports }
+    where
+      p : PeerState
+      p = peer_at n k
+
+      q : PeerState
+      q = peer_acknowledged p next
+
+      count : ℕ
+      count = finished_by p next
+
+      gone : List Ticket
+      gone = take count p.pending
+
+      before : NodeState
+      before = with_peer n k q
+
+      m : NodeState
+      m = all_finished before gone
+
+      f : IsFinishing n k next
+      f = finishing n client hosts known k next low is
+
+      apart : AllApart before
+      apart = record { each = λ port. (all-apart n client hosts known).each port }
+
+      peers : m.peers ≡ set n.peers k q
+      peers = all_finished-peers before gone
+
+      now : peer_at m k ≡ q
+      now = peer-new n m k q peers f.there
+
+      up : PeerUp p q
+      up = record { sent = front-same p.sent; base = (raised p.sender next (known.senders k)).up }
+
+      returned : (i : ℕ) (x : Message) (t : ℕ) → i < length gone → slice_get (left_to n k) i ≡ Some x → IsReturned (sent_at m) (base_at m) x.sport x.body
+      returned i x t below e =
+          let base : base_at m k ≡ (acknowledged p.sender next).base = ap (λ z. z.sender.base) now in
+          let all = f.counted in
+          let many = f.many in
+          record {
+            peer = k;
+            place = p.sender.base + i;
+            message = x;
+            there = ap (λ z. slice_get z.sent (p.sender.base + i)) now ∙ get-drop p.sender.base p.sent i x e;
+            acknowledged = omega (arith, below, base, all, many);
+            from_port = refl;
+            bytes = refl;
+          }
+
+      ports : (port : ℕ) → PortStill (IsOf m port) (port_at n port) (port_at m port)
+      ports = finished-all (IsOf m) before (tickets_with n) (left_to n) k gone (drop count p.pending) (sym (take-append-drop count p.pending)) apart is returned
+
+  frame-goes : (h : FrameHead) (part : List ℕ) (t : Took) → HostGoes n (delivered_after (with_peer n h.src (peer_after (peer_at n h.src) t (message_of h part))) h part t)
+  frame-goes h part NotNext = peer-goes n h.src (peer_after (peer_at n h.src) NotNext (message_of h part)) (up-same (peer_at n h.src) (peer_after (peer_at n h.src) NotNext (message_of h part)) refl refl)
+  frame-goes h part NoToken = peer-goes n h.src (peer_after (peer_at n h.src) NoToken (message_of h part)) (up-same (peer_at n h.src) (peer_after (peer_at n h.src) NoToken (message_of h part)) refl refl)
+  frame-goes h part Whole =
+      let q : PeerState = peer_after (peer_at n h.src) Whole (message_of h part) in
+      let m : NodeState = delivered_after (with_peer n h.src q) h part Whole in
+      record {
+        more = peers-set n m h.src q refl (up-same (peer_at n h.src) q refl refl);
+        ports = ports-set (IsOf m) n m h.dport (option_map (λ p. delivered p h part) (port_at n h.dport)) refl (delivered-still (IsOf m h.dport) h part (port_at n h.dport) (λ p r e d. tt));
+      }
+
+  heard-goes : (host : ℕ) (wire : List ℕ) (m : NodeState) → HostMatched n → IsHeard host hosts n wire m → HostGoes n m
+  heard-goes host wire m is (quietly e f) = quiet-goes n m e f
+  heard-goes host wire m is (of_frame body h e d mine low now) = subst (HostGoes n) (sym now) (frame-goes h (part_in body) (frame_took n h))
+  heard-goes host wire m is (of_ack body a e d mine low now) = subst (HostGoes n) (sym now) (acknowledged-goes a.src a.next low is)
+
+module _ (n : NodeState) where
+  sending-goes : (out : Outgoing) → HostGoes n (after_sending n out)
+  unfolding after_sending
+  sending-goes (Probe walk looped) = quiet-goes n (record n { staged = None }) refl refl
+  sending-goes (TablePart part by) = quiet-goes n (record n { staged = None }) refl refl
+  sending-goes (Reply r) = quiet-goes n (record n { reply = None }) refl refl
+  sending-goes (PartAnswer a) = quiet-goes n (record n { part_ack = None }) refl refl
+  sending-goes (FrameAnswer peer next by) = peer-goes n peer (peer_answered (peer_at n peer)) (up-same (peer_at n peer) (peer_answered (peer_at n peer)) refl refl)
+  sending-goes (Fragment peer head part by) = peer-goes n peer (peer_sent_one (peer_at n peer)) (up-same (peer_at n peer) (peer_sent_one (peer_at n peer)) refl refl)
+
+  call-goes : (port : ℕ) (call : Called) → IsCall n port call → call.node.peers ≡ n.peers → HostGoes n call.node
+  call-goes port call is e = record { more = peers-same n call.node e; ports = ports-set (IsOf call.node) n call.node port is.after is.ports (called-still (IsOf call.node port) (port_at n port) is.after is.change) }
+
+  send-goes : (s : Wanted) (o : Option ClientState) (m : NodeState) → IsSend n s o m → HostGoes n m
+  send-goes s o m (no_send e) = quiet-goes n m (ap (λ x. x.peers) e) (ap (λ x. x.ports) e)
+  send-goes s o m (accepts p c t ts e d f none now) =
+      let q : PeerState = with_message (peer_at n s.dest) (wanted_message s) (record { port = s.port; token = t }) in
+      record {
+        more = peers-set n m s.dest q (ap (λ x. x.peers) now) (record { sent = record { rest = wanted_message s ∷ []; both = refl }; base = omega arith });
+        ports = ports-set (IsOf m) n m s.port (Some (sent_with p t (client_bytes s.len s.seed))) (ap (λ x. x.ports) now) (record { still = λ a. subst (AreAll (IsOf m s.port)) e a });
+      }
+
+-- a change of a host of the fabric
+record Still (count h : ℕ) (n m : NodeState) : Type 0 where
+  still : h < count → AllOf n → AllOf m
+
+abbrev StillOf : Network → ℕ → NodeState → NodeState → Type 0
+StillOf n h a b = Still (length n.hosts) h a b
+
+return-rules : (n : Network) (w : WorldState) → IsReached n w → Rules w (numbers_of w) (StillOf n)
+return-rules n w is = record {
+  quiet = λ h m e f. record { still = λ low. all-of (node_at w h) m (quiet-goes (node_at w h) m e f) };
+  hears = λ h wire good. record { still = λ low. all-of (node_at w h) _ (heard-goes (node_at w h) (client_at w h) (host_count w) (reached-known n w h is low) h wire _ (reached-matched n w is h) (hear-is h (host_count w) (node_at w h) wire)) };
+  sends = λ h out e. record { still = λ low. all-of (node_at w h) _ (sending-goes (node_at w h) out) };
+  expires = λ h peer. record { still = λ low. all-of (node_at w h) _ (peer-goes (node_at w h) peer (peer_expired (peer_at (node_at w h) peer)) (up-same (peer_at (node_at w h) peer) (peer_expired (peer_at (node_at w h) peer)) refl refl)) };
+  begins = λ h port sends recvs. record { still = λ low. all-of (node_at w h) _ (call-goes (node_at w h) port _ (begun-is (node_at w h) port sends recvs (client_at w h port)) (begun-peers (node_at w h) port sends recvs (client_at w h port))) };
+  closes = λ h port. record { still = λ low. all-of (node_at w h) _ (call-goes (node_at w h) port _ (closed-is (node_at w h) port (client_at w h port)) (closed-peers (node_at w h) port (client_at w h port))) };
+  provides = λ h port size prio. record { still = λ low. all-of (node_at w h) _ (call-goes (node_at w h) port _ (provided_by-is (node_at w h) port size prio (client_at w h port)) (provided_by-peers (node_at w h) port size prio (client_at w h port))) };
+  accepts = λ h s. record { still = λ low. all-of (node_at w h) _ (send-goes (node_at w h) s (client_at w h s.port) _ (sent_by-is (node_at w h) s (client_at w h s.port))) };
+  polls = λ h port. record { still = λ low. all-of (node_at w h) _ (call-goes (node_at w h) port _ (polled_by-is (node_at w h) port (client_at w h port)) (polled_by-peers (node_at w h) port (client_at w h port))) };
+}
+
+-- the invariant
+record HasReturned (n : Network) (w : WorldState) : Type 0 where
+  reached : IsReached n w
+  hosts : (h : ℕ) → h < length n.hosts → AllOf (node_at w h)
+
+acted-returned : (n : Network) (w : WorldState) (a : Act) → MayAct w a → HasReturned n w → HasReturned n (acted w a)
+acted-returned n w a may is =
+    let g : Goes (StillOf n) w (acted w a) = acted-goes w (numbers_of w) (StillOf n) (return-rules n w is.reached) a (reached-windowed n w is.reached).links in
+    record { reached = reached-next n w a is.reached may; hosts = λ h low. (g.nodes h).still low (is.hosts h low) }
+
+all-returned : (n : Network) (w : WorldState) (acts : List Act) → MayActAll w acts → HasReturned n w → HasReturned n (acted_all w acts)
+all-returned n w [] may is = is
+all-returned n w (a ∷ acts) may is = all-returned n (acted w a) acts may.1 (acted-returned n w a may.0 is)
+
+new-of : (k : ℕ) → AllOf (new_node k)
+new-of k = record { each = λ port. at-replicate (AreAll (IsOf (new_node k) port)) port_count port None None tt tt }
+
+reached-of : (n : Network) (w : WorldState) → IsReached n w → (h : ℕ) → AllOf (node_at w h)
+reached-of n w is h = by (nat_lt h (length n.hosts)) refl
+  where
+    k : ℕ
+    k = length n.hosts
+
+    start : HasReturned n (new_world n)
+    start = record { reached = record { fabric = is.fabric; acts = []; may = tt; leads = refl }; hosts = λ j low. at-replicate AllOf k j (new_node k) (new_node 0) (new-of k) (new-of 0) }
+
+    all : HasReturned n w
+    all = subst (HasReturned n) (sym is.leads) (all-returned n (new_world n) is.acts is.may start)
+
+    by : (b : Bool) → nat_lt h (length n.hosts) ≡ b → AllOf (node_at w h)
+    by true e = all.hosts h (grind (arith, nat_tests))
+    by false e =
+        let count = reached-count n w is in
+        let past : length n.hosts ≤ h = grind (arith, nat_tests) in
+        subst AllOf (sym (get_or_past w.nodes h (new_node 0) (omega (arith, count, past)))) (new-of 0)
+
+pub sent-events : SentEventsAreOfMessages
+sent-events n w is h port place p t buffer e d =
+    let m : NodeState = node_at w h in
+    let here : IsReturned (sent_at m) (base_at m) port buffer = event-at (IsOf m port) p.events place (Sent t buffer) (subst (AreAll (IsOf m port)) e ((reached-of n w is h).each port)) d in
+    let r : IsWindowed w = reached-windowed n w is in
+    let numbers = (r.ordered.hosts h).peers here.peer in
+    let long = numbers.numbered in
+    let s = r.senders.in_order h here.peer in
+    let a = s.base_below in
+    let b = s.cursor_below in
+    let c = s.top_below in
+    let whole : whole_below (sent_at m here.peer) (base_at m here.peer) ≡ base_at m here.peer = whole-below (sent_at m here.peer) (base_at m here.peer) numbers.short (omega (arith, long, a, b, c)) in
+    let low = here.acknowledged in
+    record { peer = here.peer; place = here.place; message = here.message; there = here.there; acknowledged = omega (arith, low, whole); from_port = here.from_port; bytes = here.bytes }

@@ -1,0 +1,6 @@
+pub mod Tickets
+pub mod Unfinished
+pub mod Untouched
+pub mod Received
+pub mod Returned
+pub mod Examples

@@ -1,0 +1,33 @@
+-- What stands in provided buffers, after every list of acts.
+use Rattle.std.specs.Prelude.{◌≡◌, ℕ, length, Some}
+use Rattle.std.specs.List.{AllByRecursion}
+use Rattle.net_defs.specs.Network.{Network}
+use Rattle.gm_defs.specs.Token.{Provided, PortState}
+use Rattle.world_defs.specs.declared.effect.Said.TheVariants.{Count}
+use Rattle.world_defs.specs.Node.{port_at}
+use Rattle.world_defs.specs.Client.{empty_buffer, closed}
+use Rattle.world_defs.specs.World.{WorldState, node_at, client_at}
+use Rattle.table_laws.specs.Acts.{IsReached}
+
+-- a provided buffer is as its client provided it: zero bytes, as many as its size has room for
+abbrev pub IsUntouched : Provided → Type 0
+IsUntouched r = r.buffer ≡ empty_buffer r.size
+
+-- each provided buffer of an open port is untouched
+abbrev pub ProvidedBuffersAreUntouched : Type 0
+ProvidedBuffersAreUntouched =
+    (n : Network) (w : WorldState) → IsReached n w → (h port : ℕ) (p : PortState)
+    → port_at (node_at w h) port ≡ Some p → AllByRecursion IsUntouched p.provided
+
+-- What a close hands back: the buffers that were provided, as many as it says, each untouched.
+pub record HandsBack (w : WorldState) (h port count : ℕ) : Type 0 where
+  pub port_state : PortState
+  pub was_open : port_at (node_at w h) port ≡ Some port_state
+  pub as_many : length port_state.provided ≡ count
+  pub untouched : AllByRecursion IsUntouched port_state.provided
+
+-- a close that says how many buffers it hands back hands back untouched ones
+abbrev pub ClosedBuffersAreUntouched : Type 0
+ClosedBuffersAreUntouched =
+    (n : Network) (w : WorldState) → IsReached n w → (h port count : ℕ)
+    → (closed (node_at w h) port (client_at w h port)).said ≡ Count count → HandsBack w h port count

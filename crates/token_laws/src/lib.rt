@@ -1,0 +1,22 @@
+//! What holds of the tokens and buffers of ports, after every list of acts that may happen.
+//!
+//! A law is a function without parameters: its contract is the law, and its body is empty. The statements stand in `specs/`.
+//!
+//! | file of `specs/` | says |
+//! |---|---|
+//! | `Tickets` | when sends, tickets and messages are matched |
+//! | `Unfinished` | a port's queue has exactly the sends that aren't finished |
+//! | `Untouched` | provided buffers are as they were provided |
+//! | `Received`, `Returned` | what received events and sent events hold |
+//! | `Examples` | reached worlds in which a send is unfinished and finished, a buffer is provided, and a message received |
+#![tactic(auto)]
+
+mod buffer;
+mod event;
+mod queue;
+mod worked;
+
+pub use buffer::untouched_buffers;
+pub use event::{received_messages, returned_messages};
+pub use queue::unfinished_sends;
+pub use worked::{one_buffer, one_event, one_send};

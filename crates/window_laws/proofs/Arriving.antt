@@ -1,0 +1,38 @@
+-- The worked example: one message comes, and its acknowledgement comes back.
+use Rattle.std.proofs.Common.{refl}
+use Rattle.net_defs.specs.Examples.{two_hosts}
+use Rattle.journal_defs.proofs.Grown.{two_hosts_fabric}
+use Rattle.world_defs.specs.Examples.{setup_routes}
+use Rattle.world_defs.specs.Node.{to_send, packet_for, after_sending}
+use Rattle.world_defs.specs.Hearing.{hear}
+use Rattle.world_defs.specs.Client.{begun, provided_by, sent_by}
+use Rattle.world_defs.specs.Step.{planned_strikes, sent_out, injected, advanced}
+use Rattle.run_defs.specs.Headline.{AreAdoptable}
+use Rattle.table_laws.specs.Examples.{adopted_world}
+use Rattle.table_laws.proofs.Dependencies.{adopted-adoptable}
+use Rattle.table_laws.proofs.TwoHosts.{adopted-reached}
+use Rattle.window_laws.specs.Examples.{answered_acts, AnsweredWorldIsReached, TakenAheadOfBase, AnswerIsHonest, AllIsAcknowledged}
+
+setup-adoptable : AreAdoptable two_hosts setup_routes
+setup-adoptable = (adopted-adoptable two_hosts adopted_world (record { mapper = 0; epoch = 1; routes = setup_routes }) adopted-reached refl).1
+
+pub answered-reached : AnsweredWorldIsReached
+unfolding to_send packet_for after_sending hear begun provided_by sent_by planned_strikes sent_out injected advanced
+answered-reached = record {
+  fabric = two_hosts_fabric;
+  acts = answered_acts;
+  may = ((setup-adoptable, tt), (tt, (tt, (tt, (tt, (tt, (tt, (tt, ((setup-adoptable, refl), (tt, (tt, (tt, tt))))))))))));
+  leads = refl;
+}
+
+pub taken-ahead : TakenAheadOfBase
+unfolding to_send packet_for after_sending hear begun provided_by sent_by planned_strikes sent_out injected advanced
+taken-ahead = (refl, refl)
+
+pub answer-honest : AnswerIsHonest
+unfolding to_send packet_for after_sending hear begun provided_by sent_by planned_strikes sent_out injected advanced
+answer-honest = refl
+
+pub all-acknowledged : AllIsAcknowledged
+unfolding to_send packet_for after_sending hear begun provided_by sent_by planned_strikes sent_out injected advanced
+all-acknowledged = (refl, refl, refl, refl)

@@ -1,0 +1,10 @@
+pub mod Heard
+pub mod Sends
+pub mod Hosts
+pub mod Links
+pub mod Numbers
+pub mod Windows
+pub mod Honest
+pub mod Taken
+pub mod Arriving
+pub mod Reaching

@@ -1,0 +1,101 @@
+-- What a host sends: an acknowledgement says how many fragments it has taken, and a fragment is the due one. And what a send that is accepted makes of its host.
+use Rattle.std.proofs.Common.{◌≡◌, ◌+◌, ◌<◌, ℕ, zero, suc, Bool, true, false, ℤ, List, [], ◌∷◌, length, Option, Some, None, option_map, refl, arith, subst, if◌then◌else◌}
+use Rattle.std.specs.List.{range_with_len}
+use Rattle.std.proofs.lemmas.Option.{same_Some}
+use Rattle.gm_defs.specs.declared.frame.FrameHead.{FrameHead}
+use Rattle.gm_defs.specs.Fragment.{frame_of}
+use Rattle.gm_defs.specs.Connection.{due}
+use Rattle.gm_defs.specs.Token.{PortState}
+use Rattle.gm_defs.proofs.Fronts.{then-some}
+use Rattle.world_defs.specs.declared.client.ClientCause.{ClientCause}
+use Rattle.world_defs.specs.Table.{table_route}
+use Rattle.world_defs.specs.Node.{NodeState, Staged, StagedReply, StagedAck, StagedProbe, StagedPart, Outgoing, Probe, TablePart, Reply, PartAnswer, FrameAnswer, Fragment, peer_at, port_at, outgoing_staged, owed_to, due_to, due_frame, either, first_some, peers_of, to_send}
+use Rattle.world_defs.specs.Client.{ClientState, Wanted, send_accepted, send_refusal, send_unless, send_with, send_open, sent_by}
+
+-- a fragment that is due to a peer
+pub record IsDue (host : ℕ) (n : NodeState) (peer : ℕ) (head : FrameHead) (part : List ℕ) : Type 0 where
+  pub number : ℕ
+  pub low : peer < length n.peers
+  pub due : due (peer_at n peer).sender ≡ Some number
+  pub frame : frame_of host peer (peer_at n peer).sent number ≡ Some (head, part)
+
+-- what a host may send
+abbrev pub IsOut : ℕ → NodeState → Outgoing → Type 0
+IsOut host n (Fragment peer head part by) = IsDue host n peer head part
+IsOut host n (FrameAnswer peer next by) = (peer < length n.peers) × (next ≡ (peer_at n peer).taken)
+IsOut host n (Probe walk looped) = Unit {0}
+IsOut host n (TablePart part by) = Unit {0}
+IsOut host n (Reply r) = Unit {0}
+IsOut host n (PartAnswer a) = Unit {0}
+
+either-holds : {A : Type 0} (P : A → Type 0) (a b : Option A) → ((x : A) → a ≡ Some x → P x) → ((x : A) → b ≡ Some x → P x) → (x : A) → either a b ≡ Some x → P x
+either-holds P (Some y) b f g x e = f x e
+either-holds P None b f g x e = g x e
+
+first_some-holds : {A : Type 0} (P : A → Type 0) (f : ℕ → Option A) (a k : ℕ) → ((j : ℕ) (x : A) → j < a + k → f j ≡ Some x → P x) → (x : A) → first_some f (range_with_len a k) ≡ Some x → P x
+first_some-holds P f a zero all x e = cc
+first_some-holds P f a (suc k) all x e =
+    either-holds P (f a) (first_some f (range_with_len (a + 1) k)) (λ y. all a y (omega arith)) (first_some-holds P f (a + 1) k (λ j y l. all j y (omega (arith, l)))) x e
+
+module _ (host : ℕ) (n : NodeState) where
+  staged-out : (s : Option Staged) (x : Outgoing) → option_map outgoing_staged s ≡ Some x → IsOut host n x
+  staged-out None x e = cc
+  staged-out (Some (StagedProbe walk looped)) x e = subst (IsOut host n) (same_Some (Probe walk looped) x e) tt
+  staged-out (Some (StagedPart part by)) x e = subst (IsOut host n) (same_Some (TablePart part by) x e) tt
+
+  reply-out : (s : Option StagedReply) (x : Outgoing) → option_map Reply s ≡ Some x → IsOut host n x
+  reply-out None x e = cc
+  reply-out (Some r) x e = subst (IsOut host n) (same_Some (Reply r) x e) tt
+
+  answer-out : (s : Option StagedAck) (x : Outgoing) → option_map PartAnswer s ≡ Some x → IsOut host n x
+  answer-out None x e = cc
+  answer-out (Some a) x e = subst (IsOut host n) (same_Some (PartAnswer a) x e) tt
+
+  owed-out : (peer : ℕ) (b : Bool) (r : Option (List ℤ)) (x : Outgoing) → peer < length n.peers → (if b then option_map (λ by. FrameAnswer peer (peer_at n peer).taken by) r else None) ≡ Some x → IsOut host n x
+  owed-out peer true None x low e = cc
+  owed-out peer true (Some by) x low e = subst (IsOut host n) (same_Some (FrameAnswer peer (peer_at n peer).taken by) x e) (low, refl)
+  owed-out peer false r x low e = cc
+
+  routed-out : (peer : ℕ) (f : FrameHead × List ℕ) (r : Option (List ℤ)) (x : Outgoing) → IsDue host n peer f.0 f.1 → option_map (λ by. Fragment peer f.0 f.1 by) r ≡ Some x → IsOut host n x
+  routed-out peer f None x is e = cc
+  routed-out peer f (Some by) x is e = subst (IsOut host n) (same_Some (Fragment peer f.0 f.1 by) x e) is
+
+  due-out : (peer : ℕ) (x : Outgoing) → peer < length n.peers → due_to host n peer ≡ Some x → IsOut host n x
+  due-out peer x low e =
+      let f = then-some (λ f. option_map (λ by. Fragment peer f.0 f.1 by) (table_route n.table peer)) (due_frame host n peer) x e in
+      let d = then-some (λ seq. frame_of host peer (peer_at n peer).sent seq) (due (peer_at n peer).sender) f.0 f.1.0 in
+      routed-out peer f.0 (table_route n.table peer) x (record { number = d.0; low = low; due = d.1.0; frame = d.1.1 }) f.1.1
+
+  pub to_send-out : (x : Outgoing) → to_send host n ≡ Some x → IsOut host n x
+  unfolding to_send
+  to_send-out x e =
+      either-holds (IsOut host n) (option_map outgoing_staged n.staged) _ (staged-out n.staged)
+      (either-holds (IsOut host n) (option_map Reply n.reply) _ (reply-out n.reply)
+      (either-holds (IsOut host n) (option_map PartAnswer n.part_ack) _ (answer-out n.part_ack)
+      (either-holds (IsOut host n) (first_some (owed_to n) (peers_of n)) _
+      (first_some-holds (IsOut host n) (owed_to n) 0 (length n.peers) (λ peer y l. owed-out peer (peer_at n peer).owes (table_route n.table peer) y (omega (arith, l))))
+      (first_some-holds (IsOut host n) (due_to host n) 0 (length n.peers) (λ peer y l. due-out peer y (omega (arith, l)))))))
+      x e
+
+-- a client's send: the host stays, or the message is accepted
+pub data IsSend (n : NodeState) (s : Wanted) (o : Option ClientState) (m : NodeState) : Type 0 where
+  stays : m ≡ n → IsSend n s o m
+  accepts : (p : PortState) (c : ClientState) (t : ℕ) (ts : List ℕ) → port_at n s.port ≡ Some p → o ≡ Some c → c.sends ≡ t ∷ ts → send_refusal n s ≡ None → m ≡ (send_accepted n s p c t ts).node → IsSend n s o m
+
+module _ (n : NodeState) (s : Wanted) where
+  send_unless-is : (p : PortState) (c : ClientState) (t : ℕ) (ts : List ℕ) (r : Option ClientCause) → port_at n s.port ≡ Some p → c.sends ≡ t ∷ ts → send_refusal n s ≡ r → IsSend n s (Some c) (send_unless n s p c t ts r).node
+  send_unless-is p c t ts (Some cause) e d r = stays refl
+  send_unless-is p c t ts None e d r = accepts p c t ts e refl d r refl
+
+  send_with-is : (p : PortState) (c : ClientState) (ts : List ℕ) → port_at n s.port ≡ Some p → c.sends ≡ ts → IsSend n s (Some c) (send_with n s p c ts).node
+  send_with-is p c [] e d = stays refl
+  send_with-is p c (t ∷ ts) e d = send_unless-is p c t ts (send_refusal n s) e d refl
+
+  send_open-is : (c : Option ClientState) (p : Option PortState) → port_at n s.port ≡ p → IsSend n s c (send_open n s c p).node
+  send_open-is (Some c) (Some p) e = send_with-is p c c.sends e refl
+  send_open-is (Some c) None e = stays refl
+  send_open-is None p e = stays refl
+
+  pub sent_by-is : (c : Option ClientState) → IsSend n s c (sent_by n s c).node
+  unfolding sent_by
+  sent_by-is c = send_open-is c (port_at n s.port) refl

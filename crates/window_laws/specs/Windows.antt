@@ -1,0 +1,23 @@
+-- The window of each connection, and the packets on their way, after every list of acts.
+use Rattle.std.specs.Prelude.{ℕ, ◌+◌, ◌≤◌}
+use Rattle.net_defs.specs.Network.{Network}
+use Rattle.gm_defs.specs.Connection.{SenderState, IsSender, window}
+use Rattle.world_defs.specs.World.{WorldState}
+use Rattle.world_defs.specs.Traffic.{taken_between, IsHonestTraffic}
+use Rattle.world_defs.specs.Settled.{sender_between}
+use Rattle.table_laws.specs.Acts.{IsReached}
+
+-- The numbers of a connection: the sender's are in order, what is acknowledged was taken, what was taken was sent, and at most a window of fragments was sent and isn't acknowledged.
+pub record IsWindow (s : SenderState) (taken : ℕ) : Type 0 where
+  pub numbers : IsSender s
+  pub base_below : s.base ≤ taken
+  pub taken_below : taken ≤ s.top
+  pub few : s.top ≤ s.base + window
+
+-- each connection has its window
+abbrev pub WindowsHold : Type 0
+WindowsHold = (n : Network) (w : WorldState) → IsReached n w → (a b : ℕ) → IsWindow (sender_between w a b) (taken_between w a b)
+
+-- each packet in a channel or in limbo that no flip has met is honest
+abbrev pub TrafficIsHonest : Type 0
+TrafficIsHonest = (n : Network) (w : WorldState) → IsReached n w → IsHonestTraffic w

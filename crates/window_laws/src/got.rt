@@ -1,0 +1,15 @@
+//! How much of what was sent is got: `specs/Got.antt` has the statements.
+
+ghost use Rattle.window_laws.specs.Got.{GotIsWholeBelowTaken, AllAcknowledgedIsAllGot, NoneUnacknowledgedIsAllGot, SettleGetsAll};
+
+/// What is got is the messages that lie wholly below the number of fragments that were taken.
+pub fn messages_below_taken()
+    ensures got { GotIsWholeBelowTaken }
+{}
+
+/// Where all is acknowledged, all is got: of one connection, of all at once, and so behind a settle.
+pub fn acknowledged_messages()
+    ensures pair { AllAcknowledgedIsAllGot }
+    ensures all { NoneUnacknowledgedIsAllGot }
+    ensures settled { SettleGetsAll }
+{}
