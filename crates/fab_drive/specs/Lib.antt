@@ -1,3 +1,4 @@
 pub mod Installing
 pub mod Prober
+pub mod Settling
 pub mod Watch

@@ -14,7 +14,10 @@
 //! | module | has |
 //! |---|---|
 //! | `draining` | passes over full channels, up to one that changes nothing |
-//! | `happening` | one event whose effect does not matter |
+//! | `happening` | one event, with or without its effect |
+//! | `clearing` | a drain, and resets of what is stuck then |
+//! | `replaying`, `passes` | replays of what is in limbo, a pass over hosts and limbo, passes in a row |
+//! | `rounds` | a settle |
 //! | `seen` | what a mapper looks for in what happens |
 //! | `trying`, `asking` | the tries of a probe, and an ask |
 //! | `prober` | the mapper over a world |
@@ -22,16 +25,22 @@
 #![tactic(auto)]
 
 mod asking;
+mod clearing;
 mod draining;
 mod happening;
 mod installing;
 mod parts;
+mod passes;
 mod prober;
+mod replaying;
+mod rounds;
 mod seen;
 #[cfg(test)]
 mod tests;
 mod trying;
 
+pub use clearing::clear;
 pub use draining::drain;
 pub use installing::{Installed, install};
 pub use prober::WorldProber;
+pub use rounds::{Settled, settle};

@@ -11,7 +11,7 @@ ghost use Rattle.world_defs.specs.World.{fabric_of, host_count};
 ghost use Rattle.world_defs.specs.Examples.{setup_routes, setup_adoption};
 
 use super::*;
-use fab_world::{Fabric, Fault, RouteSet, World};
+use fab_world::{Event, Fabric, Fault, RouteSet, World};
 use net_defs::{Answer, End, Route, Vertex, Walk};
 use probe::Prober;
 use std::alloc::{AllocError, Global};
@@ -242,5 +242,106 @@ fn a_host_whose_part_is_lost_has_no_table(rt: HostRuntime) -> Result<(), Fail> {
     let came = installed(alloc, world, set);
     assert!(rt; planned.is_ok());
     assert!(rt; came == Some((of_two(1), None, of_two(2), 3)));
+    Ok(())
+}
+
+// Host a sends host b a message whose frame is lost when it is first injected, and the world is settled.
+fn settle_a_loss(alloc: Global, w: &mut World) -> Result<Settled, AllocError>
+    requires adopted { w.old.adopted ≡ Some setup_adoption }
+    requires idle { is_idle w.old.links ≡ true }
+    requires hosts { host_count w.old ≡ 2 }
+{
+    install(alloc, w, &[0, 1], 1)?;
+    w.step(
+        alloc,
+        Event::Begin {
+            host: 0,
+            port: 0,
+            sends: 1,
+            recvs: 0,
+        },
+    )?;
+    w.step(
+        alloc,
+        Event::Begin {
+            host: 1,
+            port: 1,
+            sends: 0,
+            recvs: 1,
+        },
+    )?;
+    w.step(
+        alloc,
+        Event::Provide {
+            host: 1,
+            port: 1,
+            size: 4,
+            prio: 0,
+        },
+    )?;
+    w.step(
+        alloc,
+        Event::Send {
+            host: 0,
+            port: 0,
+            dest: 1,
+            dport: 1,
+            prio: 0,
+            len: 3,
+            seed: 65,
+        },
+    )?;
+    w.plan(1, Fault::Lose)?;
+    settle(alloc, w)
+}
+
+// What that comes to in a world that began so: also how many injections there were.
+fn settled_loss(alloc: Global, mut world: World, set: RouteSet) -> Option<(Settled, u64)>
+    requires fabric { fabric_of world ≡ two_hosts }
+    requires hosts { host_count world ≡ 2 }
+    requires idle { is_idle world.links ≡ true }
+    requires set { set ≡ setup_routes }
+{
+    let adopted = adopt(alloc, &mut world, set);
+    let came = match adopted {
+        Ok(()) => settle_a_loss(alloc, &mut world),
+        Err(wanting) => Err(wanting),
+    };
+    let injected = world.injected();
+    world.end();
+    match came {
+        Ok(settled) => Some((settled, injected)),
+        Err(_) => None,
+    }
+}
+
+// So many rounds without a reset, and nothing is left.
+const fn settled_in(rounds: u64) -> Settled {
+    Settled {
+        rounds,
+        resets: 0,
+        unacked: 0,
+    }
+}
+
+#[test]
+fn a_lost_frame_comes_in_a_second_round(rt: HostRuntime) -> Result<(), Fail> {
+    let alloc = rt.alloc();
+    let set = routes(alloc)?;
+    let fabric = two_hosts(alloc)?;
+    let world = World::new(alloc, fabric)?;
+    let came = settled_loss(alloc, world, set);
+    assert!(rt; came == Some((settled_in(2), 5)));
+    Ok(())
+}
+
+#[test]
+fn a_settle_with_nothing_to_do_takes_one_round(rt: HostRuntime) -> Result<(), Fail> {
+    let alloc = rt.alloc();
+    let fabric = two_hosts(alloc)?;
+    let mut world = World::new(alloc, fabric)?;
+    let came = settle(alloc, &mut world);
+    world.end();
+    assert!(rt; came.ok() == Some(settled_in(1)));
     Ok(())
 }

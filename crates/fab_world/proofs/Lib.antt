@@ -4,4 +4,5 @@ pub mod Injecting
 pub mod Moments
 pub mod SameRoutes
 pub mod Sets
+pub mod Summing
 pub mod TwoHosts

@@ -17,7 +17,7 @@ use Rattle.world_defs.specs.Table.{Adoption, whole_table}
 use Rattle.world_defs.specs.Node.{Outgoing}
 use Rattle.world_defs.specs.World.{WorldState, fabric_of, host_count, node_at, new_world, planned, without_fault, with_fault, adopted_by}
 use Rattle.world_defs.specs.Step.{sent_out, fault_on, struck_by, fault_strikes, planned_strikes, step, after_all}
-use Rattle.world_laws.proofs.Shapes.{step-kept, after_all-kept, new-world, planned-world, adopted-world}
+use Rattle.world_laws.proofs.Shapes.{step-kept, after_all-kept, new-world, new-senders, planned-world, planned-senders, adopted-world, adopted-senders}
 use Rattle.world_laws.proofs.Leaves.{Follows, FollowsCalls, step-leaves}
 use Rattle.world_defs.specs.EightBits.{IsByteFault}
 use Rattle.fab_world.specs.Adopting.{IsAdoptable, IsSetOfHosts}
@@ -127,6 +127,7 @@ pub step-moment : (w : WorldState) (e : Event) → IsMoment w → IsMoment (step
 step-moment w e m = record {
   fabric = subst IsFabric (sym (step-kept w e).net) m.fabric;
   world = (step-kept w e).world m.world;
+  senders = (step-kept w e).senders m.senders;
   plan = step-leaves StaysFair follows-fair calls-fair w e m.plan;
   adopted = set-stays (host_count w) (host_count (step w e).1) w.adopted (step w e).1.adopted (step-hosts w e m) (step-adopted w e) m.adopted;
 }
@@ -155,10 +156,10 @@ step-later w v e (Ok x) is err = (e ∷ [], sym (ap (λ p. p.1) is))
 step-later w v e (Err y) is err = err
 
 pub new-moment : (n : Network) → IsFabric n → IsMoment (new_world n)
-new-moment n f = record { fabric = f; world = new-world n; plan = tt; adopted = tt }
+new-moment n f = record { fabric = f; world = new-world n; senders = new-senders n; plan = tt; adopted = tt }
 
 pub planned-moment : (w : WorldState) (ahead : ℕ) (fault : Fault) → IsByteFault fault → IsMoment w → IsMoment (planned w ahead fault).1
-planned-moment w ahead fault low m = record { fabric = m.fabric; world = planned-world w ahead fault m.world; plan = with-fair (w.injected + ahead) fault w.plan low m.plan; adopted = m.adopted }
+planned-moment w ahead fault low m = record { fabric = m.fabric; world = planned-world w ahead fault m.world; senders = planned-senders w ahead fault m.senders; plan = with-fair (w.injected + ahead) fault w.plan low m.plan; adopted = m.adopted }
 
 -- the world after a plan, or after one that wanted memory
 pub plan-later : {E : Type 0} (w v : WorldState) (ahead : ℕ) (fault : Fault) (r : Result ℕ E) → IsByteFault fault → IsMoment w → IfOk r (λ number. planned w ahead fault ≡ (number, v)) → OnErr r (v ≡ w) → IsMoment v × (fabric_of v ≡ fabric_of w)
@@ -174,6 +175,7 @@ adopted-moment : (w : WorldState) (mapper : ℕ) (routes : List Route) → IsMom
 adopted-moment w mapper routes m low up may = record {
   fabric = m.fabric;
   world = adopted-world w mapper routes m.world;
+  senders = adopted-senders w mapper routes m.senders;
   plan = m.plan;
   adopted = subst (λ k. IsSetOfHosts k (record { mapper = mapper; epoch = 1; routes = routes })) (sym (adopted-hosts w mapper routes)) (set-of-hosts (fabric_of w) (host_count w) mapper 1 routes m.fabric m.world.hosts low up may);
 }

@@ -9,7 +9,7 @@ use Rattle.world_defs.specs.Table.{Adoption}
 use Rattle.world_defs.specs.World.{WorldState, fabric_of, host_count}
 use Rattle.world_defs.specs.Step.{after_all}
 use Rattle.world_defs.specs.EightBits.{HasByteFaults}
-use Rattle.world_laws.specs.Shape.{IsWorld}
+use Rattle.world_laws.specs.Shape.{IsWorld, HasSenders}
 use Rattle.faulty_links.specs.Held.{LinksAndPlan}
 use Rattle.client_host.specs.Held.{IsFromHosts}
 use Rattle.world_hosts.specs.Known.{HostsState}
@@ -29,10 +29,11 @@ world_of p hosts adopted = record {
   harmed = p.harmed;
 }
 
--- What a world keeps: its fabric is one, it is a world of that, planned flips have patterns of eight bits, and adopted routes are of its hosts.
+-- What a world keeps: its fabric is one, it is a world of that, the numbers of each connection are in order, planned flips have patterns of eight bits, and adopted routes are of its hosts.
 pub record IsMoment (w : WorldState) : Type 0 where
   pub fabric : IsFabric (fabric_of w)
   pub world : IsWorld w
+  pub senders : HasSenders w
   pub plan : HasByteFaults w
   pub adopted : IfSome w.adopted (IsSetOfHosts (host_count w))
 

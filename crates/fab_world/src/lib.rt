@@ -17,12 +17,14 @@
 //! | `adopted` | the adopted routes, and the parts of them |
 //! | `machine` | links and hosts, and each event of theirs |
 //! | `world` | the world: what it keeps, and every event |
+//! | `unacked` | how many fragments aren't acknowledged |
 #![tactic(auto)]
 
 mod adopted;
 mod machine;
 #[cfg(test)]
 mod tests;
+mod unacked;
 mod world;
 
 pub use adopted::AdoptRefusal;

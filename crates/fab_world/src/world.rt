@@ -1,6 +1,6 @@
 //! The world.
 
-ghost use Rattle.std.specs.Prelude.{◌≡◌, ◌≤◌, ◌<◌, ℕ, length, is_some, option_map, Some, None, IfOk, IfSome, IfNone, OnOk, OnErr};
+ghost use Rattle.std.specs.Prelude.{◌≡◌, ◌≤◌, ◌<◌, ◌^◌, ℕ, length, is_some, option_map, Some, None, IfOk, IfSome, IfNone, OnOk, OnErr};
 ghost use Rattle.net_defs.specs.Route.{channel_from};
 ghost use Rattle.link_defs.specs.Channel.{channel_count, channel_tail, channel_head};
 ghost use Rattle.link_defs.specs.Hops.{total_hops};
@@ -8,7 +8,7 @@ ghost use Rattle.link_defs.specs.Links.{packet_in, is_idle};
 ghost use Rattle.link_defs.specs.Fault.{next_limbo};
 ghost use Rattle.link_model.specs.Full.{IsNextFull};
 ghost use Rattle.port_graph.specs.Routes.{HandsBack};
-ghost use Rattle.world_defs.specs.Node.{to_send, peer_at, port_at};
+ghost use Rattle.world_defs.specs.Node.{to_send, peer_at, port_at, unacknowledged_to};
 ghost use Rattle.world_defs.specs.Table.{active_epoch};
 ghost use Rattle.world_defs.specs.World.{fabric_of, host_count, new_world, node_at, planned, adopted_by};
 ghost use Rattle.world_defs.specs.EightBits.{IsByteFault};
@@ -221,6 +221,23 @@ impl World {
         ensures { result ≡ self.now.harmed }
     {
         self.machine.links.harmed()
+    }
+
+    /// How many faults are planned.
+    pub fn planned(&self) -> u64
+        ensures count { result ≡ length self.now.plan }
+        ensures few { result < 2 ^ 63 }
+    {
+        self.machine.links.planned()
+    }
+
+    /// How many fragments of a host to a peer aren't acknowledged, sent or not.
+    pub fn unacked_to(&self, host: u16, peer: u16) -> u32
+        requires there { IsHostOf self.now host }
+        requires peer { IsHostOf self.now peer }
+        ensures { result ≡ unacknowledged_to (node_at self.now host) peer }
+    {
+        self.machine.hosts.unacked(host, peer)
     }
 
     /// Whether a host has something to send.

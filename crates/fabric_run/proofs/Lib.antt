@@ -1,4 +1,3 @@
-pub mod Built
 pub mod Endings
 pub mod Promises
 pub mod Writing

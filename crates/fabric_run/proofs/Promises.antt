@@ -5,7 +5,6 @@ use Rattle.net_defs.specs.Network.{Network, IsFabric}
 use Rattle.net_defs.proofs.Distinct.{all-weaker}
 use Rattle.map_defs.specs.NetMap.{NetMap}
 use Rattle.link_defs.specs.Links.{is_idle}
-use Rattle.fab_text.specs.Line.{lines_left}
 use Rattle.fab_text.specs.Fault.{FirstFault, and_then}
 use Rattle.journal_defs.specs.declared.entry.Entry.{Entry}
 use Rattle.run_defs.specs.declared.line.MapWords.{MapWords}
@@ -30,10 +29,10 @@ use Rattle.fab_script.proofs.Ranged.{reading_ranged}
 use Rattle.act_laws.specs.Laws.{IsActOf}
 use Rattle.act_laws.proofs.Reaching.{run_has_no_cycle}
 use Rattle.install_laws.proofs.Lines.{line-true}
+use Rattle.settle_lines.proofs.Lines.{line-true as settled-true}
 use Rattle.print_laws.proofs.Pieces.{complete_maps_read_back}
 use Rattle.script_laws.proofs.Said.{said-command, said-act}
 use Rattle.sound_laws.proofs.Sound.{always_promised}
-use Rattle.fabric_run.specs.Built.{built_only, first_unbuilt}
 use Rattle.fabric_run.specs.Reading.{AcceptedText, reading_from, reading}
 use Rattle.fabric_run.specs.Promise.{IsPromised, DeepMapsAreComplete, InstalledLinesAreTrue}
 
@@ -46,21 +45,19 @@ record IsOver (a : AcceptedText) : Type 0 where
 is-over : (text : List ℕ) (a : AcceptedText) → reading text ≡ Ok a → IsOver a
 is-over text a e = by (fabric_reading text) refl e
   where
-    of : (t : FabricText) → fabric_reading text ≡ Ok t → (o : Option ℕ) (r : Result (List Command) FirstFault) → script_reading t.fabric t.line (drop t.next text) ≡ r
-        → and_then (built_only o r) (λ cs. Ok (record { network = t.fabric; commands = cs })) ≡ Ok a → IsOver a
-    of t f None (Ok cs) g e =
+    of : (t : FabricText) → fabric_reading text ≡ Ok t → (r : Result (List Command) FirstFault) → script_reading t.fabric t.line (drop t.next text) ≡ r
+        → and_then r (λ cs. Ok (record { network = t.fabric; commands = cs })) ≡ Ok a → IsOver a
+    of t f (Ok cs) g e =
         let same : record { network = t.fabric; commands = cs } ≡ a = cc in
         subst IsOver same (record {
           fabric = reading-fabric text t f;
           named = reading-named text t f;
           said = reading_ranged t.fabric t.line (drop t.next text) (Ok cs) g;
         })
-    of t f None (Err k) g e = cc
-    of t f (Some line) (Ok cs) g e = cc
-    of t f (Some line) (Err k) g e = cc
+    of t f (Err k) g e = cc
 
     by : (r : Result FabricText FirstFault) → fabric_reading text ≡ r → and_then r (reading_from text) ≡ Ok a → IsOver a
-    by (Ok t) f e = of t f (first_unbuilt (lines_left (record { number = t.line + 1; text = drop t.next text }))) (script_reading t.fabric t.line (drop t.next text)) refl e
+    by (Ok t) f e = of t f (script_reading t.fabric t.line (drop t.next text)) refl e
     by (Err k) f e = cc
 
 -- what holds of each holds of each of the first
@@ -129,6 +126,7 @@ text_promised text a e =
           let is : IsSaid n (Install tries) = all-nth (IsSaid n) cs k (Install tries) o.said at in
           let some : 1 ≤ tries = is.0 in
           (installed k out rest s next tries acked total r at does).unharmed (omega (arith, some)) left same;
+      settled = λ k out rest s next rounds resets unacked r at does. settled-true n (take k cs) out rest s next rounds resets unacked o.fabric (acts k) r does;
       sound = (promised 0).sound;
       no_cycle = λ k out last r. run_has_no_cycle n (take k cs) out last o.fabric (acts k) r;
     }

@@ -1,4 +1,3 @@
-pub mod Built
 pub mod Ends
 pub mod Promise
 pub mod Reading

@@ -8,8 +8,8 @@ use Rattle.map_defs.specs.Sameness.{IsMapOfPart}
 use Rattle.map_defs.specs.Dependencies.{IsBefore, HasNoCycle}
 use Rattle.world_defs.specs.World.{WorldState, last_count}
 use Rattle.world_defs.specs.Sound.{installed_channels}
-use Rattle.run_defs.specs.declared.command.Command.TheVariants.{Map, Install}
-use Rattle.run_defs.specs.declared.line.Line.TheVariants.{Installed}
+use Rattle.run_defs.specs.declared.command.Command.TheVariants.{Map, Install, Settle}
+use Rattle.run_defs.specs.declared.line.Line.TheVariants.{Installed, Settle as SettleLine}
 use Rattle.run_defs.specs.declared.line.MapWords.{MapWords}
 use Rattle.run_defs.specs.declared.line.MapWords.TheVariants.{Complete}
 use Rattle.run_defs.specs.Mapped.{IsMapped}
@@ -20,6 +20,7 @@ use Rattle.run_defs.specs.Run.{Does, IsRun}
 use Rattle.run_defs.specs.Headline.{HasPrinted, IsQuiet, AlwaysSound}
 use Rattle.map_text.specs.Reading.{map_reading}
 use Rattle.install_laws.specs.Runs.{IsInstalledLine}
+use Rattle.settle_lines.specs.Lines.{IsSettledLine}
 use Rattle.fabric_run.specs.Reading.{AcceptedText}
 
 -- A map is the mapper's part of the fabric, and its lines are read as that map.
@@ -66,12 +67,20 @@ UnharmedInstallationsCountAll a =
     → Does s (Install tries) (OneLine (Installed acked total) ∷ rest) next
     → next.world.injected < last_count → next.world.harmed ≡ s.world.harmed → acked ≡ total
 
--- The promise of an accepted text: its maps under the word complete are true, deep maps of a quiet fabric say so, each count of installed hosts has its cause, every moment is sound, and the installed routes have no cycle.
+-- behind first commands of a text, where the next one is a settle, what its line says is true; and where injections are left behind it, the world is settled
+abbrev pub SettledLinesAreTrue : AcceptedText → Type 0
+SettledLinesAreTrue a =
+    (count : ℕ) (out rest : List Piece) (s next : SessionState) (rounds resets unacked : ℕ)
+    → IsRun a.network (take count a.commands) out s → slice_get a.commands count ≡ Some Settle
+    → Does s Settle (OneLine (SettleLine rounds resets unacked) ∷ rest) next → IsSettledLine s next rounds resets unacked
+
+-- The promise of an accepted text: its maps under the word complete are true, deep maps of a quiet fabric say so, each count of installed hosts has its cause, each settle ends settled, every moment is sound, and the installed routes have no cycle.
 pub record IsPromised (a : AcceptedText) : Type 0 where
   pub complete : CompleteMapsAreTrue a
   pub deep : DeepMapsAreComplete a
   pub printed : DeepMapsArePrinted a
   pub installed : InstalledLinesAreTrue a
   pub unharmed : UnharmedInstallationsCountAll a
+  pub settled : SettledLinesAreTrue a
   pub sound : AlwaysSound a.network
   pub no_cycle : RoutesHaveNoCycle a

@@ -1,17 +1,11 @@
 -- What a text says: a fabric, and then the commands of its script; or its first fault.
-use Rattle.std.specs.Prelude.{ℕ, ◌+◌, List, drop, Result, Ok}
+use Rattle.std.specs.Prelude.{ℕ, List, drop, Result, Ok}
 use Rattle.net_defs.specs.Network.{Network}
-use Rattle.fab_text.specs.Line.{lines_left}
 use Rattle.fab_text.specs.Fault.{FirstFault, and_then}
 use Rattle.fabric_file.specs.declared.reading.FabricText.{FabricText}
 use Rattle.fabric_file.specs.Reading.{fabric_reading}
 use Rattle.run_defs.specs.declared.command.Command.{Command}
 use Rattle.run_defs.specs.Script.{script_reading}
-use Rattle.fabric_run.specs.Built.{first_unbuilt, built_only}
-
--- the commands of a script that follows so many lines, each of them built
-abbrev pub commands_reading : Network → ℕ → List ℕ → Result (List Command) FirstFault
-commands_reading n line text = built_only (first_unbuilt (lines_left (record { number = line + 1; text = text }))) (script_reading n line text)
 
 -- A fabric, and the commands of a script over it.
 pub record AcceptedText : Type 0 where
@@ -20,7 +14,7 @@ pub record AcceptedText : Type 0 where
 
 -- what a text says whose fabric part says this
 abbrev pub reading_from : List ℕ → FabricText → Result AcceptedText FirstFault
-reading_from text t = and_then (commands_reading t.fabric t.line (drop t.next text)) (λ commands. Ok (record { network = t.fabric; commands = commands }))
+reading_from text t = and_then (script_reading t.fabric t.line (drop t.next text)) (λ commands. Ok (record { network = t.fabric; commands = commands }))
 
 -- What a text says, where it is accepted; or else its first fault.
 abbrev pub reading : List ℕ → Result AcceptedText FirstFault

@@ -14,7 +14,6 @@
 //! |---|---|
 //! | `top` | `run`, and how it ends |
 //! | `reading` | what a text says |
-//! | `unbuilt` | the command that is not built yet, `settle` |
 //! | `promise` | what every accepted text promises |
 //! | `status`, `ran` | how a run ended, and what it hands back |
 #![tactic(auto)]
@@ -26,7 +25,6 @@ mod status;
 #[cfg(test)]
 mod tests;
 mod top;
-mod unbuilt;
 
 pub use ran::Ran;
 pub use run_session::{Session, World};

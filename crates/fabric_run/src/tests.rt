@@ -257,44 +257,22 @@ fn an_installation_is_reported(rt: HostRuntime) -> Result<(), Fail> {
     expect(&rt, &text, Status::Done, report)
 }
 
+// A set-up of two hosts, a message from a to b that waits for a token of its size, and then one of that.
 #[test]
-fn a_command_that_is_not_built_is_no_command(rt: HostRuntime) -> Result<(), Fail> {
-    for (script, line, kind, written) in [
-        (
-            "settle\nend\n",
-            7,
-            FaultKind::BadWord,
-            "refused 7 badword\n",
-        ),
-        (
-            "walk a\nsettle x\n",
-            8,
-            FaultKind::BadWord,
-            "refused 8 badword\n",
-        ),
-        (
-            "settle 1\nwalk c\nend\n",
-            7,
-            FaultKind::BadWord,
-            "refused 7 badword\n",
-        ),
-        (
-            "walk c\nsettle\nend\n",
-            7,
-            FaultKind::NoVertex,
-            "refused 7 novertex\n",
-        ),
-        (
-            "end\nsettle\n",
-            8,
-            FaultKind::AfterEnd,
-            "refused 8 afterend\n",
-        ),
-    ] {
-        let text = joined(rt.alloc(), TWO_HOSTS, script)?;
-        expect(&rt, &text, refused(line, kind), written.as_bytes())?;
-    }
-    Ok(())
+fn a_settle_is_told_by_rounds_and_what_is_left(rt: HostRuntime) -> Result<(), Fail> {
+    let script = "map a 4 1\nroutes\ninstall 1\nopen a 0 1 0\nopen b 1 0 2\nprovide b 1 4 1\n\
+        send a 0 b 1 0 2 1\nsettle\npoll b 1\nprovide b 1 4 0\nsettle\npoll b 1\nend\n";
+    let text = joined(rt.alloc(), TWO_HOSTS, script)?;
+    let report = b"map a complete asks 31 packets 62\n\
+        host a\nswitch #0 core\nhost b\ncable a 0 #0 0\ncable #0 +3 b 0\nendmap\n\
+        routes 2\nroute a b +3\nroute b a -3\n\
+        rank a 0 1\nrank #0 0 3\nrank #0 +3 3\nrank b 0 0\nendroutes\n\
+        installed 2 of 2\ntable a active\ntable b active\n\
+        open a 0 done\nopen b 1 done\nprovide b 1 token 0\nsend a 0 token 0\n\
+        settle rounds 1 resets 0 unacked 1\npoll b 1 nothing\nprovide b 1 token 1\n\
+        settle rounds 1 resets 0 unacked 0\npoll b 1 received token 1 from a 0 prio 0 len 2 bytes 0102\n\
+        end injected 68 dropped 59\n";
+    expect(&rt, &text, Status::Done, report)
 }
 
 // How many packets the world of a session had injected, which is ended.

@@ -8,7 +8,6 @@ ghost use Rattle.fab_outer.specs.Whole.{IsLonger};
 ghost use Rattle.world_defs.specs.World.{fabric_of};
 ghost use Rattle.run_defs.specs.Session.{new_session};
 ghost use Rattle.fab_script.specs.Ranges.{IsCommandOf};
-ghost use Rattle.run_session.specs.Obeyed.{IsBuilt};
 ghost use Rattle.fabric_run.specs.Reading.{AcceptedText, reading};
 ghost use Rattle.fabric_run.specs.Promise.{IsPromised};
 ghost use Rattle.fabric_run.specs.Ends.{IsForm, Came, IsAccepted, IsRefused, IsReported, IsWriteCut, IsMemoryCut, refusal_text, own_answer, may_hold, input_limit, ReportEnds, RefusalEnds, TextEnds, InputEnds};
@@ -75,7 +74,8 @@ pub fn run<S: Source, K: Sink>(alloc: Global, words: &[Word], input: &mut S, out
     ensures no_session { may_hold result.status ≡ false → result.session ≡ None }
 
     // Every accepted text, and so every front part of its script, keeps the promise: a map under the word complete is right, a deep one of
-    // a quiet fabric says so, each count of installed hosts has its cause, every moment is sound, and the installed routes have no cycle.
+    // a quiet fabric says so, each count of installed hosts has its cause, each settle ends settled, every moment is sound, and the
+    // installed routes have no cycle.
     ensures promise { (text : List ℕ) (a : AcceptedText) → IsAccepted text a → IsPromised a }
 {
     promised_texts();
@@ -131,7 +131,6 @@ fn run_text<K: Sink>(alloc: Global, text: &[u8], out: &mut K) -> Ran
 // Runs a script over its fabric, in a session of its own.
 fn run_script<K: Sink>(alloc: Global, accepted: Accepted, out: &mut K) -> Ran
     requires over { AllByRecursion (IsCommandOf accepted.network) accepted.commands }
-    requires built { AllByRecursion IsBuilt accepted.commands }
     ensures ends { ReportEnds accepted (K.taken out.old) (K.taken out.new) (K.faults out.old) (K.faults out.new) result.status result.session }
     ensures later { K.faults out.old ≤ K.faults out.new }
 {
@@ -151,7 +150,6 @@ fn run_commands<K: Sink>(
 ) -> Ran
     requires fresh { session ≡ new_session (fabric_of session.world) }
     requires over { AllByRecursion (IsCommandOf (fabric_of session.world)) commands.now }
-    requires built { AllByRecursion IsBuilt commands.now }
     ensures ends { ReportEnds (record { network = fabric_of session.world; commands = commands.now })
         (K.taken out.old) (K.taken out.new) (K.faults out.old) (K.faults out.new) result.status result.session }
     ensures later { K.faults out.old ≤ K.faults out.new }

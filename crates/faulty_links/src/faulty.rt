@@ -1,6 +1,6 @@
 //! Links with a plan of faults and counts: reading them.
 
-ghost use Rattle.std.specs.Prelude.{◌≡◌, ◌<◌, ◌≤◌, ℕ, length, Some, None, option_map, IfOk, IfSome, IfNone};
+ghost use Rattle.std.specs.Prelude.{◌≡◌, ◌<◌, ◌≤◌, ◌^◌, ℕ, length, Some, None, option_map, IfOk, IfSome, IfNone};
 ghost use Rattle.net_defs.specs.Network.{IsFabric};
 ghost use Rattle.net_defs.specs.Route.{channel_from};
 ghost use Rattle.link_defs.specs.Channel.{channel_count, channel_tail, channel_head};
@@ -138,6 +138,14 @@ impl FaultyLinks {
         ensures most { result ≤ self.now.struck }
     {
         self.counts.harmed()
+    }
+
+    /// How many faults are planned: as many as fit into memory.
+    pub fn planned(&self) -> u64
+        ensures count { result ≡ length self.now.plan }
+        ensures few { result < 2 ^ 63 }
+    {
+        self.plan.count()
     }
 
     /// At least the hops that all packets in channels have left: so many advances at most change something before none does.

@@ -1,6 +1,6 @@
 //! The planned faults.
 
-ghost use Rattle.std.specs.Prelude.{◌≡◌, [], nat_eq, OnOk, OnErr};
+ghost use Rattle.std.specs.Prelude.{◌≡◌, ◌<◌, ◌^◌, [], length, nat_eq, OnOk, OnErr};
 ghost use Rattle.std.specs.Map.{lookup};
 ghost use Rattle.world_defs.specs.World.{with_fault, without_fault};
 
@@ -31,6 +31,14 @@ impl Plan {
         Plan {
             faults: BTreeMap::new(alloc),
         }
+    }
+
+    /// How many there are: as many as fit into memory.
+    pub(crate) fn count(&self) -> u64
+        ensures count { result ≡ length self.now }
+        ensures few { result < 2 ^ 63 }
+    {
+        self.faults.len() as u64
     }
 
     /// The fault for an injection.

@@ -1,13 +1,14 @@
 -- That each command is obeyed, by the text that it printed.
-use Rattle.std.proofs.Common.{◌≡◌, ℕ, ◌∷◌, [], ℤ, List, length, Some, None, true, false, refl, sym, ◌∙◌, ap, append-nil, if◌then◌else◌}
+use Rattle.std.proofs.Common.{◌≡◌, ℕ, min, ◌∷◌, [], ℤ, List, length, Some, None, true, false, refl, sym, ◌∙◌, ap, append-nil, if◌then◌else◌}
 use Rattle.link_defs.specs.Links.{is_idle}
 use Rattle.net_defs.specs.Route.{place}
-use Rattle.world_defs.specs.World.{WorldState, fabric_of, planned}
+use Rattle.world_defs.specs.World.{WorldState, fabric_of, planned, last_count}
+use Rattle.world_defs.specs.Settle.{settle, unacknowledged_in}
 use Rattle.run_defs.specs.declared.command.Command.{Command}
-use Rattle.run_defs.specs.declared.command.Command.TheVariants.{Walk, Map, Routes, Plan, Finish}
+use Rattle.run_defs.specs.declared.command.Command.TheVariants.{Walk, Map, Routes, Plan, Settle, Finish}
 use Rattle.run_defs.specs.declared.command.PlanKind.{PlanKind}
 use Rattle.run_defs.specs.declared.line.Line.{Line}
-use Rattle.run_defs.specs.declared.line.Line.TheVariants.{Walk as WalkLine, Map as MapLine, MapBusy, NoMap, PlanAt, Finish as FinishLine}
+use Rattle.run_defs.specs.declared.line.Line.TheVariants.{Walk as WalkLine, Map as MapLine, MapBusy, NoMap, PlanAt, Settle as SettleLine, Finish as FinishLine}
 use Rattle.run_defs.specs.Output.{OneLine, lines}
 use Rattle.run_defs.specs.Session.{SessionState, LastMap, LastRoutes, complete_map}
 use Rattle.run_defs.specs.Outcome.{fault_of, outcome, says_only, routes_refused}
@@ -35,6 +36,12 @@ pub planned_so : (s : SessionState) (ahead : ℕ) (kind : PlanKind) (w : WorldSt
 planned_so s ahead kind w text same e =
     one s (Plan ahead kind) (PlanAt (planned s.world ahead (fault_of kind)).0) (record s { world = w }) text
     (ap (λ v. Some (record { output = OneLine (PlanAt (planned s.world ahead (fault_of kind)).0) ∷ []; after = record s { world = v } })) (sym same)) e
+
+pub settled_so : (s : SessionState) (w : WorldState) (text : List ℕ) → w ≡ (settle s.world).world
+    → text ≡ line_text (fabric_of s.world) (SettleLine (settle s.world).rounds (min (settle s.world).resets last_count) (unacknowledged_in (settle s.world).world)) → IsObeyed s Settle (record s { world = w }) text
+settled_so s w text same e =
+    let l : Line = SettleLine (settle s.world).rounds (min (settle s.world).resets last_count) (unacknowledged_in (settle s.world).world) in
+    one s Settle l (record s { world = w }) text (ap (λ v. Some (record { output = OneLine l ∷ []; after = record s { world = v } })) (sym same)) e
 
 pub busy : (s : SessionState) (host depth tries : ℕ) (text : List ℕ) → is_idle s.world.links ≡ false → text ≡ line_text (fabric_of s.world) (MapBusy host) → IsObeyed s (Map host depth tries) s text
 busy s host depth tries text e t =

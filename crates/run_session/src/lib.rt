@@ -15,6 +15,7 @@
 //!   Begin, Close, Poll     one event of a client --> what it was answered, as a line; so do Provide and Send
 //!   Tokens                 the port's tokens, one by one --> where each is; or tokens refused notopen
 //!   Step                   one event --> what it did; no event where the port that it names has no cable
+//!   Settle                 a clear, and rounds of sending again --> its line
 //! ```
 //!
 //! A session's type keeps what the routes rest on (`specs/Kept.antt`): a last map that says complete is its mapper's part of the fabric.
@@ -22,7 +23,7 @@
 //!
 //! | module | has |
 //! |---|---|
-//! | `session` | the session, and every command but `settle`, which isn't built yet |
+//! | `session` | the session, and every command |
 //! | `last` | the last map and the last routes |
 //! | `telling` | the texts of commands of one line |
 //! | `mapping` | a map made over a world, with its text |
@@ -31,6 +32,7 @@
 //! | `copying` | another set of the same routes |
 //! | `calling` | a client's call, and where tokens are, as texts |
 //! | `stepping` | a single event, and its text |
+//! | `settling` | a settle, and its text |
 #![tactic(auto)]
 
 mod calling;
@@ -40,6 +42,7 @@ mod last;
 mod mapping;
 mod routing;
 mod session;
+mod settling;
 mod stepping;
 mod telling;
 #[cfg(test)]

@@ -7,7 +7,7 @@ ghost use Rattle.run_defs.specs.Session.{new_session};
 ghost use Rattle.run_defs.specs.declared.command.Command.TheVariants.{Walk, Plan, Finish};
 ghost use Rattle.fab_script.specs.Ranges.{IsCommandOf};
 ghost use Rattle.run_session.specs.Kept.{IsKept};
-ghost use Rattle.run_session.specs.Obeyed.{IsObeyed, IsBuilt, IsOverSame};
+ghost use Rattle.run_session.specs.Obeyed.{IsObeyed, IsOverSame};
 
 mod calls;
 mod maps;
@@ -70,7 +70,6 @@ impl Session {
         c: &Command,
     ) -> Result<(Session, Vec<u8>), (Session, AllocError)>
         requires command { IsCommandOf (fabric_of self.world) c.now }
-        requires built { IsBuilt c.now }
         ensures ok { IfOk result (λ r. IsObeyed self c.now r.0 r.1.items) }
         ensures fabric { IfOk result (λ r. fabric_of r.0.world ≡ fabric_of self.world) }
         ensures err { IfErr result (λ r. fabric_of r.0.world ≡ fabric_of self.world) }
@@ -109,7 +108,7 @@ impl Session {
             Command::Plan { ahead, kind } => self.plan(alloc, *ahead, *kind),
             Command::Step(line) => self.step(alloc, *line),
             Command::Finish => self.finish(alloc),
-            Command::Settle => unreachable!(),
+            Command::Settle => self.settle(alloc),
         }
     }
 

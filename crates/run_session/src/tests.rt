@@ -7,7 +7,6 @@
 ghost use Rattle.std.specs.Prelude.{◌≤◌, length};
 ghost use Rattle.world_defs.specs.World.{fabric_of};
 ghost use Rattle.fab_script.specs.Ranges.{IsCommandOf};
-ghost use Rattle.run_session.specs.Obeyed.{IsBuilt};
 
 use super::*;
 use net_defs::{End, Vertex, Walk};
@@ -102,7 +101,6 @@ fn two_hosts(alloc: Global) -> Result<Fabric, Fail> {
 // Does a command, and puts its text behind what was printed. A session that wants memory is ended.
 fn obey(alloc: Global, s: Session, c: &Command, printed: &mut Vec<u8>) -> Result<Session, Fail>
     requires command { IsCommandOf (fabric_of s.world) c.now }
-    requires built { IsBuilt c.now }
 {
     match s.exec(alloc, c) {
         Ok((s, text)) => {
@@ -119,7 +117,6 @@ fn obey(alloc: Global, s: Session, c: &Command, printed: &mut Vec<u8>) -> Result
 // Does a command of host a.
 fn obey_host(alloc: Global, s: Session, c: &Command, printed: &mut Vec<u8>) -> Result<Session, Fail>
     requires command { 1 ≤ length (fabric_of s.world).hosts → IsCommandOf (fabric_of s.world) c.now }
-    requires built { IsBuilt c.now }
 {
     if s.world().fabric().hosts() == 0 {
         s.end();

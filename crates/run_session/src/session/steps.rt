@@ -1,16 +1,17 @@
-//! The command of a single event.
+//! The commands of a single event, and of a settle.
 
 ghost use Rattle.std.specs.Prelude.{◌≡◌, IfOk, IfErr, Some};
 ghost use Rattle.world_defs.specs.Step.{step};
 ghost use Rattle.world_defs.specs.World.{fabric_of};
 ghost use Rattle.run_defs.specs.Outcome.{outcome, stepped};
 ghost use Rattle.run_defs.specs.declared.command.Command.{Command};
-ghost use Rattle.run_defs.specs.declared.command.Command.TheVariants.{Step};
+ghost use Rattle.run_defs.specs.declared.command.Command.TheVariants.{Settle, Step};
 ghost use Rattle.fab_script.specs.Ranges.{IsStepOf};
 ghost use Rattle.fab_world.specs.Events.{IsGiven};
 ghost use Rattle.run_session.specs.Obeyed.{IsObeyed, IsOverSame};
 
 use super::Session;
+use crate::settling::settle_text;
 use crate::stepping::{event_of, event_text, idle_text};
 use fab_world::Event;
 use run_defs::StepLine;
@@ -52,6 +53,28 @@ impl Session {
             last_routes,
         } = self;
         let text = event_text(alloc, &mut world, event);
+        let session = Session {
+            world,
+            links,
+            last_map,
+            last_routes,
+        };
+        session.with_text(text)
+    }
+
+    // `settle`
+    pub(crate) fn settle(self, alloc: Global) -> Result<(Session, Vec<u8>), (Session, AllocError)>
+        ensures ok { IfOk result (λ r. IsObeyed self Settle r.0 r.1.items) }
+        ensures fabric { IfOk result (λ r. fabric_of r.0.world ≡ fabric_of self.world) }
+        ensures err { IfErr result (λ r. IsOverSame self r.0) }
+    {
+        let Session {
+            mut world,
+            links,
+            last_map,
+            last_routes,
+        } = self;
+        let text = settle_text(alloc, &mut world);
         let session = Session {
             world,
             links,

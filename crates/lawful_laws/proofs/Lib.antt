@@ -1,0 +1,14 @@
+pub mod Ahead
+pub mod Stuck
+pub mod Bodies
+pub mod Turns
+pub mod Walks
+pub mod Sends
+pub mod Hears
+pub mod Calls
+pub mod Worlds
+pub mod ProbePackets
+pub mod Lawful
+pub mod Flowing
+pub mod Settling
+pub mod WorkedWorlds

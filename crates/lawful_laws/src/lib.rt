@@ -1,0 +1,25 @@
+//! What hosts send on adopted routes is lawful, and lawful traffic is never stuck, after every list of acts that may happen: events, plans of faults,
+//! adoptions of one adoptable set of routes.
+//!
+//! Each law is a function without parameters: its contract is the law, and its body is empty. The statements stand in `specs/`.
+//!
+//! | file of `specs/` | says |
+//! |---|---|
+//! | `Probes` | what the packet of a probe or of a reply is |
+//! | `Lawful` | which packets are lawful, in every reached world |
+//! | `Stuck` | lawful traffic isn't stuck, and runs out in a drain |
+//! | `Moments` | when a settle clears, and when it resets a channel |
+//! | `Examples` | a lawful frame, stuck probes, and a probe that no host reads |
+#![tactic(auto)]
+
+mod flow;
+mod moment;
+mod packet;
+mod probe;
+mod worked;
+
+pub use flow::lawful_traffic;
+pub use moment::resets_of_unlawful_traffic;
+pub use packet::{lawful_limbo, lawful_packets};
+pub use probe::packets_of_probes;
+pub use worked::{one_frame, strange_probe, two_probes};

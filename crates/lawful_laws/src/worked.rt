@@ -1,0 +1,22 @@
+//! Worked examples: `specs/Examples.antt` has the statements.
+
+ghost use Rattle.lawful_laws.specs.Examples.{FrameWorldIsReached, FrameIsAhead, FrameIsLawful, StuckWorldIsReached, ProbesAreStuck, StrangeWorldIsReached, StrangeIsUnread};
+
+/// A frame on its way in a reached world is lawful.
+pub fn one_frame()
+    ensures reached { FrameWorldIsReached }
+    ensures ahead { FrameIsAhead }
+    ensures lawful { FrameIsLawful }
+{}
+
+/// Two probes in a reached world are stuck.
+pub fn two_probes()
+    ensures reached { StuckWorldIsReached }
+    ensures stuck { ProbesAreStuck }
+{}
+
+/// A probe in a reached world that no host reads.
+pub fn strange_probe()
+    ensures reached { StrangeWorldIsReached }
+    ensures unread { StrangeIsUnread }
+{}

@@ -1,0 +1,158 @@
+-- What hearing, giving up, resets and replays leave of a connection: a base rises or the sender stays, more is taken and an acknowledgement owed or nothing is, and no token is provided.
+use Rattle.std.proofs.Common.{◌≡◌, ◌<◌, ℕ, Bool, true, false, List, [], ◌∷◌, get_or, max, nat_lt, nat_le, Option, Some, None, is_some, option_map, refl, sym, ap, ◌∙◌, subst, arith, true≢false, if◌then◌else◌}
+use Rattle.std.specs.Prelude.{find}
+use Rattle.std.proofs.lemmas.Bool.Decides.{nat_tests}
+use Rattle.gm_defs.specs.declared.message.Message.{Message}
+use Rattle.gm_defs.specs.declared.frame.FrameHead.{FrameHead}
+use Rattle.gm_defs.specs.declared.token.Took.{Took}
+use Rattle.gm_defs.specs.declared.token.Took.TheVariants.{NotNext, NoToken, Whole}
+use Rattle.gm_defs.specs.Body.{part_in}
+use Rattle.gm_defs.specs.Connection.{SenderState, is_taken, acknowledged}
+use Rattle.gm_defs.specs.Token.{PortState, Provided, Sending, fits}
+use Rattle.gm_defs.specs.Port.{without_first, send_of, ended_by, finished, taken_by, delivered}
+use Rattle.gm_defs.proofs.Fronts.{both}
+use Rattle.world_defs.specs.Peer.{PeerState, Ticket, new_peer, peer_acknowledged, tickets_finished, peer_after}
+use Rattle.world_defs.specs.Node.{NodeState, peer_at, with_peer, port_at, with_port, given_up}
+use Rattle.world_defs.specs.Hearing.{port_takes, message_of, delivered_after, frame_heard, frame_took, all_finished, hear}
+use Rattle.world_laws.proofs.Lists.{at-set}
+use Rattle.window_laws.proofs.Heard.{IsHeard, quietly, of_frame, of_ack, hear-is}
+
+-- a sender stays, or its base rises
+pub data SenderCalm (s t : SenderState) : Type 0 where
+  same : t ≡ s → SenderCalm s t
+  risen : s.base < t.base → SenderCalm s t
+
+-- as much is taken, and what was owed still is; or more is, and an acknowledgement is owed
+pub data TakerCalm (p q : PeerState) : Type 0 where
+  keeps : q.taken ≡ p.taken → (p.owes ≡ true → q.owes ≡ true) → TakerCalm p q
+  takes : p.taken < q.taken → q.owes ≡ true → TakerCalm p q
+
+-- what no port took before, none takes then
+abbrev pub PortCalm : Option PortState → Option PortState → Type 0
+PortCalm o r = (len prio : ℕ) → port_takes o len prio ≡ false → port_takes r len prio ≡ false
+
+-- a host's connections and ports
+pub record NodeCalm (n m : NodeState) : Type 0 where
+  pub senders : (p : ℕ) → SenderCalm (peer_at n p).sender (peer_at m p).sender
+  pub takers : (p : ℕ) → TakerCalm (peer_at n p) (peer_at m p)
+  pub ports : (port : ℕ) → PortCalm (port_at n port) (port_at m port)
+
+taker-same : (p : PeerState) → TakerCalm p p
+taker-same p = TakerCalm.keeps refl (λ e. e)
+
+pub node-quiet : (n m : NodeState) → m.peers ≡ n.peers → m.ports ≡ n.ports → NodeCalm n m
+node-quiet n m e f = record {
+  senders = λ p. SenderCalm.same (ap (λ l. (get_or l p new_peer).sender) e);
+  takers = λ p. subst (λ l. TakerCalm (peer_at n p) (get_or l p new_peer)) (sym e) (taker-same (peer_at n p));
+  ports = λ port. subst (λ l. PortCalm (port_at n port) (get_or l port None)) (sym f) (λ len prio h. h);
+}
+
+-- one change behind another
+sender-both : (s t u : SenderState) → SenderCalm s t → SenderCalm t u → SenderCalm s u
+sender-both s t u (SenderCalm.same e) (SenderCalm.same f) = SenderCalm.same (f ∙ e)
+sender-both s t u (SenderCalm.same e) (SenderCalm.risen r) = SenderCalm.risen (subst (λ x. x.base < u.base) e r)
+sender-both s t u (SenderCalm.risen r) (SenderCalm.same f) = SenderCalm.risen (subst (λ x. s.base < x.base) (sym f) r)
+sender-both s t u (SenderCalm.risen r) (SenderCalm.risen q) = SenderCalm.risen (omega (arith, r, q))
+
+taker-both : (p q r : PeerState) → TakerCalm p q → TakerCalm q r → TakerCalm p r
+taker-both p q r (TakerCalm.keeps e f) (TakerCalm.keeps g h) = TakerCalm.keeps (g ∙ e) (λ o. h (f o))
+taker-both p q r (TakerCalm.keeps e f) (TakerCalm.takes l o) = TakerCalm.takes (omega (arith, e, l)) o
+taker-both p q r (TakerCalm.takes l o) (TakerCalm.keeps g h) = TakerCalm.takes (omega (arith, l, g)) (h o)
+taker-both p q r (TakerCalm.takes l o) (TakerCalm.takes m s) = TakerCalm.takes (omega (arith, l, m)) s
+
+pub node-both : (n m o : NodeState) → NodeCalm n m → NodeCalm m o → NodeCalm n o
+node-both n m o k l = record {
+  senders = λ p. sender-both (peer_at n p).sender (peer_at m p).sender (peer_at o p).sender (k.senders p) (l.senders p);
+  takers = λ p. taker-both (peer_at n p) (peer_at m p) (peer_at o p) (k.takers p) (l.takers p);
+  ports = λ port len prio h. l.ports port len prio (k.ports port len prio h);
+}
+
+-- the connections with one peer, and one port
+peer-calm : (n : NodeState) (k : ℕ) (q : PeerState) → SenderCalm (peer_at n k).sender q.sender → TakerCalm (peer_at n k) q → NodeCalm n (with_peer n k q)
+peer-calm n k q s t = record {
+  senders = λ p. at-set (λ x y. SenderCalm x.sender y.sender) (λ x. SenderCalm.same refl) n.peers k p q new_peer s;
+  takers = λ p. at-set TakerCalm taker-same n.peers k p q new_peer t;
+  ports = λ port len prio h. h;
+}
+
+port-calm : (n : NodeState) (k : ℕ) (o : Option PortState) → PortCalm (port_at n k) o → NodeCalm n (with_port n k o)
+port-calm n k o c = record {
+  senders = λ p. SenderCalm.same refl;
+  takers = λ p. taker-same (peer_at n p);
+  ports = λ port. at-set PortCalm (λ x len prio h. h) n.ports k port o None c;
+}
+
+-- a frame takes one token at most
+fewer : (f g : Provided → Bool) (rs : List Provided) → is_some (find f rs) ≡ false → is_some (find f (without_first g rs)) ≡ false
+fewer f g [] e = refl
+fewer f g (r ∷ rs) e = by (f r) (g r) refl e (fewer f g rs)
+  where
+    by : (a b : Bool) → f r ≡ a → is_some (if a then Some r else find f rs) ≡ false → (is_some (find f rs) ≡ false → is_some (find f (without_first g rs)) ≡ false) → is_some (find f (if b then rs else r ∷ without_first g rs)) ≡ false
+    by true b t d rest = absurd (true≢false d)
+    by false true t d rest = d
+    by false false t d rest = rw t (rest d)
+
+taken_by-calm : (p : PortState) (h : FrameHead) (part : List ℕ) (o : Option Provided) → PortCalm (Some p) (Some (taken_by p h part o))
+taken_by-calm p h part None len prio e = e
+taken_by-calm p h part (Some r) len prio e = fewer (λ r. fits r.size r.prio len prio) (λ x. fits x.size x.prio h.total h.prio) p.provided e
+
+delivered-calm : (h : FrameHead) (part : List ℕ) (o : Option PortState) → PortCalm o (option_map (λ p. delivered p h part) o)
+delivered-calm h part None len prio e = e
+delivered-calm h part (Some p) len prio e = taken_by-calm p h part _ len prio e
+
+-- a send that is finished takes none
+ended-calm : (p : PortState) (token : ℕ) (o : Option Sending) → PortCalm (Some p) (Some (ended_by p token o))
+ended-calm p token None len prio e = e
+ended-calm p token (Some s) len prio e = e
+
+finished-calm : (token : ℕ) (o : Option PortState) → PortCalm o (option_map (λ p. finished p token) o)
+finished-calm token None len prio e = e
+finished-calm token (Some p) len prio e = ended-calm p token (send_of p token) len prio e
+
+-- a frame
+took-calm : (p : PeerState) (t : Took) (m : Message) → TakerCalm p (peer_after p t m)
+took-calm p NotNext m = TakerCalm.keeps refl (λ o. refl)
+took-calm p NoToken m = TakerCalm.keeps refl (λ o. refl)
+took-calm p Whole m = TakerCalm.takes (omega arith) refl
+
+delivered_after-calm : (n : NodeState) (h : FrameHead) (part : List ℕ) (t : Took) → NodeCalm n (delivered_after n h part t)
+delivered_after-calm n h part NotNext = node-quiet n n refl refl
+delivered_after-calm n h part NoToken = node-quiet n n refl refl
+delivered_after-calm n h part Whole = port-calm n h.dport (option_map (λ p. delivered p h part) (port_at n h.dport)) (delivered-calm h part (port_at n h.dport))
+
+frame-calm : (n : NodeState) (h : FrameHead) (part : List ℕ) (t : Took) → NodeCalm n (frame_heard n h part t).1
+frame-calm n h part t =
+    let q : PeerState = peer_after (peer_at n h.src) t (message_of h part) in
+    node-both n (with_peer n h.src q) (frame_heard n h part t).1 (peer-calm n h.src q (SenderCalm.same refl) (took-calm (peer_at n h.src) t (message_of h part))) (delivered_after-calm (with_peer n h.src q) h part t)
+
+-- an acknowledgement
+acknowledged-calm : (s : SenderState) (k : ℕ) → SenderCalm s (acknowledged s k)
+acknowledged-calm s k = by (is_taken s k) refl
+  where
+    by : (t : Bool) → is_taken s k ≡ t → SenderCalm s (if t then record s { base = k; cursor = max s.cursor k } else s)
+    by true e = let l = (both (nat_lt s.base k) (nat_le k s.top) e).0 in SenderCalm.risen (grind (arith, nat_tests))
+    by false e = SenderCalm.same refl
+
+all_finished-calm : (n : NodeState) (ts : List Ticket) → NodeCalm n (all_finished n ts)
+all_finished-calm n [] = node-quiet n n refl refl
+all_finished-calm n (t ∷ ts) =
+    let p : Option PortState = option_map (λ p. finished p t.token) (port_at n t.port) in
+    node-both n (with_port n t.port p) (all_finished n (t ∷ ts)) (port-calm n t.port p (finished-calm t.token (port_at n t.port))) (all_finished-calm (with_port n t.port p) ts)
+
+ack-calm : (n : NodeState) (src next : ℕ) → NodeCalm n (all_finished (with_peer n src (peer_acknowledged (peer_at n src) next)) (tickets_finished (peer_at n src) next))
+ack-calm n src next =
+    let q : PeerState = peer_acknowledged (peer_at n src) next in
+    node-both n (with_peer n src q) _ (peer-calm n src q (acknowledged-calm (peer_at n src).sender next) (TakerCalm.keeps refl (λ o. o))) (all_finished-calm (with_peer n src q) (tickets_finished (peer_at n src) next))
+
+-- whatever a host hears
+pub hear-calm : (host hosts : ℕ) (n : NodeState) (wire : List ℕ) → NodeCalm n (hear host hosts n wire).1
+hear-calm host hosts n wire = by (hear host hosts n wire).1 (hear-is host hosts n wire)
+  where
+    by : (m : NodeState) → IsHeard host hosts n wire m → NodeCalm n m
+    by m (quietly e f) = node-quiet n m e f
+    by m (of_frame body h e d mine there is) = subst (NodeCalm n) (sym is) (frame-calm n h (part_in body) (frame_took n h))
+    by m (of_ack body a e d mine there is) = subst (NodeCalm n) (sym is) (ack-calm n a.src a.next)
+
+-- and a host that gives up
+pub given_up-calm : (n : NodeState) → NodeCalm n (given_up n)
+given_up-calm n = node-quiet n (given_up n) refl refl

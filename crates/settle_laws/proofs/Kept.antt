@@ -1,0 +1,68 @@
+-- The events of a settle keep what is known of a connection.
+use Rattle.std.proofs.Common.{ℕ, ◌∙◌, arith}
+use Rattle.net_defs.specs.Network.{Network}
+use Rattle.gm_defs.specs.declared.message.Message.{Message}
+use Rattle.world_defs.specs.declared.event.Event.{Event}
+use Rattle.world_defs.specs.declared.event.Event.TheVariants.{Ask, Part, Inject, Advance, Lose, Repeat, Hold, Flip, Replay, Reset, Expire, GiveUp, Begin, Close, Provide, Send, Poll}
+use Rattle.world_defs.specs.EightBits.{IsByteEvent}
+use Rattle.world_defs.specs.World.{WorldState, node_at}
+use Rattle.world_defs.specs.Traffic.{sent_between}
+use Rattle.world_defs.specs.Step.{step}
+use Rattle.world_laws.specs.Reached.{IsOfSettle}
+use Rattle.world_laws.proofs.Shapes.{step-kept}
+use Rattle.world_laws.proofs.Leaves.{IsNoCall, quiet-leaves}
+use Rattle.world_laws.proofs.Rounds.{Going, follows-going}
+use Rattle.world_laws.proofs.Along.{Along}
+use Rattle.run_defs.specs.Headline.{Happens}
+use Rattle.table_laws.specs.Acts.{IsReached}
+use Rattle.window_laws.proofs.Reaching.{reached-next}
+use Rattle.settle_laws.proofs.Sents.{acted-says, sent-place}
+use Rattle.settle_laws.proofs.Facts.{Facts}
+
+settle-byte : (e : Event) → IsOfSettle e → IsByteEvent e × IsNoCall e
+settle-byte (Advance c) q = (tt, tt)
+settle-byte (Reset c) q = (tt, tt)
+settle-byte (Inject h) q = (tt, tt)
+settle-byte (Replay serial) q = (tt, tt)
+settle-byte (Expire h peer) q = (tt, tt)
+settle-byte (GiveUp h) q = (tt, tt)
+settle-byte (Ask h walk looped) q = absurd q
+settle-byte (Part dst part) q = absurd q
+settle-byte (Lose c) q = absurd q
+settle-byte (Repeat c) q = absurd q
+settle-byte (Hold c) q = absurd q
+settle-byte (Flip c bit pattern) q = absurd q
+settle-byte (Begin h port sends recvs) q = absurd q
+settle-byte (Close h port) q = absurd q
+settle-byte (Provide h port size prio) q = absurd q
+settle-byte (Send h port dest dport prio len seed) q = absurd q
+settle-byte (Poll h port) q = absurd q
+
+pub event-going : (w : WorldState) (e : Event) → IsOfSettle e → Going w (step w e).1
+event-going w e q = quiet-leaves Going follows-going w e (settle-byte e q).1
+
+pub along-going : Along Going IsOfSettle
+along-going = record { same = follows-going.same; both = follows-going.both; event = event-going }
+
+pub along-reached : (n : Network) → Along (λ w v. IsReached n w → IsReached n v) IsOfSettle
+along-reached n = record { same = λ w r. r; both = λ u v w f g r. g (f r); event = λ w e q r. reached-next n w (Happens e) r (settle-byte e q).0 }
+
+event-facts : (n : Network) (a b k : ℕ) (m : Message) (w : WorldState) (e : Event) → IsOfSettle e → Facts n a b k m w → Facts n a b k m (step w e).1
+event-facts n a b k m w e q f =
+    let g : Going w (step w e).1 = event-going w e q in
+    let count = g.nodes.count in
+    let h = f.host in
+    let p = f.peer in
+    let low = f.low in
+    let up = ((g.nodes.each a).senders b).base in
+    record {
+      reached = reached-next n w (Happens e) f.reached (settle-byte e q).0;
+      net = (step-kept w e).net ∙ f.net;
+      host = omega (arith, h, count);
+      peer = omega (arith, p, count);
+      low = omega (arith, low, up);
+      there = sent-place (node_at w a) b k (sent_between w a b) (sent_between (step w e).1 a b) m ((acted-says n w (Happens e) f.reached a).sent b) f.there;
+    }
+
+pub along-facts : (n : Network) (a b k : ℕ) (m : Message) → Along (λ w v. Facts n a b k m w → Facts n a b k m v) IsOfSettle
+along-facts n a b k m = record { same = λ w f. f; both = λ u v w f g x. g (f x); event = event-facts n a b k m }

@@ -1,0 +1,143 @@
+-- One pass in which no planned fault strikes: what may be on its way in it comes before its end.
+use Rattle.std.proofs.Common.{◌≡◌, ◌≤◌, ℕ, true, List, [], ◌∷◌, map, Some, None, sym, ap, ◌∙◌, subst, arith}
+use Rattle.net_defs.specs.Network.{Network}
+use Rattle.link_defs.specs.Links.{is_idle}
+use Rattle.gm_defs.specs.declared.message.Message.{Message}
+use Rattle.world_defs.specs.declared.event.Event.{Event}
+use Rattle.world_defs.specs.declared.event.Event.TheVariants.{Inject, Advance, Replay, Reset, GiveUp}
+use Rattle.world_defs.specs.declared.effect.Effect.{Effect}
+use Rattle.world_defs.specs.World.{WorldState, addresses}
+use Rattle.world_defs.specs.Step.{planned_strikes, sent_out, step, steps, after_all}
+use Rattle.world_defs.specs.Drain.{channels_of, drain, resets_of, clear}
+use Rattle.world_defs.specs.Settle.{serials, replay_each, round_pass}
+use Rattle.world_laws.specs.Reached.{IsOfDrain, IsOfSettle}
+use Rattle.world_laws.proofs.Shapes.{step-kept}
+use Rattle.world_laws.proofs.Rounds.{Going}
+use Rattle.world_laws.proofs.Clearing.{clear-idle}
+use Rattle.world_laws.proofs.Along.{Along, all-map, steps-along, after_all-along, drain-along, clear-along, round_pass-along}
+use Rattle.world_laws.proofs.Reached.{settles-of}
+use Rattle.table_laws.specs.Acts.{IsReached}
+use Rattle.settle_laws.proofs.Views.{advance-is, InjectOf, inject-is}
+use Rattle.settle_laws.proofs.Ways.{OnWay}
+use Rattle.settle_laws.proofs.Staged.{IsBare, given_up-bare, given_up-links, sending-bare}
+use Rattle.settle_laws.proofs.ActiveTables.{sent_out-nodes}
+use Rattle.settle_laws.proofs.CalmWorlds.{WorldCalm, IsCalm, along-calm, replay_each-calm}
+use Rattle.settle_laws.proofs.Plain.{IsPlain, idle-empty, idle-plain, inject-plain}
+use Rattle.settle_laws.proofs.Still.{Still, calm-still}
+use Rattle.settle_laws.proofs.Facts.{Facts, IsReadable}
+use Rattle.settle_laws.proofs.Kept.{along-going, event-going, along-facts}
+use Rattle.settle_laws.proofs.Lively.{Lively, advance-lively}
+use Rattle.settle_laws.proofs.Injecting.{inject-lively}
+
+-- a drain behind injections leaves idle links
+abbrev pub PlainDrainsIdle : Type 0
+PlainDrainsIdle = (n : Network) (w : WorldState) → IsReached n w → IsPlain w.links → is_idle (drain w).1.links ≡ true
+
+inject-bare : (w : WorldState) (h : ℕ) (r : Effect × WorldState) → InjectOf w h r → IsBare w → IsBare r.1
+inject-bare w h r (InjectOf.idle e s) is = subst IsBare (sym s) is
+inject-bare w h r (InjectOf.sends c out chan e none x s) is = subst IsBare (sym s) (sending-bare w (planned_strikes (sent_out w h c out) c) h out (sent_out-nodes w h c out) is)
+
+-- while hosts inject
+record Sending (n : Network) (a b k : ℕ) (m : Message) (w : WorldState) : Type 0 where
+  facts : Facts n a b k m w
+  bare : IsBare w
+  plain : IsPlain w.links
+  lively : Lively a b k m w
+
+-- while packets run out
+record Draining (n : Network) (a b k : ℕ) (m : Message) (w : WorldState) : Type 0 where
+  facts : Facts n a b k m w
+  lively : Lively a b k m w
+
+module _ (flows : PlainDrainsIdle) (n : Network) (a b k : ℕ) (m : Message) (readable : IsReadable m) where
+  one-sending : (w : WorldState) (h : ℕ) → (step w (Inject h)).1.struck ≤ w.struck → Sending n a b k m w → Sending n a b k m (step w (Inject h)).1
+  one-sending w h few s = record {
+    facts = (along-facts n a b k m).event w (Inject h) tt s.facts;
+    bare = inject-bare w h (step w (Inject h)) (inject-is w h) s.bare;
+    plain = inject-plain w h (step w (Inject h)) s.bare (inject-is w h) few s.plain;
+    lively = inject-lively n a b k m w h (step w (Inject h)) s.facts s.bare (inject-is w h) few s.lively;
+  }
+
+  all-sending : (w : WorldState) (hs : List ℕ) → (steps w (map Inject hs)).1.struck ≤ w.struck → Sending n a b k m w → Sending n a b k m (steps w (map Inject hs)).1
+  all-sending w [] few s = s
+  all-sending w (h ∷ hs) few s =
+      let next : WorldState = (step w (Inject h)).1 in
+      let up = (event-going w (Inject h) tt).rises in
+      let more = (steps-along Going IsOfSettle along-going next (map Inject hs) (all-map IsOfSettle Inject (λ j. tt) hs)).rises in
+      all-sending next hs (omega (arith, few, up)) (one-sending w h (omega (arith, few, more)) s)
+
+  advance-draining : (w : WorldState) (e : Event) → IsOfDrain e → Draining n a b k m w → Draining n a b k m (step w e).1
+  advance-draining w (Advance c) q d = record {
+    facts = (along-facts n a b k m).event w (Advance c) tt d.facts;
+    lively = advance-lively n a b k m w (step w (Advance c)).1 d.facts readable c (advance-is w c) (step-kept w (Advance c)).net d.lively;
+  }
+  advance-draining w _ q d = absurd q
+
+  along-draining : Along (λ w v. Draining n a b k m w → Draining n a b k m v) IsOfDrain
+  along-draining = record { same = λ w d. d; both = λ u v w f g d. g (f d); event = advance-draining }
+
+  drained : (w : WorldState) → Draining n a b k m w → Draining n a b k m (drain w).1
+  drained w d = drain-along (λ w v. Draining n a b k m w → Draining n a b k m v) IsOfDrain along-draining (λ c. tt) w d
+
+  -- nothing is on its way in idle links
+  no-way : (payload : List ℕ) (to : ℕ) (w : WorldState) → is_idle w.links ≡ true → OnWay payload to w → ⊥
+  no-way payload to w idle o = let bad : None ≡ Some o.held = sym (idle-empty w.links.channels idle o.channel) ∙ o.there in cc
+
+  settled-down : (w : WorldState) → is_idle w.links ≡ true → Lively a b k m w → Still a b k m w
+  settled-down w idle (Lively.still s) = s
+  settled-down w idle (Lively.frame o) = absurd (no-way _ b w idle o)
+  settled-down w idle (Lively.ack next more most o) = absurd (no-way _ a w idle o)
+
+  clear-still : (w : WorldState) → Sending n a b k m w → Still a b k m (clear w).1
+  unfolding clear
+  clear-still w s =
+      let d : WorldState = (drain w).1 in
+      let idle : is_idle d.links ≡ true = flows n w s.facts.reached s.plain in
+      let down = drained w (record { facts = s.facts; lively = s.lively }) in
+      let calm = steps-along WorldCalm IsCalm along-calm d (resets_of d) (all-map IsCalm Reset (λ c. tt) (channels_of d)) in
+      calm-still a b k m d (steps d (resets_of d)).1 calm down.facts.low (settled-down d idle down.lively)
+
+  clear-facts : (w : WorldState) → Facts n a b k m w → Facts n a b k m (clear w).1
+  clear-facts w f = clear-along (λ w v. Facts n a b k m w → Facts n a b k m v) IsOfSettle (along-facts n a b k m) settles-of.clears w f
+
+  pub pass-facts : (w : WorldState) → Facts n a b k m w → Facts n a b k m (round_pass w).world
+  pass-facts w f = round_pass-along (λ w v. Facts n a b k m w → Facts n a b k m v) IsOfSettle (along-facts n a b k m) settles-of w f
+
+  pub pass-still : (w : WorldState) → is_idle w.links ≡ true → (round_pass w).world.struck ≤ w.struck → Facts n a b k m w → Still a b k m w → Still a b k m (round_pass w).world
+  unfolding round_pass
+  pass-still w idle few f s =
+      let t : WorldState = after_all w (map GiveUp (addresses w)) in
+      let u : WorldState = (steps t (map Inject (addresses w))).1 in
+      let v : WorldState = (clear u).1 in
+      let last : WorldState = (replay_each (serials v) v).world in
+      let calm : WorldCalm w t = after_all-along WorldCalm IsCalm along-calm w (map GiveUp (addresses w)) (all-map IsCalm GiveUp (λ h. tt) (addresses w)) in
+      let first = (after_all-along Going IsOfSettle along-going w (map GiveUp (addresses w)) (all-map IsOfSettle GiveUp (λ h. tt) (addresses w))).rises in
+      let mid = (clear-along Going IsOfSettle along-going settles-of.clears u).rises in
+      let end = (replay_each-going (serials v) v).rises in
+      let start : Sending n a b k m t = record {
+        facts = after_all-along (λ w v. Facts n a b k m w → Facts n a b k m v) IsOfSettle (along-facts n a b k m) w (map GiveUp (addresses w)) (all-map IsOfSettle GiveUp (λ h. tt) (addresses w)) f;
+        bare = given_up-bare w;
+        plain = idle-plain t.links (ap is_idle (given_up-links w (addresses w)) ∙ idle);
+        lively = Lively.still (calm-still a b k m w t calm f.low s);
+      } in
+      let sent : Sending n a b k m u = all-sending t (addresses w) (omega (arith, few, first, mid, end)) start in
+      let low = (clear-facts u sent.facts).low in
+      calm-still a b k m v last (replay_each-calm (serials v) v) low (clear-still u sent)
+    where
+      replay_each-going : (ss : List ℕ) (x : WorldState) → Going x (replay_each ss x).world
+      replay_each-going [] x = along-going.same x
+      replay_each-going (y ∷ ys) x =
+          let p : WorldState = (step x (Replay y)).1 in
+          let q : WorldState = (clear p).1 in
+          along-going.both x p (replay_each ys q).world (event-going x (Replay y) tt) (along-going.both p q (replay_each ys q).world (clear-along Going IsOfSettle along-going settles-of.clears p) (replay_each-going ys q))
+
+-- a pass ends with idle links
+replay_each-idle : (ss : List ℕ) (w : WorldState) → is_idle w.links ≡ true → is_idle (replay_each ss w).world.links ≡ true
+replay_each-idle [] w e = e
+replay_each-idle (s ∷ ss) w e = let u : WorldState = (step w (Replay s)).1 in replay_each-idle ss (clear u).1 (clear-idle u)
+
+pub pass-idle : (w : WorldState) → is_idle (round_pass w).world.links ≡ true
+unfolding round_pass
+pass-idle w =
+    let u : WorldState = (steps (after_all w (map GiveUp (addresses w))) (map Inject (addresses w))).1 in
+    replay_each-idle (serials (clear u).1) (clear u).1 (clear-idle u)

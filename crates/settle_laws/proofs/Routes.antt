@@ -1,0 +1,180 @@
+-- The routes of an active table are the adopted set's, and stay so.
+use Rattle.std.proofs.Common.{◌≡◌, ℕ, zero, suc, Bool, true, false, ℤ, List, [], ◌∷◌, map, nat_eq, Option, Some, None, IfSome, is_some, option_map, refl, sym, ap, ◌∙◌, subst, arith, true≢false, if◌then◌else◌}
+use Rattle.std.specs.Prelude.{find, option_and_then, slice_get}
+use Rattle.std.specs.List.{AllByRecursion, list_all, filter}
+use Rattle.std.specs.Map.{lookup}
+use Rattle.std.proofs.lemmas.Bool.Decides.{nat_tests}
+use Rattle.std.proofs.lemmas.Option.{same_Some}
+use Rattle.net_defs.specs.declared.place.Place.TheVariants.{Host as AtHostPlace}
+use Rattle.net_defs.specs.declared.route.Route.{Route}
+use Rattle.net_defs.specs.Network.{Network}
+use Rattle.net_defs.specs.Turn.{is_turn, IsTurn}
+use Rattle.net_defs.specs.Route.{place}
+use Rattle.gm_defs.specs.Mapping.{RouteEntry}
+use Rattle.gm_defs.proofs.Fronts.{both}
+use Rattle.link_defs.specs.Links.{LinkState}
+use Rattle.map_defs.specs.Routing.{HasRoute}
+use Rattle.world_defs.specs.declared.event.Event.{Event}
+use Rattle.world_defs.specs.declared.fault.Fault.{Fault}
+use Rattle.world_defs.specs.Table.{Adoption, ActiveTable, TableState, entries_from, table_route}
+use Rattle.world_defs.specs.Traffic.{routes_in, adopted_routes}
+use Rattle.world_defs.specs.World.{WorldState, node_at, without_fault}
+use Rattle.world_defs.specs.Step.{fault_on, struck_by, fault_strikes, planned_strikes, sent_out, step}
+use Rattle.world_laws.proofs.Leaves.{Follows, step-leaves}
+use Rattle.run_defs.specs.Headline.{Act, Happens, Plans, Adopts, acted, IsSameSet, MayAct}
+use Rattle.table_laws.specs.Set.{IsActive}
+use Rattle.table_laws.specs.Acts.{IsReached}
+use Rattle.table_laws.proofs.Sets.{RouteFits, routes-fit, entries-all}
+use Rattle.table_laws.proofs.Dependencies.{tables-of_set, adopted-adoptable}
+use Rattle.settle_laws.proofs.ActiveTables.{acted-stay}
+
+-- an event adopts nothing
+struck-adopted : (u : WorldState) (f : Fault) (o : Bool × LinkState) → (struck_by u f o).adopted ≡ u.adopted
+struck-adopted u f (true, l) = refl
+struck-adopted u f (false, l) = refl
+
+strikes-adopted : (u : WorldState) (c : ℕ) (o : Option Fault) → (fault_strikes u c o).adopted ≡ u.adopted
+strikes-adopted u c None = refl
+strikes-adopted u c (Some f) = struck-adopted (record u { plan = without_fault u.injected u.plan }) f (fault_on u.links c f)
+
+planned-adopted : (u : WorldState) (c : ℕ) → (planned_strikes u c).adopted ≡ u.adopted
+unfolding planned_strikes
+planned-adopted u c = strikes-adopted u c (lookup (nat_eq u.injected) u.plan)
+
+follows-adopted : Follows (λ w v. v.adopted ≡ w.adopted)
+unfolding sent_out
+follows-adopted = record {
+  same = λ w. refl;
+  both = λ u v w k l. l ∙ k;
+  links = λ w x. refl;
+  node = λ w h n k. refl;
+  drop = λ w. refl;
+  injection = λ w h c out low e. planned-adopted (sent_out w h c out) c;
+}
+
+pub step-adopted : (w : WorldState) (e : Event) → (step w e).1.adopted ≡ w.adopted
+step-adopted w e = step-leaves (λ w v. v.adopted ≡ w.adopted) follows-adopted (λ w h port call k. refl) w e
+
+-- once a set is adopted, it stays
+acted-routes : (w : WorldState) (a : Act) (x : Adoption) → MayAct w a → w.adopted ≡ Some x → adopted_routes (acted w a) ≡ x.routes
+acted-routes w (Happens e) x may is = ap routes_in (step-adopted w e ∙ is)
+acted-routes w (Plans ahead fault) x may is = ap routes_in is
+acted-routes w (Adopts mapper routes) x may is = by w.adopted may.1 is
+  where
+    by : (o : Option Adoption) → IsSameSet routes o → o ≡ Some x → routes ≡ x.routes
+    by None s e = cc
+    by (Some y) s e = let same : y ≡ x = same_Some y x e in sym s ∙ ap (λ z. z.routes) same
+
+-- the route of a set from a host to another, as its table has it
+abbrev pub route_by : List Route → ℕ → ℕ → Option (List ℤ)
+route_by routes from to = option_map (λ e. e.walk) (find (λ e. nat_eq e.to to) (entries_from routes from))
+
+-- an active table has the adopted set's routes
+active-route : (o : Option Adoption) (h dest : ℕ) (t : Option ActiveTable) → IfSome t (IsActive o h) → is_some t ≡ true → option_and_then (λ a. option_map (λ e. e.walk) (find (λ e. nat_eq e.to dest) a.entries)) t ≡ route_by (routes_in o) h dest
+active-route o h dest None is e = absurd (true≢false (sym e))
+active-route None h dest (Some t) is e = absurd is
+active-route (Some a) h dest (Some t) is e = ap (λ es. option_map (λ e. e.walk) (find (λ e. nat_eq e.to dest) es)) is.entries
+
+pub table-route : (n : Network) (w : WorldState) (h dest : ℕ) → IsReached n w → is_some (node_at w h).table.active ≡ true → table_route (node_at w h).table dest ≡ route_by (adopted_routes w) h dest
+table-route n w h dest is e = active-route w.adopted h dest (node_at w h).table.active (tables-of_set n w is h).active e
+
+-- a table with a route is active
+pub has-active : (t : TableState) (dest : ℕ) → is_some (table_route t dest) ≡ true → is_some t.active ≡ true
+has-active t dest e = by t.active e
+  where
+    by : (o : Option ActiveTable) → is_some (option_and_then (λ a. option_map (λ e. e.walk) (find (λ e. nat_eq e.to dest) a.entries)) o) ≡ true → is_some o ≡ true
+    by None d = d
+    by (Some a) d = refl
+
+-- without a set no table is active
+has-set : (n : Network) (w : WorldState) (h : ℕ) → IsReached n w → is_some (node_at w h).table.active ≡ true → (x : Adoption) × (w.adopted ≡ Some x)
+has-set n w h is e = by (node_at w h).table.active w.adopted refl (tables-of_set n w is h).active e
+  where
+    by : (t : Option ActiveTable) (o : Option Adoption) → w.adopted ≡ o → IfSome t (IsActive o h) → is_some t ≡ true → (x : Adoption) × (w.adopted ≡ Some x)
+    by None o g a d = absurd (true≢false (sym d))
+    by (Some t) None g a d = absurd a
+    by (Some t) (Some x) g a d = (x, g)
+
+-- a route of a table stays
+pub route-stays : (n : Network) (w : WorldState) (a : Act) (h dest : ℕ) → IsReached n w → MayAct w a → IsReached n (acted w a) → is_some (table_route (node_at w h).table dest) ≡ true → is_some (table_route (node_at (acted w a) h).table dest) ≡ true
+route-stays n w a h dest is may now e =
+    let active = has-active (node_at w h).table dest e in
+    let x = has-set n w h is active in
+    let later = (acted-stay w a).each h active in
+    let was : table_route (node_at w h).table dest ≡ route_by x.0.routes h dest = table-route n w h dest is active ∙ ap (λ o. route_by (routes_in o) h dest) x.1 in
+    let still : table_route (node_at (acted w a) h).table dest ≡ route_by x.0.routes h dest = table-route n (acted w a) h dest now later ∙ ap (λ r. route_by r h dest) (acted-routes w a x.0 may x.1) in
+    ap is_some (still ∙ sym was) ∙ e
+
+-- a route of a table leads to its host, by turns
+record Leads (n : Network) (from to : ℕ) (walk : List ℤ) : Type 0 where
+  there : place n from walk ≡ AtHostPlace to
+  turns : list_all is_turn walk ≡ true
+
+turns-all : (ts : List ℤ) → list_all is_turn ts ≡ true → AllByRecursion IsTurn ts
+turns-all [] e = tt
+turns-all (t ∷ ts) e = let two = both (is_turn t) (list_all is_turn ts) e in (two.0, turns-all ts two.1)
+
+found-leads : (n : Network) (h dest : ℕ) (es : List RouteEntry) (walk : List ℤ) → AllByRecursion (λ e. Leads n h e.to e.walk) es → option_map (λ e. e.walk) (find (λ e. nat_eq e.to dest) es) ≡ Some walk → Leads n h dest walk
+found-leads n h dest [] walk all e = cc
+found-leads n h dest (x ∷ es) walk all e = by (nat_eq x.to dest) refl e (found-leads n h dest es walk all.1)
+  where
+    by : (b : Bool) → nat_eq x.to dest ≡ b → option_map (λ e. e.walk) (if b then Some x else find (λ e. nat_eq e.to dest) es) ≡ Some walk → (option_map (λ e. e.walk) (find (λ e. nat_eq e.to dest) es) ≡ Some walk → Leads n h dest walk) → Leads n h dest walk
+    by true t d rest =
+        let same : x.to ≡ dest = grind (arith, nat_tests) in
+        subst (Leads n h dest) (same_Some x.walk walk d) (subst (λ k. Leads n h k x.walk) same all.0)
+    by false t d rest = rest d
+
+both-all : (n : Network) (routes : List Route) → AllByRecursion (λ r. place n r.from r.walk ≡ AtHostPlace r.to) routes → AllByRecursion RouteFits routes → AllByRecursion (λ r. Leads n r.from r.to r.walk) routes
+both-all n [] a b = tt
+both-all n (r ∷ rs) a b = (record { there = a.0; turns = b.0.turns }, both-all n rs a.1 b.1)
+
+set-leads : (n : Network) (w : WorldState) (h dest : ℕ) (walk : List ℤ) → IsReached n w → is_some (node_at w h).table.active ≡ true → route_by (adopted_routes w) h dest ≡ Some walk → Leads n h dest walk
+set-leads n w h dest walk is active e =
+    let x = has-set n w h is active in
+    let lead = (adopted-adoptable n w x.0 is x.1).1.lead in
+    let all : AllByRecursion (λ r. Leads n r.from r.to r.walk) x.0.routes = both-all n x.0.routes lead (routes-fit n x.0.routes is.fabric lead) in
+    let entries : AllByRecursion (λ e. Leads n h e.to e.walk) (entries_from x.0.routes h) =
+    entries-all (λ r. Leads n r.from r.to r.walk) (λ e. Leads n h e.to e.walk) h x.0.routes (λ r t l. let from : r.from ≡ h = grind (arith, nat_tests) in subst (λ k. Leads n k r.to r.walk) from l) all in
+    found-leads n h dest (entries_from x.0.routes h) walk entries (sym (ap (λ o. route_by (routes_in o) h dest) x.1) ∙ e)
+
+pub route-leads : (n : Network) (w : WorldState) (h dest : ℕ) (walk : List ℤ) → IsReached n w → table_route (node_at w h).table dest ≡ Some walk → (place n h walk ≡ AtHostPlace dest) × AllByRecursion IsTurn walk
+route-leads n w h dest walk is e =
+    let active = has-active (node_at w h).table dest (ap is_some e) in
+    let l = set-leads n w h dest walk is active (sym (table-route n w h dest is active) ∙ e) in
+    (l.there, turns-all walk l.turns)
+
+-- a route that a table of the set has is one of the set, and the other way
+pub route-in : (routes : List Route) (from to : ℕ) → is_some (route_by routes from to) ≡ true → HasRoute routes from to
+route-in [] from to e = absurd (true≢false (sym e))
+route-in (r ∷ routes) from to e = by (nat_eq r.from from) (nat_eq r.to to) refl refl e (route-in routes from to)
+  where
+    later : HasRoute routes from to → HasRoute (r ∷ routes) from to
+    later x = record { place = suc x.place; route = x.route; there = x.there; from = x.from; to = x.to }
+
+    entry : RouteEntry
+    entry = record { to = r.to; walk = r.walk }
+
+    by : (a b : Bool) → nat_eq r.from from ≡ a → nat_eq r.to to ≡ b
+        → is_some (option_map (λ (e : RouteEntry). e.walk) (find (λ e. nat_eq e.to to) (map (λ r. record { to = r.to; walk = r.walk }) (if a then r ∷ filter (λ r. nat_eq r.from from) routes else filter (λ r. nat_eq r.from from) routes)))) ≡ true
+        → (is_some (route_by routes from to) ≡ true → HasRoute routes from to) → HasRoute (r ∷ routes) from to
+    by true true t u d rest = record { place = zero; route = r; there = refl; from = grind (arith, nat_tests); to = grind (arith, nat_tests) }
+    by true false t u d rest = later (rest (sym (ap (λ b. is_some (option_map (λ (e : RouteEntry). e.walk) (if b then Some entry else find (λ e. nat_eq e.to to) (entries_from routes from)))) u) ∙ d))
+    by false b t u d rest = later (rest d)
+
+pub in-route : (routes : List Route) (from to at : ℕ) (r : Route) → slice_get routes at ≡ Some r → r.from ≡ from → r.to ≡ to → is_some (route_by routes from to) ≡ true
+in-route [] from to at r e f g = cc
+in-route (x ∷ routes) from to zero r e f g =
+    let same : x ≡ r = same_Some x r e in
+    let a : nat_eq x.from from ≡ true = let s : x.from ≡ from = ap (λ z. z.from) same ∙ f in grind (arith, nat_tests) in
+    let b : nat_eq x.to to ≡ true = let s : x.to ≡ to = ap (λ z. z.to) same ∙ g in grind (arith, nat_tests) in
+    rw (a, b) refl
+in-route (x ∷ routes) from to (suc at) r e f g = by (nat_eq x.from from) (nat_eq x.to to) refl (in-route routes from to at r e f g)
+  where
+    entry : RouteEntry
+    entry = record { to = x.to; walk = x.walk }
+
+    by : (a b : Bool) → nat_eq x.to to ≡ b → is_some (route_by routes from to) ≡ true
+        → is_some (option_map (λ (e : RouteEntry). e.walk) (find (λ e. nat_eq e.to to) (map (λ r. record { to = r.to; walk = r.walk }) (if a then x ∷ filter (λ r. nat_eq r.from from) routes else filter (λ r. nat_eq r.from from) routes)))) ≡ true
+    by true true u rest = ap (λ b. is_some (option_map (λ (e : RouteEntry). e.walk) (if b then Some entry else find (λ e. nat_eq e.to to) (entries_from routes from)))) u
+    by true false u rest = ap (λ b. is_some (option_map (λ (e : RouteEntry). e.walk) (if b then Some entry else find (λ e. nat_eq e.to to) (entries_from routes from)))) u ∙ rest
+    by false b u rest = rest

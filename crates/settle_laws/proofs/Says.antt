@@ -1,0 +1,278 @@
+-- What an act leaves of a host's messages and tokens: what is sent comes from a port and goes to a host with a route, what is got names a port and a priority, and so does what is provided.
+use Rattle.std.proofs.Common.{◌≡◌, ◌<◌, ◌-◌, ℕ, zero, suc, Bool, true, false, ◌&&◌, List, [], ◌∷◌, ◌++◌, length, get_or, min, nat_eq, nat_lt, nat_le, is_none, is_some, Option, Some, None, option_map, Ok, Err, inl, inr, refl, sym, ap, ◌∙◌, subst, arith, true≢false, if◌then◌else◌}
+use Rattle.std.specs.List.{AllByRecursion}
+use Rattle.std.proofs.lemmas.Bool.Decides.{nat_tests}
+use Rattle.net_defs.proofs.Distinct.{all-push}
+use Rattle.gm_defs.specs.declared.message.Message.{Message}
+use Rattle.gm_defs.specs.declared.frame.FrameHead.{FrameHead}
+use Rattle.gm_defs.specs.declared.frame.GmBody.TheVariants.{Frame, Ack as Acknowledges}
+use Rattle.gm_defs.specs.declared.token.Took.{Took}
+use Rattle.gm_defs.specs.declared.token.Took.TheVariants.{NotNext, NoToken, Whole}
+use Rattle.gm_defs.specs.Body.{piece, message_limit, number_limit, frame_length, head_in, ack_in, part_in, begins_with, is_offset, is_head, is_frame, is_ack, decode}
+use Rattle.gm_defs.specs.Token.{PortState, PortEvent, Sent, Received, Provided, Sending, fits}
+use Rattle.gm_defs.specs.Port.{without_first, send_of, ended_by, finished, taken_by, delivered, is_bad_size, next_event, unfinished, unread}
+use Rattle.gm_defs.proofs.Fronts.{chosen}
+use Rattle.world_defs.specs.declared.client.ClientCause.{ClientCause}
+use Rattle.world_defs.specs.declared.client.ClientCause.TheVariants.{TooLong, NoRoute, Spent, Busy, Unread}
+use Rattle.world_defs.specs.declared.effect.Said.{Said}
+use Rattle.world_defs.specs.declared.effect.Said.TheVariants.{Count}
+use Rattle.world_defs.specs.Table.{table_route}
+use Rattle.world_defs.specs.Peer.{PeerState, Ticket, new_peer, with_message, peer_acknowledged, peer_expired, peer_sent_one, peer_answered, tickets_finished, got_after, peer_after}
+use Rattle.world_defs.specs.Node.{NodeState, Outgoing, Probe, TablePart, Reply, PartAnswer, FrameAnswer, Fragment, peer_at, with_peer, port_at, with_port, after_sending, node_expired}
+use Rattle.world_defs.specs.Hearing.{message_of, delivered_after, frame_heard, frame_took, all_finished, hear}
+use Rattle.world_defs.specs.Client.{ClientState, Wanted, wanted_message, refused, left, begin_at, begun, close_open, closed, provide_with, provide_open, provided_by, sent_by, handed_out, poll_open, polled_by}
+use Rattle.world_laws.proofs.Lists.{at-set}
+use Rattle.order_laws.proofs.Nodes.{set-each, begun-peers, closed-peers, provided_by-peers, polled_by-peers}
+use Rattle.window_laws.proofs.Heard.{IsHeard, quietly, of_frame, of_ack, hear-is}
+use Rattle.window_laws.proofs.Sends.{IsSend, stays, accepts, sent_by-is}
+
+-- a message names a port of its receiver, and a priority
+pub record IsFor (m : Message) : Type 0 where
+  pub port : m.dport < 8
+  pub priority : m.prio < 2
+
+-- the tokens that an open port was provided have priorities
+abbrev pub PortFits : Option PortState → Type 0
+PortFits None = Unit {0}
+PortFits (Some p) = AllByRecursion (λ r. r.prio < 2) p.provided
+
+-- what is sent to a peer: as before, or a message more, from a port of the host, and the table has a route there
+pub data SentSo (n : NodeState) (peer : ℕ) (old new : List Message) : Type 0 where
+  same : new ≡ old → SentSo n peer old new
+  more : (m : Message) → new ≡ old ++ m ∷ [] → m.sport < length n.ports → is_some (table_route n.table peer) ≡ true → SentSo n peer old new
+
+-- a change of a host
+pub record NodeSays (n m : NodeState) : Type 0 where
+  pub sent : (p : ℕ) → SentSo n p (peer_at n p).sent (peer_at m p).sent
+  pub got : (p : ℕ) → AllByRecursion IsFor (peer_at n p).got → AllByRecursion IsFor (peer_at m p).got
+  pub ports : (port : ℕ) → PortFits (port_at n port) → PortFits (port_at m port)
+
+pub says-quiet : (n m : NodeState) → m.peers ≡ n.peers → m.ports ≡ n.ports → NodeSays n m
+says-quiet n m e f = record {
+  sent = λ p. SentSo.same (ap (λ l. (get_or l p new_peer).sent) e);
+  got = λ p all. subst (λ l. AllByRecursion IsFor (get_or l p new_peer).got) (sym e) all;
+  ports = λ port fit. subst (λ l. PortFits (get_or l port None)) (sym f) fit;
+}
+
+-- a call that changes a port alone
+pub says-port : (n m : NodeState) → m.peers ≡ n.peers → ((port : ℕ) → PortFits (port_at n port) → PortFits (port_at m port)) → NodeSays n m
+says-port n m e k = record {
+  sent = λ p. SentSo.same (ap (λ l. (get_or l p new_peer).sent) e);
+  got = λ p all. subst (λ l. AllByRecursion IsFor (get_or l p new_peer).got) (sym e) all;
+  ports = k;
+}
+
+-- the connections with one peer, whose messages sent stay, and then ports
+says-peer : (n m : NodeState) (k : ℕ) (q : PeerState) → m.peers ≡ (with_peer n k q).peers → q.sent ≡ (peer_at n k).sent → (AllByRecursion IsFor (peer_at n k).got → AllByRecursion IsFor q.got) → ((port : ℕ) → PortFits (port_at n port) → PortFits (port_at m port)) → NodeSays n m
+says-peer n m k q e s g f = record {
+  sent = λ p. SentSo.same (ap (λ l. (get_or l p new_peer).sent) e ∙ at-set (λ a b. b.sent ≡ a.sent) (λ a. refl) n.peers k p q new_peer s);
+  got = λ p all. subst (λ l. AllByRecursion IsFor (get_or l p new_peer).got) (sym e) (at-set (λ a b. AllByRecursion IsFor a.got → AllByRecursion IsFor b.got) (λ a x. x) n.peers k p q new_peer g all);
+  ports = f;
+}
+
+-- one port
+pub port-fits : (n : NodeState) (k : ℕ) (o : Option PortState) → (PortFits (port_at n k) → PortFits o) → (port : ℕ) → PortFits (port_at n port) → PortFits (port_at (with_port n k o) port)
+port-fits n k o f port fit = at-set (λ a b. PortFits a → PortFits b) (λ a x. x) n.ports k port o None f fit
+
+-- a frame
+without-fits : (test : Provided → Bool) (rs : List Provided) → AllByRecursion (λ r. r.prio < 2) rs → AllByRecursion (λ r. r.prio < 2) (without_first test rs)
+without-fits test [] all = tt
+without-fits test (r ∷ rs) all = by (test r) (without-fits test rs all.1)
+  where
+    by : (b : Bool) → AllByRecursion (λ r. r.prio < 2) (without_first test rs) → AllByRecursion (λ r. r.prio < 2) (if b then rs else r ∷ without_first test rs)
+    by true rest = all.1
+    by false rest = (all.0, rest)
+
+taken_by-fits : (p : PortState) (h : FrameHead) (part : List ℕ) (o : Option Provided) → PortFits (Some p) → PortFits (Some (taken_by p h part o))
+taken_by-fits p h part None fit = fit
+taken_by-fits p h part (Some r) fit = without-fits (λ x. fits x.size x.prio h.total h.prio) p.provided fit
+
+delivered-fits : (h : FrameHead) (part : List ℕ) (o : Option PortState) → PortFits o → PortFits (option_map (λ p. delivered p h part) o)
+delivered-fits h part None fit = tt
+delivered-fits h part (Some p) fit = taken_by-fits p h part _ fit
+
+delivered_after-fits : (n : NodeState) (h : FrameHead) (part : List ℕ) (t : Took) (port : ℕ) → PortFits (port_at n port) → PortFits (port_at (delivered_after n h part t) port)
+delivered_after-fits n h part NotNext port fit = fit
+delivered_after-fits n h part NoToken port fit = fit
+delivered_after-fits n h part Whole port fit = port-fits n h.dport (option_map (λ p. delivered p h part) (port_at n h.dport)) (delivered-fits h part (port_at n h.dport)) port fit
+
+delivered_after-same : (n : NodeState) (h : FrameHead) (part : List ℕ) (t : Took) → (delivered_after n h part t).peers ≡ n.peers
+delivered_after-same n h part NotNext = refl
+delivered_after-same n h part NoToken = refl
+delivered_after-same n h part Whole = refl
+
+-- parts of a conjunction
+third : (a b c d : Bool) → (a && b && c && d) ≡ true → c ≡ true
+third a b true d e = refl
+third true true false d e = absurd (true≢false (sym e))
+third true false false d e = absurd (true≢false (sym e))
+third false b false d e = absurd (true≢false (sym e))
+
+port-part : (a b c d e f g : Bool) → (a && b && c && d && e && f && g) ≡ true → b ≡ true
+port-part a true c d e f g h = refl
+port-part true false c d e f g h = absurd (true≢false (sym h))
+port-part false false c d e f g h = absurd (true≢false (sym h))
+
+prio-part : (a b c d e f g : Bool) → (a && b && c && d && e && f && g) ≡ true → c ≡ true
+prio-part a b true d e f g h = refl
+prio-part true true false d e f g h = absurd (true≢false (sym h))
+prio-part true false false d e f g h = absurd (true≢false (sym h))
+prio-part false b false d e f g h = absurd (true≢false (sym h))
+
+-- what is read as a frame names a port and a priority
+pub read-head : (body : List ℕ) (h : FrameHead) → decode body ≡ Ok (Frame h) → is_head h ≡ true
+read-head body h e =
+    elim (chosen (is_frame body) (Ok (Frame (head_in body))) (if is_ack body then Ok (Acknowledges (ack_in body)) else Err (record {})) (Ok (Frame h)) e) [
+      | inl p ↦ let q = p.1 in let same : head_in body ≡ h = cc in subst (λ x. is_head x ≡ true) same (third (nat_le frame_length (length body)) (begins_with 1 body) (is_head (head_in body)) (nat_eq (length (part_in body)) (head_in body).len) p.0)
+      | inr p ↦ elim (chosen (is_ack body) (Ok (Acknowledges (ack_in body))) (Err (record {})) (Ok (Frame h)) p.1) [ inl q ↦ let r = q.1 in absurd cc | inr q ↦ let r = q.1 in absurd cc ]
+    ]
+
+head-for : (h : FrameHead) (part : List ℕ) → is_head h ≡ true → IsFor (message_of h part)
+head-for h part e =
+    let port : nat_lt h.dport 8 ≡ true = port-part (nat_lt h.sport 8) (nat_lt h.dport 8) (nat_lt h.prio 2) (nat_lt h.seq number_limit) (nat_le h.total message_limit) (is_offset h.total h.offset) (nat_eq h.len (min piece (h.total - h.offset))) e in
+    let prio : nat_lt h.prio 2 ≡ true = prio-part (nat_lt h.sport 8) (nat_lt h.dport 8) (nat_lt h.prio 2) (nat_lt h.seq number_limit) (nat_le h.total message_limit) (is_offset h.total h.offset) (nat_eq h.len (min piece (h.total - h.offset))) e in
+    record { port = grind (arith, nat_tests); priority = grind (arith, nat_tests) }
+
+got-for : (got : List Message) (t : Took) (m : Message) → IsFor m → AllByRecursion IsFor got → AllByRecursion IsFor (got_after got t m)
+got-for got NotNext m is all = all
+got-for got NoToken m is all = all
+got-for got Whole m is all = all-push IsFor got m all is
+
+frame-says : (n : NodeState) (h : FrameHead) (part : List ℕ) (t : Took) → is_head h ≡ true → NodeSays n (frame_heard n h part t).1
+frame-says n h part t e =
+    let q : PeerState = peer_after (peer_at n h.src) t (message_of h part) in
+    says-peer n _ h.src q (delivered_after-same (with_peer n h.src q) h part t) refl (got-for (peer_at n h.src).got t (message_of h part) (head-for h part e)) (delivered_after-fits (with_peer n h.src q) h part t)
+
+-- an acknowledgement
+ended-fits : (p : PortState) (token : ℕ) (o : Option Sending) → PortFits (Some p) → PortFits (Some (ended_by p token o))
+ended-fits p token None fit = fit
+ended-fits p token (Some s) fit = fit
+
+finished-fits : (token : ℕ) (o : Option PortState) → PortFits o → PortFits (option_map (λ p. finished p token) o)
+finished-fits token None fit = tt
+finished-fits token (Some p) fit = ended-fits p token (send_of p token) fit
+
+all_finished-fits : (n : NodeState) (ts : List Ticket) (port : ℕ) → PortFits (port_at n port) → PortFits (port_at (all_finished n ts) port)
+all_finished-fits n [] port fit = fit
+all_finished-fits n (t ∷ ts) port fit =
+    let p : Option PortState = option_map (λ p. finished p t.token) (port_at n t.port) in
+    all_finished-fits (with_port n t.port p) ts port (port-fits n t.port p (finished-fits t.token (port_at n t.port)) port fit)
+
+all_finished-same : (n : NodeState) (ts : List Ticket) → (all_finished n ts).peers ≡ n.peers
+all_finished-same n [] = refl
+all_finished-same n (t ∷ ts) = all_finished-same (with_port n t.port (option_map (λ p. finished p t.token) (port_at n t.port))) ts
+
+ack-says : (n : NodeState) (src next : ℕ) → NodeSays n (all_finished (with_peer n src (peer_acknowledged (peer_at n src) next)) (tickets_finished (peer_at n src) next))
+ack-says n src next =
+    let q : PeerState = peer_acknowledged (peer_at n src) next in
+    let ts : List Ticket = tickets_finished (peer_at n src) next in
+    says-peer n _ src q (all_finished-same (with_peer n src q) ts) refl (λ all. all) (all_finished-fits (with_peer n src q) ts)
+
+-- whatever a host hears
+pub hear-says : (host hosts : ℕ) (n : NodeState) (wire : List ℕ) → NodeSays n (hear host hosts n wire).1
+hear-says host hosts n wire = by (hear host hosts n wire).1 (hear-is host hosts n wire)
+  where
+    by : (m : NodeState) → IsHeard host hosts n wire m → NodeSays n m
+    by m (quietly e f) = says-quiet n m e f
+    by m (of_frame body h e d mine there is) = subst (NodeSays n) (sym is) (frame-says n h (part_in body) (frame_took n h) (read-head body h d))
+    by m (of_ack body a e d mine there is) = subst (NodeSays n) (sym is) (ack-says n a.src a.next)
+
+-- what a host sends, and an expiry
+pub sent-says : (n : NodeState) (out : Outgoing) → NodeSays n (after_sending n out)
+unfolding after_sending
+sent-says n (Probe walk looped) = says-quiet n _ refl refl
+sent-says n (TablePart part by) = says-quiet n _ refl refl
+sent-says n (Reply r) = says-quiet n _ refl refl
+sent-says n (PartAnswer a) = says-quiet n _ refl refl
+sent-says n (FrameAnswer peer next by) = says-peer n _ peer (peer_answered (peer_at n peer)) refl refl (λ all. all) (λ port fit. fit)
+sent-says n (Fragment peer head part by) = says-peer n _ peer (peer_sent_one (peer_at n peer)) refl refl (λ all. all) (λ port fit. fit)
+
+pub expired-says : (n : NodeState) (peer : ℕ) → NodeSays n (node_expired n peer)
+expired-says n peer = says-peer n _ peer (peer_expired (peer_at n peer)) refl refl (λ all. all) (λ port fit. fit)
+
+-- the ports behind calls of a client
+abbrev PortsFit : NodeState → NodeState → Type 0
+PortsFit n m = (port : ℕ) → PortFits (port_at n port) → PortFits (port_at m port)
+
+begin_at-fits : (n : NodeState) (port sends recvs : ℕ) (c : Option ClientState) (o : Option PortState) → PortsFit n (begin_at n port sends recvs c o).node
+begin_at-fits n port sends recvs c (Some p) = λ j fit. fit
+begin_at-fits n port sends recvs c None = port-fits n port _ (λ fit. tt)
+
+pub begun-says : (n : NodeState) (port sends recvs : ℕ) (c : Option ClientState) → NodeSays n (begun n port sends recvs c).node
+unfolding begun
+begun-says n port sends recvs c = says-port n _ (begun-peers n port sends recvs c) (begin_at-fits n port sends recvs c (port_at n port))
+
+close_if-fits : (n : NodeState) (port : ℕ) (c : Option ClientState) (p : PortState) (a b : Bool) → PortsFit n (if a then (if b then left n port None None (Count (length p.provided)) else refused n c (Unread (unread p))) else refused n c (Busy (unfinished p))).node
+close_if-fits n port c p true true = port-fits n port None (λ fit. tt)
+close_if-fits n port c p true false = λ j fit. fit
+close_if-fits n port c p false b = λ j fit. fit
+
+close_open-fits : (n : NodeState) (port : ℕ) (c : Option ClientState) (o : Option PortState) → PortsFit n (close_open n port c o).node
+close_open-fits n port c None = λ j fit. fit
+close_open-fits n port c (Some p) = close_if-fits n port c p (nat_eq (unfinished p) 0) (nat_eq (unread p) 0)
+
+pub closed-says : (n : NodeState) (port : ℕ) (c : Option ClientState) → NodeSays n (closed n port c).node
+unfolding closed
+closed-says n port c = says-port n _ (closed-peers n port c) (close_open-fits n port c (port_at n port))
+
+provide_if-fits : (n : NodeState) (port size prio : ℕ) (c d : ClientState) (p : PortState) (r : Provided) (b : Bool) (cause : ClientCause) (said : Said) → is_bad_size size prio ≡ b → r.prio ≡ prio → port_at n port ≡ Some p → PortsFit n (if b then refused n (Some c) cause else left n port (Some (record p { provided = p.provided ++ r ∷ [] })) (Some d) said).node
+provide_if-fits n port size prio c d p r true cause said e f g = λ j fit. fit
+provide_if-fits n port size prio c d p r false cause said e f g =
+    let low : prio < 2 = grind (arith, nat_tests) in
+    port-fits n port _ (λ fit. all-push (λ r. r.prio < 2) p.provided r (subst PortFits g fit) (omega (arith, low, f)))
+
+provide_with-fits : (n : NodeState) (port size prio : ℕ) (p : PortState) (c : ClientState) (ts : List ℕ) → port_at n port ≡ Some p → PortsFit n (provide_with n port size prio p c ts).node
+provide_with-fits n port size prio p c [] g = λ j fit. fit
+provide_with-fits n port size prio p c (t ∷ ts) g = provide_if-fits n port size prio c (record c { recvs = ts }) p _ (is_bad_size size prio) _ _ refl refl g
+
+provide_open-fits : (n : NodeState) (port size prio : ℕ) (c : Option ClientState) (o : Option PortState) → port_at n port ≡ o → PortsFit n (provide_open n port size prio c o).node
+provide_open-fits n port size prio (Some c) (Some p) g = provide_with-fits n port size prio p c c.recvs g
+provide_open-fits n port size prio (Some c) None g = λ j fit. fit
+provide_open-fits n port size prio None o g = λ j fit. fit
+
+pub provided_by-says : (n : NodeState) (port size prio : ℕ) (c : Option ClientState) → NodeSays n (provided_by n port size prio c).node
+unfolding provided_by
+provided_by-says n port size prio c = says-port n _ (provided_by-peers n port size prio c) (provide_open-fits n port size prio c (port_at n port) refl)
+
+handed_out-fits : (n : NodeState) (port : ℕ) (p : PortState) (c : ClientState) (o : Option PortEvent) → port_at n port ≡ Some p → PortsFit n (handed_out n port p c o).node
+handed_out-fits n port p c None g = λ j fit. fit
+handed_out-fits n port p c (Some (Sent t buffer)) g = port-fits n port _ (λ fit. subst PortFits g fit)
+handed_out-fits n port p c (Some (Received t buffer from sport prio len)) g = port-fits n port _ (λ fit. subst PortFits g fit)
+
+poll_open-fits : (n : NodeState) (port : ℕ) (c : Option ClientState) (o : Option PortState) → port_at n port ≡ o → PortsFit n (poll_open n port c o).node
+poll_open-fits n port (Some c) (Some p) g = handed_out-fits n port p c (next_event p) g
+poll_open-fits n port (Some c) None g = λ j fit. fit
+poll_open-fits n port None o g = λ j fit. fit
+
+pub polled_by-says : (n : NodeState) (port : ℕ) (c : Option ClientState) → NodeSays n (polled_by n port c).node
+unfolding polled_by
+polled_by-says n port c = says-port n _ (polled_by-peers n port c) (poll_open-fits n port c (port_at n port) refl)
+
+-- a message that is accepted
+some-below : {X : Type 0} (xs : List (Option X)) (i : ℕ) (x : X) → get_or xs i None ≡ Some x → i < length xs
+some-below [] i x e = cc
+some-below (y ∷ xs) zero x e = omega arith
+some-below (y ∷ xs) (suc i) x e = let k = some-below xs i x e in omega (arith, k)
+
+route-there : (n : NodeState) (s : Wanted) (long bare spent : Bool) → is_none (table_route n.table s.dest) ≡ bare → (if long then Some TooLong else if bare then Some NoRoute else if spent then Some Spent else None) ≡ None → is_some (table_route n.table s.dest) ≡ true
+route-there n s true bare spent e d = cc
+route-there n s false true spent e d = cc
+route-there n s false false spent e d = by (table_route n.table s.dest) e
+  where
+    by : {X : Type 0} (o : Option X) → is_none o ≡ false → is_some o ≡ true
+    by None e = absurd (true≢false e)
+    by (Some x) e = refl
+
+accept-says : (n : NodeState) (s : Wanted) (o : Option ClientState) (m : NodeState) → IsSend n s o m → NodeSays n m
+accept-says n s o m (stays e) = says-quiet n m (ap (λ x. x.peers) e) (ap (λ x. x.ports) e)
+accept-says n s o m (accepts p c t ts e f g r is) =
+    let q : PeerState = with_message (peer_at n s.dest) (wanted_message s) (record { port = s.port; token = t }) in
+    let route : is_some (table_route n.table s.dest) ≡ true = route-there n s _ (is_none (table_route n.table s.dest)) _ refl r in
+    subst (NodeSays n) (sym is) (record {
+      sent = λ j. set-each (λ i y. SentSo n i (peer_at n i).sent y.sent) n.peers s.dest j q new_peer (SentSo.more (wanted_message s) refl (some-below n.ports s.port p e) route) (λ i. SentSo.same refl);
+      got = λ j all. at-set (λ a b. AllByRecursion IsFor a.got → AllByRecursion IsFor b.got) (λ a x. x) n.peers s.dest j q new_peer (λ x. x) all;
+      ports = λ port fit. port-fits n s.port _ (λ x. subst PortFits e x) port fit;
+    })
+
+pub sent_by-says : (n : NodeState) (s : Wanted) (o : Option ClientState) → NodeSays n (sent_by n s o).node
+sent_by-says n s o = accept-says n s o (sent_by n s o).node (sent_by-is n s o)

@@ -1,0 +1,126 @@
+-- After every list of acts: messages were sent from ports to hosts with a route, those that were got name a port and a priority, and provided tokens have priorities.
+use Rattle.std.proofs.Common.{◌≡◌, ◌<◌, ℕ, zero, suc, Bool, true, false, List, [], ◌∷◌, ◌++◌, length, replicate, get_or, nat_lt, Some, None, is_some, refl, sym, ap, ◌∙◌, subst, arith}
+use Rattle.std.specs.Prelude.{slice_get}
+use Rattle.std.specs.List.{AllByRecursion}
+use Rattle.std.proofs.lemmas.Bool.Decides.{nat_tests}
+use Rattle.std.proofs.lemmas.List.{get_or_past}
+use Rattle.net_defs.specs.Network.{Network}
+use Rattle.net_defs.proofs.Distinct.{all-push}
+use Rattle.gm_defs.specs.declared.message.Message.{Message}
+use Rattle.world_defs.specs.Table.{table_route}
+use Rattle.world_defs.specs.Peer.{new_peer}
+use Rattle.world_defs.specs.Node.{NodeState, peer_at, port_at, new_node, port_count}
+use Rattle.world_defs.specs.World.{WorldState, host_count, node_at, new_world, client_at}
+use Rattle.world_defs.specs.Traffic.{sent_between, got_between}
+use Rattle.world_laws.specs.Shape.{IsWorld}
+use Rattle.run_defs.specs.Headline.{Act, acted, acted_all, MayAct, MayActAll}
+use Rattle.table_laws.specs.Acts.{IsReached}
+use Rattle.window_laws.proofs.Hosts.{Rules, acted-goes}
+use Rattle.window_laws.proofs.Windows.{numbers_of, reached-windowed}
+use Rattle.window_laws.proofs.Taken.{reached-world}
+use Rattle.window_laws.proofs.Reaching.{reached-next}
+use Rattle.settle_laws.proofs.Says.{IsFor, PortFits, SentSo, NodeSays, says-quiet, hear-says, sent-says, expired-says, begun-says, closed-says, provided_by-says, sent_by-says, polled_by-says}
+use Rattle.settle_laws.proofs.Routes.{route-stays}
+
+-- each change of a host
+says-rules : (w : WorldState) → Rules w (numbers_of w) (λ h. NodeSays)
+says-rules w = record {
+  quiet = λ h m e f. says-quiet (node_at w h) m e f;
+  hears = λ h wire good. hear-says h (host_count w) (node_at w h) wire;
+  sends = λ h out e. sent-says (node_at w h) out;
+  expires = λ h peer. expired-says (node_at w h) peer;
+  begins = λ h port sends recvs. begun-says (node_at w h) port sends recvs (client_at w h port);
+  closes = λ h port. closed-says (node_at w h) port (client_at w h port);
+  provides = λ h port size prio. provided_by-says (node_at w h) port size prio (client_at w h port);
+  accepts = λ h s. sent_by-says (node_at w h) s (client_at w h s.port);
+  polls = λ h port. polled_by-says (node_at w h) port (client_at w h port);
+}
+
+pub acted-says : (n : Network) (w : WorldState) (a : Act) → IsReached n w → (h : ℕ) → NodeSays (node_at w h) (node_at (acted w a) h)
+acted-says n w a is h = (acted-goes w (numbers_of w) (λ h. NodeSays) (says-rules w) a (reached-windowed n w is).links).nodes h
+
+-- messages that were sent stay at their places
+pub get-front : {A : Type 0} (xs ys : List A) (i : ℕ) (x : A) → slice_get xs i ≡ Some x → slice_get (xs ++ ys) i ≡ Some x
+get-front [] ys i x e = cc
+get-front (z ∷ xs) ys zero x e = e
+get-front (z ∷ xs) ys (suc i) x e = get-front xs ys i x e
+
+pub sent-place : (n : NodeState) (peer k : ℕ) (old new : List Message) (m : Message) → SentSo n peer old new → slice_get old k ≡ Some m → slice_get new k ≡ Some m
+sent-place n peer k old new m (SentSo.same e) there = ap (λ l. slice_get l k) e ∙ there
+sent-place n peer k old new m (SentSo.more x e low route) there = ap (λ l. slice_get l k) e ∙ get-front old (x ∷ []) k m there
+
+-- the invariant
+pub record IsSaid (w : WorldState) : Type 0 where
+  pub from_ports : (a b : ℕ) → AllByRecursion (λ m. m.sport < 8) (sent_between w a b)
+  pub routed : (a b : ℕ) → 0 < length (sent_between w a b) → is_some (table_route (node_at w a).table b) ≡ true
+  pub got : (a b : ℕ) → AllByRecursion IsFor (got_between w a b)
+  pub ports : (h port : ℕ) → PortFits (port_at (node_at w h) port)
+
+-- each host has eight ports, also one that isn't there
+eight-ports : (w : WorldState) (h : ℕ) → IsWorld w → length (node_at w h).ports ≡ 8
+eight-ports w h is = by (nat_lt h (host_count w)) refl
+  where
+    by : (t : Bool) → nat_lt h (host_count w) ≡ t → length (node_at w h).ports ≡ 8
+    by true t = (is.each_node h (grind (arith, nat_tests))).ports
+    by false t = ap (λ x. length x.ports) (get_or_past w.nodes h (new_node 0) (grind (arith, nat_tests)))
+
+module _ (n : Network) (w : WorldState) (a : Act) (is : IsReached n w) (may : MayAct w a) (now : IsReached n (acted w a)) (said : IsSaid w) where
+  abbrev v : WorldState
+  v = acted w a
+
+  from-port : (x y : ℕ) → SentSo (node_at w x) y (sent_between w x y) (sent_between v x y) → AllByRecursion (λ m. m.sport < 8) (sent_between v x y)
+  from-port x y (SentSo.same e) = subst (AllByRecursion (λ m. m.sport < 8)) (sym e) (said.from_ports x y)
+  from-port x y (SentSo.more m e low route) =
+      let eight = eight-ports w x (reached-world n w is) in
+      subst (AllByRecursion (λ m. m.sport < 8)) (sym e) (all-push (λ m. m.sport < 8) (sent_between w x y) m (said.from_ports x y) (omega (arith, low, eight)))
+
+  routed-then : (x y : ℕ) → SentSo (node_at w x) y (sent_between w x y) (sent_between v x y) → 0 < length (sent_between v x y) → is_some (table_route (node_at v x).table y) ≡ true
+  routed-then x y (SentSo.same e) some = route-stays n w a x y is may now (said.routed x y (subst (λ l. 0 < length l) e some))
+  routed-then x y (SentSo.more m e low route) some = route-stays n w a x y is may now route
+
+  acted-said : IsSaid (acted w a)
+  acted-said = record {
+    from_ports = λ x y. from-port x y ((acted-says n w a is x).sent y);
+    routed = λ x y. routed-then x y ((acted-says n w a is x).sent y);
+    got = λ x y. (acted-says n w a is y).got x (said.got x y);
+    ports = λ h port. (acted-says n w a is h).ports port (said.ports h port);
+  }
+
+acts-said : (n : Network) (w : WorldState) (acts : List Act) → MayActAll w acts → IsReached n w → IsSaid w → IsSaid (acted_all w acts)
+acts-said n w [] may is said = said
+acts-said n w (a ∷ acts) may is said =
+    let now : IsReached n (acted w a) = reached-next n w a is may.0 in
+    acts-said n (acted w a) acts may.1 now (acted-said n w a is may.0 now said)
+
+-- the new world
+at-replicate : {X : Type 0} (P : X → Type 0) (k j : ℕ) (x d : X) → P x → P d → P (get_or (replicate k x) j d)
+at-replicate P zero j x d p q = q
+at-replicate P (suc k) zero x d p q = p
+at-replicate P (suc k) (suc j) x d p q = at-replicate P k j x d p q
+
+-- a host before anything happened
+record IsNew (x : NodeState) : Type 0 where
+  peers : (p : ℕ) → peer_at x p ≡ new_peer
+  ports : (port : ℕ) → port_at x port ≡ None
+
+new-node : (k : ℕ) → IsNew (new_node k)
+new-node k = record {
+  peers = λ p. at-replicate (λ x. x ≡ new_peer) k p new_peer new_peer refl refl;
+  ports = λ port. at-replicate (λ x. x ≡ None) port_count port None None refl refl;
+}
+
+new-nodes : (n : Network) (h : ℕ) → IsNew (node_at (new_world n) h)
+new-nodes n h = let k : ℕ = length n.hosts in at-replicate IsNew k h (new_node k) (new_node 0) (new-node k) (new-node 0)
+
+new-said : (n : Network) → IsSaid (new_world n)
+new-said n = record {
+  from_ports = λ a b. subst (λ p. AllByRecursion (λ m. m.sport < 8) p.sent) (sym ((new-nodes n a).peers b)) tt;
+  routed = λ a b some. let none : length (sent_between (new_world n) a b) ≡ 0 = ap (λ p. length p.sent) ((new-nodes n a).peers b) in absurd (omega (arith, some, none));
+  got = λ a b. subst (λ p. AllByRecursion IsFor p.got) (sym ((new-nodes n b).peers a)) tt;
+  ports = λ h port. subst PortFits (sym ((new-nodes n h).ports port)) tt;
+}
+
+pub reached-said : (n : Network) (w : WorldState) → IsReached n w → IsSaid w
+reached-said n w is =
+    let start : IsReached n (new_world n) = record { fabric = is.fabric; acts = []; may = tt; leads = refl } in
+    subst IsSaid (sym is.leads) (acts-said n (new_world n) is.acts is.may start (new-said n))

@@ -1,0 +1,250 @@
+-- A settle ends settled: in its last round no base rose and no planned fault struck, so what isn't acknowledged behind it waits for a token.
+use Rattle.std.proofs.Common.{◌≡◌, ◌≢◌, ◌<◌, ◌≤◌, ℕ, Bool, true, false, not, ◌||◌, ℤ, List, nat_eq, nat_lt, Option, Some, None, is_some, option_map, refl, sym, ap, ◌∙◌, subst, arith, true≢false}
+use Rattle.std.specs.Prelude.{slice_get}
+use Rattle.std.proofs.lemmas.Bool.Decides.{nat_tests}
+use Rattle.net_defs.specs.declared.place.Place.TheVariants.{Host as AtHostPlace, Nothing as Stuck}
+use Rattle.net_defs.specs.declared.route.Route.{Route}
+use Rattle.net_defs.specs.Network.{Network}
+use Rattle.net_defs.specs.Route.{place, host_port, channel_from}
+use Rattle.link_defs.specs.Links.{is_idle}
+use Rattle.link_defs.proofs.LonePackets.{no_channel-place}
+use Rattle.gm_defs.specs.declared.message.Message.{Message}
+use Rattle.map_defs.specs.Routing.{HasRoute}
+use Rattle.world_defs.specs.Table.{ActiveTable, table_route}
+use Rattle.world_defs.specs.Node.{to_send}
+use Rattle.world_defs.specs.World.{WorldState, fabric_of, host_count, last_count, node_at}
+use Rattle.world_defs.specs.Step.{after_all}
+use Rattle.world_defs.specs.Drain.{clear}
+use Rattle.world_defs.specs.Traffic.{adopted_routes, routes_in, sent_between}
+use Rattle.world_defs.specs.Settle.{Stretch, expiries, round_pass, unacknowledged_in, base_rose, has_helped, is_last_round, Rounds}
+use Rattle.world_defs.specs.Settled.{sender_between, IsSettledPair, IsSettled}
+use Rattle.world_laws.specs.Reached.{IsOfSettle}
+use Rattle.world_laws.specs.Settling.{RoundPasses, IsRound, AllRounds}
+use Rattle.world_laws.proofs.Shapes.{step-kept}
+use Rattle.world_laws.proofs.Rounds.{Going}
+use Rattle.world_laws.proofs.Clearing.{clear-idle}
+use Rattle.world_laws.proofs.Meanings.{base-test, none_left-settled}
+use Rattle.world_laws.proofs.Along.{Along, clear-along, expiries-along, round_pass-along, round-along, settles-along}
+use Rattle.world_laws.proofs.Reached.{settles-of}
+use Rattle.table_laws.specs.Acts.{IsReached}
+use Rattle.order_laws.proofs.Worlds.{reached-ordered}
+use Rattle.window_laws.proofs.Windows.{reached-windowed}
+use Rattle.settle_laws.specs.Settles.{SentHasRoute, SettleEndsSettled}
+use Rattle.settle_laws.proofs.Routes.{step-adopted, table-route, has-active, route-leads, route-in, in-route}
+use Rattle.settle_laws.proofs.Still.{Still}
+use Rattle.settle_laws.proofs.Facts.{Facts, IsReadable, at-place, place-below, peer-low}
+use Rattle.settle_laws.proofs.Sents.{reached-said}
+use Rattle.settle_laws.proofs.Kept.{along-going, along-reached, along-facts}
+use Rattle.settle_laws.proofs.Passing.{PlainDrainsIdle, pass-facts, pass-still, pass-idle}
+use Rattle.settle_laws.proofs.Ended.{nothing-left}
+use Rattle.settle_laws.proofs.Expiring.{expiries-links, expiries-again}
+use Rattle.settle_laws.proofs.Waiting.{place-there, still-waiting, unreadable}
+
+pub sent-route : SentHasRoute
+sent-route n w is a b some = (reached-said n w is).routed a b some
+
+-- what passes leave
+passes-going : (p : ℕ) (w : WorldState) (s : Stretch) → RoundPasses p w s → Going w s.world
+passes-going p w s (RoundPasses.last_pass e) = round_pass-along Going IsOfSettle along-going settles-of w
+passes-going p w s (RoundPasses.another_pass {n = j} {s = rest} e more c d) =
+    subst (λ t. Going w t.world) (sym d) (along-going.both w (round_pass w).world rest.world (round_pass-along Going IsOfSettle along-going settles-of w) (passes-going j (round_pass w).world rest more))
+
+passes-idle : (p : ℕ) (w : WorldState) (s : Stretch) → RoundPasses p w s → is_idle s.world.links ≡ true
+passes-idle p w s (RoundPasses.last_pass e) = pass-idle w
+passes-idle p w s (RoundPasses.another_pass {n = j} {s = rest} e more c d) = ap (λ t. is_idle t.world.links) d ∙ passes-idle j (round_pass w).world rest more
+
+-- a connection behind the last pass of a round
+record Ended (n : Network) (a b k : ℕ) (m : Message) (z : WorldState) : Type 0 where
+  facts : Facts n a b k m z
+  still : Still a b k m z
+  host_done : to_send a (node_at z a) ≡ None
+  peer_done : to_send b (node_at z b) ≡ None
+
+module _ (flows : PlainDrainsIdle) (n : Network) (a b k : ℕ) (m : Message) (readable : IsReadable m) (from : is_some (channel_from n (host_port a)) ≡ true) (to : is_some (channel_from n (host_port b)) ≡ true) where
+  cable : (h : ℕ) (w : WorldState) → fabric_of w ≡ n → is_some (channel_from n (host_port h)) ≡ true → is_some (channel_from (fabric_of w) (host_port h)) ≡ true
+  cable h w net e = ap (λ x. is_some (channel_from x (host_port h))) net ∙ e
+
+  passes-end : (p : ℕ) (w : WorldState) (s : Stretch) → RoundPasses p w s → is_idle w.links ≡ true → s.world.struck ≤ w.struck → s.world.injected < last_count → Facts n a b k m w → Still a b k m w → Ended n a b k m s.world
+  passes-end p w s (RoundPasses.last_pass e) idle few left f still =
+      let then_f = pass-facts flows n a b k m readable w f in
+      record {
+        facts = then_f;
+        still = pass-still flows n a b k m readable w idle few f still;
+        host_done = nothing-left w a idle e f.host then_f.host (cable a w f.net from) left;
+        peer_done = nothing-left w b idle e f.peer then_f.peer (cable b w f.net to) left;
+      }
+  passes-end p w s (RoundPasses.another_pass {n = j} {s = rest} e more c d) idle few left f still =
+      let mid : WorldState = (round_pass w).world in
+      let up = (round_pass-along Going IsOfSettle along-going settles-of w).rises in
+      let on = (passes-going j mid rest more).rises in
+      let few_all : rest.world.struck ≤ w.struck = subst (λ t. t.world.struck ≤ w.struck) d few in
+      let left_all : rest.world.injected < last_count = subst (λ t. t.world.injected < last_count) d left in
+      subst (λ t. Ended n a b k m t.world) (sym d)
+      (passes-end j mid rest more (pass-idle w) (omega (arith, few_all, up)) left_all (pass-facts flows n a b k m readable w f) (pass-still flows n a b k m readable w idle (omega (arith, few_all, on)) f still))
+
+-- a route from a host needs its cable
+has-cable : (n : Network) (h to : ℕ) (walk : List ℤ) → place n h walk ≡ AtHostPlace to → is_some (channel_from n (host_port h)) ≡ true
+has-cable n h to walk e = by (channel_from n (host_port h)) refl
+  where
+    by : (o : Option ℕ) → channel_from n (host_port h) ≡ o → is_some o ≡ true
+    by (Some c) g = refl
+    by None g = let bad : Stuck ≡ AtHostPlace to = sym (no_channel-place n h walk g) ∙ e in cc
+
+table-cable : (n : Network) (w : WorldState) (h to : ℕ) → IsReached n w → is_some (table_route (node_at w h).table to) ≡ true → is_some (channel_from n (host_port h)) ≡ true
+table-cable n w h to is e = by (table_route (node_at w h).table to) refl e
+  where
+    by : (o : Option (List ℤ)) → table_route (node_at w h).table to ≡ o → is_some o ≡ true → is_some (channel_from n (host_port h)) ≡ true
+    by None g d = absurd (true≢false (sym d))
+    by (Some walk) g d = has-cable n h to walk (route-leads n w h to walk is g).0
+
+-- each route of the set has one back
+abbrev AreJoined : WorldState → Type 0
+AreJoined w = (place : ℕ) (route : Route) → slice_get (adopted_routes w) place ≡ Some route → HasRoute (adopted_routes w) route.to route.from
+
+route-back : (n : Network) (z : WorldState) (a b : ℕ) → IsReached n z → AreJoined z → is_some (table_route (node_at z a).table b) ≡ true → is_some (node_at z a).table.active ≡ true → is_some (node_at z b).table.active ≡ true → is_some (table_route (node_at z b).table a) ≡ true
+route-back n z a b is joined there active back =
+    let x : HasRoute (adopted_routes z) a b = route-in (adopted_routes z) a b (sym (ap is_some (table-route n z a b is active)) ∙ there) in
+    let y : HasRoute (adopted_routes z) b a = subst (λ t. HasRoute (adopted_routes z) t a) x.to (subst (HasRoute (adopted_routes z) x.route.to) x.from (joined x.place x.route x.there)) in
+    ap is_some (table-route n z b a is back) ∙ in-route (adopted_routes z) b a y.place y.route y.there y.from y.to
+
+-- a connection behind the last round
+module _ (flows : PlainDrainsIdle) (n : Network) (w : WorldState) (s : Stretch) (round : IsRound w s) (is : IsReached n w) (net : fabric_of w ≡ n) (idle : is_idle w.links ≡ true) (few : s.world.struck ≤ w.struck) (left : s.world.injected < last_count) (joined : AreJoined s.world) (a b : ℕ) (low : a < host_count w) (below : b < host_count w) (same : (sender_between s.world a b).base ≡ (sender_between w a b).base) (some : (sender_between w a b).base < (sender_between w a b).next) where
+  abbrev k : ℕ
+  k = (sender_between w a b).base
+
+  abbrev z : WorldState
+  z = s.world
+
+  abbrev u : WorldState
+  u = after_all w (expiries w)
+
+  going : Going w z
+  going = round-along Going IsOfSettle along-going settles-of w s round
+
+  reached-end : IsReached n z
+  reached-end = round-along (λ w v. IsReached n w → IsReached n v) IsOfSettle (along-reached n) settles-of w s round is
+
+  next-same : (sender_between z a b).next ≡ (sender_between w a b).next
+  next-same = ((going.nodes.each a).senders b).next
+
+  message : (m : Message) × (slice_get (sent_between w a b) k ≡ Some m)
+  message = let long = (((reached-ordered n w is).hosts a).peers b).numbered in place-there (sent_between w a b) k (omega (arith, some, long))
+
+  abbrev m : Message
+  m = message.0
+
+  first : Facts n a b k m w
+  first = record { reached = is; net = net; host = low; peer = below; low = omega arith; there = message.1 }
+
+  last : Facts n a b k m z
+  last = round-along (λ w v. Facts n a b k m w → Facts n a b k m v) IsOfSettle (along-facts n a b k m) settles-of w s round first
+
+  start : Facts n a b k m u
+  start = expiries-along (λ w v. Facts n a b k m w → Facts n a b k m v) IsOfSettle (along-facts n a b k m) (λ h p. tt) w first
+
+  expired-first : Still a b k m u
+  expired-first = Still.again (expiries-again w a b low below (peer-low n a b k m w first) some)
+
+  there : is_some (table_route (node_at z a).table b) ≡ true
+  there = let long = place-below (sent_between z a b) k m last.there in (reached-said n z reached-end).routed a b (omega (arith, long))
+
+  waits : IsReadable m → is_some (node_at z b).table.active ≡ true → IsSettledPair z a b
+  waits readable active =
+      let back = route-back n z a b reached-end joined there (has-active (node_at z a).table b there) active in
+      let from = table-cable n z a b reached-end there in
+      let to = table-cable n z b a reached-end back in
+      let up = (expiries-along Going IsOfSettle along-going (λ h p. tt) w).rises in
+      let e = passes-end flows n a b k m readable from to round.passes u s round.through (ap is_idle (expiries-links w) ∙ idle) (omega (arith, few, up)) left start expired-first in
+      IsSettledPair.waiting (still-waiting n a b k m z e.facts same (omega (arith, some, next-same)) there back e.host_done e.peer_done e.still)
+
+  readable-by : (t v : Bool) → nat_lt m.dport 8 ≡ t → nat_lt m.prio 2 ≡ v → is_some (node_at z b).table.active ≡ true → IsSettledPair z a b
+  readable-by true true t v active =
+      let port = at-place (λ x. x.sport < 8) (sent_between w a b) k m ((reached-said n w is).from_ports a b) message.1 in
+      waits (record { from_port = port; to_port = grind (arith, nat_tests); priority = grind (arith, nat_tests) }) active
+  readable-by false v t y active = IsSettledPair.waiting (unreadable n a b k m z last same false v t y refl)
+  readable-by true false t y active = IsSettledPair.waiting (unreadable n a b k m z last same true false t y refl)
+
+  pair-settled : IsSettledPair z a b
+  pair-settled = by (node_at z b).table.active refl
+    where
+      by : (o : Option ActiveTable) → (node_at z b).table.active ≡ o → IsSettledPair z a b
+      by None e = IsSettledPair.no_table (ap (option_map (λ (t : ActiveTable). t.epoch)) e)
+      by (Some t) e = readable-by (nat_lt m.dport 8) (nat_lt m.prio 2) refl refl (ap is_some e)
+
+-- a round that didn't help
+no-help : (x y : Bool) → (x || not y) ≡ true → x ≡ false → y ≡ false
+no-help true y e f = absurd (true≢false f)
+no-help false true e f = absurd (true≢false (sym e))
+no-help false false e f = refl
+
+neither : (x y : Bool) → (x || y) ≡ false → (x ≡ false) × (y ≡ false)
+neither true y e = absurd (true≢false e)
+neither false y e = (refl, e)
+
+-- the last round
+round-settled : PlainDrainsIdle → (n : Network) (w : WorldState) (s : Stretch) → IsRound w s → is_last_round w s.world ≡ true → IsReached n w → fabric_of w ≡ n → is_idle w.links ≡ true → s.world.injected < last_count → AreJoined s.world → IsSettled s.world
+round-settled flows n w s round e is net idle left joined = by (nat_eq (unacknowledged_in s.world) 0) refl
+  where
+    z : WorldState
+    z = s.world
+
+    going : Going w z
+    going = round-along Going IsOfSettle along-going settles-of w s round
+
+    reached-z : IsReached n z
+    reached-z = round-along (λ w v. IsReached n w → IsReached n v) IsOfSettle (along-reached n) settles-of w s round is
+
+    left-over : (base_rose w z ≡ false) × (nat_lt w.struck z.struck ≡ false) → (a b : ℕ) → a < host_count z → b < host_count z → IsSettledPair z a b
+    left-over none a b low below = equal (nat_eq (sender_between z a b).base (sender_between z a b).next) refl
+      where
+        count : host_count z ≡ host_count w
+        count = going.nodes.count
+
+        up : (sender_between w a b).base ≤ (sender_between z a b).base
+        up = ((going.nodes.each a).senders b).base
+
+        not-rose : (t : Bool) → nat_lt (sender_between w a b).base (sender_between z a b).base ≡ t → (sender_between z a b).base ≡ (sender_between w a b).base
+        not-rose true r = absurd (true≢false (sym ((base-test w z).1 (record { host = a; peer = b; is_host = low; is_peer = below; rose = grind (arith, nat_tests) })) ∙ none.0))
+        not-rose false r = let high : (sender_between z a b).base ≤ (sender_between w a b).base = grind (arith, nat_tests) in omega (arith, high, up)
+
+        equal : (t : Bool) → nat_eq (sender_between z a b).base (sender_between z a b).next ≡ t → IsSettledPair z a b
+        equal true t = IsSettledPair.all_acknowledged (grind (arith, nat_tests))
+        equal false t =
+            let same = not-rose (nat_lt (sender_between w a b).base (sender_between z a b).base) refl in
+            let few : z.struck ≤ w.struck = let no = none.1 in grind (arith, nat_tests) in
+            let order = (reached-windowed n z reached-z).senders.in_order a b in
+            let c = order.base_below in
+            let d = order.cursor_below in
+            let f = order.top_below in
+            let other : (sender_between z a b).base ≢ (sender_between z a b).next = grind (arith, nat_tests) in
+            let next = ((going.nodes.each a).senders b).next in
+            pair-settled flows n w s round is net idle few left joined a b (omega (arith, low, count)) (omega (arith, below, count)) same (omega (arith, c, d, f, other, next, same))
+
+    by : (t : Bool) → nat_eq (unacknowledged_in z) 0 ≡ t → IsSettled z
+    by true t = none_left-settled z (reached-windowed n z reached-z).senders (grind (arith, nat_tests))
+    by false t = record { pairs = left-over (neither (base_rose w z) (nat_lt w.struck z.struck) (no-help (nat_eq (unacknowledged_in z) 0) (has_helped w z) e t)) }
+
+-- all rounds
+along-net : Along (λ w v. fabric_of v ≡ fabric_of w) IsOfSettle
+along-net = record { same = λ w. refl; both = λ u v w k l. l ∙ k; event = λ w e q. (step-kept w e).net }
+
+along-adopted : Along (λ w v. v.adopted ≡ w.adopted) IsOfSettle
+along-adopted = record { same = λ w. refl; both = λ u v w k l. l ∙ k; event = λ w e q. step-adopted w e }
+
+rounds-settled : PlainDrainsIdle → (n : Network) (w : WorldState) (r : Rounds) → AllRounds w r → IsReached n w → fabric_of w ≡ n → is_idle w.links ≡ true → r.world.injected < last_count → AreJoined r.world → IsSettled r.world
+rounds-settled flows n w r (AllRounds.last_round {s = s} one e) is net idle left joined = round-settled flows n w s one e is net idle left joined
+rounds-settled flows n w r (AllRounds.another_round {s = s} {r = rest} one e more d) is net idle left joined =
+    let reached-then : IsReached n s.world = round-along (λ w v. IsReached n w → IsReached n v) IsOfSettle (along-reached n) settles-of w s one is in
+    let net-then : fabric_of s.world ≡ n = round-along (λ w v. fabric_of v ≡ fabric_of w) IsOfSettle along-net settles-of w s one ∙ net in
+    subst (λ t. IsSettled t.world) (sym d)
+    (rounds-settled flows n s.world rest more reached-then net-then (passes-idle one.passes (after_all w (expiries w)) s one.through) (subst (λ t. t.world.injected < last_count) d left) (subst (λ t. AreJoined t.world) d joined))
+
+pub settle-settled : PlainDrainsIdle → SettleEndsSettled
+settle-settled flows w r can s left =
+    let n : Network = fabric_of w in
+    let v : WorldState = (clear w).1 in
+    let same : r.world.adopted ≡ w.adopted = settles-along (λ w v. v.adopted ≡ w.adopted) IsOfSettle along-adopted settles-of w r s in
+    let joined : AreJoined r.world = subst (λ o. (place : ℕ) (route : Route) → slice_get (routes_in o) place ≡ Some route → HasRoute (routes_in o) route.to route.from) (sym same) can.joined in
+    let is : IsReached n v = clear-along (λ w v. IsReached n w → IsReached n v) IsOfSettle (along-reached n) settles-of.clears w can.reached in
+    let net : fabric_of v ≡ n = clear-along (λ w v. fabric_of v ≡ fabric_of w) IsOfSettle along-net settles-of.clears w in
+    subst (λ t. IsSettled t.world) (sym s.whole) (rounds-settled flows n v s.rest s.rounds is net (clear-idle w) (subst (λ t. t.world.injected < last_count) s.whole left) (subst (λ t. AreJoined t.world) s.whole joined))

@@ -1,0 +1,154 @@
+-- Where no host has anything to send, a fragment that stays unacknowledged waits for a token.
+use Rattle.std.proofs.Common.{◌≡◌, ◌≢◌, ◌<◌, ◌≤◌, ◌+◌, ℕ, zero, suc, Bool, true, false, ◌&&◌, ℤ, List, [], ◌∷◌, length, nat_eq, nat_lt, Option, Some, None, is_some, option_map, refl, sym, ap, ◌∙◌, subst, arith, true≢false, if◌then◌else◌}
+use Rattle.std.specs.Prelude.{slice_get, find, option_and_then}
+use Rattle.std.specs.List.{AllByRecursion, range_with_len}
+use Rattle.std.proofs.lemmas.Bool.Decides.{nat_tests}
+use Rattle.std.proofs.lemmas.List.{get_or_past}
+use Rattle.std.proofs.lemmas.Option.{same_Some}
+use Rattle.net_defs.specs.Network.{Network}
+use Rattle.gm_defs.specs.declared.message.Message.{Message}
+use Rattle.gm_defs.specs.declared.frame.FrameHead.{FrameHead}
+use Rattle.gm_defs.specs.Connection.{SenderState, window, due}
+use Rattle.gm_defs.specs.Fragment.{whole_below, frame_of}
+use Rattle.gm_defs.specs.Token.{PortState, Provided, size_for_length, is_size, fits}
+use Rattle.world_defs.specs.Sound.{IsFront}
+use Rattle.world_defs.specs.Table.{table_route}
+use Rattle.world_defs.specs.Node.{NodeState, Reply, PartAnswer, FrameAnswer, Fragment, peer_at, port_at, outgoing_staged, owed_to, due_to, due_frame, either, first_some, peers_of, to_send}
+use Rattle.world_defs.specs.Hearing.{port_takes}
+use Rattle.world_defs.specs.World.{WorldState, node_at}
+use Rattle.world_defs.specs.Traffic.{sent_between, got_between}
+use Rattle.world_defs.specs.Settled.{sender_between, IsWaiting}
+use Rattle.order_laws.proofs.Worlds.{got-front, got-count}
+use Rattle.window_laws.proofs.Taken.{whole-below}
+use Rattle.settle_laws.proofs.Frames.{head_for, frame-there}
+use Rattle.settle_laws.proofs.Says.{IsFor, PortFits}
+use Rattle.settle_laws.proofs.Sents.{reached-said, get-front}
+use Rattle.settle_laws.proofs.Still.{Still}
+use Rattle.settle_laws.proofs.Facts.{Facts, at-place, place-below, short-of, peer-low, host-low, world-of}
+
+-- what isn't sent first isn't there
+either-none : {A : Type 0} (x y : Option A) → either x y ≡ None → (x ≡ None) × (y ≡ None)
+either-none (Some x) y e = cc
+either-none None y e = (refl, e)
+
+first-none : {A : Type 0} (f : ℕ → Option A) (from count j : ℕ) → from ≤ j → j < from + count → first_some f (range_with_len from count) ≡ None → f j ≡ None
+first-none f from zero j low high e = absurd (omega (arith, low, high))
+first-none f from (suc count) j low high e = by (nat_eq j from) refl (either-none (f from) (first_some f (range_with_len (from + 1) count)) e) (λ more. first-none f (from + 1) count j more (omega (arith, high)))
+  where
+    by : (t : Bool) → nat_eq j from ≡ t → (f from ≡ None) × (first_some f (range_with_len (from + 1) count) ≡ None) → (from + 1 ≤ j → first_some f (range_with_len (from + 1) count) ≡ None → f j ≡ None) → f j ≡ None
+    by true p two more = let same : j ≡ from = grind (arith, nat_tests) in ap f same ∙ two.0
+    by false p two more = let other : j ≢ from = grind (arith, nat_tests) in more (omega (arith, low, other)) two.1
+
+nothing-owed : (host : ℕ) (n : NodeState) → to_send host n ≡ None → (p : ℕ) → p < length n.peers → (owed_to n p ≡ None) × (due_to host n p ≡ None)
+unfolding to_send
+nothing-owed host n e p low =
+    let a = either-none (option_map outgoing_staged n.staged) _ e in
+    let b = either-none (option_map Reply n.reply) _ a.1 in
+    let c = either-none (option_map PartAnswer n.part_ack) _ b.1 in
+    let d = either-none (first_some (owed_to n) (peers_of n)) _ c.1 in
+    (first-none (owed_to n) 0 (length n.peers) p (omega arith) (omega (arith, low)) d.0, first-none (due_to host n) 0 (length n.peers) p (omega arith) (omega (arith, low)) d.1)
+
+-- with a route, an acknowledgement that is owed would be sent
+no-answer : (n : NodeState) (p : ℕ) (b : Bool) (o : Option (List ℤ)) → b ≡ true → is_some o ≡ true → (if b then option_map (λ by. FrameAnswer p (peer_at n p).taken by) o else None) ≡ None → ⊥
+no-answer n p true (Some by) e f g = cc
+no-answer n p true None e f g = absurd (true≢false (sym f))
+no-answer n p false o e f g = absurd (true≢false (sym e))
+
+-- and so would a fragment that is due
+no-fragment : (p : ℕ) (f : FrameHead × List ℕ) (o : Option (List ℤ)) → is_some o ≡ true → option_map (λ by. Fragment p f.0 f.1 by) o ≡ None → ⊥
+no-fragment p f (Some by) e g = cc
+no-fragment p f None e g = absurd (true≢false (sym e))
+
+due-now : (s : SenderState) (k : ℕ) → s.cursor ≡ k → s.base ≡ k → k < s.next → due s ≡ Some k
+due-now s k c b low =
+    let x : nat_lt s.cursor s.next ≡ true = grind (arith, nat_tests) in
+    let y : nat_lt s.cursor (s.base + window) ≡ true = let few : s.cursor < s.base + window = omega (arith, c, b) in grind (arith, nat_tests) in
+    by (nat_lt s.cursor s.next) (nat_lt s.cursor (s.base + window)) x y
+  where
+    by : (x y : Bool) → x ≡ true → y ≡ true → (if x && y then Some s.cursor else None) ≡ Some k
+    by true true e f = ap Some c
+    by true false e f = absurd (true≢false (sym f))
+    by false y e f = absurd (true≢false (sym e))
+
+-- a place below the length
+pub place-there : {A : Type 0} (xs : List A) (i : ℕ) → i < length xs → (x : A) × (slice_get xs i ≡ Some x)
+place-there [] i low = absurd (omega (arith, low))
+place-there (x ∷ xs) zero low = (x, refl)
+place-there (x ∷ xs) (suc i) low = place-there xs i (omega (arith, low))
+
+-- what holds of a front part holds of each element of the whole that stands below its length
+of-front : {A : Type 0} (P : A → Type 0) (front whole : List A) (i : ℕ) (x : A) → IsFront front whole → AllByRecursion P front → i < length front → slice_get whole i ≡ Some x → P x
+of-front P front whole i x f all low e =
+    let y = place-there front i low in
+    let there : slice_get whole i ≡ Some y.0 = ap (λ l. slice_get l i) f.both ∙ get-front front f.rest i y.0 y.1 in
+    subst P (same_Some y.0 x (sym there ∙ e)) (at-place P front i y.0 all y.1)
+
+-- no provided token has another priority than 0 and 1
+unfit : (len prio : ℕ) (rs : List Provided) → 2 ≤ prio → AllByRecursion (λ r. r.prio < 2) rs → is_some (find (λ r. fits r.size r.prio len prio) rs) ≡ false
+unfit len prio [] high all = refl
+unfit len prio (r ∷ rs) high all =
+    let rest = unfit len prio rs high all.1 in
+    let low = all.0 in
+    let other : nat_eq r.prio prio ≡ false = grind (arith, nat_tests) in
+    by (is_size r.size (size_for_length len)) (nat_eq r.prio prio) other rest
+  where
+    by : (x y : Bool) → y ≡ false → is_some (find (λ r. fits r.size r.prio len prio) rs) ≡ false → is_some (if x && y then Some r else find (λ r. fits r.size r.prio len prio) rs) ≡ false
+    by true true e rest = absurd (true≢false e)
+    by true false e rest = rest
+    by false y e rest = rest
+
+no-priority : (len prio : ℕ) (o : Option PortState) → PortFits o → 2 ≤ prio → port_takes o len prio ≡ false
+no-priority len prio None fit high = refl
+no-priority len prio (Some p) fit high = unfit len prio p.provided high fit
+
+module _ (n : Network) (a b k : ℕ) (m : Message) (z : WorldState) (f : Facts n a b k m z) (base : (sender_between z a b).base ≡ k) where
+  -- the message is there, and it is the first that isn't acknowledged
+  first-there : k ≡ whole_below (sent_between z a b) (sender_between z a b).base
+  first-there =
+      let low = place-below (sent_between z a b) k m f.there in
+      sym (ap (whole_below (sent_between z a b)) base ∙ whole-below (sent_between z a b) k (short-of n a b k m z f) (omega (arith, low)))
+
+  not-next : (sender_between z a b).cursor ≡ k → k < (sender_between z a b).next → is_some (table_route (node_at z a).table b) ≡ true → to_send a (node_at z a) ≡ None → ⊥
+  not-next c low route none =
+      let d = (nothing-owed a (node_at z a) none b (peer-low n a b k m z f)).1 in
+      let frame : due_frame a (node_at z a) b ≡ Some (head_for a b k m, m.body) =
+      ap (option_and_then (λ seq. frame_of a b (sent_between z a b) seq)) (due-now (sender_between z a b) k c base low) ∙ frame-there a b k (sent_between z a b) k m (short-of n a b k m z f) f.there in
+      no-fragment b (head_for a b k m, m.body) (table_route (node_at z a).table b) route
+      (sym (ap (option_and_then (λ x. option_map (λ by. Fragment b x.0 x.1 by) (table_route (node_at z a).table b))) frame) ∙ d)
+
+  not-owed : (peer_at (node_at z b) a).owes ≡ true → is_some (table_route (node_at z b).table a) ≡ true → to_send b (node_at z b) ≡ None → ⊥
+  not-owed o route none =
+      let d = (nothing-owed b (node_at z b) none a (host-low n a b k m z f)).0 in
+      no-answer (node_at z b) a (peer_at (node_at z b) a).owes (table_route (node_at z b).table a) o route d
+
+  pub still-waiting : k < (sender_between z a b).next → is_some (table_route (node_at z a).table b) ≡ true → is_some (table_route (node_at z b).table a) ≡ true → to_send a (node_at z a) ≡ None → to_send b (node_at z b) ≡ None → Still a b k m z → IsWaiting z a b
+  still-waiting low there back no_a no_b (Still.risen r) = absurd (omega (arith, r, base))
+  still-waiting low there back no_a no_b (Still.again c) = absurd (not-next c low there no_a)
+  still-waiting low there back no_a no_b (Still.owed t o) = absurd (not-owed o back no_b)
+  still-waiting low there back no_a no_b (Still.waits t p) =
+      let count = got-count n z f.reached a b in
+      record { place = k; message = m; first = first-there; there = f.there; not_taken = omega (arith, t, count); no_token = p }
+
+  -- a message that no host takes: for no port, or of no priority
+  not-got : (IsFor m → ⊥) → length (got_between z a b) ≤ k
+  not-got never = by (nat_lt k (length (got_between z a b))) refl
+    where
+      by : (t : Bool) → nat_lt k (length (got_between z a b)) ≡ t → length (got_between z a b) ≤ k
+      by true t =
+          let low : k < length (got_between z a b) = grind (arith, nat_tests) in
+          absurd (never (of-front IsFor (got_between z a b) (sent_between z a b) k m (got-front n z f.reached a b) ((reached-said n z f.reached).got a b) low f.there))
+      by false t = grind (arith, nat_tests)
+
+  -- no port of eight
+  no-port : 8 ≤ m.dport → port_takes (port_at (node_at z b) m.dport) (length m.body) m.prio ≡ false
+  no-port past =
+      let eight : length (node_at z b).ports ≡ 8 = ((world-of n a b k m z f).each_node b f.peer).ports in
+      ap (λ o. port_takes o (length m.body) m.prio) (get_or_past (node_at z b).ports m.dport None (omega (arith, past, eight)))
+
+  pub unreadable-waiting : (IsFor m → ⊥) → port_takes (port_at (node_at z b) m.dport) (length m.body) m.prio ≡ false → IsWaiting z a b
+  unreadable-waiting never p = record { place = k; message = m; first = first-there; there = f.there; not_taken = not-got never; no_token = p }
+
+  pub unreadable : (t u : Bool) → nat_lt m.dport 8 ≡ t → nat_lt m.prio 2 ≡ u → (t && u) ≡ false → IsWaiting z a b
+  unreadable false u t v e = unreadable-waiting (λ x. let low = x.port in absurd (grind (arith, nat_tests))) (no-port (grind (arith, nat_tests)))
+  unreadable true false t v e = unreadable-waiting (λ x. let low = x.priority in absurd (grind (arith, nat_tests))) (no-priority (length m.body) m.prio (port_at (node_at z b) m.dport) ((reached-said n z f.reached).ports b m.dport) (grind (arith, nat_tests)))
+  unreadable true true t v e = absurd (true≢false e)

@@ -1,0 +1,61 @@
+-- The worked examples: a settle gets a lost frame across, and leaves a message without a token waiting.
+use Rattle.std.proofs.Common.{◌≡◌, ℕ, zero, suc, pos, negsuc, [], ◌∷◌, length, Some, refl, subst, arith}
+use Rattle.std.specs.Prelude.{slice_get}
+use Rattle.std.proofs.lemmas.Option.{same_Some}
+use Rattle.net_defs.specs.declared.route.Route.{Route}
+use Rattle.net_defs.specs.Examples.{two_hosts}
+use Rattle.journal_defs.proofs.Grown.{two_hosts_fabric}
+use Rattle.map_defs.specs.Routing.{HasRoute}
+use Rattle.world_defs.specs.Examples.{setup_routes}
+use Rattle.world_defs.specs.Node.{to_send, packet_for, after_sending}
+use Rattle.world_defs.specs.Hearing.{hear}
+use Rattle.world_defs.specs.Client.{begun, provided_by, sent_by}
+use Rattle.world_defs.specs.Step.{lost, was_reset, replayed, planned_strikes, sent_out, injected, advanced, expired, gave_up}
+use Rattle.world_defs.specs.Drain.{pass, drain, clear}
+use Rattle.world_defs.specs.Traffic.{got_between}
+use Rattle.world_defs.specs.Settle.{round_pass, round, settle}
+use Rattle.run_defs.specs.Headline.{AreAdoptable}
+use Rattle.table_laws.specs.Examples.{adopted_world}
+use Rattle.table_laws.proofs.Dependencies.{adopted-adoptable}
+use Rattle.table_laws.proofs.TwoHosts.{adopted-reached}
+use Rattle.order_laws.specs.Examples.{ten}
+use Rattle.settle_laws.specs.Examples.{lost_acts, LostWorldCanSettle, LostFrameIsSentAgain, bare_acts, bare_world, BareWorldCanSettle, MessageWaitsForToken}
+
+setup-adoptable : AreAdoptable two_hosts setup_routes
+setup-adoptable = (adopted-adoptable two_hosts adopted_world (record { mapper = 0; epoch = 1; routes = setup_routes }) adopted-reached refl).1
+
+-- the two routes are each other's way back
+abbrev there : Route
+there = record { from = 0; to = 1; walk = pos 3 ∷ [] }
+
+abbrev back : Route
+back = record { from = 1; to = 0; walk = negsuc 2 ∷ [] }
+
+setup-joined : (place : ℕ) (route : Route) → slice_get setup_routes place ≡ Some route → HasRoute setup_routes route.to route.from
+setup-joined zero route e = subst (λ (r : Route). HasRoute setup_routes r.to r.from) (same_Some there route e) (record { place = 1; route = back; there = refl; from = refl; to = refl })
+setup-joined (suc zero) route e = subst (λ (r : Route). HasRoute setup_routes r.to r.from) (same_Some back route e) (record { place = 0; route = there; there = refl; from = refl; to = refl })
+setup-joined (suc (suc place)) route e = cc
+
+pub lost-can : LostWorldCanSettle
+unfolding to_send packet_for after_sending hear begun provided_by sent_by lost planned_strikes sent_out injected advanced
+lost-can = record {
+  reached = record { fabric = two_hosts_fabric; acts = lost_acts; may = ((setup-adoptable, tt), ((setup-adoptable, refl), (tt, (tt, (tt, (tt, (tt, (tt, tt)))))))); leads = refl };
+  joined = setup-joined;
+}
+
+pub lost-settled : LostFrameIsSentAgain
+unfolding to_send packet_for after_sending hear begun provided_by sent_by lost was_reset replayed planned_strikes sent_out injected advanced expired gave_up pass drain clear round_pass round settle
+lost-settled = (refl, refl, refl)
+
+pub bare-can : BareWorldCanSettle
+unfolding to_send packet_for after_sending hear begun provided_by sent_by planned_strikes sent_out injected advanced
+bare-can = record {
+  reached = record { fabric = two_hosts_fabric; acts = bare_acts; may = ((setup-adoptable, tt), ((setup-adoptable, refl), (tt, (tt, (tt, tt))))); leads = refl };
+  joined = setup-joined;
+}
+
+pub bare-waits : MessageWaitsForToken
+unfolding to_send packet_for after_sending hear begun provided_by sent_by was_reset replayed planned_strikes sent_out injected advanced expired gave_up pass drain clear round_pass round settle
+bare-waits =
+    let none : length (got_between (settle bare_world).world 0 1) ≡ 0 = refl in
+    (refl, record { place = 0; message = ten; first = refl; there = refl; not_taken = omega (arith, none); no_token = refl })

@@ -1,0 +1,3 @@
+mod Backs
+mod Adopting
+pub mod Lines
