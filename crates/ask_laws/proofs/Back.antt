@@ -16,7 +16,7 @@ use Rattle.net_defs.specs.Turn.{IsTurn}
 use Rattle.net_defs.specs.Route.{turned, exit_at, leaving_port, host_port, entered_after, place, place_at, IsEntered}
 use Rattle.net_defs.proofs.Places.{far-there}
 use Rattle.net_defs.proofs.Distinct.{all-push}
-use Rattle.journal_defs.proofs.Cabling.{far-back, exit-leaves, entered-there, host-port}
+use Rattle.net_defs.proofs.Cabling.{far-back, exit-leaves, entered-there, host-port}
 use Rattle.world_defs.specs.Node.{way_back}
 
 -- walks in a row

@@ -10,8 +10,7 @@ use Rattle.link_defs.specs.declared.moved.Moved.TheVariants.{AtHost}
 use Rattle.link_defs.specs.Channel.{channel_count}
 use Rattle.link_defs.specs.Links.{Held, LinkState, packet_in, is_idle}
 use Rattle.link_defs.specs.Advance.{course, advance_of, advance}
-use Rattle.link_defs.specs.Hops.{is_stuck}
-use Rattle.link_defs.specs.Hops.{changes as moves}
+use Rattle.link_defs.specs.Hops.{is_stuck, changes as moves}
 use Rattle.link_defs.proofs.HopsLeft.{still-advance}
 use Rattle.link_defs.proofs.Idling.{stuck-still}
 use Rattle.world_defs.specs.declared.event.Event.TheVariants.{Advance}

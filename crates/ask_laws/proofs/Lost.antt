@@ -1,7 +1,7 @@
 -- The worked asks, computed.
 use Rattle.std.proofs.Common.{refl, arith}
 use Rattle.net_defs.specs.Examples.{two_hosts}
-use Rattle.journal_defs.proofs.Grown.{two_hosts_fabric}
+use Rattle.net_defs.proofs.TwoHosts.{two_hosts_fabric}
 use Rattle.world_defs.specs.declared.fault.Fault.TheVariants.{Lose}
 use Rattle.world_defs.specs.Node.{to_send, packet_for, after_sending}
 use Rattle.world_defs.specs.Hearing.{hear}

@@ -11,7 +11,7 @@ use Rattle.packet_defs.specs.declared.host_drop.HostDrop.TheVariants.{RouteLeft}
 use Rattle.packet_defs.specs.Packet.{packet_of, difference}
 use Rattle.packet_defs.proofs.Packets.{packet_of-difference}
 use Rattle.link_defs.specs.declared.moved.Moved.{Moved}
-use Rattle.gm_defs.specs.Mapping.{MappingBody, mapping_bytes, is_mapping}
+use Rattle.mapping_defs.specs.Mapping.{MappingBody, mapping_bytes, is_mapping}
 use Rattle.world_defs.specs.declared.effect.Effect.{Effect}
 use Rattle.world_defs.specs.Node.{Outgoing, to_send, packet_for, after_sending}
 use Rattle.world_defs.specs.Hearing.{hear_mapping}

@@ -5,14 +5,13 @@ use Rattle.std.specs.List.{AllByRecursion, list_all}
 use Rattle.std.specs.Map.{lookup}
 use Rattle.std.proofs.lemmas.Bool.Decides.{Decides-eqb, nat_tests}
 use Rattle.net_defs.specs.declared.place.Place.TheVariants.{Host as AtHostPlace, Nothing as Stuck}
-use Rattle.net_defs.specs.Network.{Network, IsFabric}
+use Rattle.net_defs.specs.Network.{Network, IsFabric, far}
 use Rattle.net_defs.specs.Turn.{is_turn, IsTurn}
 use Rattle.net_defs.specs.Route.{place, host_port, channel_from, entered_after, IsPlaceOf}
-use Rattle.net_defs.specs.Network.{far}
 use Rattle.net_defs.proofs.Places.{place_at-there}
 use Rattle.link_defs.proofs.LonePackets.{no_channel-place}
-use Rattle.gm_defs.specs.Mapping.{is_route, is_mapping}
-use Rattle.gm_defs.specs.Mapping.MappingBody.{HostProbe, HostReply, Loopback}
+use Rattle.mapping_defs.specs.Mapping.{is_route, is_mapping}
+use Rattle.mapping_defs.specs.Mapping.MappingBody.{HostProbe, HostReply, Loopback}
 use Rattle.world_defs.specs.declared.effect.Effect.{Effect}
 use Rattle.world_defs.specs.declared.effect.Effect.TheVariants.{Arrived}
 use Rattle.world_defs.specs.declared.heard.Heard.{Heard}

@@ -1,6 +1,6 @@
 //! What a mapper's ask comes to, over every world of a fabric whose links are idle.
 //!
-//! Each law is a function without parameters: its contract is the law, and its body is empty. The statements stand in `specs/`.
+//! It asks nothing: the asks of a program are in `fab_drive`. Read `specs/Truth.antt` first, with `specs/Premises.antt`.
 //!
 //! | file of `specs/` | says |
 //! |---|---|

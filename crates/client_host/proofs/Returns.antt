@@ -3,13 +3,12 @@ use Rattle.std.proofs.Common.{◌≡◌, ◌≤◌, ◌+◌, ℕ, List, [], ◌�
 use Rattle.std.specs.Prelude.{drop, slice_get, IfSome}
 use Rattle.std.specs.List.{AllByRecursion, range_with_len}
 use Rattle.std.proofs.lemmas.List.{append_assoc}
-use Rattle.gm_defs.specs.Token.{sent_tokens, received_tokens}
+use Rattle.gm_defs.specs.Token.{sent_tokens, received_tokens, PortState}
 use Rattle.gm_tokens.specs.Token.{Token, token_at}
 use Rattle.gm_tokens.specs.Minted.{AreAll}
 use Rattle.gm_port.specs.declared.event.PortEvent.{PortEvent as Event}
 use Rattle.gm_port.specs.declared.event.Wreck.{Wreck}
 use Rattle.gm_port.specs.Held.{send_at, receive_at, event_at}
-use Rattle.gm_defs.specs.Token.{PortState}
 use Rattle.world_defs.specs.Sound.{IsEachOnce}
 use Rattle.port_client.specs.Held.{OpenClient, opened_client, with_sends, with_recvs, tokens_of}
 use Rattle.owner_laws.proofs.Moves.{owned-new}

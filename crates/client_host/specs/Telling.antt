@@ -3,8 +3,8 @@ use Rattle.std.specs.Prelude.{ℕ, ◌<◌, ◌^◌, Option, Some, None, if◌th
 use Rattle.gm_defs.specs.Port.{is_bad_size}
 use Rattle.host_ports.specs.declared.ask.PortClose.{PortClose}
 use Rattle.host_ports.specs.declared.ask.PortClose.TheVariants.{NotOpen as NothingToClose, Busy as CloseBusy, Unread as CloseUnread}
-use Rattle.host_messages.specs.declared.refusal.NodeSend.{NodeSend}
-use Rattle.host_messages.specs.declared.refusal.NodeSend.TheVariants.{NotOpen as NothingSends, TooLong as SendTooLong, BufferShort, NoRoute as SendNoRoute, Spent as SendSpent, NoMemory}
+use Rattle.nic_node.specs.declared.refusal.NodeSend.{NodeSend}
+use Rattle.nic_node.specs.declared.refusal.NodeSend.TheVariants.{NotOpen as NothingSends, TooLong as SendTooLong, BufferShort, NoRoute as SendNoRoute, Spent as SendSpent, NoMemory}
 use Rattle.world_defs.specs.declared.client.ClientCause.{ClientCause}
 use Rattle.world_defs.specs.declared.client.ClientCause.TheVariants.{NotOpen, TooLong, NoRoute, Spent, Busy, Unread, BadSize}
 

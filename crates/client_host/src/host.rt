@@ -1,7 +1,7 @@
 //! One host with its clients, and all that is no call of a client.
 
 ghost use Rattle.std.specs.Prelude.{◌≡◌, ◌<◌, ◌≤◌, ℕ, nat_lt, length, replicate, true, is_some, if◌then◌else◌, Some, None, option_map, IfOk, OnOk, OnErr};
-ghost use Rattle.gm_defs.specs.Mapping.{is_part};
+ghost use Rattle.mapping_defs.specs.Mapping.{is_part};
 ghost use Rattle.world_defs.specs.Table.{active_epoch};
 ghost use Rattle.world_defs.specs.Node.{StagedProbe, StagedPart, port_count, to_send, packet_for, has_staged, given_up, node_expired, unacknowledged_to, peer_at};
 ghost use Rattle.world_defs.specs.Hearing.{hear};

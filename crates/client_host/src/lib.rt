@@ -23,8 +23,6 @@ mod providing;
 mod returning;
 mod sending;
 mod telling;
-#[cfg(test)]
-mod tests;
 
 pub use gm_defs::TokenPlace;
 pub use host::ClientHost;

@@ -19,7 +19,5 @@
 
 mod bridges;
 mod side;
-#[cfg(test)]
-mod tests;
 
 pub use bridges::{mark_core, switch_bridges};

@@ -12,8 +12,6 @@ ghost use Rattle.packet_defs.specs.Bits.{bits_of_byte, remainder, zeros};
 ghost use Rattle.packet_defs.specs.Crc.{crc, contribution};
 
 mod tables;
-#[cfg(test)]
-mod tests;
 
 use tables::{power, row};
 

@@ -13,9 +13,6 @@ ghost use Rattle.net_defs.specs.Route.{leaving_port};
 ghost use Rattle.packet_defs.specs.Packet.{difference};
 ghost use Rattle.link_defs.specs.Switch.{aim, aim_of, after_aim};
 
-#[cfg(test)]
-mod tests;
-
 pub use link_defs::Turned;
 use myri_packet::Packet;
 

@@ -12,7 +12,7 @@ use Rattle.world_defs.specs.World.{WorldState, fabric_of, host_count}
 use Rattle.world_defs.specs.Asking.{all_given_up}
 use Rattle.world_defs.specs.Install.{parts_installed, parts_of, hosts_installed, installed}
 use Rattle.route_install.specs.Installing.{AreHosts}
-use Rattle.fab_world.specs.Adopting.{is_among, IsSetOfHosts, part_count_for}
+use Rattle.adopted_routes.specs.Adopting.{is_among, IsSetOfHosts, part_count_for}
 use Rattle.fab_world.specs.Held.{IsMoment}
 use Rattle.fab_drive.specs.Installing.{CanInstall}
 use Rattle.fab_drive.proofs.Installs.{installed-idle}

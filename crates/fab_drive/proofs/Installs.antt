@@ -1,7 +1,7 @@
 -- What holds from a world to the next at each send of an installation holds along the installation.
 use Rattle.std.proofs.Common.{◌≡◌, ℕ, Bool, true, false, List, [], ◌∷◌, refl, sym, ap, ◌∙◌, subst, if◌then◌else◌}
 use Rattle.link_defs.specs.Links.{LinkState, is_idle}
-use Rattle.gm_defs.specs.Mapping.{RoutePart}
+use Rattle.mapping_defs.specs.Mapping.{RoutePart}
 use Rattle.world_defs.specs.declared.event.Event.TheVariants.{Part}
 use Rattle.world_defs.specs.Table.{Adoption, part_for, route_of}
 use Rattle.world_defs.specs.World.{WorldState, addresses}
@@ -12,7 +12,7 @@ use Rattle.world_laws.specs.Shape.{IsWorld}
 use Rattle.ask_laws.proofs.Along.{Asks, given_up-of, tries-of, asks-bare}
 use Rattle.ask_laws.proofs.Lone.{IsBare, is-bare, bare-idle, idle-bare}
 use Rattle.fab_world.specs.Held.{IsLater}
-use Rattle.fab_drive.proofs.Later.{later-step}
+use Rattle.world_drain.proofs.Later.{later-step}
 use Rattle.fab_drive.proofs.Leading.{asks-later}
 use Rattle.std.specs.Prelude.{ℤ, Option, Some, None}
 

@@ -1,15 +1,15 @@
 -- The parts of an ask lead from world to world by events.
-use Rattle.std.proofs.Common.{◌≡◌, ℕ, ℤ, List, map, None, refl, sym, subst}
+use Rattle.std.proofs.Common.{◌≡◌, ℕ, ℤ, List, None, refl, sym, subst}
 use Rattle.std.specs.Prelude.{is_some}
 use Rattle.world_defs.specs.declared.event.Event.TheVariants.{Ask, Inject, GiveUp}
-use Rattle.world_defs.specs.World.{WorldState, addresses}
+use Rattle.world_defs.specs.World.{WorldState}
 use Rattle.world_defs.specs.Step.{step}
 use Rattle.world_defs.specs.Drain.{drain}
-use Rattle.world_defs.specs.Asking.{all_given_up, sends, host_try, loop_try, host_tries}
+use Rattle.world_defs.specs.Asking.{sends, host_try, loop_try, host_tries}
 use Rattle.ask_laws.proofs.Along.{Asks, host_try-of, loop_try-of, tries-of}
 use Rattle.fab_world.specs.Held.{IsLater}
-use Rattle.fab_drive.proofs.Later.{later-same, later-both, later-step}
-use Rattle.fab_drive.proofs.Running.{drain-later}
+use Rattle.world_drain.proofs.Later.{later-same, later-both, later-step}
+use Rattle.world_drain.proofs.Running.{drain-later}
 
 sends-later : (w : WorldState) (h : ℕ) → IsLater w (sends w h).world
 unfolding sends
@@ -35,6 +35,3 @@ loop_try-later mapper walk w v is = subst (IsLater w) (sym is) (loop_try-of IsLa
 
 pub host_tries-later : (mapper : ℕ) (walk : List ℤ) (tries : ℕ) (w v : WorldState) → v ≡ (host_tries mapper walk tries w).world → IsLater w v
 host_tries-later mapper walk tries w v is = subst (IsLater w) (sym is) (tries-of IsLater asks-later is_some None (host_try mapper walk) (host_try-of IsLater asks-later mapper walk) tries w)
-
-pub given_up-later : (w v : WorldState) → v ≡ all_given_up w → IsLater w v
-given_up-later w v is = (map GiveUp (addresses w), is)

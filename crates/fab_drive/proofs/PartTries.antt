@@ -7,7 +7,7 @@ use Rattle.world_defs.specs.World.{WorldState, fabric_of, host_count}
 use Rattle.world_defs.specs.Asking.{Tried, tries_of}
 use Rattle.world_defs.specs.Install.{part_tries, or_given_up, parts_installed, parts_of, host_counted, hosts_installed}
 use Rattle.fab_world.specs.Held.{IsLater}
-use Rattle.fab_drive.proofs.Later.{later-same, later-both}
+use Rattle.world_drain.proofs.Later.{later-same, later-both}
 use Rattle.fab_drive.proofs.Tries.{tries-found, tries-further}
 
 -- tries of one thing, up to the first that finds it

@@ -2,7 +2,7 @@
 use Rattle.std.proofs.Common.{◌≡◌, ◌<◌, ◌-◌, ℕ, zero, suc, Bool, true, false, ◌&&◌, refl, sym, ◌∙◌, ap, arith}
 use Rattle.world_defs.specs.World.{WorldState, fabric_of, host_count}
 use Rattle.fab_world.specs.Held.{IsLater}
-use Rattle.fab_drive.proofs.Later.{later-same, later-both}
+use Rattle.world_drain.proofs.Later.{later-same, later-both}
 use Rattle.world_defs.specs.Asking.{Tried, also_harmed, tries_of}
 
 -- a fault met all of some tries, and all of those after them

@@ -1,4 +1,2 @@
 pub mod Installing
 pub mod Prober
-pub mod Settling
-pub mod Watch

@@ -2,15 +2,15 @@
 
 ghost use Rattle.std.specs.Prelude.{◌≡◌, ◌≤◌, length, IfOk, OnOk, OnErr};
 ghost use Rattle.world_defs.specs.World.{fabric_of, host_count};
-ghost use Rattle.world_defs.specs.Asking.{all_given_up, ask};
+ghost use Rattle.world_defs.specs.Asking.{ask};
 ghost use Rattle.fab_world.specs.Events.{IsHostOf};
 ghost use Rattle.fab_world.specs.Held.{IsLater};
 
-use crate::happening::happen;
 use crate::trying::{host_tries, loop_tries};
-use fab_world::{Event, World};
+use fab_world::World;
 use net_defs::{Answer, Walk};
 use std::alloc::{AllocError, Global};
+use world_drain::give_up_all;
 
 /// What an ask came to.
 #[derive(Clone, Copy, Debug)]
@@ -55,17 +55,4 @@ pub(crate) fn ask(
         },
         drowned: !loops.found && (hosts.harmed || loops.harmed),
     })
-}
-
-/// Every host gives up what it staged, by rising address.
-pub(crate) fn give_up_all(alloc: Global, w: &mut World) -> Result<(), AllocError>
-    ensures after { OnOk result (w.new ≡ all_given_up w.old) }
-    ensures err { OnErr result (IsLater w.old w.new) }
-    ensures fabric { fabric_of w.new ≡ fabric_of w.old }
-    ensures hosts { host_count w.new ≡ host_count w.old }
-{
-    for host in 0..w.hosts() {
-        happen(alloc, w, Event::GiveUp(host))?;
-    }
-    Ok(())
 }

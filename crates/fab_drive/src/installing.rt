@@ -10,15 +10,17 @@ ghost use Rattle.fab_world.specs.Events.{IsHostOf};
 ghost use Rattle.fab_world.specs.Held.{IsLater};
 ghost use Rattle.fab_drive.specs.Installing.{CanInstall};
 
-use crate::asking::give_up_all;
 use crate::parts::install_parts;
 use fab_world::World;
 use std::alloc::{AllocError, Global};
+use world_drain::give_up_all;
 
-/// What an installation came to: how many hosts have acknowledged all parts of their tables, the adopter among them, and how many hosts there are.
+/// What an installation came to.
 #[derive(Clone, Copy, Debug, PartialEq, Eq)]
 pub struct Installed {
+    /// How many hosts have acknowledged all parts of their tables, the adopter among them.
     pub acked: u16,
+    /// How many hosts there are.
     pub of: u16,
 }
 

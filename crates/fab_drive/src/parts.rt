@@ -7,13 +7,11 @@ ghost use Rattle.world_defs.specs.Asking.{sends};
 ghost use Rattle.world_defs.specs.Install.{part_try, part_tries, parts_installed};
 ghost use Rattle.fab_world.specs.Events.{IsHostOf};
 ghost use Rattle.fab_world.specs.Held.{IsLater};
-ghost use Rattle.fab_drive.specs.Watch.{seen_in};
+ghost use Rattle.world_drain.specs.Watch.{seen_in};
 
-use crate::draining::drain_watching;
-use crate::happening::happen;
-use crate::seen::{AwaitedPart, Seen, Watch};
 use fab_world::{Event, World};
 use std::alloc::{AllocError, Global};
+use world_drain::{AwaitedPart, Seen, Watch, drain_watching, happen};
 
 /// The first so many parts of a host, up to the first that isn't acknowledged: whether all are.
 pub(crate) fn install_parts(

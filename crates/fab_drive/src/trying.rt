@@ -8,12 +8,10 @@ ghost use Rattle.world_defs.specs.Asking.{is_used_up, number_of, host_try, loop_
 ghost use Rattle.fab_world.specs.Events.{IsHostOf};
 ghost use Rattle.fab_world.specs.Held.{IsLater};
 
-use crate::draining::drain_watching;
-use crate::happening::happen;
-use crate::seen::Watch;
 use fab_world::{Effect, Event, World};
 use net_defs::{End, Vertex, Walk};
 use std::alloc::{AllocError, Global};
+use world_drain::{Watch, drain_watching, happen};
 
 /// A host's injection: whether no injection was left for it, and its number.
 #[derive(Clone, Copy, Debug)]

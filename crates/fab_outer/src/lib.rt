@@ -16,8 +16,6 @@ mod mem_source;
 mod sink;
 mod source;
 mod standard;
-#[cfg(test)]
-mod tests;
 mod whole;
 
 pub use mem_sink::MemSink;

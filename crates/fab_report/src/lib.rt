@@ -24,8 +24,6 @@ mod line;
 mod mapping;
 mod places;
 mod step;
-#[cfg(test)]
-mod tests;
 
 pub use line::print_line;
 pub use run_defs::{ClientCall, InstallCause, Line, MapWords, PlaceEntry, PlaceList, StepWords};

@@ -29,8 +29,6 @@ mod plan_lines;
 mod port_lines;
 mod script;
 mod step_lines;
-#[cfg(test)]
-mod tests;
 mod values;
 mod walk_line;
 

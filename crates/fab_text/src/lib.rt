@@ -15,8 +15,6 @@ mod line;
 mod line_words;
 mod name;
 mod number;
-#[cfg(test)]
-mod tests;
 mod text;
 mod text_lines;
 mod word;

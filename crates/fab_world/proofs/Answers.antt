@@ -12,3 +12,7 @@ if-ok-both (Err e) f g h = tt
 pub on-err : {A E : Type 0} {P Q : Type 0} (r : Result A E) → (P → Q) → OnErr r P → OnErr r Q
 on-err (Ok a) f h = tt
 on-err (Err e) f h = f h
+
+pub on-any-err : {A E : Type 0} {P : Type 0} (r : Result A E) → P → OnErr r P
+on-any-err (Ok a) h = tt
+on-any-err (Err e) h = h

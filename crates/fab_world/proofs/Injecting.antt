@@ -1,6 +1,6 @@
 -- A packet that a host puts into its channel is its injection.
-use Rattle.std.proofs.Common.{◌≡◌, ◌+◌, ℕ, true, List, Option, Some, None, sym, ◌∙◌, ap}
-use Rattle.std.specs.Prelude.{option_map}
+use Rattle.std.proofs.Common.{◌≡◌, ◌+◌, ℕ, true, List, Option, Some, None, sym, ◌∙◌, ap, subst}
+use Rattle.std.specs.Prelude.{option_map, slice_set}
 use Rattle.std.specs.Option.{unwrap_or}
 use Rattle.world_defs.specs.declared.effect.Effect.{Effect}
 use Rattle.world_defs.specs.declared.effect.Effect.TheVariants.{Injected}
@@ -11,22 +11,42 @@ use Rattle.world_defs.specs.Step.{inject_one, planned_strikes}
 use Rattle.faulty_links.specs.Held.{LinksAndPlan, of_world, with_part, can_inject, put_under_next}
 use Rattle.faulty_links.proofs.Parts.{injection_is_put}
 use Rattle.nic_node.specs.Sending.{once_sent}
-use Rattle.world_hosts.specs.Known.{HostsState, host_in, with_host}
+use Rattle.client_host.specs.Held.{ServedHost, in_state}
 use Rattle.fab_world.specs.Held.{world_of}
+use Rattle.fab_world.proofs.Places.{IsAt, IsThere, found, changed-under}
 
-pub put-is : (links : LinksAndPlan) (hosts : HostsState) (adopted : Option Adoption) (h c : ℕ) (o : Option Outgoing) (packet : List ℕ) (effect : Effect) (v : LinksAndPlan) (now : HostsState)
-    → can_inject (of_world (world_of links hosts adopted)) c ≡ true → to_send h (host_in hosts h) ≡ o
+put-is : (links : LinksAndPlan) (hosts now : List ServedHost) (adopted : Option Adoption) (h c : ℕ) (o : Option Outgoing) (packet : List ℕ) (effect : Effect) (v : LinksAndPlan)
+    → can_inject (of_world (world_of links hosts adopted)) c ≡ true
     → Some packet ≡ option_map (packet_for h (links.injected + 1)) o → effect ≡ Injected (links.injected + 1)
     → ((u : WorldState) → planned_strikes (put_under_next (with_part u links) c packet) c ≡ with_part u v)
-    → now ≡ with_host hosts h (once_sent (host_in hosts h) (to_send h (host_in hosts h)))
+    → world_of v now adopted ≡ with_node (world_of v hosts adopted) h (once_sent (node_at (world_of links hosts adopted) h) o)
     → inject_one (world_of links hosts adopted) h c o ≡ (effect, world_of v now adopted)
-put-is links hosts adopted h c None packet effect v now free first made told strikes is = cc
-put-is links hosts adopted h c (Some out) packet effect v now free first made told strikes is =
+put-is links hosts now adopted h c None packet effect v free made told strikes is = cc
+put-is links hosts now adopted h c (Some out) packet effect v free made told strikes is =
     let w : WorldState = world_of links hosts adopted in
     let sent : NodeState = after_sending (node_at w h) out in
     let made_is : packet ≡ packet_for h (links.injected + 1) out = ap (λ o. unwrap_or o packet) made in
-    let hosts_are : now ≡ with_host hosts h sent = is ∙ ap (λ o. with_host hosts h (once_sent (host_in hosts h) o)) first in
     let put = injection_is_put w h c out free in
     let struck : planned_strikes (put_under_next (with_node w h sent) c (packet_for h (links.injected + 1) out)) c ≡ with_part (with_node w h sent) v =
     ap (λ p. planned_strikes (put_under_next (with_node w h sent) c p) c) (sym made_is) ∙ strikes (with_node w h sent) in
-    put ∙ ap (λ u. (Injected (links.injected + 1), u)) (struck ∙ ap (λ hs. world_of v hs adopted) (sym hosts_are)) ∙ ap (λ x. (x, world_of v now adopted)) (sym told)
+    put ∙ ap (λ u. (Injected (links.injected + 1), u)) (struck ∙ sym is) ∙ ap (λ x. (x, world_of v now adopted)) (sym told)
+
+-- one host's packet enters its channel
+pub injected-is : {p : LinksAndPlan} {ss : List ServedHost} {o : Option Adoption} {w : WorldState} {h i : ℕ} {x : ServedHost} (c : ℕ) (q : ServedHost) (packet : List ℕ) (effect : Effect) (v : LinksAndPlan) → IsAt p ss o w h i x
+    → can_inject (of_world w) c ≡ true → Some packet ≡ option_map (packet_for h (w.injected + 1)) (to_send h (node_at w h)) → effect ≡ Injected (p.injected + 1)
+    → ((u : WorldState) → planned_strikes (put_under_next (with_part u p) c packet) c ≡ with_part u v)
+    → q ≡ in_state x (once_sent x.state (to_send x.host x.state))
+    → inject_one w h c (to_send h (node_at w h)) ≡ (effect, world_of v (slice_set ss i q) o)
+injected-is {p} {ss} {o} {w} {h} {i} {x} c q packet effect v a free made told strikes e =
+    let inside : WorldState = world_of p ss o in
+    let here : IsThere w h x = found a in
+    let state : x.state ≡ node_at inside h = here.state ∙ ap (λ u. node_at u h) (sym a.is) in
+    let sent : NodeState = once_sent (node_at inside h) (to_send h (node_at inside h)) in
+    let new : q ≡ in_state x sent =
+    e ∙ ap (λ k. in_state x (once_sent x.state (to_send k x.state))) here.host ∙ ap (λ n. in_state x (once_sent n (to_send h n))) state in
+    subst (λ u. inject_one u h c (to_send h (node_at u h)) ≡ (effect, world_of v (slice_set ss i q) o)) a.is
+    (put-is p ss (slice_set ss i q) o h c (to_send h (node_at inside h)) packet effect v
+    (subst (λ u. can_inject (of_world u) c ≡ true) (sym a.is) free)
+    (subst (λ u. Some packet ≡ option_map (packet_for h (u.injected + 1)) (to_send h (node_at u h))) (sym a.is) made)
+    told strikes
+    (changed-under q sent v o a new))

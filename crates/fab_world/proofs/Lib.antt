@@ -1,8 +1,8 @@
 pub mod Answers
 pub mod Arriving
+pub mod HostEvents
 pub mod Injecting
 pub mod Moments
-pub mod SameRoutes
-pub mod Sets
+pub mod NewHosts
+pub mod Places
 pub mod Summing
-pub mod TwoHosts

@@ -9,7 +9,7 @@ use Rattle.net_defs.specs.declared.route.Route.{Route}
 use Rattle.net_defs.specs.Network.{Network, IsFabric}
 use Rattle.link_defs.specs.Channel.{channel_count}
 use Rattle.link_defs.specs.Links.{LinkState}
-use Rattle.map_defs.specs.Routing.{AreRising}
+use Rattle.net_defs.specs.RouteSet.{AreRising}
 use Rattle.world_defs.specs.declared.event.Event.{Event}
 use Rattle.world_defs.specs.declared.effect.Effect.{Effect}
 use Rattle.world_defs.specs.declared.fault.Fault.{Fault}
@@ -20,9 +20,9 @@ use Rattle.world_defs.specs.Step.{sent_out, fault_on, struck_by, fault_strikes, 
 use Rattle.world_laws.proofs.Shapes.{step-kept, after_all-kept, new-world, new-senders, planned-world, planned-senders, adopted-world, adopted-senders}
 use Rattle.world_laws.proofs.Leaves.{Follows, FollowsCalls, step-leaves}
 use Rattle.world_defs.specs.EightBits.{IsByteFault}
-use Rattle.fab_world.specs.Adopting.{IsAdoptable, IsSetOfHosts}
+use Rattle.adopted_routes.specs.Adopting.{IsAdoptable, IsSetOfHosts}
 use Rattle.fab_world.specs.Held.{IsMoment, IsLater}
-use Rattle.fab_world.proofs.Sets.{set-of-hosts}
+use Rattle.adopted_routes.proofs.Sets.{set-of-hosts}
 
 abbrev AreByteFaults : List (ℕ × Fault) → Type 0
 AreByteFaults fs = AllByRecursion (λ f. IsByteFault f.1) fs

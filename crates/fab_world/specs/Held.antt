@@ -6,21 +6,24 @@ use Rattle.world_defs.specs.declared.event.Event.TheVariants.{Poll}
 use Rattle.world_defs.specs.declared.effect.Effect.{Effect}
 use Rattle.world_defs.specs.declared.effect.Effect.TheVariants.{Arrived, Said}
 use Rattle.world_defs.specs.Table.{Adoption}
-use Rattle.world_defs.specs.World.{WorldState, fabric_of, host_count}
-use Rattle.world_defs.specs.Step.{after_all}
+use Rattle.world_defs.specs.declared.arrival.Arrival.{Arrival}
+use Rattle.world_defs.specs.Node.{NodeState}
+use Rattle.world_defs.specs.Client.{ClientState, Called, Wanted, sent_by}
+use Rattle.world_defs.specs.World.{WorldState, fabric_of, host_count, node_at, with_node, client_at, with_drop}
+use Rattle.world_defs.specs.Step.{of_call, arrived, after_all}
 use Rattle.world_defs.specs.EightBits.{HasByteFaults}
 use Rattle.world_laws.specs.Shape.{IsWorld, HasSenders}
-use Rattle.faulty_links.specs.Held.{LinksAndPlan}
-use Rattle.client_host.specs.Held.{IsFromHosts}
-use Rattle.world_hosts.specs.Known.{HostsState}
-use Rattle.fab_world.specs.Adopting.{IsSetOfHosts}
+use Rattle.faulty_links.specs.Held.{LinksAndPlan, with_part}
+use Rattle.adopted_routes.specs.Adopting.{IsSetOfHosts}
+use Rattle.client_host.specs.Held.{ServedHost, IsFromHosts}
+use Rattle.fab_world.specs.Hosts.{states, clients_of}
 
 -- the world that these links, their plan and counts, these hosts with their clients and these adopted routes make
-abbrev pub world_of : LinksAndPlan → HostsState → Option Adoption → WorldState
+abbrev pub world_of : LinksAndPlan → List ServedHost → Option Adoption → WorldState
 world_of p hosts adopted = record {
   links = p.links;
-  nodes = hosts.nodes;
-  clients = hosts.clients;
+  nodes = states hosts;
+  clients = clients_of hosts;
   adopted = adopted;
   plan = p.plan;
   injected = p.injected;
@@ -51,3 +54,19 @@ IsOfHosts hosts _ = Unit {0}
 abbrev pub IsPolledOfHosts : ℕ → Event → Effect → Type 0
 IsPolledOfHosts hosts (Poll h port) (Said said) = IsFromHosts hosts said
 IsPolledOfHosts hosts _ _ = Unit {0}
+
+-- a client's call at a port of a host says this, and leaves this world
+abbrev pub IsCallAt : WorldState → ℕ → ℕ → (NodeState → Option ClientState → Called) → Effect → WorldState → Type 0
+IsCallAt w h port call effect v = of_call w h port (call (node_at w h) (client_at w h port)) ≡ (effect, v)
+
+-- a client's wish to send a message says this, and leaves this world
+abbrev pub IsSendingAt : WorldState → ℕ → Wanted → Effect → WorldState → Type 0
+IsSendingAt w h s effect v = IsCallAt w h s.port (λ n c. sent_by n s c) effect v
+
+-- an arrival at a host is told so, and leaves these links, whatever it made of the host
+abbrev pub IsToldOf : LinksAndPlan → ℕ → Arrival → Effect → LinksAndPlan → Type 0
+IsToldOf old h arrival effect new = (w : WorldState) (n : NodeState) → arrived (with_part w old) h (arrival, n) ≡ (effect, with_part (with_node w h n) new)
+
+-- a packet of these links was dropped at a host, and counts
+abbrev pub CountsDrop : LinksAndPlan → LinksAndPlan → Type 0
+CountsDrop old new = (w : WorldState) → with_drop (with_part w old) ≡ with_part w new

@@ -1,3 +1,3 @@
-pub mod Adopting
 pub mod Events
 pub mod Held
+pub mod Hosts

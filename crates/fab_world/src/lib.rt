@@ -2,7 +2,7 @@
 //!
 //! [`World::step`] answers exactly the effect and leaves exactly the world of the definition `step` of `world_defs`. So each law of worlds after
 //! every list of events is a law of this one. `specs/Events.antt` says which events may be given. Routes are adopted once: no others after them.
-//! `specs/Adopting.antt` says which may be.
+//! `specs/Adopting.antt` of `adopted_routes` says which may be.
 //!
 //! ```text
 //!             World                      hosts and links, each at its own
@@ -14,21 +14,19 @@
 //!
 //! | module | has |
 //! |---|---|
-//! | `adopted` | the adopted routes, and the parts of them |
-//! | `machine` | links and hosts, and each event of theirs |
+//! | `hosts` | hosts by address |
+//! | `machine` | links, hosts and adopted routes, and each event of theirs |
 //! | `world` | the world: what it keeps, and every event |
 //! | `unacked` | how many fragments aren't acknowledged |
 #![tactic(auto)]
 
-mod adopted;
+mod hosts;
 mod machine;
-#[cfg(test)]
-mod tests;
 mod unacked;
 mod world;
 
-pub use adopted::AdoptRefusal;
+pub use adopted_routes::AdoptRefusal;
+pub use client_host::{Message, Said, TokenPlace};
 pub use port_graph::{Fabric, RouteSet};
 pub use world::World;
 pub use world_defs::{Cause, Effect, Event, Fault, Heard};
-pub use world_hosts::{Message, Said, TokenPlace};

@@ -2,37 +2,41 @@
 
 ghost use Rattle.std.specs.Prelude.{◌≡◌, IfOk};
 ghost use Rattle.net_defs.specs.Network.{IsFabric};
-ghost use Rattle.world_defs.specs.World.{new_world};
+ghost use Rattle.world_defs.specs.World.{host_count, new_world, node_at};
+ghost use Rattle.fab_world.specs.Events.{IsHostOf};
 
 mod adopting;
 mod calls;
-mod channels;
 mod dispatch;
 mod injection;
 mod staging;
 mod steps;
 
-use crate::adopted::Adopted;
+use crate::hosts::{count_of, end_all, host_at, new_hosts};
+use adopted_routes::AdoptedRoutes;
+use client_host::ClientHost;
 use faulty_links::FaultyLinks;
 use port_graph::Fabric;
 use std::alloc::{AllocError, Global};
 use std::marker::Model;
-use world_hosts::Hosts;
 
 /// Links and hosts, as many as the fabric has, and the routes that are adopted. It must be spent, by [`Machine::end`].
 pub(crate) struct Machine {
     pub(crate) links: FaultyLinks,
-    pub(crate) hosts: Hosts,
-    pub(crate) adopted: Option<Adopted>,
+    pub(crate) hosts: Vec<ClientHost>,
+    pub(crate) adopted: AdoptedRoutes,
 }
 
 impl Model for Machine {
     ghost use Rattle.world_defs.specs.World.{WorldState};
     ghost use Rattle.fab_world.specs.Held.{world_of};
+    ghost use Rattle.fab_world.specs.Hosts.{AreHosts};
 
     ghost Value = { WorldState };
 
-    ghost view = { λ m. world_of m.links m.hosts m.adopted };
+    ghost view = { λ m. world_of m.links m.hosts.items m.adopted };
+
+    ghost invariant = { λ m. AreHosts m.hosts.items };
 }
 
 impl Machine {
@@ -43,12 +47,29 @@ impl Machine {
     {
         let count = f.hosts();
         let links = FaultyLinks::new(alloc, f)?;
-        let hosts = Hosts::new(alloc, count)?;
+        let hosts = new_hosts(alloc, count)?;
         Ok(Machine {
             links,
             hosts,
-            adopted: None,
+            adopted: AdoptedRoutes::new(),
         })
+    }
+
+    /// The number of hosts.
+    pub(crate) fn count(&self) -> u16
+        ensures { result ≡ host_count self.now }
+    {
+        count_of(&self.hosts)
+    }
+
+    /// The host at an address.
+    pub(crate) fn at(&self, host: u16) -> &ClientHost
+        requires { IsHostOf self.now host }
+        ensures state { result.now.state ≡ node_at self.now host }
+        ensures host { result.now.host ≡ host }
+        ensures hosts { result.now.hosts ≡ host_count self.now }
+    {
+        host_at(&self.hosts, host)
     }
 
     /// Spends links and hosts, with whatever their ports hold.
@@ -58,6 +79,6 @@ impl Machine {
             hosts,
             adopted: _,
         } = self;
-        hosts.end();
+        end_all(hosts);
     }
 }

@@ -14,18 +14,18 @@ ghost use Rattle.world_defs.specs.World.{fabric_of, host_count, new_world, node_
 ghost use Rattle.world_defs.specs.EightBits.{IsByteFault};
 ghost use Rattle.world_defs.specs.Step.{step};
 ghost use Rattle.host_ports.specs.Held.{place_at};
-ghost use Rattle.fab_world.specs.Adopting.{IsAdoptable, adopt_refusal, part_count_for};
+ghost use Rattle.adopted_routes.specs.Adopting.{IsAdoptable, adopt_refusal, part_count_for};
 ghost use Rattle.fab_world.specs.Events.{IsHostOf, IsChannelOf, IsGiven};
 ghost use Rattle.fab_world.specs.Held.{IsMoment, IsLater, IsOfHosts};
 
-use crate::adopted::AdoptRefusal;
 use crate::machine::Machine;
+use adopted_routes::AdoptRefusal;
+use client_host::{Message, TokenPlace};
 use net_defs::End;
 use port_graph::{Fabric, RouteSet};
 use std::alloc::{AllocError, Global};
 use std::marker::Model;
 use world_defs::{Effect, Event, Fault};
-use world_hosts::{Message, TokenPlace};
 
 /// The world of a fabric: its links and what they hold, its hosts with their clients, the routes that are adopted, the plan of faults, and the
 /// counts. Hosts and channels in arguments are there, and a host has eight ports.
@@ -98,14 +98,14 @@ impl World {
     pub fn adopter(&self) -> Option<u16>
         ensures { result ≡ option_map (λ a. a.mapper) self.now.adopted }
     {
-        self.machine.adopter()
+        self.machine.adopted.adopter()
     }
 
     /// How many parts the adopted routes have for a host's table: none for their adopter's, and none where no routes are adopted.
     pub fn part_count(&self, dst: u16) -> u8
         ensures { result ≡ part_count_for self.now.adopted dst }
     {
-        self.machine.part_count(dst)
+        self.machine.adopted.part_count(dst)
     }
 
     /// Plans a fault for the injection so far ahead, in the place of an earlier one, and answers that injection's number.
@@ -136,7 +136,7 @@ impl World {
     pub fn hosts(&self) -> u16
         ensures { result ≡ host_count self.now }
     {
-        self.machine.hosts.count()
+        self.machine.count()
     }
 
     /// The number of channels.
@@ -237,7 +237,7 @@ impl World {
         requires peer { IsHostOf self.now peer }
         ensures { result ≡ unacknowledged_to (node_at self.now host) peer }
     {
-        self.machine.hosts.unacked(host, peer)
+        self.machine.at(host).unacked(peer)
     }
 
     /// Whether a host has something to send.
@@ -245,7 +245,7 @@ impl World {
         requires { IsHostOf self.now host }
         ensures { result ≡ is_some (to_send host (node_at self.now host)) }
     {
-        self.machine.hosts.has_to_send(host)
+        self.machine.at(host).has_to_send()
     }
 
     /// Whether a host has staged the acknowledgement of a part.
@@ -253,7 +253,7 @@ impl World {
         requires { IsHostOf self.now host }
         ensures { result ≡ is_some (node_at self.now host).part_ack }
     {
-        self.machine.hosts.has_part_ack(host)
+        self.machine.at(host).has_part_ack()
     }
 
     /// The epoch of a host's active table.
@@ -261,7 +261,7 @@ impl World {
         requires { IsHostOf self.now host }
         ensures { result ≡ active_epoch (node_at self.now host).table }
     {
-        self.machine.hosts.table(host)
+        self.machine.at(host).active()
     }
 
     /// The messages of a host that were accepted for a peer, in order.
@@ -270,7 +270,7 @@ impl World {
         requires peer { IsHostOf self.now peer }
         ensures { result.now ≡ (peer_at (node_at self.now host) peer).sent }
     {
-        self.machine.hosts.sent(host, peer)
+        self.machine.at(host).sent(peer)
     }
 
     /// The messages that a host took from a peer, in order.
@@ -279,7 +279,7 @@ impl World {
         requires peer { IsHostOf self.now peer }
         ensures { result.now ≡ (peer_at (node_at self.now host) peer).got }
     {
-        self.machine.hosts.got(host, peer)
+        self.machine.at(host).got(peer)
     }
 
     /// How many send tokens and how many receive tokens a port of a host was opened with. None exactly where it isn't open.
@@ -288,7 +288,7 @@ impl World {
         requires port { port < 8 }
         ensures { result ≡ option_map (λ p. (p.sends, p.recvs)) (port_at (node_at self.now host) port) }
     {
-        self.machine.hosts.minted(host, port)
+        self.machine.at(host).minted(port)
     }
 
     /// The place of a send token or of a receive token of a port, by its number. None where the client has it, or the port isn't open.
@@ -297,7 +297,7 @@ impl World {
         requires port { port < 8 }
         ensures { result ≡ place_at (port_at (node_at self.now host) port) send number }
     {
-        self.machine.hosts.token_place(host, port, send, number)
+        self.machine.at(host).token_place(port, send, number)
     }
 
     /// Spends it, with whatever its ports hold. Takes no memory.

@@ -13,10 +13,9 @@ use Rattle.net_defs.specs.Network.{Network, NamedSwitch, IsFabric, Apart, ends_o
 use Rattle.net_defs.specs.Building.{taken, host_refusal, switch_refusal, cable_refusal, with_host, with_switch, with_cable, vertex_named, name_of}
 use Rattle.net_defs.proofs.Ends.{far_end-none, same_end-false}
 use Rattle.fab_text.specs.declared.fault.FaultKind.TheVariants.{BadWord, TooLarge}
-use Rattle.fab_text.specs.Line.{lines_left}
+use Rattle.fab_text.specs.Line.{lines_left, line_count}
 use Rattle.fab_text.specs.Fault.{and_then}
 use Rattle.fabric_file.specs.Declaring.{declared, unless, end_word, cable_between}
-use Rattle.fab_text.specs.Line.{line_count}
 use Rattle.fabric_file.specs.Reading.{fabric_from, AreNamed}
 use Rattle.fab_text.specs.Written.{line_text}
 use Rattle.fabric_file.specs.Printing.{host_words, switch_words, cable_words, hosts_text, switches_text, cables_text, fabric_text, fabric_lines, script_line, IsReadBack}

@@ -14,8 +14,6 @@
 mod declaring;
 mod printing;
 mod reading;
-#[cfg(test)]
-mod tests;
 
 pub use printing::print_fabric;
 pub use reading::{FabricText, read_fabric};

@@ -26,8 +26,6 @@ mod laws;
 mod mapping;
 mod message;
 mod run;
-#[cfg(test)]
-mod tests;
 mod words;
 
 pub use examples::text_of_two_hosts;

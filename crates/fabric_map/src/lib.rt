@@ -13,8 +13,6 @@
 mod cabling;
 mod fault;
 mod map;
-#[cfg(test)]
-mod tests;
 mod vertices;
 
 pub use fault::MapFault;

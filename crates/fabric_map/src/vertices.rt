@@ -1,10 +1,9 @@
 //! The vertices of a map with their marks, and an index of the hosts by address.
 
-ghost use Rattle.std.specs.Prelude.{◌≡◌, ℕ, ◌<◌, max, true, ◌++◌, ◌∷◌, [], length, position, slice_index_or, Some, None, OnOk, OnErr};
+ghost use Rattle.std.specs.Prelude.{◌≡◌, ℕ, ◌<◌, max, true, ◌++◌, ◌∷◌, [], length, position, slice_index_or, Some, None, OnOk, OnErr, slice_get};
 ghost use Rattle.map_defs.specs.declared.vertex.MapVertex.{MapVertex};
 ghost use Rattle.map_defs.specs.NetMap.{switches_of, host_at};
 ghost use Rattle.map_defs.specs.Routing.{is_host_named};
-ghost use Rattle.std.specs.Prelude.{slice_get};
 ghost use Rattle.fabric_map.specs.Listing.{addresses_of};
 
 use map_defs::MapVertex;

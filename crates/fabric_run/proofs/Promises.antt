@@ -26,13 +26,13 @@ use Rattle.run_defs.specs.Session.{SessionState}
 use Rattle.run_defs.specs.Headline.{IsCommandOf, HasPrinted, IsPromised as IsPromisedOf}
 use Rattle.fab_script.specs.Ranges.{IsCommandOf as IsSaid}
 use Rattle.fab_script.proofs.Ranged.{reading_ranged}
-use Rattle.act_laws.specs.Laws.{IsActOf}
-use Rattle.act_laws.proofs.Reaching.{run_has_no_cycle}
+use Rattle.run_laws.specs.Acts.{IsActOf}
+use Rattle.run_laws.proofs.Reaching.{run_has_no_cycle}
 use Rattle.install_laws.proofs.Lines.{line-true}
-use Rattle.settle_lines.proofs.Lines.{line-true as settled-true}
+use Rattle.settle_line_laws.proofs.Lines.{line-true as settled-true}
 use Rattle.print_laws.proofs.Pieces.{complete_maps_read_back}
-use Rattle.script_laws.proofs.Said.{said-command, said-act}
-use Rattle.sound_laws.proofs.Sound.{always_promised}
+use Rattle.promise_laws.proofs.Said.{said-command, said-act}
+use Rattle.promise_laws.proofs.Sound.{always_promised}
 use Rattle.fabric_run.specs.Reading.{AcceptedText, reading_from, reading}
 use Rattle.fabric_run.specs.Promise.{IsPromised, DeepMapsAreComplete, InstalledLinesAreTrue}
 

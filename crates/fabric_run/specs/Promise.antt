@@ -5,7 +5,7 @@ use Rattle.journal_defs.specs.declared.entry.Entry.{Entry}
 use Rattle.journal_defs.specs.Depth.{enough_depth}
 use Rattle.map_defs.specs.NetMap.{NetMap}
 use Rattle.map_defs.specs.Sameness.{IsMapOfPart}
-use Rattle.map_defs.specs.Dependencies.{IsBefore, HasNoCycle}
+use Rattle.net_defs.specs.Dependencies.{IsBefore, HasNoCycle}
 use Rattle.world_defs.specs.World.{WorldState, last_count}
 use Rattle.world_defs.specs.Sound.{installed_channels}
 use Rattle.run_defs.specs.declared.command.Command.TheVariants.{Map, Install, Settle}
@@ -17,10 +17,11 @@ use Rattle.run_defs.specs.LineText.{map_text}
 use Rattle.run_defs.specs.Output.{Piece, OneLine}
 use Rattle.run_defs.specs.Session.{SessionState}
 use Rattle.run_defs.specs.Run.{Does, IsRun}
-use Rattle.run_defs.specs.Headline.{HasPrinted, IsQuiet, AlwaysSound}
+use Rattle.run_defs.specs.Headline.{HasPrinted, IsQuiet}
+use Rattle.act_defs.specs.Acts.{AlwaysSound}
 use Rattle.map_text.specs.Reading.{map_reading}
 use Rattle.install_laws.specs.Runs.{IsInstalledLine}
-use Rattle.settle_lines.specs.Lines.{IsSettledLine}
+use Rattle.settle_line_laws.specs.Lines.{IsSettledLine}
 use Rattle.fabric_run.specs.Reading.{AcceptedText}
 
 -- A map is the mapper's part of the fabric, and its lines are read as that map.

@@ -22,8 +22,6 @@ mod promise;
 mod ran;
 mod reading;
 mod status;
-#[cfg(test)]
-mod tests;
 mod top;
 
 pub use ran::Ran;

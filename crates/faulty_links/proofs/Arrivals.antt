@@ -17,7 +17,7 @@ use Rattle.link_defs.specs.Fault.{lose}
 use Rattle.link_defs.specs.Switch.{aim}
 use Rattle.link_defs.specs.Links.{Held, LinkState, packet_in, emptied}
 use Rattle.link_defs.specs.Advance.{course_by_channel, course_out, course_at, course_into, course, entered, gone_on, advance_of, advance}
-use Rattle.link_model.proofs.Wirings.{cable_ports}
+use Rattle.fabric_wiring.proofs.Wirings.{cable_ports}
 
 host_below : (n : Network) (g p : ℕ) → has_port n (record { v = Host g; p = p }) ≡ true → g < length n.hosts
 host_below n g p e = by (nat_lt g (length n.hosts)) refl e

@@ -26,8 +26,6 @@ mod gone;
 mod laws;
 mod plan;
 mod reach;
-#[cfg(test)]
-mod tests;
 
 pub use faulty::FaultyLinks;
 pub use gone::Gone;

@@ -1,4 +1,6 @@
-//! What every generated text says: it is read without a fault, as the fabric and the commands that `specs/Laws.antt` names.
+//! What every generated text says: it is read without a fault, as a fabric and its commands.
+//!
+//! It makes no text: that is `fabric_gen`. `specs/Laws.antt` names the fabric and the commands.
 #![tactic(auto)]
 
 mod texts;

@@ -12,7 +12,7 @@ use Rattle.gm_defs.specs.declared.token.Took.TheVariants.{NotNext, NoToken, Whol
 use Rattle.gm_defs.specs.Body.{piece, number_limit}
 use Rattle.gm_defs.specs.Fragment.{pieces, fragments, piece_count, whole_below, head_of, frame_of, IsHonestFrame, IsHonestAck}
 use Rattle.gm_defs.specs.Connection.{SenderState, IsSender, window, due, sent_one, is_taken, acknowledged, expired, is_spent, offered, took, taken_after}
-use Rattle.gm_defs.proofs.Fronts.{both, if-some, map-some}
+use Rattle.gm_defs.proofs.Choices.{both, if-some, map-some}
 use Rattle.gm_conn.proofs.Messages.{IsShort, all-at, within, take-next, whole_of, length-fragments, whole_below-short, fragment-short, one_piece}
 
 -- A connection: its hosts, its sender's numbers, how many fragments its receiver has taken, and the messages that were sent.

@@ -14,7 +14,7 @@ use Rattle.gm_defs.specs.declared.token.Took.TheVariants.{NotNext, NoToken, Whol
 use Rattle.gm_defs.specs.Body.{message_limit, is_head}
 use Rattle.gm_defs.specs.Fragment.{piece_count, head_of, frame_of, IsHonestAck}
 use Rattle.gm_defs.specs.Connection.{SenderState, due, sent_one, acknowledged, expired, unacknowledged, is_spent, offered, took, taken_after}
-use Rattle.gm_defs.proofs.Fronts.{map-some}
+use Rattle.gm_defs.proofs.Choices.{map-some}
 use Rattle.gm_conn.specs.declared.event.PairMsg.{PairMsg}
 use Rattle.gm_conn.specs.declared.event.PairEvent.{PairEvent}
 use Rattle.gm_conn.specs.declared.event.PairEvent.TheVariants.{Offer, Emit, EmitAck, Deliver, Expire}

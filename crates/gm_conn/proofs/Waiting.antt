@@ -9,7 +9,7 @@ use Rattle.gm_defs.specs.Body.{piece, message_limit, number_limit, is_head, is_o
 use Rattle.gm_defs.specs.declared.frame.FrameHead.{FrameHead}
 use Rattle.gm_defs.specs.Fragment.{fragments, whole_below, head_of}
 use Rattle.gm_defs.specs.Connection.{window, due}
-use Rattle.gm_defs.proofs.Fronts.{both}
+use Rattle.gm_defs.proofs.Choices.{both}
 use Rattle.gm_conn.specs.declared.desc.Desc.{Desc}
 use Rattle.gm_conn.specs.Halves.{Outgoing, IsOutgoing, is_desc, message_of, outgoing, messages, first, due_at, due_frame, finished, oldest_finished, without_finished, head_for}
 use Rattle.gm_conn.proofs.Messages.{IsShort, length-fragments, whole_below-short, fragment-short, whole_of}

@@ -18,8 +18,6 @@ mod pair;
 mod receiver;
 mod refusal;
 mod sender;
-#[cfg(test)]
-mod tests;
 
 pub use desc::{Desc, Due};
 pub use event::{PairEvent, PairMsg};

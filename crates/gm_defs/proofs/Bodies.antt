@@ -9,7 +9,7 @@ use Rattle.gm_defs.specs.declared.frame.Ack.{Ack}
 use Rattle.gm_defs.specs.declared.frame.GmBody.TheVariants.{Frame, Ack as Acknowledges}
 use Rattle.gm_defs.specs.Body.{frame_length, ack_length, head_in, ack_in, part_in, frame_bytes, is_head, is_frame, is_ack, begins_with, decode}
 use Rattle.gm_defs.specs.Laws.{AreBytes, IsWrittenFrame, IsWrittenAck, FrameWasWritten, AckWasWritten}
-use Rattle.gm_defs.proofs.Fronts.{both, chosen}
+use Rattle.gm_defs.proofs.Choices.{both, chosen}
 
 -- what holds of each list of at least so many bytes, in terms of these
 abbrev OfLong : ℕ → (List ℕ → Type 0) → Type 0

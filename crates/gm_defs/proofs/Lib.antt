@@ -1,5 +1,4 @@
 pub mod Bodies
-pub mod Fronts
-pub mod Mappings
+pub mod Choices
 pub mod Pieces
 pub mod Sizes

@@ -7,7 +7,6 @@ use Rattle.gm_defs.specs.declared.frame.Ack.{Ack}
 use Rattle.gm_defs.specs.declared.frame.GmBody.TheVariants.{Frame, Ack as Acknowledges}
 use Rattle.gm_defs.specs.Fragment.{pieces, joined}
 use Rattle.gm_defs.specs.Body.{piece, is_head, frame_bytes, ack_bytes, part_in, decode, number_limit}
-use Rattle.gm_defs.specs.Mapping.{MappingBody, mapping_bytes, is_mapping, decode_mapping}
 use Rattle.gm_defs.specs.Connection.{SenderState, IsSender, starting, due, sent_one, acknowledged, expired, is_spent, offered}
 use Rattle.gm_defs.specs.Token.{sizes, room, size_for_length}
 
@@ -47,14 +46,6 @@ pub record IsWrittenAck (body : List ℕ) (a : Ack) : Type 0 where
 -- and what is read as an acknowledgement was
 abbrev pub AckWasWritten : Type 0
 AckWasWritten = (body : List ℕ) (a : Ack) → AreBytes body → decode body ≡ Ok (Acknowledges a) → IsWrittenAck body a
-
--- a body of the mapper's protocol that is by the rules is read as what it is
-abbrev pub MappingIsRead : Type 0
-MappingIsRead = (b : MappingBody) → is_mapping b ≡ true → decode_mapping (mapping_bytes b) ≡ Some b
-
--- and what is read as one was written so, by the rules
-abbrev pub MappingWasWritten : Type 0
-MappingWasWritten = (bytes : List ℕ) (b : MappingBody) → AreBytes bytes → decode_mapping bytes ≡ Some b → (bytes ≡ mapping_bytes b) × (is_mapping b ≡ true)
 
 -- a new connection has its numbers in order
 abbrev pub StartingIsSender : Type 0

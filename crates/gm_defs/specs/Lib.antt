@@ -3,6 +3,5 @@ pub mod Connection
 pub mod Examples
 pub mod Fragment
 pub mod Laws
-pub mod Mapping
 pub mod Port
 pub mod Token

@@ -1,16 +1,15 @@
 //! Worked examples, computed by the prover: each function's contract is the example, and its body is empty.
 
-ghost use Rattle.std.specs.Prelude.{◌≡◌, ◌∷◌, [], pos, negsuc, codes, replicate, map, length, true, false};
+ghost use Rattle.std.specs.Prelude.{◌≡◌, ◌∷◌, [], codes, replicate, map, length, true, false};
 ghost use Rattle.gm_defs.specs.declared.frame.GmBody.{GmBody};
 ghost use Rattle.gm_defs.specs.declared.token.Took.{Took};
 ghost use Rattle.gm_defs.specs.declared.token.TokenPlace.{TokenPlace};
 ghost use Rattle.gm_defs.specs.Body.{frame_bytes, ack_bytes, decode, is_head};
-ghost use Rattle.gm_defs.specs.Mapping.{HostProbe, HostReply, Loopback, Part, PartAck, mapping_bytes, decode_mapping};
 ghost use Rattle.gm_defs.specs.Fragment.{pieces, fragments, frame_of, whole_below, piece_count};
 ghost use Rattle.gm_defs.specs.Connection.{starting, due, sent_one, acknowledged, expired, offered, unacknowledged, is_spent, took};
 ghost use Rattle.gm_defs.specs.Token.{size_for_length, fits, HasOneOwner, place_of_send, place_of_recv, can_take};
 ghost use Rattle.gm_defs.specs.Port.{filled, is_bad_size, is_too_long, sent_with, provided_with, finished, delivered, next_event, polled, unfinished};
-ghost use Rattle.gm_defs.specs.Examples.{message, abc, first_part, busy_port, sends_of, provided_of, events_of, sent_event};
+ghost use Rattle.gm_defs.specs.Examples.{message, abc, busy_port, sends_of, provided_of, events_of, sent_event};
 
 /// A frame of three bytes and its acknowledgement.
 pub fn bodies_of_frames()
@@ -22,20 +21,6 @@ pub fn bodies_of_frames()
     ensures nothing { decode [] ≡ Err (record {}) }
     ensures wrong_port { is_head (record abc { dport = 8 }) ≡ false }
     ensures wrong_offset { is_head (record abc { offset = 3 }) ≡ false }
-{}
-
-/// A probe with its way back, a reply, a part of two entries, and what is no body.
-pub fn bodies_of_mapping()
-    ensures probe { mapping_bytes (HostProbe 7 0 (negsuc 2 ∷ [])) ≡ 1 ∷ 0 ∷ 0 ∷ 0 ∷ 0 ∷ 0 ∷ 0 ∷ 0 ∷ 7 ∷ 0 ∷ 0 ∷ 1 ∷ 189 ∷ [] }
-    ensures probe_read { decode_mapping (mapping_bytes (HostProbe 7 0 (negsuc 2 ∷ []))) ≡ Some (HostProbe 7 0 (negsuc 2 ∷ [])) }
-    ensures reply_read { decode_mapping (mapping_bytes (HostReply 7 1)) ≡ Some (HostReply 7 1) }
-    ensures loop_read { decode_mapping (mapping_bytes (Loopback 9 1)) ≡ Some (Loopback 9 1) }
-    ensures part { mapping_bytes (Part first_part) ≡ 4 ∷ 0 ∷ 0 ∷ 0 ∷ 1 ∷ 0 ∷ 0 ∷ 0 ∷ 2 ∷ 0 ∷ 2 ∷ 1 ∷ 189 ∷ 2 ∷ 0 ∷ 0 ∷ 1 ∷ 131 ∷ 0 ∷ 1 ∷ 0 ∷ [] }
-    ensures part_read { decode_mapping (mapping_bytes (Part first_part)) ≡ Some (Part first_part) }
-    ensures ack_read { decode_mapping (5 ∷ 0 ∷ 0 ∷ 0 ∷ 1 ∷ 0 ∷ 2 ∷ 0 ∷ []) ≡ Some (PartAck 1 2 0) }
-    ensures longer { decode_mapping (5 ∷ 0 ∷ 0 ∷ 0 ∷ 1 ∷ 0 ∷ 2 ∷ 0 ∷ 0 ∷ []) ≡ None }
-    ensures other_kind { decode_mapping (6 ∷ []) ≡ None }
-    ensures nothing { decode_mapping [] ≡ None }
 {}
 
 /// Pieces of messages, their numbers on a connection, and what is whole below a number.

@@ -1,6 +1,6 @@
 //! What holds of every body, connection and size: each function's contract is the law, and its body is empty.
 
-ghost use Rattle.gm_defs.specs.Laws.{FrameIsRead, AckIsRead, FrameWasWritten, AckWasWritten, MappingIsRead, MappingWasWritten, StartingIsSender, SendingStays, AcknowledgingStays, ExpiringStays, OfferingStays, SizeIsLeast, NoSizeAbove, PiecesMakeMessage, ShortIsOnePiece};
+ghost use Rattle.gm_defs.specs.Laws.{FrameIsRead, AckIsRead, FrameWasWritten, AckWasWritten, StartingIsSender, SendingStays, AcknowledgingStays, ExpiringStays, OfferingStays, SizeIsLeast, NoSizeAbove, PiecesMakeMessage, ShortIsOnePiece};
 
 /// Bytes that were written are read as what they are.
 pub fn bodies_are_read()
@@ -12,12 +12,6 @@ pub fn bodies_are_read()
 pub fn bodies_were_written()
     ensures frame { FrameWasWritten }
     ensures acknowledgement { AckWasWritten }
-{}
-
-/// The same of the bodies of the mapper's protocol, both ways.
-pub fn mapping_is_read()
-    ensures read { MappingIsRead }
-    ensures written { MappingWasWritten }
 {}
 
 /// The four numbers of a sender stay in order.

@@ -6,7 +6,6 @@
 //! | file of `specs/` | says |
 //! |---|---|
 //! | `Body` | the bytes of frames and acknowledgements |
-//! | `Mapping` | the bytes of probes, replies, route parts and their acknowledgements |
 //! | `Fragment` | the pieces of a message, honest frames and acknowledgements |
 //! | `Connection` | the four numbers of a sender, the one of a receiver |
 //! | `Token` | sizes, and where each token of a port is |
@@ -27,13 +26,12 @@ mod token;
 
 pub use blob::Blob;
 pub use examples::{
-    bodies_of_frames, bodies_of_mapping, numbers_of_a_connection, pieces_of_messages,
-    ports_after_calls, sizes_of_tokens,
+    bodies_of_frames, numbers_of_a_connection, pieces_of_messages, ports_after_calls,
+    sizes_of_tokens,
 };
 pub use frame::{Ack, ConnectionKey, FrameHead, GmBody, Malformed};
 pub use laws::{
-    bodies_are_read, bodies_were_written, mapping_is_read, messages_of_pieces, senders_stay,
-    sizes_are_least,
+    bodies_are_read, bodies_were_written, messages_of_pieces, senders_stay, sizes_are_least,
 };
 pub use message::Message;
 pub use token::{TokenPlace, Took};

@@ -11,8 +11,6 @@
 
 mod key;
 mod reading;
-#[cfg(test)]
-mod tests;
 mod writing;
 
 pub use gm_defs::{Ack, Blob, ConnectionKey, FrameHead, GmBody, Malformed};

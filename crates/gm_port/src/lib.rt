@@ -30,8 +30,6 @@ mod events;
 mod laws;
 mod port;
 mod sends;
-#[cfg(test)]
-mod tests;
 
 pub use ask::{CloseRefusal, ProvideRefusal, SendAsk, SendRefusal};
 pub use event::{PortEvent, Wreck};

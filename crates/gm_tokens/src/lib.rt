@@ -16,8 +16,6 @@
 mod bank;
 mod laws;
 mod size;
-#[cfg(test)]
-mod tests;
 mod token;
 
 pub use bank::{Bank, Minted, NoMemory};

@@ -7,14 +7,15 @@ use Rattle.net_defs.specs.declared.place.Answer.TheVariants.{Switch}
 use Rattle.net_defs.specs.Network.{Apart}
 use Rattle.net_defs.proofs.Distinct.{apart-push}
 use Rattle.journal_defs.specs.declared.entry.Entry.{Entry}
-use Rattle.journal_defs.specs.Walks.{IsOnward, same_turns}
+use Rattle.journal_defs.specs.Walks.{IsOnward}
+use Rattle.net_defs.specs.Turn.{same_turns}
 use Rattle.journal_defs.specs.Tree.{IsNode, IsSwitchNode, IsJournal, is_asked, answered, has_found}
 use Rattle.journal_defs.specs.Tree.Node.{Reached}
 use Rattle.journal_defs.specs.Replicates.Replicates.{same}
 use Rattle.journal_defs.specs.Growth.{IsBegun, IsExpanded, IsGrowing, NextAsk, HasExpanded}
 use Rattle.journal_defs.specs.Growth.IsGrowing.{nothing, more}
 use Rattle.journal_defs.specs.Growth.NextAsk.{first, goes_on, begins}
-use Rattle.journal_defs.proofs.Order.{same_turns-refl}
+use Rattle.net_defs.proofs.Turns.{same_turns-refl}
 use Rattle.journal_defs.proofs.OneSwitch.{first_turn}
 use Rattle.growth_laws.proofs.Keeping.{Keeps, keeps-append, asked-push}
 
@@ -84,7 +85,7 @@ first-unbegun j e w none walk b = by (asked-push j e (w ++ b.turn ∷ []) b.aske
 abbrev pub walks : List Entry → List (List ℤ)
 walks j = map (λ e. e.walk) j
 
-unasked-apart : (j : List Entry) (x : List ℤ) → is_asked j x ≡ false → AllByRecursion (λ y. x ≢ y) (walks j)
+pub unasked-apart : (j : List Entry) (x : List ℤ) → is_asked j x ≡ false → AllByRecursion (λ y. x ≢ y) (walks j)
 unasked-apart [] x e = tt
 unasked-apart (y ∷ j) x e = by (same_turns y.walk x) refl e (unasked-apart j x)
   where
@@ -92,7 +93,7 @@ unasked-apart (y ∷ j) x e = by (same_turns y.walk x) refl e (unasked-apart j x
     by true p f rest = absurd (true≢false f)
     by false p f rest = ((λ one. true≢false (sym (ap (λ z. same_turns z x) (sym one) ∙ same_turns-refl x) ∙ p)), rest f)
 
-walks-push : (j : List Entry) (e : Entry) → walks (j ++ e ∷ []) ≡ walks j ++ e.walk ∷ []
+pub walks-push : (j : List Entry) (e : Entry) → walks (j ++ e ∷ []) ≡ walks j ++ e.walk ∷ []
 walks-push [] e = refl
 walks-push (x ∷ j) e = ap (λ l. x.walk ∷ l) (walks-push j e)
 

@@ -17,7 +17,7 @@ use Rattle.journal_defs.specs.Tree.Node.{Mapper, Reached}
 use Rattle.journal_defs.specs.Tree.Leads.{onward, back, out, home}
 use Rattle.journal_defs.specs.Growth.{IsExpanded}
 use Rattle.journal_defs.specs.Truth.{IsTrueJournal, standing}
-use Rattle.journal_defs.proofs.Cabling.{host-port, at_most_sixteen}
+use Rattle.net_defs.proofs.Cabling.{host-port, at_most_sixteen}
 use Rattle.journal_defs.proofs.Standing.{standing-there, entered-push, leads-crosses, leads-to, node-stands, turn-between}
 use Rattle.growth_laws.proofs.Asks.{HasTree, ByLast, by_last, push-length, switch-node}
 use Rattle.growth_laws.proofs.Asks.ByLast.{empty, pushed}

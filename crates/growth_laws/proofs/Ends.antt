@@ -23,7 +23,7 @@ use Rattle.journal_defs.specs.Growth.NextAsk.{first, goes_on, begins}
 use Rattle.journal_defs.specs.Truth.{IsTrueJournal, standing}
 use Rattle.journal_defs.specs.Part.{Path, IsInPart}
 use Rattle.journal_defs.specs.Part.Path.{here, over}
-use Rattle.journal_defs.proofs.Cabling.{far-back}
+use Rattle.net_defs.proofs.Cabling.{far-back}
 use Rattle.journal_defs.proofs.Standing.{leads-to, node-stands, standing-there, leads-crosses}
 use Rattle.journal_defs.proofs.Members.{all-map}
 use Rattle.journal_defs.specs.Depth.{EachSwitchHasAHost}

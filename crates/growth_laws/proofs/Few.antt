@@ -7,14 +7,15 @@ use Rattle.std.proofs.lemmas.List.{length-map}
 use Rattle.net_defs.specs.Network.{Apart}
 use Rattle.net_defs.proofs.Distinct.{all-weaker}
 use Rattle.journal_defs.specs.declared.entry.Entry.{Entry}
-use Rattle.journal_defs.specs.Walks.{IsOnward, onward_turns, same_turns}
+use Rattle.journal_defs.specs.Walks.{IsOnward, onward_turns}
+use Rattle.net_defs.specs.Turn.{same_turns}
 use Rattle.journal_defs.specs.Tree.{IsNode, is_asked, answered, reached, is_found, has_found}
 use Rattle.journal_defs.specs.Tree.Node.{Reached}
 use Rattle.journal_defs.specs.Growth.{IsGrowing, IsBegun, NextAsk}
 use Rattle.journal_defs.specs.Growth.IsGrowing.{nothing, more}
 use Rattle.journal_defs.specs.Growth.NextAsk.{first, goes_on, begins}
 use Rattle.journal_defs.proofs.Members.{IsMember, member-left, member-right, member-map, all-member}
-use Rattle.journal_defs.proofs.Order.{same_turns-true, same_turns-refl}
+use Rattle.net_defs.proofs.Turns.{same_turns-true, same_turns-refl}
 use Rattle.journal_defs.proofs.Counted.{onward-member}
 use Rattle.growth_laws.specs.Laws.{AsksAreFew}
 use Rattle.growth_laws.proofs.Keeping.{keeps-append, begun-kept}

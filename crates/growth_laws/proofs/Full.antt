@@ -17,7 +17,7 @@ use Rattle.journal_defs.specs.Growth.{IsGrowing, IsExpanded, HasExpanded, crosse
 use Rattle.journal_defs.specs.Truth.{IsTrueJournal, standing}
 use Rattle.journal_defs.specs.Part.{Path}
 use Rattle.journal_defs.specs.Part.Path.{here, over}
-use Rattle.journal_defs.proofs.Cabling.{far-back}
+use Rattle.net_defs.proofs.Cabling.{far-back}
 use Rattle.journal_defs.proofs.Standing.{stand, same_end-of, replicates-nodes, leads-to, plus_zero}
 use Rattle.growth_laws.proofs.Asks.{HasTree, growing-tree}
 use Rattle.growth_laws.proofs.Phases.{HasShort, no_longer}

@@ -4,14 +4,14 @@ use Rattle.std.specs.Prelude.{ℤ, ◌+ℤ◌}
 use Rattle.std.proofs.lemmas.Bool.{false≢true}
 use Rattle.net_defs.specs.declared.place.Answer.{Answer}
 use Rattle.journal_defs.specs.declared.entry.Entry.{Entry}
-use Rattle.journal_defs.specs.Walks.{same_turns}
+use Rattle.net_defs.specs.Turn.{same_turns}
 use Rattle.journal_defs.specs.Tree.{Node, Leads, IsNode, answered, is_asked, host_of, host_in, has_found}
 use Rattle.journal_defs.specs.Tree.Node.{Mapper, Reached}
 use Rattle.journal_defs.specs.Tree.Leads.{onward, back, out, home}
 use Rattle.journal_defs.specs.Replicates.{Replicates}
 use Rattle.journal_defs.specs.Replicates.Replicates.{same, turned as other_way, along, one_host, behind}
 use Rattle.journal_defs.specs.Growth.{IsBegun, IsExpanded, HasExpanded}
-use Rattle.journal_defs.proofs.Order.{same_turns-true, same_turns-refl}
+use Rattle.net_defs.proofs.Turns.{same_turns-true, same_turns-refl}
 use Rattle.journal_defs.proofs.Growing.{asked-answer}
 
 -- the answers of one journal stand in another

@@ -4,14 +4,16 @@ use Rattle.std.specs.Prelude.{ℤ, negsuc}
 use Rattle.std.proofs.lemmas.Bool.{false≢true, cases_order}
 use Rattle.net_defs.specs.declared.place.Answer.TheVariants.{Switch}
 use Rattle.journal_defs.specs.declared.entry.Entry.{Entry}
-use Rattle.journal_defs.specs.Walks.{same_turns, turns_below, walk_below}
+use Rattle.net_defs.specs.Turn.{same_turns}
+use Rattle.journal_defs.specs.Walks.{turns_below, walk_below}
 use Rattle.journal_defs.specs.Tree.{IsSwitchNode, is_asked}
 use Rattle.journal_defs.specs.Tree.Node.{Reached}
 use Rattle.journal_defs.specs.Replicates.{Replicates}
 use Rattle.journal_defs.specs.Growth.{IsBegun, IsExpanded, IsLeastUnasked, IsGrowing, NextAsk, HasExpanded, IsAtRest, IsChosen}
 use Rattle.journal_defs.specs.Growth.IsGrowing.{nothing, more}
 use Rattle.journal_defs.specs.Growth.NextAsk.{first, goes_on, begins}
-use Rattle.journal_defs.proofs.Order.{same_turns-true, same_turns-refl, below-parts, below-shorter, below-total}
+use Rattle.net_defs.proofs.Turns.{same_turns-true, same_turns-refl}
+use Rattle.journal_defs.proofs.Order.{below-parts, below-shorter, below-total}
 use Rattle.journal_defs.proofs.Standing.{replicates-nodes}
 use Rattle.journal_defs.proofs.Asking.{unasked-open}
 use Rattle.journal_defs.proofs.OneSwitch.{first_turn}

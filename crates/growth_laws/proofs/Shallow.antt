@@ -16,7 +16,8 @@ use Rattle.journal_defs.specs.Part.Path.{here, over}
 use Rattle.journal_defs.specs.DistanceLaws.{HasHostWithin}
 use Rattle.journal_defs.specs.Truth.{IsTrueJournal}
 use Rattle.journal_defs.proofs.Distance.{part_is_reached}
-use Rattle.journal_defs.proofs.Grown.{two_hosts_grown, two_hosts_fabric, two_hosts_true}
+use Rattle.journal_defs.proofs.Grown.{two_hosts_grown, two_hosts_true}
+use Rattle.net_defs.proofs.TwoHosts.{two_hosts_fabric}
 use Rattle.journal_defs.specs.Depth.{EachSwitchHasAHost, IsSmallEnough}
 use Rattle.journal_defs.proofs.OneSwitch.{turn_unasked}
 use Rattle.growth_laws.specs.Laws.{EndsClosed}

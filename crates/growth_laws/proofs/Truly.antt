@@ -11,12 +11,12 @@ use Rattle.net_defs.specs.Route.{answer, answer_at, place_at, place_at_vertex, e
 use Rattle.net_defs.proofs.Distinct.{all-weaker}
 use Rattle.net_defs.proofs.Places.{far-there}
 use Rattle.journal_defs.specs.declared.entry.Entry.{Entry}
-use Rattle.journal_defs.specs.Walks.{same_turns}
+use Rattle.net_defs.specs.Turn.{same_turns}
 use Rattle.journal_defs.specs.Tree.{Node, IsNode, IsSwitchNode, answered, is_asked, host_of, host_in, is_found, has_found}
 use Rattle.journal_defs.specs.Tree.Node.{Mapper, Reached}
 use Rattle.journal_defs.specs.Truth.{IsTrueJournal, IsTrueWhereFound, standing}
-use Rattle.journal_defs.proofs.Order.{same_turns-true}
-use Rattle.journal_defs.proofs.Cabling.{far-back}
+use Rattle.net_defs.proofs.Turns.{same_turns-true}
+use Rattle.net_defs.proofs.Cabling.{far-back}
 use Rattle.journal_defs.proofs.Counted.{stuck}
 use Rattle.growth_laws.proofs.Keeping.{found-answer}
 

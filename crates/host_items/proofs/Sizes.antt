@@ -11,8 +11,8 @@ use Rattle.net_defs.specs.Turn.{is_turn}
 use Rattle.packet_defs.specs.declared.kind.Kind.TheVariants.{Mapping}
 use Rattle.packet_defs.specs.RouteByte.{route_byte}
 use Rattle.packet_defs.specs.Packet.{packet_of}
-use Rattle.gm_defs.specs.Mapping.{RouteEntry, RoutePart, mapping_bytes, is_part, is_route, are_entries, entry_bytes, route_bytes}
-use Rattle.gm_defs.specs.Mapping.MappingBody.{Part}
+use Rattle.mapping_defs.specs.Mapping.{RouteEntry, RoutePart, mapping_bytes, is_part, is_route, are_entries, entry_bytes, route_bytes}
+use Rattle.mapping_defs.specs.Mapping.MappingBody.{Part}
 use Rattle.world_defs.specs.Node.{way_back}
 
 -- the opposites of turns, from the last to the first

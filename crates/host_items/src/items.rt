@@ -1,7 +1,7 @@
 //! The three items.
 
 ghost use Rattle.std.specs.Prelude.{◌≡◌, ◌≤◌, length, true, is_some, Some, IfOk};
-ghost use Rattle.gm_defs.specs.Mapping.{is_part};
+ghost use Rattle.mapping_defs.specs.Mapping.{is_part};
 ghost use Rattle.world_defs.specs.Node.{StagedProbe, StagedPart};
 ghost use Rattle.host_items.specs.Held.{no_items, is_staged, packet_of_first, packet_of_answer, without_first, first_of, with_staged, with_reply, with_answer};
 

@@ -17,8 +17,6 @@ mod items;
 mod laws;
 mod route;
 mod staged;
-#[cfg(test)]
-mod tests;
 
 pub use items::Items;
 pub use laws::items_are_a_hosts;

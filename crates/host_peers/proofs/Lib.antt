@@ -1,1 +1,2 @@
+pub mod OnePeer
 pub mod Places

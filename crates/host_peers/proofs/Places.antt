@@ -4,8 +4,8 @@ use Rattle.std.specs.Prelude.{replicate, slice_index_or, slice_set, Result, Ok, 
 use Rattle.std.proofs.lemmas.Bool.Decides.{nat_tests}
 use Rattle.std.proofs.lemmas.List.{map-set, map-append, length-set, length-map, length-append, get_or-map, get_or-set_same, get_or-set_other, get_or_at, get_or_append_left, replicate-append-replicate}
 use Rattle.world_defs.specs.Peer.{PeerState, new_peer}
-use Rattle.host_peer.specs.Held.{HostPeer, in_state, unused}
-use Rattle.host_peers.specs.Known.{HostPeers, AreOf, peer_in, peer_of, with_state, states, nobody}
+use Rattle.host_peers.specs.Peer.{HostPeer, in_state, unused}
+use Rattle.host_peers.specs.Peers.{HostPeers, AreOf, peer_in, peer_of, with_state, states, nobody}
 
 -- a value that was read within a list is the one at its place
 pub read-within : (ps : List HostPeer) (i : ℕ) (x : HostPeer) → i < length ps → x ≡ slice_index_or ps i x → x ≡ slice_index_or ps i nobody

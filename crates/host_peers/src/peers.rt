@@ -1,16 +1,15 @@
 //! The connections of a host.
 
-ghost use Rattle.std.specs.Prelude.{◌≡◌, ◌<◌, ◌≤◌, length, true, nat_lt, slice_get, slice_index_or, IfOk, IfSome, OnOk, OnErr, IsSome};
-ghost use Rattle.std.specs.Option.{option_copied};
+ghost use Rattle.std.specs.Prelude.{◌≡◌, ◌<◌, ◌≤◌, length, true, nat_lt, IfOk, OnOk, OnErr, IsSome};
 ghost use Rattle.net_defs.specs.Refusal.{Refuses};
 ghost use Rattle.gm_defs.specs.Body.{is_head, message_limit};
 ghost use Rattle.gm_defs.specs.Connection.{due, unacknowledged, took};
-ghost use Rattle.world_defs.specs.Peer.{with_message, finished_by, peer_acknowledged, peer_expired, peer_sent_one, peer_answered, peer_after};
+ghost use Rattle.world_defs.specs.Peer.{with_message, peer_acknowledged, peer_expired, peer_sent_one, peer_answered, peer_after};
 ghost use Rattle.world_defs.specs.Hearing.{message_of};
-ghost use Rattle.host_peer.specs.Held.{frame_shown, message_in, accept_refusal};
-ghost use Rattle.host_peers.specs.Known.{all_unused, peer_in, with_state, due_to, owes_to, has_due, IsNext, nobody};
+ghost use Rattle.host_peers.specs.Peer.{message_in, accept_refusal};
+ghost use Rattle.host_peers.specs.Peers.{all_unused, peer_in, peer_of, with_state, owes_to, has_due, IsNext};
 
-use host_peer::{Ack, DueFrame, Envelope, FrameHead, Message, OfferRefusal, Peer, Ticket, Took};
+use crate::{Envelope, FrameHead, OfferRefusal, Peer, Took};
 use std::alloc::{AllocError, Global};
 use std::marker::Model;
 
@@ -22,7 +21,7 @@ pub struct Peers {
 }
 
 impl Model for Peers {
-    ghost use Rattle.host_peers.specs.Known.{HostPeers, AreOf, states};
+    ghost use Rattle.host_peers.specs.Peers.{HostPeers, AreOf, states};
 
     ghost Value = { HostPeers };
 
@@ -50,14 +49,12 @@ impl Peers {
         count_of(&self.peers)
     }
 
-    /// The fragment that is to be sent to a peer next, if one is.
-    pub fn due(&self, peer: u16) -> Option<DueFrame<'_>>
+    /// The connections with a peer.
+    pub fn at(&self, peer: u16) -> &Peer
         requires { peer < length self.now.peers }
-        ensures exact { frame_shown result ≡ due_to self.now peer }
-        ensures by_rules { IfSome result (λ d. is_head d.head ≡ true) }
-        ensures part { IfSome result (λ d. length d.part.now ≡ d.head.len) }
+        ensures { result.now ≡ peer_of self.now peer }
     {
-        peer_at(&self.peers, peer).due()
+        &self.peers[usize::from(peer)]
     }
 
     /// The due fragment was sent.
@@ -84,14 +81,6 @@ impl Peers {
         ensures new { self.new ≡ with_state self.old peer (peer_expired (peer_in self.old peer)) }
     {
         self.peers[usize::from(peer)].expire()
-    }
-
-    /// How many fragments to a peer aren't acknowledged, sent or not.
-    pub fn unacked(&self, peer: u16) -> u32
-        requires { peer < length self.now.peers }
-        ensures { result ≡ unacknowledged (peer_in self.now peer).sender }
-    {
-        peer_at(&self.peers, peer).unacked()
     }
 
     /// The least peer from an address on that is owed an acknowledgement, if there is one.
@@ -123,7 +112,7 @@ impl Peers {
         requires { peer < length self.now.peers }
         ensures { result ≡ owes_to self.now peer }
     {
-        peer_at(&self.peers, peer).owes()
+        self.at(peer).owes()
     }
 
     // Whether a fragment is due to a peer.
@@ -131,15 +120,7 @@ impl Peers {
         requires { peer < length self.now.peers }
         ensures { result ≡ has_due self.now peer }
     {
-        self.due(peer).is_some()
-    }
-
-    /// The acknowledgement of what was taken from a peer.
-    pub fn ack(&self, peer: u16) -> Ack
-        requires { peer < length self.now.peers }
-        ensures { result ≡ record { src = self.now.host; dst = peer; next = (peer_in self.now peer).taken } }
-    {
-        peer_at(&self.peers, peer).ack()
+        self.at(peer).due().is_some()
     }
 
     /// Accepts a message for a peer, with the number of its port's token. A refusal changes nothing: Spent where it needs a number above
@@ -162,22 +143,6 @@ impl Peers {
         ensures err { OnErr result (self.new ≡ self.old) }
     {
         self.peers[usize::from(peer)].accept(alloc, e, body, token)
-    }
-
-    /// How many sends to a peer an acknowledgement of this number finishes: so many of the tickets that wait longest.
-    pub fn finished_by(&self, peer: u16, next: u32) -> usize
-        requires { peer < length self.now.peers }
-        ensures { result ≡ finished_by (peer_in self.now peer) next }
-    {
-        peer_at(&self.peers, peer).finished_by(next)
-    }
-
-    /// The ticket at a place among the unfinished sends to a peer, the one that waits longest at 0.
-    pub fn pending(&self, peer: u16, place: usize) -> Option<&Ticket>
-        requires { peer < length self.now.peers }
-        ensures { option_copied result ≡ slice_get (peer_in self.now peer).pending place }
-    {
-        peer_at(&self.peers, peer).pending(place)
     }
 
     /// An acknowledgement came from a peer: the sends that it finishes wait no more.
@@ -205,22 +170,6 @@ impl Peers {
     {
         self.peers[usize::from(h.src)].on_frame(alloc, h, part, fits)
     }
-
-    /// The messages that were accepted for a peer, in order.
-    pub fn sent(&self, peer: u16) -> &[Message]
-        requires { peer < length self.now.peers }
-        ensures { result.now ≡ (peer_in self.now peer).sent }
-    {
-        peer_at(&self.peers, peer).sent()
-    }
-
-    /// The messages that were taken from a peer, in order.
-    pub fn got(&self, peer: u16) -> &[Message]
-        requires { peer < length self.now.peers }
-        ensures { result.now ≡ (peer_in self.now peer).got }
-    {
-        peer_at(&self.peers, peer).got()
-    }
 }
 
 // How many peers there are.
@@ -229,12 +178,4 @@ fn count_of(peers: &[Peer]) -> u16
     ensures { result ≡ length peers.now }
 {
     peers.len() as u16
-}
-
-// The connections with a peer.
-fn peer_at(peers: &[Peer], peer: u16) -> &Peer
-    requires { peer < length peers.now }
-    ensures { result.now ≡ slice_index_or peers.now peer nobody }
-{
-    &peers[usize::from(peer)]
 }

@@ -15,8 +15,6 @@ mod ask;
 mod node_port;
 mod ports;
 mod slot;
-#[cfg(test)]
-mod tests;
 
 pub use ask::{NotOpen, PortBegin, PortClose, PortProvide, PortSend};
 pub use gm_port::{

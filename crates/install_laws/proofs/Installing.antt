@@ -10,16 +10,16 @@ use Rattle.world_laws.specs.Shape.{IsWorld}
 use Rattle.world_laws.proofs.Shapes.{step-kept, new-world, planned-world, adopted-world}
 use Rattle.ask_laws.proofs.Lone.{IsBare, is-bare, bare-idle}
 use Rattle.ask_laws.proofs.Ready.{kept-start}
-use Rattle.run_defs.specs.Headline.{Act, Happens, Plans, Adopts, acted, acted_all}
-use Rattle.table_laws.specs.Acts.{IsReached}
+use Rattle.act_defs.specs.Acts.{Act, Happens, Plans, Adopts, acted, acted_all, IsReached}
 use Rattle.table_laws.proofs.Steps.{IsAdopted}
 use Rattle.mapping_laws.proofs.Worlds.{installed-of}
-use Rattle.act_laws.proofs.Leads.{Leads, leads-both, along-leads}
+use Rattle.run_laws.proofs.Leads.{Leads, leads-both, along-leads}
 use Rattle.install_laws.specs.Premises.{CanInstall}
 use Rattle.install_laws.specs.Kept.{IsInstallKept, InstallingKeeps, InstallingEndsIdle, CanInstallAgain}
 use Rattle.install_laws.specs.Cause.{MissedHostsWereHarmed}
 use Rattle.install_laws.specs.Counts.{EachMissCostsFaults}
-use Rattle.install_laws.proofs.Epochs.{reached-low, reached-of_set}
+use Rattle.table_laws.proofs.Dependencies.{reached-of}
+use Rattle.install_laws.proofs.Epochs.{reached-low}
 use Rattle.install_laws.proofs.Between.{Between, kept-ask, kept-both, between-start}
 use Rattle.install_laws.proofs.Parts.{are-ways}
 use Rattle.install_laws.proofs.Walking.{IsInstallable, AreInstalled, hosts-so}
@@ -41,13 +41,13 @@ record IsInstallation (n : Network) (a : Adoption) (tries : ℕ) (hosts : List �
 
 installable : (a : Adoption) (hosts : List ℕ) (w : WorldState) → CanInstall a hosts w → IsInstallable (fabric_of w) a
 installable a hosts w can =
-    let it : IsAdopted (fabric_of w) a = subst (λ o. IfSome o (IsAdopted (fabric_of w))) can.adopted (reached-of_set (fabric_of w) w can.reached).adopted in
+    let it : IsAdopted (fabric_of w) a = subst (λ o. IfSome o (IsAdopted (fabric_of w))) can.adopted (reached-of (fabric_of w) w can.reached).adopted in
     record { fabric = can.reached.fabric; epoch = it.epoch; in_order = can.in_order; ways = are-ways (fabric_of w) a.routes can.reached.fabric it.adoptable.lead can.few_turns }
 
 pub start-between : (a : Adoption) (hosts : List ℕ) (w : WorldState) → CanInstall a hosts w → Between (fabric_of w) a (all_given_up w)
 start-between a hosts w can =
     let n : Network = fabric_of w in
-    between-start n a w refl (reached-world n w can.reached) can.idle can.adopted (reached-of_set n w can.reached).plan (reached-low n w can.reached).each
+    between-start n a w refl (reached-world n w can.reached) can.idle can.adopted (reached-of n w can.reached).plan (reached-low n w can.reached).each
 
 installation : (a : Adoption) (hosts : List ℕ) (tries : ℕ) (w : WorldState) → CanInstall a hosts w → IsInstallation (fabric_of w) a tries hosts w (installed a hosts tries w)
 unfolding installed

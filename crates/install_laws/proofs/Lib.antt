@@ -1,4 +1,3 @@
-mod Lists
 mod Tables
 mod Epochs
 mod Parts
@@ -11,5 +10,4 @@ mod Counting
 mod Unplanned
 mod TwoHosts
 pub mod Shortest
-mod SameSet
 pub mod Lines

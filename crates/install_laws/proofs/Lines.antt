@@ -23,25 +23,26 @@ use Rattle.run_defs.specs.declared.line.InstallCause.{InstallCause}
 use Rattle.run_defs.specs.declared.line.InstallCause.TheVariants.{NoRoutes, Busy, Installed as OtherInstalled}
 use Rattle.run_defs.specs.Output.{Piece, OneLine, lines}
 use Rattle.run_defs.specs.Session.{SessionState, LastMap, LastRoutes, new_session, is_complete, complete_map}
-use Rattle.run_defs.specs.Outcome.{Outcome, says_only, event_of, stepped, step_or_idle, table_line, adoption_of, install_done, install_now, install, is_other, map_refused, routes_refused, outcome}
+use Rattle.run_defs.specs.Outcome.{Outcome, says_only, event_of, stepped, step_or_idle, table_line, adoption_of, install_done, install_now, install, map_refused, routes_refused, outcome}
+use Rattle.world_defs.specs.Table.{is_other}
 use Rattle.run_defs.specs.Run.{Does, Runs}
 use Rattle.run_defs.specs.Run.Does.{determined, maps, routes}
 use Rattle.run_defs.specs.Run.Runs.{ended, goes_on}
-use Rattle.run_defs.specs.Headline.{IsCommandOf, AreAdoptable}
-use Rattle.table_laws.specs.Acts.{IsReached}
+use Rattle.run_defs.specs.Headline.{IsCommandOf}
+use Rattle.act_defs.specs.Acts.{AreAdoptable, IsReached}
 use Rattle.mapping_laws.specs.Runs.{IsSessionOf}
 use Rattle.mapping_laws.specs.Held.{HoldsRight}
 use Rattle.mapping_laws.proofs.Sessions.{does-stays, new-session}
 use Rattle.mapping_laws.proofs.Holding.{does-hold, new-holds}
-use Rattle.act_laws.specs.Laws.{IsActOf}
-use Rattle.act_laws.proofs.Leads.{leads-adoption}
-use Rattle.act_laws.proofs.Ranked.{right_routes_are_adoptable}
-use Rattle.act_laws.proofs.Reaching.{run_is_reached}
+use Rattle.run_laws.specs.Acts.{IsActOf}
+use Rattle.run_laws.proofs.Leads.{leads-adoption}
+use Rattle.run_laws.proofs.Ranked.{right_routes_are_adoptable}
+use Rattle.run_laws.proofs.Reaching.{run_is_reached}
 use Rattle.install_laws.specs.Premises.{IsJoined}
 use Rattle.install_laws.specs.Runs.{RightRoutesAreShort, IsSetOfMap, RunRoutesAreOfMap, RunCanInstall, IsInstalledLine, InstalledLineIsTrue}
 use Rattle.install_laws.proofs.Installing.{reached-further, missed-harmed}
 use Rattle.install_laws.proofs.Counting.{counts-most, unharmed-all}
-use Rattle.install_laws.proofs.SameSet.{not-other}
+use Rattle.act_defs.proofs.Routes.{not-other}
 use Rattle.install_laws.proofs.Shortest.{least-all-short}
 
 host-there : (n : Network) (h : ℕ) → h < length n.hosts → has_vertex n (Host h) ≡ true

@@ -10,7 +10,7 @@ use Rattle.world_defs.specs.Asking.{sends}
 use Rattle.world_defs.specs.Install.{part_try, installed}
 use Rattle.table_laws.specs.Examples.{adopted_world}
 use Rattle.table_laws.proofs.TwoHosts.{adopted-reached}
-use Rattle.act_laws.proofs.Leads.{leads-plan}
+use Rattle.run_laws.proofs.Leads.{leads-plan}
 use Rattle.install_laws.specs.Examples.{BothCanInstall, BothAreCounted, LostPartIsMissed, LostAnswerIsMissed, SecondTryCounts}
 use Rattle.install_laws.proofs.Installing.{reached-further}
 

@@ -1,14 +1,14 @@
 -- Where no fault is planned for an injection of an installation, none harms.
-use Rattle.std.proofs.Common.{◌≡◌, ◌<◌, ◌≤◌, ◌+◌, ℕ, Bool, true, false, nat_eq, List, [], ◌∷◌, Option, Some, None, cond, refl, sym, ap, ◌∙◌, arith}
+use Rattle.std.proofs.Common.{◌≡◌, ◌<◌, ◌≤◌, ◌+◌, ℕ, Bool, true, false, nat_eq, List, [], ◌∷◌, Some, None, cond, refl, sym, ap, ◌∙◌, arith}
 use Rattle.std.specs.Map.{lookup, remove_entry}
-use Rattle.link_defs.specs.Links.{LinkState}
 use Rattle.world_defs.specs.declared.fault.Fault.{Fault}
 use Rattle.world_defs.specs.Node.{Outgoing}
 use Rattle.world_defs.specs.World.{WorldState}
-use Rattle.world_defs.specs.Step.{fault_on, struck_by, fault_strikes, planned_strikes, sent_out}
+use Rattle.world_defs.specs.Step.{planned_strikes, sent_out}
 use Rattle.world_defs.specs.EightBits.{IsByteEvent}
 use Rattle.world_laws.proofs.Leaves.{Follows, FollowsCalls, step-leaves}
 use Rattle.world_laws.proofs.Along.{Along}
+use Rattle.act_defs.proofs.Strikes.{Strike, strike_view}
 use Rattle.mapping_laws.proofs.Worlds.{installed-of}
 use Rattle.install_laws.specs.Counts.{UnplannedCountsAll}
 use Rattle.install_laws.proofs.Counting.{unharmed-all}
@@ -48,30 +48,21 @@ without-none test other (f ∷ fs) e = by (test f.0) (other f.0) refl e (without
     by false false p d rest = rw p (rest d)
 
 -- an injection
-struck-counts : (w : WorldState) (f : Fault) (r : Bool × LinkState) → ((struck_by w f r).injected ≡ w.injected) × ((struck_by w f r).plan ≡ w.plan)
-struck-counts w f (true, l) = (refl, refl)
-struck-counts w f (false, l) = (refl, refl)
-
-strikes-so : (w u : WorldState) (c : ℕ) (o : Option Fault) → u.injected ≡ w.injected + 1 → u.plan ≡ w.plan → u.harmed ≡ w.harmed → lookup (nat_eq u.injected) u.plan ≡ o → Unharmed w (fault_strikes u c o)
-strikes-so w u c None i p h e = record { injected = omega (arith, i); unplanned = λ number none. ap (lookup (nat_eq number)) p ∙ none; harmed = λ none. h }
-strikes-so w u c (Some f) i p h e =
-    let v : WorldState = record u { plan = remove_entry (nat_eq u.injected) u.plan } in
-    let s = struck-counts v f (fault_on u.links c f) in
-    let count = s.0 in
-    record {
-      injected = omega (arith, i, count);
-      unplanned = λ number none. ap (lookup (nat_eq number)) s.1 ∙ without-none (nat_eq u.injected) (nat_eq number) u.plan (ap (lookup (nat_eq number)) p ∙ none);
-      harmed = λ none.
-          let bad : None ≡ Some f = sym (none u.injected (omega (arith, i)) (omega (arith, count))) ∙ ap (lookup (nat_eq u.injected)) (sym p) ∙ e in
-          absurd (none-some f bad);
-    }
+strike-so : (w : WorldState) {u v : WorldState} {c : ℕ} → u.injected ≡ w.injected + 1 → u.plan ≡ w.plan → u.harmed ≡ w.harmed → Strike u c v → Unharmed w v
+strike-so w i p h (Strike.spares e) = record { injected = omega (arith, i); unplanned = λ number none. ap (lookup (nat_eq number)) p ∙ none; harmed = λ none. h }
+strike-so w {u = u} i p h (Strike.misses f e k) = record { injected = omega (arith, i); unplanned = λ number none. without-none (nat_eq u.injected) (nat_eq number) u.plan (ap (lookup (nat_eq number)) p ∙ none); harmed = λ none. h }
+strike-so w {u = u} i p h (Strike.strikes f e k) = record {
+  injected = omega (arith, i);
+  unplanned = λ number none. without-none (nat_eq u.injected) (nat_eq number) u.plan (ap (lookup (nat_eq number)) p ∙ none);
+  harmed = λ none. absurd (none-some f (sym (none u.injected (omega (arith, i)) (omega arith)) ∙ ap (lookup (nat_eq u.injected)) (sym p) ∙ e));
+}
   where
     none-some : (f : Fault) → None ≡ Some f → ⊥
     none-some f e = cc
 
 injection-so : (w : WorldState) (h c : ℕ) (out : Outgoing) → Unharmed w (planned_strikes (sent_out w h c out) c)
-unfolding sent_out planned_strikes
-injection-so w h c out = let u : WorldState = sent_out w h c out in strikes-so w u c (lookup (nat_eq u.injected) u.plan) refl refl refl refl
+unfolding sent_out
+injection-so w h c out = strike-so w refl refl refl (strike_view (sent_out w h c out) c)
 
 follows-so : Follows Unharmed
 follows-so = record {

@@ -3,7 +3,7 @@ use Rattle.std.proofs.Common.{◌≡◌, ◌≢◌, ◌<◌, ◌≤◌, ◌+◌,
 use Rattle.std.specs.List.{AllByRecursion, range_with_len}
 use Rattle.std.proofs.lemmas.Bool.Decides.{Decides-eqb}
 use Rattle.net_defs.specs.Network.{Network, IsFabric}
-use Rattle.map_defs.specs.Routing.{AreRising}
+use Rattle.net_defs.specs.RouteSet.{AreRising}
 use Rattle.world_defs.specs.Table.{Adoption, part_count, entries_from}
 use Rattle.world_defs.specs.World.{WorldState, last_count}
 use Rattle.world_defs.specs.Asking.{Tried, also_harmed}

@@ -2,10 +2,10 @@
 use Rattle.std.specs.Prelude.{◌≡◌, ◌≢◌, ℕ, ◌≤◌, true, List, length, Some}
 use Rattle.std.specs.List.{AllByRecursion}
 use Rattle.link_defs.specs.Links.{is_idle}
-use Rattle.map_defs.specs.Routing.{AreRising, HasRoute}
+use Rattle.net_defs.specs.RouteSet.{AreRising, HasRoute}
 use Rattle.world_defs.specs.Table.{Adoption}
 use Rattle.world_defs.specs.World.{WorldState, fabric_of}
-use Rattle.table_laws.specs.Acts.{IsReached}
+use Rattle.act_defs.specs.Acts.{IsReached}
 
 -- a set has a route from its adopter to a host, and one back
 pub record IsJoined (a : Adoption) (host : ℕ) : Type 0 where

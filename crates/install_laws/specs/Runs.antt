@@ -16,9 +16,10 @@ use Rattle.run_defs.specs.declared.command.Command.TheVariants.{Install}
 use Rattle.run_defs.specs.declared.line.Line.TheVariants.{Installed}
 use Rattle.run_defs.specs.Output.{Piece, OneLine}
 use Rattle.run_defs.specs.Session.{SessionState, LastRoutes}
-use Rattle.run_defs.specs.Outcome.{adoption_of, is_other}
+use Rattle.run_defs.specs.Outcome.{adoption_of}
+use Rattle.world_defs.specs.Table.{is_other}
 use Rattle.run_defs.specs.Run.{Does, IsRun}
-use Rattle.act_laws.specs.Laws.{IsActOf}
+use Rattle.run_laws.specs.Acts.{IsActOf}
 use Rattle.install_laws.specs.Premises.{CanInstall}
 use Rattle.install_laws.specs.Cause.{EachMissedWasHarmed}
 

@@ -1,6 +1,6 @@
 //! Why an installation counts fewer hosts than it has, and what it leaves as it was.
 //!
-//! Each law is a function without parameters: its contract is the law, and its body is empty. The statements stand in `specs/`.
+//! It installs nothing, and leaves open whether a counted host's table is active behind the installation. Read `specs/Cause.antt` first.
 //!
 //! | file of `specs/` | says |
 //! |---|---|

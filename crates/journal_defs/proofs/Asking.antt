@@ -6,13 +6,15 @@ use Rattle.std.proofs.lemmas.Bool.{false≢true}
 use Rattle.std.proofs.lemmas.Bool.Decides.{Decides-int_eq}
 use Rattle.std.proofs.lemmas.Int.{ints}
 use Rattle.journal_defs.specs.declared.entry.Entry.{Entry}
-use Rattle.journal_defs.specs.Walks.{same_turns, walk_below}
+use Rattle.net_defs.specs.Turn.{same_turns}
+use Rattle.journal_defs.specs.Walks.{walk_below}
 use Rattle.journal_defs.specs.Tree.{IsNode, IsSwitchNode, is_asked}
 use Rattle.journal_defs.specs.Tree.Node.{Reached}
 use Rattle.journal_defs.specs.Growth.{IsBegun, IsExpanded, IsLeastUnasked}
 use Rattle.journal_defs.specs.Growth.NextAsk.{first, goes_on, begins}
 use Rattle.journal_defs.specs.Laws.{NextAskIsUnique, NoAskAtTheEnd}
-use Rattle.journal_defs.proofs.Order.{same_turns-true, same_turns-refl, below-total}
+use Rattle.net_defs.proofs.Turns.{same_turns-true, same_turns-refl}
+use Rattle.journal_defs.proofs.Order.{below-total}
 
 -- two walks of which neither stands before the other are one
 pub not_apart : (v w : List ℤ) → ¬ (walk_below v w ≡ true) → ¬ (walk_below w v ≡ true) → v ≡ w

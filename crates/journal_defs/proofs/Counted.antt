@@ -14,13 +14,14 @@ use Rattle.net_defs.specs.declared.vertex.End.{End}
 use Rattle.net_defs.specs.declared.place.Place.TheVariants.{Nothing}
 use Rattle.net_defs.specs.Network.{Network, Apart, far}
 use Rattle.net_defs.specs.Route.{place_at, place_at_vertex, entered_after, turned, host_port}
-use Rattle.net_defs.specs.Turn.{is_turn}
+use Rattle.net_defs.specs.Turn.{is_turn, same_turns}
 use Rattle.net_defs.proofs.Distinct.{all-weaker}
 use Rattle.journal_defs.specs.Counting.{total}
-use Rattle.journal_defs.specs.Walks.{IsOnward, same_turns, onward_turns}
+use Rattle.journal_defs.specs.Walks.{IsOnward, onward_turns}
 use Rattle.journal_defs.specs.Part.{walks_from}
 use Rattle.journal_defs.specs.WalkLaws.{IsCounted, WalksAreCounted, WalksAreFew, most_turns}
-use Rattle.journal_defs.proofs.Order.{same_turns-true, same_turns-refl, same_turns-false, or-left, or-right}
+use Rattle.net_defs.proofs.Turns.{same_turns-true, same_turns-refl, same_turns-false}
+use Rattle.journal_defs.proofs.Order.{or-left, or-right}
 use Rattle.journal_defs.proofs.Growing.{onward-pass}
 use Rattle.journal_defs.proofs.Members.{IsMember, member-left, member-right, member-map, all-member, all-from-members, all-join, all-map, member-place, apart-join, apart-map}
 

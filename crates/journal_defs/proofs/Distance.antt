@@ -20,7 +20,7 @@ use Rattle.journal_defs.specs.Part.{Path, IsInPart, edges_of, vertices, near, di
 use Rattle.journal_defs.specs.Part.Path.{here, over}
 use Rattle.journal_defs.specs.DistanceLaws.{DistanceIsShortest, PartIsReached, PartIsNear, HostsAreNear}
 use Rattle.journal_defs.proofs.Order.{or-left}
-use Rattle.journal_defs.proofs.Cabling.{far_end-back, far_end-holds}
+use Rattle.net_defs.proofs.Cabling.{far_end-back, far_end-holds}
 use Rattle.journal_defs.proofs.Reach.{among-left, among-right, among-parts, among-self, steps-within, within-steps, steps-back}
 use Rattle.journal_defs.proofs.Simple.{Holds, Stays, count-found, short-steps, within-stays, shortest, none-shorter}
 

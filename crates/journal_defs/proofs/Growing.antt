@@ -6,15 +6,14 @@ use Rattle.std.proofs.lemmas.Bool.{false≢true, and_parts, and_from, cases_orde
 use Rattle.std.proofs.lemmas.Bool.Decides.{nat_tests}
 use Rattle.std.proofs.lemmas.Int.{ints}
 use Rattle.std.proofs.lemmas.List.{map-append}
-use Rattle.net_defs.specs.Turn.{is_turn}
+use Rattle.net_defs.specs.Turn.{is_turn, same_turns}
 use Rattle.net_defs.specs.declared.place.Answer.{Answer}
 use Rattle.journal_defs.specs.declared.entry.Entry.{Entry}
-use Rattle.journal_defs.specs.Walks.{same_turns, IsOnward}
+use Rattle.journal_defs.specs.Walks.{IsOnward, falling_turns, onward_turns}
 use Rattle.journal_defs.specs.Tree.{answered, is_asked}
 use Rattle.journal_defs.specs.Counting.{numbers_below}
-use Rattle.journal_defs.specs.Walks.{falling_turns, onward_turns}
 use Rattle.journal_defs.specs.Growth.{IsExpanded, IsLeastUnasked}
-use Rattle.journal_defs.proofs.Order.{same_turns-true}
+use Rattle.net_defs.proofs.Turns.{same_turns-true}
 
 -- an answer stands in an entry
 pub record Holds (j : List Entry) (w : List ℤ) (a : Answer) (test : Entry → Bool) : Type 0 where

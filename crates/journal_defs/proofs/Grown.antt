@@ -15,7 +15,7 @@ use Rattle.journal_defs.specs.Growth.{IsGrown, HasExpanded, NextAsk}
 use Rattle.journal_defs.specs.Growth.IsGrowing.{nothing, more}
 use Rattle.journal_defs.specs.Growth.NextAsk.{first, begins}
 use Rattle.journal_defs.specs.Examples.{told, one_cable_journal, parallel_journal, two_hosts_journal, answer_to_turn}
-use Rattle.journal_defs.proofs.Order.{same_turns-true}
+use Rattle.net_defs.proofs.Turns.{same_turns-true}
 use Rattle.journal_defs.proofs.Growing.{Holds, answered-holds}
 use Rattle.journal_defs.proofs.OneSwitch.{is_empty, turn_unasked, switch_alone, begun_by, next-ask, switch-chosen, switch-rests, one-switch-grows, one-switch-expanded, one-switch-rests}
 
@@ -35,10 +35,7 @@ one_cable_grown = record {
   });
 }
 
--- two hosts at a switch: a fabric, and its true answers
-pub two_hosts_fabric : IsFabric two_hosts
-two_hosts_fabric = record { few_hosts = omega arith; few_switches = omega arith; names_apart = search rules; port_counts = search rules; cabled_ports = search rules; ports_once = search rules }
-
+-- the true answers over two hosts at a switch
 pub two_hosts_true : IsTrueJournal two_hosts 0 two_hosts_journal
 two_hosts_true = search rules
 
@@ -53,7 +50,7 @@ pub third_ask : NextAsk 0 4 (begun_by answer_to_turn) (negsuc 13 ∷ [])
 third_ask = next-ask 0 4 (begun_by answer_to_turn) (negsuc 13) refl
 
 -- the empty walk alone is a switch
-switch_first : (w : List ℤ) → IsSwitchNode two_hosts_journal w → w ≡ []
+pub switch_first : (w : List ℤ) → IsSwitchNode two_hosts_journal w → w ≡ []
 switch_first w s = by (answered-holds two_hosts_journal w Switch (λ e. not (is_switch e.answer) || is_empty e) refl s)
   where
     by : Holds two_hosts_journal w Switch (λ e. not (is_switch e.answer) || is_empty e) → w ≡ []

@@ -1,5 +1,4 @@
 pub mod Asking
-pub mod Cabling
 pub mod Counted
 pub mod Distance
 pub mod Growing

@@ -5,18 +5,18 @@ use Rattle.std.specs.List.{list_all}
 use Rattle.std.specs.Ordering.{int_eq}
 use Rattle.std.proofs.lemmas.Bool.{false≢true, and_parts, not-true}
 use Rattle.std.proofs.lemmas.Bool.Decides.{nat_tests}
-use Rattle.net_defs.specs.Turn.{is_turn}
+use Rattle.net_defs.specs.Turn.{is_turn, same_turns}
 use Rattle.net_defs.specs.declared.place.Answer.{Answer}
 use Rattle.net_defs.specs.declared.place.Answer.TheVariants.{Switch}
 use Rattle.journal_defs.specs.declared.entry.Entry.{Entry}
-use Rattle.journal_defs.specs.Walks.{walk_below, IsOnward, same_turns, falling_turns, onward_turns}
+use Rattle.journal_defs.specs.Walks.{walk_below, IsOnward, falling_turns, onward_turns}
 use Rattle.journal_defs.specs.Counting.{numbers_below}
 use Rattle.journal_defs.specs.Tree.{is_asked, answered, has_found}
 use Rattle.journal_defs.specs.Growth.{IsGrowing, IsBegun, IsExpanded, IsAtRest, IsChosen, NextAsk}
 use Rattle.journal_defs.specs.Growth.IsGrowing.{nothing, more}
 use Rattle.journal_defs.specs.Growth.NextAsk.{first, goes_on, begins}
 use Rattle.journal_defs.specs.Examples.{told}
-use Rattle.journal_defs.proofs.Order.{same_turns-true}
+use Rattle.net_defs.proofs.Turns.{same_turns-true}
 use Rattle.journal_defs.proofs.Growing.{asked-short, expanded-by, least-by}
 
 -- each walk has at most one turn

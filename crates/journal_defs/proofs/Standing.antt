@@ -11,10 +11,9 @@ use Rattle.net_defs.specs.declared.place.Answer.{Answer}
 use Rattle.net_defs.specs.declared.place.Answer.TheVariants.{Host as IsHost, Switch as IsSwitch, Nothing as IsNothing}
 use Rattle.net_defs.specs.Network.{Network, IsFabric, far, has_port}
 use Rattle.net_defs.specs.Route.{answer, answer_at, place_at, place_at_vertex, entered_after, turned, exit_at, host_port, IsEntered}
-use Rattle.net_defs.specs.Turn.{IsTurn}
+use Rattle.net_defs.specs.Turn.{IsTurn, same_turns}
 use Rattle.net_defs.proofs.Places.{far-there}
 use Rattle.journal_defs.specs.declared.entry.Entry.{Entry}
-use Rattle.journal_defs.specs.Walks.{same_turns}
 use Rattle.journal_defs.specs.Tree.{Node, Leads, IsNode, answered, host_of, host_in, is_found, has_found}
 use Rattle.journal_defs.specs.Tree.Node.{Mapper, Reached}
 use Rattle.journal_defs.specs.Tree.Leads.{onward, back, out, home}
@@ -22,8 +21,8 @@ use Rattle.journal_defs.specs.Replicates.{Replicates}
 use Rattle.journal_defs.specs.Replicates.Replicates.{same, turned as other_way, along, one_host, behind}
 use Rattle.journal_defs.specs.Truth.{IsTrueWhereFound, standing}
 use Rattle.journal_defs.specs.Laws.{ReplicatesStandTogether, OffsetsAreTurns, OffsetIsUnique, OwnOffsetIsZero}
-use Rattle.journal_defs.proofs.Order.{same_turns-true}
-use Rattle.journal_defs.proofs.Cabling.{far-back, exit-leaves, entered-there, host-port, at_most_sixteen}
+use Rattle.net_defs.proofs.Turns.{same_turns-true}
+use Rattle.net_defs.proofs.Cabling.{far-back, exit-leaves, entered-there, host-port, at_most_sixteen}
 
 -- an answer that found something is true
 pub answered-true : (n : Network) (host : ℕ) (j : List Entry) (w : List ℤ) (a : Answer) → IsTrueWhereFound n host j → answered j w ≡ Some a → is_found a ≡ true → a ≡ answer n host w

@@ -4,7 +4,8 @@ use Rattle.net_defs.specs.declared.place.Answer.{Answer}
 use Rattle.net_defs.specs.declared.place.Answer.TheVariants.{Host, Switch, Nothing}
 use Rattle.net_defs.specs.Network.{Apart}
 use Rattle.journal_defs.specs.declared.entry.Entry.{Entry}
-use Rattle.journal_defs.specs.Walks.{same_turns, walk_below}
+use Rattle.net_defs.specs.Turn.{same_turns}
+use Rattle.journal_defs.specs.Walks.{walk_below}
 
 -- no walk stands twice in a journal
 abbrev pub IsJournal : List Entry → Type 0

@@ -4,12 +4,6 @@ use Rattle.std.specs.Ordering.{int_eq}
 use Rattle.net_defs.specs.Turn.{IsTurn}
 use Rattle.journal_defs.specs.Counting.{numbers_below}
 
--- the same turns in the same order
-abbrev pub same_turns : List ℤ → List ℤ → Bool
-same_turns [] [] = true
-same_turns (s ∷ ss) (t ∷ ts) = int_eq s t && same_turns ss ts
-same_turns _ _ = false
-
 -- the first turns that differ decide
 abbrev pub turns_below : List ℤ → List ℤ → Bool
 turns_below (s ∷ ss) (t ∷ ts) = int_lt s t || (int_eq s t && turns_below ss ts)

@@ -3,7 +3,7 @@ use Rattle.std.proofs.Common.{◌≡◌, ◌<◌, ℕ, zero, suc, false, List, [
 use Rattle.net_defs.specs.declared.route.Route.{Route}
 use Rattle.net_defs.specs.Network.{Network, IsFabric}
 use Rattle.packet_defs.specs.Packet.{stripped}
-use Rattle.map_defs.specs.Dependencies.{IsBefore}
+use Rattle.net_defs.specs.Dependencies.{IsBefore}
 use Rattle.link_defs.specs.declared.moved.Moved.{Moved}
 use Rattle.link_defs.specs.declared.moved.Moved.TheVariants.{To, AtHost, Dropped as MovedDropped, Blocked as MovedBlocked, Empty}
 use Rattle.link_defs.specs.declared.moved.Course.{Course}
@@ -28,8 +28,8 @@ use Rattle.world_laws.specs.Reached.{IsOfDrain}
 use Rattle.world_laws.proofs.Along.{Along, drain-along}
 use Rattle.world_laws.proofs.Draining.{advance-links, drain-still}
 use Rattle.world_laws.proofs.Resets.{no_resets-idle}
-use Rattle.run_defs.specs.Headline.{Act, Happens, acted, acted_all, channels_of_all, MayAct, MayActAll}
-use Rattle.table_laws.specs.Acts.{IsReached}
+use Rattle.act_defs.specs.Acts.{Act, Happens, acted, acted_all, MayAct, MayActAll, IsReached}
+use Rattle.net_defs.specs.RouteSet.{channels_of_all}
 use Rattle.table_laws.proofs.Dependencies.{adopted-adoptable}
 use Rattle.lawful_laws.specs.Lawful.{AdvanceKeepsLawful}
 use Rattle.lawful_laws.specs.Stuck.{LawfulIsNotStuck, LawfulDrainsIdle, LawfulNeedsNoReset}

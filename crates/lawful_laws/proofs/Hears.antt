@@ -13,10 +13,10 @@ use Rattle.gm_defs.specs.declared.frame.Malformed.{Malformed as NoBody}
 use Rattle.gm_defs.specs.declared.token.Took.{Took}
 use Rattle.gm_defs.specs.declared.token.Took.TheVariants.{NotNext as TookNotNext, NoToken as TookNoToken, Whole}
 use Rattle.gm_defs.specs.Body.{decode, part_in}
-use Rattle.gm_defs.specs.Mapping.{RoutePart, MappingBody, is_route, is_mapping, decode_mapping}
-use Rattle.gm_defs.specs.Mapping.MappingBody.{HostProbe, HostReply, Loopback, Part, PartAck}
+use Rattle.mapping_defs.specs.Mapping.{RoutePart, MappingBody, is_route, is_mapping, decode_mapping}
+use Rattle.mapping_defs.specs.Mapping.MappingBody.{HostProbe, HostReply, Loopback, Part, PartAck}
 use Rattle.gm_defs.specs.Port.{finished}
-use Rattle.gm_defs.proofs.Fronts.{both}
+use Rattle.gm_defs.proofs.Choices.{both}
 use Rattle.world_defs.specs.declared.applied.Applied.{Applied}
 use Rattle.world_defs.specs.declared.applied.Applied.TheVariants.{Part as OnePart, Active, Old}
 use Rattle.world_defs.specs.declared.heard.Heard.{Heard}

@@ -1,5 +1,5 @@
 -- After every list of acts each packet that no flip has met is a probe's, or lawful.
-use Rattle.std.proofs.Common.{◌≡◌, ◌⊎◌, inl, inr, ⊎_elim, ℕ, ℤ, zero, suc, false, List, [], ◌∷◌, replicate, get_or, length, ◌+◌, Option, Some, None, IfSome, refl, sym, ap, ◌∙◌, subst}
+use Rattle.std.proofs.Common.{◌≡◌, ◌⊎◌, inl, inr, ⊎_elim, ℕ, ℤ, false, List, [], ◌∷◌, length, ◌+◌, Option, Some, None, IfSome, refl, sym, ap, ◌∙◌, subst}
 use Rattle.std.specs.List.{AllByRecursion, slice_get}
 use Rattle.net_defs.specs.declared.route.Route.{Route}
 use Rattle.net_defs.specs.Network.{Network, IsFabric}
@@ -10,17 +10,18 @@ use Rattle.world_defs.specs.Table.{Adoption, whole_table}
 use Rattle.world_defs.specs.Node.{NodeState, Staged, StagedProbe, StagedPart, StagedAck, new_node}
 use Rattle.world_defs.specs.World.{WorldState, fabric_of, new_world, node_at, adopted_by}
 use Rattle.world_defs.specs.Traffic.{routes_in, adopted_routes, IsLawful}
-use Rattle.run_defs.specs.Headline.{Act, Happens, Plans, Adopts, acted, acted_all, IsSameSet, MayAct, MayActAll}
-use Rattle.table_laws.specs.Acts.{IsReached}
+use Rattle.act_defs.specs.Acts.{Act, Happens, Plans, Adopts, acted, acted_all, IsSameSet, MayAct, MayActAll, IsReached}
 use Rattle.table_laws.proofs.Medium.{weaker-holds, empty-holds}
-use Rattle.table_laws.proofs.Steps.{IsOfSet, with-all, acted_all-of, new-of}
+use Rattle.act_defs.proofs.Kept.{with-all}
+use Rattle.table_laws.proofs.Steps.{IsOfSet, acted_all-of, new-of}
 use Rattle.lawful_laws.specs.Probes.{IsProbe, IsReadAsProbe, IsWalkAct}
 use Rattle.lawful_laws.specs.Lawful.{UnflippedIsLawful, UnflippedIsRead, LimboIsLawful, LimboIsRead}
 use Rattle.lawful_laws.proofs.Ahead.{IsLedBy}
 use Rattle.lawful_laws.proofs.Walks.{IsWalkFrom, IsWithin, all-at, walk-within, led-within}
 use Rattle.lawful_laws.proofs.Sends.{IsProbeBody, IsSent, IsOwnStaged, IsOwn}
 use Rattle.lawful_laws.proofs.ProbePackets.{probe-is_read}
-use Rattle.lawful_laws.proofs.Worlds.{IsLed, set-each, step-led}
+use Rattle.act_defs.proofs.Lists.{each-set, each-replicate}
+use Rattle.lawful_laws.proofs.Worlds.{IsLed, step-led}
 
 -- an adoption of the same set, or of the first
 same-within : (o : Option Adoption) (routes : List Route) → IsSameSet routes o → IsWithin (routes_in o) routes
@@ -61,7 +62,7 @@ adopted-led Fair n routes w mapper more f is =
       net = is.net;
       adopted = refl;
       links = weaker-holds (IsSent Fair n routes) (IsSent Fair n more) w.links (λ c held. sent-within Fair n routes more c held f) is.links;
-      hosts = λ j. set-each (IsOwn Fair more) w.nodes mapper j m (new_node 0) here (λ k. own-within Fair routes more k (node_at w k) f (is.hosts k));
+      hosts = λ j. each-set (IsOwn Fair more) w.nodes mapper j m (new_node 0) here (λ k. own-within Fair routes more k (node_at w k) f (is.hosts k));
       plan = is.plan;
     }
 
@@ -83,11 +84,6 @@ acted_all-led : (Fair : Type 0) (n : Network) (w : WorldState) (acts : List Act)
 acted_all-led Fair n w [] f may asks of is = is
 acted_all-led Fair n w (a ∷ acts) f may asks of is = acted_all-led Fair n (acted w a) acts f may.1 (λ x. (asks x).1) (acted_all-of n w (a ∷ []) f (may.0, tt) of) (acted-led Fair n w a f may.0 (λ x. (asks x).0) of is)
 
-at-replicate : {X : Type 0} (P : X → Type 0) (k j : ℕ) (x d : X) → P x → P d → P (get_or (replicate k x) j d)
-at-replicate P zero j x d p q = q
-at-replicate P (suc k) zero x d p q = p
-at-replicate P (suc k) (suc j) x d p q = at-replicate P k j x d p q
-
 new-own : (Fair : Type 0) (h k : ℕ) → IsOwn Fair [] h (new_node k)
 new-own Fair h k = record { staged = tt; reply = tt; ack = tt }
 
@@ -96,7 +92,7 @@ new-led Fair n =
     let k : ℕ = length n.hosts in
     record {
       routes = [];
-      led = record { net = refl; adopted = refl; links = empty-holds (IsSent Fair n []) n; hosts = λ h. at-replicate (IsOwn Fair [] h) k h (new_node k) (new_node 0) (new-own Fair h k) (new-own Fair h 0); plan = tt };
+      led = record { net = refl; adopted = refl; links = empty-holds (IsSent Fair n []) n; hosts = λ h. each-replicate (IsOwn Fair [] h) k h (new_node k) (new_node 0) (new-own Fair h k) (new-own Fair h 0); plan = tt };
     }
 
 -- every reached world

@@ -13,8 +13,8 @@ use Rattle.packet_defs.specs.Packet.{packet_of}
 use Rattle.link_defs.specs.Links.{Held}
 use Rattle.gm_defs.specs.declared.frame.FrameHead.{FrameHead}
 use Rattle.gm_defs.specs.Body.{frame_bytes, ack_bytes}
-use Rattle.gm_defs.specs.Mapping.{RoutePart, MappingBody, is_route, is_mapping, decode_mapping, mapping_bytes}
-use Rattle.gm_defs.specs.Mapping.MappingBody.{HostProbe, HostReply, Loopback, Part, PartAck}
+use Rattle.mapping_defs.specs.Mapping.{RoutePart, MappingBody, is_route, is_mapping, decode_mapping, mapping_bytes}
+use Rattle.mapping_defs.specs.Mapping.MappingBody.{HostProbe, HostReply, Loopback, Part, PartAck}
 use Rattle.world_defs.specs.Table.{table_route}
 use Rattle.world_defs.specs.Node.{NodeState, Staged, StagedReply, StagedAck, StagedProbe, StagedPart, Outgoing, Probe, TablePart, Reply, PartAnswer, FrameAnswer, Fragment, peer_at, way_back, outgoing_staged, owed_to, due_to, due_frame, either, first_some, peers_of, to_send, packet_for}
 use Rattle.table_laws.specs.Set.{IsFitPart}

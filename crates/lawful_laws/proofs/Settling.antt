@@ -11,7 +11,7 @@ use Rattle.world_defs.specs.Settle.{Stretch, going_on, replay_each, serials, rou
 use Rattle.world_defs.specs.Traffic.{IsLawfulTraffic}
 use Rattle.world_laws.proofs.Along.{Along, SettlesBy, all-map, steps-along, after_all-along, clear-along, expiries-along, round_pass-along, round-along}
 use Rattle.world_laws.proofs.Passes.{round-is}
-use Rattle.table_laws.specs.Acts.{IsReached}
+use Rattle.act_defs.specs.Acts.{IsReached}
 use Rattle.lawful_laws.specs.Moments.{replay_clears, pass_clears, unless_last, passes_clears, round_clears, rounds_clears, OnlyUnlawfulIsReset}
 use Rattle.lawful_laws.proofs.Flowing.{event-reached, lawful-clears}
 

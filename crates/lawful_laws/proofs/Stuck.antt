@@ -6,7 +6,7 @@ use Rattle.std.proofs.lemmas.Option.{same_Some}
 use Rattle.net_defs.specs.declared.route.Route.{Route}
 use Rattle.net_defs.specs.Network.{Network, IsFabric}
 use Rattle.net_defs.specs.Route.{channels_of}
-use Rattle.map_defs.specs.Dependencies.{IsNext, IsBefore}
+use Rattle.net_defs.specs.Dependencies.{IsNext, IsBefore}
 use Rattle.link_defs.specs.declared.moved.Course.{Course}
 use Rattle.link_defs.specs.declared.moved.Course.TheVariants.{Arrives, Enters, Drops}
 use Rattle.link_defs.specs.Links.{Held, LinkState, packet_in, emptied}
@@ -14,7 +14,7 @@ use Rattle.link_defs.specs.Advance.{course, entered, gone_on, advance_of, advanc
 use Rattle.link_defs.specs.Hops.{changes, is_stuck}
 use Rattle.link_defs.proofs.HopsLeft.{still-advance}
 use Rattle.link_defs.proofs.Idling.{stuck-still}
-use Rattle.run_defs.specs.Headline.{channels_of_all}
+use Rattle.net_defs.specs.RouteSet.{channels_of_all}
 use Rattle.lawful_laws.proofs.Ahead.{IsLedBy, ahead-two}
 
 -- a packet that can't go on: the channel that it wants next is full

@@ -12,8 +12,8 @@ use Rattle.packet_defs.specs.declared.kind.Kind.{Kind}
 use Rattle.packet_defs.specs.Packet.{packet_of}
 use Rattle.link_defs.specs.Channel.{channel_tail}
 use Rattle.link_defs.proofs.Ends.{channel_from-ends}
-use Rattle.gm_defs.specs.Mapping.{RouteEntry, RoutePart}
-use Rattle.gm_defs.proofs.Fronts.{both, map-some, then-some}
+use Rattle.mapping_defs.specs.Mapping.{RouteEntry, RoutePart}
+use Rattle.gm_defs.proofs.Choices.{both, map-some, then-some}
 use Rattle.world_defs.specs.Table.{Adoption, ActiveTable, TableState, entries_from, part_count, part_with, part_for, route_of, table_route}
 use Rattle.world_defs.specs.Traffic.{routes_in}
 use Rattle.table_laws.specs.Set.{IsActive, IsTable}

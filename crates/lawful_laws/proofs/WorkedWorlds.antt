@@ -3,14 +3,14 @@ use Rattle.std.proofs.Common.{◌≡◌, ℕ, zero, suc, [], Some, refl, subst, 
 use Rattle.std.proofs.lemmas.Option.{same_Some}
 use Rattle.net_defs.specs.Network.{IsFabric}
 use Rattle.net_defs.specs.Examples.{two_hosts, self_cabled}
-use Rattle.journal_defs.proofs.Grown.{two_hosts_fabric}
+use Rattle.net_defs.proofs.TwoHosts.{two_hosts_fabric}
 use Rattle.link_defs.specs.Links.{Held, packet_in}
 use Rattle.world_defs.specs.Examples.{setup_routes}
 use Rattle.world_defs.specs.Node.{to_send, packet_for, after_sending}
 use Rattle.world_defs.specs.Client.{begun, sent_by}
 use Rattle.world_defs.specs.Step.{asked, planned_strikes, sent_out, injected, advanced}
 use Rattle.world_defs.specs.Traffic.{IsLawful}
-use Rattle.run_defs.specs.Headline.{AreAdoptable}
+use Rattle.act_defs.specs.Acts.{AreAdoptable}
 use Rattle.table_laws.specs.Examples.{adopted_world}
 use Rattle.table_laws.proofs.Dependencies.{adopted-adoptable}
 use Rattle.table_laws.proofs.TwoHosts.{adopted-reached}

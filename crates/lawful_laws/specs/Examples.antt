@@ -9,8 +9,7 @@ use Rattle.world_defs.specs.declared.event.Event.TheVariants.{Ask, Inject, Advan
 use Rattle.world_defs.specs.World.{WorldState, new_world}
 use Rattle.world_defs.specs.Traffic.{IsLawfulTraffic, channels_ahead, unrouted}
 use Rattle.world_defs.specs.Examples.{setup_routes}
-use Rattle.run_defs.specs.Headline.{Act, Happens, Adopts, acted_all}
-use Rattle.table_laws.specs.Acts.{IsReached}
+use Rattle.act_defs.specs.Acts.{Act, Happens, Adopts, acted_all, IsReached}
 
 -- host 0 of the two at one switch adopts the routes, and injects a frame for host 1
 abbrev pub frame_acts : List Act

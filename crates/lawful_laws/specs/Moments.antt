@@ -8,7 +8,7 @@ use Rattle.world_defs.specs.Step.{step, steps, after_all}
 use Rattle.world_defs.specs.Drain.{clear}
 use Rattle.world_defs.specs.Settle.{serials, round_pass, is_last_pass, pass_bound, expiries, round, is_last_round, round_bound, settle}
 use Rattle.world_defs.specs.Traffic.{IsLawfulTraffic}
-use Rattle.table_laws.specs.Acts.{IsReached}
+use Rattle.act_defs.specs.Acts.{IsReached}
 
 -- the worlds behind a replay of each of these serials, with a clear between
 abbrev pub replay_clears : List ℕ → WorldState → List WorldState

@@ -6,12 +6,12 @@ use Rattle.packet_defs.specs.declared.kind.Kind.{Kind}
 use Rattle.packet_defs.specs.declared.kind.Kind.TheVariants.{Mapping, Gm}
 use Rattle.packet_defs.specs.Packet.{packet_of}
 use Rattle.packet_defs.specs.Host.{body_of}
-use Rattle.gm_defs.specs.Mapping.{MappingBody, mapping_bytes, is_route, is_mapping, decode_mapping}
-use Rattle.gm_defs.specs.Mapping.MappingBody.{HostProbe, HostReply, Loopback, Part, PartAck}
+use Rattle.mapping_defs.specs.Mapping.{MappingBody, mapping_bytes, is_route, is_mapping, decode_mapping}
+use Rattle.mapping_defs.specs.Mapping.MappingBody.{HostProbe, HostReply, Loopback, Part, PartAck}
 use Rattle.world_defs.specs.declared.event.Event.{Event}
 use Rattle.world_defs.specs.declared.event.Event.TheVariants.{Ask}
 use Rattle.world_defs.specs.Traffic.{unrouted}
-use Rattle.run_defs.specs.Headline.{Act, Happens}
+use Rattle.act_defs.specs.Acts.{Act, Happens}
 
 -- a host probe, a loopback probe and a probe reply are probes; a part and a part's acknowledgement aren't
 abbrev pub is_probe : MappingBody → Bool

@@ -6,7 +6,7 @@ use Rattle.link_defs.specs.Hops.{is_stuck}
 use Rattle.world_defs.specs.World.{WorldState}
 use Rattle.world_defs.specs.Drain.{drain, clear}
 use Rattle.world_defs.specs.Traffic.{IsLawfulTraffic}
-use Rattle.table_laws.specs.Acts.{IsReached}
+use Rattle.act_defs.specs.Acts.{IsReached}
 
 -- links of lawful traffic aren't stuck
 abbrev pub LawfulIsNotStuck : Type 0

@@ -1,7 +1,6 @@
-//! What hosts send on adopted routes is lawful, and lawful traffic is never stuck, after every list of acts that may happen: events, plans of faults,
-//! adoptions of one adoptable set of routes.
+//! What hosts send on adopted routes is lawful, and lawful traffic is never stuck, after every list of acts that may happen.
 //!
-//! Each law is a function without parameters: its contract is the law, and its body is empty. The statements stand in `specs/`.
+//! It moves no packet, and of probes it says only that they are told apart. Read `specs/Lawful.antt` first, and `specs/Stuck.antt`.
 //!
 //! | file of `specs/` | says |
 //! |---|---|

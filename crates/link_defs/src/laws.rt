@@ -1,8 +1,6 @@
 //! What holds of every step of the links: each function's contract is the law, and its body is empty. `specs/Laws.antt` has the statements.
 
-ghost use Rattle.link_defs.specs.Laws.{ChannelLeavesItsEnd, TailHasItsChannel, AdvanceLowersHops, StillAdvance, NoHopsIsIdle, StuckIsStill, StillIsStuck};
-ghost use Rattle.link_defs.specs.Laws.{RefusedPut, IdleLose, IdleReset, IdleRepeat, IdleHold, IdleFlip, IdleReplay};
-ghost use Rattle.link_defs.specs.Laws.{EmptyIsLinks, EmptyIsIdle, StepKeepsFabric, StepKeepsLinks, StepsKeepFabric, StepsKeepLinks};
+ghost use Rattle.link_defs.specs.Laws.{ChannelLeavesItsEnd, TailHasItsChannel, AdvanceLowersHops, StillAdvance, NoHopsIsIdle, StuckIsStill, StillIsStuck, RefusedPut, IdleLose, IdleReset, IdleRepeat, IdleHold, IdleFlip, IdleReplay, EmptyIsLinks, EmptyIsIdle, StepKeepsFabric, StepKeepsLinks, StepsKeepFabric, StepsKeepLinks};
 ghost use Rattle.link_defs.specs.Lone.{LoneAdvance, LonePacketWalks, NoChannelIsStuck};
 ghost use Rattle.link_defs.specs.Ordered.{NextIsLeast, NoNextIsLeft, NewSerialIsLast, FoundByOrder, TakenByOrder};
 ghost use Rattle.link_defs.specs.Mark.{EmptyHasTrueMarks, MarksStayTrue};

@@ -6,21 +6,19 @@ use Rattle.std.proofs.Math.ListN.{length-set}
 use Rattle.std.proofs.lemmas.List.{length-replicate, get_or-set_same}
 use Rattle.net_defs.specs.declared.vertex.End.{End}
 use Rattle.net_defs.specs.Network.{Network, IsFabric, far}
-use Rattle.net_defs.specs.Route.{exit_at, turned, entered_after, place, host_port, IsEntered, IsPlaceOf}
+use Rattle.net_defs.specs.Route.{exit_at, turned, entered_after, place, host_port, IsEntered, IsPlaceOf, channel_from}
 use Rattle.net_defs.proofs.Places.{far-there, place_at-there}
 use Rattle.link_defs.specs.declared.moved.Course.{Course}
 use Rattle.link_defs.specs.declared.moved.Course.TheVariants.{Arrives, Enters, Drops}
 use Rattle.link_defs.specs.declared.moved.Moved.{Moved}
 use Rattle.link_defs.specs.declared.moved.Moved.TheVariants.{To, AtHost, Dropped, Blocked, Empty}
-use Rattle.packet_defs.specs.Packet.{stripped}
+use Rattle.packet_defs.specs.Packet.{stripped, packet_of}
 use Rattle.link_defs.specs.Channel.{channel_count}
 use Rattle.link_defs.specs.Links.{Held, LinkState, emptied, empty_links, put}
 use Rattle.link_defs.specs.Advance.{course, advance}
 use Rattle.link_defs.specs.Lone.{lone, lone_after, lone_place, ended_place}
 use Rattle.net_defs.specs.Turn.{IsTurn}
-use Rattle.net_defs.specs.Route.{channel_from}
 use Rattle.packet_defs.specs.declared.kind.Kind.TheVariants.{Mapping}
-use Rattle.packet_defs.specs.Packet.{packet_of}
 use Rattle.link_defs.proofs.LonePackets.{lone-emptied, get-empty, lone-advance, lone-place}
 use Rattle.link_model.specs.Alone.{wire_of, wire_in, left_at, IsAlone}
 use Rattle.link_model.proofs.Stepping.{course-below}

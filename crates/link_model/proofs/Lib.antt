@@ -1,7 +1,4 @@
 pub mod Alone
-pub mod Counting
-pub mod Fullness
 pub mod Limbos
-pub mod Marking
+pub mod NextFull
 pub mod Stepping
-pub mod Wirings

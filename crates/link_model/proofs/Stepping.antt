@@ -18,7 +18,7 @@ use Rattle.link_defs.specs.Links.{Held, LinkState, packet_in, with_packet}
 use Rattle.link_defs.specs.Advance.{course_by_channel, course_out, course_into, course}
 use Rattle.link_defs.specs.Fault.{flip, flip_of}
 use Rattle.link_defs.proofs.Ends.{channel_from-ends}
-use Rattle.link_model.proofs.Counting.{set-there}
+use Rattle.channel_slots.proofs.Counting.{set-there}
 
 by_channel : (n : Network) (e : End) (next : ℕ) (o : Option ℕ) → channel_from n e ≡ o → course_by_channel o ≡ Enters next → next < channel_count n
 by_channel n e next None is to = cc

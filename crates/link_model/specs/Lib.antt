@@ -1,5 +1,3 @@
 pub mod Alone
 pub mod Full
-pub mod Marks
 pub mod State
-pub mod Tables

@@ -4,7 +4,7 @@ ghost use Rattle.std.specs.Prelude.{◌≡◌, ◌<◌, ◌++◌, ◌∷◌, [],
 ghost use Rattle.std.specs.List.{AllByRecursion};
 ghost use Rattle.std.specs.Map.{lookup, remove_entry};
 
-use crate::slots::Slot;
+use channel_slots::Slot;
 use std::alloc::Global;
 use std::collections::BTreeMap;
 use std::marker::Model;

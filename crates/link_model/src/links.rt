@@ -12,8 +12,8 @@ mod advance;
 mod faults;
 
 use crate::limbo::Limbo;
-use crate::slots::{Slot, Slots};
-use crate::wiring::Wiring;
+use channel_slots::{Slot, Slots};
+use fabric_wiring::Wiring;
 use myri_packet::Packet;
 use net_defs::End;
 use port_graph::Fabric;

@@ -6,11 +6,11 @@ use Rattle.std.proofs.lemmas.Option.{slice_get-map, slice_get-get_or}
 use Rattle.net_defs.specs.declared.place.Answer.{Answer}
 use Rattle.net_defs.specs.declared.place.Answer.TheVariants.{Switch}
 use Rattle.journal_defs.specs.declared.entry.Entry.{Entry}
-use Rattle.journal_defs.specs.Walks.{same_turns}
+use Rattle.net_defs.specs.Turn.{same_turns}
 use Rattle.journal_defs.specs.Tree.{Node, IsJournal, answered, nodes}
 use Rattle.journal_defs.specs.Tree.Node.{Reached}
 use Rattle.journal_defs.specs.Growth.{HasExpanded, IsClosed}
-use Rattle.journal_defs.proofs.Order.{same_turns-true}
+use Rattle.net_defs.proofs.Turns.{same_turns-true}
 use Rattle.journal_defs.proofs.Standing.{replicates-nodes}
 use Rattle.probe.proofs.Indexing.{answered-at}
 use Rattle.replicate_merge.specs.Table.{ClassTable, StandsFor}

@@ -1,9 +1,8 @@
 -- The nodes of a journal in their order, and the vertices of their classes.
 use Rattle.std.specs.Prelude.{◌≡◌, ℕ, ◌<◌, true, false, List, length, slice_get, Option, Some}
-use Rattle.journal_defs.specs.Tree.{node_below}
+use Rattle.journal_defs.specs.Tree.{node_below, Node}
 use Rattle.replicate_merge.specs.Table.{ClassTable}
 use Rattle.replicate_merge.specs.Ways.{node_at, frame_at}
-use Rattle.journal_defs.specs.Tree.{Node}
 
 -- the numbers below a count, each at its place
 pub record AreNumbersBelow (count : ℕ) (numbers : List ℕ) : Type 0 where

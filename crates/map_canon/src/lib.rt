@@ -32,8 +32,6 @@ mod naming;
 mod numbering;
 mod of_journal;
 mod order;
-#[cfg(test)]
-mod tests;
 
 pub use closing::closed;
 pub use fabric_map::{FabricMap, MapCable, MapVertex};

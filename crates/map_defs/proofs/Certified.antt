@@ -11,9 +11,10 @@ use Rattle.map_defs.specs.declared.rank.RankEntry.{RankEntry}
 use Rattle.map_defs.specs.NetMap.{NetMap, MapPort, same_port}
 use Rattle.map_defs.specs.Orientation.{order_of}
 use Rattle.map_defs.specs.Routing.{LeadsTo, IsLeastLegal, is_legal, led_to, port_of_host}
-use Rattle.map_defs.specs.Dependencies.{IsNext, IsBefore, Chain, Rises, IsCertificate, rank_of, channels_of_routes}
-use Rattle.map_defs.specs.Dependencies.IsNext.{here, later}
-use Rattle.map_defs.specs.Dependencies.Chain.{one, more}
+use Rattle.net_defs.specs.Dependencies.{IsNext, IsBefore, Chain}
+use Rattle.map_defs.specs.Ranks.{Rises, IsCertificate, rank_of, channels_of_routes}
+use Rattle.net_defs.specs.Dependencies.IsNext.{here, later}
+use Rattle.net_defs.specs.Dependencies.Chain.{one, more}
 use Rattle.map_defs.specs.Examples.{ring_map, ring_routes, free_routes, ring_ranks, port}
 use Rattle.map_defs.proofs.Ports.{same_port-refl}
 use Rattle.map_defs.proofs.Leading.{routes_within, routes-member}

@@ -13,7 +13,8 @@ use Rattle.map_defs.specs.NetMap.{NetMap, MapPort, IsMap, IsCabled, map_far, map
 use Rattle.map_defs.specs.NetMap.IsCabled.{forth, back}
 use Rattle.map_defs.specs.Orientation.{is_up, falls, falls_to, IsOrder}
 use Rattle.map_defs.specs.Routing.{LeadsTo, IsLeastLegal, is_legal, led_to, port_of_host, channels_on, no_up_after_down}
-use Rattle.map_defs.specs.Dependencies.{IsNext, Rises, rank_of, rank_by, ranks_of, channels_of_routes}
+use Rattle.net_defs.specs.Dependencies.{IsNext}
+use Rattle.map_defs.specs.Ranks.{Rises, rank_of, rank_by, ranks_of, channels_of_routes}
 use Rattle.map_defs.specs.Laws.{RanksCertify}
 use Rattle.map_defs.proofs.Ports.{far_is_cabled}
 use Rattle.map_defs.proofs.Leading.{far-end}

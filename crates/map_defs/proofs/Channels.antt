@@ -6,8 +6,8 @@ use Rattle.std.proofs.lemmas.Bool.{false≢true, and_parts, and_from}
 use Rattle.journal_defs.proofs.Members.{IsMember}
 use Rattle.map_defs.specs.NetMap.{NetMap, MapPort, map_far, is_switch_vertex}
 use Rattle.map_defs.specs.Routing.{next_port, turned_to, channel_at, channels_on, no_up_after_down}
-use Rattle.map_defs.specs.Dependencies.{IsNext}
-use Rattle.map_defs.specs.Dependencies.IsNext.{here, later}
+use Rattle.net_defs.specs.Dependencies.{IsNext}
+use Rattle.net_defs.specs.Dependencies.IsNext.{here, later}
 
 -- where a packet goes from a port: over the cable there, then by a turn
 pub record Onward (m : NetMap) (d : MapPort) (t : ℤ) (x : MapPort) : Type 0 where

@@ -1,21 +1,12 @@
--- What rises along every step has no cycle.
+-- Ranks leave no cycle.
 use Rattle.std.proofs.Common.{◌≡◌, ◌<◌, ℕ, List, Some, sym, ◌∙◌, arith}
 use Rattle.map_defs.specs.declared.rank.RankEntry.{RankEntry}
+use Rattle.net_defs.proofs.Cycles.{no_cycle-rising}
 use Rattle.map_defs.specs.NetMap.{MapPort}
-use Rattle.map_defs.specs.Dependencies.{Chain, HasNoCycle, IsBefore, Rises}
-use Rattle.map_defs.specs.Dependencies.Chain.{one, more}
+use Rattle.net_defs.specs.Dependencies.{Chain, HasNoCycle, IsBefore}
+use Rattle.map_defs.specs.Ranks.{Rises}
+use Rattle.net_defs.specs.Dependencies.Chain.{one, more}
 use Rattle.map_defs.specs.Laws.{CertificateLeavesNoCycle, RisingLeavesNoCycle}
-
-pub chain-rises : {C : Type 0} (Before : C → C → Type 0) (rank : C → ℕ) (c d : C) → ((a b : C) → Before a b → rank a < rank b) → Chain Before c d → rank c < rank d
-chain-rises Before rank c d rises (one b) = rises c d b
-chain-rises Before rank c d rises (more {d = m} b rest) =
-    let first = rises c m b in
-    let others = chain-rises Before rank m d rises rest in
-    omega arith
-
--- numbers that rise along every step leave no cycle
-pub no_cycle-rising : {C : Type 0} (Before : C → C → Type 0) (rank : C → ℕ) → ((a b : C) → Before a b → rank a < rank b) → HasNoCycle Before
-no_cycle-rising Before rank rises c around = let above = chain-rises Before rank c c rises around in omega arith
 
 pub rising_leaves_no_cycle : RisingLeavesNoCycle
 rising_leaves_no_cycle routes rank rises = no_cycle-rising (IsBefore routes) rank rises

@@ -13,7 +13,7 @@ use Rattle.map_defs.specs.declared.vertex.MapVertex.{MapVertex}
 use Rattle.map_defs.specs.declared.vertex.MapVertex.TheVariants.{Host, Switch}
 use Rattle.map_defs.specs.NetMap.{NetMap, MapPort, IsMap, map_far, map_ends, same_port, host_of_vertex, host_at, switch_at, is_switch_vertex}
 use Rattle.map_defs.specs.Routing.{port_of_host, vertex_of_host, is_host_named}
-use Rattle.map_defs.specs.Dependencies.{rank_of, rank_by, ranks_of, ports_at, ports_at_all, channels_in}
+use Rattle.map_defs.specs.Ranks.{rank_of, rank_by, ranks_of, ports_at, ports_at_all, channels_in}
 use Rattle.map_defs.proofs.Ports.{same_port-true, same_port-refl}
 use Rattle.map_defs.proofs.Leading.{far-end}
 

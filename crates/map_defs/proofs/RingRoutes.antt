@@ -9,7 +9,8 @@ use Rattle.map_defs.specs.declared.vertex.MapVertex.{MapVertex}
 use Rattle.net_defs.specs.declared.route.Route.{Route}
 use Rattle.map_defs.specs.NetMap.{NetMap, MapPort, host_of_vertex, host_at}
 use Rattle.map_defs.specs.Orientation.{order_of}
-use Rattle.map_defs.specs.Routing.{IsLeastLegal, is_legal, led_to, port_of_host, HasRoute, AreRoutesOf}
+use Rattle.map_defs.specs.Routing.{IsLeastLegal, is_legal, led_to, port_of_host, AreRoutesOf}
+use Rattle.net_defs.specs.RouteSet.{HasRoute}
 use Rattle.map_defs.specs.Examples.{ring_map, ring_routes}
 use Rattle.map_defs.proofs.Ports.{same_port-true}
 use Rattle.map_defs.proofs.Leading.{routes_within}

@@ -10,7 +10,7 @@ use Rattle.net_defs.specs.Route.{answer}
 use Rattle.net_defs.proofs.Distinct.{all-weaker}
 use Rattle.net_defs.specs.Examples.{two_hosts, host_end, switch_end}
 use Rattle.journal_defs.specs.declared.entry.Entry.{Entry}
-use Rattle.journal_defs.specs.Walks.{same_turns}
+use Rattle.net_defs.specs.Turn.{same_turns}
 use Rattle.journal_defs.specs.Tree.{Node, IsNode, Leads, answered, is_found, has_found, node_below}
 use Rattle.journal_defs.specs.Tree.Node.{Mapper, Reached}
 use Rattle.journal_defs.specs.Tree.Leads.{onward, back as go_back, out, home}
@@ -18,9 +18,11 @@ use Rattle.journal_defs.specs.Replicates.{Replicates}
 use Rattle.journal_defs.specs.Replicates.Replicates.{same}
 use Rattle.journal_defs.specs.Truth.{IsTrueWhereFound, standing}
 use Rattle.journal_defs.specs.Examples.{two_hosts_journal}
-use Rattle.journal_defs.proofs.Order.{same_turns-true, below-irrefl}
+use Rattle.net_defs.proofs.Turns.{same_turns-true}
+use Rattle.journal_defs.proofs.Order.{below-irrefl}
 use Rattle.journal_defs.proofs.Growing.{Holds, answered-holds}
-use Rattle.journal_defs.proofs.Grown.{two_hosts_fabric, two_hosts_true}
+use Rattle.net_defs.proofs.TwoHosts.{two_hosts_fabric}
+use Rattle.journal_defs.proofs.Grown.{two_hosts_true}
 use Rattle.journal_defs.proofs.Standing.{stand, own_offset_is_zero, replicates-nodes, leads-from, leads-to}
 use Rattle.map_defs.specs.declared.vertex.MapCable.{MapCable}
 use Rattle.map_defs.specs.NetMap.{MapPort, IsCabled, first_end, second_end}

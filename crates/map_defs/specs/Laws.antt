@@ -9,7 +9,8 @@ use Rattle.std.specs.List.{AllByRecursion}
 use Rattle.net_defs.specs.Network.{Network}
 use Rattle.journal_defs.specs.Edges.{Steps}
 use Rattle.map_defs.specs.Sameness.{IsSame, IsMapOfPart, graph_of_map}
-use Rattle.map_defs.specs.Dependencies.{IsBefore, HasNoCycle, IsCertificate, channels_of_routes, ranks_of}
+use Rattle.net_defs.specs.Dependencies.{IsBefore, HasNoCycle}
+use Rattle.map_defs.specs.Ranks.{IsCertificate, channels_of_routes, ranks_of}
 
 -- the far end of a port of a map is what a cable joins to it
 abbrev pub FarIsCabled : Type 0

@@ -1,5 +1,4 @@
 pub mod Core
-pub mod Dependencies
 pub mod NetMap
 pub mod Orientation
 pub mod Quotient
@@ -7,3 +6,4 @@ pub mod Routing
 pub mod Sameness
 pub mod Examples
 pub mod Laws
+pub mod Ranks

@@ -1,10 +1,11 @@
 -- Routes on a map: where they lead, which are legal, and which is least.
-use Rattle.std.specs.Prelude.{◌≡◌, ◌≢◌, ℕ, ℤ, pos, ◌+ℤ◌, Bool, true, false, ◌&&◌, ◌||◌, not, List, [], ◌∷◌, ◌++◌, map, nat_lt, nat_eq, slice_get, if◌then◌else◌, Option, Some, None, option_map, option_and_then, option_to_list, position}
+use Rattle.std.specs.Prelude.{◌≡◌, ◌≢◌, ℕ, ℤ, pos, ◌+ℤ◌, Bool, true, false, not, List, [], ◌∷◌, ◌++◌, map, nat_eq, if◌then◌else◌, Option, Some, None, option_map, option_and_then, option_to_list, position}
 use Rattle.std.specs.List.{list_all, AllByRecursion}
 use Rattle.journal_defs.specs.Walks.{walk_below}
 use Rattle.map_defs.specs.declared.vertex.MapVertex.{MapVertex}
 use Rattle.map_defs.specs.declared.vertex.MapVertex.TheVariants.{Host, Switch}
 use Rattle.net_defs.specs.declared.route.Route.{Route}
+use Rattle.net_defs.specs.RouteSet.{AreRising, HasRoute}
 use Rattle.map_defs.specs.NetMap.{NetMap, MapPort, map_far, host_of_vertex, is_switch_vertex}
 use Rattle.map_defs.specs.Orientation.{is_up}
 
@@ -66,23 +67,6 @@ pub record IsLeastLegal (m : NetMap) (order : List ℕ) (a b : ℕ) (turns : Lis
   pub leads : LeadsTo m a b turns
   pub legal : is_legal m order a turns ≡ true
   pub least : (others : List ℤ) → LeadsTo m a b others → is_legal m order a others ≡ true → walk_below others turns ≡ false
-
--- routes in their order: by sender, then by receiver
-abbrev pub route_below : Route → Route → Bool
-route_below r s = nat_lt r.from s.from || (nat_eq r.from s.from && nat_lt r.to s.to)
-
--- routes rise, each two of them: none stands twice
-abbrev pub AreRising : List Route → Type 0
-AreRising [] = Unit {0}
-AreRising (r ∷ rs) = AllByRecursion (λ s. route_below r s ≡ true) rs × AreRising rs
-
--- a route of the set goes from one host to another
-pub record HasRoute (routes : List Route) (a b : ℕ) : Type 0 where
-  pub place : ℕ
-  pub route : Route
-  pub there : slice_get routes place ≡ Some route
-  pub from : route.from ≡ a
-  pub to : route.to ≡ b
 
 -- The routes of a map: the least legal one for each two different hosts, and no other.
 pub record AreRoutesOf (m : NetMap) (order : List ℕ) (routes : List Route) : Type 0 where

@@ -8,7 +8,8 @@ ghost use Rattle.map_defs.specs.Sameness.{IsSame, graph_of_map};
 ghost use Rattle.map_defs.specs.Core.{bridges_of, core_of};
 ghost use Rattle.map_defs.specs.Orientation.{root, levels, order_of, is_up, IsOrder};
 ghost use Rattle.map_defs.specs.Routing.{channels_on, port_of_host, is_legal, IsLeastLegal, AreRoutesOf};
-ghost use Rattle.map_defs.specs.Dependencies.{ranks_of, IsBefore, Chain, IsCertificate, channels_of_routes};
+ghost use Rattle.map_defs.specs.Ranks.{ranks_of, IsCertificate, channels_of_routes};
+ghost use Rattle.net_defs.specs.Dependencies.{IsBefore, Chain};
 ghost use Rattle.map_defs.specs.Examples.{
   two_hosts_map,
   moved_map,

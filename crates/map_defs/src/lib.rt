@@ -11,7 +11,7 @@
 //! | `Core` | switch bridges, and what they cut off |
 //! | `Orientation` | root, levels, order, up and down |
 //! | `Routing` | where routes lead, legal ones, the least |
-//! | `Dependencies` | which channel comes before which, cycles, ranks |
+//! | `Ranks` | ranks of channels that rise along routes; the ranks that an order gives |
 //!
 //! ```text
 //!    b -- #1 --- #0 -- a      up is towards #0, then #1, #2, #3.

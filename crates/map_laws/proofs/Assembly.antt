@@ -26,16 +26,16 @@ use Rattle.map_laws.proofs.OneClass.{HasWays, closed-ways, cross, covered, one_c
 use Rattle.map_laws.proofs.Least.{vertex-below, below-vertex, vertex-host, class-one}
 
 -- the first place of a list whose element passes a test
-abbrev first_place : (Node → Bool) → List Node → ℕ
+abbrev pub first_place : (Node → Bool) → List Node → ℕ
 first_place test [] = 0
 first_place test (u ∷ us) = if test u then 0 else suc (first_place test us)
 
-record Passing (test : Node → Bool) (us : List Node) (k : ℕ) : Type 0 where
+pub record Passing (test : Node → Bool) (us : List Node) (k : ℕ) : Type 0 where
   pub node : Node
   pub there : slice_get us k ≡ Some node
   pub passes : test node ≡ true
 
-first-passes : (test : Node → Bool) (us : List Node) (k : ℕ) (u : Node) → slice_get us k ≡ Some u → test u ≡ true → Passing test us (first_place test us)
+pub first-passes : (test : Node → Bool) (us : List Node) (k : ℕ) (u : Node) → slice_get us k ≡ Some u → test u ≡ true → Passing test us (first_place test us)
 first-passes test [] k u e t = cc
 first-passes test (x ∷ us) k u e t = by (test x) refl k e (λ i g. first-passes test us i u g t)
   where
@@ -45,28 +45,28 @@ first-passes test (x ∷ us) k u e t = by (test x) refl k e (λ i g. first-passe
     by false p (suc i) g rest = let r = rest i g in record { node = r.node; there = r.there; passes = r.passes }
 
 -- where the least node of a number stands
-abbrev vertex_of_end : ℕ → Option End → Vertex
+abbrev pub vertex_of_end : ℕ → Option End → Vertex
 vertex_of_end host None = Host host
 vertex_of_end host (Some d) = d.v
 
-abbrev port_of_end : Option End → ℤ
+abbrev pub port_of_end : Option End → ℤ
 port_of_end None = pos 0
 port_of_end (Some d) = pos d.p
 
-abbrev end_at : Network → ℕ → Option Node → Option End
+abbrev pub end_at : Network → ℕ → Option Node → Option End
 end_at n host None = None
 end_at n host (Some u) = standing n host u
 
-abbrev image_by : Network → ℕ → List Node → ℕ → Vertex
+abbrev pub image_by : Network → ℕ → List Node → ℕ → Vertex
 image_by n host us v = vertex_of_end host (end_at n host (slice_get us v))
 
-abbrev offset_by : Network → ℕ → List Node → ℕ → ℤ
+abbrev pub offset_by : Network → ℕ → List Node → ℕ → ℤ
 offset_by n host us v = port_of_end (end_at n host (slice_get us v))
 
-abbrev is_over : Network → ℕ → Vertex → Node → Bool
+abbrev pub is_over : Network → ℕ → Vertex → Node → Bool
 is_over n host x u = same_vertex (vertex_of_end host (standing n host u)) x
 
-abbrev origin_by : Network → ℕ → List Node → Vertex → ℕ
+abbrev pub origin_by : Network → ℕ → List Node → Vertex → ℕ
 origin_by n host us x = first_place (is_over n host x) us
 
 -- a vertex of the map with its least node

@@ -14,7 +14,7 @@ use Rattle.journal_defs.specs.Growth.IsGrowing.{nothing, more}
 use Rattle.journal_defs.specs.Growth.NextAsk.{first}
 use Rattle.journal_defs.specs.Part.{IsInPart}
 use Rattle.journal_defs.specs.Part.Path.{here, over}
-use Rattle.journal_defs.proofs.Grown.{two_hosts_fabric}
+use Rattle.net_defs.proofs.TwoHosts.{two_hosts_fabric}
 use Rattle.map_defs.specs.NetMap.{NetMap, host_of_vertex}
 use Rattle.map_defs.specs.Quotient.{IsQuotient}
 use Rattle.map_defs.specs.Sameness.{IsMapOfPart, address_of}

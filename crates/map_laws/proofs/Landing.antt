@@ -12,7 +12,7 @@ use Rattle.net_defs.specs.declared.place.Place.TheVariants.{Host as AtHost}
 use Rattle.net_defs.specs.Network.{Network, IsFabric, far, has_port}
 use Rattle.net_defs.specs.Route.{place, place_at, place_at_vertex, entered_after, turned, exit_at, next_exit, host_port, IsEntered}
 use Rattle.net_defs.proofs.Places.{far-there}
-use Rattle.journal_defs.proofs.Cabling.{entered-there, host-port}
+use Rattle.net_defs.proofs.Cabling.{entered-there, host-port}
 use Rattle.map_defs.specs.declared.vertex.MapVertex.{MapVertex}
 use Rattle.map_defs.specs.declared.vertex.MapVertex.TheVariants.{Host as MapHost, Switch as MapSwitch}
 use Rattle.map_defs.specs.NetMap.{NetMap, MapPort, IsMap, map_far, host_at, host_of_vertex}

@@ -41,7 +41,7 @@ below-place (suc k) v l = by (cases_order v k) (below-place k v)
     by (inr (inl b)) rest = get-left (numbers_below k) k v (subst (λ n. v < n) (sym many) b) ∙ rest b
     by (inr (inr b)) rest = absurd (omega arith)
 
-any-among : (test : ℕ → Bool) (vs : List ℕ) (v : ℕ) → is_among nat_eq vs v ≡ true → test v ≡ true → list_any test vs ≡ true
+pub any-among : (test : ℕ → Bool) (vs : List ℕ) (v : ℕ) → is_among nat_eq vs v ≡ true → test v ≡ true → list_any test vs ≡ true
 any-among test [] v e t = absurd (false≢true e)
 any-among test (u ∷ us) v e t = by (among-parts nat_eq Decides-eqb v u us e) (any-among test us v)
   where

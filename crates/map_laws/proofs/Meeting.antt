@@ -12,7 +12,7 @@ use Rattle.net_defs.specs.Network.{Network, IsFabric, far, has_port}
 use Rattle.net_defs.specs.Route.{exit_at, next_exit, host_port}
 use Rattle.journal_defs.specs.Part.{IsInPart}
 use Rattle.journal_defs.specs.Part.Path.{over as by_cable}
-use Rattle.journal_defs.proofs.Cabling.{exit-leaves}
+use Rattle.net_defs.proofs.Cabling.{exit-leaves}
 use Rattle.journal_defs.proofs.Members.{all-member}
 use Rattle.map_defs.specs.declared.vertex.MapVertex.{MapVertex}
 use Rattle.map_defs.specs.declared.vertex.MapVertex.TheVariants.{Host as MapHost, Switch as MapSwitch}
@@ -69,13 +69,13 @@ host-port-of m a h =
     record { vertex = position_or_len (is_host_named a) m.vertices; is = ap (option_map (λ v. record { v = v; p = pos 0 })) at; below = two.0; host = two.1 }
 
 -- a vertex that isn't a host is a switch
-other-switch : (vs : List MapVertex) (v : ℕ) → v < length vs → host_at (slice_get vs v) ≡ None → switch_at (slice_get vs v) ≡ true
+pub other-switch : (vs : List MapVertex) (v : ℕ) → v < length vs → host_at (slice_get vs v) ≡ None → switch_at (slice_get vs v) ≡ true
 other-switch [] v l e = absurd (omega arith)
 other-switch (MapHost h ∷ vs) zero l e = cc
 other-switch (MapSwitch s ∷ vs) zero l e = refl
 other-switch (x ∷ vs) (suc v) l e = other-switch vs v (omega arith) e
 
-host-not_switch : (o : Option MapVertex) (a : ℕ) → host_at o ≡ Some a → switch_at o ≡ false
+pub host-not_switch : (o : Option MapVertex) (a : ℕ) → host_at o ≡ Some a → switch_at o ≡ false
 host-not_switch None a f = refl
 host-not_switch (Some (MapHost h)) a f = refl
 host-not_switch (Some (MapSwitch s)) a f = cc

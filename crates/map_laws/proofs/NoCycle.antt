@@ -6,9 +6,10 @@ use Rattle.net_defs.specs.Network.{Network}
 use Rattle.net_defs.specs.Route.{channels_of}
 use Rattle.map_defs.specs.NetMap.{NetMap}
 use Rattle.map_defs.specs.Routing.{channels_on, port_of_host}
-use Rattle.map_defs.specs.Dependencies.{IsNext, IsBefore, Chain, HasNoCycle, channels_of_routes}
-use Rattle.map_defs.specs.Dependencies.IsNext.{here, later}
-use Rattle.map_defs.specs.Dependencies.Chain.{one, more}
+use Rattle.net_defs.specs.Dependencies.{IsNext, IsBefore, Chain, HasNoCycle}
+use Rattle.map_defs.specs.Ranks.{channels_of_routes}
+use Rattle.net_defs.specs.Dependencies.IsNext.{here, later}
+use Rattle.net_defs.specs.Dependencies.Chain.{one, more}
 use Rattle.map_defs.proofs.Cycles.{certificate_leaves_no_cycle}
 use Rattle.map_laws.specs.Leading.{HasHost, AreMatched, AreFromHosts, IsChannelOf, IsOneToOne, channels_in_fabric, CertificateHoldsInTheFabric}
 use Rattle.map_laws.proofs.Channels.{channels_are_matched, channels_are_one_to_one}

@@ -12,7 +12,7 @@ use Rattle.journal_defs.specs.Truth.{IsTrueJournal, standing}
 use Rattle.journal_defs.specs.Growth.{IsClosed, HasExpanded}
 use Rattle.journal_defs.specs.Part.{Path}
 use Rattle.journal_defs.specs.Part.Path.{here, over as by_cable}
-use Rattle.journal_defs.proofs.Cabling.{far-back}
+use Rattle.net_defs.proofs.Cabling.{far-back}
 use Rattle.journal_defs.proofs.Standing.{leads-to}
 use Rattle.growth_laws.proofs.Truly.{node-switch}
 use Rattle.growth_laws.proofs.Full.{AreOne, Step, host-member, expanded-member, over-member, before-cable, two-hosts}

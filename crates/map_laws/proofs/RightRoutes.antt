@@ -10,7 +10,7 @@ use Rattle.net_defs.specs.Route.{place}
 use Rattle.journal_defs.specs.Part.{IsInPart}
 use Rattle.map_defs.specs.NetMap.{NetMap, MapPort, IsMap, host_of_vertex}
 use Rattle.map_defs.specs.Routing.{LeadsTo, IsLeastLegal, led_to, port_of_host}
-use Rattle.map_defs.specs.Dependencies.{ranks_of}
+use Rattle.map_defs.specs.Ranks.{ranks_of}
 use Rattle.map_defs.specs.Sameness.{IsMapOfPart, address_of}
 use Rattle.map_defs.proofs.Certifying.{ranks_certify}
 use Rattle.map_laws.specs.Leading.{HasHost, AreFromHosts}

@@ -14,7 +14,7 @@ use Rattle.journal_defs.specs.Tree.{Node, Leads, host_of}
 use Rattle.journal_defs.specs.Replicates.{Replicates}
 use Rattle.journal_defs.specs.Replicates.Replicates.{turned as other_way, along, one_host, behind}
 use Rattle.journal_defs.specs.Truth.{IsTrueWhereFound, standing}
-use Rattle.journal_defs.proofs.Cabling.{host-port}
+use Rattle.net_defs.proofs.Cabling.{host-port}
 use Rattle.journal_defs.proofs.Members.{IsMember, member-place}
 use Rattle.journal_defs.proofs.Standing.{host-stands, stand, same_end-of, leads-crosses, port-below, turn-between, offset_is_unique}
 use Rattle.map_defs.specs.declared.vertex.MapCable.{MapCable}

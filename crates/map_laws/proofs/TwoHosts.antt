@@ -4,12 +4,15 @@ use Rattle.std.specs.Prelude.{pos, negsuc}
 use Rattle.net_defs.specs.Examples.{two_hosts}
 use Rattle.journal_defs.specs.Examples.{two_hosts_journal}
 use Rattle.journal_defs.specs.Growth.{IsClosed}
-use Rattle.journal_defs.proofs.Grown.{two_hosts_fabric, two_hosts_true, two_hosts_grown, two_hosts_closed}
+use Rattle.net_defs.proofs.TwoHosts.{two_hosts_fabric}
+use Rattle.journal_defs.proofs.Grown.{two_hosts_true, two_hosts_grown, two_hosts_closed}
 use Rattle.map_defs.specs.NetMap.{IsMap, IsConnected, host_of_vertex}
 use Rattle.map_defs.specs.Orientation.{order_of}
-use Rattle.map_defs.specs.Routing.{LeadsTo, HasRoute, AreRoutesOf}
+use Rattle.map_defs.specs.Routing.{LeadsTo, AreRoutesOf}
+use Rattle.net_defs.specs.RouteSet.{HasRoute}
 use Rattle.map_defs.specs.Sameness.{IsMapOfPart, graph_of_map}
-use Rattle.map_defs.specs.Dependencies.{IsBefore, IsCertificate, HasNoCycle}
+use Rattle.net_defs.specs.Dependencies.{IsBefore, HasNoCycle}
+use Rattle.map_defs.specs.Ranks.{IsCertificate}
 use Rattle.map_defs.specs.Examples.{two_hosts_map, moved_map, route, port}
 use Rattle.map_defs.proofs.Certified.{certificate-by, least-by}
 use Rattle.map_defs.proofs.Moved.{moved_is_same}

@@ -9,7 +9,8 @@ use Rattle.map_defs.specs.declared.rank.RankEntry.{RankEntry}
 use Rattle.map_defs.specs.NetMap.{NetMap, MapPort, IsMap, host_of_vertex}
 use Rattle.map_defs.specs.Routing.{LeadsTo, channels_on, port_of_host}
 use Rattle.map_defs.specs.Sameness.{IsMapOfPart}
-use Rattle.map_defs.specs.Dependencies.{IsBefore, HasNoCycle, IsCertificate}
+use Rattle.net_defs.specs.Dependencies.{IsBefore, HasNoCycle}
+use Rattle.map_defs.specs.Ranks.{IsCertificate}
 
 -- a vertex of the map is the host of this address
 pub record HasHost (m : NetMap) (a : ℕ) : Type 0 where

@@ -9,9 +9,10 @@ use Rattle.net_defs.specs.Route.{place}
 use Rattle.journal_defs.specs.Part.{IsInPart}
 use Rattle.map_defs.specs.NetMap.{NetMap, IsMap}
 use Rattle.map_defs.specs.Orientation.{IsOrder}
-use Rattle.map_defs.specs.Routing.{HasRoute, AreRoutesOf}
+use Rattle.net_defs.specs.RouteSet.{HasRoute}
+use Rattle.map_defs.specs.Routing.{AreRoutesOf}
 use Rattle.map_defs.specs.Sameness.{IsMapOfPart}
-use Rattle.map_defs.specs.Dependencies.{IsBefore, HasNoCycle}
+use Rattle.net_defs.specs.Dependencies.{IsBefore, HasNoCycle}
 use Rattle.map_laws.specs.Leading.{channels_in_fabric}
 
 -- Each route leads in the fabric itself to its host, each two hosts of the mapper's part have one, and the channels that they cross have no cycle of dependencies.

@@ -16,8 +16,6 @@
 #![tactic(auto)]
 
 mod making;
-#[cfg(test)]
-mod tests;
 
 pub use fabric_map::FabricMap;
 pub use making::{MadeMap, make_map};

@@ -29,8 +29,6 @@ mod laws;
 mod naming;
 mod renumbering;
 mod search;
-#[cfg(test)]
-mod tests;
 
 pub use fabric_map::{FabricMap, MapCable, MapVertex};
 pub use laws::renumbered_maps_are_one;

@@ -24,8 +24,6 @@ mod declaring;
 mod growing;
 mod printing;
 mod reading;
-#[cfg(test)]
-mod tests;
 
 pub use fab_text::{FaultKind, TextFault};
 pub use printing::print_map;

@@ -1,8 +1,7 @@
 -- What one ask adds to a tree.
-use Rattle.std.proofs.Common.{◌≡◌, ◌<◌, ◌≤◌, ◌+◌, ℕ, List, [], ◌∷◌, ◌++◌, length, sym, ◌∙◌, subst, ap, refl, arith, append_assoc, append-nil}
+use Rattle.std.proofs.Common.{◌≡◌, ◌<◌, ◌≤◌, ◌+◌, ℕ, List, [], ◌∷◌, ◌++◌, length, sym, ◌∙◌, subst, ap, refl, arith, append_assoc, append-nil, to_z, of_z, w8}
 use Rattle.std.specs.Prelude.{ℤ, Result, Ok, Err, OnErr, Option, Some}
 use Rattle.mapper.specs.Finding.{IfFound}
-use Rattle.std.proofs.Common.{to_z, of_z, w8}
 use Rattle.std.proofs.lemmas.Int.{ints}
 use Rattle.net_defs.specs.Turn.{IsTurn}
 use Rattle.net_defs.specs.declared.place.Answer.{Answer}

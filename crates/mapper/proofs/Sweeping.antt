@@ -8,11 +8,13 @@ use Rattle.net_defs.specs.declared.place.Answer.{Answer}
 use Rattle.net_defs.specs.declared.place.Answer.TheVariants.{Switch}
 use Rattle.net_defs.specs.Network.{Network}
 use Rattle.journal_defs.specs.declared.entry.Entry.{Entry}
-use Rattle.journal_defs.specs.Walks.{same_turns, turns_below, walk_below}
+use Rattle.net_defs.specs.Turn.{same_turns}
+use Rattle.journal_defs.specs.Walks.{turns_below, walk_below}
 use Rattle.journal_defs.specs.Tree.{IsSwitchNode, answered, is_asked, nodes}
 use Rattle.journal_defs.specs.Tree.Node.{Reached}
 use Rattle.journal_defs.specs.Growth.{IsGrowing, IsAtRest, IsExpanded, IsChosen, IsEndedAtLimit, HasExpanded, crossed, node_limit}
-use Rattle.journal_defs.proofs.Order.{same_turns-true, below-parts, below-trans, below-irrefl}
+use Rattle.net_defs.proofs.Turns.{same_turns-true}
+use Rattle.journal_defs.proofs.Order.{below-parts, below-trans, below-irrefl}
 use Rattle.growth_laws.proofs.Keeping.{Keeps, keeps-append, asked-kept, has_expanded-kept}
 use Rattle.growth_laws.proofs.Asks.{growing-once, switch-node, expanded-has}
 use Rattle.growth_laws.proofs.Few.{asks_are_few}

@@ -23,16 +23,10 @@
 
 mod asking;
 mod expanding;
-#[cfg(test)]
-mod grown_classes;
 mod growth;
 mod mapping;
 mod opening;
-#[cfg(test)]
-mod plain;
 mod sweep;
-#[cfg(test)]
-mod tests;
 mod tree;
 mod walks;
 

@@ -8,7 +8,7 @@ use Rattle.journal_defs.specs.Depth.{enough_depth}
 use Rattle.journal_defs.proofs.Members.{all-join}
 use Rattle.gm_defs.specs.Token.{PortState}
 use Rattle.map_defs.specs.NetMap.{NetMap}
-use Rattle.map_defs.specs.Dependencies.{ranks_of}
+use Rattle.map_defs.specs.Ranks.{ranks_of}
 use Rattle.map_defs.specs.Orientation.{order_of}
 use Rattle.map_defs.specs.Sameness.{IsMapOfPart}
 use Rattle.world_defs.specs.declared.event.Event.{Event}
@@ -27,7 +27,8 @@ use Rattle.run_defs.specs.declared.line.MapWords.TheVariants.{Complete, Doubtful
 use Rattle.run_defs.specs.Mapped.{IsMapped}
 use Rattle.run_defs.specs.Output.{Piece, OneLine, MapLines, lines}
 use Rattle.run_defs.specs.Session.{SessionState, LastMap, LastRoutes, complete_map}
-use Rattle.run_defs.specs.Outcome.{Outcome, says_only, event_of, stepped, step_or_idle, token_lines, table_line, adoption_of, install_done, install_now, install, is_other, map_refused, routes_refused, outcome}
+use Rattle.run_defs.specs.Outcome.{Outcome, says_only, event_of, stepped, step_or_idle, token_lines, table_line, adoption_of, install_done, install_now, install, map_refused, routes_refused, outcome}
+use Rattle.world_defs.specs.Table.{is_other}
 use Rattle.run_defs.specs.Run.{Does, Runs, map_pieces, route_line, rank_line, routes_lines}
 use Rattle.run_defs.specs.Run.Does.{determined, maps, routes}
 use Rattle.run_defs.specs.Run.Runs.{ended, goes_on}

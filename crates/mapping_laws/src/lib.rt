@@ -1,6 +1,6 @@
 //! What holds of every mapping over the world of a fabric, and of the maps that every run prints.
 //!
-//! Each law is a function without parameters: its contract is the law, and its body is empty. The statements stand in `specs/`.
+//! It makes no map, and says nothing of how a command prints one. Read `specs/Laws.antt` first, and then `specs/Runs.antt`.
 //!
 //! | file of `specs/` | says |
 //! |---|---|

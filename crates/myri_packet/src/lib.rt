@@ -13,8 +13,6 @@ mod building;
 mod host;
 mod packet;
 mod route_byte;
-#[cfg(test)]
-mod tests;
 
 pub use building::encode;
 pub use host::{Body, decode_at_host};

@@ -2,3 +2,7 @@ pub mod Distinct
 pub mod Ends
 pub mod Growing
 pub mod Places
+pub mod Cabling
+pub mod Cycles
+pub mod TwoHosts
+pub mod Turns

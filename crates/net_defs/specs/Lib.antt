@@ -4,3 +4,5 @@ pub mod Network
 pub mod Refusal
 pub mod Route
 pub mod Turn
+pub mod Dependencies
+pub mod RouteSet

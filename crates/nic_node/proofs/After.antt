@@ -6,7 +6,7 @@ use Rattle.world_defs.specs.Peer.{PeerState}
 use Rattle.world_defs.specs.Node.{Staged, StagedProbe, StagedPart, StagedReply, StagedAck, NodeState, with_peer, to_send, after_sending}
 use Rattle.host_items.specs.Held.{HostItems, first_of, without_first, with_items}
 use Rattle.route_install.specs.Collecting.{HostTable}
-use Rattle.host_peers.specs.Known.{HostPeers, with_state}
+use Rattle.host_peers.specs.Peers.{HostPeers, with_state}
 use Rattle.host_ports.specs.Held.{HostPorts}
 use Rattle.nic_node.specs.declared.next.NextSend.{NextSend}
 use Rattle.nic_node.specs.declared.next.NextSend.TheVariants.{Item}

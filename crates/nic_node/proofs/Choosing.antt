@@ -4,8 +4,8 @@ use Rattle.std.specs.Prelude.{is_some}
 use Rattle.std.proofs.lemmas.Bool.Decides.{nat_tests}
 use Rattle.std.specs.List.{range_with_len}
 use Rattle.world_defs.specs.Node.{Outgoing, either, first_some, peers_of}
-use Rattle.host_peers.specs.Known.{NoneBetween, IsNext}
-use Rattle.host_peers.specs.Known.IsNext.{next, nobody_left}
+use Rattle.host_peers.specs.Peers.{NoneBetween, IsNext}
+use Rattle.host_peers.specs.Peers.IsNext.{next, nobody_left}
 use Rattle.nic_node.specs.Held.{HostNode}
 
 -- there is nothing for any host below an address

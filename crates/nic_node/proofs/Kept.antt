@@ -18,9 +18,9 @@ use Rattle.world_defs.specs.Node.{NodeState, peer_at, with_peer, port_at, with_p
 use Rattle.world_defs.specs.Hearing.{heard_if, is_host, delivered_after, all_finished, message_of, frame_took, frame_heard, ack_heard, hear_gm_body}
 use Rattle.host_items.specs.Held.{HostItems}
 use Rattle.route_install.specs.Collecting.{HostTable}
-use Rattle.host_peers.specs.Known.{HostPeers}
+use Rattle.host_peers.specs.Peers.{HostPeers}
 use Rattle.host_ports.specs.Held.{HostPorts}
-use Rattle.host_messages.specs.Held.{with_messages}
+use Rattle.nic_node.specs.Messages.{with_messages}
 use Rattle.nic_node.specs.Held.{HostNode, state_of}
 
 if-kept : (t : Bool) (n : NodeState) (h : Heard × NodeState) → length h.1.peers ≡ length n.peers → length (heard_if t n h).1.peers ≡ length n.peers

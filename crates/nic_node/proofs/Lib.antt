@@ -3,3 +3,4 @@ pub mod Choosing
 pub mod First
 pub mod Going
 pub mod Kept
+pub mod Within

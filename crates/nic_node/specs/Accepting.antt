@@ -1,15 +1,52 @@
--- What a host makes of a message that is to be sent: why it doesn't accept it, and its state once it did.
-use Rattle.std.specs.Prelude.{ℕ, List, is_some, Option, option_map}
+-- What a host makes of a message that is to be sent: why it doesn't accept it, in which order, and what it has of one that it accepted.
+use Rattle.std.specs.Prelude.{ℕ, Bool, List, take, is_some, if◌then◌else◌, Option, Some, None, option_map}
+use Rattle.gm_defs.specs.declared.message.Message.{Message}
 use Rattle.gm_port.specs.declared.ask.SendAsk.{SendAsk}
+use Rattle.gm_defs.specs.Token.{PortState}
 use Rattle.gm_defs.specs.Port.{sent_with}
+use Rattle.gm_conn.specs.declared.refusal.OfferRefusal.{OfferRefusal}
+use Rattle.gm_conn.specs.declared.refusal.OfferRefusal.TheVariants.{Spent as SpentNumbers, NoMemory as NoRoom}
 use Rattle.world_defs.specs.Table.{table_route}
 use Rattle.world_defs.specs.Peer.{with_message}
 use Rattle.world_defs.specs.Node.{NodeState, peer_at, with_peer, port_at, with_port}
-use Rattle.host_peers.specs.Known.{HostPeers}
-use Rattle.host_ports.specs.Held.{HostPorts}
-use Rattle.host_messages.specs.declared.refusal.NodeSend.{NodeSend}
-use Rattle.host_messages.specs.Accepting.{node_bar, message_sent}
+use Rattle.host_ports.specs.declared.ask.PortSend.{PortSend}
+use Rattle.host_ports.specs.declared.ask.PortSend.TheVariants.{NotOpen as PortNotOpen, TooLong as PortTooLong, BufferShort as PortShort}
+use Rattle.host_ports.specs.Held.{HostPorts, open_at}
+use Rattle.host_ports.specs.Refusal.{send_bar as port_bar}
+use Rattle.host_peers.specs.Peer.{accept_refusal}
+use Rattle.host_peers.specs.Peers.{HostPeers, peer_in, with_state}
+use Rattle.nic_node.specs.declared.refusal.NodeSend.{NodeSend}
+use Rattle.nic_node.specs.declared.refusal.NodeSend.TheVariants.{NotOpen, TooLong, BufferShort, NoRoute, Spent, NoMemory}
 use Rattle.nic_node.specs.Held.{HostNode}
+
+-- a refusal of the port, as the host's
+abbrev pub port_word : PortSend → NodeSend
+port_word PortNotOpen = NotOpen
+port_word PortTooLong = TooLong
+port_word PortShort = BufferShort
+
+-- a refusal of the connection, as the host's
+abbrev pub peer_word : OfferRefusal → NodeSend
+peer_word SpentNumbers = Spent
+peer_word NoRoom = NoMemory
+
+-- the first of two refusals
+abbrev pub first_of : Option NodeSend → Option NodeSend → Option NodeSend
+first_of (Some refusal) later = Some refusal
+first_of None later = later
+
+-- a message isn't accepted where no route leads to its receiver
+abbrev pub route_bar : Bool → Option NodeSend
+route_bar route = if route then None else Some NoRoute
+
+-- a message isn't accepted for its port, its length or its buffer, and then for want of a route
+abbrev pub early_bar : Option PortState → Bool → ℕ → List ℕ → Option NodeSend
+early_bar p route len buffer = first_of (option_map port_word (port_bar p len buffer)) (route_bar route)
+
+-- and then where it needs a number above the greatest
+abbrev pub node_bar : HostPeers → HostPorts → Bool → ℕ → SendAsk → List ℕ → Option NodeSend
+node_bar peers ports route port a buffer =
+    first_of (early_bar (open_at ports port) route a.len buffer) (option_map peer_word (accept_refusal (peer_in peers a.dest) a.len))
 
 -- the connections of a host, as a contract sees them alone
 abbrev pub peers_in : HostNode → HostPeers
@@ -19,9 +56,18 @@ peers_in n = record { host = n.host; peers = n.state.peers }
 abbrev pub ports_in : HostNode → HostPorts
 ports_in n = record { host = n.host; ports = n.state.ports }
 
--- a message of a port isn't accepted: for its port, its length or its buffer, then for want of a route, then for want of a number
+-- the same of a host with its own table
 abbrev pub send_bar : HostNode → ℕ → SendAsk → List ℕ → Option NodeSend
 send_bar n port a buffer = node_bar (peers_in n) (ports_in n) (is_some (table_route n.state.table a.dest)) port a buffer
+
+-- the message of a send: the first bytes of its buffer
+abbrev pub message_sent : ℕ → SendAsk → List ℕ → Message
+message_sent port a buffer = record { sport = port; dport = a.dport; prio = a.prio; body = take a.len buffer }
+
+-- the connections once a send of a port's token was accepted
+abbrev pub accepted_in : HostPeers → ℕ → ℕ → SendAsk → List ℕ → HostPeers
+accepted_in peers port token a buffer =
+    with_state peers a.dest (with_message (peer_in peers a.dest) (message_sent port a buffer) (record { port = port; token = token }))
 
 -- a message of a port's token was accepted: its peer has the message, and the port has the token with its buffer
 abbrev pub accepted : NodeState → ℕ → ℕ → SendAsk → List ℕ → NodeState

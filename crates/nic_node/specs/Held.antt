@@ -3,7 +3,7 @@ use Rattle.std.specs.Prelude.{◌≡◌, ◌<◌, ℕ, length}
 use Rattle.world_defs.specs.Node.{NodeState, new_node}
 use Rattle.host_items.specs.Held.{HostItems}
 use Rattle.route_install.specs.Collecting.{HostTable}
-use Rattle.host_peers.specs.Known.{HostPeers}
+use Rattle.host_peers.specs.Peers.{HostPeers}
 use Rattle.host_ports.specs.Held.{HostPorts}
 
 -- A host, among so many hosts, in a state.

@@ -1,4 +1,5 @@
 pub mod Held
+pub mod Messages
 pub mod Reading
 pub mod Sending
 pub mod Accepting

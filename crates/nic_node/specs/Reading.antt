@@ -1,7 +1,7 @@
 -- The bodies of the mapper's protocol, as a host reads them, and what it makes of them.
 use Rattle.std.specs.Prelude.{ℕ, ℤ, Bool, true, false, List, Some}
-use Rattle.gm_defs.specs.Mapping.{MappingBody}
-use Rattle.gm_defs.specs.Mapping.MappingBody.{Part}
+use Rattle.mapping_defs.specs.Mapping.{MappingBody}
+use Rattle.mapping_defs.specs.Mapping.MappingBody.{Part}
 use Rattle.probe.specs.Body.{said}
 use Rattle.route_parts.specs.Reading.{ack_body}
 use Rattle.world_defs.specs.declared.applied.Applied.{Applied}

@@ -4,10 +4,11 @@ ghost use Rattle.std.specs.Prelude.{◌≡◌, IfOk, OnErr};
 ghost use Rattle.gm_defs.specs.Body.{decode};
 ghost use Rattle.world_defs.specs.Hearing.{hear, hear_gm_body};
 
+use crate::messages::hear;
 use crate::node::NicNode;
-use host_messages::{Arrival, hear};
 use myri_packet::{Body, Packet, decode_at_host};
 use std::alloc::{AllocError, Global};
+use world_defs::Arrival;
 
 impl NicNode {
     /// A packet reached the host: what was made of it is exactly what the definition makes of its bytes. Want of memory changes nothing.

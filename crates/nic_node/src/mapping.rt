@@ -2,7 +2,7 @@
 
 ghost use Rattle.std.specs.Prelude.{◌≡◌, IfOk, OnOk, OnErr};
 ghost use Rattle.std.specs.List.{list_all};
-ghost use Rattle.gm_defs.specs.Mapping.{decode_mapping, MappingBody};
+ghost use Rattle.mapping_defs.specs.Mapping.{decode_mapping, MappingBody};
 ghost use Rattle.world_defs.specs.Table.{applied};
 ghost use Rattle.world_defs.specs.Hearing.{is_host, is_part_for, part_heard, hear_mapping, hear_mapping_body};
 ghost use Rattle.probe.specs.Body.{said};

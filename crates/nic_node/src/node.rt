@@ -1,7 +1,7 @@
 //! One host.
 
 ghost use Rattle.std.specs.Prelude.{◌≡◌, ◌<◌, ◌≤◌, nat_lt, length, replicate, true, is_some, if◌then◌else◌, Some, None, IfOk};
-ghost use Rattle.gm_defs.specs.Mapping.{is_part};
+ghost use Rattle.mapping_defs.specs.Mapping.{is_part};
 ghost use Rattle.world_defs.specs.Node.{StagedProbe, StagedPart, port_count, has_staged, given_up, node_expired, unacknowledged_to, peer_at};
 ghost use Rattle.world_defs.specs.Table.{active_epoch};
 ghost use Rattle.nic_node.specs.Held.{unused_node, in_state};
@@ -115,7 +115,7 @@ impl NicNode {
         ensures told { result ≡ nat_lt 0 (unacknowledged_to self.old.state peer) }
         ensures after { self.new ≡ in_state self.old (if result then node_expired self.old.state peer else self.old.state) }
     {
-        if self.peers.unacked(peer) == 0 {
+        if self.peers.at(peer).unacked() == 0 {
             return false;
         }
         self.peers.expire(peer);
@@ -141,7 +141,7 @@ impl NicNode {
         requires { peer < self.now.hosts }
         ensures { result.now ≡ (peer_at self.now.state peer).sent }
     {
-        self.peers.sent(peer)
+        self.peers.at(peer).sent()
     }
 
     /// The messages that were taken from a peer, in order.
@@ -149,7 +149,7 @@ impl NicNode {
         requires { peer < self.now.hosts }
         ensures { result.now ≡ (peer_at self.now.state peer).got }
     {
-        self.peers.got(peer)
+        self.peers.at(peer).got()
     }
 
     /// How many fragments to a peer aren't acknowledged, sent or not.
@@ -157,7 +157,7 @@ impl NicNode {
         requires { peer < self.now.hosts }
         ensures { result ≡ unacknowledged_to self.now.state peer }
     {
-        self.peers.unacked(peer)
+        self.peers.at(peer).unacked()
     }
 
     /// Spends a host whose ports are all closed.

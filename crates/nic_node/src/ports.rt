@@ -13,10 +13,11 @@ ghost use Rattle.host_ports.specs.Refusal.{begin_bar, provide_bar, close_bar};
 ghost use Rattle.nic_node.specs.Held.{in_state};
 ghost use Rattle.nic_node.specs.Accepting.{send_bar, accepted};
 
+use crate::accepting::send;
 use crate::node::NicNode;
+use crate::refusal::NodeSend;
 use gm_defs::TokenPlace;
 use gm_tokens::{RecvToken, SendToken};
-use host_messages::{NodeSend, send};
 use host_ports::{NotOpen, PortBegin, PortClose, PortEvent, PortProvide, SendAsk, Wreck};
 use reg_mem::Reg;
 use std::alloc::Global;

@@ -55,7 +55,7 @@ impl NicNode {
         ensures { (number : ℕ) → IfOk result (λ packet. packet ≡ option_map (packet_for self.now.host number) (owed_to self.now.state peer)) }
     {
         match self.table.route(peer) {
-            Some(by) => Ok(Some(ack_packet(alloc, &self.peers.ack(peer), by)?)),
+            Some(by) => Ok(Some(ack_packet(alloc, &self.peers.at(peer).ack(), by)?)),
             None => Ok(None),
         }
     }
@@ -65,7 +65,7 @@ impl NicNode {
         requires { peer < self.now.hosts }
         ensures { (number : ℕ) → IfOk result (λ packet. packet ≡ option_map (packet_for self.now.host number) (due_to self.now.host self.now.state peer)) }
     {
-        let Some(frame) = self.peers.due(peer) else {
+        let Some(frame) = self.peers.at(peer).due() else {
             return Ok(None);
         };
         match self.table.route(peer) {

@@ -1,13 +1,13 @@
 -- The worked example: one message comes.
 use Rattle.std.proofs.Common.{refl}
 use Rattle.net_defs.specs.Examples.{two_hosts}
-use Rattle.journal_defs.proofs.Grown.{two_hosts_fabric}
+use Rattle.net_defs.proofs.TwoHosts.{two_hosts_fabric}
 use Rattle.world_defs.specs.Examples.{setup_routes}
 use Rattle.world_defs.specs.Node.{to_send, packet_for, after_sending}
 use Rattle.world_defs.specs.Hearing.{hear}
 use Rattle.world_defs.specs.Client.{begun, provided_by, sent_by}
 use Rattle.world_defs.specs.Step.{planned_strikes, sent_out, injected, advanced}
-use Rattle.run_defs.specs.Headline.{AreAdoptable}
+use Rattle.act_defs.specs.Acts.{AreAdoptable}
 use Rattle.table_laws.specs.Examples.{adopted_world}
 use Rattle.table_laws.proofs.Dependencies.{adopted-adoptable}
 use Rattle.table_laws.proofs.TwoHosts.{adopted-reached}

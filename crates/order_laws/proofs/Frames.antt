@@ -10,7 +10,7 @@ use Rattle.gm_defs.specs.declared.frame.Ack.{Ack}
 use Rattle.gm_defs.specs.declared.frame.GmBody.TheVariants.{Frame, Ack as Acknowledges}
 use Rattle.gm_defs.specs.Body.{number_limit, head_in, ack_in, part_in, frame_bytes, ack_bytes, is_frame, is_ack, decode}
 use Rattle.gm_defs.specs.Fragment.{pieces, fragments, head_of, frame_of}
-use Rattle.gm_defs.proofs.Fronts.{chosen, map-some}
+use Rattle.gm_defs.proofs.Choices.{chosen, map-some}
 use Rattle.world_defs.specs.Sound.{IsFront}
 use Rattle.order_laws.specs.Says.{SaysTrue}
 use Rattle.order_laws.proofs.Peers.{Carries}

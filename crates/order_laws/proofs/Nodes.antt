@@ -1,5 +1,5 @@
 -- What each change of a host keeps of its connections, and what it sends.
-use Rattle.std.proofs.Common.{◌≡◌, ◌+◌, ◌≤◌, ◌<◌, ◌^◌, ℕ, zero, suc, Bool, true, false, ◌&&◌, ℤ, pos, List, [], ◌∷◌, ◌++◌, length, get_or, set, nat_eq, is_none, Option, Some, None, option_map, Result, Ok, Err, refl, sym, ap, ◌∙◌, subst, arith, if◌then◌else◌}
+use Rattle.std.proofs.Common.{◌≡◌, ◌+◌, ◌≤◌, ◌<◌, ◌^◌, ℕ, zero, suc, Bool, true, false, ◌&&◌, ℤ, pos, List, [], ◌∷◌, ◌++◌, length, nat_eq, is_none, Option, Some, None, option_map, Result, Ok, Err, refl, sym, ap, ◌∙◌, subst, arith, if◌then◌else◌}
 use Rattle.std.specs.Prelude.{slice_index_or, option_and_then, ◌%◌}
 use Rattle.std.specs.List.{AllByRecursion, range_with_len}
 use Rattle.std.proofs.lemmas.Bool.Decides.{nat_tests}
@@ -20,23 +20,21 @@ use Rattle.gm_defs.specs.declared.token.Took.TheVariants.{NotNext as TookNotNext
 use Rattle.gm_defs.specs.Body.{piece, number_limit, decode, part_in, frame_bytes, ack_bytes}
 use Rattle.gm_defs.specs.Fragment.{frame_of, piece_count}
 use Rattle.gm_defs.specs.Connection.{due, is_spent}
-use Rattle.gm_defs.specs.Mapping.{RoutePart, MappingBody, decode_mapping, mapping_bytes}
-use Rattle.gm_defs.specs.Mapping.MappingBody.{HostProbe, HostReply, Loopback, Part, PartAck}
-use Rattle.gm_defs.specs.Token.{PortState, PortEvent, Sent, Received}
-use Rattle.gm_defs.specs.Port.{finished, is_too_long, is_bad_size, next_event, unfinished, unread}
-use Rattle.gm_defs.proofs.Fronts.{both, then-some}
+use Rattle.mapping_defs.specs.Mapping.{RoutePart, MappingBody, decode_mapping, mapping_bytes}
+use Rattle.mapping_defs.specs.Mapping.MappingBody.{HostProbe, HostReply, Loopback, Part, PartAck}
+use Rattle.gm_defs.specs.Port.{finished, is_too_long}
+use Rattle.gm_defs.proofs.Choices.{both, then-some}
 use Rattle.world_defs.specs.declared.applied.Applied.{Applied}
 use Rattle.world_defs.specs.declared.applied.Applied.TheVariants.{Part as OnePart, Active, Old}
 use Rattle.world_defs.specs.declared.heard.Heard.{Heard}
-use Rattle.world_defs.specs.declared.client.ClientCause.{ClientCause}
-use Rattle.world_defs.specs.declared.client.ClientCause.TheVariants.{Busy, Unread, TooLong, NoRoute, Spent}
-use Rattle.world_defs.specs.declared.effect.Said.{Said}
-use Rattle.world_defs.specs.declared.effect.Said.TheVariants.{Count}
+use Rattle.world_defs.specs.declared.client.ClientCause.TheVariants.{TooLong, NoRoute, Spent}
 use Rattle.world_defs.specs.Table.{TableState, table_route, applied}
 use Rattle.world_defs.specs.Peer.{PeerState, Ticket, new_peer, with_message, peer_after, tickets_finished}
 use Rattle.world_defs.specs.Node.{NodeState, Staged, StagedReply, StagedAck, StagedProbe, StagedPart, Outgoing, Probe, TablePart, Reply, PartAnswer, FrameAnswer, Fragment, peer_at, with_peer, port_at, with_port, way_back, outgoing_staged, owed_to, due_to, due_frame, either, first_some, peers_of, to_send, packet_for, after_sending, node_expired}
 use Rattle.world_defs.specs.Hearing.{is_host, heard_if, is_part_for, part_heard, port_takes, message_of, hear_mapping, hear_mapping_body, delivered_after, frame_took, all_finished, hear_gm, hear_gm_body, hear_body, hear_decoded, hear}
-use Rattle.world_defs.specs.Client.{ClientState, Wanted, refused, left, begin_at, begun, close_open, closed, provide_with, provide_open, provided_by, client_bytes, wanted_message, send_refusal, send_unless, send_with, send_open, sent_by, handed_out, poll_open, polled_by}
+use Rattle.world_defs.specs.Client.{ClientState, Called, client_bytes, wanted_message}
+use Rattle.act_defs.proofs.Lists.{each-set}
+use Rattle.act_defs.proofs.Calls.{Call}
 use Rattle.table_laws.specs.Packets.{Built}
 use Rattle.order_laws.specs.Says.{SaysTrue}
 use Rattle.order_laws.proofs.Peers.{IsNumbered, PeerNext, peer-same, sent_one-next, answered-next, expired-next, acknowledged-next, message-next, frame-message, frame-next}
@@ -52,18 +50,11 @@ pub record NodeNext (S : ℕ → List Message) (n m : NodeState) : Type 0 where
   pub count : length m.peers ≡ length n.peers
   pub peers : (p : ℕ) → PeerNext (S p) (peer_at n p) (peer_at m p)
 
-pub set-each : {X : Type 0} (P : ℕ → X → Type 0) (xs : List X) (i j : ℕ) (y d : X) → P i y → ((k : ℕ) → P k (get_or xs k d)) → P j (get_or (set xs i y) j d)
-set-each P [] i j y d here all = all j
-set-each P (x ∷ xs) zero zero y d here all = here
-set-each P (x ∷ xs) zero (suc j) y d here all = all (suc j)
-set-each P (x ∷ xs) (suc i) zero y d here all = all zero
-set-each P (x ∷ xs) (suc i) (suc j) y d here all = set-each (λ k. P (suc k)) xs i j y d here (λ k. all (suc k))
-
 pub node-kept : (S : ℕ → List Message) (n m : NodeState) → m.peers ≡ n.peers → NodeNext S n m
 node-kept S n m e = record { count = ap length e; peers = λ p. subst (λ l. PeerNext (S p) (peer_at n p) (slice_index_or l p new_peer)) (sym e) (peer-same (S p) (peer_at n p)) }
 
 peer-node : (S : ℕ → List Message) (n : NodeState) (k : ℕ) (q : PeerState) → PeerNext (S k) (peer_at n k) q → NodeNext S n (with_peer n k q)
-peer-node S n k q here = record { count = length-set n.peers k q; peers = λ p. set-each (λ j x. PeerNext (S j) (peer_at n j) x) n.peers k p q new_peer here (λ j. peer-same (S j) (peer_at n j)) }
+peer-node S n k q here = record { count = length-set n.peers k q; peers = λ p. each-set (λ j x. PeerNext (S j) (peer_at n j) x) n.peers k p q new_peer here (λ j. peer-same (S j) (peer_at n j)) }
 
 -- further changes that leave the connections
 then-kept : (S : ℕ → List Message) (n m r : NodeState) → NodeNext S n m → r.peers ≡ m.peers → NodeNext S n r
@@ -152,58 +143,6 @@ pub node_expired-next : (S : ℕ → List Message) (n : NodeState) (peer : ℕ) 
 node_expired-next S n peer = peer-node S n peer _ (expired-next (S peer) (peer_at n peer))
 
 -- what its clients call for
-begin_at-peers : (n : NodeState) (port sends recvs : ℕ) (c : Option ClientState) (p : Option PortState) → (begin_at n port sends recvs c p).node.peers ≡ n.peers
-begin_at-peers n port sends recvs c (Some p) = refl
-begin_at-peers n port sends recvs c None = refl
-
-pub begun-peers : (n : NodeState) (port sends recvs : ℕ) (c : Option ClientState) → (begun n port sends recvs c).node.peers ≡ n.peers
-unfolding begun
-begun-peers n port sends recvs c = begin_at-peers n port sends recvs c (port_at n port)
-
-close_if-peers : (n : NodeState) (port : ℕ) (c : Option ClientState) (p : PortState) (a b : Bool) → (if a then (if b then left n port None None (Count (length p.provided)) else refused n c (Unread (unread p))) else refused n c (Busy (unfinished p))).node.peers ≡ n.peers
-close_if-peers n port c p true true = refl
-close_if-peers n port c p true false = refl
-close_if-peers n port c p false b = refl
-
-close_open-peers : (n : NodeState) (port : ℕ) (c : Option ClientState) (p : Option PortState) → (close_open n port c p).node.peers ≡ n.peers
-close_open-peers n port c None = refl
-close_open-peers n port c (Some p) = close_if-peers n port c p (nat_eq (unfinished p) 0) (nat_eq (unread p) 0)
-
-pub closed-peers : (n : NodeState) (port : ℕ) (c : Option ClientState) → (closed n port c).node.peers ≡ n.peers
-unfolding closed
-closed-peers n port c = close_open-peers n port c (port_at n port)
-
-provide_if-peers : (n : NodeState) (port : ℕ) (c d : ClientState) (p : PortState) (b : Bool) (cause : ClientCause) (said : Said) → (if b then refused n (Some c) cause else left n port (Some p) (Some d) said).node.peers ≡ n.peers
-provide_if-peers n port c d p true cause said = refl
-provide_if-peers n port c d p false cause said = refl
-
-provide_with-peers : (n : NodeState) (port size prio : ℕ) (p : PortState) (c : ClientState) (ts : List ℕ) → (provide_with n port size prio p c ts).node.peers ≡ n.peers
-provide_with-peers n port size prio p c [] = refl
-provide_with-peers n port size prio p c (t ∷ ts) = provide_if-peers n port c (record c { recvs = ts }) _ (is_bad_size size prio) _ _
-
-provide_open-peers : (n : NodeState) (port size prio : ℕ) (c : Option ClientState) (p : Option PortState) → (provide_open n port size prio c p).node.peers ≡ n.peers
-provide_open-peers n port size prio (Some c) (Some p) = provide_with-peers n port size prio p c c.recvs
-provide_open-peers n port size prio (Some c) None = refl
-provide_open-peers n port size prio None p = refl
-
-pub provided_by-peers : (n : NodeState) (port size prio : ℕ) (c : Option ClientState) → (provided_by n port size prio c).node.peers ≡ n.peers
-unfolding provided_by
-provided_by-peers n port size prio c = provide_open-peers n port size prio c (port_at n port)
-
-handed_out-peers : (n : NodeState) (port : ℕ) (p : PortState) (c : ClientState) (e : Option PortEvent) → (handed_out n port p c e).node.peers ≡ n.peers
-handed_out-peers n port p c None = refl
-handed_out-peers n port p c (Some (Sent t buffer)) = refl
-handed_out-peers n port p c (Some (Received t buffer from sport prio len)) = refl
-
-poll_open-peers : (n : NodeState) (port : ℕ) (c : Option ClientState) (p : Option PortState) → (poll_open n port c p).node.peers ≡ n.peers
-poll_open-peers n port (Some c) (Some p) = handed_out-peers n port p c (next_event p)
-poll_open-peers n port (Some c) None = refl
-poll_open-peers n port None p = refl
-
-pub polled_by-peers : (n : NodeState) (port : ℕ) (c : Option ClientState) → (polled_by n port c).node.peers ≡ n.peers
-unfolding polled_by
-polled_by-peers n port c = poll_open-peers n port c (port_at n port)
-
 -- a message is accepted
 not_refused : (a b c : Bool) → (if a then Some TooLong else if b then Some NoRoute else if c then Some Spent else None) ≡ None → (a ≡ false) × (c ≡ false)
 not_refused true b c e = cc
@@ -217,29 +156,21 @@ not_long len e = grind (arith, nat_tests)
 client-length : (len seed : ℕ) → length (client_bytes len seed) ≡ len
 client-length len seed = length-map (range_with_len 0 len) (λ i. (seed + i) % 256) ∙ length-range_with_len 0 len
 
-send_unless-next : (S : ℕ → List Message) (n : NodeState) (s : Wanted) (p : PortState) (c : ClientState) (t : ℕ) (ts : List ℕ) (r : Option ClientCause) → send_refusal n s ≡ r → NodeNext S n (send_unless n s p c t ts r).node
-send_unless-next S n s p c t ts (Some cause) e = node-kept S n n refl
-send_unless-next S n s p c t ts None e =
-    let two = not_refused (is_too_long s.len) (is_none (table_route n.table s.dest)) (is_spent (peer_at n s.dest).sender (piece_count s.len)) e in
+pub call-next : (S : ℕ → List Message) {n : NodeState} {c : Option ClientState} {port : ℕ} {call : Called} → Call n c port call → NodeNext S n call.node
+call-next S {n = n} Call.rests = node-kept S n _ refl
+call-next S {n = n} (Call.opens sends recvs d) = node-kept S n _ refl
+call-next S {n = n} (Call.closes p d e f) = node-kept S n _ refl
+call-next S {n = n} (Call.provides size prio t ts p d e f g k) = node-kept S n _ refl
+call-next S {n = n} (Call.accepts s t ts p d e f g k) =
+    let two = not_refused (is_too_long s.len) (is_none (table_route n.table s.dest)) (is_spent (peer_at n s.dest).sender (piece_count s.len)) k in
     let long : length (client_bytes s.len s.seed) ≡ s.len = client-length s.len s.seed in
     let here : PeerNext (S s.dest) (peer_at n s.dest) (with_message (peer_at n s.dest) (wanted_message s) (record { port = s.port; token = t })) =
     message-next (S s.dest) (peer_at n s.dest) (wanted_message s) (record { port = s.port; token = t })
     (subst (λ l. l ≤ piece) (sym long) (not_long s.len two.0))
     (ap (λ l. is_spent (peer_at n s.dest).sender (piece_count l)) long ∙ two.1) in
     then-kept S n _ _ (peer-node S n s.dest _ here) refl
-
-send_with-next : (S : ℕ → List Message) (n : NodeState) (s : Wanted) (p : PortState) (c : ClientState) (ts : List ℕ) → NodeNext S n (send_with n s p c ts).node
-send_with-next S n s p c [] = node-kept S n n refl
-send_with-next S n s p c (t ∷ ts) = send_unless-next S n s p c t ts (send_refusal n s) refl
-
-send_open-next : (S : ℕ → List Message) (n : NodeState) (s : Wanted) (c : Option ClientState) (p : Option PortState) → NodeNext S n (send_open n s c p).node
-send_open-next S n s (Some c) (Some p) = send_with-next S n s p c c.sends
-send_open-next S n s (Some c) None = node-kept S n n refl
-send_open-next S n s None p = node-kept S n n refl
-
-pub sent_by-next : (S : ℕ → List Message) (n : NodeState) (s : Wanted) (c : Option ClientState) → NodeNext S n (sent_by n s c).node
-unfolding sent_by
-sent_by-next S n s c = send_open-next S n s c (port_at n s.port)
+call-next S {n = n} (Call.hands_sent t buffer p d e f g) = node-kept S n _ refl
+call-next S {n = n} (Call.hands_received t buffer from sport prio len p d e f g) = node-kept S n _ refl
 
 -- what it sends says what is true
 abbrev IsOut : (ℕ → ℕ → List Message) → Outgoing → Type 0

@@ -6,8 +6,7 @@ use Rattle.world_defs.specs.declared.event.Event.TheVariants.{Inject, Advance, B
 use Rattle.world_defs.specs.World.{WorldState, new_world}
 use Rattle.world_defs.specs.Traffic.{sent_between, got_between}
 use Rattle.world_defs.specs.Examples.{setup_routes}
-use Rattle.run_defs.specs.Headline.{Act, Happens, Adopts, acted_all}
-use Rattle.table_laws.specs.Acts.{IsReached}
+use Rattle.act_defs.specs.Acts.{Act, Happens, Adopts, acted_all, IsReached}
 
 -- routes are adopted, both ports open, a buffer is provided, and the message goes through the switch
 abbrev pub one_message : List Act

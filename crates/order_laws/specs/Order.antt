@@ -11,7 +11,7 @@ use Rattle.gm_defs.specs.Fragment.{IsHonestFrame}
 use Rattle.world_defs.specs.World.{WorldState}
 use Rattle.world_defs.specs.Sound.{IsFront}
 use Rattle.world_defs.specs.Traffic.{sent_between, got_between, taken_between}
-use Rattle.table_laws.specs.Acts.{IsReached}
+use Rattle.act_defs.specs.Acts.{IsReached}
 
 -- what a host got from another is a front part of what the other sent there
 abbrev pub GotIsFrontOfSent : Type 0

@@ -1,6 +1,6 @@
 //! What each host got from another is a front part of what the other sent there, after every list of acts that may happen.
 //!
-//! A law is a function without parameters: its contract is the law, and its body is empty. The statements stand in `specs/`.
+//! It sends nothing, and says nothing of how much is got: that is `window_laws`. Read `specs/Order.antt` first.
 //!
 //! | file of `specs/` | says |
 //! |---|---|

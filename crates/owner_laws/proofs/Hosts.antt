@@ -11,8 +11,8 @@ use Rattle.gm_defs.specs.declared.frame.Malformed.{Malformed as NoBody}
 use Rattle.gm_defs.specs.declared.token.Took.{Took}
 use Rattle.gm_defs.specs.declared.token.Took.TheVariants.{NotNext as TookNotNext, NoToken as TookNoToken, Whole}
 use Rattle.gm_defs.specs.Body.{decode, part_in}
-use Rattle.gm_defs.specs.Mapping.{RoutePart, MappingBody, decode_mapping}
-use Rattle.gm_defs.specs.Mapping.MappingBody.{HostProbe, HostReply, Loopback, Part, PartAck}
+use Rattle.mapping_defs.specs.Mapping.{RoutePart, MappingBody, decode_mapping}
+use Rattle.mapping_defs.specs.Mapping.MappingBody.{HostProbe, HostReply, Loopback, Part, PartAck}
 use Rattle.gm_defs.specs.Token.{PortState}
 use Rattle.gm_defs.specs.Port.{delivered, finished}
 use Rattle.world_defs.specs.declared.applied.Applied.{Applied}

@@ -1,6 +1,6 @@
 //! What holds of the tokens of ports, after every list of acts: events, plans of faults, adoptions of routes.
 //!
-//! Each law is a function without parameters: its contract is the law, and its body is empty. The statements stand in `specs/`.
+//! It holds no token, and says nothing of what is in a buffer: that is `token_laws`. Read `specs/Owned.antt`.
 //!
 //! | file of `specs/` | says |
 //! |---|---|

@@ -1,9 +1,8 @@
 -- One step of the remainder: it is below 256 and goes well with sums.
 use Rattle.std.proofs.Common.{◌≡◌, ◌<◌, ◌≤◌, ◌+◌, ◌-◌, ◌*◌, ◌^◌, ℕ, Bool, true, false, nat_lt, refl, sym, ap, ◌∙◌, subst, arith, if◌then◌else◌}
 use Rattle.std.proofs.lemmas.Bool.Decides.{nat_tests}
-use Rattle.std.specs.Int.Bits.{bit_xor, xor_assoc, xor_self, xor_lt, xor_block}
+use Rattle.std.specs.Int.Bits.{bit_xor, xor_assoc, xor_self, xor_lt, xor_block, xor_zero_r}
 use Rattle.std.proofs.lemmas.Nat.{xor_comm}
-use Rattle.std.specs.Int.Bits.{xor_zero_r}
 use Rattle.packet_defs.specs.Bits.{bit, reduced, divisor}
 use Rattle.packet_defs.specs.Burst.{differ}
 

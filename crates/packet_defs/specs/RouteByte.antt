@@ -1,5 +1,5 @@
--- The byte of a packet's route that stands for a turn.
-use Rattle.std.specs.Prelude.{ℕ, ◌+◌, ℤ, pos, ◌-ℤ◌, Bool, ◌&&◌, nat_le, nat_abs, if◌then◌else◌, Option, Some, None, is_some}
+-- The bytes of a packet's route, each of which stands for a turn.
+use Rattle.std.specs.Prelude.{ℕ, ◌+◌, ℤ, pos, ◌-ℤ◌, Bool, ◌&&◌, List, [], ◌∷◌, nat_le, nat_abs, if◌then◌else◌, Option, Some, None, is_some, option_map, option_and_then}
 use Rattle.std.specs.Int.{int_rem_euclid}
 
 -- the route byte of a turn: 0x80 + (turn mod 64)
@@ -16,3 +16,8 @@ turn_of byte =
 -- the byte stands for a turn
 abbrev pub is_route_byte : ℕ → Bool
 is_route_byte byte = is_some (turn_of byte)
+
+-- the turns of these bytes, where each is a route byte
+abbrev pub turns_of : List ℕ → Option (List ℤ)
+turns_of [] = Some []
+turns_of (byte ∷ bytes) = option_and_then (λ turn. option_map (λ turns. turn ∷ turns) (turns_of bytes)) (turn_of byte)

@@ -13,8 +13,6 @@
 mod frame;
 mod laws;
 mod offset;
-#[cfg(test)]
-mod tests;
 
 pub use frame::{ClassFrame, aligned};
 pub use laws::{frames_are_aligned, offsets_are_a_group};

@@ -14,8 +14,6 @@
 
 mod client;
 mod held;
-#[cfg(test)]
-mod tests;
 
 pub use client::Client;
 pub use gm_tokens::NoMemory;

@@ -5,7 +5,7 @@ use Rattle.std.specs.List.{AllByRecursion}
 use Rattle.std.proofs.lemmas.Bool.Decides.{nat_tests}
 use Rattle.net_defs.specs.declared.route.Route.{Route}
 use Rattle.net_defs.proofs.Distinct.{all-push, all-weaker}
-use Rattle.map_defs.specs.Routing.{route_below, AreRising}
+use Rattle.net_defs.specs.RouteSet.{route_below, AreRising}
 use Rattle.port_graph.specs.Routes.{is_above, goes, walk_of, walk_at}
 
 below-trans : (a b c : Route) → route_below a b ≡ true → route_below b c ≡ true → route_below a c ≡ true

@@ -1,7 +1,7 @@
 -- Routes in a list that rises by sender and receiver: what it takes, and which walk it has.
 use Rattle.std.specs.Prelude.{◌≡◌, ◌⊎◌, ℕ, ◌-◌, ℤ, Bool, true, ◌&&◌, List, [], ◌∷◌, length, nat_eq, slice_get, if◌then◌else◌, Option, Some, None, Result, Ok, Err}
 use Rattle.net_defs.specs.declared.route.Route.{Route}
-use Rattle.map_defs.specs.Routing.{route_below}
+use Rattle.net_defs.specs.RouteSet.{route_below}
 use Rattle.port_graph.specs.declared.routes.RoutePush.{RoutePush}
 use Rattle.port_graph.specs.declared.routes.RoutePush.TheVariants.{Order}
 

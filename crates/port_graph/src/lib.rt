@@ -15,8 +15,6 @@ mod cabling;
 mod fabric;
 mod names;
 mod routes;
-#[cfg(test)]
-mod tests;
 
 pub use fabric::Fabric;
 pub use net_defs::{Cable, End, GraphFault, Place, Route, Vertex, Walk, WalkFault};

@@ -1,7 +1,7 @@
 //! Routes of many pairs of hosts, in the order of their addresses.
 
 ghost use Rattle.std.specs.Prelude.{◌≡◌, ◌-◌, ◌++◌, ◌∷◌, [], length, slice_get, Some, OnOk, OnErr, option_copied};
-ghost use Rattle.map_defs.specs.Routing.{route_below, AreRising};
+ghost use Rattle.net_defs.specs.RouteSet.{route_below, AreRising};
 ghost use Rattle.port_graph.specs.Routes.{is_above, push_refusal, walk_of, walk_at, HandsBack};
 
 use net_defs::{Route, Walk};
@@ -28,7 +28,7 @@ pub struct RouteSet {
 impl Model for RouteSet {
     ghost use Rattle.std.specs.Prelude.{List};
     ghost use Rattle.net_defs.specs.declared.route.Route.{Route};
-    ghost use Rattle.map_defs.specs.Routing.{AreRising};
+    ghost use Rattle.net_defs.specs.RouteSet.{AreRising};
 
     ghost Value = { List Route };
 

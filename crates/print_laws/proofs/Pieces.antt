@@ -25,7 +25,8 @@ use Rattle.run_defs.specs.declared.line.MapWords.{MapWords}
 use Rattle.run_defs.specs.declared.line.MapWords.TheVariants.{Complete, Doubtful, IncompleteDepth, IncompleteNodes}
 use Rattle.run_defs.specs.Output.{Piece, OneLine, MapLines, lines}
 use Rattle.run_defs.specs.Session.{SessionState, LastMap, LastRoutes, complete_map}
-use Rattle.run_defs.specs.Outcome.{Outcome, says_only, called, client_lines, event_of, stepped, step_or_idle, plan_made, fault_of, token_lines, adoption_of, install_done, install_now, install, is_other, table_line, map_refused, routes_refused, outcome}
+use Rattle.run_defs.specs.Outcome.{Outcome, says_only, called, client_lines, event_of, stepped, step_or_idle, plan_made, fault_of, token_lines, adoption_of, install_done, install_now, install, table_line, map_refused, routes_refused, outcome}
+use Rattle.world_defs.specs.Table.{is_other}
 use Rattle.run_defs.specs.Run.{Does, Runs, map_pieces, routes_lines}
 use Rattle.run_defs.specs.Run.Does.{determined, maps, routes}
 use Rattle.run_defs.specs.Run.Runs.{ended, goes_on}

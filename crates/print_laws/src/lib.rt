@@ -1,7 +1,6 @@
 //! What is proved of printed maps: every map that a run prints is read back from its lines as the map that was printed.
 //!
-//! Each law is a function without parameters: its contract is the law, and its body is empty. The statements stand in `specs/Printed.antt`.
-//! The reader of maps itself is in `map_text`, and that a complete map is right is a law of `mapping_laws`.
+//! It reads and prints nothing: that is `map_text`; that a complete map is right is a law of `mapping_laws`. Read `specs/Printed.antt`.
 #![tactic(auto)]
 
 ghost use Rattle.print_laws.specs.Printed.{MadeMapIsPrintable, PrintableIsReadAgain, MapsOfRunsReadBack, CompleteMapsReadBack};

@@ -13,9 +13,9 @@ use Rattle.indexmap.specs.IndexSet.{insert_key}
 use Rattle.net_defs.specs.Network.{Apart}
 use Rattle.net_defs.specs.declared.place.Answer.{Answer}
 use Rattle.journal_defs.specs.declared.entry.Entry.{Entry}
-use Rattle.journal_defs.specs.Walks.{same_turns}
+use Rattle.net_defs.specs.Turn.{same_turns}
 use Rattle.journal_defs.specs.Tree.{answered, is_asked}
-use Rattle.journal_defs.proofs.Order.{same_turns-true, same_turns-refl}
+use Rattle.net_defs.proofs.Turns.{same_turns-true, same_turns-refl}
 use Rattle.probe.specs.Keeping.{has_walk}
 
 -- the two tests of turns

@@ -2,13 +2,14 @@
 
 ghost use Rattle.std.specs.Prelude.{◌≡◌, ◌∷◌, Some, IfOk};
 ghost use Rattle.net_defs.specs.Refusal.{Refuses};
-ghost use Rattle.gm_defs.specs.Mapping.{MappingBody, mapping_bytes};
+ghost use Rattle.mapping_defs.specs.Mapping.{MappingBody, mapping_bytes};
 ghost use Rattle.probe.specs.Body.{said, probe_in, body_refusal};
 
 use crate::fields::{head, numbers_front, whole_numbers};
-use crate::route_bytes::{push_route, whole_route};
+use crate::whole_route::whole_route;
 use net_defs::Walk;
 use std::alloc::{AllocError, Global};
+use turn_bytes::push_route;
 
 /// What a packet of a mapper's ask says. `number` is that of the probe's injection; a reply carries the number of its probe.
 #[derive(Debug, Drop)]

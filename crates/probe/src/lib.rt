@@ -14,7 +14,7 @@
 //! | `prober` | the trait |
 //! | `fabric_prober`, `fake_prober` | a prober that tells the truth, and one whose chosen asks drown |
 //! | `journal`, `walk_index` | answers in order, found by their walks |
-//! | `body`, `fields`, `route_bytes` | bodies as bytes |
+//! | `body`, `fields`, `whole_route` | bodies as bytes |
 #![tactic(auto)]
 
 mod body;
@@ -24,10 +24,8 @@ mod fields;
 mod journal;
 mod laws;
 mod prober;
-mod route_bytes;
-#[cfg(test)]
-mod tests;
 mod walk_index;
+mod whole_route;
 
 pub use body::{BodyFault, ProbeBody};
 pub use fabric_prober::FabricProber;
@@ -37,5 +35,4 @@ pub use journal_defs::Entry;
 pub use laws::bodies_of_probes_are_read;
 pub use net_defs::Answer;
 pub use prober::Prober;
-pub use route_bytes::{push_route, walk_of};
 pub use walk_index::WalkIndex;

@@ -8,8 +8,9 @@ use Rattle.net_defs.specs.Building.{first_of_two}
 use Rattle.map_defs.specs.declared.rank.RankEntry.{RankEntry}
 use Rattle.map_defs.specs.NetMap.{NetMap, MapPort, map_far}
 use Rattle.map_defs.specs.Routing.{turned_to, channels_on}
-use Rattle.map_defs.specs.Dependencies.{IsNext, Rises, rank_of}
-use Rattle.map_defs.specs.Dependencies.IsNext.{here, later}
+use Rattle.net_defs.specs.Dependencies.{IsNext}
+use Rattle.map_defs.specs.Ranks.{Rises, rank_of}
+use Rattle.net_defs.specs.Dependencies.IsNext.{here, later}
 use Rattle.rank_cert.specs.declared.fault.CheckFault.TheVariants.{BadRank}
 use Rattle.rank_cert.specs.Checking.{Ranked, fault_at, fault_along, ranked, ranked_at}
 use Rattle.rank_cert.specs.Following.{next_after, channels_after}

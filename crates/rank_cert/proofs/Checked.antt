@@ -6,10 +6,10 @@ use Rattle.std.proofs.lemmas.Bool.{false≢true}
 use Rattle.net_defs.specs.declared.route.Route.{Route}
 use Rattle.net_defs.specs.Building.{first_of_two}
 use Rattle.map_defs.specs.declared.rank.RankEntry.{RankEntry}
-use Rattle.map_defs.specs.NetMap.{NetMap, MapPort}
-use Rattle.map_defs.specs.NetMap.{IsMap}
+use Rattle.map_defs.specs.NetMap.{NetMap, MapPort, IsMap}
 use Rattle.map_defs.specs.Routing.{LeadsTo, IsLeastLegal, led_to, channels_on, port_of_host}
-use Rattle.map_defs.specs.Dependencies.{IsBefore, Rises, IsCertificate, rank_of, channels_of_routes}
+use Rattle.net_defs.specs.Dependencies.{IsBefore}
+use Rattle.map_defs.specs.Ranks.{Rises, IsCertificate, rank_of, channels_of_routes}
 use Rattle.map_defs.proofs.Ports.{same_port-true, same_port-refl}
 use Rattle.map_defs.proofs.Certifying.{ranks_certify}
 use Rattle.rank_cert.specs.declared.fault.CheckFault.TheVariants.{BadRoute}

@@ -9,7 +9,7 @@ use Rattle.net_defs.proofs.Distinct.{all-weaker}
 use Rattle.journal_defs.proofs.Order.{or-left, or-right}
 use Rattle.map_defs.specs.declared.rank.RankEntry.{RankEntry}
 use Rattle.map_defs.specs.NetMap.{MapPort, same_port, port_below}
-use Rattle.map_defs.specs.Dependencies.{rank_of}
+use Rattle.map_defs.specs.Ranks.{rank_of}
 use Rattle.map_defs.proofs.Ports.{same_port-true}
 use Rattle.rank_cert.specs.Listing.{port_of, comes_after, rise_after, rank_at}
 

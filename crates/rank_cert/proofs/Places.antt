@@ -6,7 +6,7 @@ use Rattle.std.proofs.lemmas.List.{map-append}
 use Rattle.journal_defs.specs.Counting.{numbers_below}
 use Rattle.map_defs.specs.declared.rank.RankEntry.{RankEntry}
 use Rattle.map_defs.specs.NetMap.{NetMap, MapPort, map_far}
-use Rattle.map_defs.specs.Dependencies.{ports_at, ports_at_all, ranks_of}
+use Rattle.map_defs.specs.Ranks.{ports_at, ports_at_all, ranks_of}
 use Rattle.map_defs.proofs.Places.{all-numbers}
 use Rattle.rank_cert.specs.Listing.{port_at, entry_of, entry_at}
 

@@ -6,7 +6,7 @@ use Rattle.map_defs.specs.declared.rank.RankEntry.{RankEntry}
 use Rattle.map_defs.specs.NetMap.{NetMap, MapPort, same_port}
 use Rattle.map_defs.specs.Orientation.{IsOrder}
 use Rattle.map_defs.specs.Routing.{led_to, channels_on, port_of_host, AreRoutesOf}
-use Rattle.map_defs.specs.Dependencies.{rank_of, ranks_of}
+use Rattle.map_defs.specs.Ranks.{rank_of, ranks_of}
 use Rattle.rank_cert.specs.declared.fault.CheckFault.{CheckFault}
 use Rattle.rank_cert.specs.declared.fault.CheckFault.TheVariants.{BadRoute, NoRank, BadRank}
 

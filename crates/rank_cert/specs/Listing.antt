@@ -3,7 +3,7 @@ use Rattle.std.specs.Prelude.{ℕ, ◌+◌, ◌-◌, ◌/◌, ◌%◌, pos, ◌-
 use Rattle.map_defs.specs.declared.rank.RankEntry.{RankEntry}
 use Rattle.map_defs.specs.NetMap.{NetMap, MapPort, port_below, same_port, map_far}
 use Rattle.map_defs.specs.Orientation.{falls}
-use Rattle.map_defs.specs.Dependencies.{rank_by}
+use Rattle.map_defs.specs.Ranks.{rank_by}
 
 -- the port of an entry
 abbrev pub port_of : RankEntry → MapPort

@@ -3,7 +3,7 @@
 ghost use Rattle.std.specs.Prelude.{◌≡◌, ◌<◌, ◌/◌, ◌++◌, length, option_to_list, IfOk, OnOk};
 ghost use Rattle.std.specs.List.{AllByRecursion};
 ghost use Rattle.map_defs.specs.Orientation.{IsOrder};
-ghost use Rattle.map_defs.specs.Dependencies.{ranks_of};
+ghost use Rattle.map_defs.specs.Ranks.{ranks_of};
 ghost use Rattle.rank_cert.specs.Listing.{entry_at, rank_between};
 
 use crate::ranks::Ranks;

@@ -4,7 +4,8 @@ ghost use Rattle.std.specs.Prelude.{◌≡◌, ◌↔◌, IsOk, OnOk, Option, So
 ghost use Rattle.std.specs.List.{AllByRecursion};
 ghost use Rattle.net_defs.specs.Turn.{IsTurn};
 ghost use Rattle.map_defs.specs.Routing.{LeadsTo, channels_on};
-ghost use Rattle.map_defs.specs.Dependencies.{IsBefore, IsCertificate, HasNoCycle, channels_of_routes};
+ghost use Rattle.net_defs.specs.Dependencies.{IsBefore, HasNoCycle};
+ghost use Rattle.map_defs.specs.Ranks.{IsCertificate, channels_of_routes};
 ghost use Rattle.rank_cert.specs.Checking.{first_fault, route_fault, fault_along, fault_at, leads, ranked_at, Tells, AreOfOneOrder};
 ghost use Rattle.rank_cert.specs.Following.{unpair, channels_after, port_of_pair};
 

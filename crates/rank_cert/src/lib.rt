@@ -1,6 +1,6 @@
 //! Rank certificates: numbers of channels that rise along every route, which rule out a deadlock.
 //!
-//! It makes no route. `specs/Dependencies.antt` of `map_defs` says what a certificate is and which ranks a map's orientation gives;
+//! It makes no route. `specs/Ranks.antt` of `map_defs` says what a certificate is and which ranks a map's orientation gives;
 //! `specs/Checking.antt` here says which fault is the first.
 //!
 //! | module | has |
@@ -20,8 +20,6 @@ mod checking;
 mod fault;
 mod following;
 mod ranks;
-#[cfg(test)]
-mod tests;
 
 pub use certifying::certify;
 pub use checking::check;

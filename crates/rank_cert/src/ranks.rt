@@ -1,10 +1,9 @@
 //! A list of ranks.
 
-ghost use Rattle.std.specs.Prelude.{◌≡◌};
+ghost use Rattle.std.specs.Prelude.{◌≡◌, true, Some, None, option_map, slice_get};
 ghost use Rattle.map_defs.specs.NetMap.{MapPort};
-ghost use Rattle.map_defs.specs.Dependencies.{rank_of};
+ghost use Rattle.map_defs.specs.Ranks.{rank_of};
 ghost use Rattle.rank_cert.specs.Listing.{rise_after, comes_after, port_of, rank_at};
-ghost use Rattle.std.specs.Prelude.{true, Some, None, option_map, slice_get};
 
 use map_defs::RankEntry;
 use std::marker::Model;

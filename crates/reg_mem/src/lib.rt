@@ -11,7 +11,5 @@
 #![tactic(auto)]
 
 mod reg;
-#[cfg(test)]
-mod tests;
 
 pub use reg::{Reg, deregister, register};

@@ -6,10 +6,10 @@ use Rattle.std.proofs.Math.Seq.{drop-cons}
 use Rattle.std.proofs.lemmas.List.{map-append, drop_all}
 use Rattle.net_defs.specs.Network.{Apart}
 use Rattle.journal_defs.specs.declared.entry.Entry.{Entry}
-use Rattle.journal_defs.specs.Walks.{same_turns}
+use Rattle.net_defs.specs.Turn.{same_turns}
 use Rattle.journal_defs.specs.Tree.{Node, IsJournal, is_found, reached, nodes}
 use Rattle.journal_defs.specs.Tree.Node.{Mapper, Reached}
-use Rattle.journal_defs.proofs.Order.{same_turns-true}
+use Rattle.net_defs.proofs.Turns.{same_turns-true}
 use Rattle.probe.specs.Keeping.{has_walk}
 use Rattle.replicate_merge.specs.Nodes.{nodes_of}
 use Rattle.replicate_merge.proofs.Nodes.{reached-apart}

@@ -1,8 +1,7 @@
--- Ends of ways that are known, way by way.
+-- The first ways that begin at spots, way by way.
 use Rattle.std.proofs.Common.{◌≡◌, ◌≢◌, ◌<◌, ◌⊎◌, inl, inr, ℕ, ◌+◌, List, Bool, true, false, length, nat_eq, ◌&&◌, Option, Some, None, refl, ap, sym, ◌∙◌, subst, true≢false, arith}
-use Rattle.std.specs.Prelude.{ℤ, ◌-ℤ◌, slice_get}
+use Rattle.std.specs.Prelude.{slice_get}
 use Rattle.std.specs.Ordering.{int_eq}
-use Rattle.std.specs.Map.{update}
 use Rattle.std.proofs.lemmas.Map.{update_same, update_other}
 use Rattle.std.proofs.lemmas.Bool.{cases_eq, and_parts}
 use Rattle.std.proofs.lemmas.Bool.Decides.{Decides-eqb, Decides-int_eq}
@@ -11,8 +10,8 @@ use Rattle.replicate_merge.specs.declared.way.Spot.{Spot}
 use Rattle.replicate_merge.specs.declared.way.Spot.TheVariants.{Address, Port}
 use Rattle.replicate_merge.specs.declared.way.Way.{Way}
 use Rattle.replicate_merge.specs.Spots.{same_spot}
-use Rattle.replicate_merge.specs.Ways.{AreClosed, IsTold, begins_at, ends_at}
-use Rattle.replicate_merge.specs.Found.{HasWay, IsKnown, KnowsEnds, Learns}
+use Rattle.replicate_merge.specs.Ways.{AreClosed, begins_at, ends_at}
+use Rattle.replicate_merge.specs.Found.{IsFirst, IsKnown, KnowsFirsts, Learns, TellNothing}
 use Rattle.replicate_merge.specs.Found.Learns.{was_known, is_new}
 
 -- equal spots are one
@@ -34,109 +33,72 @@ the-way : (ws : List Way) (k : ℕ) (v w : Way) → slice_get ws k ≡ Some v �
 the-way ws k v w p q = let two : Some v ≡ Some w = sym p ∙ q in cc
 
 -- where all ways are known, no two that begin at one spot end in two classes
-pub known-closed : (ws : List Way) (fs : List ClassFrame) (known : Spot → Option (ℕ × ℤ)) → KnowsEnds ws fs (length ws) known → ((k : ℕ) (w : Way) → slice_get ws k ≡ Some w → k < length ws) → AreClosed ws fs
+pub known-closed : (ws : List Way) (fs : List ClassFrame) (known : Spot → Option ℕ) → KnowsFirsts ws fs (length ws) known → ((k : ℕ) (w : Way) → slice_get ws k ≡ Some w → k < length ws) → AreClosed ws fs
 known-closed ws fs known k inside v w a b e =
     let x = k.seen a.place v (inside a.place v a.there) a.there in
     let y = k.seen b.place w (inside b.place w b.there) b.there in
-    let both : Some x.end ≡ Some y.end = sym x.is ∙ ap known e ∙ y.is in
-    let one : x.end ≡ y.end = cc in
-    sym x.in_class ∙ ap (λ (p : ℕ × ℤ). p.0) one ∙ y.in_class
+    let both : Some x.place ≡ Some y.place = sym x.is ∙ ap known e ∙ y.is in
+    let one : x.place ≡ y.place = cc in
+    let way : x.way ≡ y.way = the-way ws y.place x.way y.way (subst (λ n. slice_get ws n ≡ Some x.way) one x.there) y.there in
+    sym x.in_class ∙ ap (λ u. (ends_at fs u).0) way ∙ y.in_class
 
--- a way whose beginning is known, with an end in the known class
-pub known-next : (ws : List Way) (fs : List ClassFrame) (known : Spot → Option (ℕ × ℤ)) (i : ℕ) (w : Way) (e : ℕ × ℤ) → slice_get ws i ≡ Some w → known (begins_at fs w) ≡ Some e → e.0 ≡ (ends_at fs w).0 → KnowsEnds ws fs i known → KnowsEnds ws fs (i + 1) known
-known-next ws fs known i w e there is class k = record { told = k.told; seen = λ n v l t. seen n v l t (cases_eq n i) }
+-- the next of the ways is known where it is, and those before it where they were
+next-seen : (ws : List Way) (fs : List ClassFrame) (known : Spot → Option ℕ) (i : ℕ) (w : Way) → slice_get ws i ≡ Some w → IsKnown ws fs (known (begins_at fs w)) (ends_at fs w).0 → ((n : ℕ) (v : Way) → n < i → slice_get ws n ≡ Some v → IsKnown ws fs (known (begins_at fs v)) (ends_at fs v).0)
+    → (n : ℕ) (v : Way) → n < i + 1 → slice_get ws n ≡ Some v → IsKnown ws fs (known (begins_at fs v)) (ends_at fs v).0
+next-seen ws fs known i w there last before n v l t = by (cases_eq n i)
   where
-    seen : (n : ℕ) (v : Way) → n < i + 1 → slice_get ws n ≡ Some v → ((n ≡ i) ⊎ (n ≢ i)) → IsKnown (known (begins_at fs v)) (ends_at fs v).0
-    seen n v l t (inl s) =
+    by : ((n ≡ i) ⊎ (n ≢ i)) → IsKnown ws fs (known (begins_at fs v)) (ends_at fs v).0
+    by (inl s) =
         let one : v ≡ w = the-way ws i v w (subst (λ m. slice_get ws m ≡ Some v) s t) there in
-        subst (λ x. IsKnown (known (begins_at fs x)) (ends_at fs x).0) (sym one) (record { end = e; is = is; in_class = class })
-    seen n v l t (inr d) = k.seen n v (omega arith) t
+        subst (λ x. IsKnown ws fs (known (begins_at fs x)) (ends_at fs x).0) (sym one) last
+    by (inr d) = before n v (omega arith) t
 
--- a way whose beginning wasn't known, and now is
-pub known-new : (ws : List Way) (fs : List ClassFrame) (old new : Spot → Option (ℕ × ℤ)) (i : ℕ) (w : Way) → slice_get ws i ≡ Some w → old (begins_at fs w) ≡ None → new (begins_at fs w) ≡ Some (ends_at fs w) → ((s : Spot) → begins_at fs w ≢ s → new s ≡ old s) → ((s : Spot) → (begins_at fs w ≡ s) ⊎ (begins_at fs w ≢ s)) → KnowsEnds ws fs i old → KnowsEnds ws fs (i + 1) new
-known-new ws fs old new i w there none here other decide k = record { told = λ s e is. told s e is (decide s); seen = λ n v l t. seen n v l t (cases_eq n i) (decide (begins_at fs v)) }
-  where
-    told : (s : Spot) (e : ℕ × ℤ) → new s ≡ Some e → ((begins_at fs w ≡ s) ⊎ (begins_at fs w ≢ s)) → HasWay ws fs s e
-    told s e is (inl same) =
-        let both : Some (ends_at fs w) ≡ Some e = sym here ∙ ap new same ∙ is in
-        let one : ends_at fs w ≡ e = cc in
-        record { way = w; there = record { place = i; there = there }; begin = same; end = one }
-    told s e is (inr d) = k.told s e (sym (other s d) ∙ is)
+module _ (ws : List Way) (fs : List ClassFrame) (old new : Spot → Option ℕ) (i first : ℕ) (w : Way) (there : slice_get ws i ≡ Some w) (nothing : TellNothing ws fs first i) (k : KnowsFirsts ws fs i old) where
+  apart : (s : Spot) → begins_at fs w ≢ s → same_spot (begins_at fs w) s ≡ false
+  apart s d = by (same_spot (begins_at fs w) s) refl
+    where
+      by : (b : Bool) → same_spot (begins_at fs w) s ≡ b → b ≡ false
+      by true e = absurd (d (spot-same (begins_at fs w) s e))
+      by false e = refl
 
-    seen : (n : ℕ) (v : Way) → n < i + 1 → slice_get ws n ≡ Some v → ((n ≡ i) ⊎ (n ≢ i)) → ((begins_at fs w ≡ begins_at fs v) ⊎ (begins_at fs w ≢ begins_at fs v)) → IsKnown (new (begins_at fs v)) (ends_at fs v).0
-    seen n v l t (inl s) d =
-        let one : v ≡ w = the-way ws i v w (subst (λ m. slice_get ws m ≡ Some v) s t) there in
-        subst (λ x. IsKnown (new (begins_at fs x)) (ends_at fs x).0) (sym one) (record { end = ends_at fs w; is = here; in_class = refl })
-    seen n v l t (inr d) (inl same) =
-        let x = k.seen n v (omega arith) t in
-        let bad : Some x.end ≡ None = sym x.is ∙ ap old (sym same) ∙ none in
-        cc
-    seen n v l t (inr d) (inr differs) =
-        let x = k.seen n v (omega arith) t in
-        record { end = x.end; is = other (begins_at fs v) differs ∙ x.is; in_class = x.in_class }
+  decide : (s : Spot) → (begins_at fs w ≡ s) ⊎ (begins_at fs w ≢ s)
+  decide s = by (same_spot (begins_at fs w) s) refl
+    where
+      by : (b : Bool) → same_spot (begins_at fs w) s ≡ b → (begins_at fs w ≡ s) ⊎ (begins_at fs w ≢ s)
+      by true e = inl (spot-same (begins_at fs w) s e)
+      by false e = inr (λ p. true≢false (sym (spot-itself (begins_at fs w)) ∙ ap (same_spot (begins_at fs w)) p ∙ e))
 
--- a way whose beginning is known, with an end in another class, tells
-pub known-told : (ws : List Way) (fs : List ClassFrame) (known : Spot → Option (ℕ × ℤ)) (i : ℕ) (w : Way) (e : ℕ × ℤ) (by : ℤ) → slice_get ws i ≡ Some w → known (begins_at fs w) ≡ Some e → e.0 ≢ (ends_at fs w).0 → by ≡ e.1 -ℤ (ends_at fs w).1 → KnowsEnds ws fs i known → IsTold ws fs (ends_at fs w).0 e.0 by
-known-told ws fs known i w e by there is differs offset k =
-    let x = k.told (begins_at fs w) e is in
-    record {
-      first = x.way;
-      second = w;
-      has_first = x.there;
-      has_second = record { place = i; there = there };
-      begin = x.begin;
-      is_from = refl;
-      is_to = ap (λ (p : ℕ × ℤ). p.0) (sym x.end);
-      is_by = offset ∙ ap (λ (p : ℕ × ℤ). p.1 -ℤ (ends_at fs w).1) (sym x.end);
-      two = λ s. differs (sym s);
-    }
+  -- a way that tells nothing, beside the first that began where it begins
+  step : Learns old new (begins_at fs w) i first → KnowsFirsts ws fs (i + 1) new
+  step (was_known is same) = record {
+    told = λ s n e. k.told s n (sym (same s) ∙ e);
+    seen = next-seen ws fs new i w there (known (k.told (begins_at fs w) first is)) (λ n v l t. subst (λ o. IsKnown ws fs o (ends_at fs v).0) (sym (same (begins_at fs v))) (k.seen n v l t));
+  }
+    where
+      known : IsFirst ws fs (begins_at fs w) first → IsKnown ws fs (new (begins_at fs w)) (ends_at fs w).0
+      known f = record { place = first; way = f.way; is = same (begins_at fs w) ∙ is; there = f.there; in_class = nothing f.way w f.there there f.begin }
+  step (is_new none is learnt) = record {
+    told = λ s n e. told s n e (decide s);
+    seen = next-seen ws fs new i w there (record { place = i; way = w; is = here; there = there; in_class = refl }) (λ n v l t. kept n v (k.seen n v l t) (decide (begins_at fs v)));
+  }
+    where
+      here : new (begins_at fs w) ≡ Some i
+      here = learnt (begins_at fs w) ∙ update_same same_spot old (begins_at fs w) (Some i) (begins_at fs w) (spot-itself (begins_at fs w))
 
--- a way whose beginning wasn't known is learnt
-pub known-learnt : (ws : List Way) (fs : List ClassFrame) (old new : Spot → Option (ℕ × ℤ)) (i : ℕ) (w : Way) → slice_get ws i ≡ Some w → old (begins_at fs w) ≡ None → ((s : Spot) → new s ≡ update same_spot old (begins_at fs w) (Some (ends_at fs w)) s) → KnowsEnds ws fs i old → KnowsEnds ws fs (i + 1) new
-known-learnt ws fs old new i w there none learnt k =
-    known-new ws fs old new i w there none
-    (learnt begin ∙ update_same same_spot old begin (Some (ends_at fs w)) begin (spot-itself begin))
-    (λ s d. learnt s ∙ update_other same_spot old begin (Some (ends_at fs w)) s (apart s d))
-    (λ s. decide s (same_spot begin s) refl)
-    k
-  where
-    begin : Spot
-    begin = begins_at fs w
+      other : (s : Spot) → begins_at fs w ≢ s → new s ≡ old s
+      other s d = learnt s ∙ update_other same_spot old (begins_at fs w) (Some i) s (apart s d)
 
-    apart : (s : Spot) → begins_at fs w ≢ s → same_spot (begins_at fs w) s ≡ false
-    apart s d = by (same_spot (begins_at fs w) s) refl
-      where
-        by : (b : Bool) → same_spot (begins_at fs w) s ≡ b → b ≡ false
-        by true e = absurd (d (spot-same (begins_at fs w) s e))
-        by false e = refl
+      told : (s : Spot) (n : ℕ) → new s ≡ Some n → ((begins_at fs w ≡ s) ⊎ (begins_at fs w ≢ s)) → IsFirst ws fs s n
+      told s n e (inl same) =
+          let both : Some i ≡ Some n = sym here ∙ ap new same ∙ e in
+          let one : i ≡ n = cc in
+          record { way = w; there = subst (λ m. slice_get ws m ≡ Some w) one there; begin = same }
+      told s n e (inr d) = k.told s n (sym (other s d) ∙ e)
 
-    decide : (s : Spot) (b : Bool) → same_spot (begins_at fs w) s ≡ b → (begins_at fs w ≡ s) ⊎ (begins_at fs w ≢ s)
-    decide s true e = inl (spot-same (begins_at fs w) s e)
-    decide s false e = inr (λ p. true≢false (sym (spot-itself (begins_at fs w)) ∙ ap (same_spot (begins_at fs w)) p ∙ e))
+      kept : (n : ℕ) (v : Way) → IsKnown ws fs (old (begins_at fs v)) (ends_at fs v).0 → ((begins_at fs w ≡ begins_at fs v) ⊎ (begins_at fs w ≢ begins_at fs v)) → IsKnown ws fs (new (begins_at fs v)) (ends_at fs v).0
+      kept n v x (inl same) = let bad : Some x.place ≡ None = sym x.is ∙ ap old (sym same) ∙ none in cc
+      kept n v x (inr d) = record { place = x.place; way = x.way; is = other (begins_at fs v) d ∙ x.is; there = x.there; in_class = x.in_class }
 
-module _ (ws : List Way) (fs : List ClassFrame) (old new : Spot → Option (ℕ × ℤ)) (i : ℕ) (w : Way) (begin : Spot) (end known : ℕ × ℤ) where
-  of-way : begin ≡ begins_at fs w → end ≡ ends_at fs w → Learns old new begin end known → Learns old new (begins_at fs w) (ends_at fs w) known
-  of-way b e l = subst (λ x. Learns old new x (ends_at fs w) known) b (subst (λ x. Learns old new begin x known) e l)
-
-  step : slice_get ws i ≡ Some w → known.0 ≡ (ends_at fs w).0 → Learns old new (begins_at fs w) (ends_at fs w) known → KnowsEnds ws fs i old → KnowsEnds ws fs (i + 1) new
-  step there class (was_known is same) k =
-      let all = known-next ws fs old i w known there is class k in
-      record {
-        told = λ s e t. all.told s e (sym (same s) ∙ t);
-        seen = λ n v l t. subst (λ o. IsKnown o (ends_at fs v).0) (sym (same (begins_at fs v))) (all.seen n v l t);
-      }
-  step there class (is_new none is learnt) k = known-learnt ws fs old new i w there none learnt k
-
-  tells : (by : ℤ) → slice_get ws i ≡ Some w → known.0 ≢ (ends_at fs w).0 → by ≡ known.1 -ℤ (ends_at fs w).1 → Learns old new (begins_at fs w) (ends_at fs w) known → KnowsEnds ws fs i old → IsTold ws fs (ends_at fs w).0 known.0 by
-  tells by there differs offset (was_known is same) k = known-told ws fs old i w known by there is differs offset k
-  tells by there differs offset (is_new none is learnt) k = absurd (differs (ap (λ (p : ℕ × ℤ). p.0) is))
-
-  -- what is known once one end more was learnt, where it is in the known class
-  pub learns-next : slice_get ws i ≡ Some w → begin ≡ begins_at fs w → end ≡ ends_at fs w → known.0 ≡ end.0 → Learns old new begin end known → KnowsEnds ws fs i old → KnowsEnds ws fs (i + 1) new
-  learns-next there b e class l k = step there (class ∙ ap (λ (p : ℕ × ℤ). p.0) e) (of-way b e l) k
-
-  -- what was learnt tells where it is in another class
-  pub learns-told : (by : ℤ) → slice_get ws i ≡ Some w → begin ≡ begins_at fs w → end ≡ ends_at fs w → known.0 ≢ end.0 → by ≡ known.1 -ℤ end.1 → Learns old new begin end known → KnowsEnds ws fs i old → IsTold ws fs end.0 known.0 by
-  learns-told by there b e differs offset l k =
-      subst (λ (x : ℕ × ℤ). IsTold ws fs x.0 known.0 by) (sym e)
-      (tells by there (λ s. differs (s ∙ ap (λ (p : ℕ × ℤ). p.0) (sym e))) (offset ∙ ap (λ (p : ℕ × ℤ). known.1 -ℤ p.1) e) (of-way b e l) k)
+-- what is known once a way came that tells nothing
+pub learns-next : (ws : List Way) (fs : List ClassFrame) (old new : Spot → Option ℕ) (i first : ℕ) (w : Way) (begin : Spot) → slice_get ws i ≡ Some w → begin ≡ begins_at fs w → TellNothing ws fs first i → Learns old new begin i first → KnowsFirsts ws fs i old → KnowsFirsts ws fs (i + 1) new
+learns-next ws fs old new i first w begin there is nothing l k = step ws fs old new i first w there nothing k (subst (λ s. Learns old new s i first) is l)

@@ -5,6 +5,7 @@ pub mod Knowing
 pub mod Listing
 pub mod Marking
 pub mod Nodes
+pub mod Passing
 pub mod Reading
 pub mod Telling
 pub mod Together

@@ -5,10 +5,11 @@ use Rattle.std.specs.List.{AllByRecursion}
 use Rattle.std.proofs.lemmas.Bool.{false≢true}
 use Rattle.net_defs.specs.Network.{Apart}
 use Rattle.journal_defs.specs.declared.entry.Entry.{Entry}
-use Rattle.journal_defs.specs.Walks.{same_turns}
+use Rattle.net_defs.specs.Turn.{same_turns}
 use Rattle.journal_defs.specs.Tree.{Node, IsJournal, IsNode, answered, is_found, has_found, reached, nodes, node_below}
 use Rattle.journal_defs.specs.Tree.Node.{Mapper, Reached}
-use Rattle.journal_defs.proofs.Order.{same_turns-true, same_turns-refl, below-irrefl, below-trans, below-total}
+use Rattle.net_defs.proofs.Turns.{same_turns-true, same_turns-refl}
+use Rattle.journal_defs.proofs.Order.{below-irrefl, below-trans, below-total}
 use Rattle.replicate_merge.specs.Ways.{node_at}
 
 -- the order of nodes

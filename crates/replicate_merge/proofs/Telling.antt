@@ -6,11 +6,11 @@ use Rattle.std.proofs.lemmas.Option.{slice_get_within, slice_get-map, get_or_fro
 use Rattle.net_defs.specs.declared.place.Answer.{Answer}
 use Rattle.net_defs.specs.declared.place.Answer.TheVariants.{Host as HostAnswer, Switch, Nothing}
 use Rattle.journal_defs.specs.declared.entry.Entry.{Entry}
-use Rattle.journal_defs.specs.Walks.{same_turns}
+use Rattle.net_defs.specs.Turn.{same_turns}
 use Rattle.journal_defs.specs.Tree.{Node, IsJournal, IsNode, Leads, host_of, host_in, answered, nodes}
 use Rattle.journal_defs.specs.Tree.Node.{Mapper, Reached}
 use Rattle.journal_defs.specs.Tree.Leads.{onward, back, out, home}
-use Rattle.journal_defs.proofs.Order.{same_turns-refl}
+use Rattle.net_defs.proofs.Turns.{same_turns-refl}
 use Rattle.probe.specs.Keeping.{has_walk}
 use Rattle.replicate_merge.specs.Ways.{Has, IsWay, AreWays, node_at}
 use Rattle.replicate_merge.specs.Nodes.{nodes_of, host_ways, both_ways, AddsCables, AddsWays, AddsAll}

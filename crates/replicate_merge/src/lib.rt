@@ -30,8 +30,6 @@ mod merging;
 mod numbering;
 mod order;
 mod table;
-#[cfg(test)]
-mod tests;
 mod way;
 mod ways;
 

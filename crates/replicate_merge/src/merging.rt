@@ -1,14 +1,13 @@
 //! Classes joined while two ways tell that they are one.
 
-ghost use Rattle.std.specs.Prelude.{◌≡◌, ◌+◌, ◌<◌, ◌≤◌, ◌^◌, ℕ, ◌+ℤ◌, length, IfOk, None, Ok};
-ghost use Rattle.std.specs.Prelude.{Some};
+ghost use Rattle.std.specs.Prelude.{◌≡◌, ◌+◌, ◌<◌, ◌≤◌, ◌^◌, ℕ, ◌+ℤ◌, length, true, false, IfOk, IfSome, OnOk, None, Ok};
 ghost use Rattle.std.specs.HashMap.{get};
 ghost use Rattle.net_defs.specs.Turn.{IsTurn};
 ghost use Rattle.journal_defs.specs.Tree.{nodes, node_below};
 ghost use Rattle.replicate_merge.specs.Table.{IsTrueOfOne};
 ghost use Rattle.replicate_merge.specs.Ways.{AreWays, AreFrames, AreClosed, AreJoined, CanJoin, Has, IsInside, IsTold, frame_at, moved, node_at, own_frame};
 ghost use Rattle.replicate_merge.specs.Nodes.{nodes_of};
-ghost use Rattle.replicate_merge.specs.Found.{IfFound, Learns, JoinsLesser};
+ghost use Rattle.replicate_merge.specs.Found.{EndTogether, HasFewerClasses, Learns, JoinsLesser, TellOne, TellNothing};
 ghost use Rattle.replicate_merge.specs.Spots.{same_spot};
 ghost use Rattle.replicate_merge.specs.declared.way.Way.{Way};
 
@@ -43,9 +42,7 @@ pub(crate) fn merged(
 {
     let _once = j.entries();
     let mut frames = own_frames(alloc, walks.len() + 1)?;
-    'merging: while let Some(told) = next_merge(alloc, ways, &frames)? {
-        join_lesser(&mut frames, walks, told);
-    }
+    'merging: while merge_once(alloc, j, walks, ways, &mut frames)? {}
     Ok(frames)
 }
 
@@ -65,44 +62,77 @@ fn own_frames(alloc: Global, count: usize) -> Result<Vec<ClassFrame>, AllocError
     Ok(frames)
 }
 
-// Two classes that are one, as two ways tell that begin at one spot; none where no ways tell more.
-fn next_merge(
+// Goes once through the ways. Each is held beside the first that began at its spot, and classes that the two tell to be one are joined at
+// once. Whether any were: a way passed before a join may tell more after it.
+fn merge_once(
     alloc: Global,
+    j: &Journal,
+    walks: &WalkIndex,
     ways: &[Way],
-    frames: &[ClassFrame],
-) -> Result<Option<Told>, AllocError>
-    requires { (w : Way) → Has ways.now w → IsInside (length frames.now) w }
-    ensures none { result ≡ Ok None → AreClosed ways.now frames.now }
-    ensures told { IfFound result (λ told. IsTold ways.now frames.now told.from told.to told.by) }
+    frames: &mut [ClassFrame],
+) -> Result<bool, AllocError>
+    requires few { length walks.now + 1 < 2 ^ 32 }
+    requires true_of_one { IsTrueOfOne j.now.host j.now.entries }
+    requires told { AreWays j.now.host j.now.entries (nodes_of walks.now) ways.now }
+    requires framed { AreFrames j.now.host j.now.entries (nodes_of walks.now) frames.old }
+    ensures frames { OnOk result (AreFrames j.now.host j.now.entries (nodes_of walks.now) frames.new) }
+    ensures closed { result ≡ Ok false → AreClosed ways.now frames.new }
+    ensures fewer { result ≡ Ok true → HasFewerClasses frames.old frames.new }
 {
-    let mut ends: HashMap<Spot, (u32, i16)> = HashMap::new(alloc);
-    for way in ways {
-        let end = ends_at(frames, way);
-        let known = learn(&mut ends, begins_at(frames, way), end)?;
-        if known.0 != end.0 {
-            return Ok(Some(Told {
-                from: end.0,
-                to: known.0,
-                by: i32::from(known.1) - i32::from(end.1),
-            }));
+    let _host = j.host();
+    let mut firsts: HashMap<Spot, usize> = HashMap::with_capacity(alloc, ways.len())?;
+    let mut joined = false;
+    for at in 0..ways.len() {
+        let first = first_at(&mut firsts, begins_at(frames, &ways[at]), at)?;
+        if let Some(told) = told_by(ways, frames, first, at) {
+            join_lesser(frames, walks, told);
+            joined = true;
         }
     }
-    Ok(None)
+    Ok(joined)
 }
 
-// The end that is known of a spot: where none was, this one is from now on.
-fn learn(
-    ends: &mut HashMap<Spot, (u32, i16)>,
-    begin: Spot,
-    end: (u32, i16),
-) -> Result<(u32, i16), AllocError>
-    ensures { IfOk result (λ known. Learns (get same_spot ends.old) (get same_spot ends.new) begin end known) }
+// The place of the first way that began at a spot: where none did, this one is from now on.
+fn first_at(firsts: &mut HashMap<Spot, usize>, begin: Spot, at: usize) -> Result<usize, AllocError>
+    ensures { IfOk result (λ first. Learns (get same_spot firsts.old) (get same_spot firsts.new) begin at first) }
 {
-    if let Some(known) = ends.get(&begin) {
-        return Ok(*known);
+    if let Some(first) = firsts.get(&begin) {
+        return Ok(*first);
     }
-    ends.insert(begin, end)?;
-    Ok(end)
+    firsts.insert(begin, at)?;
+    Ok(at)
+}
+
+// What the ways at two places tell.
+fn told_by(ways: &[Way], frames: &[ClassFrame], first: usize, second: usize) -> Option<Told>
+    requires inside { (w : Way) → Has ways.now w → IsInside (length frames.now) w }
+    requires there { second < length ways.now }
+    ensures told { IfSome result (λ told. IsTold ways.now frames.now told.from told.to told.by) }
+    ensures none { result ≡ None → TellNothing ways.now frames.now first second }
+{
+    if first >= ways.len() {
+        return None;
+    }
+    told_of(frames, &ways[first], &ways[second])
+}
+
+// What two ways tell: nothing where they end in one class, or where they no longer begin at one spot.
+fn told_of(frames: &[ClassFrame], first: &Way, second: &Way) -> Option<Told>
+    requires first { IsInside (length frames.now) first.now }
+    requires second { IsInside (length frames.now) second.now }
+    ensures told { IfSome result (λ told. TellOne frames.now first.now second.now told.from told.to told.by) }
+    ensures none { result ≡ None → EndTogether frames.now first.now second.now }
+{
+    let known = ends_at(frames, first);
+    let end = ends_at(frames, second);
+    if known.0 == end.0 || begins_at(frames, first) != begins_at(frames, second) {
+        return None;
+    }
+    Some(Told {
+        from: end.0,
+        to: known.0,
+        by: i32::from(known.1) - i32::from(end.1),
+    })
 }
 
 // Joins two classes under the lesser of the nodes that name them.

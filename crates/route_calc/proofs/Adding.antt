@@ -9,7 +9,7 @@ use Rattle.net_defs.proofs.Distinct.{all-push}
 use Rattle.journal_defs.proofs.Order.{or-left, or-right}
 use Rattle.journal_defs.proofs.Members.{IsMember, all-member, all-from-members, all-join}
 use Rattle.map_defs.specs.NetMap.{NetMap}
-use Rattle.map_defs.specs.Routing.{HasRoute, route_below}
+use Rattle.net_defs.specs.RouteSet.{HasRoute, route_below}
 use Rattle.port_graph.specs.Routes.{is_above, push_refusal}
 use Rattle.route_calc.specs.Adding.{IsRightRoute, AddsRoutes}
 use Rattle.route_calc.specs.Ways.{HostWays, AreRisingHosts}

@@ -7,7 +7,8 @@ use Rattle.std.proofs.lemmas.Option.{slice_get_within}
 use Rattle.net_defs.specs.declared.route.Route.{Route}
 use Rattle.journal_defs.proofs.Members.{all-member, all-from-members, all-join}
 use Rattle.map_defs.specs.NetMap.{NetMap}
-use Rattle.map_defs.specs.Routing.{HasRoute, AreRising, IsLeastLegal, AreRoutesOf}
+use Rattle.net_defs.specs.RouteSet.{HasRoute, AreRising}
+use Rattle.map_defs.specs.Routing.{IsLeastLegal, AreRoutesOf}
 use Rattle.route_calc.specs.Adding.{IsRightRoute, AddsRoutes}
 use Rattle.route_calc.specs.Ways.{HostWays, AreRisingHosts, AreAllWays}
 use Rattle.route_calc.proofs.Adding.{has-left, has-right, rises}

@@ -3,7 +3,8 @@ use Rattle.std.specs.Prelude.{◌≡◌, ◌≢◌, ℕ, ◌<◌, ◌≤◌, Lis
 use Rattle.std.specs.List.{AllByRecursion}
 use Rattle.net_defs.specs.declared.route.Route.{Route}
 use Rattle.map_defs.specs.NetMap.{NetMap}
-use Rattle.map_defs.specs.Routing.{IsLeastLegal, HasRoute}
+use Rattle.map_defs.specs.Routing.{IsLeastLegal}
+use Rattle.net_defs.specs.RouteSet.{HasRoute}
 use Rattle.route_calc.specs.Ways.{HostWays}
 
 -- a route between different hosts, the least legal one

@@ -29,8 +29,6 @@ mod entered;
 mod exits;
 mod near;
 mod pairs;
-#[cfg(test)]
-mod tests;
 mod ways;
 
 pub use pairs::routes;

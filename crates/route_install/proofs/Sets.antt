@@ -4,7 +4,7 @@ use Rattle.std.specs.List.{AllByRecursion, filter, list_any}
 use Rattle.std.proofs.lemmas.Bool.Decides.{nat_tests}
 use Rattle.std.proofs.lemmas.List.{length-map}
 use Rattle.net_defs.specs.declared.route.Route.{Route}
-use Rattle.map_defs.specs.Routing.{route_below, AreRising}
+use Rattle.net_defs.specs.RouteSet.{route_below, AreRising}
 use Rattle.world_defs.specs.Table.{entries_from, part_count}
 use Rattle.route_install.specs.Installing.{AreHosts}
 use Rattle.route_install.specs.Laws.{IsSetOver, EachHostHasItsParts}

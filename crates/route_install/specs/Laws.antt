@@ -2,8 +2,8 @@
 use Rattle.std.specs.Prelude.{◌≡◌, ℕ, ◌<◌, Bool, true, false, ◌&&◌, not, List, [], ◌∷◌, length, nat_eq, nat_lt, Some}
 use Rattle.std.specs.List.{AllByRecursion, list_any}
 use Rattle.net_defs.specs.declared.route.Route.{Route}
-use Rattle.map_defs.specs.Routing.{AreRising}
-use Rattle.gm_defs.specs.Mapping.{RoutePart}
+use Rattle.net_defs.specs.RouteSet.{AreRising}
+use Rattle.mapping_defs.specs.Mapping.{RoutePart}
 use Rattle.world_defs.specs.Table.{Adoption, TableState, entries_from, part_count, part_for, applied, whole_table, is_epoch, active_epoch}
 use Rattle.route_install.specs.Installing.{AreHosts, parts_for}
 

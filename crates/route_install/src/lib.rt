@@ -23,8 +23,6 @@ mod cut;
 mod installer;
 mod laws;
 mod table;
-#[cfg(test)]
-mod tests;
 
 pub use cut::{part_for, parts_of};
 pub use installer::{Installer, Work};

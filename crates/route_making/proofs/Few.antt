@@ -4,7 +4,7 @@ use Rattle.std.specs.List.{AllByRecursion}
 use Rattle.std.proofs.lemmas.Bool.Decides.{nat_tests}
 use Rattle.net_defs.specs.declared.route.Route.{Route}
 use Rattle.net_defs.specs.Network.{Network}
-use Rattle.map_defs.specs.Routing.{route_below, AreRising}
+use Rattle.net_defs.specs.RouteSet.{route_below, AreRising}
 use Rattle.route_making.specs.Listed.{AreBetweenHosts}
 
 -- sender and receiver in one number

@@ -9,7 +9,7 @@ use Rattle.net_defs.specs.Network.{Network}
 use Rattle.map_defs.specs.declared.rank.RankEntry.{RankEntry}
 use Rattle.map_defs.specs.NetMap.{NetMap}
 use Rattle.map_defs.specs.Orientation.{order_of}
-use Rattle.map_defs.specs.Dependencies.{ranks_of}
+use Rattle.map_defs.specs.Ranks.{ranks_of}
 use Rattle.run_defs.specs.declared.line.Line.{Line}
 use Rattle.run_defs.specs.declared.line.Line.TheVariants.{Routes, EndRoutes}
 use Rattle.run_defs.specs.Output.{lines}

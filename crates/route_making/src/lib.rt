@@ -19,8 +19,6 @@
 mod hosts;
 mod making;
 mod printing;
-#[cfg(test)]
-mod tests;
 
 pub use hosts::hosts_of_map;
 pub use making::{MadeRoutes, make_routes};

@@ -4,7 +4,7 @@ ghost use Rattle.std.specs.Prelude.{◌≡◌, ◌≤◌, length, IfOk};
 ghost use Rattle.map_defs.specs.NetMap.{IsConnected, switches_of};
 ghost use Rattle.map_defs.specs.Orientation.{order_of};
 ghost use Rattle.map_defs.specs.Routing.{AreRoutesOf};
-ghost use Rattle.map_defs.specs.Dependencies.{ranks_of};
+ghost use Rattle.map_defs.specs.Ranks.{ranks_of};
 ghost use Rattle.map_text.specs.Printing.{AreOfFabric};
 ghost use Rattle.run_defs.specs.LineText.{output_text};
 ghost use Rattle.run_defs.specs.Output.{lines};

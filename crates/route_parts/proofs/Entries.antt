@@ -6,11 +6,11 @@ use Rattle.std.proofs.lemmas.List.{append-nil}
 use Rattle.std.specs.List.{list_all}
 use Rattle.std.proofs.lemmas.Bool.{and_parts}
 use Rattle.std.proofs.lemmas.Bool.Decides.{nat_tests}
-use Rattle.packet_defs.specs.RouteByte.{turn_of}
-use Rattle.gm_defs.specs.Mapping.{RouteEntry, Front, turns_of, entry_front, entries_front, whole, is_route, are_entries, entry_bytes, route_bytes}
-use Rattle.probe.proofs.Bodies.{turns_of-turns}
+use Rattle.packet_defs.specs.RouteByte.{turn_of, is_route_byte, turns_of}
+use Rattle.mapping_defs.specs.Mapping.{RouteEntry, Front, entry_front, entries_front, whole, is_route, are_entries, entry_bytes, route_bytes}
+use Rattle.turn_bytes.proofs.Reading.{turns_of-turns}
 use Rattle.route_parts.specs.Reading.{is_above, are_risen, rise_from}
-use Rattle.route_parts.specs.Viewing.{is_route_byte, entry_viewed}
+use Rattle.route_parts.specs.Viewing.{entry_viewed}
 
 -- bytes are turns where each stands for one
 pub turns_there : (bytes : List ℕ) → is_some (turns_of bytes) ≡ list_all is_route_byte bytes

@@ -2,8 +2,8 @@
 use Rattle.std.specs.Prelude.{ℕ, Bool, true, false, ◌&&◌, List, [], nat_lt, if◌then◌else◌, Option, Some, None, option_map, option_and_then}
 use Rattle.std.specs.List.{list_all}
 use Rattle.std.specs.Int.{w16, w32}
-use Rattle.gm_defs.specs.Mapping.{MappingBody, RoutePart, RouteEntry, Front, decode_mapping, is_part, are_entries, number_front, byte_front, two_front, entries_front, with_back, whole}
-use Rattle.gm_defs.specs.Mapping.MappingBody.{Part, PartAck}
+use Rattle.mapping_defs.specs.Mapping.{MappingBody, RoutePart, RouteEntry, Front, decode_mapping, is_part, are_entries, number_front, byte_front, two_front, entries_front, with_back, whole}
+use Rattle.mapping_defs.specs.Mapping.MappingBody.{Part, PartAck}
 use Rattle.route_parts.specs.declared.ack.PartAck.{PartAck as Acknowledgement}
 use Rattle.route_parts.specs.declared.fault.BodyFault.{BodyFault}
 use Rattle.route_parts.specs.declared.fault.BodyFault.TheVariants.{Malformed}

@@ -1,12 +1,8 @@
 -- Route bytes that stand for the routes they say.
 use Rattle.std.specs.Prelude.{ℕ, ℤ, Bool, ◌&&◌, List, nat_lt, nat_le, is_some, Option, Some, None, option_map, option_and_then}
-use Rattle.packet_defs.specs.RouteByte.{turn_of}
+use Rattle.packet_defs.specs.RouteByte.{turn_of, turns_of}
 use Rattle.route_parts.specs.declared.head.Head.{Head}
-use Rattle.gm_defs.specs.Mapping.{RouteEntry, RoutePart, Front, turns_of, entries_front, whole}
-
--- a byte stands for a turn
-abbrev pub is_route_byte : ℕ → Bool
-is_route_byte byte = is_some (turn_of byte)
+use Rattle.mapping_defs.specs.Mapping.{RouteEntry, RoutePart, Front, entries_front, whole}
 
 -- the route that is in front, by its bytes and those behind
 abbrev pub route_viewed : Front (List ℕ) → Front (List ℤ)

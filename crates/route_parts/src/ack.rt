@@ -1,12 +1,12 @@
 //! The acknowledgement of a part.
 
 ghost use Rattle.std.specs.Prelude.{◌≡◌, Some, IfOk, IfErr};
-ghost use Rattle.gm_defs.specs.Mapping.{mapping_bytes, decode_mapping};
+ghost use Rattle.mapping_defs.specs.Mapping.{mapping_bytes, decode_mapping};
 ghost use Rattle.route_parts.specs.Reading.{ack_body, ack_in, missing};
 
 use crate::fault::BodyFault;
 use crate::fronts::{byte_front, two_front};
-use gm_defs::mapping_is_read;
+use mapping_defs::mapping_is_read;
 use std::alloc::{AllocError, Global};
 
 // The kind of its body.

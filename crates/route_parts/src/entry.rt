@@ -13,7 +13,7 @@ pub struct TableEntry {
 }
 
 impl Model for TableEntry {
-    ghost use Rattle.gm_defs.specs.Mapping.{RouteEntry};
+    ghost use Rattle.mapping_defs.specs.Mapping.{RouteEntry};
 
     ghost Value = { RouteEntry };
 
@@ -28,7 +28,7 @@ pub struct EntryList {
 
 impl Model for EntryList {
     ghost use Rattle.std.specs.Prelude.{List};
-    ghost use Rattle.gm_defs.specs.Mapping.{RouteEntry};
+    ghost use Rattle.mapping_defs.specs.Mapping.{RouteEntry};
 
     ghost Value = { List RouteEntry };
 

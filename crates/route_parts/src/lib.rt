@@ -1,6 +1,6 @@
 //! A part of a host's table, and the acknowledgement of one, as they travel: their bodies written and read.
 //!
-//! It cuts no set of routes and keeps no table: that is `route_install`. `specs/Mapping.antt` of `gm_defs` says what a body is, and
+//! It cuts no set of routes and keeps no table: that is `route_install`. `specs/Mapping.antt` of `mapping_defs` says what a body is, and
 //! `specs/Reading.antt` what bytes say of these two.
 //!
 //! ```text
@@ -18,8 +18,6 @@ mod head;
 mod part;
 mod reading;
 mod routes;
-#[cfg(test)]
-mod tests;
 
 pub use ack::PartAck;
 pub use entry::{EntryList, TableEntry};

@@ -2,9 +2,10 @@
 
 ghost use Rattle.std.specs.Prelude.{◌≡◌, ◌<◌, ◌≤◌, ◌^◌, length, true, is_some, option_map, option_and_then, IfSome, IsSome};
 ghost use Rattle.std.specs.List.{list_all};
-ghost use Rattle.gm_defs.specs.Mapping.{route_front, entry_front, turns_of};
+ghost use Rattle.mapping_defs.specs.Mapping.{route_front, entry_front};
+ghost use Rattle.packet_defs.specs.RouteByte.{turns_of, is_route_byte};
 ghost use Rattle.route_parts.specs.Reading.{rise_from, is_above};
-ghost use Rattle.route_parts.specs.Viewing.{is_route_byte, route_viewed, entry_viewed};
+ghost use Rattle.route_parts.specs.Viewing.{route_viewed, entry_viewed};
 
 use crate::fronts::{byte_front, short_front};
 

@@ -16,8 +16,6 @@ use Rattle.world_defs.specs.Settle.{round_pass, round, settle}
 use Rattle.world_defs.specs.Asking.{sends, host_try, loop_try, ask}
 use Rattle.world_defs.specs.Install.{part_try, installed}
 use Rattle.world_defs.specs.World.{new_world}
-use Rattle.world_defs.specs.Examples.{setup_routes}
-use Rattle.world_defs.proofs.Moments.{rank, rises}
 use Rattle.run_defs.specs.declared.line.MapWords.{MapWords}
 use Rattle.run_defs.specs.declared.line.MapWords.TheVariants.{Complete, IncompleteDepth}
 use Rattle.run_defs.specs.declared.command.Command.TheVariants.{Map, Finish}
@@ -29,8 +27,8 @@ use Rattle.run_defs.specs.Run.{IsRun, Does}
 use Rattle.run_defs.specs.Run.Does.{determined, maps}
 use Rattle.run_defs.specs.Run.Runs.{ended, goes_on}
 use Rattle.run_defs.specs.Session.{new_session}
-use Rattle.run_defs.specs.Headline.{HasPrinted, IsQuiet, AreAdoptable, MayActAll}
-use Rattle.run_defs.specs.Examples.{setup_map, mapped_world, mapping, mapping_output, mapped_session, doubtful_world, adopting}
+use Rattle.run_defs.specs.Headline.{HasPrinted, IsQuiet}
+use Rattle.run_defs.specs.Examples.{setup_map, mapped_world, mapping, mapping_output, mapped_session, doubtful_world}
 
 asks : asked_all 0 1 (map (λ e. e.walk) two_hosts_journal) (new_world two_hosts) ≡ record { entries = two_hosts_journal; drowned = 0; world = mapped_world }
 unfolding sends host_try loop_try ask begun closed provided_by sent_by polled_by pass drain clear hear part_try installed to_send packet_for after_sending round_pass round settle lost was_reset repeated held flipped replayed asked part_staged planned_strikes sent_out injected advanced expired gave_up applied
@@ -94,9 +92,3 @@ planned_is_not_quiet q = by q.unplanned.0
     by : (1 ≤ 0) ⊎ (mapped_world.injected < 1) → ⊥
     by (inl l) = omega arith
     by (inr l) = let few : 62 < 1 = subst (λ n. n < 1) injections l in omega arith
-
-pub adoptable : AreAdoptable two_hosts setup_routes
-adoptable = record { lead = (refl, (refl, tt)); number = rank; rises = rises }
-
-pub acts_may_happen : MayActAll (new_world two_hosts) adopting
-acts_may_happen = ((omega arith, tt), ((adoptable, tt), (tt, tt)))

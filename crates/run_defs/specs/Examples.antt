@@ -4,10 +4,9 @@ use Rattle.net_defs.specs.Examples.{two_hosts, host_end, switch_end}
 use Rattle.journal_defs.specs.Examples.{two_hosts_journal}
 use Rattle.map_defs.specs.declared.vertex.MapVertex.TheVariants.{Host, Switch}
 use Rattle.map_defs.specs.NetMap.{NetMap}
-use Rattle.world_defs.specs.declared.event.Event.TheVariants.{Inject as InjectEvent, Advance as AdvanceEvent, Replay as ReplayEvent, Flip as FlipEvent}
-use Rattle.world_defs.specs.declared.fault.Fault.TheVariants.{Lose as LoseFault, Repeat as RepeatFault, Flip as FlipFault}
+use Rattle.world_defs.specs.declared.fault.Fault.TheVariants.{Lose as LoseFault}
 use Rattle.world_defs.specs.World.{WorldState, fabric_of, new_world, planned}
-use Rattle.world_defs.specs.Examples.{setup, setup_routes, opened, provide, send}
+use Rattle.world_defs.specs.Examples.{setup, setup_routes}
 use Rattle.run_defs.specs.declared.command.Command.{Command}
 use Rattle.run_defs.specs.declared.command.Command.TheVariants.{Map, Routes, Install, Begin, Close, Poll, Tokens, Provide, Send, Step, Settle, Finish}
 use Rattle.run_defs.specs.declared.command.StepLine.TheVariants.{Inject, Advance, Lose}
@@ -18,7 +17,6 @@ use Rattle.run_defs.specs.LineText.{output_text}
 use Rattle.run_defs.specs.Session.{SessionState, new_session}
 use Rattle.run_defs.specs.Outcome.{Outcome, outcome}
 use Rattle.run_defs.specs.Mapped.{asked_all}
-use Rattle.run_defs.specs.Headline.{Act, Happens, Plans, Adopts, acted_all}
 
 -- a text of these lines
 abbrev pub text_of : List (List ℕ) → List ℕ
@@ -89,26 +87,3 @@ mapped_session = record { world = mapped_world; last_map = Some (record { mapper
 -- the first world, with a fault planned for the first injection
 abbrev pub doubtful_world : WorldState
 doubtful_world = (planned (new_world two_hosts) 1 LoseFault).1
-
--- the routes of the two hosts are adopted between a plan and an event
-abbrev pub adopting : List Act
-adopting = Plans 1 LoseFault ∷ Adopts 0 setup_routes ∷ Happens (InjectEvent 0) ∷ []
-
--- a flip by a pattern is planned
-abbrev pub planned_flip : ℕ → List Act
-planned_flip pattern = Plans 1 (FlipFault 6 pattern) ∷ []
-
--- a flip by a pattern happens
-abbrev pub flip_now : ℕ → List Act
-flip_now pattern = Happens (FlipEvent 0 6 pattern) ∷ []
-
--- Host 0 adopts the routes and sends host 1 the message `ABC`. Its frame is copied; the frame arrives, and then the copy.
-abbrev pub delivering : List Act
-delivering =
-    Plans 1 RepeatFault ∷ Adopts 0 setup_routes
-    ∷ map Happens
-    (opened 1 1 (provide 0 ∷ send 3 65 ∷ InjectEvent 0 ∷ AdvanceEvent 0 ∷ AdvanceEvent 3 ∷ ReplayEvent 0 ∷ AdvanceEvent 0 ∷ AdvanceEvent 3 ∷ []))
-
--- the world behind these acts
-abbrev pub delivered_world : WorldState
-delivered_world = acted_all (new_world two_hosts) delivering

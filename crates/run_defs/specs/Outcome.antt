@@ -7,7 +7,6 @@ use Rattle.net_defs.specs.Route.{place, channel_from}
 use Rattle.net_defs.specs.Examples.{host_end}
 use Rattle.link_defs.specs.Channel.{channel_tail}
 use Rattle.link_defs.specs.Links.{is_idle}
-use Rattle.journal_defs.specs.Walks.{same_turns}
 use Rattle.gm_defs.specs.declared.token.TokenPlace.{TokenPlace}
 use Rattle.gm_defs.specs.Token.{PortState, place_of_send, place_of_recv}
 use Rattle.world_defs.specs.declared.event.Event.{Event}
@@ -18,7 +17,7 @@ use Rattle.world_defs.specs.declared.effect.Said.TheVariants.{Refused}
 use Rattle.world_defs.specs.declared.client.ClientCause.TheVariants.{NotOpen}
 use Rattle.world_defs.specs.declared.fault.Fault.{Fault}
 use Rattle.world_defs.specs.declared.fault.Fault.TheVariants.{Lose as LoseFault, Repeat as RepeatFault, Hold as HoldFault, Flip as FlipFault}
-use Rattle.world_defs.specs.Table.{Adoption, active_epoch}
+use Rattle.world_defs.specs.Table.{Adoption, is_other, active_epoch}
 use Rattle.world_defs.specs.Node.{port_at}
 use Rattle.world_defs.specs.World.{WorldState, fabric_of, node_at, planned, adopted_by, last_count}
 use Rattle.world_defs.specs.Step.{step}
@@ -156,21 +155,6 @@ adoption_of l = record { mapper = l.mapper; epoch = 1; routes = l.routes }
 -- the last routes are adopted, and then installed on the hosts of their map
 abbrev pub install_now : SessionState → LastRoutes → ℕ → Outcome
 install_now s l tries = install_done s l.hosts (installed (adoption_of l) l.hosts tries (adopted_by s.world l.mapper l.routes))
-
--- two routes are of the same hosts, with the same turns
-abbrev pub same_route : Route → Route → Bool
-same_route r s = nat_eq r.from s.from && nat_eq r.to s.to && same_turns r.walk s.walk
-
--- two sets are the same routes in the same order
-abbrev pub same_routes : List Route → List Route → Bool
-same_routes [] [] = true
-same_routes (r ∷ rs) (s ∷ ss) = same_route r s && same_routes rs ss
-same_routes _ _ = false
-
--- another set of routes is adopted
-abbrev pub is_other : List Route → Option Adoption → Bool
-is_other routes None = false
-is_other routes (Some a) = not (same_routes routes a.routes)
 
 -- routes are installed where some were computed, the links are idle, and no other set is adopted
 abbrev pub install : SessionState → ℕ → Option LastRoutes → Outcome

@@ -19,11 +19,8 @@ ghost use Rattle.world_defs.specs.World.{new_world};
 ghost use Rattle.run_defs.specs.Mapped.{IsMapped};
 ghost use Rattle.run_defs.specs.Run.{IsRun};
 ghost use Rattle.net_defs.specs.Network.{Network};
-ghost use Rattle.gm_defs.specs.Examples.{message};
-ghost use Rattle.world_defs.specs.Traffic.{got_between};
-ghost use Rattle.world_defs.specs.Sound.{IsSound};
-ghost use Rattle.run_defs.specs.Headline.{HasPrinted, CompleteIsTrue, IsQuiet, MayActAll};
-ghost use Rattle.run_defs.specs.Examples.{mapped_world, mapping, mapping_output, mapped_session, doubtful_world, adopting, planned_flip, flip_now, delivering, delivered_world, text_of, printed, fresh, installed_session, setup_map, refused_calls, closing, single_events};
+ghost use Rattle.run_defs.specs.Headline.{HasPrinted, CompleteIsTrue, IsQuiet};
+ghost use Rattle.run_defs.specs.Examples.{mapped_world, mapping, mapping_output, mapped_session, doubtful_world, text_of, printed, fresh, installed_session, setup_map, refused_calls, closing, single_events};
 
 /// The texts of some lines.
 #[tactic(auto, using(crate::proofs::Reports::line_at_a_switch, crate::proofs::Reports::line_doubtful, crate::proofs::Reports::line_route, crate::proofs::Reports::line_empty_message, crate::proofs::Reports::line_message))]
@@ -92,29 +89,11 @@ pub fn map_of_the_two_hosts()
     ensures printed { HasPrinted mapping_output 0 setup_map }
 {}
 
-/// That map met a quiet fabric, which a fault planned for its first packet would not be. The routes of the map may be adopted.
-#[tactic(auto, using(crate::proofs::Mapping::first_is_quiet, crate::proofs::Mapping::planned_is_not_quiet, crate::proofs::Mapping::acts_may_happen))]
-pub fn quiet_fabrics_and_acts()
+/// That map met a quiet fabric, which a fault planned for its first packet would not be.
+#[tactic(auto, using(crate::proofs::Mapping::first_is_quiet, crate::proofs::Mapping::planned_is_not_quiet))]
+pub fn quiet_fabrics()
     ensures quiet { IsQuiet 0 (new_world two_hosts) mapped_world }
     ensures planned { ¬ IsQuiet 0 doubtful_world mapped_world }
-    ensures acts { MayActAll (new_world two_hosts) adopting }
-{}
-
-/// A flip of eight bits may be planned and may happen, one of nine may not.
-#[tactic(auto, using(crate::proofs::Moments::eight_bits_are_planned, crate::proofs::Moments::nine_bits_are_not_planned, crate::proofs::Moments::eight_bits_flip, crate::proofs::Moments::nine_bits_do_not_flip))]
-pub fn flips_that_may_happen()
-    ensures planned { MayActAll (new_world two_hosts) (planned_flip 255) }
-    ensures not_planned { ¬ MayActAll (new_world two_hosts) (planned_flip 256) }
-    ensures now { MayActAll (new_world two_hosts) (flip_now 255) }
-    ensures not_now { ¬ MayActAll (new_world two_hosts) (flip_now 256) }
-{}
-
-/// A moment that acts lead to is sound: a message came once, though its frame came twice.
-#[tactic(auto, using(crate::proofs::Moments::delivering_may_happen, crate::proofs::Moments::delivered_got, crate::proofs::Moments::delivered_is_sound))]
-pub fn sound_moment_of_acts()
-    ensures may { MayActAll (new_world two_hosts) delivering }
-    ensures got { got_between delivered_world 0 1 ≡ message (codes "ABC") ∷ [] }
-    ensures sound { IsSound delivered_world }
 {}
 
 /// Where no command is given nothing is printed, so no map that says complete is wrong.

@@ -19,8 +19,7 @@ mod line;
 
 pub use command::{Command, PlanKind, StepLine};
 pub use examples::{
-    closing_a_port, flips_that_may_happen, lines_of_scripts, map_of_the_two_hosts,
-    promise_of_no_command, quiet_fabrics_and_acts, refusals, report_of_single_events,
-    sound_moment_of_acts, text_of_a_map, texts_of_lines, whole_scripts,
+    closing_a_port, lines_of_scripts, map_of_the_two_hosts, promise_of_no_command, quiet_fabrics,
+    refusals, report_of_single_events, text_of_a_map, texts_of_lines, whole_scripts,
 };
 pub use line::{ClientCall, InstallCause, Line, MapWords, PlaceEntry, PlaceList, StepWords};

@@ -1,4 +1,7 @@
+pub mod Leads
 pub mod OneMapping
-pub mod OneRun
 pub mod OneRoutes
+pub mod OneRun
+pub mod Ranked
+pub mod Reaching
 pub mod RunsOnce

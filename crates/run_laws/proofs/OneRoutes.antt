@@ -6,7 +6,8 @@ use Rattle.net_defs.specs.declared.route.Route.{Route}
 use Rattle.journal_defs.proofs.Asking.{not_apart}
 use Rattle.journal_defs.proofs.Members.{IsMember, all-member}
 use Rattle.map_defs.specs.NetMap.{NetMap, MapPort}
-use Rattle.map_defs.specs.Routing.{LeadsTo, IsLeastLegal, AreRoutesOf, AreRising as AreRisingRoutes, route_below, led_to, port_of_host}
+use Rattle.map_defs.specs.Routing.{LeadsTo, IsLeastLegal, AreRoutesOf, led_to, port_of_host}
+use Rattle.net_defs.specs.RouteSet.{AreRising as AreRisingRoutes, route_below}
 use Rattle.map_laws.specs.Leading.{HasHost}
 use Rattle.map_laws.proofs.Landing.{port-host}
 use Rattle.map_laws.proofs.OneMap.{AreRising, rising-one, place-member}

@@ -1,3 +1,4 @@
+pub mod Acts
 pub mod Laws
 pub mod Runs
 pub mod TwoHosts

@@ -1,16 +1,22 @@
-//! What is proved of runs: a mapping is one, a run is one, and small runs over the two hosts at one switch keep their promise.
+//! The laws of runs: a mapping is one and a run is one; runs join and split; a run is acts that may happen.
 //!
-//! Each statement is a function without parameters: its contract is the statement, and its body is empty. The statements stand in `specs/`.
+//! It runs nothing, and says nothing of what an installation or a settle prints. Read `specs/Runs.antt` first, and `specs/Acts.antt` for the
+//! acts of a run, by which it leaves no cycle of installed routes.
 //!
 //! | file of `specs/` | says |
 //! |---|---|
 //! | `Laws` | a mapping is one |
-//! | `Runs` | the routes of a map are one list, what a command does is one, and so is a run; its first commands print the beginning of what it prints |
+//! | `Runs` | a map's routes are one list, what a command does is one, so is a run; first commands print a front part of its text |
+//! | `Acts` | a run is acts which may happen, one after another, so that the laws of acts hold along every run |
 //! | `TwoHosts` | every mapping of the two hosts says complete, and every map that such a run prints is right |
 #![tactic(auto)]
 
+mod acts;
 mod laws;
+mod routes;
 mod worked;
 
+pub use acts::acts_of_runs;
 pub use laws::{one_mapping, one_run, runs_in_a_row};
+pub use routes::adoptable_routes;
 pub use worked::mapping_of_the_two_hosts;

@@ -10,6 +10,7 @@ use Rattle.world_laws.proofs.Counting.{step-counts}
 use Rattle.ask_laws.proofs.Along.{ask-events}
 use Rattle.map_making.specs.declared.making.MadeMap.{MadeMap}
 use Rattle.map_making.specs.Made.{IsMade}
+use Rattle.run_session.specs.declared.mapping.MapOrder.{MapOrder}
 use Rattle.run_session.specs.Told.{IsMadeOver}
 use Rattle.run_defs.specs.Mapped.{AskedAll, one_if, asked_all, IsCalled}
 use Rattle.mapper.specs.Asks.{AreAsked}
@@ -81,7 +82,8 @@ came-from s (e ∷ rest) t low (between, is, more) =
     count-below false before between low e = omega (arith, low, e)
 
 -- a map that was made by a mapper over a world is made over that world
-pub made-over : (s : WorldAsking) (depth : ℕ) (m : MadeMap) (t : WorldAsking) (packets : ℕ) → s.drowned ≡ 0 → m.asks < 2 ^ 64 → IsMade WorldAsking IsAsked s.host depth s t.drowned m t → packets ≡ t.world.injected - s.world.injected → IsMadeOver s.host depth s.tries s.world t.world m packets
+pub made-over : (s : WorldAsking) (depth : ℕ) (m : MadeMap) (t : WorldAsking) (packets : ℕ) → s.drowned ≡ 0 → m.asks < 2 ^ 64 → IsMade WorldAsking IsAsked s.host depth s t.drowned m t
+    → packets ≡ t.world.injected - s.world.injected → IsMadeOver (record { host = s.host; depth = depth; tries = s.tries }) s.world t.world m packets
 made-over s depth m t packets none few k p =
     let r = came-from s k.journal t (omega (arith, none)) k.led in
     let counted = r.counted in
@@ -108,17 +110,19 @@ pub made-rises : (s : WorldAsking) (depth : ℕ) (m : MadeMap) (t : WorldAsking)
 made-rises s depth m t none k = (came-from s k.journal t (omega (arith, none)) k.led).rises
 
 -- the same for the mapper that a world is given to, and the counts of injections before and behind it
-pub made-from : (w : WorldState) (host depth tries : ℕ) (s t : WorldAsking) (m : MadeMap) (after : WorldState) (b a : ℕ) → s ≡ record { world = w; host = host; tries = tries; drowned = 0 } → after ≡ t.world → b ≡ w.injected → a ≡ after.injected → m.asks < 2 ^ 64 → IsMade WorldAsking IsAsked s.host depth s t.drowned m t → IsMadeOver host depth tries w after m (a - b)
-made-from w host depth tries s t m after b a e f g h few k =
-    let p : WorldAsking = record { world = w; host = host; tries = tries; drowned = 0 } in
-    let k0 : IsMade WorldAsking IsAsked host depth p t.drowned m t = subst (λ (u : WorldAsking). IsMade WorldAsking IsAsked u.host depth u t.drowned m t) e k in
+pub made-from : (w : WorldState) (order : MapOrder) (s t : WorldAsking) (m : MadeMap) (after : WorldState) (b a : ℕ) → s ≡ record { world = w; host = order.host; tries = order.tries; drowned = 0 } → after ≡ t.world
+    → b ≡ w.injected → a ≡ after.injected → m.asks < 2 ^ 64 → IsMade WorldAsking IsAsked s.host order.depth s t.drowned m t → IsMadeOver order w after m (a - b)
+made-from w order s t m after b a e f g h few k =
+    let p : WorldAsking = record { world = w; host = order.host; tries = order.tries; drowned = 0 } in
+    let k0 : IsMade WorldAsking IsAsked order.host order.depth p t.drowned m t = subst (λ (u : WorldAsking). IsMade WorldAsking IsAsked u.host order.depth u t.drowned m t) e k in
     let packets : a - b ≡ t.world.injected - w.injected = ap (λ x. x - b) (h ∙ ap (λ v. v.injected) f) ∙ ap (λ y. t.world.injected - y) g in
-    subst (λ v. IsMadeOver host depth tries w v m (a - b)) (sym f) (made-over p depth m t (a - b) refl few k0 packets)
+    subst (λ v. IsMadeOver order w v m (a - b)) (sym f) (made-over p order.depth m t (a - b) refl few k0 packets)
 
-pub rises-from : (w : WorldState) (host depth tries : ℕ) (s t : WorldAsking) (m : MadeMap) (after : WorldState) (b a : ℕ) → s ≡ record { world = w; host = host; tries = tries; drowned = 0 } → after ≡ t.world → b ≡ w.injected → a ≡ after.injected → IsMade WorldAsking IsAsked s.host depth s t.drowned m t → b ≤ a
-rises-from w host depth tries s t m after b a e f g h k =
-    let p : WorldAsking = record { world = w; host = host; tries = tries; drowned = 0 } in
-    let k0 : IsMade WorldAsking IsAsked host depth p t.drowned m t = subst (λ (u : WorldAsking). IsMade WorldAsking IsAsked u.host depth u t.drowned m t) e k in
-    let r : w.injected ≤ t.world.injected = made-rises p depth m t refl k0 in
+pub rises-from : (w : WorldState) (order : MapOrder) (s t : WorldAsking) (m : MadeMap) (after : WorldState) (b a : ℕ) → s ≡ record { world = w; host = order.host; tries = order.tries; drowned = 0 } → after ≡ t.world
+    → b ≡ w.injected → a ≡ after.injected → IsMade WorldAsking IsAsked s.host order.depth s t.drowned m t → b ≤ a
+rises-from w order s t m after b a e f g h k =
+    let p : WorldAsking = record { world = w; host = order.host; tries = order.tries; drowned = 0 } in
+    let k0 : IsMade WorldAsking IsAsked order.host order.depth p t.drowned m t = subst (λ (u : WorldAsking). IsMade WorldAsking IsAsked u.host order.depth u t.drowned m t) e k in
+    let r : w.injected ≤ t.world.injected = made-rises p order.depth m t refl k0 in
     let i : after.injected ≡ t.world.injected = ap (λ v. v.injected) f in
     omega (arith, r, i, g, h)

@@ -1,5 +1,5 @@
 -- That the last routes of a session may be adopted, and can be installed on their hosts then.
-use Rattle.std.proofs.Common.{◌≡◌, ◌≢◌, ◌<◌, ◌≤◌, ◌+◌, ◌⊎◌, ℕ, zero, suc, Bool, true, false, true≢false, not, ◌&&◌, ◌||◌, if◌then◌else◌, List, [], ◌∷◌, length, nat_eq, Option, Some, None, inl, inr, refl, sym, ◌∙◌, ap, subst, arith}
+use Rattle.std.proofs.Common.{◌≡◌, ◌≢◌, ◌<◌, ◌≤◌, ◌+◌, ◌⊎◌, ℕ, zero, suc, Bool, true, false, true≢false, ◌&&◌, ◌||◌, if◌then◌else◌, List, [], ◌∷◌, length, nat_eq, Option, Some, None, inl, inr, refl, sym, ◌∙◌, ap, subst, arith}
 use Rattle.std.specs.Prelude.{ℤ, pos, is_some, slice_get, option_map, IfSome}
 use Rattle.std.specs.List.{AllByRecursion, filter, list_any, range_with_len}
 use Rattle.std.proofs.lemmas.Bool.{or_cases}
@@ -8,51 +8,37 @@ use Rattle.std.proofs.lemmas.Map.Views.{any-filter_same}
 use Rattle.net_defs.specs.declared.route.Route.{Route}
 use Rattle.net_defs.specs.declared.vertex.Vertex.TheVariants.{Host}
 use Rattle.net_defs.specs.Network.{Network, IsFabric}
-use Rattle.net_defs.specs.Route.{channels_of}
-use Rattle.journal_defs.specs.Walks.{same_turns}
 use Rattle.journal_defs.specs.Part.{Path, IsInPart}
 use Rattle.journal_defs.proofs.Members.{IsMember}
 use Rattle.map_defs.specs.declared.vertex.MapVertex.{MapVertex}
 use Rattle.map_defs.specs.declared.vertex.MapVertex.TheVariants.{Host as MapHost, Switch as MapSwitch}
 use Rattle.map_defs.specs.NetMap.{NetMap, MapPort, host_at, host_of_vertex, hosts_of}
 use Rattle.map_defs.specs.Orientation.{order_of}
-use Rattle.map_defs.specs.Routing.{AreRoutesOf, HasRoute, IsLeastLegal, LeadsTo, led_to, vertex_of_host}
+use Rattle.map_defs.specs.Routing.{AreRoutesOf, IsLeastLegal, LeadsTo, led_to, vertex_of_host}
+use Rattle.net_defs.specs.RouteSet.{HasRoute, channels_of_all}
 use Rattle.map_defs.specs.Sameness.{IsMapOfPart, address_of}
-use Rattle.map_defs.specs.Dependencies.{IsBefore}
 use Rattle.map_laws.proofs.Listed.{member-host}
-use Rattle.world_defs.specs.Table.{Adoption}
+use Rattle.world_defs.specs.Table.{Adoption, is_other}
 use Rattle.world_defs.specs.World.{WorldState, fabric_of}
-use Rattle.run_defs.specs.Headline.{channels_of_all}
 use Rattle.link_defs.specs.Links.{is_idle}
-use Rattle.run_defs.specs.Outcome.{adoption_of, same_routes, is_other}
+use Rattle.run_defs.specs.Outcome.{adoption_of}
 use Rattle.run_defs.specs.Session.{LastRoutes}
-use Rattle.act_laws.proofs.Ranked.{right_routes_are_adoptable}
+use Rattle.run_laws.proofs.Ranked.{right_routes_are_adoptable}
 use Rattle.map_text.specs.Printing.{IsOfFabric}
 use Rattle.route_install.specs.Installing.{AreHosts}
 use Rattle.route_making.specs.Listed.{map_hosts_below}
 use Rattle.route_making.proofs.Naming.{found-any}
-use Rattle.fab_world.specs.Adopting.{IsAdoptable, is_among, channels_of_each, same_routes as same_lists, is_other as is_other_set, adopt_refusal}
-use Rattle.fab_world.specs.declared.adopted.AdoptRefusal.{AdoptRefusal}
-use Rattle.fab_world.specs.declared.adopted.AdoptRefusal.TheVariants.{Another, NoMemory}
+use Rattle.adopted_routes.specs.Adopting.{IsAdoptable, is_among, adopt_refusal}
+use Rattle.adopted_routes.specs.declared.routes.AdoptRefusal.{AdoptRefusal}
+use Rattle.adopted_routes.specs.declared.routes.AdoptRefusal.TheVariants.{Another, NoMemory}
 use Rattle.fab_world.specs.Events.{IsHostOf}
 use Rattle.fab_world.specs.Held.{IsMoment}
 use Rattle.fab_drive.specs.Installing.{CanInstall}
 use Rattle.run_session.specs.Kept.{AreKeptRoutes}
 
--- whether another set is adopted is asked in two places alike
-same-alike : (rs ss : List Route) → same_routes rs ss ≡ same_lists rs ss
-same-alike [] [] = refl
-same-alike [] (s ∷ ss) = refl
-same-alike (r ∷ rs) [] = refl
-same-alike (r ∷ rs) (s ∷ ss) = ap (λ b. (nat_eq r.from s.from && nat_eq r.to s.to && same_turns r.walk s.walk) && b) (same-alike rs ss)
-
-pub other-alike : (rs : List Route) (o : Option Adoption) → is_other rs o ≡ is_other_set rs o
-other-alike rs None = refl
-other-alike rs (Some a) = ap not (same-alike rs a.routes)
-
--- routes are adopted only where no others are
+-- routes that the world does not refuse are no others
 pub none-other : (rs set : List Route) (o : Option Adoption) → set ≡ rs → adopt_refusal set o ≡ None → is_other rs o ≡ false
-none-other rs set o same e = other-alike rs o ∙ ap (λ (x : List Route). is_other_set x o) (sym same) ∙ by (is_other_set set o) e
+none-other rs set o same e = ap (λ (x : List Route). is_other x o) (sym same) ∙ by (is_other set o) e
   where
     by : (b : Bool) → (if b then Some Another else None) ≡ None → b ≡ false
     by true p = cc
@@ -60,20 +46,15 @@ none-other rs set o same e = other-alike rs o ∙ ap (λ (x : List Route). is_ot
 
 -- and they are refused as another set where others are
 pub others-are : (rs set : List Route) (o : Option Adoption) (cause : AdoptRefusal) → set ≡ rs → cause ≡ Another → (adopt_refusal set o ≡ Some cause) ⊎ ((adopt_refusal set o ≡ None) × (cause ≡ NoMemory)) → is_other rs o ≡ true
-others-are rs set o cause same is why = other-alike rs o ∙ ap (λ (x : List Route). is_other_set x o) (sym same) ∙ told why
+others-are rs set o cause same is why = ap (λ (x : List Route). is_other x o) (sym same) ∙ told why
   where
     by : (b : Bool) → (if b then Some Another else None) ≡ Some cause → b ≡ true
     by true p = refl
     by false p = cc
 
-    told : (adopt_refusal set o ≡ Some cause) ⊎ ((adopt_refusal set o ≡ None) × (cause ≡ NoMemory)) → is_other_set set o ≡ true
-    told (inl e) = by (is_other_set set o) e
+    told : (adopt_refusal set o ≡ Some cause) ⊎ ((adopt_refusal set o ≡ None) × (cause ≡ NoMemory)) → is_other set o ≡ true
+    told (inl e) = by (is_other set o) e
     told (inr e) = let second = e.1 in cc
-
--- the channels of routes, one list a route
-channels-alike : (n : Network) (rs : List Route) → channels_of_all n rs ≡ channels_of_each n rs
-channels-alike n [] = refl
-channels-alike n (r ∷ rs) = ap (λ cs. channels_of n r.from r.walk ∷ cs) (channels-alike n rs)
 
 -- a host of the map
 abbrev has : NetMap → ℕ → Bool
@@ -192,7 +173,7 @@ kept-adoptable n l fabric k =
       whole = among-whole n l.mapper k.made l.routes k.kept.right k.are;
       apart = k.are.between_hosts;
       number = may.number;
-      rises = λ c d b. may.rises c d (subst (λ cs. IsBefore cs c d) (sym (channels-alike n l.routes)) b);
+      rises = λ c d b. may.rises c d b;
     }
 
 -- numbers from one on that pass a test

@@ -4,7 +4,7 @@ use Rattle.std.specs.Prelude.{flat_map, IfSome}
 use Rattle.net_defs.specs.Network.{Network}
 use Rattle.link_defs.specs.Links.{is_idle}
 use Rattle.world_defs.specs.World.{WorldState, fabric_of, adopted_by}
-use Rattle.world_defs.specs.Table.{Adoption}
+use Rattle.world_defs.specs.Table.{Adoption, is_other}
 use Rattle.world_defs.specs.Install.{installed}
 use Rattle.run_defs.specs.declared.command.Command.TheVariants.{Install}
 use Rattle.run_defs.specs.declared.line.Line.{Line}
@@ -13,11 +13,12 @@ use Rattle.run_defs.specs.declared.line.InstallCause.{InstallCause}
 use Rattle.run_defs.specs.declared.line.InstallCause.TheVariants.{NoRoutes, Busy, Installed as OtherInstalled}
 use Rattle.run_defs.specs.LineText.{line_text, output_text}
 use Rattle.run_defs.specs.Output.{lines}
-use Rattle.run_defs.specs.Outcome.{Outcome, adoption_of, install, install_done, install_now, is_other, says_only, table_line}
+use Rattle.run_defs.specs.Outcome.{Outcome, adoption_of, install, install_done, install_now, says_only, table_line}
 use Rattle.run_defs.specs.Run.{Does}
 use Rattle.run_defs.specs.Session.{SessionState, LastMap, LastRoutes}
+use Rattle.world_commands.specs.Done.{session_of}
 use Rattle.run_session.specs.Obeyed.{IsObeyed}
-use Rattle.run_session.specs.Told.{AreInstalledTold, IsInstallTold, session_of}
+use Rattle.run_session.specs.Told.{AreInstalledTold, IsInstallTold}
 
 -- an installation whose outcome says one line alone
 refused : (w : WorldState) (last : Option LastRoutes) (tries : ℕ) (cause : InstallCause) (text : List ℕ) → ((made : Option LastMap) → install (session_of w made last) tries last ≡ says_only (session_of w made last) (InstallRefused cause ∷ [])) → text ≡ line_text (fabric_of w) (InstallRefused cause) → IsInstallTold w last tries w text
@@ -86,9 +87,11 @@ counted-told w after l tries acked total hosts text adopted counted all same net
 }
 
 -- the command was obeyed
-pub installed_so : (s : SessionState) (tries : ℕ) (after : WorldState) (text : List ℕ) → IsInstallTold s.world s.last_routes tries after text → IsObeyed s (Install tries) (record s { world = after }) text
-installed_so s tries after text told = record {
-  output = (install s tries s.last_routes).output;
-  does = Does.determined (ap (λ (t : SessionState). Some (record { output = (install s tries s.last_routes).output; after = t })) (told.left s.last_map));
-  printed = told.printed s.last_map;
-}
+pub installed_so : (w v : WorldState) (made : Option LastMap) (found : Option LastRoutes) (tries : ℕ) (text : List ℕ) → IsInstallTold w found tries v text → IsObeyed (session_of w made found) (Install tries) (session_of v made found) text
+installed_so w v made found tries text told =
+    let done : Outcome = install (session_of w made found) tries found in
+    record {
+      output = done.output;
+      does = Does.determined (ap (λ (t : SessionState). Some (record { output = done.output; after = t })) (told.left made));
+      printed = told.printed made;
+    }

@@ -1,132 +1,91 @@
 -- That a session keeps maps and routes that are right.
-use Rattle.std.proofs.Common.{◌≡◌, ℕ, ◌<◌, ◌≤◌, ◌∷◌, true, List, length, cond, Some, None, refl, sym, ◌∙◌, ap, subst, arith}
-use Rattle.std.specs.Prelude.{Result, Ok, Err, IfOk, IfErr}
-use Rattle.std.proofs.lemmas.Bool.Decides.{nat_tests}
+use Rattle.std.proofs.Common.{◌≡◌, ℕ, ◌≤◌, true, List, Option, Some, refl, sym, ◌∙◌, ap, subst, arith}
 use Rattle.link_defs.specs.Links.{is_idle}
 use Rattle.net_defs.specs.declared.vertex.Vertex.TheVariants.{Host}
 use Rattle.net_defs.specs.Network.{Network, has_vertex}
 use Rattle.map_defs.specs.NetMap.{NetMap, IsConnected}
 use Rattle.map_defs.specs.Core.{core_of}
+use Rattle.map_defs.specs.Orientation.{order_of}
+use Rattle.map_defs.specs.Routing.{AreRoutesOf}
 use Rattle.map_defs.specs.Sameness.{IsMapOfPart}
 use Rattle.map_laws.proofs.Connected.{quotient_is_connected}
 use Rattle.map_laws.proofs.Size.{right_map_is_no_larger}
-use Rattle.world_defs.specs.World.{WorldState, fabric_of, host_count}
+use Rattle.world_defs.specs.World.{WorldState, fabric_of}
 use Rattle.run_defs.specs.declared.line.MapWords.{MapWords}
 use Rattle.run_defs.specs.declared.line.MapWords.TheVariants.{Complete, Doubtful, IncompleteDepth, IncompleteNodes}
 use Rattle.run_defs.specs.Mapped.{IsMapped}
-use Rattle.run_defs.specs.Session.{SessionState, LastMap, LastRoutes, new_session, is_complete, complete_map}
-use Rattle.run_defs.specs.LineText.{output_text}
-use Rattle.run_defs.specs.Output.{OneLine}
-use Rattle.run_defs.specs.Run.{map_pieces}
-use Rattle.run_defs.specs.declared.line.Line.TheVariants.{Map}
+use Rattle.run_defs.specs.Run.{hosts_by_address}
+use Rattle.run_defs.specs.Session.{LastMap, LastRoutes, new_session}
 use Rattle.mapping_laws.specs.Laws.{CanMap}
 use Rattle.mapping_laws.proofs.Made.{made_map_is_map, made_map_is_right}
 use Rattle.map_text.specs.Printing.{AreOfFabric}
 use Rattle.map_making.specs.declared.making.MadeMap.{MadeMap}
 use Rattle.fab_world.specs.Held.{IsMoment}
 use Rattle.route_making.specs.Listed.{map_hosts_below}
-use Rattle.run_session.specs.Kept.{IsKeptMap, AreKeptRoutes, IsKept}
-use Rattle.run_session.specs.Told.{IsMadeOver, IsMapTold, AreRoutesTold}
-use Rattle.run_session.specs.Obeyed.{IsOverSame}
+use Rattle.world_commands.specs.Done.{session_of}
+use Rattle.world_commands.proofs.Calls.{host-there}
+use Rattle.run_session.specs.declared.mapping.MapOrder.{MapOrder}
+use Rattle.run_session.specs.Kept.{IsKeptMap, AreKeptRoutes, IsKept, IsLastMap, AreLastRoutes}
+use Rattle.run_session.specs.Told.{IsMadeOver, AreRoutesTold}
 
 -- a new session keeps neither
 pub new_kept : (n : Network) → IsKept (new_session n)
 new_kept n = record { complete = λ l e. cc; routes = λ l e. cc }
 
--- another world of the same fabric changes nothing of it
-pub kept-over : (s t : SessionState) → IsOverSame s t → IsKept s → IsKept t
-kept-over s t o k = record {
-  complete = λ l e. subst (λ n. IsKeptMap n l.mapper l.made) (sym o.fabric) (k.complete l (ap complete_map (sym o.last_map) ∙ e));
-  routes = λ l e. subst (λ n. AreKeptRoutes n l) (sym o.fabric) (k.routes l (sym o.last_routes ∙ e));
+-- what is kept over one world is kept over another of the same fabric
+pub kept-over : (w v : WorldState) (made : Option LastMap) (found : Option LastRoutes) → fabric_of v ≡ fabric_of w → IsLastMap (fabric_of w) made → AreLastRoutes (fabric_of w) found → IsKept (session_of v made found)
+kept-over w v made found same map routes = record {
+  complete = subst (λ n. IsLastMap n made) (sym same) map;
+  routes = subst (λ n. AreLastRoutes n found) (sym same) routes;
 }
 
 -- a map that was just made, where it says complete
-pub kept-last : (n : Network) (r l : LastMap) → (r.words ≡ Complete → IsKeptMap n r.mapper r.made) → complete_map (Some r) ≡ Some l → IsKeptMap n l.mapper l.made
-kept-last n r l right e = by r.words refl e
-  where
-    by : (words : MapWords) → r.words ≡ words → cond (is_complete words) (Some r) None ≡ Some l → IsKeptMap n l.mapper l.made
-    by Complete is p = let one : r ≡ l = cc in subst (λ (x : LastMap). IsKeptMap n x.mapper x.made) one (right is)
-    by (Doubtful drowned) is p = cc
-    by IncompleteDepth is p = cc
-    by IncompleteNodes is p = cc
-
--- a session with a new last map over the same fabric
-pub kept-with_map : (s t : SessionState) (r : LastMap) → fabric_of t.world ≡ fabric_of s.world → t.last_map ≡ Some r → t.last_routes ≡ s.last_routes → (r.words ≡ Complete → IsKeptMap (fabric_of t.world) r.mapper r.made) → IsKept s → IsKept t
-kept-with_map s t r net is same right k = record {
-  complete = λ l e. kept-last (fabric_of t.world) r l right (ap complete_map (sym is) ∙ e);
-  routes = λ l e. subst (λ n. AreKeptRoutes n l) (sym net) (k.routes l (sym same ∙ e));
-}
-
--- the host of a fabric is one of its world
-pub host-there : (w : WorldState) (host : ℕ) → IsMoment w → has_vertex (fabric_of w) (Host host) ≡ true → host < host_count w
-host-there w host m there =
-    let hosts = m.world.hosts in
-    let below : host < length (fabric_of w).hosts = grind (arith, nat_tests) in
-    omega (arith, hosts, below)
+pub kept_last : (n : Network) (host : ℕ) (words : MapWords) (m : NetMap) → (words ≡ Complete → IsKeptMap n host m) → IsLastMap n (Some (record { mapper = host; words = words; made = m }))
+kept_last n host Complete m right l e =
+    let one : record { mapper = host; words = Complete; made = m } ≡ l = cc in
+    subst (λ (x : LastMap). IsKeptMap n x.mapper x.made) one (right refl)
+kept_last n host (Doubtful drowned) m right l e = cc
+kept_last n host IncompleteDepth m right l e = cc
+kept_last n host IncompleteNodes m right l e = cc
 
 -- marks don't part a map
 marked-connected : (m k : NetMap) → m ≡ record k { core = core_of k } → IsConnected k → IsConnected m
 marked-connected m k e c = subst IsConnected (sym e) (λ v i. let r = c v i in record { cables = r.cables; path = r.path })
 
 -- routes can be computed of a map that was made over a world, where it says complete
-pub kept-made : (host depth tries : ℕ) (before after : WorldState) (m : MadeMap) (packets : ℕ) → IsMoment before → is_idle before.links ≡ true → has_vertex (fabric_of before) (Host host) ≡ true → depth ≤ 32 → IsMadeOver host depth tries before after m packets → AreOfFabric (fabric_of before) m.map → m.words ≡ Complete → IsKeptMap (fabric_of before) host m.map
-kept-made host depth tries before after m packets now idle there shallow over hosts says =
+pub kept-made : (order : MapOrder) (before after : WorldState) (m : MadeMap) (packets : ℕ) → IsMoment before → is_idle before.links ≡ true → has_vertex (fabric_of before) (Host order.host) ≡ true → order.depth ≤ 32
+    → IsMadeOver order before after m packets → AreOfFabric (fabric_of before) m.map → m.words ≡ Complete → IsKeptMap (fabric_of before) order.host m.map
+kept-made order before after m packets now idle there shallow over hosts says =
     let n : Network = fabric_of before in
-    let can : CanMap host depth before = record { fabric = now.fabric; world = now.world; idle = idle; is_host = host-there before host now there; byte_flips = now.plan; shallow = omega (arith, shallow) } in
+    let host = order.host in
+    let can : CanMap host order.depth before = record { fabric = now.fabric; world = now.world; idle = idle; is_host = host-there before host now there; byte_flips = now.plan; shallow = omega (arith, shallow) } in
     let j = over.journal in
     let made = over.mapped in
-    let right : IsMapOfPart n host m.map = made_map_is_right host depth tries before after j m.map can (subst (IsMapped host depth tries before after j m.map) says made) in
+    let right : IsMapOfPart n host m.map = made_map_is_right host order.depth order.tries before after j m.map can (subst (IsMapped host order.depth order.tries before after j m.map) says made) in
     let small = (right_map_is_no_larger n host m.map now.fabric there right).switches in
     let few = now.fabric.few_switches in
     record {
-      rules = made_map_is_map host depth tries before after j m.map m.words can made;
+      rules = made_map_is_map host order.depth order.tries before after j m.map m.words can made;
       right = right;
       hosts = hosts;
-      connected = marked-connected m.map made.unmarked made.marked (quotient_is_connected host depth j made.unmarked made.grown made.quotient);
+      connected = marked-connected m.map made.unmarked made.marked (quotient_is_connected host order.depth j made.unmarked made.grown made.quotient);
       few = omega (arith, small, few);
     }
 
 -- routes that were computed of such a map
-pub kept-routes : (w : WorldState) (l : LastMap) (found : LastRoutes) (text : List ℕ) → IsMoment w → IsKeptMap (fabric_of w) l.mapper l.made → AreRoutesTold w l found text → AreKeptRoutes (fabric_of w) found
-kept-routes w l found text now kept told = record {
+kept-routes : (w : WorldState) (l : LastMap) (found : LastRoutes) → IsMoment w → IsKeptMap (fabric_of w) l.mapper l.made → AreRoutesOf l.made (order_of l.made) found.routes → found.mapper ≡ l.mapper → found.hosts ≡ hosts_by_address w l.made → AreKeptRoutes (fabric_of w) found
+kept-routes w l found now kept are mapper hosts = record {
   made = l.made;
-  kept = subst (λ h. IsKeptMap (fabric_of w) h l.made) (sym told.mapper) kept;
-  are = told.are;
-  hosts = told.hosts ∙ ap (λ count. map_hosts_below count l.made) now.world.hosts;
+  kept = subst (λ h. IsKeptMap (fabric_of w) h l.made) (sym mapper) kept;
+  are = are;
+  hosts = hosts ∙ ap (λ count. map_hosts_below count l.made) now.world.hosts;
 }
 
--- a session with new last routes
-pub kept-with_routes : (s t : SessionState) (r : LastRoutes) → t.world ≡ s.world → t.last_map ≡ s.last_map → t.last_routes ≡ Some r → AreKeptRoutes (fabric_of s.world) r → IsKept s → IsKept t
-kept-with_routes s t r same map is right k = record {
-  complete = λ l e. subst (λ (w : WorldState). IsKeptMap (fabric_of w) l.mapper l.made) (sym same) (k.complete l (ap complete_map (sym map) ∙ e));
-  routes = λ l e. let one : r ≡ l = cc in subst (λ (w : WorldState). AreKeptRoutes (fabric_of w) l) (sym same) (subst (AreKeptRoutes (fabric_of s.world)) one right);
-}
-
--- a map that was made, and its text
-pub map-told : (host depth tries : ℕ) (before after : WorldState) (m : MadeMap) (packets : ℕ) (text : List ℕ) → IsMoment before → is_idle before.links ≡ true → has_vertex (fabric_of before) (Host host) ≡ true → depth ≤ 32 → IsMadeOver host depth tries before after m packets → AreOfFabric (fabric_of before) m.map → text ≡ output_text (fabric_of before) (OneLine (Map host m.words m.asks packets) ∷ map_pieces m.words m.map) → IsMapTold host depth tries before after m text
-map-told host depth tries before after m packets text now idle there shallow over hosts e = record {
-  packets = packets;
-  over = over;
-  printed = e;
-  right = kept-made host depth tries before after m packets now idle there shallow over hosts;
-}
-
--- the same for a text that was printed over a fabric behind it
-pub told-behind : (host depth tries : ℕ) (before after : WorldState) (f : Network) (m k : MadeMap) (packets : ℕ) (text : List ℕ) → IsMoment before → is_idle before.links ≡ true → has_vertex (fabric_of before) (Host host) ≡ true → depth ≤ 32 → f ≡ fabric_of after → fabric_of after ≡ fabric_of before → IsMadeOver host depth tries before after m packets → AreOfFabric (fabric_of before) m.map → k ≡ m → text ≡ output_text f (OneLine (Map host m.words m.asks packets) ∷ map_pieces m.words m.map) → IsMapTold host depth tries before after k text
-told-behind host depth tries before after f m k packets text now idle there shallow e net over hosts same t =
-    subst (λ x. IsMapTold host depth tries before after x text) (sym same)
-    (map-told host depth tries before after m packets text now idle there shallow over hosts
-    (t ∙ ap (λ n. output_text n (OneLine (Map host m.words m.asks packets) ∷ map_pieces m.words m.map)) (e ∙ net)))
-
--- two facts of an answer make a third
-pub if-ok-both : {A E : Type 0} (r : Result A E) (P Q R : A → Type 0) → ((x : A) → P x → Q x → R x) → IfOk r P → IfOk r Q → IfOk r R
-if-ok-both (Ok x) P Q R f p q = f x p q
-if-ok-both (Err e) P Q R f p q = tt
-
-pub if-ok : {A E : Type 0} (r : Result A E) (P Q : A → Type 0) → ((x : A) → P x → Q x) → IfOk r P → IfOk r Q
-if-ok (Ok x) P Q f p = f x p
-if-ok (Err e) P Q f p = tt
-
-pub if-err : {A E : Type 0} (r : Result A E) (P Q : E → Type 0) → ((x : E) → P x → Q x) → IfErr r P → IfErr r Q
-if-err (Ok x) P Q f p = tt
-if-err (Err e) P Q f p = f e p
+-- they are the last ones
+pub kept_last_routes : (w : WorldState) (l : LastMap) (found : Option LastRoutes) (text : List ℕ) → IsMoment w → IsKeptMap (fabric_of w) l.mapper l.made → AreRoutesTold w l found text → AreLastRoutes (fabric_of w) found
+kept_last_routes w l found text now kept told x e =
+    let one : record { mapper = l.mapper; hosts = hosts_by_address w l.made; routes = told.routes } ≡ x = some-same (sym told.last ∙ e) in
+    subst (AreKeptRoutes (fabric_of w)) one (kept-routes w l (record { mapper = l.mapper; hosts = hosts_by_address w l.made; routes = told.routes }) now kept told.are refl refl)
+  where
+    some-same : {a b : LastRoutes} → Some a ≡ Some b → a ≡ b
+    some-same p = cc

@@ -1,71 +1,85 @@
 -- That each command is obeyed, by the text that it printed.
-use Rattle.std.proofs.Common.{◌≡◌, ℕ, min, ◌∷◌, [], ℤ, List, length, Some, None, true, false, refl, sym, ◌∙◌, ap, append-nil, if◌then◌else◌}
+use Rattle.std.proofs.Common.{◌≡◌, ℕ, min, ◌∷◌, [], List, length, Option, Some, None, true, false, refl, sym, ◌∙◌, ap, if◌then◌else◌}
 use Rattle.link_defs.specs.Links.{is_idle}
-use Rattle.net_defs.specs.Route.{place}
-use Rattle.world_defs.specs.World.{WorldState, fabric_of, planned, last_count}
+use Rattle.map_defs.specs.Orientation.{order_of}
+use Rattle.map_defs.specs.Routing.{AreRoutesOf}
+use Rattle.world_defs.specs.World.{WorldState, fabric_of, last_count}
 use Rattle.world_defs.specs.Settle.{settle, unacknowledged_in}
 use Rattle.run_defs.specs.declared.command.Command.{Command}
-use Rattle.run_defs.specs.declared.command.Command.TheVariants.{Walk, Map, Routes, Plan, Settle, Finish}
-use Rattle.run_defs.specs.declared.command.PlanKind.{PlanKind}
+use Rattle.run_defs.specs.declared.command.Command.TheVariants.{Map, Routes, Settle}
 use Rattle.run_defs.specs.declared.line.Line.{Line}
-use Rattle.run_defs.specs.declared.line.Line.TheVariants.{Walk as WalkLine, Map as MapLine, MapBusy, NoMap, PlanAt, Settle as SettleLine, Finish as FinishLine}
+use Rattle.run_defs.specs.declared.line.Line.TheVariants.{Map as MapLine, MapBusy, NoMap, Settle as SettleLine}
 use Rattle.run_defs.specs.Output.{OneLine, lines}
 use Rattle.run_defs.specs.Session.{SessionState, LastMap, LastRoutes, complete_map}
-use Rattle.run_defs.specs.Outcome.{fault_of, outcome, says_only, routes_refused}
-use Rattle.run_defs.specs.Run.{Does, map_pieces, routes_lines, hosts_by_address}
-use Rattle.run_defs.specs.LineText.{line_text}
+use Rattle.run_defs.specs.Outcome.{outcome, says_only, routes_refused}
+use Rattle.run_defs.specs.Run.{Does, hosts_by_address, map_pieces, routes_lines}
+use Rattle.run_defs.specs.LineText.{line_text, output_text}
 use Rattle.map_making.specs.declared.making.MadeMap.{MadeMap}
+use Rattle.world_commands.specs.Done.{IsDone, session_of}
+use Rattle.world_commands.proofs.Done.{one, one_line}
+use Rattle.run_session.specs.declared.mapping.MapOrder.{MapOrder}
 use Rattle.run_session.specs.Obeyed.{IsObeyed}
-use Rattle.run_session.specs.Told.{IsMapTold, AreRoutesTold}
+use Rattle.run_session.specs.Told.{AreRoutesTold, IsMadeOver, map_lines, map_of}
 
--- a determined outcome of one line
-one : (s : SessionState) (c : Command) (l : Line) (next : SessionState) (text : List ℕ) → outcome s c ≡ Some (record { output = OneLine l ∷ []; after = next }) → text ≡ line_text (fabric_of s.world) l → IsObeyed s c next text
-one s c l next text o e = record {
-  output = OneLine l ∷ [];
-  does = Does.determined o;
-  printed = e ∙ sym (append-nil (line_text (fabric_of s.world) l));
+-- what was done over the world of a session
+pub done_so : (c d : Command) (w v : WorldState) (made : Option LastMap) (found : Option LastRoutes) (text : List ℕ) → IsDone d w v text → d ≡ c → IsObeyed (session_of w made found) c (session_of v made found) text
+done_so c d w v made found text done same = record {
+  output = done.output;
+  does = Does.determined (ap (outcome (session_of w made found)) (sym same) ∙ done.determined made found);
+  printed = done.printed;
 }
 
-pub walked : (s : SessionState) (host : ℕ) (walk : List ℤ) (text : List ℕ) → text ≡ line_text (fabric_of s.world) (WalkLine (place (fabric_of s.world) host walk)) → IsObeyed s (Walk host walk) s text
-walked s host walk text e = one s (Walk host walk) (WalkLine (place (fabric_of s.world) host walk)) s text refl e
+-- a settle
+pub settled_so : (w v : WorldState) (text : List ℕ) → v ≡ (settle w).world
+    → text ≡ line_text (fabric_of w) (SettleLine (settle w).rounds (min (settle w).resets last_count) (unacknowledged_in (settle w).world)) → IsDone Settle w v text
+settled_so w v text same e =
+    let l : Line = SettleLine (settle w).rounds (min (settle w).resets last_count) (unacknowledged_in (settle w).world) in
+    one Settle l w v text (λ made found. ap (λ (u : WorldState). Some (record { output = OneLine l ∷ []; after = session_of u made found })) (sym same)) e
 
-pub finished : (s : SessionState) (text : List ℕ) → text ≡ line_text (fabric_of s.world) (FinishLine s.world.injected s.world.dropped) → IsObeyed s Finish s text
-finished s text e = one s Finish (FinishLine s.world.injected s.world.dropped) s text refl e
+-- a command whose outcome is one line alone
+only : (s : SessionState) (c : Command) (l : Line) (text : List ℕ) → outcome s c ≡ Some (says_only s (l ∷ [])) → text ≡ line_text (fabric_of s.world) l → IsObeyed s c s text
+only s c l text is e = record { output = lines (l ∷ []); does = Does.determined is; printed = one_line (fabric_of s.world) l text e }
 
-pub planned_so : (s : SessionState) (ahead : ℕ) (kind : PlanKind) (w : WorldState) (text : List ℕ) → w ≡ (planned s.world ahead (fault_of kind)).1 → text ≡ line_text (fabric_of s.world) (PlanAt (planned s.world ahead (fault_of kind)).0) → IsObeyed s (Plan ahead kind) (record s { world = w }) text
-planned_so s ahead kind w text same e =
-    one s (Plan ahead kind) (PlanAt (planned s.world ahead (fault_of kind)).0) (record s { world = w }) text
-    (ap (λ v. Some (record { output = OneLine (PlanAt (planned s.world ahead (fault_of kind)).0) ∷ []; after = record s { world = v } })) (sym same)) e
+-- a map while a channel holds a packet
+pub busy_so : (s : SessionState) (host depth tries : ℕ) (text : List ℕ) → is_idle s.world.links ≡ false → text ≡ line_text (fabric_of s.world) (MapBusy host) → IsObeyed s (Map host depth tries) s text
+busy_so s host depth tries text busy e =
+    only s (Map host depth tries) (MapBusy host) text (ap (λ b. if b then None else Some (says_only s (MapBusy host ∷ []))) busy) e
 
-pub settled_so : (s : SessionState) (w : WorldState) (text : List ℕ) → w ≡ (settle s.world).world
-    → text ≡ line_text (fabric_of s.world) (SettleLine (settle s.world).rounds (min (settle s.world).resets last_count) (unacknowledged_in (settle s.world).world)) → IsObeyed s Settle (record s { world = w }) text
-settled_so s w text same e =
-    let l : Line = SettleLine (settle s.world).rounds (min (settle s.world).resets last_count) (unacknowledged_in (settle s.world).world) in
-    one s Settle l (record s { world = w }) text (ap (λ v. Some (record { output = OneLine l ∷ []; after = record s { world = v } })) (sym same)) e
-
-pub busy : (s : SessionState) (host depth tries : ℕ) (text : List ℕ) → is_idle s.world.links ≡ false → text ≡ line_text (fabric_of s.world) (MapBusy host) → IsObeyed s (Map host depth tries) s text
-busy s host depth tries text e t =
-    one s (Map host depth tries) (MapBusy host) s text (ap (λ b. if b then None else Some (says_only s (MapBusy host ∷ []))) e) t
-
-pub mapped : (s : SessionState) (host depth tries : ℕ) (after : WorldState) (m : MadeMap) (next : SessionState) (text : List ℕ) → is_idle s.world.links ≡ true → IsMapTold host depth tries s.world after m text → next ≡ record s { world = after; last_map = Some (record { mapper = host; words = m.words; made = m.map }) } → IsObeyed s (Map host depth tries) next text
-mapped s host depth tries after m next text idle told same =
-    let k = told.over in
+-- a map that was made is the last one
+pub mapped_so : (w v : WorldState) (order : MapOrder) (m : MadeMap) (packets : ℕ) (last now : Option LastMap) (text : List ℕ) → is_idle w.links ≡ true → IsMadeOver order w v m packets
+    → now ≡ Some (record { mapper = order.host; words = m.words; made = m.map }) → text ≡ output_text (fabric_of w) (map_lines order.host m packets)
+    → (found : Option LastRoutes) → IsObeyed (session_of w last found) (map_of order) (session_of v now found) text
+mapped_so w v order m packets last now text idle over is e = λ found.
+    let s : SessionState = session_of w last found in
     record {
-      output = OneLine (MapLine host m.words m.asks told.packets) ∷ map_pieces m.words m.map;
-      does = Does.maps after k.journal m.map m.words (ap (λ b. if b then None else Some (says_only s (MapBusy host ∷ []))) idle) k.mapped
-          (ap (λ n. OneLine (MapLine host m.words n told.packets) ∷ map_pieces m.words m.map) k.asks ∙ ap (λ n. OneLine (MapLine host m.words (length k.journal) n) ∷ map_pieces m.words m.map) k.injected) same;
-      printed = told.printed;
+      output = map_lines order.host m packets;
+      does = Does.maps v over.journal m.map m.words (ap (λ b. if b then None else Some (says_only s (MapBusy order.host ∷ []))) idle) over.mapped
+          (ap (λ n. OneLine (MapLine order.host m.words n packets) ∷ map_pieces m.words m.map) over.asks
+          ∙ ap (λ n. OneLine (MapLine order.host m.words (length over.journal) n) ∷ map_pieces m.words m.map) over.injected)
+          (ap (λ (o : Option LastMap). session_of v o found) is);
+      printed = e;
     }
 
-pub routes_refused_so : (s : SessionState) (text : List ℕ) → complete_map s.last_map ≡ None → text ≡ line_text (fabric_of s.world) NoMap → IsObeyed s Routes s text
-routes_refused_so s text none e = one s Routes NoMap s text (ap (routes_refused s) none) e
+-- routes where the last map isn't complete
+pub no_map_so : (w : WorldState) (made : Option LastMap) (found : Option LastRoutes) (text : List ℕ) → complete_map made ≡ None → text ≡ line_text (fabric_of w) NoMap
+    → IsObeyed (session_of w made found) Routes (session_of w made found) text
+no_map_so w made found text none e = only (session_of w made found) Routes NoMap text (ap (routes_refused (session_of w made found)) none) e
 
-pub routed : (s : SessionState) (l : LastMap) (found : LastRoutes) (next : SessionState) (text : List ℕ) → Some l ≡ complete_map s.last_map → AreRoutesTold s.world l found text → next ≡ record s { last_routes = Some found } → IsObeyed s Routes next text
-routed s l found next text is told same =
-    let whole : found ≡ record { mapper = l.mapper; hosts = hosts_by_address s.world l.made; routes = found.routes } =
-    ap (λ h. record { mapper = h; hosts = found.hosts; routes = found.routes }) told.mapper ∙ ap (λ hs. record { mapper = l.mapper; hosts = hs; routes = found.routes }) told.hosts in
-    record {
-      output = lines (routes_lines l.made found.routes);
-      does = Does.routes l found.routes (sym is) told.are refl (same ∙ ap (λ (x : LastRoutes). record s { last_routes = Some x }) whole);
-      printed = told.printed;
-    }
+-- routes that were computed, with their text
+pub routes_told : (w : WorldState) (l : LastMap) (found : LastRoutes) (text : List ℕ) → found.mapper ≡ l.mapper → found.hosts ≡ hosts_by_address w l.made → AreRoutesOf l.made (order_of l.made) found.routes
+    → text ≡ output_text (fabric_of w) (lines (routes_lines l.made found.routes)) → AreRoutesTold w l (Some found) text
+routes_told w l found text mapper hosts are e = record {
+  routes = found.routes;
+  are = are;
+  last = ap (λ h. Some (record { mapper = h; hosts = found.hosts; routes = found.routes })) mapper ∙ ap (λ (hs : List ℕ). Some (record { mapper = l.mapper; hosts = hs; routes = found.routes })) hosts;
+  printed = e;
+}
+
+-- routes that were computed are the last ones
+pub routed_so : (w : WorldState) (made : Option LastMap) (l : LastMap) (found now : Option LastRoutes) (text : List ℕ) → complete_map made ≡ Some l → AreRoutesTold w l now text
+    → IsObeyed (session_of w made found) Routes (session_of w made now) text
+routed_so w made l found now text is told = record {
+  output = lines (routes_lines l.made told.routes);
+  does = Does.routes l told.routes is told.are refl (ap (λ (o : Option LastRoutes). session_of w made o) told.last);
+  printed = told.printed;
+}

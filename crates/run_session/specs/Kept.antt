@@ -1,5 +1,5 @@
 -- What a session keeps of maps and routes: a last map that says complete is one to compute routes of, and the last routes are those of such a map.
-use Rattle.std.specs.Prelude.{◌≡◌, ℕ, ◌≤◌, length, Some}
+use Rattle.std.specs.Prelude.{◌≡◌, ℕ, ◌≤◌, length, Option, Some}
 use Rattle.net_defs.specs.Network.{Network}
 use Rattle.map_defs.specs.NetMap.{NetMap, IsMap, IsConnected, switches_of}
 use Rattle.map_defs.specs.Orientation.{order_of}
@@ -25,7 +25,15 @@ pub record AreKeptRoutes (n : Network) (l : LastRoutes) : Type 0 where
   pub are : AreRoutesOf made (order_of made) l.routes
   pub hosts : l.hosts ≡ map_hosts_below (length n.hosts) made
 
+-- a last map, where it says complete, is such a map
+abbrev pub IsLastMap : Network → Option LastMap → Type 0
+IsLastMap n made = (l : LastMap) → complete_map made ≡ Some l → IsKeptMap n l.mapper l.made
+
+-- last routes, where there are any, are such routes
+abbrev pub AreLastRoutes : Network → Option LastRoutes → Type 0
+AreLastRoutes n found = (l : LastRoutes) → found ≡ Some l → AreKeptRoutes n l
+
 -- A session's last map, where it says complete, and its last routes are such.
 pub record IsKept (s : SessionState) : Type 0 where
-  pub complete : (l : LastMap) → complete_map s.last_map ≡ Some l → IsKeptMap (fabric_of s.world) l.mapper l.made
-  pub routes : (l : LastRoutes) → s.last_routes ≡ Some l → AreKeptRoutes (fabric_of s.world) l
+  pub complete : IsLastMap (fabric_of s.world) s.last_map
+  pub routes : AreLastRoutes (fabric_of s.world) s.last_routes

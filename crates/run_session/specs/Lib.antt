@@ -1,4 +1,3 @@
 pub mod Kept
-pub mod Named
 pub mod Obeyed
 pub mod Told

@@ -12,9 +12,3 @@ pub record IsObeyed (s : SessionState) (c : Command) (next : SessionState) (text
   pub output : List Piece
   pub does : Does s c output next
   pub printed : text ≡ output_text (fabric_of s.world) output
-
--- A session that differs in its world alone, which is one of the same fabric.
-pub record IsOverSame (s next : SessionState) : Type 0 where
-  pub fabric : fabric_of next.world ≡ fabric_of s.world
-  pub last_map : next.last_map ≡ s.last_map
-  pub last_routes : next.last_routes ≡ s.last_routes

@@ -4,38 +4,32 @@
 //! `run_defs` says what each command does; `specs/Obeyed.antt` here that a text is that of what was done.
 //!
 //! ```text
-//!   Walk                   a packet, alone in the session's own links --> its line
-//!   Plan, Finish           their one line
 //!   Map, links busy        map a refused busy
 //!   Map, links idle        world --> prober --> map --> its line, then the lines of the map; the map is kept
 //!   Routes, no such map    routes refused nomap
 //!   Routes                 the last map, which says complete --> routes --> their lines; the routes are kept
 //!   Install, refused       install refused noroutes, busy or installed
 //!   Install                the last routes --> adopted --> their parts, host by host --> its line, then each host's table
-//!   Begin, Close, Poll     one event of a client --> what it was answered, as a line; so do Provide and Send
-//!   Tokens                 the port's tokens, one by one --> where each is; or tokens refused notopen
-//!   Step                   one event --> what it did; no event where the port that it names has no cable
 //!   Settle                 a clear, and rounds of sending again --> its line
+//!   all others             at most one event of the world --> its line (`world_commands`)
 //! ```
 //!
 //! A session's type keeps what the routes rest on (`specs/Kept.antt`): a last map that says complete is its mapper's part of the fabric.
-//! It keeps too that its own links are empty, of which contracts see nothing.
+//! It keeps too that its own links are empty, of which contracts see nothing. It is taken apart once a command, and put together once.
 //!
 //! | module | has |
 //! |---|---|
-//! | `session` | the session, and every command |
+//! | `session` | the session |
 //! | `last` | the last map and the last routes |
-//! | `telling` | the texts of commands of one line |
+//! | `commands` | every command, over the parts of a session |
 //! | `mapping` | a map made over a world, with its text |
 //! | `routing` | the routes of a map, with their text |
 //! | `installing` | an installation of the last routes, with its text |
 //! | `copying` | another set of the same routes |
-//! | `calling` | a client's call, and where tokens are, as texts |
-//! | `stepping` | a single event, and its text |
 //! | `settling` | a settle, and its text |
 #![tactic(auto)]
 
-mod calling;
+mod commands;
 mod copying;
 mod installing;
 mod last;
@@ -43,10 +37,6 @@ mod mapping;
 mod routing;
 mod session;
 mod settling;
-mod stepping;
-mod telling;
-#[cfg(test)]
-mod tests;
 
 pub use fab_world::{Fabric, World};
 pub use run_defs::Command;

@@ -1,55 +1,88 @@
 //! A map made over a world, and its text.
 
-ghost use Rattle.std.specs.Prelude.{◌≡◌, ◌≤◌, ◌<◌, ◌^◌, ◌∷◌, [], true, IfOk};
+ghost use Rattle.std.specs.Prelude.{◌≡◌, ◌≤◌, ◌<◌, ◌^◌, ℕ, true, false, Option, Some, IfOk, IfSome, IfNone, OnOk, OnErr};
 ghost use Rattle.link_defs.specs.Links.{is_idle};
 ghost use Rattle.world_defs.specs.World.{fabric_of};
 ghost use Rattle.map_text.specs.Printing.{AreOfFabric};
-ghost use Rattle.run_defs.specs.LineText.{output_text};
-ghost use Rattle.run_defs.specs.Output.{OneLine};
-ghost use Rattle.run_defs.specs.Run.{map_pieces};
-ghost use Rattle.run_defs.specs.declared.line.Line.TheVariants.{Map};
+ghost use Rattle.run_defs.specs.LineText.{line_text, output_text};
+ghost use Rattle.run_defs.specs.Session.{LastRoutes};
+ghost use Rattle.run_defs.specs.declared.command.Command.TheVariants.{Map};
+ghost use Rattle.run_defs.specs.declared.line.Line.TheVariants.{MapBusy};
+ghost use Rattle.run_defs.specs.declared.line.MapWords.TheVariants.{Complete};
 ghost use Rattle.fab_report.specs.There.{IsHost};
-ghost use Rattle.fab_script.specs.Ranges.{IsHost as HasHost};
-ghost use Rattle.fab_world.specs.Events.{IsHostOf};
-ghost use Rattle.run_session.specs.Told.{IsMadeOver, IsMapTold};
+ghost use Rattle.fab_script.specs.Ranges.{IsCommandOf};
+ghost use Rattle.world_commands.specs.Done.{session_of};
+ghost use Rattle.run_session.specs.Kept.{IsKeptMap, IsLastMap};
+ghost use Rattle.run_session.specs.Obeyed.{IsObeyed};
+ghost use Rattle.run_session.specs.Told.{IsMadeOver, map_lines, map_of};
 
+use crate::last::LastMade;
 use fab_drive::WorldProber;
 use fab_report::print_line;
 use fab_world::{Fabric, World};
 use map_making::{MadeMap, make_map};
 use map_text::print_map;
-use run_defs::{Line, MapWords};
+use run_defs::{Command, Line, MapWords};
 use std::alloc::{AllocError, Global};
 
-/// A map, and the text that tells of it.
-#[derive(Drop)]
-pub(crate) struct ToldMap {
-    pub(crate) made: MadeMap,
-    pub(crate) text: Vec<u8>,
+/// A map to be made: from which host, to how many cables, and how often a probe of each kind is tried.
+#[derive(Clone, Copy)]
+pub(crate) struct MapOrder {
+    pub(crate) host: u16,
+    pub(crate) depth: u8,
+    pub(crate) tries: u8,
 }
 
-/// Maps from a host of an idle world: the world then, and the map with its text, unless memory was wanting.
-pub(crate) fn told_map(
+/// The map that a command makes: none for another command, and none while a channel holds a packet.
+pub(crate) fn map_ordered(w: &World, c: &Command) -> Option<MapOrder>
+    ensures made { IfSome result (λ m. (c.now ≡ map_of m) × (is_idle w.now.links ≡ true)) }
+    ensures none { IfNone result ((host depth tries : ℕ) → c.now ≡ Map host depth tries → is_idle w.now.links ≡ false) }
+{
+    match c {
+        Command::Map { host, depth, tries } => {
+            if !w.links_idle() {
+                return None;
+            }
+            Some(MapOrder {
+                host: *host,
+                depth: *depth,
+                tries: *tries,
+            })
+        }
+        _ => None,
+    }
+}
+
+/// The refusal of a map while a channel holds a packet.
+pub(crate) fn busy_text(alloc: Global, w: &World, host: u16) -> Result<Vec<u8>, AllocError>
+    requires { IsHost (fabric_of w.now) host }
+    ensures { IfOk result (λ text. text.items ≡ line_text (fabric_of w.now) (MapBusy host)) }
+{
+    print_line(alloc, &Line::MapBusy(host), w.fabric())
+}
+
+/// Maps from a host of an idle world: the world then, and the text, unless memory was wanting. The map is the last one then.
+pub(crate) fn map(
     alloc: Global,
     world: World,
-    host: u16,
-    depth: u8,
-    tries: u8,
-) -> (World, Result<ToldMap, AllocError>)
+    last_map: &mut Option<LastMade>,
+    order: MapOrder,
+) -> (World, Result<Vec<u8>, AllocError>)
     requires idle { is_idle world.links ≡ true }
-    requires there { HasHost (fabric_of world) host }
-    requires shallow { depth ≤ 32 }
-    requires some { 1 ≤ tries }
-    requires few { tries ≤ 8 }
-    ensures told { IfOk result.1 (λ told. IsMapTold host depth tries world result.0 told.made told.text.items) }
+    requires order { IsCommandOf (fabric_of world) (map_of order) }
+    requires kept { IsLastMap (fabric_of world) last_map.old }
+    ensures obeyed { IfOk result.1 (λ text. (found : Option LastRoutes) → IsObeyed (session_of world last_map.old found) (map_of order)
+        (session_of result.0 last_map.new found) text.items) }
+    ensures kept { IsLastMap (fabric_of world) last_map.new }
     ensures fabric { fabric_of result.0 ≡ fabric_of world }
+    ensures err { OnErr result.1 (last_map.new ≡ last_map.old) }
 {
     world.moment();
-    let (world, mapping) = map_world(alloc, world, host, depth, tries);
+    let (world, mapping) = map_world(alloc, world, order);
     match mapping {
         Ok(mapping) => {
-            let told = with_text(alloc, world.fabric(), host, mapping);
-            (world, told)
+            let text = keep_map(alloc, world.fabric(), order.host, mapping, last_map);
+            (world, text)
         }
         Err(wanting) => (world, Err(wanting)),
     }
@@ -63,25 +96,17 @@ struct Mapping {
 }
 
 // Maps from a host of an idle world: the world then, and the map, unless memory was wanting.
-fn map_world(
-    alloc: Global,
-    world: World,
-    host: u16,
-    depth: u8,
-    tries: u8,
-) -> (World, Result<Mapping, AllocError>)
+fn map_world(alloc: Global, world: World, order: MapOrder) -> (World, Result<Mapping, AllocError>)
     requires idle { is_idle world.links ≡ true }
-    requires there { IsHostOf world host }
-    requires shallow { depth ≤ 32 }
-    requires some { 1 ≤ tries }
-    requires few { tries ≤ 8 }
-    ensures mapped { IfOk result.1 (λ m. IsMadeOver host depth tries world result.0 m.made m.packets) }
+    requires order { IsCommandOf (fabric_of world) (map_of order) }
+    ensures mapped { IfOk result.1 (λ m. IsMadeOver order world result.0 m.made m.packets) }
     ensures of_fabric { IfOk result.1 (λ m. AreOfFabric (fabric_of world) m.made.map) }
     ensures fabric { fabric_of result.0 ≡ fabric_of world }
 {
+    world.moment();
     let before = world.injected();
-    let mut p = WorldProber::new(alloc, world, host, tries);
-    let made = make_map(alloc, &mut p, depth);
+    let mut p = WorldProber::new(alloc, world, order.host, order.tries);
+    let made = make_map(alloc, &mut p, order.depth);
     let world = p.into_world();
     match made {
         Ok(made) => {
@@ -98,25 +123,38 @@ const fn count_fits(_asks: u64)
     ensures { _asks < 2 ^ 64 }
 {}
 
-// A map with its text.
-fn with_text(alloc: Global, f: &Fabric, host: u16, mapping: Mapping) -> Result<ToldMap, AllocError>
+// The text of a map, which is the last one then.
+#[tactic(auto, using(crate::proofs::Keeping::kept_last))]
+fn keep_map(
+    alloc: Global,
+    f: &Fabric,
+    host: u16,
+    mapping: Mapping,
+    last_map: &mut Option<LastMade>,
+) -> Result<Vec<u8>, AllocError>
     requires there { IsHost f.now host }
     requires hosts { AreOfFabric f.now mapping.made.map }
-    ensures made { IfOk result (λ told. told.made ≡ mapping.made) }
-    ensures text { IfOk result (λ told. told.text.items ≡ output_text f.now (OneLine (Map host mapping.made.words mapping.made.asks mapping.packets) ∷ map_pieces mapping.made.words mapping.made.map)) }
+    requires right { mapping.made.words ≡ Complete → IsKeptMap f.now host mapping.made.map }
+    requires kept { IsLastMap f.now last_map.old }
+    ensures text { IfOk result (λ text. text.items ≡ output_text f.now (map_lines host mapping.made mapping.packets)) }
+    ensures last { OnOk result (last_map.new ≡ Some (record { mapper = host; words = mapping.made.words; made = mapping.made.map })) }
+    ensures kept { IsLastMap f.now last_map.new }
+    ensures err { OnErr result (last_map.new ≡ last_map.old) }
 {
     let text = mapping_text(alloc, f, host, &mapping)?;
-    Ok(ToldMap {
-        made: mapping.made,
-        text,
-    })
+    *last_map = Some(LastMade {
+        mapper: host,
+        words: mapping.made.words,
+        made: mapping.made.map,
+    });
+    Ok(text)
 }
 
 // The line of a map, and the lines of the map itself, unless the tree had too many nodes.
 fn mapping_text(alloc: Global, f: &Fabric, host: u16, m: &Mapping) -> Result<Vec<u8>, AllocError>
     requires there { IsHost f.now host }
     requires hosts { AreOfFabric f.now m.now.made.map }
-    ensures { IfOk result (λ text. text.items ≡ output_text f.now (OneLine (Map host m.now.made.words m.now.made.asks m.now.packets) ∷ map_pieces m.now.made.words m.now.made.map)) }
+    ensures { IfOk result (λ text. text.items ≡ output_text f.now (map_lines host m.now.made m.now.packets)) }
 {
     let line = Line::Map {
         host,

@@ -1,40 +1,62 @@
 //! The routes of the last map, and their text.
 
-ghost use Rattle.std.specs.Prelude.{IfOk};
+ghost use Rattle.std.specs.Prelude.{◌≡◌, IfOk, OnErr};
 ghost use Rattle.world_defs.specs.World.{fabric_of};
-ghost use Rattle.run_session.specs.Kept.{IsKeptMap};
+ghost use Rattle.run_defs.specs.declared.command.Command.TheVariants.{Routes};
+ghost use Rattle.world_commands.specs.Done.{session_of};
+ghost use Rattle.run_session.specs.Kept.{IsKeptMap, IsLastMap, AreLastRoutes};
+ghost use Rattle.run_session.specs.Obeyed.{IsObeyed};
 ghost use Rattle.run_session.specs.Told.{AreRoutesTold};
 
-use crate::last::{LastFound, LastMade};
+use crate::last::{LastFound, LastMade, complete};
+use fab_report::print_line;
 use fab_world::World;
 use route_making::{hosts_of_map, make_routes};
+use run_defs::Line;
 use std::alloc::{AllocError, Global};
 
-/// Routes, and the text that tells of them.
-#[derive(Drop)]
-pub(crate) struct ToldRoutes {
-    pub(crate) found: LastFound,
-    pub(crate) text: Vec<u8>,
+/// Computes the routes of the last map, which are the last ones then; refused unless that map says complete.
+#[tactic(auto, using(crate::proofs::Obeying::no_map_so, crate::proofs::Obeying::routed_so))]
+pub(crate) fn routes(
+    alloc: Global,
+    w: &World,
+    last_map: &Option<LastMade>,
+    last_routes: &mut Option<LastFound>,
+) -> Result<Vec<u8>, AllocError>
+    requires map { IsLastMap (fabric_of w.now) last_map.now }
+    requires kept { AreLastRoutes (fabric_of w.now) last_routes.old }
+    ensures obeyed { IfOk result (λ text. IsObeyed (session_of w.now last_map.now last_routes.old) Routes
+        (session_of w.now last_map.now last_routes.new) text.items) }
+    ensures kept { AreLastRoutes (fabric_of w.now) last_routes.new }
+    ensures err { OnErr result (last_routes.new ≡ last_routes.old) }
+{
+    match complete(last_map) {
+        Some(last) => keep_routes(alloc, w, last, last_routes),
+        None => print_line(alloc, &Line::NoMap, w.fabric()),
+    }
 }
 
-/// The routes of a complete map, with their text.
-pub(crate) fn told_routes(
+// The text of the routes of a complete map, which are the last ones then.
+#[tactic(auto, using(crate::proofs::Obeying::routes_told, crate::proofs::Keeping::kept_last_routes))]
+fn keep_routes(
     alloc: Global,
     w: &World,
     last: &LastMade,
-) -> Result<ToldRoutes, AllocError>
-    requires { IsKeptMap (fabric_of w.now) last.now.mapper last.now.made }
-    ensures { IfOk result (λ told. AreRoutesTold w.now last.now told.found told.text.items) }
+    last_routes: &mut Option<LastFound>,
+) -> Result<Vec<u8>, AllocError>
+    requires right { IsKeptMap (fabric_of w.now) last.now.mapper last.now.made }
+    requires kept { AreLastRoutes (fabric_of w.now) last_routes.old }
+    ensures told { IfOk result (λ text. AreRoutesTold w.now last.now last_routes.new text.items) }
+    ensures kept { AreLastRoutes (fabric_of w.now) last_routes.new }
+    ensures err { OnErr result (last_routes.new ≡ last_routes.old) }
 {
+    w.moment();
     let hosts = hosts_of_map(alloc, &last.made, w.hosts())?;
     let made = make_routes(alloc, &last.made, w.fabric())?;
-    let found = LastFound {
+    *last_routes = Some(LastFound {
         mapper: last.mapper,
         hosts,
         routes: made.set,
-    };
-    Ok(ToldRoutes {
-        found,
-        text: made.text,
-    })
+    });
+    Ok(made.text)
 }

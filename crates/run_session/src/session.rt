@@ -1,23 +1,17 @@
-//! The session, and every command.
+//! The session.
 
-ghost use Rattle.std.specs.Prelude.{◌≡◌, ◌≤◌, length, All, IfOk, IfErr, Ok};
-ghost use Rattle.net_defs.specs.Turn.{IsTurn};
+ghost use Rattle.std.specs.Prelude.{◌≡◌, IfOk, IfErr};
 ghost use Rattle.world_defs.specs.World.{fabric_of};
 ghost use Rattle.run_defs.specs.Session.{new_session};
-ghost use Rattle.run_defs.specs.declared.command.Command.TheVariants.{Walk, Plan, Finish};
 ghost use Rattle.fab_script.specs.Ranges.{IsCommandOf};
 ghost use Rattle.run_session.specs.Kept.{IsKept};
-ghost use Rattle.run_session.specs.Obeyed.{IsObeyed, IsOverSame};
+ghost use Rattle.run_session.specs.Obeyed.{IsObeyed};
 
-mod calls;
-mod maps;
-mod steps;
-
+use crate::commands::obey;
 use crate::last::{LastFound, LastMade};
-use crate::telling::{finish_text, plan_text, walk_text};
 use fab_world::{Fabric, World};
 use link_model::Links;
-use run_defs::{Command, PlanKind};
+use run_defs::Command;
 use std::alloc::{AllocError, Global};
 use std::marker::Model;
 
@@ -26,10 +20,10 @@ use std::marker::Model;
 /// A walk's packet takes links of its own, which are empty between commands, so that it meets no other packet. It must be spent, by
 /// [`Session::end`].
 pub struct Session {
-    pub(crate) world: World,
-    pub(crate) links: Links,
-    pub(crate) last_map: Option<LastMade>,
-    pub(crate) last_routes: Option<LastFound>,
+    world: World,
+    links: Links,
+    last_map: Option<LastMade>,
+    last_routes: Option<LastFound>,
 }
 
 impl Model for Session {
@@ -76,39 +70,22 @@ impl Session {
         ensures kept_map { IfErr result (λ r. r.0.last_map ≡ self.last_map) }
         ensures kept_routes { IfErr result (λ r. r.0.last_routes ≡ self.last_routes) }
     {
-        match c {
-            Command::Walk { host, walk } => self.walk(alloc, *host, walk.turns()),
-            Command::Map { host, depth, tries } => self.map(alloc, *host, *depth, *tries),
-            Command::Routes => self.routes(alloc),
-            Command::Install { tries } => self.install(alloc, *tries),
-            Command::Begin {
-                host,
-                port,
-                sends,
-                recvs,
-            } => self.open(alloc, *host, *port, *sends, *recvs),
-            Command::Close { host, port } => self.close(alloc, *host, *port),
-            Command::Poll { host, port } => self.poll(alloc, *host, *port),
-            Command::Tokens { host, port } => self.tokens(alloc, *host, *port),
-            Command::Provide {
-                host,
-                port,
-                size,
-                prio,
-            } => self.provide(alloc, *host, *port, *size, *prio),
-            Command::Send {
-                host,
-                port,
-                dest,
-                dport,
-                prio,
-                len,
-                seed,
-            } => self.send(alloc, *host, *port, *dest, *dport, *prio, *len, *seed),
-            Command::Plan { ahead, kind } => self.plan(alloc, *ahead, *kind),
-            Command::Step(line) => self.step(alloc, *line),
-            Command::Finish => self.finish(alloc),
-            Command::Settle => self.settle(alloc),
+        let Session {
+            world,
+            mut links,
+            mut last_map,
+            mut last_routes,
+        } = self;
+        let (world, text) = obey(alloc, world, &mut links, &mut last_map, &mut last_routes, c);
+        let session = Session {
+            world,
+            links,
+            last_map,
+            last_routes,
+        };
+        match text {
+            Ok(text) => Ok((session, text)),
+            Err(wanting) => Err((session, wanting)),
         }
     }
 
@@ -135,89 +112,5 @@ impl Session {
             last_routes: _,
         } = self;
         world.end();
-    }
-
-    // `walk`
-    #[tactic(auto, using(crate::proofs::Obeying::walked))]
-    fn walk(
-        self,
-        alloc: Global,
-        host: u16,
-        turns: &[i8],
-    ) -> Result<(Session, Vec<u8>), (Session, AllocError)>
-        requires short { length turns.now ≤ 64 }
-        requires turns { All IsTurn turns.now }
-        ensures ok { IfOk result (λ r. IsObeyed self (Walk host turns.now) r.0 r.1.items) }
-        ensures fabric { IfOk result (λ r. r.0 ≡ self) }
-        ensures err { IfErr result (λ r. r.0 ≡ self) }
-    {
-        let Session {
-            world,
-            mut links,
-            last_map,
-            last_routes,
-        } = self;
-        let text = walk_text(alloc, world.fabric(), &mut links, host, turns);
-        let session = Session {
-            world,
-            links,
-            last_map,
-            last_routes,
-        };
-        session.with_text(text)
-    }
-
-    // `end`
-    #[tactic(auto, using(crate::proofs::Obeying::finished))]
-    fn finish(self, alloc: Global) -> Result<(Session, Vec<u8>), (Session, AllocError)>
-        ensures ok { IfOk result (λ r. IsObeyed self Finish r.0 r.1.items) }
-        ensures fabric { IfOk result (λ r. r.0 ≡ self) }
-        ensures err { IfErr result (λ r. r.0 ≡ self) }
-    {
-        let text = finish_text(alloc, &self.world);
-        self.with_text(text)
-    }
-
-    // `plan`
-    fn plan(
-        self,
-        alloc: Global,
-        ahead: u64,
-        kind: PlanKind,
-    ) -> Result<(Session, Vec<u8>), (Session, AllocError)>
-        requires { 1 ≤ ahead }
-        ensures ok { IfOk result (λ r. IsObeyed self (Plan ahead kind) r.0 r.1.items) }
-        ensures fabric { IfOk result (λ r. fabric_of r.0.world ≡ fabric_of self.world) }
-        ensures err { IfErr result (λ r. IsOverSame self r.0) }
-    {
-        let Session {
-            mut world,
-            links,
-            last_map,
-            last_routes,
-        } = self;
-        let text = plan_text(alloc, &mut world, ahead, kind);
-        let session = Session {
-            world,
-            links,
-            last_map,
-            last_routes,
-        };
-        session.with_text(text)
-    }
-
-    // The session with a text, unless memory was wanting for that.
-    pub(crate) fn with_text(
-        self,
-        text: Result<Vec<u8>, AllocError>,
-    ) -> Result<(Session, Vec<u8>), (Session, AllocError)>
-        ensures text { IfOk result (λ r. text ≡ Ok r.1) }
-        ensures ok { IfOk result (λ r. r.0 ≡ self) }
-        ensures err { IfErr result (λ r. r.0 ≡ self) }
-    {
-        match text {
-            Ok(text) => Ok((self, text)),
-            Err(wanting) => Err((self, wanting)),
-        }
     }
 }

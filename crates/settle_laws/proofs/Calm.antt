@@ -10,7 +10,7 @@ use Rattle.gm_defs.specs.Body.{part_in}
 use Rattle.gm_defs.specs.Connection.{SenderState, is_taken, acknowledged}
 use Rattle.gm_defs.specs.Token.{PortState, Provided, Sending, fits}
 use Rattle.gm_defs.specs.Port.{without_first, send_of, ended_by, finished, taken_by, delivered}
-use Rattle.gm_defs.proofs.Fronts.{both}
+use Rattle.gm_defs.proofs.Choices.{both}
 use Rattle.world_defs.specs.Peer.{PeerState, Ticket, new_peer, peer_acknowledged, tickets_finished, peer_after}
 use Rattle.world_defs.specs.Node.{NodeState, peer_at, with_peer, port_at, with_port, given_up}
 use Rattle.world_defs.specs.Hearing.{port_takes, message_of, delivered_after, frame_heard, frame_took, all_finished, hear}

@@ -11,7 +11,7 @@ use Rattle.world_defs.specs.World.{WorldState, fabric_of, host_count, node_at}
 use Rattle.world_defs.specs.Traffic.{sent_between, taken_between}
 use Rattle.world_defs.specs.Settled.{sender_between}
 use Rattle.world_laws.specs.Shape.{IsWorld}
-use Rattle.table_laws.specs.Acts.{IsReached}
+use Rattle.act_defs.specs.Acts.{IsReached}
 use Rattle.order_laws.proofs.Worlds.{reached-ordered}
 use Rattle.window_laws.specs.Windows.{IsWindow}
 use Rattle.window_laws.proofs.Windows.{windows-hold}

@@ -3,7 +3,7 @@ use Rattle.std.proofs.Common.{inl, inr, subst}
 use Rattle.net_defs.specs.Network.{Network}
 use Rattle.world_defs.specs.Traffic.{IsLawfulTraffic}
 use Rattle.world_defs.specs.World.{WorldState}
-use Rattle.table_laws.specs.Acts.{IsReached}
+use Rattle.act_defs.specs.Acts.{IsReached}
 use Rattle.lawful_laws.specs.Probes.{IsProbe}
 use Rattle.lawful_laws.proofs.ProbePackets.{gm-no_probe}
 use Rattle.lawful_laws.proofs.Lawful.{unflipped-lawful}

@@ -28,7 +28,7 @@ use Rattle.settle_laws.proofs.Views.{InjectOf, unstruck-links}
 use Rattle.settle_laws.proofs.Leading.{LeadsTo, place-leads}
 use Rattle.settle_laws.proofs.Ways.{OnWay, keep-there, new-there, still-way}
 use Rattle.settle_laws.proofs.Staged.{IsOwed, IsDueTo, IsToPeer, to_send-peer, IsBare}
-use Rattle.settle_laws.proofs.ActiveTables.{sent_out-nodes}
+use Rattle.act_defs.proofs.Strikes.{injection-nodes}
 use Rattle.settle_laws.proofs.Routes.{route-leads}
 use Rattle.settle_laws.proofs.Frames.{head_for, frame-there}
 use Rattle.settle_laws.proofs.Still.{Still}
@@ -216,4 +216,4 @@ inject-lively n a b k m w h r f bare (InjectOf.sends c out chan e none x s) t l 
     let v : WorldState = planned_strikes (sent_out w h c out) c in
     let few : v.struck ≤ w.struck = subst (λ z. z.struck ≤ w.struck) s t in
     subst (Lively a b k m) (sym s)
-    (sent-lively n a b k m w v f h c out chan none (sent_out-nodes w h c out) (unstruck-links w h c out none few) (to_send-peer h (node_at w h) (bare.each h) out e) l)
+    (sent-lively n a b k m w v f h c out chan none (injection-nodes w h c out) (unstruck-links w h c out none few) (to_send-peer h (node_at w h) (bare.each h) out e) l)

@@ -3,7 +3,7 @@ use Rattle.std.proofs.Common.{ℕ, ◌∙◌, arith}
 use Rattle.net_defs.specs.Network.{Network}
 use Rattle.gm_defs.specs.declared.message.Message.{Message}
 use Rattle.world_defs.specs.declared.event.Event.{Event}
-use Rattle.world_defs.specs.declared.event.Event.TheVariants.{Ask, Part, Inject, Advance, Lose, Repeat, Hold, Flip, Replay, Reset, Expire, GiveUp, Begin, Close, Provide, Send, Poll}
+use Rattle.world_defs.specs.declared.event.Event.TheVariants.{Inject, Advance, Replay, Reset, Expire, GiveUp}
 use Rattle.world_defs.specs.EightBits.{IsByteEvent}
 use Rattle.world_defs.specs.World.{WorldState, node_at}
 use Rattle.world_defs.specs.Traffic.{sent_between}
@@ -13,9 +13,8 @@ use Rattle.world_laws.proofs.Shapes.{step-kept}
 use Rattle.world_laws.proofs.Leaves.{IsNoCall, quiet-leaves}
 use Rattle.world_laws.proofs.Rounds.{Going, follows-going}
 use Rattle.world_laws.proofs.Along.{Along}
-use Rattle.run_defs.specs.Headline.{Happens}
-use Rattle.table_laws.specs.Acts.{IsReached}
-use Rattle.window_laws.proofs.Reaching.{reached-next}
+use Rattle.act_defs.specs.Acts.{Happens, IsReached}
+use Rattle.act_defs.proofs.Reaching.{reached-next}
 use Rattle.settle_laws.proofs.Sents.{acted-says, sent-place}
 use Rattle.settle_laws.proofs.Facts.{Facts}
 
@@ -26,17 +25,7 @@ settle-byte (Inject h) q = (tt, tt)
 settle-byte (Replay serial) q = (tt, tt)
 settle-byte (Expire h peer) q = (tt, tt)
 settle-byte (GiveUp h) q = (tt, tt)
-settle-byte (Ask h walk looped) q = absurd q
-settle-byte (Part dst part) q = absurd q
-settle-byte (Lose c) q = absurd q
-settle-byte (Repeat c) q = absurd q
-settle-byte (Hold c) q = absurd q
-settle-byte (Flip c bit pattern) q = absurd q
-settle-byte (Begin h port sends recvs) q = absurd q
-settle-byte (Close h port) q = absurd q
-settle-byte (Provide h port size prio) q = absurd q
-settle-byte (Send h port dest dport prio len seed) q = absurd q
-settle-byte (Poll h port) q = absurd q
+settle-byte _ q = absurd q
 
 pub event-going : (w : WorldState) (e : Event) → IsOfSettle e → Going w (step w e).1
 event-going w e q = quiet-leaves Going follows-going w e (settle-byte e q).1

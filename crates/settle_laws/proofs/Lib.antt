@@ -2,7 +2,6 @@ pub mod Views
 pub mod Leading
 pub mod Ways
 pub mod Staged
-pub mod CallTables
 pub mod ActiveTables
 pub mod Routes
 pub mod Frames

@@ -20,7 +20,7 @@ use Rattle.window_laws.proofs.Numbers.{all_finished-peers, delivered_after-peers
 use Rattle.settle_laws.proofs.Views.{AdvanceOf}
 use Rattle.settle_laws.proofs.Ways.{OnWay, WentOn, advance-way}
 use Rattle.settle_laws.proofs.Frames.{head_for, frame-heard, ack-heard}
-use Rattle.settle_laws.proofs.CalmWorlds.{advanced-calm}
+use Rattle.settle_laws.proofs.CalmWorlds.{WorldCalm}
 use Rattle.settle_laws.proofs.Still.{Still, calm-taken, calm-still}
 use Rattle.settle_laws.proofs.Facts.{Facts, IsReadable, world-of, window-of, peer-low, host-low, fits-of, rules-of}
 
@@ -133,15 +133,15 @@ module _ (n : Network) (a b k : ℕ) (m : Message) (w v : WorldState) (f : Facts
       by false g = let no = refused (nat_lt s.base next) (nat_le next s.top) g known in let high : next ≤ s.base = grind (arith, nat_tests) in omega (arith, more, high)
 
   -- an advance
-  pub advance-lively : IsReadable m → (c : ℕ) → AdvanceOf w c v → fabric_of v ≡ fabric_of w → Lively a b k m w → Lively a b k m v
-  advance-lively r c d net (Lively.still s) = Lively.still (calm-still a b k m w v (advanced-calm w v c d) f.low s)
-  advance-lively r c d net (Lively.frame o) = by (advance-way (frame_payload a b k m) b w v c (world-of n a b k m w f).links net o d)
+  pub advance-lively : IsReadable m → (c : ℕ) → AdvanceOf w c v → WorldCalm w v → fabric_of v ≡ fabric_of w → Lively a b k m w → Lively a b k m v
+  advance-lively r c d calm net (Lively.still s) = Lively.still (calm-still a b k m w v calm f.low s)
+  advance-lively r c d calm net (Lively.frame o) = by (advance-way (frame_payload a b k m) b w v c (world-of n a b k m w f).links net o d)
     where
       by : WentOn (frame_payload a b k m) b w v → Lively a b k m v
       by (WentOn.on x) = Lively.frame x
       by (WentOn.heard e) = Lively.still (frame-lands r e)
-  advance-lively r c d net (Lively.ack next more most o) = by (advance-way (ack_payload a b next) a w v c (world-of n a b k m w f).links net o d)
+  advance-lively r c d calm net (Lively.ack next more most o) = by (advance-way (ack_payload a b next) a w v c (world-of n a b k m w f).links net o d)
     where
       by : WentOn (ack_payload a b next) a w v → Lively a b k m v
-      by (WentOn.on x) = let up = calm-taken w v a b (advanced-calm w v c d) in Lively.ack next more (omega (arith, most, up)) x
+      by (WentOn.on x) = let up = calm-taken w v a b calm in Lively.ack next more (omega (arith, most, up)) x
       by (WentOn.heard e) = Lively.still (ack-lands next more most e)

@@ -16,12 +16,12 @@ use Rattle.world_laws.proofs.Rounds.{Going}
 use Rattle.world_laws.proofs.Clearing.{clear-idle}
 use Rattle.world_laws.proofs.Along.{Along, all-map, steps-along, after_all-along, drain-along, clear-along, round_pass-along}
 use Rattle.world_laws.proofs.Reached.{settles-of}
-use Rattle.table_laws.specs.Acts.{IsReached}
+use Rattle.act_defs.specs.Acts.{IsReached}
 use Rattle.settle_laws.proofs.Views.{advance-is, InjectOf, inject-is}
 use Rattle.settle_laws.proofs.Ways.{OnWay}
 use Rattle.settle_laws.proofs.Staged.{IsBare, given_up-bare, given_up-links, sending-bare}
-use Rattle.settle_laws.proofs.ActiveTables.{sent_out-nodes}
-use Rattle.settle_laws.proofs.CalmWorlds.{WorldCalm, IsCalm, along-calm, replay_each-calm}
+use Rattle.act_defs.proofs.Strikes.{injection-nodes}
+use Rattle.settle_laws.proofs.CalmWorlds.{WorldCalm, IsCalm, event-calm, along-calm, replay_each-calm}
 use Rattle.settle_laws.proofs.Plain.{IsPlain, idle-empty, idle-plain, inject-plain}
 use Rattle.settle_laws.proofs.Still.{Still, calm-still}
 use Rattle.settle_laws.proofs.Facts.{Facts, IsReadable}
@@ -35,7 +35,7 @@ PlainDrainsIdle = (n : Network) (w : WorldState) → IsReached n w → IsPlain w
 
 inject-bare : (w : WorldState) (h : ℕ) (r : Effect × WorldState) → InjectOf w h r → IsBare w → IsBare r.1
 inject-bare w h r (InjectOf.idle e s) is = subst IsBare (sym s) is
-inject-bare w h r (InjectOf.sends c out chan e none x s) is = subst IsBare (sym s) (sending-bare w (planned_strikes (sent_out w h c out) c) h out (sent_out-nodes w h c out) is)
+inject-bare w h r (InjectOf.sends c out chan e none x s) is = subst IsBare (sym s) (sending-bare w (planned_strikes (sent_out w h c out) c) h out (injection-nodes w h c out) is)
 
 -- while hosts inject
 record Sending (n : Network) (a b k : ℕ) (m : Message) (w : WorldState) : Type 0 where
@@ -69,7 +69,7 @@ module _ (flows : PlainDrainsIdle) (n : Network) (a b k : ℕ) (m : Message) (re
   advance-draining : (w : WorldState) (e : Event) → IsOfDrain e → Draining n a b k m w → Draining n a b k m (step w e).1
   advance-draining w (Advance c) q d = record {
     facts = (along-facts n a b k m).event w (Advance c) tt d.facts;
-    lively = advance-lively n a b k m w (step w (Advance c)).1 d.facts readable c (advance-is w c) (step-kept w (Advance c)).net d.lively;
+    lively = advance-lively n a b k m w (step w (Advance c)).1 d.facts readable c (advance-is w c) (event-calm w (Advance c) tt) (step-kept w (Advance c)).net d.lively;
   }
   advance-draining w _ q d = absurd q
 

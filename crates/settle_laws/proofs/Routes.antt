@@ -2,7 +2,6 @@
 use Rattle.std.proofs.Common.{◌≡◌, ℕ, zero, suc, Bool, true, false, ℤ, List, [], ◌∷◌, map, nat_eq, Option, Some, None, IfSome, is_some, option_map, refl, sym, ap, ◌∙◌, subst, arith, true≢false, if◌then◌else◌}
 use Rattle.std.specs.Prelude.{find, option_and_then, slice_get}
 use Rattle.std.specs.List.{AllByRecursion, list_all, filter}
-use Rattle.std.specs.Map.{lookup}
 use Rattle.std.proofs.lemmas.Bool.Decides.{nat_tests}
 use Rattle.std.proofs.lemmas.Option.{same_Some}
 use Rattle.net_defs.specs.declared.place.Place.TheVariants.{Host as AtHostPlace}
@@ -10,50 +9,18 @@ use Rattle.net_defs.specs.declared.route.Route.{Route}
 use Rattle.net_defs.specs.Network.{Network}
 use Rattle.net_defs.specs.Turn.{is_turn, IsTurn}
 use Rattle.net_defs.specs.Route.{place}
-use Rattle.gm_defs.specs.Mapping.{RouteEntry}
-use Rattle.gm_defs.proofs.Fronts.{both}
-use Rattle.link_defs.specs.Links.{LinkState}
-use Rattle.map_defs.specs.Routing.{HasRoute}
-use Rattle.world_defs.specs.declared.event.Event.{Event}
-use Rattle.world_defs.specs.declared.fault.Fault.{Fault}
+use Rattle.mapping_defs.specs.Mapping.{RouteEntry}
+use Rattle.gm_defs.proofs.Choices.{both}
+use Rattle.net_defs.specs.RouteSet.{HasRoute}
 use Rattle.world_defs.specs.Table.{Adoption, ActiveTable, TableState, entries_from, table_route}
 use Rattle.world_defs.specs.Traffic.{routes_in, adopted_routes}
-use Rattle.world_defs.specs.World.{WorldState, node_at, without_fault}
-use Rattle.world_defs.specs.Step.{fault_on, struck_by, fault_strikes, planned_strikes, sent_out, step}
-use Rattle.world_laws.proofs.Leaves.{Follows, step-leaves}
-use Rattle.run_defs.specs.Headline.{Act, Happens, Plans, Adopts, acted, IsSameSet, MayAct}
+use Rattle.world_defs.specs.World.{WorldState, node_at}
+use Rattle.act_defs.specs.Acts.{Act, Happens, Plans, Adopts, acted, IsSameSet, MayAct, IsReached}
 use Rattle.table_laws.specs.Set.{IsActive}
-use Rattle.table_laws.specs.Acts.{IsReached}
 use Rattle.table_laws.proofs.Sets.{RouteFits, routes-fit, entries-all}
 use Rattle.table_laws.proofs.Dependencies.{tables-of_set, adopted-adoptable}
 use Rattle.settle_laws.proofs.ActiveTables.{acted-stay}
-
--- an event adopts nothing
-struck-adopted : (u : WorldState) (f : Fault) (o : Bool × LinkState) → (struck_by u f o).adopted ≡ u.adopted
-struck-adopted u f (true, l) = refl
-struck-adopted u f (false, l) = refl
-
-strikes-adopted : (u : WorldState) (c : ℕ) (o : Option Fault) → (fault_strikes u c o).adopted ≡ u.adopted
-strikes-adopted u c None = refl
-strikes-adopted u c (Some f) = struck-adopted (record u { plan = without_fault u.injected u.plan }) f (fault_on u.links c f)
-
-planned-adopted : (u : WorldState) (c : ℕ) → (planned_strikes u c).adopted ≡ u.adopted
-unfolding planned_strikes
-planned-adopted u c = strikes-adopted u c (lookup (nat_eq u.injected) u.plan)
-
-follows-adopted : Follows (λ w v. v.adopted ≡ w.adopted)
-unfolding sent_out
-follows-adopted = record {
-  same = λ w. refl;
-  both = λ u v w k l. l ∙ k;
-  links = λ w x. refl;
-  node = λ w h n k. refl;
-  drop = λ w. refl;
-  injection = λ w h c out low e. planned-adopted (sent_out w h c out) c;
-}
-
-pub step-adopted : (w : WorldState) (e : Event) → (step w e).1.adopted ≡ w.adopted
-step-adopted w e = step-leaves (λ w v. v.adopted ≡ w.adopted) follows-adopted (λ w h port call k. refl) w e
+use Rattle.act_defs.proofs.Kept.{step-adopted}
 
 -- once a set is adopted, it stays
 acted-routes : (w : WorldState) (a : Act) (x : Adoption) → MayAct w a → w.adopted ≡ Some x → adopted_routes (acted w a) ≡ x.routes

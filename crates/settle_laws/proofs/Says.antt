@@ -9,22 +9,19 @@ use Rattle.gm_defs.specs.declared.frame.GmBody.TheVariants.{Frame, Ack as Acknow
 use Rattle.gm_defs.specs.declared.token.Took.{Took}
 use Rattle.gm_defs.specs.declared.token.Took.TheVariants.{NotNext, NoToken, Whole}
 use Rattle.gm_defs.specs.Body.{piece, message_limit, number_limit, frame_length, head_in, ack_in, part_in, begins_with, is_offset, is_head, is_frame, is_ack, decode}
-use Rattle.gm_defs.specs.Token.{PortState, PortEvent, Sent, Received, Provided, Sending, fits}
-use Rattle.gm_defs.specs.Port.{without_first, send_of, ended_by, finished, taken_by, delivered, is_bad_size, next_event, unfinished, unread}
-use Rattle.gm_defs.proofs.Fronts.{chosen}
-use Rattle.world_defs.specs.declared.client.ClientCause.{ClientCause}
-use Rattle.world_defs.specs.declared.client.ClientCause.TheVariants.{TooLong, NoRoute, Spent, Busy, Unread}
-use Rattle.world_defs.specs.declared.effect.Said.{Said}
-use Rattle.world_defs.specs.declared.effect.Said.TheVariants.{Count}
+use Rattle.gm_defs.specs.Token.{PortState, Provided, Sending, fits}
+use Rattle.gm_defs.specs.Port.{without_first, send_of, ended_by, finished, taken_by, delivered}
+use Rattle.gm_defs.proofs.Choices.{chosen}
+use Rattle.world_defs.specs.declared.client.ClientCause.TheVariants.{TooLong, NoRoute, Spent}
 use Rattle.world_defs.specs.Table.{table_route}
 use Rattle.world_defs.specs.Peer.{PeerState, Ticket, new_peer, with_message, peer_acknowledged, peer_expired, peer_sent_one, peer_answered, tickets_finished, got_after, peer_after}
 use Rattle.world_defs.specs.Node.{NodeState, Outgoing, Probe, TablePart, Reply, PartAnswer, FrameAnswer, Fragment, peer_at, with_peer, port_at, with_port, after_sending, node_expired}
 use Rattle.world_defs.specs.Hearing.{message_of, delivered_after, frame_heard, frame_took, all_finished, hear}
-use Rattle.world_defs.specs.Client.{ClientState, Wanted, wanted_message, refused, left, begin_at, begun, close_open, closed, provide_with, provide_open, provided_by, sent_by, handed_out, poll_open, polled_by}
+use Rattle.world_defs.specs.Client.{ClientState, Called, Wanted, wanted_message}
+use Rattle.act_defs.proofs.Lists.{each-set}
+use Rattle.act_defs.proofs.Calls.{Call}
 use Rattle.world_laws.proofs.Lists.{at-set}
-use Rattle.order_laws.proofs.Nodes.{set-each, begun-peers, closed-peers, provided_by-peers, polled_by-peers}
 use Rattle.window_laws.proofs.Heard.{IsHeard, quietly, of_frame, of_ack, hear-is}
-use Rattle.window_laws.proofs.Sends.{IsSend, stays, accepts, sent_by-is}
 
 -- a message names a port of its receiver, and a priority
 pub record IsFor (m : Message) : Type 0 where
@@ -190,64 +187,6 @@ sent-says n (Fragment peer head part by) = says-peer n _ peer (peer_sent_one (pe
 pub expired-says : (n : NodeState) (peer : ℕ) → NodeSays n (node_expired n peer)
 expired-says n peer = says-peer n _ peer (peer_expired (peer_at n peer)) refl refl (λ all. all) (λ port fit. fit)
 
--- the ports behind calls of a client
-abbrev PortsFit : NodeState → NodeState → Type 0
-PortsFit n m = (port : ℕ) → PortFits (port_at n port) → PortFits (port_at m port)
-
-begin_at-fits : (n : NodeState) (port sends recvs : ℕ) (c : Option ClientState) (o : Option PortState) → PortsFit n (begin_at n port sends recvs c o).node
-begin_at-fits n port sends recvs c (Some p) = λ j fit. fit
-begin_at-fits n port sends recvs c None = port-fits n port _ (λ fit. tt)
-
-pub begun-says : (n : NodeState) (port sends recvs : ℕ) (c : Option ClientState) → NodeSays n (begun n port sends recvs c).node
-unfolding begun
-begun-says n port sends recvs c = says-port n _ (begun-peers n port sends recvs c) (begin_at-fits n port sends recvs c (port_at n port))
-
-close_if-fits : (n : NodeState) (port : ℕ) (c : Option ClientState) (p : PortState) (a b : Bool) → PortsFit n (if a then (if b then left n port None None (Count (length p.provided)) else refused n c (Unread (unread p))) else refused n c (Busy (unfinished p))).node
-close_if-fits n port c p true true = port-fits n port None (λ fit. tt)
-close_if-fits n port c p true false = λ j fit. fit
-close_if-fits n port c p false b = λ j fit. fit
-
-close_open-fits : (n : NodeState) (port : ℕ) (c : Option ClientState) (o : Option PortState) → PortsFit n (close_open n port c o).node
-close_open-fits n port c None = λ j fit. fit
-close_open-fits n port c (Some p) = close_if-fits n port c p (nat_eq (unfinished p) 0) (nat_eq (unread p) 0)
-
-pub closed-says : (n : NodeState) (port : ℕ) (c : Option ClientState) → NodeSays n (closed n port c).node
-unfolding closed
-closed-says n port c = says-port n _ (closed-peers n port c) (close_open-fits n port c (port_at n port))
-
-provide_if-fits : (n : NodeState) (port size prio : ℕ) (c d : ClientState) (p : PortState) (r : Provided) (b : Bool) (cause : ClientCause) (said : Said) → is_bad_size size prio ≡ b → r.prio ≡ prio → port_at n port ≡ Some p → PortsFit n (if b then refused n (Some c) cause else left n port (Some (record p { provided = p.provided ++ r ∷ [] })) (Some d) said).node
-provide_if-fits n port size prio c d p r true cause said e f g = λ j fit. fit
-provide_if-fits n port size prio c d p r false cause said e f g =
-    let low : prio < 2 = grind (arith, nat_tests) in
-    port-fits n port _ (λ fit. all-push (λ r. r.prio < 2) p.provided r (subst PortFits g fit) (omega (arith, low, f)))
-
-provide_with-fits : (n : NodeState) (port size prio : ℕ) (p : PortState) (c : ClientState) (ts : List ℕ) → port_at n port ≡ Some p → PortsFit n (provide_with n port size prio p c ts).node
-provide_with-fits n port size prio p c [] g = λ j fit. fit
-provide_with-fits n port size prio p c (t ∷ ts) g = provide_if-fits n port size prio c (record c { recvs = ts }) p _ (is_bad_size size prio) _ _ refl refl g
-
-provide_open-fits : (n : NodeState) (port size prio : ℕ) (c : Option ClientState) (o : Option PortState) → port_at n port ≡ o → PortsFit n (provide_open n port size prio c o).node
-provide_open-fits n port size prio (Some c) (Some p) g = provide_with-fits n port size prio p c c.recvs g
-provide_open-fits n port size prio (Some c) None g = λ j fit. fit
-provide_open-fits n port size prio None o g = λ j fit. fit
-
-pub provided_by-says : (n : NodeState) (port size prio : ℕ) (c : Option ClientState) → NodeSays n (provided_by n port size prio c).node
-unfolding provided_by
-provided_by-says n port size prio c = says-port n _ (provided_by-peers n port size prio c) (provide_open-fits n port size prio c (port_at n port) refl)
-
-handed_out-fits : (n : NodeState) (port : ℕ) (p : PortState) (c : ClientState) (o : Option PortEvent) → port_at n port ≡ Some p → PortsFit n (handed_out n port p c o).node
-handed_out-fits n port p c None g = λ j fit. fit
-handed_out-fits n port p c (Some (Sent t buffer)) g = port-fits n port _ (λ fit. subst PortFits g fit)
-handed_out-fits n port p c (Some (Received t buffer from sport prio len)) g = port-fits n port _ (λ fit. subst PortFits g fit)
-
-poll_open-fits : (n : NodeState) (port : ℕ) (c : Option ClientState) (o : Option PortState) → port_at n port ≡ o → PortsFit n (poll_open n port c o).node
-poll_open-fits n port (Some c) (Some p) g = handed_out-fits n port p c (next_event p) g
-poll_open-fits n port (Some c) None g = λ j fit. fit
-poll_open-fits n port None o g = λ j fit. fit
-
-pub polled_by-says : (n : NodeState) (port : ℕ) (c : Option ClientState) → NodeSays n (polled_by n port c).node
-unfolding polled_by
-polled_by-says n port c = says-port n _ (polled_by-peers n port c) (poll_open-fits n port c (port_at n port) refl)
-
 -- a message that is accepted
 some-below : {X : Type 0} (xs : List (Option X)) (i : ℕ) (x : X) → get_or xs i None ≡ Some x → i < length xs
 some-below [] i x e = cc
@@ -263,16 +202,21 @@ route-there n s false false spent e d = by (table_route n.table s.dest) e
     by None e = absurd (true≢false e)
     by (Some x) e = refl
 
-accept-says : (n : NodeState) (s : Wanted) (o : Option ClientState) (m : NodeState) → IsSend n s o m → NodeSays n m
-accept-says n s o m (stays e) = says-quiet n m (ap (λ x. x.peers) e) (ap (λ x. x.ports) e)
-accept-says n s o m (accepts p c t ts e f g r is) =
+-- what its clients call for
+pub call-says : {n : NodeState} {c : Option ClientState} {port : ℕ} {call : Called} → Call n c port call → NodeSays n call.node
+call-says {n = n} Call.rests = says-quiet n _ refl refl
+call-says {n = n} (Call.opens {port = port} sends recvs d) = says-port n _ refl (port-fits n port _ (λ fit. tt))
+call-says {n = n} (Call.closes {port = port} p d e f) = says-port n _ refl (port-fits n port None (λ fit. tt))
+call-says {n = n} (Call.provides {port = port} size prio t ts p d e f g k) =
+    let low : prio < 2 = grind (arith, nat_tests) in
+    says-port n _ refl (port-fits n port _ (λ fit. all-push (λ r. r.prio < 2) p.provided _ (subst PortFits e fit) low))
+call-says {n = n} (Call.accepts s t ts p d e f g k) =
     let q : PeerState = with_message (peer_at n s.dest) (wanted_message s) (record { port = s.port; token = t }) in
-    let route : is_some (table_route n.table s.dest) ≡ true = route-there n s _ (is_none (table_route n.table s.dest)) _ refl r in
-    subst (NodeSays n) (sym is) (record {
-      sent = λ j. set-each (λ i y. SentSo n i (peer_at n i).sent y.sent) n.peers s.dest j q new_peer (SentSo.more (wanted_message s) refl (some-below n.ports s.port p e) route) (λ i. SentSo.same refl);
+    let route : is_some (table_route n.table s.dest) ≡ true = route-there n s _ (is_none (table_route n.table s.dest)) _ refl k in
+    record {
+      sent = λ j. each-set (λ i y. SentSo n i (peer_at n i).sent y.sent) n.peers s.dest j q new_peer (SentSo.more (wanted_message s) refl (some-below n.ports s.port p e) route) (λ i. SentSo.same refl);
       got = λ j all. at-set (λ a b. AllByRecursion IsFor a.got → AllByRecursion IsFor b.got) (λ a x. x) n.peers s.dest j q new_peer (λ x. x) all;
       ports = λ port fit. port-fits n s.port _ (λ x. subst PortFits e x) port fit;
-    })
-
-pub sent_by-says : (n : NodeState) (s : Wanted) (o : Option ClientState) → NodeSays n (sent_by n s o).node
-sent_by-says n s o = accept-says n s o (sent_by n s o).node (sent_by-is n s o)
+    }
+call-says {n = n} (Call.hands_sent {port = port} t buffer p d e f g) = says-port n _ refl (port-fits n port _ (λ fit. subst PortFits e fit))
+call-says {n = n} (Call.hands_received {port = port} t buffer from sport prio len p d e f g) = says-port n _ refl (port-fits n port _ (λ fit. subst PortFits e fit))

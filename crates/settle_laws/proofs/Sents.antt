@@ -1,5 +1,5 @@
 -- After every list of acts: messages were sent from ports to hosts with a route, those that were got name a port and a priority, and provided tokens have priorities.
-use Rattle.std.proofs.Common.{◌≡◌, ◌<◌, ℕ, zero, suc, Bool, true, false, List, [], ◌∷◌, ◌++◌, length, replicate, get_or, nat_lt, Some, None, is_some, refl, sym, ap, ◌∙◌, subst, arith}
+use Rattle.std.proofs.Common.{◌≡◌, ◌<◌, ℕ, zero, suc, Bool, true, false, List, [], ◌∷◌, ◌++◌, length, nat_lt, Some, None, is_some, refl, sym, ap, ◌∙◌, subst, arith}
 use Rattle.std.specs.Prelude.{slice_get}
 use Rattle.std.specs.List.{AllByRecursion}
 use Rattle.std.proofs.lemmas.Bool.Decides.{nat_tests}
@@ -10,16 +10,16 @@ use Rattle.gm_defs.specs.declared.message.Message.{Message}
 use Rattle.world_defs.specs.Table.{table_route}
 use Rattle.world_defs.specs.Peer.{new_peer}
 use Rattle.world_defs.specs.Node.{NodeState, peer_at, port_at, new_node, port_count}
-use Rattle.world_defs.specs.World.{WorldState, host_count, node_at, new_world, client_at}
+use Rattle.world_defs.specs.World.{WorldState, host_count, node_at, new_world}
 use Rattle.world_defs.specs.Traffic.{sent_between, got_between}
 use Rattle.world_laws.specs.Shape.{IsWorld}
-use Rattle.run_defs.specs.Headline.{Act, acted, acted_all, MayAct, MayActAll}
-use Rattle.table_laws.specs.Acts.{IsReached}
+use Rattle.act_defs.specs.Acts.{Act, acted, acted_all, MayAct, MayActAll, IsReached}
 use Rattle.window_laws.proofs.Hosts.{Rules, acted-goes}
 use Rattle.window_laws.proofs.Windows.{numbers_of, reached-windowed}
 use Rattle.window_laws.proofs.Taken.{reached-world}
-use Rattle.window_laws.proofs.Reaching.{reached-next}
-use Rattle.settle_laws.proofs.Says.{IsFor, PortFits, SentSo, NodeSays, says-quiet, hear-says, sent-says, expired-says, begun-says, closed-says, provided_by-says, sent_by-says, polled_by-says}
+use Rattle.act_defs.proofs.Lists.{each-replicate}
+use Rattle.act_defs.proofs.Reaching.{reached-next}
+use Rattle.settle_laws.proofs.Says.{IsFor, PortFits, SentSo, NodeSays, says-quiet, hear-says, sent-says, expired-says, call-says}
 use Rattle.settle_laws.proofs.Routes.{route-stays}
 
 -- each change of a host
@@ -29,11 +29,7 @@ says-rules w = record {
   hears = λ h wire good. hear-says h (host_count w) (node_at w h) wire;
   sends = λ h out e. sent-says (node_at w h) out;
   expires = λ h peer. expired-says (node_at w h) peer;
-  begins = λ h port sends recvs. begun-says (node_at w h) port sends recvs (client_at w h port);
-  closes = λ h port. closed-says (node_at w h) port (client_at w h port);
-  provides = λ h port size prio. provided_by-says (node_at w h) port size prio (client_at w h port);
-  accepts = λ h s. sent_by-says (node_at w h) s (client_at w h s.port);
-  polls = λ h port. polled_by-says (node_at w h) port (client_at w h port);
+  calls = λ h port call k. call-says k;
 }
 
 pub acted-says : (n : Network) (w : WorldState) (a : Act) → IsReached n w → (h : ℕ) → NodeSays (node_at w h) (node_at (acted w a) h)
@@ -93,11 +89,6 @@ acts-said n w (a ∷ acts) may is said =
     acts-said n (acted w a) acts may.1 now (acted-said n w a is may.0 now said)
 
 -- the new world
-at-replicate : {X : Type 0} (P : X → Type 0) (k j : ℕ) (x d : X) → P x → P d → P (get_or (replicate k x) j d)
-at-replicate P zero j x d p q = q
-at-replicate P (suc k) zero x d p q = p
-at-replicate P (suc k) (suc j) x d p q = at-replicate P k j x d p q
-
 -- a host before anything happened
 record IsNew (x : NodeState) : Type 0 where
   peers : (p : ℕ) → peer_at x p ≡ new_peer
@@ -105,12 +96,12 @@ record IsNew (x : NodeState) : Type 0 where
 
 new-node : (k : ℕ) → IsNew (new_node k)
 new-node k = record {
-  peers = λ p. at-replicate (λ x. x ≡ new_peer) k p new_peer new_peer refl refl;
-  ports = λ port. at-replicate (λ x. x ≡ None) port_count port None None refl refl;
+  peers = λ p. each-replicate (λ x. x ≡ new_peer) k p new_peer new_peer refl refl;
+  ports = λ port. each-replicate (λ x. x ≡ None) port_count port None None refl refl;
 }
 
 new-nodes : (n : Network) (h : ℕ) → IsNew (node_at (new_world n) h)
-new-nodes n h = let k : ℕ = length n.hosts in at-replicate IsNew k h (new_node k) (new_node 0) (new-node k) (new-node 0)
+new-nodes n h = let k : ℕ = length n.hosts in each-replicate IsNew k h (new_node k) (new_node 0) (new-node k) (new-node 0)
 
 new-said : (n : Network) → IsSaid (new_world n)
 new-said n = record {

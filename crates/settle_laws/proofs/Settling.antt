@@ -9,7 +9,7 @@ use Rattle.net_defs.specs.Route.{place, host_port, channel_from}
 use Rattle.link_defs.specs.Links.{is_idle}
 use Rattle.link_defs.proofs.LonePackets.{no_channel-place}
 use Rattle.gm_defs.specs.declared.message.Message.{Message}
-use Rattle.map_defs.specs.Routing.{HasRoute}
+use Rattle.net_defs.specs.RouteSet.{HasRoute}
 use Rattle.world_defs.specs.Table.{ActiveTable, table_route}
 use Rattle.world_defs.specs.Node.{to_send}
 use Rattle.world_defs.specs.World.{WorldState, fabric_of, host_count, last_count, node_at}
@@ -26,11 +26,12 @@ use Rattle.world_laws.proofs.Clearing.{clear-idle}
 use Rattle.world_laws.proofs.Meanings.{base-test, none_left-settled}
 use Rattle.world_laws.proofs.Along.{Along, clear-along, expiries-along, round_pass-along, round-along, settles-along}
 use Rattle.world_laws.proofs.Reached.{settles-of}
-use Rattle.table_laws.specs.Acts.{IsReached}
+use Rattle.act_defs.specs.Acts.{IsReached}
 use Rattle.order_laws.proofs.Worlds.{reached-ordered}
 use Rattle.window_laws.proofs.Windows.{reached-windowed}
 use Rattle.settle_laws.specs.Settles.{SentHasRoute, SettleEndsSettled}
-use Rattle.settle_laws.proofs.Routes.{step-adopted, table-route, has-active, route-leads, route-in, in-route}
+use Rattle.act_defs.proofs.Kept.{step-adopted}
+use Rattle.settle_laws.proofs.Routes.{table-route, has-active, route-leads, route-in, in-route}
 use Rattle.settle_laws.proofs.Still.{Still}
 use Rattle.settle_laws.proofs.Facts.{Facts, IsReadable, at-place, place-below, peer-low}
 use Rattle.settle_laws.proofs.Sents.{reached-said}

@@ -8,7 +8,7 @@ use Rattle.net_defs.proofs.Growing.{no_some}
 use Rattle.gm_defs.specs.declared.frame.FrameHead.{FrameHead}
 use Rattle.gm_defs.specs.Fragment.{frame_of}
 use Rattle.gm_defs.specs.Connection.{due}
-use Rattle.gm_defs.proofs.Fronts.{then-some, if-some, map-some}
+use Rattle.gm_defs.proofs.Choices.{then-some, if-some, map-some}
 use Rattle.world_defs.specs.declared.event.Event.TheVariants.{GiveUp}
 use Rattle.world_defs.specs.declared.effect.Effect.{Effect}
 use Rattle.world_defs.specs.declared.effect.Effect.TheVariants.{GaveUp, Idle}

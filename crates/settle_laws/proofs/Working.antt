@@ -4,8 +4,8 @@ use Rattle.std.specs.Prelude.{slice_get}
 use Rattle.std.proofs.lemmas.Option.{same_Some}
 use Rattle.net_defs.specs.declared.route.Route.{Route}
 use Rattle.net_defs.specs.Examples.{two_hosts}
-use Rattle.journal_defs.proofs.Grown.{two_hosts_fabric}
-use Rattle.map_defs.specs.Routing.{HasRoute}
+use Rattle.net_defs.proofs.TwoHosts.{two_hosts_fabric}
+use Rattle.net_defs.specs.RouteSet.{HasRoute}
 use Rattle.world_defs.specs.Examples.{setup_routes}
 use Rattle.world_defs.specs.Node.{to_send, packet_for, after_sending}
 use Rattle.world_defs.specs.Hearing.{hear}
@@ -14,7 +14,7 @@ use Rattle.world_defs.specs.Step.{lost, was_reset, replayed, planned_strikes, se
 use Rattle.world_defs.specs.Drain.{pass, drain, clear}
 use Rattle.world_defs.specs.Traffic.{got_between}
 use Rattle.world_defs.specs.Settle.{round_pass, round, settle}
-use Rattle.run_defs.specs.Headline.{AreAdoptable}
+use Rattle.act_defs.specs.Acts.{AreAdoptable}
 use Rattle.table_laws.specs.Examples.{adopted_world}
 use Rattle.table_laws.proofs.Dependencies.{adopted-adoptable}
 use Rattle.table_laws.proofs.TwoHosts.{adopted-reached}

@@ -7,7 +7,7 @@ use Rattle.world_defs.specs.Examples.{setup_routes}
 use Rattle.world_defs.specs.Traffic.{got_between}
 use Rattle.world_defs.specs.Settle.{unacknowledged_in, settle}
 use Rattle.world_defs.specs.Settled.{IsWaiting}
-use Rattle.run_defs.specs.Headline.{Act, Happens, Adopts, acted_all}
+use Rattle.act_defs.specs.Acts.{Act, Happens, Adopts, acted_all}
 use Rattle.order_laws.specs.Examples.{ten}
 use Rattle.settle_laws.specs.Premises.{CanSettle}
 

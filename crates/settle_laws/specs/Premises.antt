@@ -1,10 +1,10 @@
 -- What a world must be for a settle to end settled.
 use Rattle.std.specs.Prelude.{◌≡◌, ℕ, slice_get, Some}
 use Rattle.net_defs.specs.declared.route.Route.{Route}
-use Rattle.map_defs.specs.Routing.{HasRoute}
+use Rattle.net_defs.specs.RouteSet.{HasRoute}
 use Rattle.world_defs.specs.World.{WorldState, fabric_of}
 use Rattle.world_defs.specs.Traffic.{adopted_routes}
-use Rattle.table_laws.specs.Acts.{IsReached}
+use Rattle.act_defs.specs.Acts.{IsReached}
 
 -- A world can settle where acts that may happen lead to it from the new one of its fabric, and where the adopted set has, for each of its routes, one back.
 pub record CanSettle (w : WorldState) : Type 0 where

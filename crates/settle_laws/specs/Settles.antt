@@ -7,7 +7,7 @@ use Rattle.world_defs.specs.Traffic.{sent_between}
 use Rattle.world_defs.specs.Settle.{Rounds}
 use Rattle.world_defs.specs.Settled.{IsSettled}
 use Rattle.world_laws.specs.Settling.{Settles}
-use Rattle.table_laws.specs.Acts.{IsReached}
+use Rattle.act_defs.specs.Acts.{IsReached}
 use Rattle.settle_laws.specs.Premises.{CanSettle}
 
 -- a host that has accepted a message for another has a route there in its active table

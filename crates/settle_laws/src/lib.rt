@@ -1,8 +1,7 @@
 //! What a settle ends with: a settled world, in which whatever isn't acknowledged waits for a token, or for its receiver's table.
 //!
 //! It says nothing of how long a settle takes, apart from the rounds that `world_laws` bounds, and nothing of a settle in which the count of
-//! injections reaches its last value. A law is a function without parameters: its contract is the law, and its body is empty. The statements
-//! stand in `specs/`.
+//! injections reaches its last value. Read `specs/Settles.antt` first.
 //!
 //! | file of `specs/` | says |
 //! |---|---|

@@ -7,22 +7,23 @@ use Rattle.net_defs.specs.declared.route.Route.{Route}
 use Rattle.net_defs.specs.Network.{Network}
 use Rattle.net_defs.specs.Route.{channels_of}
 use Rattle.packet_defs.specs.declared.kind.Kind.{Kind}
-use Rattle.gm_defs.specs.Mapping.{RouteEntry}
-use Rattle.map_defs.specs.Dependencies.{IsNext, IsBefore, HasNoCycle}
-use Rattle.map_defs.proofs.Cycles.{no_cycle-rising}
+use Rattle.mapping_defs.specs.Mapping.{RouteEntry}
+use Rattle.net_defs.specs.Dependencies.{IsNext, IsBefore, HasNoCycle}
+use Rattle.net_defs.proofs.Cycles.{no_cycle-rising}
 use Rattle.world_defs.specs.Table.{Adoption, ActiveTable, entries_from}
 use Rattle.world_defs.specs.World.{WorldState, fabric_of, new_world, node_at, addresses}
 use Rattle.world_defs.specs.Sound.{entries_in, channels_from, channels_from_all, installed_channels}
-use Rattle.run_defs.specs.Headline.{channels_of_all}
+use Rattle.net_defs.specs.RouteSet.{channels_of_all}
 use Rattle.table_laws.specs.Set.{IsActive, IsActiveOfSet}
-use Rattle.table_laws.specs.Acts.{IsReached, TablesAreOfSet, ActiveIsOfSet, AdoptedIsAdoptable, PartsAreOfSet, InstalledHasNoCycle}
+use Rattle.act_defs.specs.Acts.{IsReached}
+use Rattle.table_laws.specs.Acts.{TablesAreOfSet, ActiveIsOfSet, AdoptedIsAdoptable, PartsAreOfSet, InstalledHasNoCycle}
 use Rattle.table_laws.proofs.Medium.{honest-read}
 use Rattle.table_laws.proofs.Sets.{entries-all}
 use Rattle.table_laws.specs.Bodies.{IsBody}
 use Rattle.table_laws.specs.Packets.{IsHonest}
 use Rattle.table_laws.proofs.Steps.{IsOfSet, IsAdopted, acted_all-of, new-of}
 
-reached-of : (n : Network) (w : WorldState) → IsReached n w → IsOfSet n w
+pub reached-of : (n : Network) (w : WorldState) → IsReached n w → IsOfSet n w
 reached-of n w r = subst (IsOfSet n) (sym r.leads) (acted_all-of n (new_world n) r.acts r.fabric r.may (new-of n))
 
 pub tables-of_set : TablesAreOfSet

@@ -1,5 +1,5 @@
 -- A host keeps what it has of the adopted set, whatever it hears, sends or is called for, and sends no other parts.
-use Rattle.std.proofs.Common.{◌≡◌, ℕ, Bool, true, false, ◌&&◌, ℤ, pos, List, [], ◌∷◌, ◌++◌, length, nat_eq, Option, Some, None, IfSome, option_map, refl, ◌∙◌, sym, ap, subst, arith, if◌then◌else◌, Result, Ok, Err}
+use Rattle.std.proofs.Common.{◌≡◌, ℕ, Bool, true, false, ◌&&◌, ℤ, pos, List, [], ◌∷◌, ◌++◌, nat_eq, Option, Some, None, IfSome, option_map, refl, ◌∙◌, sym, ap, subst, arith, if◌then◌else◌, Result, Ok, Err}
 use Rattle.std.specs.Prelude.{option_and_then}
 use Rattle.std.specs.Int.{w16, w32, w64, to_be_bytes}
 use Rattle.std.proofs.lemmas.Bool.Decides.{nat_tests}
@@ -15,23 +15,19 @@ use Rattle.gm_defs.specs.declared.frame.Malformed.{Malformed as NoBody}
 use Rattle.gm_defs.specs.declared.token.Took.{Took}
 use Rattle.gm_defs.specs.declared.token.Took.TheVariants.{NotNext as TookNotNext, NoToken as TookNoToken, Whole}
 use Rattle.gm_defs.specs.Body.{decode, part_in, frame_bytes, ack_bytes}
-use Rattle.gm_defs.specs.Mapping.{RoutePart, MappingBody, Front, decode_mapping, mapping_bytes, is_mapping, by_the_rules, whole, two_front, route_front, byte_front, route_bytes}
-use Rattle.gm_defs.specs.Mapping.MappingBody.{HostProbe, HostReply, Loopback, Part, PartAck}
-use Rattle.gm_defs.specs.Token.{PortState, PortEvent, Sent, Received}
-use Rattle.gm_defs.specs.Port.{finished, is_bad_size, next_event, unfinished, unread}
-use Rattle.gm_defs.proofs.Fronts.{both, map-some, then-some}
+use Rattle.mapping_defs.specs.Mapping.{RoutePart, MappingBody, Front, decode_mapping, mapping_bytes, is_mapping, by_the_rules, whole, two_front, route_front, byte_front, route_bytes}
+use Rattle.mapping_defs.specs.Mapping.MappingBody.{HostProbe, HostReply, Loopback, Part, PartAck}
+use Rattle.gm_defs.specs.Port.{finished}
+use Rattle.gm_defs.proofs.Choices.{both, map-some, then-some}
 use Rattle.world_defs.specs.declared.applied.Applied.{Applied}
 use Rattle.world_defs.specs.declared.applied.Applied.TheVariants.{Part as OnePart, Active, Old}
 use Rattle.world_defs.specs.declared.heard.Heard.{Heard}
-use Rattle.world_defs.specs.declared.client.ClientCause.{ClientCause}
-use Rattle.world_defs.specs.declared.client.ClientCause.TheVariants.{Busy, Unread}
-use Rattle.world_defs.specs.declared.effect.Said.{Said}
-use Rattle.world_defs.specs.declared.effect.Said.TheVariants.{Count}
 use Rattle.world_defs.specs.Table.{Adoption, TableState, table_route, applied}
 use Rattle.world_defs.specs.Peer.{PeerState, Ticket, peer_expired, tickets_finished}
 use Rattle.world_defs.specs.Node.{NodeState, Staged, StagedReply, StagedAck, StagedProbe, StagedPart, Outgoing, Probe, TablePart, Reply, PartAnswer, FrameAnswer, Fragment, peer_at, with_peer, port_at, with_port, way_back, outgoing_staged, owed_to, due_to, due_frame, either, first_some, peers_of, to_send, packet_for, after_sending, given_up, node_expired}
 use Rattle.world_defs.specs.Hearing.{is_host, heard_if, is_part_for, part_heard, hear_mapping, hear_mapping_body, delivered_after, frame_took, all_finished, hear_gm, hear_gm_body, hear_body, hear_decoded, hear}
-use Rattle.world_defs.specs.Client.{ClientState, Wanted, refused, left, begin_at, begun, close_open, closed, provide_with, provide_open, provided_by, send_refusal, send_unless, send_with, send_open, sent_by, handed_out, poll_open, polled_by}
+use Rattle.world_defs.specs.Client.{ClientState, Called}
+use Rattle.act_defs.proofs.Calls.{Call}
 use Rattle.table_laws.specs.Set.{IsPart, IsTable, IsFitPart}
 use Rattle.table_laws.specs.Packets.{Built}
 use Rattle.table_laws.specs.Bodies.{IsBody, IsStaged, IsHostOf}
@@ -262,71 +258,11 @@ pub node_expired-host : (o : Option Adoption) (host : ℕ) (n : NodeState) (peer
 node_expired-host o host n peer is = peer-host o host n peer (peer_expired (peer_at n peer)) is
 
 -- what its clients call for
-begin_at-host : (o : Option Adoption) (host : ℕ) (n : NodeState) (port sends recvs : ℕ) (c : Option ClientState) (p : Option PortState) → IsHostOf o host n → IsHostOf o host (begin_at n port sends recvs c p).node
-begin_at-host o host n port sends recvs c (Some p) is = is
-begin_at-host o host n port sends recvs c None is = record { staged = is.staged; table = is.table }
-
-pub begun-host : (o : Option Adoption) (host : ℕ) (n : NodeState) (port sends recvs : ℕ) (c : Option ClientState) → IsHostOf o host n → IsHostOf o host (begun n port sends recvs c).node
-unfolding begun
-begun-host o host n port sends recvs c is = begin_at-host o host n port sends recvs c (port_at n port) is
-
-close_if-host : (o : Option Adoption) (host : ℕ) (n : NodeState) (port : ℕ) (c : Option ClientState) (p : PortState) (a b : Bool) → IsHostOf o host n → IsHostOf o host (if a then (if b then left n port None None (Count (length p.provided)) else refused n c (Unread (unread p))) else refused n c (Busy (unfinished p))).node
-close_if-host o host n port c p true true is = record { staged = is.staged; table = is.table }
-close_if-host o host n port c p true false is = is
-close_if-host o host n port c p false b is = is
-
-close_open-host : (o : Option Adoption) (host : ℕ) (n : NodeState) (port : ℕ) (c : Option ClientState) (p : Option PortState) → IsHostOf o host n → IsHostOf o host (close_open n port c p).node
-close_open-host o host n port c None is = is
-close_open-host o host n port c (Some p) is = close_if-host o host n port c p (nat_eq (unfinished p) 0) (nat_eq (unread p) 0) is
-
-pub closed-host : (o : Option Adoption) (host : ℕ) (n : NodeState) (port : ℕ) (c : Option ClientState) → IsHostOf o host n → IsHostOf o host (closed n port c).node
-unfolding closed
-closed-host o host n port c is = close_open-host o host n port c (port_at n port) is
-
-provide_if-host : (o : Option Adoption) (host : ℕ) (n : NodeState) (port : ℕ) (c d : ClientState) (p : PortState) (b : Bool) (cause : ClientCause) (said : Said) → IsHostOf o host n → IsHostOf o host (if b then refused n (Some c) cause else left n port (Some p) (Some d) said).node
-provide_if-host o host n port c d p true cause said is = is
-provide_if-host o host n port c d p false cause said is = record { staged = is.staged; table = is.table }
-
-provide_with-host : (o : Option Adoption) (host : ℕ) (n : NodeState) (port size prio : ℕ) (p : PortState) (c : ClientState) (ts : List ℕ) → IsHostOf o host n → IsHostOf o host (provide_with n port size prio p c ts).node
-provide_with-host o host n port size prio p c [] is = is
-provide_with-host o host n port size prio p c (t ∷ ts) is = provide_if-host o host n port c (record c { recvs = ts }) _ (is_bad_size size prio) _ _ is
-
-provide_open-host : (o : Option Adoption) (host : ℕ) (n : NodeState) (port size prio : ℕ) (c : Option ClientState) (p : Option PortState) → IsHostOf o host n → IsHostOf o host (provide_open n port size prio c p).node
-provide_open-host o host n port size prio (Some c) (Some p) is = provide_with-host o host n port size prio p c c.recvs is
-provide_open-host o host n port size prio (Some c) None is = is
-provide_open-host o host n port size prio None p is = is
-
-pub provided_by-host : (o : Option Adoption) (host : ℕ) (n : NodeState) (port size prio : ℕ) (c : Option ClientState) → IsHostOf o host n → IsHostOf o host (provided_by n port size prio c).node
-unfolding provided_by
-provided_by-host o host n port size prio c is = provide_open-host o host n port size prio c (port_at n port) is
-
-send_unless-host : (o : Option Adoption) (host : ℕ) (n : NodeState) (s : Wanted) (p : PortState) (c : ClientState) (t : ℕ) (ts : List ℕ) (r : Option ClientCause) → IsHostOf o host n → IsHostOf o host (send_unless n s p c t ts r).node
-send_unless-host o host n s p c t ts (Some cause) is = is
-send_unless-host o host n s p c t ts None is = record { staged = is.staged; table = is.table }
-
-send_with-host : (o : Option Adoption) (host : ℕ) (n : NodeState) (s : Wanted) (p : PortState) (c : ClientState) (ts : List ℕ) → IsHostOf o host n → IsHostOf o host (send_with n s p c ts).node
-send_with-host o host n s p c [] is = is
-send_with-host o host n s p c (t ∷ ts) is = send_unless-host o host n s p c t ts (send_refusal n s) is
-
-send_open-host : (o : Option Adoption) (host : ℕ) (n : NodeState) (s : Wanted) (c : Option ClientState) (p : Option PortState) → IsHostOf o host n → IsHostOf o host (send_open n s c p).node
-send_open-host o host n s (Some c) (Some p) is = send_with-host o host n s p c c.sends is
-send_open-host o host n s (Some c) None is = is
-send_open-host o host n s None p is = is
-
-pub sent_by-host : (o : Option Adoption) (host : ℕ) (n : NodeState) (s : Wanted) (c : Option ClientState) → IsHostOf o host n → IsHostOf o host (sent_by n s c).node
-unfolding sent_by
-sent_by-host o host n s c is = send_open-host o host n s c (port_at n s.port) is
-
-handed_out-host : (o : Option Adoption) (host : ℕ) (n : NodeState) (port : ℕ) (p : PortState) (c : ClientState) (e : Option PortEvent) → IsHostOf o host n → IsHostOf o host (handed_out n port p c e).node
-handed_out-host o host n port p c None is = is
-handed_out-host o host n port p c (Some (Sent t buffer)) is = record { staged = is.staged; table = is.table }
-handed_out-host o host n port p c (Some (Received t buffer from sport prio len)) is = record { staged = is.staged; table = is.table }
-
-poll_open-host : (o : Option Adoption) (host : ℕ) (n : NodeState) (port : ℕ) (c : Option ClientState) (p : Option PortState) → IsHostOf o host n → IsHostOf o host (poll_open n port c p).node
-poll_open-host o host n port (Some c) (Some p) is = handed_out-host o host n port p c (next_event p) is
-poll_open-host o host n port (Some c) None is = is
-poll_open-host o host n port None p is = is
-
-pub polled_by-host : (o : Option Adoption) (host : ℕ) (n : NodeState) (port : ℕ) (c : Option ClientState) → IsHostOf o host n → IsHostOf o host (polled_by n port c).node
-unfolding polled_by
-polled_by-host o host n port c is = poll_open-host o host n port c (port_at n port) is
+pub call-host : (o : Option Adoption) (host : ℕ) {n : NodeState} {c : Option ClientState} {port : ℕ} {call : Called} → Call n c port call → IsHostOf o host n → IsHostOf o host call.node
+call-host o host Call.rests is = is
+call-host o host (Call.opens sends recvs d) is = record { staged = is.staged; table = is.table }
+call-host o host (Call.closes p d e f) is = record { staged = is.staged; table = is.table }
+call-host o host (Call.provides size prio t ts p d e f g k) is = record { staged = is.staged; table = is.table }
+call-host o host (Call.accepts s t ts p d e f g k) is = record { staged = is.staged; table = is.table }
+call-host o host (Call.hands_sent t buffer p d e f g) is = record { staged = is.staged; table = is.table }
+call-host o host (Call.hands_received t buffer from sport prio len p d e f g) is = record { staged = is.staged; table = is.table }

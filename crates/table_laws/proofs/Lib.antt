@@ -3,6 +3,7 @@ pub mod Written
 pub mod Medium
 pub mod Hosts
 pub mod Sets
+pub mod Keeping
 pub mod Steps
 pub mod Travels
 pub mod Dependencies

@@ -1,10 +1,11 @@
 -- The worked example: the routes of the two hosts may be adopted.
 use Rattle.std.proofs.Common.{◌<◌, ◌%◌, ℕ, List, [], ◌∷◌, refl, arith}
 use Rattle.net_defs.specs.Examples.{two_hosts}
-use Rattle.journal_defs.proofs.Grown.{two_hosts_fabric}
-use Rattle.map_defs.specs.Dependencies.{IsNext, IsBefore}
+use Rattle.net_defs.proofs.TwoHosts.{two_hosts_fabric}
+use Rattle.net_defs.specs.Dependencies.{IsNext, IsBefore}
 use Rattle.world_defs.specs.Examples.{setup_routes}
-use Rattle.run_defs.specs.Headline.{channels_of_all, AreAdoptable}
+use Rattle.net_defs.specs.RouteSet.{channels_of_all}
+use Rattle.act_defs.specs.Acts.{AreAdoptable}
 use Rattle.table_laws.specs.Examples.{one_adoption, AdoptedIsReached, OneTableIsActive}
 use Rattle.table_laws.proofs.Dependencies.{rise-at}
 

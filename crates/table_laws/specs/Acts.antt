@@ -6,12 +6,12 @@ use Rattle.packet_defs.specs.Packet.{packet_of, difference}
 use Rattle.packet_defs.specs.Burst.{flipped}
 use Rattle.packet_defs.specs.Host.{decode}
 use Rattle.link_defs.specs.Links.{Held, packet_in}
-use Rattle.gm_defs.specs.Mapping.{RoutePart, Part, decode_mapping}
-use Rattle.map_defs.specs.Dependencies.{IsBefore, HasNoCycle}
+use Rattle.mapping_defs.specs.Mapping.{RoutePart, Part, decode_mapping}
+use Rattle.net_defs.specs.Dependencies.{IsBefore, HasNoCycle}
 use Rattle.world_defs.specs.Table.{Adoption, ActiveTable}
 use Rattle.world_defs.specs.World.{WorldState, new_world, node_at}
 use Rattle.world_defs.specs.Sound.{installed_channels}
-use Rattle.run_defs.specs.Headline.{Act, acted_all, AreAdoptable, MayActAll}
+use Rattle.act_defs.specs.Acts.{Act, acted_all, AreAdoptable, MayActAll, IsReached}
 use Rattle.table_laws.specs.Set.{IsPart, IsActive, IsTable}
 
 -- Why an act that may happen flips eight bits at most: a burst of nine, with the divisor's own bits, leaves no difference. Here it changes both turns of a packet.
@@ -19,13 +19,6 @@ abbrev pub WidePatternIsUnseen : Type 0
 WidePatternIsUnseen =
     (flipped (packet_of (pos 1 ∷ pos 0 ∷ []) Gm (7 ∷ [])) 7 263 ≡ packet_of (pos 3 ∷ pos 14 ∷ []) Gm (7 ∷ []))
     × (difference (flipped (packet_of (pos 1 ∷ pos 0 ∷ []) Gm (7 ∷ [])) 7 263) ≡ 0)
-
--- A world that acts which may happen lead to from the new one of a fabric.
-pub record IsReached (n : Network) (w : WorldState) : Type 0 where
-  pub fabric : IsFabric n
-  pub acts : List Act
-  pub may : MayActAll (new_world n) acts
-  pub leads : w ≡ acted_all (new_world n) acts
 
 -- each host's table is of the adopted set
 abbrev pub TablesAreOfSet : Type 0

@@ -1,6 +1,7 @@
-//! What holds of the tables of hosts, after every list of acts that may happen: events, plans of faults, adoptions of one adoptable set of routes.
+//! What holds of the tables of hosts, after every list of acts that may happen.
 //!
-//! Each law is a function without parameters: its contract is the law, and its body is empty. The statements stand in `specs/`.
+//! It keeps no table, and says nothing of messages. `specs/Acts.antt` of `act_defs` says which acts may happen; here read
+//! `specs/Acts.antt` first.
 //!
 //! | file of `specs/` | says |
 //! |---|---|

@@ -16,34 +16,32 @@ use Rattle.gm_defs.specs.Body.{piece, part_in}
 use Rattle.gm_defs.specs.Fragment.{IsHonestFrame}
 use Rattle.gm_defs.specs.Token.{Provided, PortEvent, Sent, Received, PortState, is_size, size_for_length, fits, fitting}
 use Rattle.gm_defs.specs.Port.{finished, filled, delivered, sent_with}
-use Rattle.gm_defs.proofs.Fronts.{both}
+use Rattle.gm_defs.proofs.Choices.{both}
 use Rattle.world_defs.specs.Peer.{PeerState, Ticket, new_peer, with_message, peer_acknowledged, tickets_finished, peer_expired, peer_sent_one, peer_answered, peer_after}
 use Rattle.world_defs.specs.Node.{NodeState, Outgoing, Probe, TablePart, Reply, PartAnswer, FrameAnswer, Fragment, peer_at, with_peer, port_at, with_port, after_sending, new_node, port_count}
 use Rattle.world_defs.specs.Hearing.{message_of, delivered_after, frame_took, all_finished}
-use Rattle.world_defs.specs.Client.{ClientState, Called, Wanted, wanted_message, client_bytes, empty_buffer}
-use Rattle.world_defs.specs.World.{WorldState, host_count, new_world, node_at, client_at}
+use Rattle.world_defs.specs.Client.{ClientState, Called, Wanted, wanted_message, client_bytes, empty_buffer, send_accepted}
+use Rattle.world_defs.specs.World.{WorldState, host_count, new_world, node_at}
 use Rattle.world_defs.specs.Sound.{IsFront}
 use Rattle.world_defs.specs.Traffic.{sent_between}
-use Rattle.run_defs.specs.Headline.{Act, acted, acted_all, MayAct, MayActAll}
-use Rattle.table_laws.specs.Acts.{IsReached}
+use Rattle.act_defs.specs.Acts.{Act, acted, acted_all, MayAct, MayActAll, IsReached}
 use Rattle.order_laws.specs.Says.{SaysTrue}
 use Rattle.order_laws.proofs.Peers.{front-same, frame-message}
-use Rattle.order_laws.proofs.Nodes.{set-each, begun-peers, closed-peers, provided_by-peers, polled_by-peers}
+use Rattle.act_defs.proofs.Lists.{each-set, each-replicate}
 use Rattle.owner_laws.proofs.Moves.{found-passes}
 use Rattle.window_laws.proofs.Heard.{IsHeard, quietly, of_frame, of_ack, hear-is}
-use Rattle.window_laws.proofs.Sends.{IsSend, stays as no_send, accepts, sent_by-is}
 use Rattle.window_laws.proofs.Hosts.{Rules, Goes, acted-goes}
 use Rattle.window_laws.proofs.Numbers.{all_finished-peers}
-use Rattle.window_laws.proofs.Reaching.{reached-next}
+use Rattle.act_defs.proofs.Reaching.{reached-next}
 use Rattle.window_laws.proofs.Windows.{reached-windowed}
 use Rattle.token_laws.specs.Untouched.{IsUntouched}
 use Rattle.token_laws.specs.Received.{IsOfMessage, ReceivedEventsAreOfMessages}
-use Rattle.token_laws.proofs.Calls.{IsCall, begun-is, closed-is, provided_by-is, polled_by-is}
+use Rattle.token_laws.proofs.Calls.{IsCall, CallDoes, call-does}
 use Rattle.token_laws.proofs.Hosts.{peer-new}
 use Rattle.token_laws.proofs.Events.{AreAll, all-more, PortStill, port-same, called-still, finished-still, delivered-still, event-at, ports-same, ports-set}
 use Rattle.token_laws.proofs.Buffers.{provided-untouched}
 use Rattle.token_laws.proofs.Reaching.{reached-count, reached-known}
-use Rattle.token_laws.proofs.Lists.{at-replicate, get-front, get-last}
+use Rattle.token_laws.proofs.Lists.{get-front, get-last}
 
 -- an event is of a message that was got
 abbrev IsEventOf : (ℕ → List Message) → ℕ → PortEvent → Type 0
@@ -89,7 +87,7 @@ got-same n m e k = subst (λ l. IsFront (got_at n k) (get_or l k new_peer).got) 
 
 got-set : (n m : NodeState) (k : ℕ) (q : PeerState) → m.peers ≡ set n.peers k q → IsFront (got_at n k) q.got → (j : ℕ) → IsFront (got_at n j) (got_at m j)
 got-set n m k q e here j =
-    subst (λ l. IsFront (got_at n j) (get_or l j new_peer).got) (sym e) (set-each (λ i x. IsFront (got_at n i) x.got) n.peers k j q new_peer here (λ i. front-same (got_at n i)))
+    subst (λ l. IsFront (got_at n j) (get_or l j new_peer).got) (sym e) (each-set (λ i x. IsFront (got_at n i) x.got) n.peers k j q new_peer here (λ i. front-same (got_at n i)))
 
 quiet-goes : (n m : NodeState) → m.peers ≡ n.peers → m.ports ≡ n.ports → HostGoes n m
 quiet-goes n m e f = record { more = got-same n m e; ports = ports-same (IsEventOf (got_at m)) n m f }
@@ -194,14 +192,18 @@ module _ (n : NodeState) where
   call-goes : (port : ℕ) (call : Called) → IsCall n port call → call.node.peers ≡ n.peers → HostGoes n call.node
   call-goes port call is e = record { more = got-same n call.node e; ports = ports-set (IsEventOf (got_at call.node)) n call.node port is.after is.ports (called-still (IsEventOf (got_at call.node) port) (port_at n port) is.after is.change) }
 
-  send-goes : (s : Wanted) (o : Option ClientState) (m : NodeState) → IsSend n s o m → HostGoes n m
-  send-goes s o m (no_send e) = quiet-goes n m (ap (λ x. x.peers) e) (ap (λ x. x.ports) e)
-  send-goes s o m (accepts p c t ts e d f none now) =
+  send-goes : (s : Wanted) (p : PortState) (c : ClientState) (t : ℕ) (ts : List ℕ) → port_at n s.port ≡ Some p → HostGoes n (send_accepted n s p c t ts).node
+  send-goes s p c t ts e =
+      let m : NodeState = (send_accepted n s p c t ts).node in
       let q : PeerState = with_message (peer_at n s.dest) (wanted_message s) (record { port = s.port; token = t }) in
       record {
-        more = got-set n m s.dest q (ap (λ x. x.peers) now) (front-same (got_at n s.dest));
-        ports = ports-set (IsEventOf (got_at m)) n m s.port (Some (sent_with p t (client_bytes s.len s.seed))) (ap (λ x. x.ports) now) (record { still = λ a. subst (AreOf (got_at m) s.port) e a });
+        more = got-set n m s.dest q refl (front-same (got_at n s.dest));
+        ports = ports-set (IsEventOf (got_at m)) n m s.port (Some (sent_with p t (client_bytes s.len s.seed))) refl (record { still = λ a. subst (AreOf (got_at m) s.port) e a });
       }
+
+  called-goes : {c : Option ClientState} {port : ℕ} {call : Called} → CallDoes n c port call → HostGoes n call.node
+  called-goes (CallDoes.at_port {port = port} {call = call} i e) = call-goes port call i e
+  called-goes (CallDoes.accepts s p d t ts e f g k) = send-goes s p d t ts e
 
 -- a change of a host of the fabric
 record Still (count h : ℕ) (n m : NodeState) : Type 0 where
@@ -216,11 +218,7 @@ event-rules n w is = record {
   hears = λ h wire good. record { still = λ low. all-of (node_at w h) _ (heard-goes (node_at w h) (host_count w) (reached-known n w h is low).peers (provided-untouched n w is h) (sent_between w) h wire _ (λ a. (((reached-windowed n w is).ordered.hosts a).peers h).short) good (hear-is h (host_count w) (node_at w h) wire)) };
   sends = λ h out e. record { still = λ low. all-of (node_at w h) _ (sending-goes (node_at w h) out) };
   expires = λ h peer. record { still = λ low. all-of (node_at w h) _ (peer-goes (node_at w h) peer (peer_expired (peer_at (node_at w h) peer)) (front-same (got_at (node_at w h) peer))) };
-  begins = λ h port sends recvs. record { still = λ low. all-of (node_at w h) _ (call-goes (node_at w h) port _ (begun-is (node_at w h) port sends recvs (client_at w h port)) (begun-peers (node_at w h) port sends recvs (client_at w h port))) };
-  closes = λ h port. record { still = λ low. all-of (node_at w h) _ (call-goes (node_at w h) port _ (closed-is (node_at w h) port (client_at w h port)) (closed-peers (node_at w h) port (client_at w h port))) };
-  provides = λ h port size prio. record { still = λ low. all-of (node_at w h) _ (call-goes (node_at w h) port _ (provided_by-is (node_at w h) port size prio (client_at w h port)) (provided_by-peers (node_at w h) port size prio (client_at w h port))) };
-  accepts = λ h s. record { still = λ low. all-of (node_at w h) _ (send-goes (node_at w h) s (client_at w h s.port) _ (sent_by-is (node_at w h) s (client_at w h s.port))) };
-  polls = λ h port. record { still = λ low. all-of (node_at w h) _ (call-goes (node_at w h) port _ (polled_by-is (node_at w h) port (client_at w h port)) (polled_by-peers (node_at w h) port (client_at w h port))) };
+  calls = λ h port call k. record { still = λ low. all-of (node_at w h) _ (called-goes (node_at w h) (call-does k)) };
 }
 
 -- the invariant
@@ -238,7 +236,7 @@ all-messages n w [] may is = is
 all-messages n w (a ∷ acts) may is = all-messages n (acted w a) acts may.1 (acted-messages n w a may.0 is)
 
 new-of : (k : ℕ) → AllOf (new_node k)
-new-of k = record { each = λ port. at-replicate (AreOf (got_at (new_node k)) port) port_count port None None tt tt }
+new-of k = record { each = λ port. each-replicate (AreOf (got_at (new_node k)) port) port_count port None None tt tt }
 
 reached-of : (n : Network) (w : WorldState) → IsReached n w → (h : ℕ) → AllOf (node_at w h)
 reached-of n w is h = by (nat_lt h (length n.hosts)) refl
@@ -247,7 +245,7 @@ reached-of n w is h = by (nat_lt h (length n.hosts)) refl
     k = length n.hosts
 
     start : HasMessages n (new_world n)
-    start = record { reached = record { fabric = is.fabric; acts = []; may = tt; leads = refl }; hosts = λ j low. at-replicate AllOf k j (new_node k) (new_node 0) (new-of k) (new-of 0) }
+    start = record { reached = record { fabric = is.fabric; acts = []; may = tt; leads = refl }; hosts = λ j low. each-replicate AllOf k j (new_node k) (new_node 0) (new-of k) (new-of 0) }
 
     all : HasMessages n w
     all = subst (HasMessages n) (sym is.leads) (all-messages n (new_world n) is.acts is.may start)

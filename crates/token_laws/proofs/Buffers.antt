@@ -1,5 +1,5 @@
 -- Every act leaves each provided buffer as it was provided.
-use Rattle.std.proofs.Common.{◌≡◌, ℕ, Bool, true, false, List, [], ◌∷◌, length, replicate, get_or, set, nat_eq, Option, Some, None, IfSome, option_map, refl, sym, ap, subst, if◌then◌else◌}
+use Rattle.std.proofs.Common.{◌≡◌, ℕ, Bool, true, false, List, [], ◌∷◌, length, replicate, get_or, set, nat_eq, Option, Some, None, IfSome, option_map, refl, sym, subst, if◌then◌else◌}
 use Rattle.std.specs.List.{AllByRecursion}
 use Rattle.net_defs.specs.Network.{Network}
 use Rattle.net_defs.proofs.Distinct.{all-push}
@@ -14,19 +14,17 @@ use Rattle.world_defs.specs.declared.effect.Said.TheVariants.{Count}
 use Rattle.world_defs.specs.Peer.{Ticket, peer_acknowledged, tickets_finished, peer_after}
 use Rattle.world_defs.specs.Node.{NodeState, Outgoing, Probe, TablePart, Reply, PartAnswer, FrameAnswer, Fragment, peer_at, with_peer, port_at, with_port, after_sending, new_node, port_count}
 use Rattle.world_defs.specs.Hearing.{message_of, delivered_after, frame_took, all_finished}
-use Rattle.world_defs.specs.Client.{ClientState, Called, Wanted, client_bytes, empty_buffer, refused, left, close_open, closed}
+use Rattle.world_defs.specs.Client.{ClientState, Called, Wanted, client_bytes, empty_buffer, refused, left, close_open, closed, send_accepted}
 use Rattle.world_defs.specs.World.{WorldState, host_count, new_world, node_at, client_at}
 use Rattle.world_laws.proofs.Lists.{at-set}
-use Rattle.run_defs.specs.Headline.{Act, acted, acted_all, MayAct, MayActAll}
-use Rattle.table_laws.specs.Acts.{IsReached}
+use Rattle.act_defs.specs.Acts.{Act, acted, acted_all, MayAct, MayActAll, IsReached}
 use Rattle.window_laws.proofs.Heard.{IsHeard, quietly, of_frame, of_ack, hear-is}
-use Rattle.window_laws.proofs.Sends.{IsSend, stays as no_send, accepts, sent_by-is}
 use Rattle.window_laws.proofs.Hosts.{Rules, Goes, acted-goes}
-use Rattle.window_laws.proofs.Reaching.{reached-next}
+use Rattle.act_defs.proofs.Reaching.{reached-next}
 use Rattle.window_laws.proofs.Windows.{numbers_of, reached-windowed}
 use Rattle.token_laws.specs.Untouched.{IsUntouched, ProvidedBuffersAreUntouched, ClosedBuffersAreUntouched}
-use Rattle.token_laws.proofs.Calls.{PortCalled, stays, opens, closes, provides, polls, IsCall, begun-is, closed-is, provided_by-is, polled_by-is}
-use Rattle.token_laws.proofs.Lists.{at-replicate}
+use Rattle.token_laws.proofs.Calls.{PortCalled, stays, opens, closes, provides, polls, IsCall, CallDoes, call-does}
+use Rattle.act_defs.proofs.Lists.{each-replicate}
 
 -- an open port whose provided buffers are untouched
 abbrev AreUntouched : Option PortState → Type 0
@@ -120,13 +118,16 @@ sending-still n (PartAnswer a) = host-same n (record n { part_ack = None }) refl
 sending-still n (FrameAnswer peer next by) = host-same n (with_peer n peer _) refl
 sending-still n (Fragment peer head part by) = host-same n (with_peer n peer _) refl
 
-send-still : (n : NodeState) (s : Wanted) (o : Option ClientState) (m : NodeState) → IsSend n s o m → HostStill n m
-send-still n s o m (no_send e) = host-same n m (ap (λ x. x.ports) e)
-send-still n s o m (accepts p c t ts e d f none now) =
-    host-set n m s.port (Some (sent_with p t (client_bytes s.len s.seed))) (ap (λ x. x.ports) now) (record { still = λ a. subst AreUntouched e a })
+send-still : (n : NodeState) (s : Wanted) (p : PortState) (c : ClientState) (t : ℕ) (ts : List ℕ) → port_at n s.port ≡ Some p → HostStill n (send_accepted n s p c t ts).node
+send-still n s p c t ts e =
+    host-set n (send_accepted n s p c t ts).node s.port (Some (sent_with p t (client_bytes s.len s.seed))) refl (record { still = λ a. subst AreUntouched e a })
 
 call-still : (n : NodeState) (port : ℕ) (call : Called) → IsCall n port call → HostStill n call.node
 call-still n port call is = host-set n call.node port is.after is.ports (called-still (port_at n port) is.after is.change)
+
+does-still : {n : NodeState} {c : Option ClientState} {port : ℕ} {call : Called} → CallDoes n c port call → HostStill n call.node
+does-still {n = n} (CallDoes.at_port {port = port} {call = call} i e) = call-still n port call i
+does-still {n = n} (CallDoes.accepts s p d t ts e f g k) = send-still n s p d t ts e
 
 abbrev Still : ℕ → NodeState → NodeState → Type 0
 Still h n m = HostStill n m
@@ -137,11 +138,7 @@ buffer-rules w = record {
   hears = λ h wire good. heard-still h (host_count w) (node_at w h) wire _ (hear-is h (host_count w) (node_at w h) wire);
   sends = λ h out e. sending-still (node_at w h) out;
   expires = λ h peer. host-same (node_at w h) _ refl;
-  begins = λ h port sends recvs. call-still (node_at w h) port _ (begun-is (node_at w h) port sends recvs (client_at w h port));
-  closes = λ h port. call-still (node_at w h) port _ (closed-is (node_at w h) port (client_at w h port));
-  provides = λ h port size prio. call-still (node_at w h) port _ (provided_by-is (node_at w h) port size prio (client_at w h port));
-  accepts = λ h s. send-still (node_at w h) s (client_at w h s.port) _ (sent_by-is (node_at w h) s (client_at w h s.port));
-  polls = λ h port. call-still (node_at w h) port _ (polled_by-is (node_at w h) port (client_at w h port));
+  calls = λ h port call k. does-still (call-does k);
 }
 
 -- the invariant
@@ -161,8 +158,8 @@ all-untouched n w (a ∷ acts) may is = all-untouched n (acted w a) acts may.1 (
 new-untouched : (n : Network) (h port : ℕ) → AreUntouched (port_at (node_at (new_world n) h) port)
 new-untouched n h port =
     let k : ℕ = length n.hosts in
-    let none : AreUntouched (get_or (replicate {A = Option PortState} port_count None) port None) = at-replicate AreUntouched port_count port None None tt tt in
-    at-replicate (λ m. AreUntouched (port_at m port)) k h (new_node k) (new_node 0) none none
+    let none : AreUntouched (get_or (replicate {A = Option PortState} port_count None) port None) = each-replicate AreUntouched port_count port None None tt tt in
+    each-replicate (λ m. AreUntouched (port_at m port)) k h (new_node k) (new_node 0) none none
 
 pub provided-untouched : ProvidedBuffersAreUntouched
 provided-untouched n w is h port p e =

@@ -7,7 +7,7 @@ use Rattle.gm_defs.specs.declared.frame.FrameHead.{FrameHead}
 use Rattle.gm_defs.specs.Token.{Sending, Provided, PortEvent, Sent, Received, PortState, fitting}
 use Rattle.gm_defs.specs.Port.{send_of, ended_by, finished, filled, taken_by, delivered}
 use Rattle.world_defs.specs.Node.{NodeState, port_at}
-use Rattle.order_laws.proofs.Nodes.{set-each}
+use Rattle.act_defs.proofs.Lists.{each-set}
 use Rattle.token_laws.proofs.Calls.{PortCalled, stays, opens, closes, provides, polls}
 
 -- it holds of each event of an open port
@@ -66,4 +66,4 @@ ports-same E n m e port = subst (λ ps. PortStill (E port) (port_at n port) (get
 
 pub ports-set : (E : ℕ → PortEvent → Type 0) (n m : NodeState) (port : ℕ) (o : Option PortState) → m.ports ≡ set n.ports port o → PortStill (E port) (port_at n port) o → (j : ℕ) → PortStill (E j) (port_at n j) (port_at m j)
 ports-set E n m port o e here j =
-    subst (λ ps. PortStill (E j) (port_at n j) (get_or ps j None)) (sym e) (set-each (λ i x. PortStill (E i) (port_at n i) x) n.ports port j o None here (λ i. port-same (E i) (port_at n i)))
+    subst (λ ps. PortStill (E j) (port_at n j) (get_or ps j None)) (sym e) (each-set (λ i x. PortStill (E i) (port_at n i) x) n.ports port j o None here (λ i. port-same (E i) (port_at n i)))

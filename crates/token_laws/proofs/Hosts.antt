@@ -13,23 +13,22 @@ use Rattle.gm_defs.specs.Fragment.{piece_count, whole_below}
 use Rattle.gm_defs.specs.Connection.{SenderState, IsSender, is_spent, is_taken, acknowledged}
 use Rattle.gm_defs.specs.Token.{Sending, PortState, sent_tokens}
 use Rattle.gm_defs.specs.Port.{is_too_long, sent_with, delivered}
-use Rattle.gm_defs.proofs.Fronts.{both}
+use Rattle.gm_defs.proofs.Choices.{both}
 use Rattle.world_defs.specs.declared.client.ClientCause.TheVariants.{TooLong, NoRoute, Spent}
 use Rattle.world_defs.specs.Table.{table_route}
 use Rattle.world_defs.specs.Peer.{PeerState, Ticket, new_peer, with_message, finished_by, peer_acknowledged, tickets_finished, peer_expired, peer_sent_one, peer_answered, peer_after}
 use Rattle.world_defs.specs.Node.{NodeState, Outgoing, Probe, TablePart, Reply, PartAnswer, FrameAnswer, Fragment, peer_at, with_peer, port_at, after_sending, node_expired}
 use Rattle.world_defs.specs.Hearing.{message_of, delivered_after, frame_took, all_finished, hear}
-use Rattle.world_defs.specs.Client.{ClientState, Called, Wanted, client_bytes, wanted_message, send_accepted, send_refusal, sent_by}
+use Rattle.world_defs.specs.Client.{ClientState, Called, Wanted, client_bytes, wanted_message, send_accepted, send_refusal}
 use Rattle.world_defs.specs.Sound.{HasOwners, AreOwned}
 use Rattle.order_laws.proofs.Peers.{IsNumbered}
 use Rattle.window_laws.proofs.Heard.{IsHeard, quietly, of_frame, of_ack, hear-is}
-use Rattle.window_laws.proofs.Sends.{IsSend, stays, accepts, sent_by-is}
 use Rattle.window_laws.proofs.Numbers.{all_finished-peers, delivered_after-peers}
 use Rattle.window_laws.proofs.Taken.{whole-below}
 use Rattle.token_laws.specs.Unfinished.{send_at, tickets_with}
 use Rattle.token_laws.proofs.Matching.{same-or, OneAfter, the_one, another, tickets-long, matched-same, matched-accepted}
 use Rattle.token_laws.proofs.Sendings.{under, tokens, under-none, under-joined, under-new}
-use Rattle.token_laws.proofs.Calls.{IsCall}
+use Rattle.token_laws.proofs.Calls.{IsCall, CallDoes}
 use Rattle.token_laws.proofs.Ports.{send_in, delivered-sends, called-sends, set-sends, SameTickets, peers-same, peers-set, left_to, HostMatched, host-same, HasApartSends, AllApart, port-there, same-ticket, at, at-here, at-other, all-finished}
 
 -- what is known of a host, one of so many, and of its clients
@@ -333,10 +332,6 @@ module _ (n : NodeState) (client : ℕ → Option ClientState) (hosts : ℕ) (kn
   owners : (o : Option PortState) (d : Option ClientState) (p : PortState) (c : ClientState) → o ≡ Some p → d ≡ Some c → AreOwned o d → HasOwners p c
   owners o d p c e f own = subst (λ z. AreOwned (Some p) z) f (subst (λ z. AreOwned z d) e own)
 
-  send-matched : (s : Wanted) (m : NodeState) → IsSend n s (client s.port) m → HostMatched n → HostMatched m
-  send-matched s m (stays e) is = subst HostMatched (sym e) is
-  send-matched s m (accepts p c t ts e d f none now) is =
-      subst HostMatched (sym now) (accepted-matched s p c t ts e f (owners (port_at n s.port) (client s.port) p c e d (known.owned s.port)) none is)
-
-  pub sent_by-matched : (s : Wanted) → HostMatched n → HostMatched (sent_by n s (client s.port)).node
-  sent_by-matched s is = send-matched s (sent_by n s (client s.port)).node (sent_by-is n s (client s.port)) is
+  pub called-matched : {port : ℕ} {call : Called} → CallDoes n (client port) port call → HostMatched n → HostMatched call.node
+  called-matched (CallDoes.at_port {port = port} {call = call} i e) is = call-same n port call i e is
+  called-matched (CallDoes.accepts s p c t ts e d f none) is = accepted-matched s p c t ts e f (owners (port_at n s.port) (client s.port) p c e d (known.owned s.port)) none is

@@ -6,22 +6,20 @@ use Rattle.net_defs.specs.Network.{Network}
 use Rattle.world_defs.specs.Peer.{Ticket, new_peer}
 use Rattle.world_defs.specs.Node.{NodeState, peer_at, port_at, new_node, port_count}
 use Rattle.world_defs.specs.World.{WorldState, host_count, new_world, node_at, client_at}
-use Rattle.run_defs.specs.Headline.{Act, acted, acted_all, MayAct, MayActAll}
-use Rattle.table_laws.specs.Acts.{IsReached}
-use Rattle.order_laws.proofs.Nodes.{begun-peers, closed-peers, provided_by-peers, polled_by-peers}
+use Rattle.act_defs.specs.Acts.{Act, acted, acted_all, MayAct, MayActAll, IsReached}
 use Rattle.window_laws.proofs.Hosts.{Rules, Goes, acted-goes}
 use Rattle.window_laws.proofs.Taken.{whole-below}
-use Rattle.window_laws.proofs.Reaching.{reached-next}
+use Rattle.act_defs.proofs.Reaching.{reached-next}
 use Rattle.window_laws.proofs.Windows.{IsWindowed, numbers_of, reached-windowed}
 use Rattle.token_laws.specs.Tickets.{AreMatched}
 use Rattle.token_laws.specs.Unfinished.{send_at, tickets_with, unfinished_to, QueueIsUnfinished, EachSendHasOneTicket}
 use Rattle.token_laws.proofs.Matching.{matched-same}
 use Rattle.token_laws.proofs.Sendings.{under-some}
-use Rattle.token_laws.proofs.Calls.{begun-is, closed-is, provided_by-is, polled_by-is}
+use Rattle.token_laws.proofs.Calls.{call-does}
 use Rattle.token_laws.proofs.Ports.{send_in, left_to, HostMatched}
-use Rattle.token_laws.proofs.Hosts.{call-same, sending-same, expired-same, quiet-same, hear-matched, sent_by-matched}
+use Rattle.token_laws.proofs.Hosts.{sending-same, expired-same, quiet-same, hear-matched, called-matched}
 use Rattle.token_laws.proofs.Reaching.{reached-count, reached-known}
-use Rattle.token_laws.proofs.Lists.{at-replicate}
+use Rattle.act_defs.proofs.Lists.{each-replicate}
 
 -- a change of a host of the fabric leaves its sends, tickets and messages matched
 record MatchedStill (count h : ℕ) (n m : NodeState) : Type 0 where
@@ -36,11 +34,7 @@ matched-rules n w is = record {
   hears = λ h wire good. record { still = λ low. hear-matched (node_at w h) (client_at w h) (host_count w) (reached-known n w h is low) h wire };
   sends = λ h out e. record { still = λ low. sending-same (node_at w h) out };
   expires = λ h peer. record { still = λ low. expired-same (node_at w h) peer };
-  begins = λ h port sends recvs. record { still = λ low. call-same (node_at w h) port _ (begun-is (node_at w h) port sends recvs (client_at w h port)) (begun-peers (node_at w h) port sends recvs (client_at w h port)) };
-  closes = λ h port. record { still = λ low. call-same (node_at w h) port _ (closed-is (node_at w h) port (client_at w h port)) (closed-peers (node_at w h) port (client_at w h port)) };
-  provides = λ h port size prio. record { still = λ low. call-same (node_at w h) port _ (provided_by-is (node_at w h) port size prio (client_at w h port)) (provided_by-peers (node_at w h) port size prio (client_at w h port)) };
-  accepts = λ h s. record { still = λ low. sent_by-matched (node_at w h) (client_at w h) (host_count w) (reached-known n w h is low) s };
-  polls = λ h port. record { still = λ low. call-same (node_at w h) port _ (polled_by-is (node_at w h) port (client_at w h port)) (polled_by-peers (node_at w h) port (client_at w h port)) };
+  calls = λ h port call k. record { still = λ low. called-matched (node_at w h) (client_at w h) (host_count w) (reached-known n w h is low) (call-does k) };
 }
 
 -- the invariant
@@ -63,15 +57,15 @@ none-matched = record { of_messages = λ k. tt; one_each = λ t s e. cc }
 
 new-matched : (k : ℕ) → HostMatched (new_node k)
 new-matched k =
-    let peer : (j : ℕ) → peer_at (new_node k) j ≡ new_peer = λ j. at-replicate (λ x. x ≡ new_peer) k j new_peer new_peer refl refl in
-    let port : (j : ℕ) → port_at (new_node k) j ≡ None = λ j. at-replicate (λ o. o ≡ None) port_count j None None refl refl in
+    let peer : (j : ℕ) → peer_at (new_node k) j ≡ new_peer = λ j. each-replicate (λ x. x ≡ new_peer) k j new_peer new_peer refl refl in
+    let port : (j : ℕ) → port_at (new_node k) j ≡ None = λ j. each-replicate (λ o. o ≡ None) port_count j None None refl refl in
     matched-same (λ (t : Ticket). None) (send_at (new_node k)) (λ j. []) (tickets_with (new_node k)) (λ j. []) (left_to (new_node k)) (λ x. ap (λ o. send_in o x.token) (port x.port)) (λ j. ap (λ p. p.pending) (peer j))
     (λ j. ap (λ p. drop p.sender.base p.sent) (peer j)) none-matched
 
 new-world-matched : (n : Network) (is : IsReached n (new_world n)) → IsMatched n (new_world n)
 new-world-matched n is =
     let k : ℕ = length n.hosts in
-    record { reached = is; hosts = λ h low. at-replicate HostMatched k h (new_node k) (new_node 0) (new-matched k) (new-matched 0) }
+    record { reached = is; hosts = λ h low. each-replicate HostMatched k h (new_node k) (new_node 0) (new-matched k) (new-matched 0) }
 
 pub reached-matched : (n : Network) (w : WorldState) → IsReached n w → (h : ℕ) → HostMatched (node_at w h)
 reached-matched n w is h = by (nat_lt h (length n.hosts)) refl

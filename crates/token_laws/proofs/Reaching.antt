@@ -2,10 +2,10 @@
 use Rattle.std.proofs.Common.{◌≡◌, ◌<◌, ℕ, length, sym, ap, ◌∙◌, subst, arith}
 use Rattle.net_defs.specs.Network.{Network}
 use Rattle.world_defs.specs.Node.{port_at}
-use Rattle.world_defs.specs.World.{WorldState, host_count, new_world, node_at, client_at}
+use Rattle.world_defs.specs.World.{WorldState, host_count, node_at, client_at}
 use Rattle.world_defs.specs.Sound.{AreOwned}
-use Rattle.table_laws.specs.Acts.{IsReached}
-use Rattle.table_laws.proofs.Steps.{IsOfSet, acted_all-of, new-of}
+use Rattle.act_defs.specs.Acts.{IsReached}
+use Rattle.table_laws.proofs.Dependencies.{reached-of}
 use Rattle.owner_laws.proofs.Owners.{always-owned}
 use Rattle.window_laws.proofs.Windows.{IsWindowed, reached-windowed}
 use Rattle.window_laws.proofs.Taken.{reached-world}
@@ -14,8 +14,7 @@ use Rattle.token_laws.proofs.Routed.{route-there}
 
 pub reached-count : (n : Network) (w : WorldState) → IsReached n w → host_count w ≡ length n.hosts
 reached-count n w is =
-    let set : IsOfSet n w = subst (IsOfSet n) (sym is.leads) (acted_all-of n (new_world n) is.acts is.fabric is.may (new-of n)) in
-    (reached-world n w is).hosts ∙ ap (λ m. length m.hosts) set.net
+    (reached-world n w is).hosts ∙ ap (λ m. length m.hosts) (reached-of n w is).net
 
 pub reached-known : (n : Network) (w : WorldState) (h : ℕ) → IsReached n w → h < length n.hosts → IsKnown (node_at w h) (client_at w h) (host_count w)
 reached-known n w h is low =

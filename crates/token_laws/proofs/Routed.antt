@@ -4,10 +4,10 @@ use Rattle.std.specs.Prelude.{find, option_and_then}
 use Rattle.std.specs.List.{AllByRecursion}
 use Rattle.std.proofs.lemmas.Bool.Decides.{nat_tests}
 use Rattle.net_defs.specs.Network.{Network}
-use Rattle.gm_defs.specs.Mapping.{RouteEntry}
+use Rattle.mapping_defs.specs.Mapping.{RouteEntry}
 use Rattle.world_defs.specs.Table.{Adoption, ActiveTable, table_route, entries_from}
 use Rattle.world_defs.specs.World.{WorldState, node_at}
-use Rattle.table_laws.specs.Acts.{IsReached}
+use Rattle.act_defs.specs.Acts.{IsReached}
 use Rattle.table_laws.specs.Set.{IsActive}
 use Rattle.table_laws.proofs.Sets.{entries-all}
 use Rattle.table_laws.proofs.Dependencies.{tables-of_set, adopted-adoptable}

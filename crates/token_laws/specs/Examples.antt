@@ -9,8 +9,7 @@ use Rattle.world_defs.specs.Peer.{Ticket}
 use Rattle.world_defs.specs.Node.{port_at}
 use Rattle.world_defs.specs.Client.{empty_buffer, closed}
 use Rattle.world_defs.specs.World.{WorldState, new_world, node_at, client_at}
-use Rattle.run_defs.specs.Headline.{Happens, acted_all}
-use Rattle.table_laws.specs.Acts.{IsReached}
+use Rattle.act_defs.specs.Acts.{Happens, acted_all, IsReached}
 use Rattle.owner_laws.specs.Examples.{busy_world}
 use Rattle.order_laws.specs.Examples.{message_world, ten}
 use Rattle.window_laws.specs.Examples.{answered_world}

@@ -8,7 +8,7 @@ use Rattle.world_defs.specs.Node.{port_at}
 use Rattle.world_defs.specs.Client.{empty_buffer}
 use Rattle.world_defs.specs.World.{WorldState, node_at}
 use Rattle.world_defs.specs.Traffic.{got_between}
-use Rattle.table_laws.specs.Acts.{IsReached}
+use Rattle.act_defs.specs.Acts.{IsReached}
 
 -- What a received event says is of a message that was got from there for its port: the message's bytes stand in front, and behind them the zero bytes of the buffer that was provided, which is of the least size that has room.
 pub record IsOfMessage (got : ℕ → List Message) (port : ℕ) (buffer : List ℕ) (from sport prio len : ℕ) : Type 0 where

@@ -8,7 +8,7 @@ use Rattle.gm_defs.specs.Port.{send_of}
 use Rattle.world_defs.specs.Peer.{Ticket}
 use Rattle.world_defs.specs.Node.{NodeState, peer_at, port_at}
 use Rattle.world_defs.specs.World.{WorldState, node_at}
-use Rattle.table_laws.specs.Acts.{IsReached}
+use Rattle.act_defs.specs.Acts.{IsReached}
 use Rattle.token_laws.specs.Tickets.{HasOneTicket, AreMatched}
 
 -- the send that stands under a token in the queue of an open port

@@ -7,7 +7,7 @@ use Rattle.world_defs.specs.declared.effect.Said.TheVariants.{Count}
 use Rattle.world_defs.specs.Node.{port_at}
 use Rattle.world_defs.specs.Client.{empty_buffer, closed}
 use Rattle.world_defs.specs.World.{WorldState, node_at, client_at}
-use Rattle.table_laws.specs.Acts.{IsReached}
+use Rattle.act_defs.specs.Acts.{IsReached}
 
 -- a provided buffer is as its client provided it: zero bytes, as many as its size has room for
 abbrev pub IsUntouched : Provided → Type 0

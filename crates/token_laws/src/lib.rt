@@ -1,6 +1,6 @@
 //! What holds of the tokens and buffers of ports, after every list of acts that may happen.
 //!
-//! A law is a function without parameters: its contract is the law, and its body is empty. The statements stand in `specs/`.
+//! It holds no port, and leaves out that each token has one owner: that is `owner_laws`. Read `specs/Tickets.antt` first.
 //!
 //! | file of `specs/` | says |
 //! |---|---|

@@ -18,7 +18,5 @@
 mod levels;
 mod orientation;
 mod places;
-#[cfg(test)]
-mod tests;
 
 pub use orientation::{Orientation, orient};

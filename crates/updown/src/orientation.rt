@@ -1,12 +1,11 @@
 //! The orientation of a map.
 
-ghost use Rattle.std.specs.Prelude.{◌≡◌, ◌<◌, ◌*◌, ◌/◌, pos, ◌-ℤ◌, ◌+ℤ◌, nat_abs, false, length, slice_index_or, IfOk};
+ghost use Rattle.std.specs.Prelude.{◌≡◌, ◌<◌, ◌*◌, ◌/◌, pos, ◌-ℤ◌, ◌+ℤ◌, nat_abs, false, length, slice_index_or, IfOk, map};
 ghost use Rattle.net_defs.specs.Turn.{is_turn, IsTurn};
 ghost use Rattle.map_defs.specs.NetMap.{NetMap, IsMap, IsConnected};
 ghost use Rattle.map_defs.specs.Orientation.{order_of, is_up};
 ghost use Rattle.fabric_map.specs.Table.{place_of_port};
 ghost use Rattle.updown.specs.Oriented.{orientation_of, port_at, up_in};
-ghost use Rattle.std.specs.Prelude.{map};
 ghost use Rattle.journal_defs.specs.Counting.{numbers_below};
 
 use crate::levels::levels;

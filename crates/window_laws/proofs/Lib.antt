@@ -1,7 +1,6 @@
 pub mod Heard
 pub mod Sends
 pub mod Hosts
-pub mod Links
 pub mod Numbers
 pub mod Windows
 pub mod Honest

@@ -13,14 +13,15 @@ use Rattle.gm_defs.specs.declared.token.Took.TheVariants.{NotNext, NoToken, Whol
 use Rattle.gm_defs.specs.Body.{decode, part_in}
 use Rattle.gm_defs.specs.Connection.{SenderState, window, due, is_taken, acknowledged, took, taken_after}
 use Rattle.gm_defs.specs.Port.{finished}
-use Rattle.gm_defs.proofs.Fronts.{both}
+use Rattle.gm_defs.proofs.Choices.{both}
 use Rattle.world_defs.specs.Peer.{PeerState, Ticket, new_peer, with_message, peer_acknowledged, tickets_finished, peer_expired, peer_sent_one, peer_answered, peer_after}
 use Rattle.world_defs.specs.Node.{NodeState, Outgoing, Probe, TablePart, Reply, PartAnswer, FrameAnswer, Fragment, peer_at, with_peer, port_at, with_port, to_send, after_sending, node_expired}
 use Rattle.world_defs.specs.Hearing.{message_of, delivered_after, frame_took, all_finished, hear}
-use Rattle.world_defs.specs.Client.{ClientState, Wanted, wanted_message, sent_by}
-use Rattle.order_laws.proofs.Nodes.{set-each}
+use Rattle.world_defs.specs.Client.{ClientState, Called, wanted_message}
+use Rattle.act_defs.proofs.Calls.{Call}
+use Rattle.act_defs.proofs.Lists.{each-set}
 use Rattle.window_laws.proofs.Heard.{IsHeard, quietly, of_frame, of_ack, hear-is}
-use Rattle.window_laws.proofs.Sends.{IsOut, to_send-out, IsSend, stays, accepts, sent_by-is}
+use Rattle.window_laws.proofs.Sends.{IsOut, to_send-out}
 
 -- what a body says, where these are the tops of the senders and what was taken from them
 abbrev pub IsWithin : (ℕ → ℕ → ℕ) → (ℕ → ℕ → ℕ) → GmBody → Type 0
@@ -127,7 +128,7 @@ node-same top taken n m e = record { peers = λ p. subst (λ l. PeerGoes (top p)
 peer-node : (top taken : ℕ → ℕ) (n m : NodeState) (k : ℕ) (q : PeerState) → PeerGoes (top k) (taken k) (peer_at n k) q → m.peers ≡ (with_peer n k q).peers → NodeGoes top taken n m
 peer-node top taken n m k q here e = record {
   peers = λ p. subst (λ l. PeerGoes (top p) (taken p) (peer_at n p) (get_or l p new_peer)) (sym e)
-      (set-each (λ j x. PeerGoes (top j) (taken j) (peer_at n j) x) n.peers k p q new_peer here (λ j. peer-same (top j) (taken j) (peer_at n j) (peer_at n j) refl refl refl));
+      (each-set (λ j x. PeerGoes (top j) (taken j) (peer_at n j) x) n.peers k p q new_peer here (λ j. peer-same (top j) (taken j) (peer_at n j) (peer_at n j) refl refl refl));
 }
 
 pub all_finished-peers : (n : NodeState) (ts : List Ticket) → (all_finished n ts).peers ≡ n.peers
@@ -177,12 +178,14 @@ module _ (top taken : ℕ → ℕ) (n : NodeState) where
   pub expires-goes : (peer : ℕ) → NodeGoes top taken n (node_expired n peer)
   expires-goes peer = peer-node top taken n _ peer (peer_expired (peer_at n peer)) (peer-same (top peer) (taken peer) (peer_at n peer) (peer_expired (peer_at n peer)) refl refl refl) refl
 
-  -- a message is accepted
-  accept-goes : (s : Wanted) (o : Option ClientState) (m : NodeState) → IsSend n s o m → NodeGoes top taken n m
-  accept-goes s o m (stays e) = node-same top taken n m (ap (λ x. x.peers) e)
-  accept-goes s o m (accepts p c t ts e f g r is) =
-      let q : PeerState = with_message (peer_at n s.dest) (wanted_message s) (record { port = s.port; token = t }) in
-      peer-node top taken n m s.dest q (peer-same (top s.dest) (taken s.dest) (peer_at n s.dest) q refl refl refl) (ap (λ x. x.peers) is)
-
-  pub sent_by-goes : (s : Wanted) (o : Option ClientState) → NodeGoes top taken n (sent_by n s o).node
-  sent_by-goes s o = accept-goes s o (sent_by n s o).node (sent_by-is n s o)
+-- what its clients call for
+pub call-goes : (top taken : ℕ → ℕ) {n : NodeState} {c : Option ClientState} {port : ℕ} {call : Called} → Call n c port call → NodeGoes top taken n call.node
+call-goes top taken {n = n} Call.rests = node-same top taken n _ refl
+call-goes top taken {n = n} (Call.opens sends recvs d) = node-same top taken n _ refl
+call-goes top taken {n = n} (Call.closes p d e f) = node-same top taken n _ refl
+call-goes top taken {n = n} (Call.provides size prio t ts p d e f g k) = node-same top taken n _ refl
+call-goes top taken {n = n} (Call.accepts s t ts p d e f g k) =
+    let q : PeerState = with_message (peer_at n s.dest) (wanted_message s) (record { port = s.port; token = t }) in
+    peer-node top taken n _ s.dest q (peer-same (top s.dest) (taken s.dest) (peer_at n s.dest) q refl refl refl) refl
+call-goes top taken {n = n} (Call.hands_sent t buffer p d e f g) = node-same top taken n _ refl
+call-goes top taken {n = n} (Call.hands_received t buffer from sport prio len p d e f g) = node-same top taken n _ refl

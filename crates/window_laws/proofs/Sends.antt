@@ -1,16 +1,13 @@
--- What a host sends: an acknowledgement says how many fragments it has taken, and a fragment is the due one. And what a send that is accepted makes of its host.
-use Rattle.std.proofs.Common.{◌≡◌, ◌+◌, ◌<◌, ℕ, zero, suc, Bool, true, false, ℤ, List, [], ◌∷◌, length, Option, Some, None, option_map, refl, arith, subst, if◌then◌else◌}
+-- What a host sends: an acknowledgement says how many fragments it has taken, and a fragment is the due one.
+use Rattle.std.proofs.Common.{◌≡◌, ◌+◌, ◌<◌, ℕ, zero, suc, Bool, true, false, ℤ, List, length, Option, Some, None, option_map, refl, arith, subst, if◌then◌else◌}
 use Rattle.std.specs.List.{range_with_len}
 use Rattle.std.proofs.lemmas.Option.{same_Some}
 use Rattle.gm_defs.specs.declared.frame.FrameHead.{FrameHead}
 use Rattle.gm_defs.specs.Fragment.{frame_of}
 use Rattle.gm_defs.specs.Connection.{due}
-use Rattle.gm_defs.specs.Token.{PortState}
-use Rattle.gm_defs.proofs.Fronts.{then-some}
-use Rattle.world_defs.specs.declared.client.ClientCause.{ClientCause}
+use Rattle.gm_defs.proofs.Choices.{then-some}
 use Rattle.world_defs.specs.Table.{table_route}
-use Rattle.world_defs.specs.Node.{NodeState, Staged, StagedReply, StagedAck, StagedProbe, StagedPart, Outgoing, Probe, TablePart, Reply, PartAnswer, FrameAnswer, Fragment, peer_at, port_at, outgoing_staged, owed_to, due_to, due_frame, either, first_some, peers_of, to_send}
-use Rattle.world_defs.specs.Client.{ClientState, Wanted, send_accepted, send_refusal, send_unless, send_with, send_open, sent_by}
+use Rattle.world_defs.specs.Node.{NodeState, Staged, StagedReply, StagedAck, StagedProbe, StagedPart, Outgoing, Probe, TablePart, Reply, PartAnswer, FrameAnswer, Fragment, peer_at, outgoing_staged, owed_to, due_to, due_frame, either, first_some, peers_of, to_send}
 
 -- a fragment that is due to a peer
 pub record IsDue (host : ℕ) (n : NodeState) (peer : ℕ) (head : FrameHead) (part : List ℕ) : Type 0 where
@@ -76,26 +73,3 @@ module _ (host : ℕ) (n : NodeState) where
       (first_some-holds (IsOut host n) (owed_to n) 0 (length n.peers) (λ peer y l. owed-out peer (peer_at n peer).owes (table_route n.table peer) y (omega (arith, l))))
       (first_some-holds (IsOut host n) (due_to host n) 0 (length n.peers) (λ peer y l. due-out peer y (omega (arith, l)))))))
       x e
-
--- a client's send: the host stays, or the message is accepted
-pub data IsSend (n : NodeState) (s : Wanted) (o : Option ClientState) (m : NodeState) : Type 0 where
-  stays : m ≡ n → IsSend n s o m
-  accepts : (p : PortState) (c : ClientState) (t : ℕ) (ts : List ℕ) → port_at n s.port ≡ Some p → o ≡ Some c → c.sends ≡ t ∷ ts → send_refusal n s ≡ None → m ≡ (send_accepted n s p c t ts).node → IsSend n s o m
-
-module _ (n : NodeState) (s : Wanted) where
-  send_unless-is : (p : PortState) (c : ClientState) (t : ℕ) (ts : List ℕ) (r : Option ClientCause) → port_at n s.port ≡ Some p → c.sends ≡ t ∷ ts → send_refusal n s ≡ r → IsSend n s (Some c) (send_unless n s p c t ts r).node
-  send_unless-is p c t ts (Some cause) e d r = stays refl
-  send_unless-is p c t ts None e d r = accepts p c t ts e refl d r refl
-
-  send_with-is : (p : PortState) (c : ClientState) (ts : List ℕ) → port_at n s.port ≡ Some p → c.sends ≡ ts → IsSend n s (Some c) (send_with n s p c ts).node
-  send_with-is p c [] e d = stays refl
-  send_with-is p c (t ∷ ts) e d = send_unless-is p c t ts (send_refusal n s) e d refl
-
-  send_open-is : (c : Option ClientState) (p : Option PortState) → port_at n s.port ≡ p → IsSend n s c (send_open n s c p).node
-  send_open-is (Some c) (Some p) e = send_with-is p c c.sends e refl
-  send_open-is (Some c) None e = stays refl
-  send_open-is None p e = stays refl
-
-  pub sent_by-is : (c : Option ClientState) → IsSend n s c (sent_by n s c).node
-  unfolding sent_by
-  sent_by-is c = send_open-is c (port_at n s.port) refl

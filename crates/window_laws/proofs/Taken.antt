@@ -17,8 +17,7 @@ use Rattle.world_defs.specs.Settle.{unacknowledged_from, unacknowledged_in}
 use Rattle.world_defs.specs.Settled.{sender_between}
 use Rattle.world_laws.specs.Shape.{IsWorld}
 use Rattle.world_laws.proofs.Shapes.{step-kept, new-world, adopted-world, planned-world}
-use Rattle.run_defs.specs.Headline.{Act, Happens, Plans, Adopts, acted, acted_all}
-use Rattle.table_laws.specs.Acts.{IsReached}
+use Rattle.act_defs.specs.Acts.{Act, Happens, Plans, Adopts, acted, acted_all, IsReached}
 use Rattle.window_laws.specs.Got.{GotIsWholeBelowTaken, AllAcknowledgedIsAllGot, NoneUnacknowledgedIsAllGot}
 use Rattle.window_laws.proofs.Windows.{IsWindowed, reached-windowed}
 

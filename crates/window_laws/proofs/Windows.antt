@@ -1,41 +1,39 @@
 -- Every act leaves each connection its window, and each packet that says no number beyond it.
-use Rattle.std.proofs.Common.{◌≡◌, ◌+◌, ◌≤◌, ◌<◌, ◌^◌, ℕ, zero, suc, Bool, true, false, pos, List, [], ◌∷◌, ◌++◌, length, max, replicate, get_or, set, nat_eq, nat_lt, Ok, Err, inl, inr, refl, sym, ap, ◌∙◌, subst, arith, true≢false, if◌then◌else◌}
+use Rattle.std.proofs.Common.{◌≡◌, ◌+◌, ◌≤◌, ◌<◌, ◌^◌, ℕ, Bool, true, false, pos, List, [], ◌∷◌, ◌++◌, length, max, get_or, set, nat_eq, nat_lt, Ok, Err, inl, inr, refl, sym, ap, ◌∙◌, subst, arith, true≢false, if◌then◌else◌}
 use Rattle.std.proofs.lemmas.Bool.Decides.{nat_tests}
 use Rattle.std.proofs.lemmas.Nat.{from_be_bytes-to_be_bytes_2, from_be_bytes-to_be_bytes_4}
 use Rattle.std.proofs.lemmas.List.{get_or-set_same, get_or_past}
 use Rattle.net_defs.specs.Network.{Network, IsFabric}
 use Rattle.packet_defs.specs.declared.kind.Kind.{Kind}
 use Rattle.packet_defs.specs.declared.kind.Kind.TheVariants.{Mapping, Gm}
-use Rattle.packet_defs.specs.Packet.{difference}
-use Rattle.packet_defs.proofs.Packets.{packet_of-difference}
 use Rattle.link_defs.specs.Links.{Held}
 use Rattle.gm_defs.specs.declared.frame.FrameHead.{FrameHead}
 use Rattle.gm_defs.specs.declared.frame.Ack.{Ack}
 use Rattle.gm_defs.specs.declared.frame.GmBody.TheVariants.{Frame, Ack as Acknowledges}
 use Rattle.gm_defs.specs.Body.{head_in, ack_in, ack_length, frame_bytes, ack_bytes, begins_with, is_frame, is_ack}
-use Rattle.gm_defs.specs.Mapping.{mapping_bytes}
-use Rattle.gm_defs.specs.Mapping.MappingBody.{HostProbe, HostReply, Loopback, Part, PartAck}
+use Rattle.mapping_defs.specs.Mapping.{mapping_bytes}
+use Rattle.mapping_defs.specs.Mapping.MappingBody.{HostProbe, HostReply, Loopback, Part, PartAck}
 use Rattle.gm_defs.specs.Fragment.{Fragment as Piece, head_of}
 use Rattle.gm_defs.specs.Connection.{SenderState, window}
-use Rattle.gm_defs.proofs.Fronts.{both, chosen, map-some}
+use Rattle.gm_defs.proofs.Choices.{both, chosen, map-some}
 use Rattle.world_defs.specs.Peer.{PeerState, new_peer, peer_sent_one}
 use Rattle.world_defs.specs.Node.{NodeState, Outgoing, Probe, TablePart, Reply, PartAnswer, FrameAnswer, Fragment, peer_at, with_peer, way_back, packet_for, after_sending, new_node}
-use Rattle.world_defs.specs.World.{WorldState, fabric_of, new_world, node_at, client_at}
+use Rattle.world_defs.specs.World.{WorldState, fabric_of, new_world, node_at}
 use Rattle.world_defs.specs.Traffic.{taken_between}
 use Rattle.world_defs.specs.Settled.{sender_between}
 use Rattle.world_laws.specs.Shape.{HasSenders}
 use Rattle.world_laws.proofs.Shapes.{step-kept, new-senders, adopted-senders, planned-senders}
-use Rattle.run_defs.specs.Headline.{Act, Happens, Plans, Adopts, acted, acted_all, IsByteAct, MayAct, MayActAll}
+use Rattle.act_defs.specs.Acts.{Act, Happens, Plans, Adopts, acted, acted_all, MayAct, MayActAll, IsReached}
 use Rattle.table_laws.specs.Packets.{Built, IsHonest}
-use Rattle.table_laws.specs.Acts.{IsReached}
 use Rattle.table_laws.proofs.Medium.{Holds, weaker-holds, empty-holds, carries-honest}
-use Rattle.order_laws.proofs.Nodes.{begun-peers, closed-peers, provided_by-peers, polled_by-peers}
 use Rattle.order_laws.proofs.Worlds.{IsOrdered, acted_all-ordered, new-ordered}
 use Rattle.window_laws.specs.Windows.{WindowsHold}
 use Rattle.window_laws.proofs.Sends.{IsOut, to_send-out}
 use Rattle.window_laws.proofs.Hosts.{Rules, Goes, acted-goes}
-use Rattle.window_laws.proofs.Links.{HoldsOfNew, acted-keep}
-use Rattle.window_laws.proofs.Numbers.{IsWithin, SaysWithin, says-more, due-number, PeerGoes, NodeGoes, node-same, hear-goes, sends-goes, expires-goes, sent_by-goes}
+use Rattle.table_laws.proofs.Keeping.{new-honest, HoldsOfNew, acted-holds}
+use Rattle.act_defs.proofs.Lists.{each-replicate}
+use Rattle.act_defs.proofs.Kept.{may-byte}
+use Rattle.window_laws.proofs.Numbers.{IsWithin, SaysWithin, says-more, due-number, PeerGoes, NodeGoes, node-same, hear-goes, sends-goes, expires-goes, call-goes}
 
 -- one past the greatest number that a host ever sent to another
 abbrev pub top_between : WorldState → ℕ → ℕ → ℕ
@@ -68,11 +66,7 @@ number-rules w = record {
   hears = λ h wire good. hear-goes (top_between w) (taken_between w) h _ (node_at w h) wire good;
   sends = λ h out e. sends-goes (λ p. top_between w p h) (taken_between w h) (node_at w h) h out e;
   expires = λ h peer. expires-goes (λ p. top_between w p h) (taken_between w h) (node_at w h) peer;
-  begins = λ h port sends recvs. node-same (λ p. top_between w p h) (taken_between w h) (node_at w h) _ (begun-peers (node_at w h) port sends recvs (client_at w h port));
-  closes = λ h port. node-same (λ p. top_between w p h) (taken_between w h) (node_at w h) _ (closed-peers (node_at w h) port (client_at w h port));
-  provides = λ h port size prio. node-same (λ p. top_between w p h) (taken_between w h) (node_at w h) _ (provided_by-peers (node_at w h) port size prio (client_at w h port));
-  accepts = λ h s. sent_by-goes (λ p. top_between w p h) (taken_between w h) (node_at w h) s (client_at w h s.port);
-  polls = λ h port. node-same (λ p. top_between w p h) (taken_between w h) (node_at w h) _ (polled_by-peers (node_at w h) port (client_at w h port));
+  calls = λ h port call k. call-goes (λ p. top_between w p h) (taken_between w h) k;
 }
 
 -- what is read of what was written
@@ -168,14 +162,6 @@ honest-more G H held more is = record {
   built = λ m. let b = is.built m in record { route = b.route; kind = b.kind; payload = b.payload; written = b.written; good = more b.kind b.payload b.good };
 }
 
-new-honest : (G : Kind → List ℕ → Type 0) (wire : List ℕ) → Built G wire → IsHonest G (record { wire = wire; marked = false })
-new-honest G wire b = record { mark = ap difference b.written ∙ packet_of-difference b.route b.kind b.payload; built = λ e. b }
-
-may-byte : (w : WorldState) (a : Act) → MayAct w a → IsByteAct a
-may-byte w (Happens e) may = may
-may-byte w (Plans ahead fault) may = may.1
-may-byte w (Adopts mapper routes) may = tt
-
 acted-senders : (w : WorldState) (a : Act) → HasSenders w → HasSenders (acted w a)
 acted-senders w (Happens e) is = (step-kept w e).senders is
 acted-senders w (Plans ahead fault) is = planned-senders w ahead fault is
@@ -188,12 +174,12 @@ acted-windowed w a may is =
     let F : ℕ → Held → Type 0 = λ c. IsHonest (numbers_of v) in
     let tops : (a b : ℕ) → top_between w a b ≤ top_between v a b = λ a b. ((g.nodes a).peers b).top_rises in
     let takens : (a b : ℕ) → taken_between w a b ≤ taken_between v a b = λ a b. ((g.nodes b).peers a).taken_rises in
-    let new : HoldsOfNew F w v = λ h c out e d. new-honest (numbers_of v) (packet_for h (w.injected + 1) out) (packet-within w v h (w.injected + 1) out is takens (to_send-out h (node_at w h) out e) d) in
+    let new : HoldsOfNew F w v = λ h c out i. new-honest (numbers_of v) (packet_for h (w.injected + 1) out) (packet-within w v h (w.injected + 1) out is takens (to_send-out h (node_at w h) out i.sends) i.nodes) in
     let still : Holds F w.links = weaker-holds (λ c. IsHonest (numbers_of w)) F w.links (λ c held. honest-more (numbers_of w) (numbers_of v) held (says-more (top_between w) (taken_between w) (top_between v) (taken_between v) tops takens)) is.links in
     record {
       ordered = acted_all-ordered w (a ∷ []) (may, tt) is.ordered;
       senders = acted-senders w a is.senders;
-      links = acted-keep F w (carries-honest (fabric_of w) (numbers_of v)) still is.ordered.plan a (may-byte w a may) new;
+      links = acted-holds F w (carries-honest (fabric_of w) (numbers_of v)) still is.ordered.plan a (may-byte w a may) new;
       pairs = λ a b.
           let s : PeerGoes (top_between w b a) (taken_between w a b) (peer_at (node_at w a) b) (peer_at (node_at v a) b) = (g.nodes a).peers b in
           let r : PeerGoes (top_between w a b) (taken_between w b a) (peer_at (node_at w b) a) (peer_at (node_at v b) a) = (g.nodes b).peers a in
@@ -215,15 +201,10 @@ acted_all-windowed w [] may is = is
 acted_all-windowed w (a ∷ acts) may is = acted_all-windowed (acted w a) acts may.1 (acted-windowed w a may.0 is)
 
 -- the new world
-at-replicate : {X : Type 0} (P : X → Type 0) (k j : ℕ) (x d : X) → P x → P d → P (get_or (replicate k x) j d)
-at-replicate P zero j x d p q = q
-at-replicate P (suc k) zero x d p q = p
-at-replicate P (suc k) (suc j) x d p q = at-replicate P k j x d p q
-
 new-peers : (n : Network) (h p : ℕ) → peer_at (node_at (new_world n) h) p ≡ new_peer
 new-peers n h p =
     let k : ℕ = length n.hosts in
-    at-replicate (λ x. peer_at x p ≡ new_peer) k h (new_node k) (new_node 0) (at-replicate (λ x. x ≡ new_peer) k p new_peer new_peer refl refl) refl
+    each-replicate (λ x. peer_at x p ≡ new_peer) k h (new_node k) (new_node 0) (each-replicate (λ x. x ≡ new_peer) k p new_peer new_peer refl refl) refl
 
 pub new-windowed : (n : Network) → IsFabric n → IsWindowed (new_world n)
 new-windowed n f = record {

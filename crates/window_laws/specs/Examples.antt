@@ -13,8 +13,7 @@ use Rattle.world_defs.specs.World.{WorldState, new_world}
 use Rattle.world_defs.specs.Traffic.{sent_between, got_between, taken_between, unrouted}
 use Rattle.world_defs.specs.Settle.{unacknowledged_in}
 use Rattle.world_defs.specs.Settled.{sender_between}
-use Rattle.run_defs.specs.Headline.{Act, Happens, Adopts, acted_all}
-use Rattle.table_laws.specs.Acts.{IsReached}
+use Rattle.act_defs.specs.Acts.{Act, Happens, Adopts, acted_all, IsReached}
 use Rattle.order_laws.specs.Examples.{one_message, message_world, ten}
 
 -- host 1 has the routes too, and answers; its packet goes through the switch to host 0

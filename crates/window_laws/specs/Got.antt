@@ -6,7 +6,7 @@ use Rattle.world_defs.specs.World.{WorldState}
 use Rattle.world_defs.specs.Traffic.{sent_between, got_between, taken_between}
 use Rattle.world_defs.specs.Settle.{unacknowledged_in, settle}
 use Rattle.world_defs.specs.Settled.{sender_between}
-use Rattle.table_laws.specs.Acts.{IsReached}
+use Rattle.act_defs.specs.Acts.{IsReached}
 
 -- what is got is the messages that lie wholly below the number of fragments taken
 abbrev pub GotIsWholeBelowTaken : Type 0

@@ -5,7 +5,7 @@ use Rattle.gm_defs.specs.Connection.{SenderState, IsSender, window}
 use Rattle.world_defs.specs.World.{WorldState}
 use Rattle.world_defs.specs.Traffic.{taken_between, IsHonestTraffic}
 use Rattle.world_defs.specs.Settled.{sender_between}
-use Rattle.table_laws.specs.Acts.{IsReached}
+use Rattle.act_defs.specs.Acts.{IsReached}
 
 -- The numbers of a connection: the sender's are in order, what is acknowledged was taken, what was taken was sent, and at most a window of fragments was sent and isn't acknowledged.
 pub record IsWindow (s : SenderState) (taken : ℕ) : Type 0 where

@@ -1,6 +1,6 @@
 //! What the numbers of every connection say, after every list of acts that may happen: what is acknowledged, what was taken, what was sent.
 //!
-//! A law is a function without parameters: its contract is the law, and its body is empty. The statements stand in `specs/`.
+//! It keeps no connection: that is `gm_conn`, and `host_peers` at a host. Read `specs/Windows.antt` first.
 //!
 //! | file of `specs/` | says |
 //! |---|---|

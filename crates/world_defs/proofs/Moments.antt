@@ -8,9 +8,9 @@ use Rattle.packet_defs.specs.declared.kind.Kind.TheVariants.{Gm}
 use Rattle.packet_defs.specs.declared.host_drop.HostDrop.{HostDrop}
 use Rattle.packet_defs.specs.Host.{body_of}
 use Rattle.link_defs.specs.Links.{Held, Caught, packet_in}
-use Rattle.map_defs.specs.Dependencies.{IsNext, IsBefore, HasNoCycle}
-use Rattle.map_defs.specs.Dependencies.IsNext.{here, later}
-use Rattle.map_defs.proofs.Cycles.{no_cycle-rising}
+use Rattle.net_defs.specs.Dependencies.{IsNext, IsBefore, HasNoCycle}
+use Rattle.net_defs.specs.Dependencies.IsNext.{here, later}
+use Rattle.net_defs.proofs.Cycles.{no_cycle-rising}
 use Rattle.gm_defs.specs.declared.message.Message.{Message}
 use Rattle.gm_defs.specs.declared.frame.FrameHead.{FrameHead}
 use Rattle.gm_defs.specs.declared.frame.Ack.{Ack}

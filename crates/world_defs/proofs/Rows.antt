@@ -7,7 +7,7 @@ use Rattle.world_defs.specs.Hearing.{hear}
 use Rattle.world_defs.specs.Client.{begun, closed, provided_by, sent_by, polled_by}
 use Rattle.world_defs.specs.Step.{lost, was_reset, repeated, held, flipped, replayed, asked, part_staged, planned_strikes, sent_out, injected, advanced, expired, gave_up}
 use Rattle.world_defs.specs.Drain.{pass, drain, clear}
-use Rattle.world_defs.specs.Settle.{round_pass, round, settle}
+use Rattle.world_defs.specs.Settle.{round_pass, round, settle, unacknowledged_in}
 use Rattle.world_defs.specs.Asking.{sends, host_try, loop_try, ask}
 use Rattle.world_defs.specs.Install.{part_try, installed}
 use Rattle.net_defs.specs.declared.place.Answer.{Answer}
@@ -15,7 +15,6 @@ use Rattle.link_defs.specs.Links.{packet_in}
 use Rattle.world_defs.specs.declared.effect.Effect.{Effect}
 use Rattle.world_defs.specs.declared.effect.Said.{Said}
 use Rattle.world_defs.specs.declared.heard.Heard.{Heard}
-use Rattle.world_defs.specs.Settle.{unacknowledged_in}
 use Rattle.world_defs.specs.Examples.{setup_map, setup_install, received, three_calls, three_plans, three_settled, three_polls, abc_injected, abc_settled, abc_polls, waiting, provided_late, served, served_poll, stepwise, stepwise_settled, stepwise_polls}
 
 pub asks_of_the_map_answers : setup_map.0 ≡ Answer.Switch ∷ replicate 17 Answer.Nothing ++ Answer.Host 1 ∷ replicate 12 Answer.Nothing

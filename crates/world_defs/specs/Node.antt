@@ -5,8 +5,8 @@ use Rattle.packet_defs.specs.declared.kind.Kind.TheVariants.{Mapping, Gm}
 use Rattle.packet_defs.specs.Packet.{packet_of}
 use Rattle.gm_defs.specs.declared.frame.FrameHead.{FrameHead}
 use Rattle.gm_defs.specs.Body.{frame_bytes, ack_bytes}
-use Rattle.gm_defs.specs.Mapping.{RoutePart, mapping_bytes}
-use Rattle.gm_defs.specs.Mapping.MappingBody.{HostProbe, HostReply, Loopback, Part, PartAck}
+use Rattle.mapping_defs.specs.Mapping.{RoutePart, mapping_bytes}
+use Rattle.mapping_defs.specs.Mapping.MappingBody.{HostProbe, HostReply, Loopback, Part, PartAck}
 use Rattle.gm_defs.specs.Fragment.{frame_of}
 use Rattle.gm_defs.specs.Connection.{due, unacknowledged}
 use Rattle.gm_defs.specs.Token.{PortState}

@@ -3,9 +3,9 @@ use Rattle.std.specs.Prelude.{◌≡◌, ℕ, ◌<◌, List, [], ◌∷◌, ◌+
 use Rattle.std.specs.List.{AllByRecursion}
 use Rattle.net_defs.specs.Network.{Apart}
 use Rattle.net_defs.specs.Route.{channels_of}
-use Rattle.gm_defs.specs.Mapping.{RouteEntry}
+use Rattle.mapping_defs.specs.Mapping.{RouteEntry}
 use Rattle.gm_defs.specs.Token.{PortState, sends_out, recvs_out}
-use Rattle.map_defs.specs.Dependencies.{IsBefore, HasNoCycle}
+use Rattle.net_defs.specs.Dependencies.{IsBefore, HasNoCycle}
 use Rattle.world_defs.specs.Table.{ActiveTable}
 use Rattle.world_defs.specs.Node.{port_at}
 use Rattle.world_defs.specs.Client.{ClientState}

@@ -1,9 +1,10 @@
 -- Route distribution: the parts into which a set of routes is cut, and what a host makes of them.
-use Rattle.std.specs.Prelude.{ℕ, zero, suc, ◌+◌, ◌-◌, ◌*◌, ◌/◌, ℤ, Bool, false, ◌&&◌, List, [], ◌∷◌, ◌++◌, map, length, take, drop, find, nat_eq, nat_lt, if◌then◌else◌, Option, Some, None, option_map, option_and_then}
+use Rattle.std.specs.Prelude.{ℕ, zero, suc, ◌+◌, ◌-◌, ◌*◌, ◌/◌, ℤ, Bool, false, not, ◌&&◌, List, [], ◌∷◌, ◌++◌, map, length, take, drop, find, nat_eq, nat_lt, if◌then◌else◌, Option, Some, None, option_map, option_and_then}
 use Rattle.std.specs.List.{filter}
 use Rattle.std.specs.Map.{lookup}
 use Rattle.net_defs.specs.declared.route.Route.{Route}
-use Rattle.gm_defs.specs.Mapping.{RouteEntry, RoutePart}
+use Rattle.net_defs.specs.RouteSet.{same_routes}
+use Rattle.mapping_defs.specs.Mapping.{RouteEntry, RoutePart}
 use Rattle.world_defs.specs.declared.applied.Applied.{Applied}
 use Rattle.world_defs.specs.declared.applied.Applied.TheVariants.{Part, Active, Old}
 
@@ -16,6 +17,11 @@ pub record Adoption : Type 0 where
   pub mapper : ℕ
   pub epoch : ℕ
   pub routes : List Route
+
+-- another set of routes is adopted
+abbrev pub is_other : List Route → Option Adoption → Bool
+is_other routes None = false
+is_other routes (Some a) = not (same_routes routes a.routes)
 
 -- the route of a set from one host to another
 abbrev pub route_of : List Route → ℕ → ℕ → Option (List ℤ)

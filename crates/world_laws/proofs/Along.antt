@@ -104,7 +104,7 @@ round-along R Q g k w s r =
     let u : WorldState = after_all w (expiries w) in
     g.both w u s.world (expiries-along R Q g k.expire w) (passes-along R Q g k r.passes u s r.through)
 
-rounds-along : (R : WorldState → WorldState → Type 0) (Q : Event → Type 0) → Along R Q → SettlesBy Q → (w : WorldState) (r : Rounds) → AllRounds w r → R w r.world
+pub rounds-along : (R : WorldState → WorldState → Type 0) (Q : Event → Type 0) → Along R Q → SettlesBy Q → (w : WorldState) (r : Rounds) → AllRounds w r → R w r.world
 rounds-along R Q g k w r (AllRounds.last_round {s = s} one e) = round-along R Q g k w s one
 rounds-along R Q g k w r (AllRounds.another_round {s = s} {r = rest} one e more d) =
     subst (λ t. R w t.world) (sym d) (g.both w s.world rest.world (round-along R Q g k w s one) (rounds-along R Q g k s.world rest more))

@@ -8,7 +8,7 @@ use Rattle.link_defs.specs.declared.replayed.Replayed.TheVariants.{Back, Busy, U
 use Rattle.link_defs.specs.Links.{LinkState, packet_in}
 use Rattle.link_defs.specs.Advance.{advance}
 use Rattle.link_defs.specs.Fault.{lose, reset, repeat, hold, flip, replay}
-use Rattle.gm_defs.specs.Mapping.{RoutePart}
+use Rattle.mapping_defs.specs.Mapping.{RoutePart}
 use Rattle.world_defs.specs.declared.event.Event.{Event}
 use Rattle.world_defs.specs.declared.event.Event.TheVariants.{Ask, Part, Inject, Advance, Lose, Repeat, Hold, Flip, Replay, Reset, Expire, GiveUp, Begin, Close, Provide, Send, Poll}
 use Rattle.world_defs.specs.declared.effect.Cause.{Cause}

@@ -7,8 +7,7 @@ use Rattle.link_defs.specs.declared.moved.Moved.{Moved}
 use Rattle.link_defs.specs.declared.moved.Moved.TheVariants.{To, AtHost, Dropped as MovedDropped, Blocked as MovedBlocked, Empty}
 use Rattle.link_defs.specs.Links.{LinkState, is_idle}
 use Rattle.link_defs.specs.Advance.{advance}
-use Rattle.link_defs.specs.Hops.{total_hops, is_still_below, is_stuck}
-use Rattle.link_defs.specs.Hops.{changes as moves}
+use Rattle.link_defs.specs.Hops.{total_hops, is_still_below, is_stuck, changes as moves}
 use Rattle.link_defs.proofs.HopsLeft.{advance-hops, advance-still}
 use Rattle.world_defs.specs.declared.event.Event.TheVariants.{Advance}
 use Rattle.world_defs.specs.declared.effect.Effect.{Effect}

@@ -13,7 +13,7 @@ use Rattle.link_defs.specs.declared.replayed.Replayed.TheVariants.{Back, Busy}
 use Rattle.link_defs.specs.Links.{Held, Caught, LinkState, packet_in, with_packet, emptied}
 use Rattle.link_defs.specs.Advance.{course, entered, gone_on, advance_of, advance}
 use Rattle.link_defs.specs.Fault.{lose, repeat, repeat_of, hold, hold_of, flip, flip_of, is_used_up, with_caught, caught_as, released, replay_of}
-use Rattle.gm_defs.specs.Mapping.{RoutePart}
+use Rattle.mapping_defs.specs.Mapping.{RoutePart}
 use Rattle.world_defs.specs.declared.event.Event.{Event}
 use Rattle.world_defs.specs.declared.event.Event.TheVariants.{Ask, Part, Inject, Advance, Lose, Repeat, Hold, Flip, Replay, Reset, Expire, GiveUp, Begin, Close, Provide, Send, Poll}
 use Rattle.world_defs.specs.declared.effect.Cause.{Cause}

@@ -116,6 +116,9 @@ clears-calm = record { advance = λ c. tt; reset = λ c. tt }
 pub clear-plan : (w : WorldState) → (clear w).1.plan ≡ w.plan
 clear-plan w = (clear-along Calm IsCalm along-calm clears-calm w).plan
 
+pub clear-limbo : (w : WorldState) → (clear w).1.links.limbo ≡ w.links.limbo
+clear-limbo w = (clear-along Calm IsCalm along-calm clears-calm w).limbo
+
 -- what the passes of a round use up: the injections that are left, and what each may add to limbo
 abbrev pub measure : WorldState → ℕ
 measure w = 2 * (last_count - w.injected) + length w.links.limbo
@@ -226,7 +229,7 @@ some_moves true still n e f = absurd (true≢false f)
 some_moves false true n e f = absurd (true≢false f)
 some_moves false false n e f = grind (arith, nat_tests)
 
-not_last-moves : (s : Stretch) → is_last_pass s ≡ false → s.moves ≢ 0
+pub not_last-moves : (s : Stretch) → is_last_pass s ≡ false → s.moves ≢ 0
 not_last-moves s e = some_moves (is_quiet s.world) (nat_eq s.moves 0) s.moves refl e
 
 record SomePasses (w : WorldState) (s : Stretch) : Type 0 where

@@ -85,10 +85,10 @@ sum-less f g t (n ∷ ns) all less e = by (t n) refl e (sum-less f g t ns all le
     by false u d ih = let a = all n in let c = ih d in omega (arith, a, c)
 
 -- the fragments from these hosts to these hosts that aren't acknowledged
-abbrev fragments : WorldState → List ℕ → ℕ
+abbrev pub fragments : WorldState → List ℕ → ℕ
 fragments w hs = sum_of (map (λ h. sum_of (map (unacknowledged_to (node_at w h)) hs)) hs)
 
-fragments-addresses : (w v : WorldState) → Going w v → unacknowledged_in w ≡ fragments w (addresses v)
+pub fragments-addresses : (w v : WorldState) → Going w v → unacknowledged_in w ≡ fragments w (addresses v)
 fragments-addresses w v k = ap (λ n. fragments w (range_with_len 0 n)) (sym k.nodes.count)
 
 one_fewer : (w v : WorldState) → Going w v → (h p : ℕ) → unacknowledged_to (node_at v h) p ≤ unacknowledged_to (node_at w h) p
@@ -116,7 +116,7 @@ fragments-fewer w v k =
     let b = sum-le (unacknowledged_from v) (λ h. sum_of (map (unacknowledged_to (node_at w h)) hs)) hs (λ h. sum-le (unacknowledged_to (node_at v h)) (unacknowledged_to (node_at w h)) hs (one_fewer w v k h)) in
     omega (arith, a, b)
 
-fragments-less : (w v : WorldState) → Going w v → HasSenders v → base_rose w v ≡ true → unacknowledged_in v < unacknowledged_in w
+pub fragments-less : (w v : WorldState) → Going w v → HasSenders v → base_rose w v ≡ true → unacknowledged_in v < unacknowledged_in w
 fragments-less w v k is e =
     let hs : List ℕ = addresses v in
     let a = fragments-addresses w v k in
@@ -125,7 +125,7 @@ fragments-less w v k is e =
     omega (arith, a, b)
 
 -- a round that helped
-abbrev left_over : WorldState → ℕ
+abbrev pub left_over : WorldState → ℕ
 left_over w = unacknowledged_in w + length w.plan
 
 helped-less : (w v : WorldState) → Going w v → HasSenders v → has_helped w v ≡ true → left_over v < left_over w
@@ -148,7 +148,7 @@ helped_if true helped e = absurd (true≢false e)
 helped_if false true e = refl
 helped_if false false e = absurd (true≢false e)
 
-not_last-less : (w v : WorldState) → Going w v → HasSenders w → is_last_round w v ≡ false → left_over v < left_over w
+pub not_last-less : (w v : WorldState) → Going w v → HasSenders w → is_last_round w v ≡ false → left_over v < left_over w
 not_last-less w v k is e =
     helped-less w v k (going_senders w v k is) (helped_if (nat_eq (unacknowledged_in v) 0) (has_helped w v) e)
 

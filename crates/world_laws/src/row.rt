@@ -1,7 +1,6 @@
 //! A drain, a clear and a settle are events in a row: `specs/Reached.antt` has the statements.
 
-ghost use Rattle.world_laws.specs.Reached.{DrainIsEvents, ClearIsEvents, SettleIsEvents};
-ghost use Rattle.world_laws.specs.Reached.{SettlesIsEvents, NeverStuckHasNoResets, DrainKeeps, ClearKeeps, SettleKeeps};
+ghost use Rattle.world_laws.specs.Reached.{DrainIsEvents, ClearIsEvents, SettleIsEvents, SettlesIsEvents, NeverStuckHasNoResets, DrainKeeps, ClearKeeps, SettleKeeps};
 
 /// A drain, a clear and a settle are events of their kinds, in a row.
 pub fn rows_of_events()

@@ -1,7 +1,6 @@
 //! What a drain and a clear come to: `specs/Draining.antt` has the statements.
 
-ghost use Rattle.world_laws.specs.Draining.{AdvanceOfLinks, DrainDrains, DrainsAreOne, ChangesAreHops, DrainedIsStill};
-ghost use Rattle.world_laws.specs.Draining.{ClearedIsIdle, ResetsAreFull, NoResetsIsIdle, IdleIsDrained, IdleIsCleared};
+ghost use Rattle.world_laws.specs.Draining.{AdvanceOfLinks, DrainDrains, DrainsAreOne, ChangesAreHops, DrainedIsStill, ClearedIsIdle, ResetsAreFull, NoResetsIsIdle, IdleIsDrained, IdleIsCleared};
 
 /// An advance of the world changes the links as an advance of the links.
 pub fn advances_of_links()

@@ -1,11 +1,11 @@
 //! The calls of clients, each on a port of a host.
 
 ghost use Rattle.std.specs.Prelude.{◌≡◌, ◌<◌, IfOk, OnErr};
-ghost use Rattle.world_defs.specs.Client.{begun, closed, provided_by, sent_by, polled_by};
-ghost use Rattle.world_defs.specs.World.{host_count, node_at, client_at};
-ghost use Rattle.world_defs.specs.Step.{of_call, wanted};
+ghost use Rattle.world_defs.specs.Client.{begun, closed, provided_by, polled_by};
+ghost use Rattle.world_defs.specs.World.{host_count};
+ghost use Rattle.world_defs.specs.Step.{wanted};
 ghost use Rattle.fab_world.specs.Events.{IsHostOf};
-ghost use Rattle.fab_world.specs.Held.{IsOfHosts};
+ghost use Rattle.fab_world.specs.Held.{IsCallAt, IsSendingAt, IsOfHosts};
 
 use super::Machine;
 use std::alloc::{AllocError, Global};
@@ -22,19 +22,19 @@ impl Machine {
     ) -> Result<Effect, AllocError>
         requires there { IsHostOf self.old host }
         requires port { port < 8 }
-        ensures ok { IfOk result (λ x. of_call self.old host port (begun (node_at self.old host) port sends recvs (client_at self.old host port)) ≡ (x, self.new)) }
+        ensures ok { IfOk result (λ x. IsCallAt self.old host port (λ n c. begun n port sends recvs c) x self.new) }
         ensures err { OnErr result (self.new ≡ self.old) }
     {
-        let said = self.hosts.begin(alloc, host, port, sends, recvs)?;
+        let said = self.hosts[usize::from(host)].begin(alloc, port, sends, recvs)?;
         Ok(Effect::Said(said))
     }
 
     pub(crate) fn close(&mut self, host: u16, port: u8) -> Effect
         requires there { IsHostOf self.old host }
         requires port { port < 8 }
-        ensures { of_call self.old host port (closed (node_at self.old host) port (client_at self.old host port)) ≡ (result, self.new) }
+        ensures { IsCallAt self.old host port (λ n c. closed n port c) result self.new }
     {
-        Effect::Said(self.hosts.close(host, port))
+        Effect::Said(self.hosts[usize::from(host)].close(port))
     }
 
     pub(crate) fn provide(
@@ -47,10 +47,10 @@ impl Machine {
     ) -> Result<Effect, AllocError>
         requires there { IsHostOf self.old host }
         requires port { port < 8 }
-        ensures ok { IfOk result (λ x. of_call self.old host port (provided_by (node_at self.old host) port size prio (client_at self.old host port)) ≡ (x, self.new)) }
+        ensures ok { IfOk result (λ x. IsCallAt self.old host port (λ n c. provided_by n port size prio c) x self.new) }
         ensures err { OnErr result (self.new ≡ self.old) }
     {
-        let said = self.hosts.provide(alloc, host, port, size, prio)?;
+        let said = self.hosts[usize::from(host)].provide(alloc, port, size, prio)?;
         Ok(Effect::Said(said))
     }
 
@@ -70,21 +70,19 @@ impl Machine {
         requires dest { IsHostOf self.old dest }
         requires dport { dport < 8 }
         requires prio { prio < 2 }
-        ensures ok { IfOk result (λ x. of_call self.old host port (sent_by (node_at self.old host) (wanted port dest dport prio len seed) (client_at self.old host port)) ≡ (x, self.new)) }
+        ensures ok { IfOk result (λ x. IsSendingAt self.old host (wanted port dest dport prio len seed) x self.new) }
         ensures err { OnErr result (self.new ≡ self.old) }
     {
-        let said = self
-            .hosts
-            .send(alloc, host, port, dest, dport, prio, len, seed)?;
+        let said = self.hosts[usize::from(host)].send(alloc, port, dest, dport, prio, len, seed)?;
         Ok(Effect::Said(said))
     }
 
     pub(crate) fn poll(&mut self, host: u16, port: u8) -> Effect
         requires there { IsHostOf self.old host }
         requires port { port < 8 }
-        ensures call { of_call self.old host port (polled_by (node_at self.old host) port (client_at self.old host port)) ≡ (result, self.new) }
+        ensures call { IsCallAt self.old host port (λ n c. polled_by n port c) result self.new }
         ensures sender { IsOfHosts (host_count self.old) result }
     {
-        Effect::Said(self.hosts.poll(host, port))
+        Effect::Said(self.hosts[usize::from(host)].poll(port))
     }
 }

@@ -3,7 +3,7 @@
 ghost use Rattle.std.specs.Prelude.{◌≡◌, ◌≤◌, length, IfOk, IfSome, OnErr};
 ghost use Rattle.world_defs.specs.World.{fabric_of, host_count, planned};
 ghost use Rattle.world_defs.specs.Step.{step};
-ghost use Rattle.fab_world.specs.Adopting.{IsSetOfHosts};
+ghost use Rattle.adopted_routes.specs.Adopting.{IsSetOfHosts};
 ghost use Rattle.fab_world.specs.Events.{IsGiven};
 ghost use Rattle.fab_world.specs.Held.{IsLater, IsPolledOfHosts};
 
@@ -25,16 +25,16 @@ impl Machine {
             Event::Ask { host, walk, looped } => Ok(self.ask(host, walk, looped)),
             Event::Inject(host) => self.inject(alloc, host),
             Event::Advance(c) => self.advance(alloc, c),
-            Event::Lose(c) => Ok(self.lose(c)),
-            Event::Repeat(c) => self.repeat(alloc, c),
-            Event::Hold(c) => self.hold(c),
+            Event::Lose(c) => Ok(self.links.lose(c)),
+            Event::Repeat(c) => self.links.repeat(alloc, c),
+            Event::Hold(c) => self.links.hold(c),
             Event::Flip {
                 channel,
                 bit,
                 pattern,
-            } => self.flip(channel, bit, pattern),
-            Event::Replay(serial) => Ok(self.replay(serial)),
-            Event::Reset(c) => Ok(self.reset(c)),
+            } => self.links.flip(channel, bit, pattern),
+            Event::Replay(serial) => Ok(self.links.replay(serial)),
+            Event::Reset(c) => Ok(self.links.reset(c)),
             Event::Expire { host, peer } => Ok(self.expire(host, peer)),
             Event::GiveUp(host) => Ok(self.give_up(host)),
             Event::Part { dst, part } => self.part(alloc, dst, part),

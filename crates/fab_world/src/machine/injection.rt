@@ -8,10 +8,10 @@ ghost use Rattle.faulty_links.specs.Held.{of_world, can_inject};
 ghost use Rattle.fab_world.specs.Events.{IsHostOf, IsChannelOf};
 
 use super::Machine;
+use client_host::Packet;
 use net_defs::{End, Vertex};
 use std::alloc::{AllocError, Global};
 use world_defs::Effect;
-use world_hosts::Packet;
 
 impl Machine {
     #[tactic(auto, unfolding(world_defs::specs::Step::injected))]
@@ -41,7 +41,7 @@ impl Machine {
             return Ok(Effect::Idle);
         }
         let number = self.links.injected() + 1;
-        match self.hosts.stage(alloc, host, number)? {
+        match self.at(host).stage(alloc, number)? {
             Some(packet) => self.put(alloc, host, c, packet),
             None => Ok(Effect::Idle),
         }
@@ -64,7 +64,7 @@ impl Machine {
     {
         match self.links.inject(alloc, c, packet) {
             Ok(effect) => {
-                self.hosts.staged(host);
+                self.hosts[usize::from(host)].staged();
                 Ok(effect)
             }
             Err((_, wanting)) => Err(wanting),

@@ -2,18 +2,19 @@
 
 ghost use Rattle.std.specs.Prelude.{◌≡◌, length, IfOk, OnErr};
 ghost use Rattle.faulty_links.specs.declared.gone.Gone.TheVariants.{AtHost};
+ghost use Rattle.faulty_links.specs.Held.{heard_of};
 ghost use Rattle.world_defs.specs.declared.event.Event.TheVariants.{Lose};
 ghost use Rattle.world_defs.specs.Step.{advanced, cause_at_host, step};
-ghost use Rattle.world_defs.specs.World.{fabric_of, host_count, with_drop};
-ghost use Rattle.faulty_links.specs.Held.{heard_of};
+ghost use Rattle.world_defs.specs.World.{fabric_of, host_count};
 ghost use Rattle.fab_world.specs.Events.{IsHostOf, IsChannelOf};
+ghost use Rattle.fab_world.specs.Held.{IsToldOf, CountsDrop};
 
 use super::Machine;
-use faulty_links::Gone;
+use client_host::Packet;
+use faulty_links::{FaultyLinks, Gone};
 use packet_defs::HostDrop;
 use std::alloc::{AllocError, Global};
 use world_defs::{Arrival, Cause, Effect};
-use world_hosts::Packet;
 
 impl Machine {
     /// A packet that reaches a host is heard there. Where memory is wanting for that, the packet is lost.
@@ -36,21 +37,29 @@ impl Machine {
         ensures ok { IfOk result (λ x. heard_of self.old (AtHost host packet.now) ≡ (x, self.new)) }
         ensures err { OnErr result (self.new ≡ self.old) }
     {
-        match self.hosts.on_packet(alloc, host, packet)? {
-            Arrival::Heard(heard) => Ok(Effect::Arrived(host, heard)),
-            Arrival::Dropped(why) => Ok(self.drop_for(cause_at_host(why))),
-            Arrival::NotMine => Ok(self.drop_for(Cause::NotMine)),
-        }
+        let arrival = self.hosts[usize::from(host)].on_packet(alloc, packet)?;
+        Ok(told_of(&mut self.links, host, arrival))
     }
+}
 
-    // A host dropped a packet.
-    fn drop_for(&mut self, cause: Cause) -> Effect
-        ensures effect { result ≡ Effect.Dropped cause }
-        ensures after { self.new ≡ with_drop self.old }
-    {
-        self.links.count_drop();
-        Effect::Dropped(cause)
+// What is told of an arrival. A packet that its host dropped is counted.
+fn told_of(links: &mut FaultyLinks, host: u16, arrival: Arrival) -> Effect
+    ensures { IsToldOf links.old host arrival result links.new }
+{
+    match arrival {
+        Arrival::Heard(heard) => Effect::Arrived(host, heard),
+        Arrival::Dropped(why) => drop_for(links, cause_at_host(why)),
+        Arrival::NotMine => drop_for(links, Cause::NotMine),
     }
+}
+
+// A host dropped a packet.
+fn drop_for(links: &mut FaultyLinks, cause: Cause) -> Effect
+    ensures effect { result ≡ Effect.Dropped cause }
+    ensures after { CountsDrop links.old links.new }
+{
+    links.count_drop();
+    Effect::Dropped(cause)
 }
 
 // Why a host dropped a packet.

@@ -5,7 +5,8 @@ ghost use Rattle.link_defs.specs.Links.{packet_in, emptied};
 ghost use Rattle.link_defs.specs.Advance.{advance, course};
 
 use super::Links;
-use crate::slots::Slot;
+use crate::course::course;
+use channel_slots::Slot;
 use link_defs::{Course, Moved};
 use myri_packet::Packet;
 
@@ -29,7 +30,7 @@ impl Links {
         ensures { result ≡ option_map (λ held. course self.now.net c held.wire) (packet_in self.now c) }
     {
         match self.slots.peek(usize::from(c)) {
-            Some(slot) => Some(self.wiring.course(c, slot.packet())),
+            Some(slot) => Some(course(&self.wiring, c, slot.packet())),
             None => None,
         }
     }

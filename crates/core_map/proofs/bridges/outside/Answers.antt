@@ -1,9 +1,8 @@
-use Rattle.std.proofs.Common.{◌≡◌, length, drop, ap, sym, ◌∙◌, arith}
+use Rattle.std.proofs.Common.{◌≡◌, length, drop, ap, sym, ◌∙◌, arith, nat_eq}
 use Rattle.std.specs.List.{list_any}
 use Rattle.std.proofs.lemmas.List.{take_at}
 use Rattle.journal_defs.specs.Counting.{numbers_below}
 use Rattle.journal_defs.specs.Edges.{is_among}
-use Rattle.std.proofs.Common.{nat_eq}
 use Rattle.map_defs.specs.Core.{cut_off_by}
 use Rattle.core_map.specs.Marks.{marks_of, either}
 use Rattle.core_map.proofs.Sides.{long-numbers}

@@ -1,6 +1,7 @@
 use Rattle.fab_world.specs.Held.{IsLater}
-use Rattle.fab_drive.proofs.Later.{later-both, on-any}
-use Rattle.fab_drive.proofs.Leading.{given_up-later, host_tries-later}
+use Rattle.world_drain.proofs.Later.{later-both, on-any}
+use Rattle.world_drain.proofs.GivingUp.{given_up-later}
+use Rattle.fab_drive.proofs.Leading.{host_tries-later}
 use Rattle.fab_drive.proofs.asking.ask.Goals as goal
 
 pub returns-in_err-hosts-clause-err : goal.returns-in_err-hosts-clause-err

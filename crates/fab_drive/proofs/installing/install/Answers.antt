@@ -6,8 +6,8 @@ use Rattle.world_defs.specs.Install.{hosts_installed}
 use Rattle.fab_world.specs.Held.{IsLater}
 use Rattle.fab_world.proofs.Moments.{later-adopted, later-channels, set-stays}
 use Rattle.fab_drive.proofs.InstallHosts.{few-hosts, fewer-hosts, adopter-there, told, idle-behind}
-use Rattle.fab_drive.proofs.Later.{later-both, on-any}
-use Rattle.fab_drive.proofs.Leading.{given_up-later}
+use Rattle.world_drain.proofs.Later.{later-both, on-any}
+use Rattle.world_drain.proofs.GivingUp.{given_up-later}
 use Rattle.fab_drive.proofs.installing.install.Goals as goal
 use Rattle.fab_drive.proofs.installing.install.Goals.{in-Some+in_ok-acked-in-Some, in-None}
 

@@ -6,7 +6,7 @@ use Rattle.world_defs.specs.World.{WorldState}
 use Rattle.fab_world.proofs.Moments.{later-adopted}
 use Rattle.fab_drive.proofs.Installs.{parts-later}
 use Rattle.fab_drive.proofs.InstallHosts.{host-told}
-use Rattle.fab_drive.proofs.Later.{later-both}
+use Rattle.world_drain.proofs.Later.{later-both}
 use Rattle.fab_drive.proofs.PartTries.{one_if, one-few, hosts-on}
 use Rattle.fab_drive.proofs.installing.install_hosts.Goals as goal
 use Rattle.fab_drive.proofs.installing.install_hosts.Goals.{then-branch, else-branch}

@@ -1,7 +1,7 @@
 use Rattle.std.proofs.Common.{◌≡◌, sym, ◌∙◌, true}
 use Rattle.world_defs.specs.Install.{part_tries}
 use Rattle.fab_drive.proofs.Installs.{part_tries-later}
-use Rattle.fab_drive.proofs.Later.{later-both, on-any}
+use Rattle.world_drain.proofs.Later.{later-both, on-any}
 use Rattle.fab_drive.proofs.PartTries.{parts-on}
 use Rattle.fab_drive.proofs.parts.install_parts.Goals as goal
 

@@ -1,7 +1,7 @@
 use Rattle.std.proofs.Common.{◌≡◌, sym, refl, ◌∙◌, false}
 use Rattle.world_defs.specs.Install.{part_try}
 use Rattle.fab_drive.proofs.Installs.{part_try-later}
-use Rattle.fab_drive.proofs.Later.{later-both, on-any}
+use Rattle.world_drain.proofs.Later.{later-both, on-any}
 use Rattle.fab_drive.proofs.PartTries.{missed-part}
 use Rattle.fab_drive.proofs.parts.part_tries.Goals as goal
 

@@ -1,6 +1,6 @@
 use Rattle.world_defs.specs.declared.event.Event.TheVariants.{Part}
 use Rattle.fab_world.specs.Held.{IsLater}
-use Rattle.fab_drive.proofs.Later.{later-both, later-step, on-any}
+use Rattle.world_drain.proofs.Later.{later-both, later-step, on-any}
 use Rattle.fab_drive.proofs.Leading.{sends-world}
 use Rattle.fab_drive.proofs.parts.part_try.Goals as goal
 

@@ -1,5 +1,5 @@
 use Rattle.world_defs.specs.declared.event.Event.TheVariants.{Inject}
-use Rattle.fab_drive.proofs.Later.{later-both, later-step, on-err}
+use Rattle.world_drain.proofs.Later.{later-both, later-step, on-err}
 use Rattle.fab_drive.proofs.parts.send.Goals as goal
 
 pub returns-clause-err : goal.returns-clause-err

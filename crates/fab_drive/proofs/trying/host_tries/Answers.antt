@@ -1,7 +1,7 @@
 use Rattle.std.proofs.Common.{◌≡◌, ap, sym, refl, ◌∙◌, ◌&&◌, false}
 use Rattle.std.specs.Prelude.{is_some, None}
 use Rattle.world_defs.specs.Asking.{host_try}
-use Rattle.fab_drive.proofs.Later.{later-both, on-any}
+use Rattle.world_drain.proofs.Later.{later-both, on-any}
 use Rattle.fab_drive.proofs.Leading.{host_try-later}
 use Rattle.fab_drive.proofs.Tries.{trying-on}
 use Rattle.fab_drive.proofs.trying.host_tries.Goals as goal

@@ -1,8 +1,8 @@
 use Rattle.world_defs.specs.declared.event.Event.TheVariants.{Ask, Inject}
 use Rattle.std.specs.Prelude.{false}
 use Rattle.fab_world.specs.Held.{IsLater}
-use Rattle.fab_drive.proofs.Later.{later-both, later-step, on-any}
-use Rattle.fab_drive.proofs.Running.{drain-later}
+use Rattle.world_drain.proofs.Later.{later-both, later-step, on-any}
+use Rattle.world_drain.proofs.Running.{drain-later}
 use Rattle.fab_drive.proofs.trying.host_try.Goals as goal
 
 pub returns-in_err-probe-clause-err : goal.returns-in_err-probe-clause-err

@@ -1,6 +1,6 @@
 use Rattle.std.proofs.Common.{◌≡◌, ap, sym, refl, ◌∙◌, ◌&&◌, false}
 use Rattle.world_defs.specs.Asking.{loop_try}
-use Rattle.fab_drive.proofs.Later.{later-both, on-any}
+use Rattle.world_drain.proofs.Later.{later-both, on-any}
 use Rattle.fab_drive.proofs.Leading.{loop_try-later}
 use Rattle.fab_drive.proofs.Tries.{trying-on}
 use Rattle.fab_drive.proofs.trying.loop_tries.Goals as goal

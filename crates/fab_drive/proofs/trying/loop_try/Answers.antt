@@ -1,7 +1,7 @@
 use Rattle.world_defs.specs.declared.event.Event.TheVariants.{Ask, Inject}
 use Rattle.std.specs.Prelude.{true}
 use Rattle.fab_world.specs.Held.{IsLater}
-use Rattle.fab_drive.proofs.Later.{later-both, later-step, on-any}
+use Rattle.world_drain.proofs.Later.{later-both, later-step, on-any}
 use Rattle.fab_drive.proofs.trying.loop_try.Goals as goal
 
 pub returns-in_err-probe-clause-err : goal.returns-in_err-probe-clause-err

@@ -1,6 +1,6 @@
 use Rattle.std.proofs.Common.{◌∙◌, ap}
-use Rattle.gm_defs.specs.Mapping.{mapping_bytes}
-use Rattle.gm_defs.specs.Mapping.MappingBody.{HostProbe}
+use Rattle.mapping_defs.specs.Mapping.{mapping_bytes}
+use Rattle.mapping_defs.specs.Mapping.MappingBody.{HostProbe}
 use Rattle.world_defs.specs.Node.{way_back}
 use Rattle.host_items.proofs.Sizes.{packet-as}
 use Rattle.host_items.proofs.staged.host_packet.Goals as goal

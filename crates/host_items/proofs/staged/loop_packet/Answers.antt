@@ -1,7 +1,7 @@
 use Rattle.std.proofs.Common.{◌∙◌, ◌++◌, ◌∷◌}
 use Rattle.std.specs.Prelude.{pos}
-use Rattle.gm_defs.specs.Mapping.{mapping_bytes}
-use Rattle.gm_defs.specs.Mapping.MappingBody.{Loopback}
+use Rattle.mapping_defs.specs.Mapping.{mapping_bytes}
+use Rattle.mapping_defs.specs.Mapping.MappingBody.{Loopback}
 use Rattle.world_defs.specs.Node.{way_back}
 use Rattle.host_items.proofs.Sizes.{packet-as}
 use Rattle.host_items.proofs.staged.loop_packet.Goals as goal

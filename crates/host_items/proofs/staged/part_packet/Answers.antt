@@ -1,6 +1,6 @@
 use Rattle.std.proofs.Common.{◌≡◌, ◌∙◌}
-use Rattle.gm_defs.specs.Mapping.{mapping_bytes}
-use Rattle.gm_defs.specs.Mapping.MappingBody.{Part}
+use Rattle.mapping_defs.specs.Mapping.{mapping_bytes}
+use Rattle.mapping_defs.specs.Mapping.MappingBody.{Part}
 use Rattle.host_items.proofs.Sizes.{part-short, packet-as}
 use Rattle.host_items.proofs.staged.part_packet.Goals as goal
 

@@ -1,4 +1,4 @@
-use Rattle.journal_defs.proofs.Cabling.{far-back}
+use Rattle.net_defs.proofs.Cabling.{far-back}
 use Rattle.journal_defs.proofs.laws.far_ends_go_both_ways.Goals as goal
 
 pub returns : goal.returns

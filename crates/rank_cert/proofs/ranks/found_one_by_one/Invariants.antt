@@ -1,5 +1,5 @@
 use Rattle.std.proofs.Common.{◌≡◌, drop}
-use Rattle.map_defs.specs.Dependencies.{rank_of}
+use Rattle.map_defs.specs.Ranks.{rank_of}
 use Rattle.rank_cert.proofs.ranks.found_one_by_one.Given as goal
 
 abbrev pub invariant-loop-entry : goal.invariant-loop-entry

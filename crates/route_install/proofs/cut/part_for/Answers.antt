@@ -1,9 +1,9 @@
 use Rattle.std.proofs.Common.{◌≡◌, ◌<◌, List, Some, length, map, nat_eq, ap, sym, subst, ◌∙◌, arith, ◌≤◌}
 use Rattle.std.specs.List.{filter}
 use Rattle.std.proofs.lemmas.List.{length-map}
-use Rattle.map_defs.specs.Routing.{AreRising}
+use Rattle.net_defs.specs.RouteSet.{AreRising}
 use Rattle.net_defs.specs.declared.route.Route.{Route}
-use Rattle.gm_defs.specs.Mapping.{RouteEntry, is_part}
+use Rattle.mapping_defs.specs.Mapping.{RouteEntry, is_part}
 use Rattle.world_defs.specs.Table.{Adoption, entries_from, part_count}
 use Rattle.route_install.proofs.Cutting.{entry, part-none, part-some, route-found}
 use Rattle.route_install.proofs.Ruled.{cut-ruled}

@@ -4,7 +4,7 @@ use Rattle.std.proofs.lemmas.Bool.Decides.{nat_tests}
 use Rattle.std.proofs.lemmas.List.{take_all, length-drop, get_or-drop}
 use Rattle.std.proofs.lemmas.List.Sorted.{IsPartitionPoint-from_clause}
 use Rattle.net_defs.specs.declared.route.Route.{Route}
-use Rattle.map_defs.specs.Routing.{AreRising}
+use Rattle.net_defs.specs.RouteSet.{AreRising}
 use Rattle.route_install.proofs.Cutting.{from-rises, rising-drop, filter-low, filter-front}
 use Rattle.route_install.proofs.cut.routes_from.Goals as goal
 

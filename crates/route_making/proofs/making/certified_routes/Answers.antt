@@ -1,7 +1,7 @@
 use Rattle.std.proofs.Common.{◌≡◌, ℕ, List, length, ap, sym, subst, ◌∙◌}
 use Rattle.std.proofs.lemmas.Bool.{false≢true}
 use Rattle.map_defs.specs.Orientation.{IsOrder, order_of}
-use Rattle.map_defs.specs.Dependencies.{ranks_of}
+use Rattle.map_defs.specs.Ranks.{ranks_of}
 use Rattle.map_defs.proofs.Places.{places_are_an_order}
 use Rattle.updown.specs.Oriented.{Oriented}
 use Rattle.route_making.proofs.making.certified_routes.Goals as goal

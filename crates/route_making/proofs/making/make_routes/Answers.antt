@@ -1,7 +1,7 @@
 use Rattle.std.proofs.Common.{◌≡◌, ◌<◌, ◌≤◌, ◌^◌, List, length, sym, subst, ◌∙◌, arith}
 use Rattle.net_defs.specs.declared.route.Route.{Route}
 use Rattle.map_defs.specs.Orientation.{order_of}
-use Rattle.map_defs.specs.Dependencies.{ranks_of}
+use Rattle.map_defs.specs.Ranks.{ranks_of}
 use Rattle.route_making.specs.Listed.{AreBetweenHosts}
 use Rattle.route_making.proofs.Few.{few-routes}
 use Rattle.route_making.proofs.Lines.{parts-text, whole-text}

@@ -1,7 +1,7 @@
 use Rattle.std.proofs.Common.{◌≡◌, sym, subst, ◌∙◌}
 use Rattle.std.specs.Prelude.{ℕ}
 use Rattle.world_defs.specs.World.{fabric_of}
-use Rattle.fab_world.specs.Adopting.{IsAdoptable}
+use Rattle.adopted_routes.specs.Adopting.{IsAdoptable}
 use Rattle.fab_world.specs.Events.{IsHostOf}
 use Rattle.run_session.proofs.Installable.{kept-adoptable, mapper-there, none-other, others-are}
 use Rattle.run_session.proofs.installing.adopt_last.Goals as goal

@@ -8,7 +8,7 @@ use Rattle.run_defs.specs.Output.{lines}
 use Rattle.run_defs.specs.Outcome.{table_line}
 use Rattle.fab_world.specs.Events.{IsHostOf}
 use Rattle.run_session.specs.Told.{AreInstalledTold}
-use Rattle.run_session.proofs.Keeping.{if-ok}
+use Rattle.world_commands.proofs.Answered.{if-ok}
 use Rattle.run_session.proofs.Installable.{kept-installable, hosts-there}
 use Rattle.run_session.proofs.Installs.{counted-told}
 use Rattle.run_session.proofs.installing.install_adopted.Goals as goal

@@ -7,12 +7,12 @@ use Rattle.run_session.proofs.mapping.map_world.Goals as goal
 
 pub overflow_sub-packets : goal.overflow_sub-packets
 overflow_sub-packets c =
-    rises-from c.args.world c.args.host c.args.depth c.args.tries c.new-p.result c.make_map-made.new.p c.in-Ok.made c.into_world-world.result c.injected-before.result c.injected.result
+    rises-from c.args.world c.args.order c.new-p.result c.make_map-made.new.p c.in-Ok.made c.into_world-world.result c.injected-before.result c.injected.result
     c.new-p.ensures c.into_world-world.ensures c.injected-before.ensures c.injected.ensures c.in-Ok.ensures.made
 
 pub returns-in-Ok-clause-mapped : goal.returns-in-Ok-clause-mapped
 returns-in-Ok-clause-mapped c =
-    made-from c.args.world c.args.host c.args.depth c.args.tries c.new-p.result c.make_map-made.new.p c.in-Ok.made c.into_world-world.result c.injected-before.result c.injected.result
+    made-from c.args.world c.args.order c.new-p.result c.make_map-made.new.p c.in-Ok.made c.into_world-world.result c.injected-before.result c.injected.result
     c.new-p.ensures c.into_world-world.ensures c.injected-before.ensures c.injected.ensures c.count_fits.ensures c.in-Ok.ensures.made
 
 pub returns-in-Ok-clause-of_fabric : goal.returns-in-Ok-clause-of_fabric

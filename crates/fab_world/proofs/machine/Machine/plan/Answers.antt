@@ -6,4 +6,4 @@ use Rattle.fab_world.proofs.machine.Machine.plan.Goals as goal
 
 pub returns-clause-ok : goal.returns-clause-ok
 returns-clause-ok c =
-    if-ok c.plan.result (λ number h. ap (λ w. planned w c.args.ahead c.args.fault) (sym c.self.view_is) ∙ h (world_of c.self.inside.links c.self.inside.hosts c.self.inside.adopted)) c.plan.ensures.ok
+    if-ok c.plan.result (λ number h. ap (λ w. planned w c.args.ahead c.args.fault) (sym c.self.view_is) ∙ h (world_of c.self.inside.links c.self.inside.hosts.items c.self.inside.adopted)) c.plan.ensures.ok

@@ -1,18 +1,22 @@
-use Rattle.std.proofs.Common.{◌≡◌, sym, subst, refl}
-use Rattle.std.specs.Prelude.{true, Some, option_map, ◌+◌}
-use Rattle.faulty_links.specs.Held.{can_inject, of_world}
-use Rattle.world_defs.specs.Node.{to_send, packet_for}
-use Rattle.world_defs.specs.World.{WorldState, node_at}
-use Rattle.world_defs.specs.Step.{inject_one}
+use Rattle.std.proofs.Common.{ap, ◌∙◌}
+use Rattle.world_defs.specs.Node.{to_send}
+use Rattle.nic_node.specs.Sending.{once_sent}
 use Rattle.fab_world.specs.Held.{world_of}
-use Rattle.fab_world.proofs.Injecting.{put-is}
+use Rattle.fab_world.proofs.Places.{IsAt, kept-in-state}
+use Rattle.fab_world.proofs.Injecting.{injected-is}
 use Rattle.fab_world.proofs.machine.Machine.put.Goals as goal
+
+pub invariant_of-self : goal.invariant_of-self
+invariant_of-self c =
+    let at : IsAt c.self.inside.links c.self.inside.hosts.items c.self.inside.adopted c.args.self.now c.args.host c.from.result c.index_mut.result.now =
+    record { is = c.self.view_is; kept = c.self.invariant; below = c.requires.there; at = c.from.ensures; there = c.index_mut.ensures.value } in
+    kept-in-state c.staged.new.self (once_sent c.index_mut.result.now.state (to_send c.index_mut.result.now.host c.index_mut.result.now.state)) at c.staged.ensures
 
 pub returns-in-Ok-clause-ok : goal.returns-in-Ok-clause-ok
 returns-in-Ok-clause-ok c =
-    let w : WorldState = world_of c.self.inside.links c.self.inside.hosts c.self.inside.adopted in
-    subst (λ v. inject_one v c.args.host c.args.c (to_send c.args.host (node_at v c.args.host)) ≡ (c.in-Ok.effect, world_of c.inject.new.self c.staged.new.self c.self.inside.adopted)) c.self.view_is
-    (put-is c.self.inside.links c.self.inside.hosts c.self.inside.adopted c.args.host c.args.c (to_send c.args.host (node_at w c.args.host)) c.args.packet c.in-Ok.effect c.inject.new.self c.staged.new.self
-    (subst (λ v. can_inject (of_world v) c.args.c ≡ true) (sym c.self.view_is) c.requires.free) refl
-    (subst (λ v. Some c.args.packet ≡ option_map (packet_for c.args.host (v.injected + 1)) (to_send c.args.host (node_at v c.args.host))) (sym c.self.view_is) c.requires.first)
-    c.in-Ok.ensures.number c.in-Ok.ensures.strikes c.staged.ensures)
+    let at : IsAt c.self.inside.links c.self.inside.hosts.items c.self.inside.adopted c.args.self.now c.args.host c.from.result c.index_mut.result.now =
+    record { is = c.self.view_is; kept = c.self.invariant; below = c.requires.there; at = c.from.ensures; there = c.index_mut.ensures.value } in
+    injected-is c.args.c c.staged.new.self c.args.packet c.in-Ok.effect c.inject.new.self at c.requires.free c.requires.first c.in-Ok.ensures.number c.in-Ok.ensures.strikes c.staged.ensures
+
+pub returns-clause-err : goal.returns-clause-err
+returns-clause-err c = ap (λ l. world_of l c.self.inside.hosts.items c.self.inside.adopted) c.in-Err.ensures.err ∙ c.self.view_is

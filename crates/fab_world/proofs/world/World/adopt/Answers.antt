@@ -1,6 +1,6 @@
 use Rattle.std.proofs.Common.{sym, subst, ◌∙◌, ◌<◌}
 use Rattle.world_defs.specs.World.{WorldState, fabric_of, host_count}
-use Rattle.fab_world.specs.Adopting.{IsAdoptable}
+use Rattle.adopted_routes.specs.Adopting.{IsAdoptable}
 use Rattle.fab_world.proofs.Moments.{IsAdopting, adopt-leaves}
 use Rattle.fab_world.proofs.world.World.adopt.Goals as goal
 

@@ -1,5 +1,5 @@
 use Rattle.world_defs.specs.Peer.{with_message}
-use Rattle.host_peer.specs.Held.{message_in}
+use Rattle.host_peers.specs.Peer.{message_in}
 use Rattle.host_peers.proofs.Places.{changed-peers, on-ok}
 use Rattle.host_peers.proofs.peers.Peers.accept.Goals as goal
 

@@ -1,5 +1,5 @@
 use Rattle.std.proofs.Common.{◌∙◌, sym, arith}
-use Rattle.host_peers.specs.Known.IsNext.{next, nobody_left}
+use Rattle.host_peers.specs.Peers.IsNext.{next, nobody_left}
 use Rattle.host_peers.proofs.peers.Peers.next_due.Goals as goal
 
 pub returns-then-has_due : goal.returns-then-has_due

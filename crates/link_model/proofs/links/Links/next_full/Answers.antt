@@ -1,6 +1,6 @@
 use Rattle.std.proofs.Common.{sym, ap, ◌∙◌}
-use Rattle.link_model.specs.Full.{full_from}
-use Rattle.link_model.proofs.Fullness.{next_full-some, next_full-none}
+use Rattle.channel_slots.specs.Full.{full_from}
+use Rattle.link_model.proofs.NextFull.{next_full-some, next_full-none}
 use Rattle.link_model.proofs.links.Links.next_full.Goals as goal
 
 pub returns-in-Some-clause-found : goal.returns-in-Some-clause-found

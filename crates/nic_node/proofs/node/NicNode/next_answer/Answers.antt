@@ -2,7 +2,7 @@ use Rattle.std.proofs.Common.{◌≡◌, ◌∙◌, true, length, sym, ap, subst
 use Rattle.std.specs.Prelude.{is_some}
 use Rattle.world_defs.specs.Table.{table_route}
 use Rattle.world_defs.specs.Node.{NodeState, owed_to}
-use Rattle.host_peers.specs.Known.{IsNext, owes_to}
+use Rattle.host_peers.specs.Peers.{IsNext, owes_to}
 use Rattle.nic_node.specs.Held.{HostNode, state_of}
 use Rattle.nic_node.proofs.Choosing.{goes-there, goes-nowhere, next-within}
 use Rattle.nic_node.proofs.Going.{not-owed, owed-there}

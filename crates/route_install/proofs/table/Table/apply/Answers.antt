@@ -1,5 +1,5 @@
 use Rattle.std.proofs.Common.{◌≡◌, ap, sym, ◌∙◌, true, false, arith}
-use Rattle.gm_defs.specs.Mapping.{RoutePart}
+use Rattle.mapping_defs.specs.Mapping.{RoutePart}
 use Rattle.world_defs.specs.Table.{applied, joined, is_epoch, active_epoch}
 use Rattle.route_install.specs.Collecting.{HostTable}
 use Rattle.route_install.proofs.Applying.{applied-old, applied-active, applied-next}

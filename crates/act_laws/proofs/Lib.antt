@@ -1,3 +1,0 @@
-pub mod Ranked
-pub mod Leads
-pub mod Reaching

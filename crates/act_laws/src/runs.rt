@@ -1,9 +1,0 @@
-//! What acts a run is.
-
-ghost use Rattle.act_laws.specs.Laws.{RunIsReached, RunHasNoCycle};
-
-/// Acts that may happen lead to the world of every run, so no channel waits for itself along the installed routes.
-pub fn acts_of_runs()
-    ensures reached { RunIsReached }
-    ensures no_cycle { RunHasNoCycle }
-{}

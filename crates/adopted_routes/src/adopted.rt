@@ -1,0 +1,98 @@
+//! A set of routes that was adopted.
+
+ghost use Rattle.std.specs.Prelude.{◌≡◌, ◌≤◌, length, true, Some, IfOk, IfSome};
+ghost use Rattle.mapping_defs.specs.Mapping.{is_part};
+ghost use Rattle.net_defs.specs.RouteSet.{same_routes};
+ghost use Rattle.world_defs.specs.Table.{entries_from, part_for, route_of};
+ghost use Rattle.adopted_routes.specs.Adopting.{part_count_for};
+
+use crate::same::are_same;
+use net_defs::Walk;
+use port_graph::RouteSet;
+use route_install::{RoutePart, part_for, parts_of};
+use std::alloc::{AllocError, Global};
+use std::marker::Model;
+
+/// A set of routes with its adopter and its epoch.
+#[derive(Drop)]
+pub(crate) struct Adopted {
+    mapper: u16,
+    epoch: u32,
+    set: RouteSet,
+}
+
+impl Model for Adopted {
+    ghost use Rattle.world_defs.specs.Table.{Adoption};
+
+    ghost Value = { Adoption };
+
+    ghost view = { λ a. record { mapper = a.mapper; epoch = a.epoch; routes = a.set } };
+}
+
+impl Adopted {
+    pub(crate) fn new(mapper: u16, epoch: u32, set: RouteSet) -> Adopted
+        ensures { result ≡ record { mapper = mapper; epoch = epoch; routes = set } }
+    {
+        Adopted { mapper, epoch, set }
+    }
+
+    /// Its adopter.
+    pub(crate) fn mapper(&self) -> u16
+        ensures { result ≡ self.now.mapper }
+    {
+        self.mapper
+    }
+
+    /// Whether its routes are these.
+    pub(crate) fn is_of(&self, set: &RouteSet) -> bool
+        ensures { result ≡ same_routes set.now self.now.routes }
+    {
+        are_same(set.list(), self.set.list())
+    }
+
+    /// A part of a host's table. None exactly where the set has no such part.
+    pub(crate) fn part(
+        &self,
+        alloc: Global,
+        dst: u16,
+        part: u8,
+    ) -> Result<Option<RoutePart>, AllocError>
+        requires { length (entries_from self.now.routes dst) ≤ 128 }
+        ensures value { IfOk result (λ p. p ≡ part_for self.now dst part) }
+        ensures by_rules { IfOk result (λ p. IfSome p (λ p. is_part p ≡ true)) }
+    {
+        part_for(alloc, &self.set, self.epoch, self.mapper, dst, part)
+    }
+
+    /// The set's route from its adopter to a host.
+    pub(crate) fn route_to(&self, alloc: Global, dst: u16) -> Result<Option<Walk>, AllocError>
+        ensures { IfOk result (λ walk. walk ≡ route_of self.now.routes self.now.mapper dst) }
+    {
+        match self.set.route(self.mapper, dst) {
+            Some(walk) => Ok(Some(copy(alloc, walk)?)),
+            None => Ok(None),
+        }
+    }
+
+    /// How many parts it has for a host's table. Its adopter has none.
+    pub(crate) fn part_count(&self, dst: u16) -> u8
+        requires { length (entries_from self.now.routes dst) ≤ 128 }
+        ensures { result ≡ part_count_for (Some self.now) dst }
+    {
+        if dst == self.mapper {
+            0
+        } else {
+            parts_of(&self.set, dst)
+        }
+    }
+}
+
+// Another walk of the same turns.
+fn copy(alloc: Global, walk: &Walk) -> Result<Walk, AllocError>
+    ensures { IfOk result (λ copied. copied ≡ walk.now) }
+{
+    match Walk::new(alloc, walk.turns()) {
+        Ok(copied) => Ok(copied),
+        Err(_) => Err(AllocError),
+    }
+}

@@ -1,0 +1,8 @@
+//! What holds of routes that may be adopted: the contract is the law, and the body is empty.
+
+ghost use Rattle.adopted_routes.specs.Adopting.{AdoptableIsOfHosts};
+
+/// Routes that a host may adopt go from hosts to hosts, and each host's table fits into sixteen parts.
+pub fn adoptable_routes_are_of_hosts()
+    ensures { AdoptableIsOfHosts }
+{}

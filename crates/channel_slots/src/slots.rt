@@ -1,0 +1,196 @@
+//! The packets in the channels.
+
+ghost use Rattle.std.specs.Prelude.{◌≡◌, ◌<◌, ◌≤◌, length, replicate, not, ◌&&◌, if◌then◌else◌, slice_index_or, slice_set, Option, Some, None, IsSome, is_some, is_none, option_map, option_copied, IfOk, IfSome, IfErr, OnOk, true, false};
+ghost use Rattle.std.specs.List.{list_all};
+ghost use Rattle.packet_defs.specs.Packet.{front_turn, stripped};
+ghost use Rattle.packet_defs.specs.Burst.{flipped, may_flip};
+ghost use Rattle.link_defs.specs.Links.{Held};
+ghost use Rattle.channel_slots.specs.Full.{full_from};
+
+use crate::marks::{bare, mark, next_marked, unmark};
+use myri_packet::Packet;
+use std::alloc::{AllocError, Global};
+use std::marker::Model;
+use std::mem;
+
+/// A packet with the mark of a flip.
+#[derive(Drop)]
+pub struct Slot {
+    packet: Packet,
+    marked: bool,
+}
+
+impl Model for Slot {
+    ghost use Rattle.link_defs.specs.Links.{Held};
+
+    ghost Value = { Held };
+
+    ghost view = { λ s. record { wire = s.packet; marked = s.marked } };
+}
+
+impl Slot {
+    /// A packet that no flip has met.
+    pub fn new(packet: Packet) -> Slot
+        ensures { result ≡ record { wire = packet; marked = false } }
+    {
+        Slot {
+            packet,
+            marked: false,
+        }
+    }
+
+    pub fn packet(&self) -> &Packet
+        ensures { result.now ≡ self.now.wire }
+    {
+        &self.packet
+    }
+
+    pub fn into_packet(self) -> Packet
+        ensures { result ≡ self.wire }
+    {
+        let Slot { packet, marked: _ } = self;
+        packet
+    }
+
+    /// Another packet with the same bytes and mark.
+    pub fn copy(&self, alloc: Global) -> Result<Slot, AllocError>
+        ensures { IfOk result (λ s. s ≡ self.now) }
+    {
+        Ok(Slot {
+            packet: self.packet.copy(alloc)?,
+            marked: self.marked,
+        })
+    }
+
+    /// The packet without the route byte in front.
+    pub fn strip(&mut self)
+        requires { IsSome (front_turn self.old.wire) }
+        ensures { self.new ≡ record self.old { wire = stripped self.old.wire } }
+    {
+        self.packet.strip();
+    }
+
+    /// The packet after a flip, and whether the flip met it: a marked packet is flipped no more.
+    pub fn flip(self, bit: u32, pattern: u8) -> (Slot, bool)
+        ensures meets { result.1 ≡ (not self.marked && may_flip self.wire bit pattern) }
+        ensures slot { result.0 ≡ (if result.1 then record { wire = flipped self.wire bit pattern; marked = result.1 } else self) }
+    {
+        let Slot { packet, marked } = self;
+        if marked {
+            return (Slot { packet, marked }, false);
+        }
+        match packet.flip(bit, pattern) {
+            Ok(packet) => (
+                Slot {
+                    packet,
+                    marked: true,
+                },
+                true,
+            ),
+            Err((packet, _)) => (Slot { packet, marked }, false),
+        }
+    }
+}
+
+/// What the channels hold, with the number of full ones, and a mark for each of them.
+#[derive(Drop)]
+pub struct Slots {
+    slots: Vec<Option<Slot>>,
+    full: usize,
+    marks: Vec<u64>,
+}
+
+impl Model for Slots {
+    ghost use Rattle.std.specs.Prelude.{List, Option};
+    ghost use Rattle.link_defs.specs.Links.{Held};
+    ghost use Rattle.channel_slots.specs.Full.{IsIndexed};
+
+    ghost Value = { List (Option Held) };
+
+    ghost view = { λ s. s.slots.items };
+
+    ghost invariant = { λ s. IsIndexed s.slots.items s.full s.marks.items };
+}
+
+impl Slots {
+    /// So many empty channels.
+    pub fn new(alloc: Global, channels: usize) -> Result<Slots, AllocError>
+        requires { channels ≤ 1152 }
+        ensures { IfOk result (λ s. s ≡ replicate channels None) }
+    {
+        let mut slots = Vec::with_capacity(alloc, channels)?;
+        while slots.len() < channels {
+            slots.push(None)?;
+        }
+        Ok(Slots {
+            slots,
+            full: 0,
+            marks: bare(alloc, channels)?,
+        })
+    }
+
+    /// Whether no channel holds a packet.
+    pub fn are_empty(&self) -> bool
+        ensures { result ≡ list_all is_none self.now }
+    {
+        self.full == 0
+    }
+
+    /// The first full channel from a number on. It looks at one word of marks for 64 channels.
+    pub fn next_full(&self, from: usize) -> Option<usize>
+        ensures next { result ≡ full_from self.now from }
+        ensures there { IfSome result (λ c. c < length self.now) }
+    {
+        next_marked(&self.marks, from)
+    }
+
+    /// What a channel holds.
+    pub fn peek(&self, c: usize) -> Option<&Slot>
+        requires { c < length self.now }
+        ensures { option_copied result ≡ slice_index_or self.now c None }
+    {
+        self.slots[c].as_ref()
+    }
+
+    /// Whether a channel holds a packet.
+    pub fn is_full(&self, c: usize) -> bool
+        requires { c < length self.now }
+        ensures { result ≡ is_some (slice_index_or self.now c None) }
+    {
+        self.slots[c].is_some()
+    }
+
+    /// Takes what a channel holds.
+    pub fn take(&mut self, c: usize) -> Option<Slot>
+        requires { c < length self.old }
+        ensures slot { result ≡ slice_index_or self.old c None }
+        ensures slots { self.new ≡ slice_set self.old c None }
+    {
+        let slot = replace_at(&mut self.slots, c, None);
+        if slot.is_some() {
+            self.full -= 1;
+            unmark(&mut self.marks, c);
+        }
+        slot
+    }
+
+    /// Puts a packet into an empty channel.
+    pub fn put(&mut self, c: usize, slot: Slot)
+        requires there { c < length self.old }
+        requires empty { slice_index_or self.old c None ≡ None }
+        ensures { self.new ≡ slice_set self.old c (Some slot) }
+    {
+        let _ = replace_at(&mut self.slots, c, Some(slot));
+        self.full += 1;
+        mark(&mut self.marks, c);
+    }
+}
+
+// Puts a value at a place, and answers what was there.
+fn replace_at(slots: &mut Vec<Option<Slot>>, c: usize, slot: Option<Slot>) -> Option<Slot>
+    requires { c < length slots.old.items }
+    ensures was { result ≡ slice_index_or slots.old.items c None }
+    ensures slots { slots.new.items ≡ slice_set slots.old.items c slot }
+{
+    mem::replace(&mut slots[c], slot)
+}

@@ -1,0 +1,7 @@
+pub mod Existing
+pub mod Inner
+pub mod Onward
+pub mod Returns
+pub mod Short
+pub mod Telltale
+pub mod TwoWalks

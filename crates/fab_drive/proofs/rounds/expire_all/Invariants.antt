@@ -1,6 +1,0 @@
--- The expiries of the hosts from here on are left.
-use Rattle.fab_drive.proofs.Expiries.{ExpiringAll}
-use Rattle.fab_drive.proofs.rounds.expire_all.Given as goal
-
-abbrev pub invariant-loop-host : goal.invariant-loop-host
-invariant-loop-host l = ExpiringAll l.fn.w l.w l.host

@@ -1,0 +1,125 @@
+-- What the events of one host are in the world.
+use Rattle.std.proofs.Common.{◌≡◌, ◌<◌, ℕ, ℤ, Bool, true, false, ◌||◌, nat_lt, List, Option, Some, None, is_some, refl, sym, ap, subst, ◌∙◌, if◌then◌else◌}
+use Rattle.std.specs.Prelude.{slice_set, IfSome}
+use Rattle.std.proofs.lemmas.Option.{same_Some}
+use Rattle.net_defs.specs.declared.route.Route.{Route}
+use Rattle.mapping_defs.specs.Mapping.{RoutePart}
+use Rattle.world_defs.specs.declared.effect.Effect.{Effect}
+use Rattle.world_defs.specs.declared.effect.Effect.TheVariants.{Idle, Expired, GaveUp, Staged as IsStaged}
+use Rattle.world_defs.specs.declared.arrival.Arrival.{Arrival}
+use Rattle.world_defs.specs.Table.{Adoption, whole_table, part_for, route_of}
+use Rattle.world_defs.specs.Node.{NodeState, Staged, StagedPart, StagedReply, StagedAck, has_staged, given_up, node_expired, unacknowledged_to}
+use Rattle.world_defs.specs.Hearing.{hear}
+use Rattle.world_defs.specs.World.{WorldState, host_count, node_at, with_node, adopted_by}
+use Rattle.world_defs.specs.Step.{arrived, expired, gave_up, stage_at, stage_part, part_staged}
+use Rattle.route_install.specs.Collecting.{HostTable}
+use Rattle.adopted_routes.specs.declared.routes.PartToSend.{PartToSend}
+use Rattle.adopted_routes.specs.Adopting.{IsSetOfHosts, sent_by_route, part_to_send}
+use Rattle.faulty_links.specs.Held.{LinksAndPlan}
+use Rattle.client_host.specs.Held.{ServedHost, in_state}
+use Rattle.fab_world.specs.Held.{world_of, IsToldOf}
+use Rattle.fab_world.proofs.Places.{IsAt, found, changed-under, changed, same}
+
+-- what a host does or leaves undone, as the world tells it
+done-or-idle : (w v : WorldState) (effect : Effect) (t b : Bool) (m : WorldState) → t ≡ b → (b ≡ true → m ≡ v) → (b ≡ false → m ≡ w)
+    → (if t then (effect, v) else (let r : Effect × WorldState = (Idle, w) in r)) ≡ (if b then effect else Idle, m)
+done-or-idle w v effect t true m e done idle = ap (λ k. if k then (effect, v) else (let r : Effect × WorldState = (Idle, w) in r)) e ∙ ap (λ u. (effect, u)) (sym (done refl))
+done-or-idle w v effect t false m e done idle = ap (λ k. if k then (effect, v) else (let r : Effect × WorldState = (Idle, w) in r)) e ∙ ap (λ u. (Idle, u)) (sym (idle refl))
+
+-- a sender's time is up at one host
+pub expired-is : {p : LinksAndPlan} {ss : List ServedHost} {o : Option Adoption} {w : WorldState} {h i : ℕ} {x : ServedHost} (peer : ℕ) (q : ServedHost) (done : Bool) (effect : Effect) → IsAt p ss o w h i x
+    → done ≡ nat_lt 0 (unacknowledged_to x.state peer) → q ≡ in_state x (if done then node_expired x.state peer else x.state)
+    → effect ≡ (if done then Expired else Idle) → expired w h peer ≡ (effect, world_of p (slice_set ss i q) o)
+unfolding expired
+expired-is {p} {ss} {o} {w} {h} {i} {x} peer q done effect a told e says =
+    let here = found a in
+    done-or-idle w (with_node w h (node_expired (node_at w h) peer)) Expired (nat_lt 0 (unacknowledged_to (node_at w h) peer)) done (world_of p (slice_set ss i q) o)
+    (sym (told ∙ ap (λ n. nat_lt 0 (unacknowledged_to n peer)) here.state))
+    (λ is. changed q (λ n. node_expired n peer) a (e ∙ ap (λ b. in_state x (if b then node_expired x.state peer else x.state)) is))
+    (λ is. same q a (e ∙ ap (λ b. in_state x (if b then node_expired x.state peer else x.state)) is))
+    ∙ ap (λ k. (k, world_of p (slice_set ss i q) o)) (sym says)
+
+nothing-staged : (n : NodeState) → has_staged n ≡ false → given_up n ≡ n
+nothing-staged n none = by n.staged n.reply n.part_ack refl refl refl none
+  where
+    by : (a : Option Staged) (b : Option StagedReply) (c : Option StagedAck) → n.staged ≡ a → n.reply ≡ b → n.part_ack ≡ c → (is_some a || is_some b || is_some c) ≡ false → given_up n ≡ n
+    by None None None e f g none = λ j. record n { staged = sym e j; reply = sym f j; part_ack = sym g j }
+    by None None (Some c) e f g none = cc
+    by None (Some b) c e f g none = cc
+    by (Some a) b c e f g none = cc
+
+-- one host gives up what it has staged
+pub gave_up-is : {p : LinksAndPlan} {ss : List ServedHost} {o : Option Adoption} {w : WorldState} {h i : ℕ} {x : ServedHost} (q : ServedHost) (done : Bool) (effect : Effect) → IsAt p ss o w h i x
+    → done ≡ has_staged x.state → q ≡ in_state x (given_up x.state) → effect ≡ (if done then GaveUp else Idle)
+    → gave_up w h ≡ (effect, world_of p (slice_set ss i q) o)
+unfolding gave_up
+gave_up-is {p} {ss} {o} {w} {h} {i} {x} q done effect a told e says =
+    let here = found a in
+    done-or-idle w (with_node w h (given_up (node_at w h))) GaveUp (has_staged (node_at w h)) done (world_of p (slice_set ss i q) o)
+    (sym (told ∙ ap has_staged here.state))
+    (λ is. changed q given_up a e)
+    (λ is. same q a (e ∙ ap (in_state x) (nothing-staged x.state (sym told ∙ is))))
+    ∙ ap (λ k. (k, world_of p (slice_set ss i q) o)) (sym says)
+
+-- one host hears a packet
+pub heard-is : {p : LinksAndPlan} {ss : List ServedHost} {o : Option Adoption} {w : WorldState} {h i : ℕ} {x : ServedHost} (q : ServedHost) (wire : List ℕ) (arrival : Arrival) (effect : Effect) (now : LinksAndPlan) → IsAt p ss o w h i x
+    → arrival ≡ (hear x.host x.hosts x.state wire).0 → q ≡ in_state x (hear x.host x.hosts x.state wire).1
+    → IsToldOf p h arrival effect now
+    → arrived w h (hear h (host_count w) (node_at w h) wire) ≡ (effect, world_of now (slice_set ss i q) o)
+heard-is {p} {ss} {o} {w} {h} {i} {x} q wire arrival effect now a heard e told =
+    let here = found a in
+    let n : NodeState = (hear x.host x.hosts x.state wire).1 in
+    let same_hearing : hear x.host x.hosts x.state wire ≡ hear h (host_count w) (node_at w h) wire =
+    ap (λ k. hear k x.hosts x.state wire) here.host ∙ ap (λ k. hear h k x.state wire) here.hosts ∙ ap (λ m. hear h (host_count w) m wire) here.state in
+    let pair : (let r : Arrival × NodeState = (arrival, n) in r) ≡ hear h (host_count w) (node_at w h) wire = ap (λ r. (r, n)) heard ∙ same_hearing in
+    ap (arrived w h) (sym pair) ∙ ap (λ v. arrived v h (arrival, n)) (sym a.is) ∙ told (world_of p ss o) n ∙ ap (λ v. (effect, v)) (sym (changed-under q n now o a e))
+
+-- a set is adopted, and its adopter has its table
+pub adopted-is : {p : LinksAndPlan} {ss : List ServedHost} {o : Option Adoption} {w : WorldState} {h i : ℕ} {x : ServedHost} (q : ServedHost) (routes : List Route) (table : HostTable) (now : Option Adoption) → IsAt p ss o w h i x
+    → table ≡ record { host = h; state = whole_table routes h 1 } → now ≡ Some (record { mapper = h; epoch = 1; routes = routes }) → q ≡ in_state x (record x.state { table = table.state })
+    → world_of p (slice_set ss i q) now ≡ adopted_by w h routes
+adopted-is {p} {ss} {o} {w} {h} {i} {x} q routes table now a made takes e =
+    let here = found a in
+    let n : NodeState = record x.state { table = whole_table routes h 1 } in
+    let new : q ≡ in_state x n = e ∙ ap (λ t. in_state x (record x.state { table = t.state })) made in
+    ap (world_of p (slice_set ss i q)) takes ∙ changed-under q n p (Some (record { mapper = h; epoch = 1; routes = routes })) a new
+    ∙ ap (λ v. record (with_node v h n) { adopted = Some (record { mapper = h; epoch = 1; routes = routes }) }) a.is
+    ∙ ap (λ m. record (with_node w h (record m { table = whole_table routes h 1 })) { adopted = Some (record { mapper = h; epoch = 1; routes = routes }) }) here.state
+
+-- what a part to send is in the world
+abbrev pub part-of : WorldState → Option PartToSend → Effect × WorldState
+part-of w None = (Idle, w)
+part-of w (Some s) = (IsStaged, with_node w s.mapper (record (node_at w s.mapper) { staged = Some (StagedPart s.part s.by) }))
+
+part-at : (w : WorldState) (mapper : ℕ) (p : Option RoutePart) (by : Option (List ℤ)) → stage_at w mapper p by ≡ part-of w (sent_by_route mapper p by)
+part-at w mapper (Some p) (Some by) = refl
+part-at w mapper (Some p) None = refl
+part-at w mapper None by = refl
+
+pub part-is : (w : WorldState) (dst part : ℕ) → part_staged w dst part ≡ part-of w (part_to_send w.adopted dst part)
+unfolding part_staged
+part-is w dst part = by w.adopted
+  where
+    by : (o : Option Adoption) → stage_part w dst part o ≡ part-of w (part_to_send o dst part)
+    by None = refl
+    by (Some a) = part-at w a.mapper (part_for a dst part) (route_of a.routes a.mapper dst)
+
+-- one host stages a part
+pub part-staged-is : {p : LinksAndPlan} {ss : List ServedHost} {o : Option Adoption} {w : WorldState} {i : ℕ} {x : ServedHost} (dst part : ℕ) (q : ServedHost) (s : PartToSend) → IsAt p ss o w s.mapper i x
+    → Some s ≡ part_to_send o dst part → q ≡ in_state x (record x.state { staged = Some (StagedPart s.part s.by) }) → part_staged w dst part ≡ (IsStaged, world_of p (slice_set ss i q) o)
+part-staged-is {p} {ss} {o} {w} {i} {x} dst part q s a sends e =
+    part-is w dst part ∙ ap (λ (v : WorldState). part-of w (part_to_send v.adopted dst part)) (sym a.is) ∙ ap (part-of w) (sym sends)
+    ∙ ap (λ (v : WorldState). (IsStaged, v)) (sym (changed q (λ n. record n { staged = Some (StagedPart s.part s.by) }) a e))
+
+pub part-none : (w : WorldState) (dst part : ℕ) (o : Option Adoption) → w.adopted ≡ o → None ≡ part_to_send o dst part → part_staged w dst part ≡ (Idle, w)
+part-none w dst part o is none = part-is w dst part ∙ ap (λ a. part-of w (part_to_send a dst part)) is ∙ ap (part-of w) (sym none)
+
+-- the adopter of a part is a host
+pub sender-there : (hosts dst part : ℕ) (o : Option Adoption) (s : PartToSend) → IfSome o (IsSetOfHosts hosts) → Some s ≡ part_to_send o dst part → s.mapper < hosts
+sender-there hosts dst part None s all e = cc
+sender-there hosts dst part (Some a) s all e = by (part_for a dst part) (route_of a.routes a.mapper dst) e
+  where
+    by : (p : Option RoutePart) (way : Option (List ℤ)) → Some s ≡ sent_by_route a.mapper p way → s.mapper < hosts
+    by (Some p) (Some way) f = subst (λ k. k < hosts) (sym (ap (λ t. t.mapper) (same_Some s (record { mapper = a.mapper; part = p; by = way }) f))) all.mapper
+    by (Some p) None f = cc
+    by None way f = cc

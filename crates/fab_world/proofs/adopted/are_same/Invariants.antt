@@ -1,7 +1,0 @@
--- The routes before this place are the same.
-use Rattle.std.proofs.Common.{◌≡◌, drop}
-use Rattle.fab_world.specs.Adopting.{same_routes}
-use Rattle.fab_world.proofs.adopted.are_same.Given as goal
-
-abbrev pub invariant-loop-i : goal.invariant-loop-i
-invariant-loop-i l = same_routes (drop l.i l.routes) (drop l.i l.others) ≡ same_routes l.routes l.others

@@ -1,0 +1,23 @@
+use Rattle.std.proofs.Common.{ap, sym, ◌∙◌}
+use Rattle.fab_world.proofs.HostEvents.{adopted-is}
+use Rattle.fab_world.proofs.Places.{IsAt, found, kept-in-state}
+use Rattle.fab_world.proofs.machine.Machine.adopt.Goals as goal
+
+pub take_table-requires : goal.take_table-requires
+take_table-requires c =
+    let at : IsAt c.self.inside.links c.self.inside.hosts.items c.self.inside.adopted c.args.self.now c.args.mapper c.from.result c.index_mut.result.now =
+    record { is = c.self.view_is; kept = c.self.invariant; below = c.requires; at = c.from.ensures; there = c.index_mut.ensures.value } in
+    let there = found at in
+    ap (λ t. t.host) c.in_ok-table.ensures.table ∙ sym there.host
+
+pub invariant_of-self-2 : goal.invariant_of-self-2
+invariant_of-self-2 c =
+    let at : IsAt c.self.inside.links c.self.inside.hosts.items c.self.inside.adopted c.args.self.now c.args.mapper c.from.result c.index_mut.result.now =
+    record { is = c.self.view_is; kept = c.self.invariant; below = c.requires; at = c.from.ensures; there = c.index_mut.ensures.value } in
+    kept-in-state c.take_table.new.self (record c.index_mut.result.now.state { table = c.in_ok-table.table.state }) at c.take_table.ensures
+
+pub returns-clause-adopted : goal.returns-clause-adopted
+returns-clause-adopted c =
+    let at : IsAt c.self.inside.links c.self.inside.hosts.items c.self.inside.adopted c.args.self.now c.args.mapper c.from.result c.index_mut.result.now =
+    record { is = c.self.view_is; kept = c.self.invariant; below = c.requires; at = c.from.ensures; there = c.index_mut.ensures.value } in
+    adopted-is c.take_table.new.self c.args.set c.in_ok-table.table c.adopt.new.self at c.in_ok-table.ensures.table c.in_ok-table.ensures.adopted c.take_table.ensures

@@ -1,7 +1,0 @@
-use Rattle.std.proofs.Common.{ap, sym, ◌∙◌}
-use Rattle.world_defs.specs.Step.{lost}
-use Rattle.fab_world.specs.Held.{world_of}
-use Rattle.fab_world.proofs.machine.Machine.lose.Goals as goal
-
-pub returns : goal.returns
-returns c = ap (λ w. lost w c.args.c) (sym c.self.view_is) ∙ c.lose.ensures (world_of c.self.inside.links c.self.inside.hosts c.self.inside.adopted)

@@ -1,6 +1,0 @@
-use Rattle.std.proofs.Common.{◌*◌}
-use Rattle.link_model.specs.Marks.{IsBare}
-use Rattle.link_model.proofs.marks.first_from.Given as goal
-
-abbrev pub invariant-loop-at : goal.invariant-loop-at
-invariant-loop-at l = IsBare l.words (64 * l.start) (64 * l.at)

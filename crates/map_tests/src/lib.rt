@@ -1,0 +1,29 @@
+//! Tests of probers, classes, maps and certificates in calls that no worked text reaches. Nothing stands on it.
+//!
+//! | module | has |
+//! |---|---|
+//! | `packets` | what a mapper is told by packets |
+//! | `growing` | journals grown over probers in memory, and the numbering of a map |
+//! | `classes` | the classes of two small journals |
+//! | `closure` | the classes of grown journals, compared with a plain closure, `plain` |
+//! | `certificates` | what the check of a certificate answers |
+//! | `texts` | a fabric and a map, read and printed; the bridges of a map |
+//! | `fabrics` | the fabrics that these speak of |
+#![tactic(auto)]
+
+#[cfg(test)]
+mod certificates;
+#[cfg(test)]
+mod classes;
+#[cfg(test)]
+mod closure;
+#[cfg(test)]
+mod fabrics;
+#[cfg(test)]
+mod growing;
+#[cfg(test)]
+mod packets;
+#[cfg(test)]
+mod plain;
+#[cfg(test)]
+mod texts;

@@ -1,0 +1,25 @@
+-- The messages of a host, its connections and its ports, within a host of the world.
+use Rattle.std.specs.Prelude.{ℕ, List, [], ◌∷◌}
+use Rattle.gm_defs.specs.declared.frame.FrameHead.{FrameHead}
+use Rattle.gm_defs.specs.declared.token.Took.{Took}
+use Rattle.gm_defs.specs.declared.token.Took.TheVariants.{NotNext, NoToken, Whole}
+use Rattle.gm_defs.specs.Port.{delivered, finished}
+use Rattle.world_defs.specs.Peer.{Ticket}
+use Rattle.world_defs.specs.Node.{NodeState}
+use Rattle.host_ports.specs.Held.{HostPorts, changed}
+use Rattle.host_peers.specs.Peers.{HostPeers}
+
+-- a host of the world with these connections and ports
+abbrev pub with_messages : NodeState → HostPeers → HostPorts → NodeState
+with_messages n peers ports = record n { peers = peers.peers; ports = ports.ports }
+
+-- a message that was taken whole is in an event of its port
+abbrev pub delivered_in : HostPorts → FrameHead → List ℕ → Took → HostPorts
+delivered_in p h part NotNext = p
+delivered_in p h part NoToken = p
+delivered_in p h part Whole = changed p h.dport (λ s. delivered s h part)
+
+-- the sends of tickets are finished at their ports
+abbrev pub finished_in : HostPorts → List Ticket → HostPorts
+finished_in p [] = p
+finished_in p (t ∷ ts) = finished_in (changed p t.port (λ s. finished s t.token)) ts

@@ -1,0 +1,126 @@
+//! A message is accepted.
+
+ghost use Rattle.std.specs.Prelude.{◌≡◌, ◌⊎◌, ◌<◌, length, None, Some, IfErr, OnOk, OnErr, MatchResult};
+ghost use Rattle.std.specs.Option.{ForSome};
+ghost use Rattle.net_defs.specs.Refusal.{Refuses};
+ghost use Rattle.gm_defs.specs.Token.{place_of_send};
+ghost use Rattle.gm_defs.specs.Port.{sent_with};
+ghost use Rattle.gm_tokens.specs.Token.{token_at};
+ghost use Rattle.host_ports.specs.Held.{open_at, changed};
+ghost use Rattle.host_ports.specs.Refusal.{send_bar};
+ghost use Rattle.nic_node.specs.Accepting.{accepted_in, early_bar, node_bar, port_word, peer_word};
+
+use crate::refusal::NodeSend;
+use gm_tokens::SendToken;
+use host_peers::{Envelope, OfferRefusal, Peers};
+use host_ports::{PortSend, Ports, SendAsk};
+use reg_mem::Reg;
+use std::alloc::Global;
+
+/// Accepts a message of a port for a peer; `route` says whether a route leads there. The port has token and buffer until the message is
+/// acknowledged. A refusal hands both back and changes nothing: NotOpen, TooLong, BufferShort, NoRoute, Spent, in this order, and only
+/// then want of memory.
+pub(crate) fn send(
+    alloc: Global,
+    peers: &mut Peers,
+    ports: &mut Ports,
+    route: bool,
+    port: u8,
+    t: SendToken,
+    b: Reg,
+    a: SendAsk,
+) -> Result<(), (SendToken, Reg, NodeSend)>
+    requires port { port < 8 }
+    requires dest { a.dest < length peers.old.peers }
+    requires own { t ≡ token_at ports.old.host port t.number }
+    requires minted { ForSome (open_at ports.old port) (λ p. t.number < p.sends) }
+    requires free { ForSome (open_at ports.old port) (λ p. place_of_send p t.number ≡ None) }
+    requires dport { a.dport < 8 }
+    requires prio { a.prio < 2 }
+    ensures refused { MatchResult result (λ _. node_bar peers.old ports.old route port a b ≡ None) (λ e. (node_bar peers.old ports.old route port a b ≡ Some e.2) ⊎ ((node_bar peers.old ports.old route port a b ≡ None) × (e.2 ≡ NodeSend.NoMemory))) }
+    ensures handed_back { IfErr result (λ e. (e.0 ≡ t) × (e.1 ≡ b)) }
+    ensures accepted { OnOk result (peers.new ≡ accepted_in peers.old port t.number a b) }
+    ensures sent { OnOk result (ports.new ≡ changed ports.old port (λ s. sent_with s t.number b)) }
+    ensures peers { OnErr result (peers.new ≡ peers.old) }
+    ensures ports { OnErr result (ports.new ≡ ports.old) }
+{
+    match accept(alloc, peers, ports, route, port, t.number(), a, b.bytes()) {
+        Ok(()) => {
+            ports.send(port, t, b, a);
+            Ok(())
+        }
+        Err(refusal) => Err((t, b, refusal)),
+    }
+}
+
+// Accepts the message of a buffer for a peer, where nothing refuses it.
+fn accept(
+    alloc: Global,
+    peers: &mut Peers,
+    ports: &Ports,
+    route: bool,
+    port: u8,
+    token: u16,
+    a: SendAsk,
+    buffer: &[u8],
+) -> Result<(), NodeSend>
+    requires port { port < 8 }
+    requires dest { a.dest < length peers.old.peers }
+    requires dport { a.dport < 8 }
+    requires prio { a.prio < 2 }
+    ensures refused { Refuses (node_bar peers.old ports.now route port a buffer.now) NodeSend.NoMemory result }
+    ensures able { OnOk result (send_bar (open_at ports.now port) a.len buffer.now ≡ None) }
+    ensures accepted { OnOk result (peers.new ≡ accepted_in peers.old port token a buffer.now) }
+    ensures unchanged { OnErr result (peers.new ≡ peers.old) }
+{
+    if let Some(refusal) = early_refusal(ports, route, port, a, buffer) {
+        return Err(refusal);
+    }
+    let envelope = Envelope {
+        sport: port,
+        dport: a.dport,
+        prio: a.prio,
+    };
+    let body = &buffer[..a.len as usize];
+    match peers.accept(alloc, a.dest, envelope, body, token) {
+        Ok(()) => Ok(()),
+        Err(refusal) => Err(peer_word(refusal)),
+    }
+}
+
+// Why a message is refused before its peer is looked at.
+fn early_refusal(
+    ports: &Ports,
+    route: bool,
+    port: u8,
+    a: SendAsk,
+    buffer: &[u8],
+) -> Option<NodeSend>
+    requires { port < 8 }
+    ensures { result ≡ early_bar (open_at ports.now port) route a.len buffer.now }
+{
+    match ports.refuse_send(port, a.len, buffer) {
+        Some(refusal) => Some(port_word(refusal)),
+        None if route => None,
+        None => Some(NodeSend::NoRoute),
+    }
+}
+
+fn port_word(refusal: PortSend) -> NodeSend
+    ensures { result ≡ port_word refusal }
+{
+    match refusal {
+        PortSend::NotOpen => NodeSend::NotOpen,
+        PortSend::TooLong => NodeSend::TooLong,
+        PortSend::BufferShort => NodeSend::BufferShort,
+    }
+}
+
+fn peer_word(refusal: OfferRefusal) -> NodeSend
+    ensures { result ≡ peer_word refusal }
+{
+    match refusal {
+        OfferRefusal::Spent => NodeSend::Spent,
+        OfferRefusal::NoMemory => NodeSend::NoMemory,
+    }
+}

@@ -1,0 +1,49 @@
+//! std's readers and writers as a source and a sink.
+
+use fab_outer::{ReadEnd, StdSink, StdSource, WriteFault, read_all, write_all};
+use std::io::{Error, ErrorKind, Read, Write};
+use std::test::Fail;
+
+// Fails at each read, and at each flush behind a write.
+#[derive(Drop)]
+struct Broken;
+
+impl Read for Broken {
+    fn read(&mut self, _into: &mut [u8]) -> std::io::Result<usize> {
+        Err(Error::from(ErrorKind::BrokenPipe))
+    }
+}
+
+impl Write for Broken {
+    fn write(&mut self, from: &[u8]) -> std::io::Result<usize> {
+        Ok(from.len())
+    }
+
+    fn flush(&mut self) -> std::io::Result<()> {
+        Err(Error::from(ErrorKind::BrokenPipe))
+    }
+}
+
+#[test]
+fn a_reader_is_read_to_its_end_and_its_failure_told(rt: HostRuntime) -> Result<(), Fail> {
+    let mut source = StdSource::new("abc".as_bytes());
+    let content = read_all(rt.alloc(), &mut source, 9)?;
+    let failed = read_all(rt.alloc(), &mut StdSource::new(Broken), 9);
+    assert_eq!(rt; content.as_slice(), b"abc".as_slice());
+    assert!(rt; matches!(failed, Err(ReadEnd::ReadFault)));
+    Ok(())
+}
+
+#[test]
+fn a_writer_gets_the_bytes_and_its_failed_flush_is_told(rt: HostRuntime) -> Result<(), Fail> {
+    let mut written: Vec<u8> = Vec::new(rt.alloc());
+    {
+        let mut sink = StdSink::new(&mut written);
+        write_all(&mut sink, b"abc")?;
+        write_all(&mut sink, b"de")?;
+    }
+    let failed = write_all(&mut StdSink::new(Broken), b"abc");
+    assert_eq!(rt; written.as_slice(), b"abcde".as_slice());
+    assert_eq!(rt; failed, Err(WriteFault));
+    Ok(())
+}

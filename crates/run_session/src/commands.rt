@@ -1,0 +1,121 @@
+//! Every command, over the parts of a session.
+
+ghost use Rattle.std.specs.Prelude.{◌≡◌, ℕ, false, IfOk, OnErr};
+ghost use Rattle.link_defs.specs.Links.{empty_links, is_idle};
+ghost use Rattle.world_defs.specs.World.{fabric_of};
+ghost use Rattle.run_defs.specs.declared.command.Command.TheVariants.{Map};
+ghost use Rattle.fab_script.specs.Ranges.{IsCommandOf};
+ghost use Rattle.world_commands.specs.Done.{session_of};
+ghost use Rattle.run_session.specs.Kept.{IsKept, IsLastMap, AreLastRoutes};
+ghost use Rattle.run_session.specs.Obeyed.{IsObeyed};
+
+use crate::installing::install_text;
+use crate::last::{LastFound, LastMade};
+use crate::mapping::{busy_text, map, map_ordered};
+use crate::routing::routes;
+use crate::settling::settle_text;
+use fab_world::World;
+use link_model::Links;
+use run_defs::Command;
+use std::alloc::{AllocError, Global};
+use world_commands::{
+    PortAt, SendRequest, close, finish, open, plan, poll, provide, send, step, tokens, walk,
+};
+
+/// Does a command over the parts of a session: the world then, and the text of what it printed, unless memory was wanting.
+pub(crate) fn obey(
+    alloc: Global,
+    world: World,
+    links: &mut Links,
+    last_map: &mut Option<LastMade>,
+    last_routes: &mut Option<LastFound>,
+    c: &Command,
+) -> (World, Result<Vec<u8>, AllocError>)
+    requires command { IsCommandOf (fabric_of world) c.now }
+    requires kept { IsKept (session_of world last_map.old last_routes.old) }
+    requires links { links.old ≡ empty_links (fabric_of world) }
+    ensures obeyed { IfOk result.1 (λ text. IsObeyed (session_of world last_map.old last_routes.old) c.now
+        (session_of result.0 last_map.new last_routes.new) text.items) }
+    ensures kept { IsKept (session_of result.0 last_map.new last_routes.new) }
+    ensures links { links.new ≡ links.old }
+    ensures fabric { fabric_of result.0 ≡ fabric_of world }
+    ensures same_map { OnErr result.1 (last_map.new ≡ last_map.old) }
+    ensures same_routes { OnErr result.1 (last_routes.new ≡ last_routes.old) }
+{
+    match map_ordered(&world, c) {
+        Some(order) => map(alloc, world, last_map, order),
+        None => {
+            let mut world = world;
+            let text = obey_here(alloc, &mut world, links, last_map, last_routes, c);
+            (world, text)
+        }
+    }
+}
+
+// Does a command that makes no map: `map` only where that is refused.
+#[tactic(auto, using(crate::proofs::Obeying::done_so, crate::proofs::Obeying::busy_so, crate::proofs::Installs::installed_so))]
+fn obey_here(
+    alloc: Global,
+    w: &mut World,
+    links: &mut Links,
+    last_map: &Option<LastMade>,
+    last_routes: &mut Option<LastFound>,
+    c: &Command,
+) -> Result<Vec<u8>, AllocError>
+    requires command { IsCommandOf (fabric_of w.old) c.now }
+    requires busy { (host depth tries : ℕ) → c.now ≡ Map host depth tries → is_idle w.old.links ≡ false }
+    requires map { IsLastMap (fabric_of w.old) last_map.now }
+    requires routes { AreLastRoutes (fabric_of w.old) last_routes.old }
+    requires links { links.old ≡ empty_links (fabric_of w.old) }
+    ensures obeyed { IfOk result (λ text. IsObeyed (session_of w.old last_map.now last_routes.old) c.now
+        (session_of w.new last_map.now last_routes.new) text.items) }
+    ensures routes { AreLastRoutes (fabric_of w.old) last_routes.new }
+    ensures links { links.new ≡ links.old }
+    ensures fabric { fabric_of w.new ≡ fabric_of w.old }
+    ensures err { OnErr result (last_routes.new ≡ last_routes.old) }
+{
+    match c {
+        Command::Walk { host, walk: taken } => walk(alloc, w, links, *host, taken.turns()),
+        Command::Map { host, .. } => busy_text(alloc, w, *host),
+        Command::Routes => routes(alloc, w, last_map, last_routes),
+        Command::Install { tries } => install_text(alloc, w, last_routes, *tries),
+        Command::Begin {
+            host,
+            port,
+            sends,
+            recvs,
+        } => open(alloc, w, PortAt::new(*host, *port), *sends, *recvs),
+        Command::Close { host, port } => close(alloc, w, PortAt::new(*host, *port)),
+        Command::Poll { host, port } => poll(alloc, w, PortAt::new(*host, *port)),
+        Command::Tokens { host, port } => tokens(alloc, w, PortAt::new(*host, *port)),
+        Command::Provide {
+            host,
+            port,
+            size,
+            prio,
+        } => provide(alloc, w, PortAt::new(*host, *port), *size, *prio),
+        Command::Send {
+            host,
+            port,
+            dest,
+            dport,
+            prio,
+            len,
+            seed,
+        } => send(
+            alloc,
+            w,
+            PortAt::new(*host, *port),
+            SendRequest {
+                to: PortAt::new(*dest, *dport),
+                prio: *prio,
+                len: *len,
+                seed: *seed,
+            },
+        ),
+        Command::Plan { ahead, kind } => plan(alloc, w, *ahead, *kind),
+        Command::Step(line) => step(alloc, w, *line),
+        Command::Finish => finish(alloc, w),
+        Command::Settle => settle_text(alloc, w),
+    }
+}

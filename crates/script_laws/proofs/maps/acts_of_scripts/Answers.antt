@@ -1,8 +1,0 @@
-use Rattle.script_laws.proofs.Said.{script_is_reached, script_has_no_cycle}
-use Rattle.script_laws.proofs.maps.acts_of_scripts.Goals as goal
-
-pub returns-clause-reached : goal.returns-clause-reached
-returns-clause-reached c = script_is_reached
-
-pub returns-clause-no_cycle : goal.returns-clause-no_cycle
-returns-clause-no_cycle c = script_has_no_cycle

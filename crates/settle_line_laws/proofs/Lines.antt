@@ -1,0 +1,102 @@
+-- Behind every run a settle can be made, and its line is true.
+use Rattle.std.proofs.Common.{◌≡◌, ◌<◌, ℕ, List, [], ◌∷◌, min, Option, Some, None, refl, sym, ◌∙◌, ap, subst, arith}
+use Rattle.std.specs.Prelude.{slice_get}
+use Rattle.std.proofs.lemmas.Option.{same_Some}
+use Rattle.net_defs.specs.declared.route.Route.{Route}
+use Rattle.net_defs.specs.Network.{Network}
+use Rattle.net_defs.proofs.Distinct.{all-weaker}
+use Rattle.map_defs.specs.Orientation.{order_of}
+use Rattle.net_defs.specs.RouteSet.{HasRoute}
+use Rattle.world_defs.specs.Table.{Adoption}
+use Rattle.world_defs.specs.World.{WorldState, fabric_of, last_count}
+use Rattle.world_defs.specs.Traffic.{routes_in, sent_between, got_between}
+use Rattle.world_defs.specs.Settle.{Rounds, unacknowledged_in, settle}
+use Rattle.world_defs.specs.Settled.{IsSettled}
+use Rattle.world_laws.specs.Shape.{HasSenders}
+use Rattle.world_laws.specs.Settling.{Settles}
+use Rattle.world_laws.proofs.Rounds.{settle-settles, settles-bounded}
+use Rattle.act_defs.specs.Acts.{IsReached}
+use Rattle.window_laws.proofs.Windows.{windows-hold}
+use Rattle.window_laws.proofs.Reaching.{settle-got}
+use Rattle.run_defs.specs.declared.command.Command.{Command}
+use Rattle.run_defs.specs.declared.command.Command.TheVariants.{Map, Plan, Settle}
+use Rattle.run_defs.specs.declared.line.Line.TheVariants.{Settle as SettleLine}
+use Rattle.run_defs.specs.Output.{Piece, OneLine}
+use Rattle.run_defs.specs.Session.{SessionState}
+use Rattle.run_defs.specs.Outcome.{Outcome, settled, outcome}
+use Rattle.run_defs.specs.Run.Does.{determined}
+use Rattle.run_defs.specs.Headline.{IsCommandOf}
+use Rattle.mapping_laws.proofs.Sessions.{run_keeps_world}
+use Rattle.run_laws.specs.Acts.{IsActOf}
+use Rattle.run_laws.proofs.Reaching.{run_is_reached}
+use Rattle.lawful_laws.proofs.Settling.{settle-flows}
+use Rattle.settle_laws.specs.Premises.{CanSettle}
+use Rattle.settle_laws.proofs.Flowing.{settle-ends_settled}
+use Rattle.settle_line_laws.specs.Lines.{RunCanSettle, IsSettledLine, SettledLineIsTrue}
+use Rattle.settle_line_laws.proofs.Backs.{back-at}
+use Rattle.settle_line_laws.proofs.Adopting.{AreOfMap, adopted-of}
+
+-- such a command is one over the fabric
+command-of : (n : Network) (c : Command) → IsActOf n c → IsCommandOf n c
+command-of n (Map host depth tries) is = is
+command-of n (Plan ahead kind) is = is.1
+command-of n c is = tt
+
+-- each adopted route has one back
+set-back : (o : Option Adoption) → ((a : Adoption) → o ≡ Some a → AreOfMap a.routes) → (place : ℕ) (r : Route) → slice_get (routes_in o) place ≡ Some r → HasRoute (routes_in o) r.to r.from
+set-back None of_map place r there = cc
+set-back (Some a) of_map place r there = let k = of_map a refl in back-at k.made (order_of k.made) a.routes k.are place r there
+
+pub run-can_settle : RunCanSettle
+run-can_settle n commands out s f all r =
+    let net : fabric_of s.world ≡ n = (run_keeps_world n commands out s f (all-weaker (IsActOf n) (IsCommandOf n) commands (command-of n) all) r).fabric in
+    let reached = run_is_reached n commands out s f all r in
+    (net, record { reached = subst (λ m. IsReached m s.world) (sym net) reached; joined = set-back s.world.adopted (adopted-of n commands out s r) })
+
+-- what a settle prints
+record Prints (s next : SessionState) (rounds resets unacked : ℕ) : Type 0 where
+  after : (settle s.world).world ≡ next.world
+  round_count : (settle s.world).rounds ≡ rounds
+  reset_count : min (settle s.world).resets last_count ≡ resets
+  left : unacknowledged_in (settle s.world).world ≡ unacked
+
+settle-prints : (s next : SessionState) (rounds resets unacked : ℕ) (rest : List Piece) → outcome s Settle ≡ Some (record { output = OneLine (SettleLine rounds resets unacked) ∷ rest; after = next }) → Prints s next rounds resets unacked
+settle-prints s next rounds resets unacked rest e =
+    let r : Rounds = settle s.world in
+    let said : Outcome = record { output = OneLine (SettleLine rounds resets unacked) ∷ rest; after = next } in
+    let o : settled s r ≡ said = same_Some (settled s r) said e in
+    let printed : OneLine (SettleLine r.rounds (min r.resets last_count) (unacknowledged_in r.world)) ∷ [] ≡ OneLine (SettleLine rounds resets unacked) ∷ rest = ap (λ (x : Outcome). x.output) o in
+    record { after = ap (λ (x : Outcome). x.after.world) o; round_count = cc; reset_count = cc; left = cc }
+
+-- a reached world has its connections in order
+reached-senders : (n : Network) (w : WorldState) → IsReached n w → HasSenders w
+reached-senders n w is = record { in_order = λ h peer. (windows-hold n w is h peer).numbers }
+
+-- no resets are printed as none
+none-printed : (k most : ℕ) → k ≡ 0 → min k most ≡ 0
+none-printed k most e = omega (arith, e)
+
+line-so : (s next : SessionState) (rounds resets unacked : ℕ) → CanSettle s.world → Prints s next rounds resets unacked → IsSettledLine s next rounds resets unacked
+line-so s next rounds resets unacked can p =
+    let w : WorldState = s.world in
+    let r : Rounds = settle w in
+    let senders = reached-senders (fabric_of w) w can.reached in
+    let is : Settles w r = settle-settles w senders in
+    let bound = settles-bounded w r senders is in
+    let least = bound.0 in
+    let most = bound.1 in
+    let count = p.round_count in
+    let after = p.after in
+    record {
+      after = sym after;
+      at_least = omega (arith, least, count);
+      at_most = omega (arith, most, count);
+      lawful = λ clears. sym p.reset_count ∙ none-printed r.resets last_count (settle-flows (fabric_of w) w can.reached clears);
+      left = sym p.left ∙ ap unacknowledged_in after;
+      settled = λ left. subst IsSettled after (settle-ends_settled w r can is (subst (λ (v : WorldState). v.injected < last_count) (sym after) left));
+      got = λ none a b. subst (λ v. got_between v a b ≡ sent_between v a b) after (settle-got (fabric_of w) w can.reached (p.left ∙ none) a b);
+    }
+
+pub line-true : SettledLineIsTrue
+line-true n commands out rest s next rounds resets unacked f all r (determined e) =
+    line-so s next rounds resets unacked (run-can_settle n commands out s f all r).1 (settle-prints s next rounds resets unacked rest e)

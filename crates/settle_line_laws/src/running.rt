@@ -1,0 +1,13 @@
+//! What every run can settle, and what it prints then: `specs/Lines.antt` has the statements.
+
+ghost use Rattle.settle_line_laws.specs.Lines.{RunCanSettle, SettledLineIsTrue};
+
+/// A settle can be made behind every run, since the routes that a run adopts are those of a map, in which each has one back.
+pub fn settling_runs()
+    ensures { RunCanSettle }
+{}
+
+/// Each line `settle rounds R resets N unacked U` of a run says what it is read to say.
+pub fn settled_lines()
+    ensures { SettledLineIsTrue }
+{}

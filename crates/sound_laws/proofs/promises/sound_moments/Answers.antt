@@ -1,5 +1,0 @@
-use Rattle.sound_laws.proofs.Sound.{always_sound}
-use Rattle.sound_laws.proofs.promises.sound_moments.Goals as goal
-
-pub returns : goal.returns
-returns c = always_sound

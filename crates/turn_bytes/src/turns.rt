@@ -1,0 +1,73 @@
+//! Routes within a body: the number of turns, then one byte for each.
+
+ghost use Rattle.std.specs.Prelude.{◌≡◌, ◌≤◌, ◌++◌, ◌∷◌, length, map, All, IfOk, OnOk};
+ghost use Rattle.net_defs.specs.Turn.{IsTurn};
+ghost use Rattle.net_defs.specs.Refusal.{Refuses};
+ghost use Rattle.packet_defs.specs.RouteByte.{route_byte, turn_of, turns_of};
+ghost use Rattle.turn_bytes.specs.Reading.{missing};
+
+use net_defs::Walk;
+use std::alloc::{AllocError, Global};
+
+/// Why bytes can't be read as turns.
+#[derive(Clone, Copy, Debug, PartialEq, Eq)]
+pub enum TurnFault {
+    /// A byte among them stands for no turn.
+    Malformed,
+    /// The turns had no room.
+    NoMemory,
+}
+
+// The most turns of a route.
+const MAX_TURNS: usize = 64;
+
+/// The byte that stands for a turn.
+fn route_byte(turn: i8) -> u8
+    requires { IsTurn turn }
+    ensures { result ≡ route_byte turn }
+{
+    0x80 + i16::from(turn).rem_euclid(64) as u8
+}
+
+// The turn that a byte stands for; none where it is no route byte.
+fn turn_of(byte: u8) -> Option<i8>
+    ensures { result ≡ turn_of byte }
+{
+    match byte {
+        0x80..=0x8f => Some((i16::from(byte) - 0x80) as i8),
+        0xb1..=0xbf => Some((i16::from(byte) - 0xc0) as i8),
+        _ => None,
+    }
+}
+
+/// Adds a route at the end of bytes.
+pub fn push_route(bytes: &mut Vec<u8>, turns: &[i8]) -> Result<(), AllocError>
+    requires short { length turns.now ≤ 64 }
+    requires in_range { All IsTurn turns.now }
+    ensures { OnOk result (bytes.new.items ≡ bytes.old.items ++ length turns.now ∷ map route_byte turns.now) }
+{
+    bytes.push(turns.len() as u8)?;
+    for turn in turns {
+        bytes.push(route_byte(*turn))?;
+    }
+    Ok(())
+}
+
+/// The turns of at most 64 route bytes. `Malformed` exactly where another byte is among them; memory is taken once all are known.
+pub fn walk_of(alloc: Global, bytes: &[u8]) -> Result<Walk, TurnFault>
+    requires { length bytes.now ≤ 64 }
+    ensures ok { IfOk result (λ walk. turns_of bytes.now ≡ Some walk) }
+    ensures refused { Refuses (missing (turns_of bytes.now)) TurnFault.NoMemory result }
+{
+    let mut turns = [0; MAX_TURNS];
+    for at in 0..bytes.len() {
+        match turn_of(bytes[at]) {
+            Some(turn) => turns[at] = turn,
+            None => return Err(TurnFault::Malformed),
+        }
+    }
+    match Walk::new(alloc, &turns[..bytes.len()]) {
+        Ok(walk) => Ok(walk),
+        Err(_) => Err(TurnFault::NoMemory),
+    }
+}

@@ -1,0 +1,5 @@
+pub mod Answered
+pub mod Calls
+pub mod Done
+pub mod Naming
+pub mod Steps

@@ -1,0 +1,6 @@
+use Rattle.std.proofs.Common.{refl}
+use Rattle.run_defs.specs.declared.command.Command.TheVariants.{Begin}
+use Rattle.world_commands.proofs.clients.open.Goals as goal
+
+pub returns-clause-done : goal.returns-clause-done
+returns-clause-done c = c.call.ensures.done (Begin c.args.at.host c.args.at.port c.args.sends c.args.recvs) (λ s. refl)

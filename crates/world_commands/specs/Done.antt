@@ -1,0 +1,33 @@
+-- That a command was done over a world, whatever else a session holds, and its text.
+use Rattle.std.specs.Prelude.{◌≡◌, ℕ, List, Option, Some}
+use Rattle.world_defs.specs.declared.event.Event.{Event}
+use Rattle.world_defs.specs.Step.{step}
+use Rattle.world_defs.specs.World.{WorldState, fabric_of}
+use Rattle.run_defs.specs.declared.command.Command.{Command}
+use Rattle.run_defs.specs.declared.command.Command.TheVariants.{Send}
+use Rattle.run_defs.specs.declared.line.ClientCall.{ClientCall}
+use Rattle.run_defs.specs.LineText.{output_text}
+use Rattle.run_defs.specs.Outcome.{called, outcome}
+use Rattle.run_defs.specs.Output.{Piece}
+use Rattle.run_defs.specs.Session.{SessionState, LastMap, LastRoutes}
+use Rattle.world_commands.specs.declared.requests.PortAt.{PortAt}
+use Rattle.world_commands.specs.declared.requests.SendRequest.{SendRequest}
+
+-- a session with a world, a last map and last routes
+abbrev pub session_of : WorldState → Option LastMap → Option LastRoutes → SessionState
+session_of w made found = record { world = w; last_map = made; last_routes = found }
+
+-- A command was done over a world: it leaves each session of that world with the world then and all else as it was, and the text is that of what it printed.
+pub record IsDone (c : Command) (before after : WorldState) (text : List ℕ) : Type 0 where
+  pub output : List Piece
+  pub determined : (made : Option LastMap) → (found : Option LastRoutes)
+      → outcome (session_of before made found) c ≡ Some (record { output = output; after = session_of after made found })
+  pub printed : text ≡ output_text (fabric_of before) output
+
+-- a command is this call of a client, by its event
+abbrev pub IsCall : Command → ClientCall → PortAt → Event → Type 0
+IsCall c call at event = (s : SessionState) → outcome s c ≡ Some (called s call at.host at.port (step s.world event))
+
+-- the command that sends a message from a port
+abbrev pub sending : PortAt → SendRequest → Command
+sending at m = Send at.host at.port m.to.host m.to.port m.prio m.len m.seed

@@ -1,0 +1,117 @@
+//! The calls of clients, each one event.
+
+ghost use Rattle.std.specs.Prelude.{◌≡◌, ◌≤◌, IfOk};
+ghost use Rattle.world_defs.specs.World.{fabric_of};
+ghost use Rattle.run_defs.specs.declared.command.Command.TheVariants.{Begin, Close, Poll, Provide};
+ghost use Rattle.fab_report.specs.There.{IsHost};
+ghost use Rattle.world_commands.specs.Done.{IsDone, sending};
+
+use crate::answers::call;
+use crate::requests::{PortAt, SendRequest};
+use fab_world::{Event, World};
+use run_defs::ClientCall;
+use std::alloc::{AllocError, Global};
+
+/// Opens a port with so many tokens for sends and for receives. Where memory is wanting, it may be open.
+#[tactic(auto, using(crate::proofs::Calls::port_given))]
+pub fn open(
+    alloc: Global,
+    w: &mut World,
+    at: PortAt,
+    sends: u16,
+    recvs: u16,
+) -> Result<Vec<u8>, AllocError>
+    requires there { IsHost (fabric_of w.old) at.host }
+    requires port { at.port ≤ 7 }
+    ensures done { IfOk result (λ text. IsDone (Begin at.host at.port sends recvs) w.old w.new text.items) }
+    ensures fabric { fabric_of w.new ≡ fabric_of w.old }
+{
+    w.moment();
+    let event = Event::Begin {
+        host: at.host,
+        port: at.port,
+        sends,
+        recvs,
+    };
+    call(alloc, w, ClientCall::Begin, at, event)
+}
+
+/// Closes a port. Where memory is wanting, it may be closed.
+#[tactic(auto, using(crate::proofs::Calls::port_given))]
+pub fn close(alloc: Global, w: &mut World, at: PortAt) -> Result<Vec<u8>, AllocError>
+    requires there { IsHost (fabric_of w.old) at.host }
+    requires port { at.port ≤ 7 }
+    ensures done { IfOk result (λ text. IsDone (Close at.host at.port) w.old w.new text.items) }
+    ensures fabric { fabric_of w.new ≡ fabric_of w.old }
+{
+    w.moment();
+    let event = Event::Close {
+        host: at.host,
+        port: at.port,
+    };
+    call(alloc, w, ClientCall::Close, at, event)
+}
+
+/// Takes the next event of a port. Where memory is wanting, it may be taken.
+#[tactic(auto, using(crate::proofs::Calls::port_given))]
+pub fn poll(alloc: Global, w: &mut World, at: PortAt) -> Result<Vec<u8>, AllocError>
+    requires there { IsHost (fabric_of w.old) at.host }
+    requires port { at.port ≤ 7 }
+    ensures done { IfOk result (λ text. IsDone (Poll at.host at.port) w.old w.new text.items) }
+    ensures fabric { fabric_of w.new ≡ fabric_of w.old }
+{
+    w.moment();
+    let event = Event::Poll {
+        host: at.host,
+        port: at.port,
+    };
+    call(alloc, w, ClientCall::Poll, at, event)
+}
+
+/// Provides a buffer for messages of a size and a priority. Where memory is wanting, it may be provided.
+#[tactic(auto, using(crate::proofs::Calls::port_given))]
+pub fn provide(
+    alloc: Global,
+    w: &mut World,
+    at: PortAt,
+    size: u8,
+    prio: u8,
+) -> Result<Vec<u8>, AllocError>
+    requires there { IsHost (fabric_of w.old) at.host }
+    requires port { at.port ≤ 7 }
+    ensures done { IfOk result (λ text. IsDone (Provide at.host at.port size prio) w.old w.new text.items) }
+    ensures fabric { fabric_of w.new ≡ fabric_of w.old }
+{
+    w.moment();
+    let event = Event::Provide {
+        host: at.host,
+        port: at.port,
+        size,
+        prio,
+    };
+    call(alloc, w, ClientCall::Provide, at, event)
+}
+
+/// Sends a message from a port. Where memory is wanting, it may be accepted.
+#[tactic(auto, using(crate::proofs::Calls::message_given))]
+pub fn send(alloc: Global, w: &mut World, at: PortAt, m: SendRequest) -> Result<Vec<u8>, AllocError>
+    requires there { IsHost (fabric_of w.old) at.host }
+    requires port { at.port ≤ 7 }
+    requires dest { IsHost (fabric_of w.old) m.to.host }
+    requires dport { m.to.port ≤ 7 }
+    requires prio { m.prio ≤ 1 }
+    ensures done { IfOk result (λ text. IsDone (sending at m) w.old w.new text.items) }
+    ensures fabric { fabric_of w.new ≡ fabric_of w.old }
+{
+    w.moment();
+    let event = Event::Send {
+        host: at.host,
+        port: at.port,
+        dest: m.to.host,
+        dport: m.to.port,
+        prio: m.prio,
+        len: m.len,
+        seed: m.seed,
+    };
+    call(alloc, w, ClientCall::Send, at, event)
+}

@@ -1,0 +1,36 @@
+//! The commands that a world alone is needed for: at most one event each, and the text of what came of it.
+//!
+//! It drives nothing: a map, an installation and a settle are many events, and stand above. `specs/Done.antt` says what it is for a
+//! command to be done over a world; `specs/Outcome.antt` of `run_defs` says what each command prints and leaves.
+//!
+//! ```text
+//!   walk                     a packet, alone in links of its own --> where it ends
+//!   plan, finish             their one line
+//!   open, close, poll,       one event of a client --> what it was answered
+//!     provide, send
+//!   tokens                   no event: where each token of a port is; or tokens refused notopen
+//!   step                     one event --> what it did; no event where the port that it names has no cable
+//! ```
+//!
+//! | module | has |
+//! |---|---|
+//! | `requests` | a port of a host, and a message to be sent |
+//! | `clients` | the calls of clients, by their events |
+//! | `answers` | one event of a client, and what it was answered |
+//! | `places` | where each token of a port is |
+//! | `stepping` | a single event, in a report's words |
+//! | `telling` | a walk, a plan, and the end |
+#![tactic(auto)]
+
+mod answers;
+mod clients;
+mod places;
+mod requests;
+mod stepping;
+mod telling;
+
+pub use clients::{close, open, poll, provide, send};
+pub use places::tokens;
+pub use requests::{PortAt, SendRequest};
+pub use stepping::step;
+pub use telling::{finish, plan, walk};

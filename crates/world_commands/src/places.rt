@@ -1,0 +1,80 @@
+//! Where each token of a port is.
+
+ghost use Rattle.std.specs.Prelude.{◌≡◌, ◌<◌, ◌≤◌, true, false, IfOk};
+ghost use Rattle.world_defs.specs.Node.{port_at};
+ghost use Rattle.world_defs.specs.World.{fabric_of, node_at};
+ghost use Rattle.run_defs.specs.LineText.{line_text};
+ghost use Rattle.run_defs.specs.Outcome.{places};
+ghost use Rattle.run_defs.specs.declared.command.Command.TheVariants.{Tokens};
+ghost use Rattle.host_ports.specs.Held.{place_at};
+ghost use Rattle.fab_report.specs.There.{IsHost};
+ghost use Rattle.fab_world.specs.Events.{IsHostOf};
+ghost use Rattle.world_commands.specs.Done.{IsDone};
+ghost use Rattle.world_commands.specs.Places.{tokens_line};
+
+use crate::answers::answer_text;
+use crate::requests::PortAt;
+use fab_report::print_line;
+use fab_world::World;
+use run_defs::{ClientCall, Line, PlaceEntry, PlaceList};
+use std::alloc::{AllocError, Global};
+use world_defs::{ClientCause, Said};
+
+/// Where each token of a port is, by number; or that the port isn't open.
+pub fn tokens(alloc: Global, w: &World, at: PortAt) -> Result<Vec<u8>, AllocError>
+    requires there { IsHost (fabric_of w.now) at.host }
+    requires port { at.port ≤ 7 }
+    ensures { IfOk result (λ text. IsDone (Tokens at.host at.port) w.now w.now text.items) }
+{
+    w.moment();
+    match w.minted(at.host, at.port) {
+        Some(counts) => places_text(alloc, w, at, counts.0, counts.1),
+        None => {
+            let refused = Said::Refused(ClientCause::NotOpen);
+            answer_text(alloc, w.fabric(), ClientCall::Tokens, at, refused)
+        }
+    }
+}
+
+// The line of so many send tokens and receive tokens.
+fn places_text(
+    alloc: Global,
+    w: &World,
+    at: PortAt,
+    sends: u16,
+    recvs: u16,
+) -> Result<Vec<u8>, AllocError>
+    requires there { IsHost (fabric_of w.now) at.host }
+    requires among { IsHostOf w.now at.host }
+    requires port { at.port < 8 }
+    ensures { IfOk result (λ text. text.items ≡ line_text (fabric_of w.now)
+        (tokens_line at sends recvs (port_at (node_at w.now at.host) at.port))) }
+{
+    let line = Line::Tokens {
+        host: at.host,
+        port: at.port,
+        sends: places_of(alloc, w, at, true, sends)?,
+        recvs: places_of(alloc, w, at, false, recvs)?,
+    };
+    print_line(alloc, &line, w.fabric())
+}
+
+// The places of so many tokens of one kind.
+fn places_of(
+    alloc: Global,
+    w: &World,
+    at: PortAt,
+    send: bool,
+    count: u16,
+) -> Result<PlaceList, AllocError>
+    requires there { IsHostOf w.now at.host }
+    requires port { at.port < 8 }
+    ensures { IfOk result (λ list. list ≡ places count (place_at (port_at (node_at w.now at.host) at.port) send)) }
+{
+    let mut list = Vec::new(alloc);
+    for number in 0..count {
+        let place = w.token_place(at.host, at.port, send, number);
+        list.push(PlaceEntry { number, place })?;
+    }
+    Ok(PlaceList::new(list))
+}

@@ -1,0 +1,69 @@
+//! The commands of one line that is no event's: a walk, a plan, and the end.
+
+ghost use Rattle.std.specs.Prelude.{◌≡◌, ◌≤◌, length, All, IfOk};
+ghost use Rattle.net_defs.specs.Turn.{IsTurn};
+ghost use Rattle.link_defs.specs.Links.{empty_links};
+ghost use Rattle.world_defs.specs.World.{fabric_of};
+ghost use Rattle.run_defs.specs.Outcome.{fault_of};
+ghost use Rattle.run_defs.specs.declared.command.Command.TheVariants.{Walk, Plan, Finish};
+ghost use Rattle.world_commands.specs.Done.{IsDone};
+
+use fab_report::print_line;
+use fab_world::{Fault, World};
+use link_model::{Links, walk_alone};
+use run_defs::{Line, PlanKind};
+use std::alloc::{AllocError, Global};
+
+/// Where a walk ends: a packet takes its turns alone over these links, which are empty before and after.
+#[tactic(auto, using(crate::proofs::Done::walked))]
+pub fn walk(
+    alloc: Global,
+    w: &World,
+    links: &mut Links,
+    host: u16,
+    turns: &[i8],
+) -> Result<Vec<u8>, AllocError>
+    requires short { length turns.now ≤ 64 }
+    requires turns { All IsTurn turns.now }
+    requires empty { links.old ≡ empty_links (fabric_of w.now) }
+    ensures done { IfOk result (λ text. IsDone (Walk host turns.now) w.now w.now text.items) }
+    ensures links { links.new ≡ links.old }
+{
+    let end = walk_alone(alloc, links, host, turns)?;
+    print_line(alloc, &Line::Walk(end), w.fabric())
+}
+
+/// Plans a fault for the injection so far ahead. Where memory is wanting, the plan may have been made.
+#[tactic(auto, using(crate::proofs::Done::planned_so))]
+pub fn plan(alloc: Global, w: &mut World, ahead: u64, kind: PlanKind) -> Result<Vec<u8>, AllocError>
+    requires { 1 ≤ ahead }
+    ensures done { IfOk result (λ text. IsDone (Plan ahead kind) w.old w.new text.items) }
+    ensures fabric { fabric_of w.new ≡ fabric_of w.old }
+{
+    let number = w.plan(ahead, fault_of(kind))?;
+    print_line(alloc, &Line::PlanAt(number), w.fabric())
+}
+
+// The fault that a line of a plan means.
+fn fault_of(kind: PlanKind) -> Fault
+    ensures { result ≡ fault_of kind }
+{
+    match kind {
+        PlanKind::Lose => Fault::Lose,
+        PlanKind::Repeat => Fault::Repeat,
+        PlanKind::Hold => Fault::Hold,
+        PlanKind::Flip { bit, pattern } => Fault::Flip { bit, pattern },
+    }
+}
+
+/// The injections and the drops of the whole run.
+#[tactic(auto, using(crate::proofs::Done::finished))]
+pub fn finish(alloc: Global, w: &World) -> Result<Vec<u8>, AllocError>
+    ensures { IfOk result (λ text. IsDone Finish w.now w.now text.items) }
+{
+    let line = Line::Finish {
+        injected: w.injected(),
+        dropped: w.dropped(),
+    };
+    print_line(alloc, &line, w.fabric())
+}

@@ -1,0 +1,146 @@
+-- Expiries change nothing of what isn't acknowledged, and are idle where nothing is: those of all pairs come to those of pairs with something.
+use Rattle.std.proofs.Common.{◌≡◌, ◌<◌, ◌≤◌, ℕ, suc, ◌+◌, ◌-◌, Bool, true, false, List, [], ◌∷◌, map, nat_lt, cond, refl, sym, ◌∙◌, ap, arith, if◌then◌else◌}
+use Rattle.std.specs.List.{range_with_len, filter}
+use Rattle.std.proofs.lemmas.Bool.Decides.{nat_tests}
+use Rattle.world_defs.specs.declared.event.Event.TheVariants.{Expire}
+use Rattle.world_defs.specs.declared.effect.Effect.{Effect}
+use Rattle.world_defs.specs.declared.effect.Effect.TheVariants.{Idle, Expired}
+use Rattle.gm_defs.specs.Connection.{unacknowledged}
+use Rattle.world_defs.specs.Peer.{new_peer, peer_expired}
+use Rattle.world_defs.specs.Node.{NodeState, new_node, peer_at, node_expired, unacknowledged_to}
+use Rattle.world_defs.specs.World.{WorldState, host_count, node_at, with_node, addresses}
+use Rattle.world_defs.specs.Step.{expired, step, after_all}
+use Rattle.world_defs.specs.Settle.{expiries_of, expiries_of_all, expiries}
+use Rattle.world_laws.proofs.Lists.{at-set}
+use Rattle.world_laws.proofs.Idling.{step-idle}
+use Rattle.world_laws.proofs.Reached.{after_all-append}
+use Rattle.fab_world.specs.Held.{IsLater}
+use Rattle.world_drain.proofs.Later.{later-same, later-both, later-step}
+
+-- as much isn't acknowledged, of each pair
+abbrev pub HasSameLeft : WorldState → WorldState → Type 0
+HasSameLeft w v = (h p : ℕ) → unacknowledged_to (node_at v h) p ≡ unacknowledged_to (node_at w h) p
+
+node-left : (n : NodeState) (p q : ℕ) → unacknowledged_to (node_expired n p) q ≡ unacknowledged_to n q
+node-left n p q = at-set (λ a b. unacknowledged b.sender ≡ unacknowledged a.sender) (λ a. refl) n.peers p q (peer_expired (peer_at n p)) new_peer refl
+
+nodes-left : (w : WorldState) (h p : ℕ) → HasSameLeft w (with_node w h (node_expired (node_at w h) p))
+nodes-left w h p = λ a b.
+    at-set (λ n m. (q : ℕ) → unacknowledged_to m q ≡ unacknowledged_to n q) (λ n q. refl) w.nodes h a (node_expired (node_at w h) p) (new_node 0) (node-left (node_at w h) p) b
+
+expire-left : (w : WorldState) (h p : ℕ) → HasSameLeft w (step w (Expire h p)).1
+unfolding expired
+expire-left w h p = by (nat_lt 0 (unacknowledged_to (node_at w h) p))
+  where
+    by : (t : Bool) → HasSameLeft w (if t then (let r : Effect × WorldState = (Expired, with_node w h (node_expired (node_at w h) p)) in r) else (Idle, w)).1
+    by true = nodes-left w h p
+    by false = λ a b. refl
+
+pub expire-idle : (w : WorldState) (h p : ℕ) → unacknowledged_to (node_at w h) p ≡ 0 → (step w (Expire h p)).1 ≡ w
+expire-idle w h p none = let k = step-idle w (Expire h p) in k.still (k.to none)
+
+-- expiries of a host, in a row
+expires-left : (w : WorldState) (h : ℕ) (ps : List ℕ) → HasSameLeft w (after_all w (map (Expire h) ps))
+expires-left w h [] = λ a b. refl
+expires-left w h (p ∷ ps) = λ a b. expires-left (step w (Expire h p)).1 h ps a b ∙ expire-left w h p a b
+
+-- those with nothing left may be left out
+expires-due : (first now : WorldState) (h : ℕ) (ps : List ℕ) → HasSameLeft first now
+    → after_all now (map (Expire h) ps) ≡ after_all now (map (Expire h) (filter (λ p. nat_lt 0 (unacknowledged_to (node_at first h) p)) ps))
+expires-due first now h [] same = refl
+expires-due first now h (p ∷ ps) same =
+    by (nat_lt 0 (unacknowledged_to (node_at first h) p)) refl (expires-due first next h ps (λ a b. expire-left now h p a b ∙ same a b)) (expires-due first now h ps same)
+  where
+    next : WorldState
+    next = (step now (Expire h p)).1
+
+    due : List ℕ
+    due = filter (λ q. nat_lt 0 (unacknowledged_to (node_at first h) q)) ps
+
+    by : (t : Bool) → nat_lt 0 (unacknowledged_to (node_at first h) p) ≡ t
+        → after_all next (map (Expire h) ps) ≡ after_all next (map (Expire h) due)
+        → after_all now (map (Expire h) ps) ≡ after_all now (map (Expire h) due)
+        → after_all next (map (Expire h) ps) ≡ after_all now (map (Expire h) (cond t (p ∷ due) due))
+    by true m there here = there
+    by false m there here =
+        let none : unacknowledged_to (node_at first h) p ≡ 0 = grind (arith, nat_tests) in
+        ap (λ w. after_all w (map (Expire h) ps)) (expire-idle now h p (same h p ∙ none)) ∙ here
+
+-- those of a host under way
+pub record Expiring (first now : WorldState) (host peer : ℕ) : Type 0 where
+  pub rest : after_all now (map (Expire host) (range_with_len peer (host_count first - peer))) ≡ after_all first (map (Expire host) (addresses first))
+  pub later : IsLater first now
+  pub hosts : host_count now ≡ host_count first
+
+pub expiring-none : (w : WorldState) (host : ℕ) → Expiring w w host 0
+expiring-none w host = record {
+  rest = let e : host_count w - 0 ≡ host_count w = omega arith in ap (λ n. after_all w (map (Expire host) (range_with_len 0 n))) e;
+  later = later-same w;
+  hosts = refl;
+}
+
+pub expiring-on : (first now next : WorldState) (host peer : ℕ) → Expiring first now host peer → peer < host_count first → next ≡ (step now (Expire host peer)).1
+    → host_count next ≡ host_count now → Expiring first next host (peer + 1)
+expiring-on first now next host peer r low is hosts =
+    let left : host_count first - peer ≡ suc (host_count first - (peer + 1)) = omega (arith, low) in
+    record {
+      rest =
+          ap (λ w. after_all w (map (Expire host) (range_with_len (peer + 1) (host_count first - (peer + 1))))) is
+          ∙ ap (λ n. after_all now (map (Expire host) (range_with_len peer n))) (sym left) ∙ r.rest;
+      later = later-both first now next r.later (later-step now next (Expire host peer) is);
+      hosts = hosts ∙ r.hosts;
+    }
+
+pub expiring-all : (first now : WorldState) (host peer : ℕ) → Expiring first now host peer → host_count first ≤ peer → now ≡ after_all first (expiries_of first host)
+expiring-all first now host peer r past =
+    let left : 0 ≡ host_count first - peer = omega (arith, past) in
+    ap (λ n. after_all now (map (Expire host) (range_with_len peer n))) left ∙ r.rest ∙ expires-due first first host (addresses first) (λ a b. refl)
+
+-- those of all hosts under way
+pub record ExpiringAll (first now : WorldState) (host : ℕ) : Type 0 where
+  pub rest : after_all now (expiries_of_all first (range_with_len host (host_count first - host))) ≡ after_all first (expiries first)
+  pub same : HasSameLeft first now
+  pub later : IsLater first now
+  pub hosts : host_count now ≡ host_count first
+
+pub expiring_all-none : (w : WorldState) → ExpiringAll w w 0
+expiring_all-none w = record {
+  rest = let e : host_count w - 0 ≡ host_count w = omega arith in ap (λ n. after_all w (expiries_of_all w (range_with_len 0 n))) e;
+  same = λ a b. refl;
+  later = later-same w;
+  hosts = refl;
+}
+
+filter-same : (f g : ℕ → Bool) (ps : List ℕ) → ((p : ℕ) → f p ≡ g p) → filter f ps ≡ filter g ps
+filter-same f g [] all = refl
+filter-same f g (p ∷ ps) all = ap (λ t. cond t (p ∷ filter f ps) (filter f ps)) (all p) ∙ ap (λ l. cond (g p) (p ∷ l) l) (filter-same f g ps all)
+
+same-expiries : (first now : WorldState) (host : ℕ) → HasSameLeft first now → host_count now ≡ host_count first → expiries_of now host ≡ expiries_of first host
+same-expiries first now host same hosts =
+    ap (λ n. map (Expire host) (filter (λ p. nat_lt 0 (unacknowledged_to (node_at now host) p)) (range_with_len 0 n))) hosts
+    ∙ ap (map (Expire host))
+    (filter-same (λ p. nat_lt 0 (unacknowledged_to (node_at now host) p)) (λ p. nat_lt 0 (unacknowledged_to (node_at first host) p)) (addresses first) (λ p. ap (nat_lt 0) (same host p)))
+
+pub expiring_all-on : (first now next : WorldState) (host : ℕ) → ExpiringAll first now host → host < host_count first → next ≡ after_all now (expiries_of now host)
+    → host_count next ≡ host_count now → ExpiringAll first next (host + 1)
+expiring_all-on first now next host r low is hosts =
+    let left : host_count first - host ≡ suc (host_count first - (host + 1)) = omega (arith, low) in
+    let behind = expiries_of_all first (range_with_len (host + 1) (host_count first - (host + 1))) in
+    let due : List ℕ = filter (λ p. nat_lt 0 (unacknowledged_to (node_at now host) p)) (addresses now) in
+    record {
+      rest =
+          ap (λ w. after_all w behind) (is ∙ ap (after_all now) (same-expiries first now host r.same r.hosts))
+          ∙ sym (after_all-append now (expiries_of first host) behind)
+          ∙ ap (λ n. after_all now (expiries_of_all first (range_with_len host n))) (sym left) ∙ r.rest;
+      same = λ a b. ap (λ w. unacknowledged_to (node_at w a) b) is ∙ expires-left now host due a b ∙ r.same a b;
+      later = later-both first now next r.later (expiries_of now host, is);
+      hosts = hosts ∙ r.hosts;
+    }
+
+pub expiring_all-all : (first now : WorldState) (host : ℕ) → ExpiringAll first now host → host_count first ≤ host → now ≡ after_all first (expiries first)
+expiring_all-all first now host r past =
+    let left : 0 ≡ host_count first - host = omega (arith, past) in
+    ap (λ n. after_all now (expiries_of_all first (range_with_len host n))) left ∙ r.rest
+
+pub expiries-later : (w v : WorldState) → v ≡ after_all w (expiries w) → IsLater w v
+expiries-later w v is = (expiries w, is)

@@ -1,0 +1,45 @@
+-- Hosts give up, one after another.
+use Rattle.std.proofs.Common.{◌≡◌, ◌<◌, ◌≤◌, ℕ, suc, ◌+◌, ◌-◌, map, refl, sym, ◌∙◌, ap, arith}
+use Rattle.std.specs.List.{range_with_len}
+use Rattle.world_defs.specs.declared.event.Event.TheVariants.{GiveUp}
+use Rattle.world_defs.specs.World.{WorldState, fabric_of, host_count, addresses}
+use Rattle.world_defs.specs.Step.{step, after_all}
+use Rattle.world_defs.specs.Asking.{all_given_up}
+use Rattle.fab_world.specs.Held.{IsLater}
+use Rattle.world_drain.proofs.Later.{later-same, later-both, later-step}
+
+-- those from an address on have yet to give up
+pub record GivingUp (first now : WorldState) (host : ℕ) : Type 0 where
+  pub rest : after_all now (map GiveUp (range_with_len host (host_count first - host))) ≡ all_given_up first
+  pub later : IsLater first now
+  pub fabric : fabric_of now ≡ fabric_of first
+  pub hosts : host_count now ≡ host_count first
+
+pub giving-none : (w : WorldState) → GivingUp w w 0
+giving-none w = record {
+  rest = let e : host_count w - 0 ≡ host_count w = omega arith in ap (λ n. after_all w (map GiveUp (range_with_len 0 n))) e;
+  later = later-same w;
+  fabric = refl;
+  hosts = refl;
+}
+
+pub giving-on : (first now next : WorldState) (host : ℕ) → GivingUp first now host → host < host_count first → next ≡ (step now (GiveUp host)).1
+    → fabric_of next ≡ fabric_of now → host_count next ≡ host_count now → GivingUp first next (host + 1)
+giving-on first now next host g low is net hosts =
+    let left : host_count first - host ≡ suc (host_count first - (host + 1)) = omega (arith, low) in
+    record {
+      rest =
+          ap (λ w. after_all w (map GiveUp (range_with_len (host + 1) (host_count first - (host + 1))))) is
+          ∙ ap (λ n. after_all now (map GiveUp (range_with_len host n))) (sym left) ∙ g.rest;
+      later = later-both first now next g.later (later-step now next (GiveUp host) is);
+      fabric = net ∙ g.fabric;
+      hosts = hosts ∙ g.hosts;
+    }
+
+pub giving-all : (first now : WorldState) (host : ℕ) → GivingUp first now host → host_count first ≤ host → now ≡ all_given_up first
+giving-all first now host g past =
+    let left : 0 ≡ host_count first - host = omega (arith, past) in
+    ap (λ n. after_all now (map GiveUp (range_with_len host n))) left ∙ g.rest
+
+pub given_up-later : (w v : WorldState) → v ≡ all_given_up w → IsLater w v
+given_up-later w v is = (map GiveUp (addresses w), is)

@@ -1,0 +1,25 @@
+-- Events that lead on from where other events led.
+use Rattle.std.proofs.Common.{◌≡◌, [], ◌∷◌, ◌++◌, refl, sym, ◌∙◌, ap}
+use Rattle.std.specs.Prelude.{Result, Ok, Err, OnErr}
+use Rattle.world_defs.specs.declared.event.Event.{Event}
+use Rattle.world_defs.specs.World.{WorldState}
+use Rattle.world_defs.specs.Step.{step, after_all}
+use Rattle.world_laws.proofs.Reached.{after_all-append}
+use Rattle.fab_world.specs.Held.{IsLater}
+
+pub later-same : (w : WorldState) → IsLater w w
+later-same w = ([], refl)
+
+pub later-both : (u v w : WorldState) → IsLater u v → IsLater v w → IsLater u w
+later-both u v w (es, is) (fs, on) = (es ++ fs, on ∙ ap (λ x. after_all x fs) is ∙ sym (after_all-append u es fs))
+
+pub later-step : (w v : WorldState) (e : Event) → v ≡ (step w e).1 → IsLater w v
+later-step w v e is = (e ∷ [], is)
+
+pub on-any : {A E : Type 0} {P : Type 0} (r : Result A E) → P → OnErr r P
+on-any (Ok a) p = tt
+on-any (Err e) p = p
+
+pub on-err : {A E : Type 0} {P Q : Type 0} (r : Result A E) → (P → Q) → OnErr r P → OnErr r Q
+on-err (Ok a) f p = tt
+on-err (Err e) f p = f p

@@ -1,0 +1,288 @@
+-- What is seen of effects in a row is what is seen of the first, and then of the others.
+use Rattle.std.proofs.Common.{◌≡◌, ℕ, ◌+◌, Bool, true, false, ◌&&◌, ◌||◌, List, [], ◌∷◌, ◌++◌, nat_eq, if◌then◌else◌, Option, Some, None, refl, sym, ◌∙◌, ap, arith}
+use Rattle.world_defs.specs.declared.heard.Heard.TheVariants.{Probe, Reply, Loop, Routes, RoutesAck, Message, Fragment, NotNext, NoToken, Ack}
+use Rattle.world_defs.specs.declared.effect.Effect.{Effect}
+use Rattle.world_defs.specs.declared.effect.Effect.TheVariants.{Idle, Injected, Moved, Blocked, Arrived, Dropped, Lost, Reset as WasReset, Flipped, Expired, GaveUp, Repeated, Held, Replayed, Staged, Said}
+use Rattle.world_defs.specs.Node.{either}
+use Rattle.world_defs.specs.Asking.{probed_host, replied_host, has_returned, reply_in, returned_in}
+use Rattle.world_defs.specs.Install.{has_part_come, is_acknowledged}
+use Rattle.world_laws.proofs.Draining.{changes-append}
+use Rattle.world_drain.specs.declared.seen.AwaitedPart.{AwaitedPart}
+use Rattle.world_drain.specs.declared.seen.Watch.{Watch}
+use Rattle.world_drain.specs.declared.seen.Seen.{Seen}
+use Rattle.world_drain.specs.Watch.{came_in, acknowledged_in, seen_in, seen_then}
+
+first_if : (b : Bool) (from : ℕ) (rest : Option ℕ) → (if b then Some from else rest) ≡ either (if b then Some from else None) rest
+first_if true from rest = refl
+first_if false from rest = refl
+
+first_or : (b rest : Bool) → (b || rest) ≡ ((b || false) || rest)
+first_or true rest = refl
+first_or false rest = refl
+
+either-in-a-row : (a b c : Option ℕ) → either a (either b c) ≡ either (either a b) c
+either-in-a-row (Some x) b c = refl
+either-in-a-row None b c = refl
+
+or-in-a-row : (a b c : Bool) → (a || (b || c)) ≡ ((a || b) || c)
+or-in-a-row true b c = refl
+or-in-a-row false b c = refl
+
+-- what the first effect adds
+probed-push : (x : Effect) (xs : List Effect) → probed_host (x ∷ xs) ≡ either (probed_host (x ∷ [])) (probed_host xs)
+probed-push Idle xs = refl
+probed-push (Injected n) xs = refl
+probed-push (Moved c) xs = refl
+probed-push (Blocked c) xs = refl
+probed-push (Dropped x) xs = refl
+probed-push Lost xs = refl
+probed-push WasReset xs = refl
+probed-push Flipped xs = refl
+probed-push Expired xs = refl
+probed-push GaveUp xs = refl
+probed-push (Repeated s) xs = refl
+probed-push (Held s) xs = refl
+probed-push (Replayed c) xs = refl
+probed-push Staged xs = refl
+probed-push (Said s) xs = refl
+probed-push (Arrived h Probe) xs = refl
+probed-push (Arrived h (Reply n from)) xs = refl
+probed-push (Arrived h (Loop n)) xs = refl
+probed-push (Arrived h Routes) xs = refl
+probed-push (Arrived h (RoutesAck e from part)) xs = refl
+probed-push (Arrived h Message) xs = refl
+probed-push (Arrived h Fragment) xs = refl
+probed-push (Arrived h NotNext) xs = refl
+probed-push (Arrived h NoToken) xs = refl
+probed-push (Arrived h Ack) xs = refl
+
+replied-push : (mapper number : ℕ) (x : Effect) (xs : List Effect) → replied_host mapper number (x ∷ xs) ≡ either (replied_host mapper number (x ∷ [])) (replied_host mapper number xs)
+replied-push mapper number Idle xs = refl
+replied-push mapper number (Injected n) xs = refl
+replied-push mapper number (Moved c) xs = refl
+replied-push mapper number (Blocked c) xs = refl
+replied-push mapper number (Dropped x) xs = refl
+replied-push mapper number Lost xs = refl
+replied-push mapper number WasReset xs = refl
+replied-push mapper number Flipped xs = refl
+replied-push mapper number Expired xs = refl
+replied-push mapper number GaveUp xs = refl
+replied-push mapper number (Repeated s) xs = refl
+replied-push mapper number (Held s) xs = refl
+replied-push mapper number (Replayed c) xs = refl
+replied-push mapper number Staged xs = refl
+replied-push mapper number (Said s) xs = refl
+replied-push mapper number (Arrived h Probe) xs = refl
+replied-push mapper number (Arrived h (Reply n from)) xs = first_if (nat_eq h mapper && nat_eq n number) from (replied_host mapper number xs)
+replied-push mapper number (Arrived h (Loop n)) xs = refl
+replied-push mapper number (Arrived h Routes) xs = refl
+replied-push mapper number (Arrived h (RoutesAck e from part)) xs = refl
+replied-push mapper number (Arrived h Message) xs = refl
+replied-push mapper number (Arrived h Fragment) xs = refl
+replied-push mapper number (Arrived h NotNext) xs = refl
+replied-push mapper number (Arrived h NoToken) xs = refl
+replied-push mapper number (Arrived h Ack) xs = refl
+
+returned-push : (mapper number : ℕ) (x : Effect) (xs : List Effect) → has_returned mapper number (x ∷ xs) ≡ (has_returned mapper number (x ∷ []) || has_returned mapper number xs)
+returned-push mapper number Idle xs = refl
+returned-push mapper number (Injected n) xs = refl
+returned-push mapper number (Moved c) xs = refl
+returned-push mapper number (Blocked c) xs = refl
+returned-push mapper number (Dropped x) xs = refl
+returned-push mapper number Lost xs = refl
+returned-push mapper number WasReset xs = refl
+returned-push mapper number Flipped xs = refl
+returned-push mapper number Expired xs = refl
+returned-push mapper number GaveUp xs = refl
+returned-push mapper number (Repeated s) xs = refl
+returned-push mapper number (Held s) xs = refl
+returned-push mapper number (Replayed c) xs = refl
+returned-push mapper number Staged xs = refl
+returned-push mapper number (Said s) xs = refl
+returned-push mapper number (Arrived h Probe) xs = refl
+returned-push mapper number (Arrived h (Reply n from)) xs = refl
+returned-push mapper number (Arrived h (Loop n)) xs = first_or (nat_eq h mapper && nat_eq n number) (has_returned mapper number xs)
+returned-push mapper number (Arrived h Routes) xs = refl
+returned-push mapper number (Arrived h (RoutesAck e from part)) xs = refl
+returned-push mapper number (Arrived h Message) xs = refl
+returned-push mapper number (Arrived h Fragment) xs = refl
+returned-push mapper number (Arrived h NotNext) xs = refl
+returned-push mapper number (Arrived h NoToken) xs = refl
+returned-push mapper number (Arrived h Ack) xs = refl
+
+come-push : (dst : ℕ) (x : Effect) (xs : List Effect) → has_part_come dst (x ∷ xs) ≡ (has_part_come dst (x ∷ []) || has_part_come dst xs)
+come-push dst Idle xs = refl
+come-push dst (Injected n) xs = refl
+come-push dst (Moved c) xs = refl
+come-push dst (Blocked c) xs = refl
+come-push dst (Dropped x) xs = refl
+come-push dst Lost xs = refl
+come-push dst WasReset xs = refl
+come-push dst Flipped xs = refl
+come-push dst Expired xs = refl
+come-push dst GaveUp xs = refl
+come-push dst (Repeated s) xs = refl
+come-push dst (Held s) xs = refl
+come-push dst (Replayed c) xs = refl
+come-push dst Staged xs = refl
+come-push dst (Said s) xs = refl
+come-push dst (Arrived h Probe) xs = refl
+come-push dst (Arrived h (Reply n from)) xs = refl
+come-push dst (Arrived h (Loop n)) xs = refl
+come-push dst (Arrived h Routes) xs = first_or (nat_eq h dst) (has_part_come dst xs)
+come-push dst (Arrived h (RoutesAck e from p)) xs = refl
+come-push dst (Arrived h Message) xs = refl
+come-push dst (Arrived h Fragment) xs = refl
+come-push dst (Arrived h NotNext) xs = refl
+come-push dst (Arrived h NoToken) xs = refl
+come-push dst (Arrived h Ack) xs = refl
+
+acknowledged-push : (mapper dst part : ℕ) (x : Effect) (xs : List Effect) → is_acknowledged mapper dst part (x ∷ xs) ≡ (is_acknowledged mapper dst part (x ∷ []) || is_acknowledged mapper dst part xs)
+acknowledged-push mapper dst part Idle xs = refl
+acknowledged-push mapper dst part (Injected n) xs = refl
+acknowledged-push mapper dst part (Moved c) xs = refl
+acknowledged-push mapper dst part (Blocked c) xs = refl
+acknowledged-push mapper dst part (Dropped x) xs = refl
+acknowledged-push mapper dst part Lost xs = refl
+acknowledged-push mapper dst part WasReset xs = refl
+acknowledged-push mapper dst part Flipped xs = refl
+acknowledged-push mapper dst part Expired xs = refl
+acknowledged-push mapper dst part GaveUp xs = refl
+acknowledged-push mapper dst part (Repeated s) xs = refl
+acknowledged-push mapper dst part (Held s) xs = refl
+acknowledged-push mapper dst part (Replayed c) xs = refl
+acknowledged-push mapper dst part Staged xs = refl
+acknowledged-push mapper dst part (Said s) xs = refl
+acknowledged-push mapper dst part (Arrived h Probe) xs = refl
+acknowledged-push mapper dst part (Arrived h (Reply n from)) xs = refl
+acknowledged-push mapper dst part (Arrived h (Loop n)) xs = refl
+acknowledged-push mapper dst part (Arrived h Routes) xs = refl
+acknowledged-push mapper dst part (Arrived h (RoutesAck e from p)) xs = first_or (nat_eq h mapper && nat_eq from dst && nat_eq p part) (is_acknowledged mapper dst part xs)
+acknowledged-push mapper dst part (Arrived h Message) xs = refl
+acknowledged-push mapper dst part (Arrived h Fragment) xs = refl
+acknowledged-push mapper dst part (Arrived h NotNext) xs = refl
+acknowledged-push mapper dst part (Arrived h NoToken) xs = refl
+acknowledged-push mapper dst part (Arrived h Ack) xs = refl
+
+-- effects in a row
+probed-append : (xs ys : List Effect) → probed_host (xs ++ ys) ≡ either (probed_host xs) (probed_host ys)
+probed-append [] ys = refl
+probed-append (x ∷ xs) ys =
+    probed-push x (xs ++ ys) ∙ ap (either (probed_host (x ∷ []))) (probed-append xs ys) ∙ either-in-a-row (probed_host (x ∷ [])) (probed_host xs) (probed_host ys)
+    ∙ sym (ap (λ o. either o (probed_host ys)) (probed-push x xs))
+
+replied-append : (mapper number : ℕ) (xs ys : List Effect) → replied_host mapper number (xs ++ ys) ≡ either (replied_host mapper number xs) (replied_host mapper number ys)
+replied-append mapper number [] ys = refl
+replied-append mapper number (x ∷ xs) ys =
+    replied-push mapper number x (xs ++ ys) ∙ ap (either (replied_host mapper number (x ∷ []))) (replied-append mapper number xs ys)
+    ∙ either-in-a-row (replied_host mapper number (x ∷ [])) (replied_host mapper number xs) (replied_host mapper number ys)
+    ∙ sym (ap (λ o. either o (replied_host mapper number ys)) (replied-push mapper number x xs))
+
+returned-append : (mapper number : ℕ) (xs ys : List Effect) → has_returned mapper number (xs ++ ys) ≡ (has_returned mapper number xs || has_returned mapper number ys)
+returned-append mapper number [] ys = refl
+returned-append mapper number (x ∷ xs) ys =
+    returned-push mapper number x (xs ++ ys) ∙ ap (λ b. has_returned mapper number (x ∷ []) || b) (returned-append mapper number xs ys)
+    ∙ or-in-a-row (has_returned mapper number (x ∷ [])) (has_returned mapper number xs) (has_returned mapper number ys)
+    ∙ sym (ap (λ b. b || has_returned mapper number ys) (returned-push mapper number x xs))
+
+reply_in-append : (mapper : ℕ) (number : Option ℕ) (xs ys : List Effect) → reply_in mapper number (xs ++ ys) ≡ either (reply_in mapper number xs) (reply_in mapper number ys)
+reply_in-append mapper None xs ys = refl
+reply_in-append mapper (Some n) xs ys = replied-append mapper n xs ys
+
+returned_in-append : (mapper : ℕ) (number : Option ℕ) (xs ys : List Effect) → returned_in mapper number (xs ++ ys) ≡ (returned_in mapper number xs || returned_in mapper number ys)
+returned_in-append mapper None xs ys = refl
+returned_in-append mapper (Some n) xs ys = returned-append mapper n xs ys
+
+come-append : (dst : ℕ) (xs ys : List Effect) → has_part_come dst (xs ++ ys) ≡ (has_part_come dst xs || has_part_come dst ys)
+come-append dst [] ys = refl
+come-append dst (x ∷ xs) ys =
+    come-push dst x (xs ++ ys) ∙ ap (λ b. has_part_come dst (x ∷ []) || b) (come-append dst xs ys)
+    ∙ or-in-a-row (has_part_come dst (x ∷ [])) (has_part_come dst xs) (has_part_come dst ys)
+    ∙ sym (ap (λ b. b || has_part_come dst ys) (come-push dst x xs))
+
+acknowledged-append : (mapper dst part : ℕ) (xs ys : List Effect) → is_acknowledged mapper dst part (xs ++ ys) ≡ (is_acknowledged mapper dst part xs || is_acknowledged mapper dst part ys)
+acknowledged-append mapper dst part [] ys = refl
+acknowledged-append mapper dst part (x ∷ xs) ys =
+    acknowledged-push mapper dst part x (xs ++ ys) ∙ ap (λ b. is_acknowledged mapper dst part (x ∷ []) || b) (acknowledged-append mapper dst part xs ys)
+    ∙ or-in-a-row (is_acknowledged mapper dst part (x ∷ [])) (is_acknowledged mapper dst part xs) (is_acknowledged mapper dst part ys)
+    ∙ sym (ap (λ b. b || is_acknowledged mapper dst part ys) (acknowledged-push mapper dst part x xs))
+
+came_in-append : (p : Option AwaitedPart) (xs ys : List Effect) → came_in p (xs ++ ys) ≡ (came_in p xs || came_in p ys)
+came_in-append None xs ys = refl
+came_in-append (Some p) xs ys = come-append p.dst xs ys
+
+acknowledged_in-append : (mapper : ℕ) (p : Option AwaitedPart) (xs ys : List Effect) → acknowledged_in mapper p (xs ++ ys) ≡ (acknowledged_in mapper p xs || acknowledged_in mapper p ys)
+acknowledged_in-append mapper None xs ys = refl
+acknowledged_in-append mapper (Some p) xs ys = acknowledged-append mapper p.dst p.part xs ys
+
+same_seen : (a b : Seen) → a.changes ≡ b.changes → a.probed ≡ b.probed → a.replied ≡ b.replied → a.returned ≡ b.returned → a.came ≡ b.came → a.acknowledged ≡ b.acknowledged → a ≡ b
+same_seen a b c p r t m k = λ i. record { changes = c i; probed = p i; replied = r i; returned = t i; came = m i; acknowledged = k i }
+
+pub seen-append : (watch : Watch) (xs ys : List Effect) → seen_in watch (xs ++ ys) ≡ seen_then (seen_in watch xs) (seen_in watch ys)
+seen-append watch xs ys =
+    same_seen (seen_in watch (xs ++ ys)) (seen_then (seen_in watch xs) (seen_in watch ys))
+    (changes-append xs ys) (probed-append xs ys) (reply_in-append watch.mapper watch.number xs ys) (returned_in-append watch.mapper watch.number xs ys)
+    (came_in-append watch.part xs ys) (acknowledged_in-append watch.mapper watch.part xs ys)
+
+pub seen-push : (watch : Watch) (x : Effect) (xs : List Effect) → seen_in watch (x ∷ xs) ≡ seen_then (seen_in watch (x ∷ [])) (seen_in watch xs)
+seen-push watch x xs = seen-append watch (x ∷ []) xs
+
+idle-reply : (mapper : ℕ) (number : Option ℕ) (xs : List Effect) → reply_in mapper number (Idle ∷ xs) ≡ reply_in mapper number xs
+idle-reply mapper None xs = refl
+idle-reply mapper (Some n) xs = refl
+
+idle-return : (mapper : ℕ) (number : Option ℕ) (xs : List Effect) → returned_in mapper number (Idle ∷ xs) ≡ returned_in mapper number xs
+idle-return mapper None xs = refl
+idle-return mapper (Some n) xs = refl
+
+idle-come : (p : Option AwaitedPart) (xs : List Effect) → came_in p (Idle ∷ xs) ≡ came_in p xs
+idle-come None xs = refl
+idle-come (Some p) xs = refl
+
+idle-acknowledged : (mapper : ℕ) (p : Option AwaitedPart) (xs : List Effect) → acknowledged_in mapper p (Idle ∷ xs) ≡ acknowledged_in mapper p xs
+idle-acknowledged mapper None xs = refl
+idle-acknowledged mapper (Some p) xs = refl
+
+-- an event that wasn't possible shows nothing
+pub seen-idle : (watch : Watch) (xs : List Effect) → seen_in watch (Idle ∷ xs) ≡ seen_in watch xs
+seen-idle watch xs =
+    same_seen (seen_in watch (Idle ∷ xs)) (seen_in watch xs) refl refl (idle-reply watch.mapper watch.number xs) (idle-return watch.mapper watch.number xs)
+    (idle-come watch.part xs) (idle-acknowledged watch.mapper watch.part xs)
+
+pub then-in-a-row : (a b c : Seen) → seen_then a (seen_then b c) ≡ seen_then (seen_then a b) c
+then-in-a-row a b c =
+    let sum : a.changes + (b.changes + c.changes) ≡ a.changes + b.changes + c.changes = omega arith in
+    same_seen (seen_then a (seen_then b c)) (seen_then (seen_then a b) c)
+    sum (either-in-a-row a.probed b.probed c.probed) (either-in-a-row a.replied b.replied c.replied) (or-in-a-row a.returned b.returned c.returned)
+    (or-in-a-row a.came b.came c.came) (or-in-a-row a.acknowledged b.acknowledged c.acknowledged)
+
+or-none : (a : Option ℕ) → either a None ≡ a
+or-none (Some x) = refl
+or-none None = refl
+
+or-false : (b : Bool) → (b || false) ≡ b
+or-false true = refl
+or-false false = refl
+
+none-replied : (mapper : ℕ) (number : Option ℕ) → reply_in mapper number [] ≡ None
+none-replied mapper None = refl
+none-replied mapper (Some n) = refl
+
+none-returned : (mapper : ℕ) (number : Option ℕ) → returned_in mapper number [] ≡ false
+none-returned mapper None = refl
+none-returned mapper (Some n) = refl
+
+none-came : (p : Option AwaitedPart) → came_in p [] ≡ false
+none-came None = refl
+none-came (Some p) = refl
+
+none-acknowledged : (mapper : ℕ) (p : Option AwaitedPart) → acknowledged_in mapper p [] ≡ false
+none-acknowledged mapper None = refl
+none-acknowledged mapper (Some p) = refl
+
+-- nothing seen behind it changes nothing
+pub then-nothing : (watch : Watch) (s : Seen) → seen_then s (seen_in watch []) ≡ s
+then-nothing watch s =
+    same_seen (seen_then s (seen_in watch [])) s (omega arith) (or-none s.probed)
+    (ap (either s.replied) (none-replied watch.mapper watch.number) ∙ or-none s.replied) (ap (λ b. s.returned || b) (none-returned watch.mapper watch.number) ∙ or-false s.returned)
+    (ap (λ b. s.came || b) (none-came watch.part) ∙ or-false s.came) (ap (λ b. s.acknowledged || b) (none-acknowledged watch.mapper watch.part) ∙ or-false s.acknowledged)

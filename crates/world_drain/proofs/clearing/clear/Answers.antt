@@ -1,0 +1,46 @@
+use Rattle.fab_world.specs.Held.{IsLater}
+use Rattle.fab_world.proofs.Moments.{later-fabric, later-hosts, later-channels, later-adopted}
+use Rattle.world_drain.proofs.EventRows.{resets-later}
+use Rattle.world_drain.proofs.Later.{later-both, on-any}
+use Rattle.world_drain.proofs.Resets.{is-clear, is-idle}
+use Rattle.world_drain.proofs.Running.{drain-later}
+use Rattle.world_drain.proofs.clearing.clear.Goals as goal
+
+pub returns-in_err-drain-clause-fabric : goal.returns-in_err-drain-clause-fabric
+returns-in_err-drain-clause-fabric c = later-fabric c.args.w.now c.drain.new.w c.in_err-drain.ensures.err
+
+pub returns-in_err-drain-clause-hosts : goal.returns-in_err-drain-clause-hosts
+returns-in_err-drain-clause-hosts c = later-hosts c.args.w.now c.drain.new.w c.moment.ensures.kept c.in_err-drain.ensures.err
+
+pub returns-in_err-drain-clause-channels : goal.returns-in_err-drain-clause-channels
+returns-in_err-drain-clause-channels c = later-channels c.args.w.now c.drain.new.w c.moment.ensures.kept c.in_err-drain.ensures.err
+
+pub returns-in_err-drain-clause-adopted : goal.returns-in_err-drain-clause-adopted
+returns-in_err-drain-clause-adopted c = later-adopted c.args.w.now c.drain.new.w c.in_err-drain.ensures.err
+
+-- what was done leads on from where it began
+done : (c : goal.After-reset_full) → IsLater c.args.w.now c.reset_full.new.w
+done c =
+    later-both c.args.w.now c.drain.new.w c.reset_full.new.w (drain-later c.args.w.now c.drain.new.w c.in_ok-drain.ensures.after)
+    (resets-later c.drain.new.w c.reset_full.new.w c.reset_full.result c.reset_full.ensures.ok c.reset_full.ensures.err)
+
+pub returns-clause-ok : goal.returns-clause-ok
+returns-clause-ok c = is-clear c.args.w.now c.drain.new.w c.reset_full.new.w c.reset_full.result c.in_ok-drain.ensures.after c.reset_full.ensures.ok
+
+pub returns-clause-err : goal.returns-clause-err
+returns-clause-err c = on-any c.reset_full.result (done c)
+
+pub returns-clause-idle : goal.returns-clause-idle
+returns-clause-idle c = is-idle c.args.w.now c.reset_full.new.w c.reset_full.result (returns-clause-ok c)
+
+pub returns-clause-fabric : goal.returns-clause-fabric
+returns-clause-fabric c = later-fabric c.args.w.now c.reset_full.new.w (done c)
+
+pub returns-clause-hosts : goal.returns-clause-hosts
+returns-clause-hosts c = later-hosts c.args.w.now c.reset_full.new.w c.moment.ensures.kept (done c)
+
+pub returns-clause-channels : goal.returns-clause-channels
+returns-clause-channels c = later-channels c.args.w.now c.reset_full.new.w c.moment.ensures.kept (done c)
+
+pub returns-clause-adopted : goal.returns-clause-adopted
+returns-clause-adopted c = later-adopted c.args.w.now c.reset_full.new.w (done c)

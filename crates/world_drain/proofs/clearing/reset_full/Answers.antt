@@ -1,0 +1,18 @@
+use Rattle.world_drain.proofs.Later.{later-both, on-any}
+use Rattle.world_drain.proofs.Resets.{resetting-none, resetting-on, resetting-all}
+use Rattle.world_drain.proofs.clearing.reset_full.Goals as goal
+
+pub loop-c-init : goal.loop-c-init
+loop-c-init c = resetting-none c.args.w.now
+
+pub returns-in_err-happen-clause-err : goal.returns-in_err-happen-clause-err
+returns-in_err-happen-clause-err c = on-any c.from_residual.result (later-both c.args.w.now c.loop-c.w c.happen.new.w c.loop-c.invariant.later c.in_err-happen.ensures.err)
+
+pub loop-c-preserved : goal.loop-c-preserved
+loop-c-preserved c =
+    let f = c.in-Some.ensures.found in
+    let one = c.in_ok-happen.ensures in
+    resetting-on c.args.w.now c.loop-c.w c.happen.new.w c.loop-c.from c.in-Some.c c.loop-c.resets c.loop-c.invariant f.above f.there f.full f.passed one.after one.channels
+
+pub returns-clause-ok : goal.returns-clause-ok
+returns-clause-ok c = resetting-all c.args.w.now c.loop-c.w c.loop-c.from c.loop-c.resets c.loop-c.invariant c.in_default.ensures.none

@@ -1,0 +1,24 @@
+use Rattle.world_drain.proofs.Later.{later-both, on-any}
+use Rattle.world_drain.proofs.Passed.{passed-none, passed-on, passed-all}
+use Rattle.world_drain.proofs.draining.pass.Goals as goal
+
+pub loop-c-init : goal.loop-c-init
+loop-c-init c = passed-none c.args.watch.now c.args.w.now c.nothing-seen.result c.nothing-seen.ensures
+
+pub loop-c-preserved : goal.loop-c-preserved
+loop-c-preserved c =
+    let f = c.in-Some.ensures.found in
+    let one = c.in_ok-one.ensures in
+    passed-on c.args.watch.now c.args.w.now c.loop-c.w c.advance.new.w c.loop-c.from c.in-Some.c c.loop-c.seen c.in_ok-one.one c.then-seen.result
+    c.loop-c.invariant f.above f.there f.passed one.seen one.few one.heard one.after one.fabric one.hosts one.channels c.then-seen.ensures
+
+pub returns-in_err-one-clause-err : goal.returns-in_err-one-clause-err
+returns-in_err-one-clause-err c = on-any c.from_residual.result (later-both c.args.w.now c.loop-c.w c.advance.new.w c.loop-c.invariant.later c.in_err-one.ensures.err)
+
+pub returns-clause-seen : goal.returns-clause-seen
+returns-clause-seen c =
+    (passed-all c.args.watch.now c.args.w.now c.loop-c.w c.loop-c.from c.loop-c.seen c.loop-c.invariant c.in_default.ensures.none).0
+
+pub returns-clause-after : goal.returns-clause-after
+returns-clause-after c =
+    (passed-all c.args.watch.now c.args.w.now c.loop-c.w c.loop-c.from c.loop-c.seen c.loop-c.invariant c.in_default.ensures.none).1

@@ -1,0 +1,6 @@
+-- The hosts from here on have yet to give up.
+use Rattle.world_drain.proofs.GivingUp.{GivingUp}
+use Rattle.world_drain.proofs.giving_up.give_up_all.Given as goal
+
+abbrev pub invariant-loop-host : goal.invariant-loop-host
+invariant-loop-host l = GivingUp l.fn.w l.w l.host

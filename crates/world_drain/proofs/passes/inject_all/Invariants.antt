@@ -1,0 +1,6 @@
+-- The injections so far, and those of the hosts from here on, are all of them.
+use Rattle.world_drain.proofs.Injects.{Injecting}
+use Rattle.world_drain.proofs.passes.inject_all.Given as goal
+
+abbrev pub invariant-loop-host : goal.invariant-loop-host
+invariant-loop-host l = Injecting l.fn.w l.w l.host l.moved

@@ -1,0 +1,19 @@
+use Rattle.world_defs.specs.declared.event.Event.TheVariants.{Replay}
+use Rattle.world_drain.proofs.Later.{later-both, later-step, on-any}
+use Rattle.world_drain.proofs.Replays.{replay-moved, replay-resets, replay-world}
+use Rattle.world_drain.proofs.replaying.replay.Goals as goal
+
+pub returns-in_err-resets-clause-err : goal.returns-in_err-resets-clause-err
+returns-in_err-resets-clause-err c =
+    on-any c.from_residual-in_err-resets.result
+    (later-both c.args.w.now c.happens.new.w c.clear.new.w (later-step c.args.w.now c.happens.new.w (Replay c.args.serial) c.in_ok-moved.ensures.after) c.in_err-resets.ensures.err)
+
+pub returns-clause-moved : goal.returns-clause-moved
+returns-clause-moved c = replay-moved c.args.w.now c.args.serial c.in_ok-moved.moved c.in_ok-moved.ensures.changed
+
+pub returns-clause-resets : goal.returns-clause-resets
+returns-clause-resets c =
+    replay-resets c.args.w.now c.happens.new.w c.clear.new.w c.args.serial c.in_ok-resets.resets c.in_ok-moved.ensures.after c.in_ok-resets.ensures.ok c.in_ok-resets.ensures.few
+
+pub returns-clause-after : goal.returns-clause-after
+returns-clause-after c = replay-world c.args.w.now c.happens.new.w c.clear.new.w c.args.serial c.in_ok-resets.resets c.in_ok-moved.ensures.after c.in_ok-resets.ensures.ok

@@ -1,0 +1,6 @@
+-- The expiries of the hosts from here on are left.
+use Rattle.world_drain.proofs.Expiries.{ExpiringAll}
+use Rattle.world_drain.proofs.rounds.expire_all.Given as goal
+
+abbrev pub invariant-loop-host : goal.invariant-loop-host
+invariant-loop-host l = ExpiringAll l.fn.w l.w l.host

@@ -1,0 +1,62 @@
+use Rattle.fab_world.specs.Held.{IsLater}
+use Rattle.fab_world.proofs.Moments.{later-fabric, later-hosts, later-channels, later-adopted}
+use Rattle.world_drain.proofs.EventRows.{clear-later}
+use Rattle.world_drain.proofs.Later.{later-both, on-any}
+use Rattle.world_drain.proofs.RoundRows.{rounds-later}
+use Rattle.world_drain.proofs.WholeRound.{IsSettled, settled-is}
+use Rattle.world_drain.proofs.rounds.settle.Goals as goal
+
+-- where memory was wanting among the rounds
+cut : (c : goal.After-from_residual-in_err-rest) → IsLater c.args.w.now c.all_rounds.new.w
+cut c = later-both c.args.w.now c.clear.new.w c.all_rounds.new.w (clear-later c.args.w.now c.clear.new.w c.in_ok-first.first c.in_ok-first.ensures.ok) c.in_err-rest.ensures.err
+
+pub returns-in_err-rest-clause-err : goal.returns-in_err-rest-clause-err
+returns-in_err-rest-clause-err c = on-any c.from_residual-in_err-rest.result (cut c)
+
+pub returns-in_err-rest-clause-fabric : goal.returns-in_err-rest-clause-fabric
+returns-in_err-rest-clause-fabric c = later-fabric c.args.w.now c.all_rounds.new.w (cut c)
+
+pub returns-in_err-rest-clause-hosts : goal.returns-in_err-rest-clause-hosts
+returns-in_err-rest-clause-hosts c = later-hosts c.args.w.now c.all_rounds.new.w c.moment.ensures.kept (cut c)
+
+pub returns-in_err-rest-clause-channels : goal.returns-in_err-rest-clause-channels
+returns-in_err-rest-clause-channels c = later-channels c.args.w.now c.all_rounds.new.w c.moment.ensures.kept (cut c)
+
+pub returns-in_err-rest-clause-adopted : goal.returns-in_err-rest-clause-adopted
+returns-in_err-rest-clause-adopted c = later-adopted c.args.w.now c.all_rounds.new.w (cut c)
+
+-- what was done leads on from where it began
+done : (c : goal.After-saturating_add) → IsLater c.args.w.now c.all_rounds.new.w
+done c =
+    later-both c.args.w.now c.clear.new.w c.all_rounds.new.w (clear-later c.args.w.now c.clear.new.w c.in_ok-first.first c.in_ok-first.ensures.ok)
+    (rounds-later c.clear.new.w c.all_rounds.new.w c.in_ok-rest.rest.rounds c.in_ok-rest.rest.resets c.in_ok-rest.ensures.ok)
+
+-- and is a settle
+settled : (c : goal.After-saturating_add) → IsSettled c.args.w.now c.all_rounds.new.w c.in_ok-rest.rest.rounds c.saturating_add.result
+settled c =
+    settled-is c.args.w.now c.clear.new.w c.all_rounds.new.w c.in_ok-rest.rest.rounds c.in_ok-first.first c.in_ok-rest.rest.resets c.saturating_add.result
+    c.moment.ensures.kept c.in_ok-first.ensures.ok c.in_ok-first.ensures.few c.in_ok-rest.ensures.ok c.saturating_add.ensures
+
+pub returns-clause-after : goal.returns-clause-after
+returns-clause-after c = (settled c).after
+
+pub returns-clause-rounds : goal.returns-clause-rounds
+returns-clause-rounds c = (settled c).number
+
+pub returns-clause-resets : goal.returns-clause-resets
+returns-clause-resets c = (settled c).counted
+
+pub returns-clause-idle : goal.returns-clause-idle
+returns-clause-idle c = (settled c).idle
+
+pub returns-clause-fabric : goal.returns-clause-fabric
+returns-clause-fabric c = later-fabric c.args.w.now c.all_rounds.new.w (done c)
+
+pub returns-clause-hosts : goal.returns-clause-hosts
+returns-clause-hosts c = later-hosts c.args.w.now c.all_rounds.new.w c.moment.ensures.kept (done c)
+
+pub returns-clause-channels : goal.returns-clause-channels
+returns-clause-channels c = later-channels c.args.w.now c.all_rounds.new.w c.moment.ensures.kept (done c)
+
+pub returns-clause-adopted : goal.returns-clause-adopted
+returns-clause-adopted c = later-adopted c.args.w.now c.all_rounds.new.w (done c)

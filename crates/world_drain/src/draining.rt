@@ -1,0 +1,85 @@
+//! Many events in a row: all packets run out.
+
+ghost use Rattle.std.specs.Prelude.{◌≡◌, ◌<◌, ◌≤◌, ◌∷◌, [], length, IfOk, IfSome, OnOk, OnErr};
+ghost use Rattle.world_defs.specs.World.{fabric_of, host_count};
+ghost use Rattle.world_defs.specs.declared.event.Event.TheVariants.{Advance};
+ghost use Rattle.world_defs.specs.Step.{step};
+ghost use Rattle.world_defs.specs.Drain.{changes, pass, drain};
+ghost use Rattle.fab_world.specs.Held.{IsLater};
+ghost use Rattle.world_drain.specs.Watch.{seen_in};
+
+use crate::seen::{Seen, Watch};
+use fab_world::{Event, World};
+use std::alloc::{AllocError, Global};
+
+/// Advances packets until none moves any more: how many advances changed something. Want of memory leaves a world that some events lead to.
+pub fn drain(alloc: Global, w: &mut World) -> Result<u64, AllocError>
+    ensures ok { IfOk result (λ n. n ≡ changes (drain w.old).0) }
+    ensures after { OnOk result (w.new ≡ (drain w.old).1) }
+    ensures err { OnErr result (IsLater w.old w.new) }
+{
+    let watch = Watch {
+        mapper: 0,
+        number: None,
+        part: None,
+    };
+    let seen = drain_watching(alloc, w, watch)?;
+    Ok(seen.changes)
+}
+
+/// A drain, with what a mapper sees of it. Want of memory leaves a world that some events lead to.
+pub fn drain_watching(alloc: Global, w: &mut World, watch: Watch) -> Result<Seen, AllocError>
+    ensures seen { IfOk result (λ s. s ≡ seen_in watch (drain w.old).0) }
+    ensures heard { IfOk result (λ s. IfSome s.probed (λ h. h < host_count w.old)) }
+    ensures after { OnOk result (w.new ≡ (drain w.old).1) }
+    ensures err { OnErr result (IsLater w.old w.new) }
+    ensures fabric { fabric_of w.new ≡ fabric_of w.old }
+    ensures hosts { host_count w.new ≡ host_count w.old }
+{
+    let _few = w.hops_bound();
+    let mut seen = watch.nothing();
+    loop {
+        let once = pass(alloc, w, &watch)?;
+        if once.changes == 0 {
+            return Ok(seen);
+        }
+        seen = seen.then(once);
+    }
+}
+
+// One pass: an advance of each full channel by rising number. Those that are empty have nothing to advance.
+fn pass(alloc: Global, w: &mut World, watch: &Watch) -> Result<Seen, AllocError>
+    ensures seen { IfOk result (λ s. s ≡ seen_in watch.now (pass w.old).0) }
+    ensures heard { IfOk result (λ s. IfSome s.probed (λ h. h < host_count w.old)) }
+    ensures after { OnOk result (w.new ≡ (pass w.old).1) }
+    ensures err { OnErr result (IsLater w.old w.new) }
+    ensures fabric { fabric_of w.new ≡ fabric_of w.old }
+    ensures hosts { host_count w.new ≡ host_count w.old }
+    ensures channels { length w.new.links.channels ≡ length w.old.links.channels }
+{
+    let _few = w.channels();
+    let mut seen = watch.nothing();
+    let mut from = 0;
+    while let Some(c) = w.next_full(from) {
+        let one = advance(alloc, w, watch, c)?;
+        seen = seen.then(one);
+        from = c + 1;
+    }
+    Ok(seen)
+}
+
+// An advance of one channel, with what is seen of it.
+fn advance(alloc: Global, w: &mut World, watch: &Watch, c: u16) -> Result<Seen, AllocError>
+    requires there { c < length w.old.links.channels }
+    ensures seen { IfOk result (λ s. s ≡ seen_in watch.now ((step w.old (Advance c)).0 ∷ [])) }
+    ensures few { IfOk result (λ s. s.changes ≤ 1) }
+    ensures heard { IfOk result (λ s. IfSome s.probed (λ h. h < host_count w.old)) }
+    ensures after { OnOk result (w.new ≡ (step w.old (Advance c)).1) }
+    ensures err { OnErr result (IsLater w.old w.new) }
+    ensures fabric { fabric_of w.new ≡ fabric_of w.old }
+    ensures hosts { host_count w.new ≡ host_count w.old }
+    ensures channels { length w.new.links.channels ≡ length w.old.links.channels }
+{
+    let effect = w.step(alloc, Event::Advance(c))?;
+    Ok(watch.see(&effect))
+}

@@ -1,0 +1,90 @@
+//! A pass over all hosts and over limbo, and passes in a row.
+
+ghost use Rattle.std.specs.Prelude.{◌≡◌, ◌||◌, not, nat_lt, map, is_none, IfOk, OnOk, OnErr};
+ghost use Rattle.std.specs.List.{list_all};
+ghost use Rattle.world_defs.specs.declared.event.Event.TheVariants.{Inject};
+ghost use Rattle.world_defs.specs.Node.{to_send};
+ghost use Rattle.world_defs.specs.World.{node_at, addresses};
+ghost use Rattle.world_defs.specs.Step.{steps};
+ghost use Rattle.world_defs.specs.Drain.{changes};
+ghost use Rattle.world_defs.specs.Settle.{is_quiet, round_pass};
+ghost use Rattle.fab_world.specs.Held.{IsLater};
+ghost use Rattle.world_drain.specs.Settling.{capped, ArePasses};
+
+use crate::clearing::clear;
+use crate::giving_up::give_up_all;
+use crate::happening::happens;
+use crate::replaying::{Told, replay_all};
+use fab_world::{Event, World};
+use std::alloc::{AllocError, Global};
+
+/// Passes, at least one, up to one that leaves limbo empty and no host with anything to send, or in which each injection and each replay was idle:
+/// how many channels were reset. That count stays at its last value once there.
+pub(crate) fn passes(alloc: Global, w: &mut World) -> Result<u64, AllocError>
+    ensures ok { IfOk result (λ resets. ArePasses w.old w.new resets) }
+    ensures err { OnErr result (IsLater w.old w.new) }
+{
+    let mut resets: u64 = 0;
+    'passing: loop {
+        let once = pass(alloc, w)?;
+        resets = resets.saturating_add(once.resets);
+        if is_last(w, once) {
+            return Ok(resets);
+        }
+    }
+}
+
+// Whether a pass that left this world was the last.
+fn is_last(w: &World, once: Told) -> bool
+    ensures { result ≡ (is_quiet w.now || not once.moved) }
+{
+    !once.moved || is_quiet(w)
+}
+
+// Whether nothing is in limbo, and no host has anything to send.
+fn is_quiet(w: &World) -> bool
+    ensures { result ≡ is_quiet w.now }
+{
+    w.next_limbo(0).is_none() && none_sends(w)
+}
+
+// Whether no host has anything to send.
+fn none_sends(w: &World) -> bool
+    ensures { result ≡ list_all (λ h. is_none (to_send h (node_at w.now h))) (addresses w.now) }
+{
+    for host in 0..w.hosts() {
+        if w.has_to_send(host) {
+            return false;
+        }
+    }
+    true
+}
+
+// A pass: every host gives up what it staged; every host injects, by rising address; a clear; and each packet in limbo is replayed, with a clear
+// behind it.
+#[tactic(auto, unfolding(world_defs::specs::Settle::round_pass))]
+fn pass(alloc: Global, w: &mut World) -> Result<Told, AllocError>
+    ensures moved { IfOk result (λ t. t.moved ≡ nat_lt 0 (round_pass w.old).moves) }
+    ensures resets { IfOk result (λ t. t.resets ≡ capped (round_pass w.old).resets) }
+    ensures after { OnOk result (w.new ≡ (round_pass w.old).world) }
+    ensures err { OnErr result (IsLater w.old w.new) }
+{
+    give_up_all(alloc, w)?;
+    let moved = inject_all(alloc, w)?;
+    let resets = clear(alloc, w)?;
+    let replayed = replay_all(alloc, w)?;
+    Ok(Told { moved, resets }.then(replayed))
+}
+
+// An injection of each host, by rising address: whether one wasn't idle.
+fn inject_all(alloc: Global, w: &mut World) -> Result<bool, AllocError>
+    ensures moved { IfOk result (λ b. b ≡ nat_lt 0 (changes (steps w.old (map Inject (addresses w.old))).0)) }
+    ensures after { OnOk result (w.new ≡ (steps w.old (map Inject (addresses w.old))).1) }
+    ensures err { OnErr result (IsLater w.old w.new) }
+{
+    let mut moved = false;
+    for host in 0..w.hosts() {
+        moved |= happens(alloc, w, Event::Inject(host))?;
+    }
+    Ok(moved)
+}

@@ -1,0 +1,68 @@
+//! Packets come back from limbo, each alone.
+
+ghost use Rattle.std.specs.Prelude.{◌≡◌, ◌∷◌, [], ◌||◌, ◌+◌, nat_lt, IfOk, OnOk, OnErr};
+ghost use Rattle.world_defs.specs.declared.event.Event.TheVariants.{Replay};
+ghost use Rattle.world_defs.specs.Step.{steps};
+ghost use Rattle.world_defs.specs.Settle.{then_clear, replay_each, serials};
+ghost use Rattle.fab_world.specs.Held.{IsLater};
+ghost use Rattle.world_drain.specs.Settling.{capped};
+
+use crate::clearing::clear;
+use crate::happening::happens;
+use fab_world::{Event, World};
+use std::alloc::{AllocError, Global};
+
+/// What a stretch of injections, replays and clears did.
+#[derive(Clone, Copy, Debug)]
+pub(crate) struct Told {
+    /// Whether an injection or a replay wasn't idle.
+    pub(crate) moved: bool,
+    /// How many channels were reset; the count stays at its last value once there.
+    pub(crate) resets: u64,
+}
+
+impl Told {
+    /// What is told of a stretch that another follows.
+    pub(crate) fn then(self, next: Told) -> Told
+        ensures moved { result.moved ≡ (self.moved || next.moved) }
+        ensures resets { result.resets ≡ capped (self.resets + next.resets) }
+    {
+        Told {
+            moved: self.moved || next.moved,
+            resets: self.resets.saturating_add(next.resets),
+        }
+    }
+}
+
+/// A replay of each packet that stands in limbo now, by rising serial, with a clear behind each. None comes to limbo meanwhile.
+pub(crate) fn replay_all(alloc: Global, w: &mut World) -> Result<Told, AllocError>
+    ensures moved { IfOk result (λ t. t.moved ≡ nat_lt 0 (replay_each (serials w.old) w.old).moves) }
+    ensures resets { IfOk result (λ t. t.resets ≡ capped (replay_each (serials w.old) w.old).resets) }
+    ensures after { OnOk result (w.new ≡ (replay_each (serials w.old) w.old).world) }
+    ensures err { OnErr result (IsLater w.old w.new) }
+{
+    w.moment();
+    let mut told = Told {
+        moved: false,
+        resets: 0,
+    };
+    let mut from = 0;
+    'replays: while let Some(serial) = w.next_limbo(from) {
+        let one = replay(alloc, w, serial)?;
+        told = told.then(one);
+        from = serial + 1;
+    }
+    Ok(told)
+}
+
+// A replay of one packet in limbo, and a clear behind it.
+fn replay(alloc: Global, w: &mut World, serial: u64) -> Result<Told, AllocError>
+    ensures moved { IfOk result (λ t. t.moved ≡ nat_lt 0 (then_clear (steps w.old (Replay serial ∷ []))).moves) }
+    ensures resets { IfOk result (λ t. t.resets ≡ capped (then_clear (steps w.old (Replay serial ∷ []))).resets) }
+    ensures after { OnOk result (w.new ≡ (then_clear (steps w.old (Replay serial ∷ []))).world) }
+    ensures err { OnErr result (IsLater w.old w.new) }
+{
+    let moved = happens(alloc, w, Event::Replay(serial))?;
+    let resets = clear(alloc, w)?;
+    Ok(Told { moved, resets })
+}

@@ -1,0 +1,163 @@
+//! A settle: rounds, each of which sends again what isn't acknowledged.
+
+ghost use Rattle.std.specs.Prelude.{◌≡◌, ◌≤◌, ◌||◌, true, not, nat_eq, nat_lt, min, length, IfOk, OnOk, OnErr};
+ghost use Rattle.link_defs.specs.Links.{is_idle};
+ghost use Rattle.world_defs.specs.World.{fabric_of, host_count, last_count};
+ghost use Rattle.world_defs.specs.declared.event.Event.TheVariants.{Expire};
+ghost use Rattle.world_defs.specs.Step.{step, after_all};
+ghost use Rattle.world_defs.specs.Settle.{unacknowledged_in, expiries_of, expiries, round, settle};
+ghost use Rattle.fab_world.specs.Events.{IsHostOf};
+ghost use Rattle.fab_world.specs.Held.{IsLater};
+ghost use Rattle.world_drain.specs.Rounds.{AreRounds};
+ghost use Rattle.world_drain.specs.Settling.{capped};
+
+use crate::clearing::clear;
+use crate::happening::happen;
+use crate::passes::passes;
+use fab_world::{Event, World};
+use std::alloc::{AllocError, Global};
+
+/// What a settle came to. The count of resets stays at its last value once there.
+#[derive(Clone, Copy, Debug, PartialEq, Eq)]
+pub struct Settled {
+    /// How many rounds it took.
+    pub rounds: u64,
+    /// How many channels were reset, by its first clear and in its rounds.
+    pub resets: u64,
+    /// How many fragments aren't acknowledged behind it.
+    pub unacked: u64,
+}
+
+/// Settles a world: a clear, and then rounds, at least one, up to one that leaves nothing unacknowledged or that helps nothing. It answers no more
+/// rounds than one and those that fragments and planned faults allow. Want of memory leaves a world that some events lead to.
+pub fn settle(alloc: Global, w: &mut World) -> Result<Settled, AllocError>
+    ensures after { OnOk result (w.new ≡ (settle w.old).world) }
+    ensures rounds { IfOk result (λ s. s.rounds ≡ (settle w.old).rounds) }
+    ensures resets { IfOk result (λ s. s.resets ≡ min (settle w.old).resets last_count) }
+    ensures unacked { IfOk result (λ s. s.unacked ≡ unacknowledged_in w.new) }
+    ensures err { OnErr result (IsLater w.old w.new) }
+    ensures idle { OnOk result (is_idle w.new.links ≡ true) }
+    ensures fabric { fabric_of w.new ≡ fabric_of w.old }
+    ensures hosts { host_count w.new ≡ host_count w.old }
+    ensures channels { length w.new.links.channels ≡ length w.old.links.channels }
+    ensures adopted { w.new.adopted ≡ w.old.adopted }
+{
+    w.moment();
+    let first = clear(alloc, w)?;
+    let rest = all_rounds(alloc, w)?;
+    Ok(Settled {
+        rounds: rest.rounds,
+        resets: first.saturating_add(rest.resets),
+        unacked: rest.unacked,
+    })
+}
+
+// How far a world has come: how many fragments aren't acknowledged, and how many planned faults struck.
+#[derive(Clone, Copy, Debug)]
+struct Progress {
+    unacked: u64,
+    struck: u64,
+}
+
+// Rounds up to the last.
+fn all_rounds(alloc: Global, w: &mut World) -> Result<Settled, AllocError>
+    ensures ok { IfOk result (λ s. AreRounds w.old w.new s.rounds s.resets) }
+    ensures unacked { IfOk result (λ s. s.unacked ≡ unacknowledged_in w.new) }
+    ensures err { OnErr result (IsLater w.old w.new) }
+{
+    w.moment();
+    let _planned = w.planned();
+    let mut rounds: u64 = 0;
+    let mut resets: u64 = 0;
+    let mut before = progress_of(w);
+    'settling: loop {
+        let once = round(alloc, w)?;
+        rounds += 1;
+        resets = resets.saturating_add(once);
+        let now = progress_of(w);
+        if is_last(before, now) {
+            let unacked = now.unacked;
+            return Ok(Settled {
+                rounds,
+                resets,
+                unacked,
+            });
+        }
+        before = now;
+    }
+}
+
+// How far a world has come.
+fn progress_of(w: &World) -> Progress
+    ensures unacked { result.unacked ≡ unacknowledged_in w.now }
+    ensures few { result.unacked ≤ 70368744161280 }
+    ensures struck { result.struck ≡ w.now.struck }
+{
+    Progress {
+        unacked: w.unacked(),
+        struck: w.struck(),
+    }
+}
+
+// Whether a round that led so far was the last: nothing is left, or it didn't help. Nothing is offered meanwhile, so that what isn't acknowledged
+// gets less exactly where a base rises.
+fn is_last(before: Progress, now: Progress) -> bool
+    ensures { result ≡ (nat_eq now.unacked 0 || not (nat_lt now.unacked before.unacked || nat_lt before.struck now.struck)) }
+{
+    now.unacked == 0 || !has_helped(before, now)
+}
+
+// Whether something more was acknowledged, or a planned fault struck.
+fn has_helped(before: Progress, now: Progress) -> bool
+    ensures { result ≡ (nat_lt now.unacked before.unacked || nat_lt before.struck now.struck) }
+{
+    now.unacked < before.unacked || before.struck < now.struck
+}
+
+// A round: an expiry for each pair with something unacknowledged, and then passes. How many channels were reset.
+fn round(alloc: Global, w: &mut World) -> Result<u64, AllocError>
+    ensures resets { IfOk result (λ resets. resets ≡ capped (round w.old).resets) }
+    ensures after { OnOk result (w.new ≡ (round w.old).world) }
+    ensures err { OnErr result (IsLater w.old w.new) }
+{
+    expire_all(alloc, w)?;
+    passes(alloc, w)
+}
+
+// An expiry for each pair with something unacknowledged, by host and then by peer.
+fn expire_all(alloc: Global, w: &mut World) -> Result<(), AllocError>
+    ensures after { OnOk result (w.new ≡ after_all w.old (expiries w.old)) }
+    ensures err { OnErr result (IsLater w.old w.new) }
+{
+    for host in 0..w.hosts() {
+        expire_host(alloc, w, host)?;
+    }
+    Ok(())
+}
+
+// An expiry for each peer to which something of a host isn't acknowledged.
+fn expire_host(alloc: Global, w: &mut World, host: u16) -> Result<(), AllocError>
+    requires { IsHostOf w.old host }
+    ensures after { OnOk result (w.new ≡ after_all w.old (expiries_of w.old host)) }
+    ensures err { OnErr result (IsLater w.old w.new) }
+    ensures hosts { host_count w.new ≡ host_count w.old }
+{
+    for peer in 0..w.hosts() {
+        expire_due(alloc, w, host, peer)?;
+    }
+    Ok(())
+}
+
+// The expiry of a pair, unless all of it is acknowledged: it would be idle then.
+fn expire_due(alloc: Global, w: &mut World, host: u16, peer: u16) -> Result<(), AllocError>
+    requires there { IsHostOf w.old host }
+    requires peer { IsHostOf w.old peer }
+    ensures after { OnOk result (w.new ≡ (step w.old (Expire host peer)).1) }
+    ensures err { OnErr result (IsLater w.old w.new) }
+    ensures hosts { host_count w.new ≡ host_count w.old }
+{
+    if w.unacked_to(host, peer) == 0 {
+        return Ok(());
+    }
+    happen(alloc, w, Event::Expire { host, peer })
+}

@@ -1,0 +1,104 @@
+"""A report, read line by line: its maps, routes, installations, settles and all other lines, each with its number."""
+
+
+class Map:
+    """A map of a report: its mapper, its words, and its vertices and cables by the names that the map gives them."""
+
+    def __init__(self, line, host, words, asks, packets):
+        self.line, self.host, self.words, self.asks, self.packets = line, host, words, asks, packets
+        self.vertices, self.core, self.cables, self.far_ends = [], {}, [], {}
+
+    def add(self, words):
+        if words[0] == "cable":
+            a, b = (words[1], int(words[2])), (words[3], int(words[4]))
+            self.cables.append((a, b))
+            self.far_ends[a], self.far_ends[b] = b, a
+        else:
+            self.vertices.append(words[1])
+            self.core[words[1]] = words[-1] != "outside"
+
+    def switches(self):
+        return [it for it in self.vertices if it.startswith("#")]
+
+    def hosts(self):
+        return [it for it in self.vertices if not it.startswith("#")]
+
+
+class Routes:
+    """Routes of a report as (from, to, turns), and ranks by the map's ports."""
+
+    def __init__(self, line):
+        self.line, self.routes, self.ranks = line, [], {}
+
+    def add(self, words):
+        if words[0] == "route":
+            self.routes.append((words[1], words[2], [int(it) for it in words[3:]]))
+        else:
+            self.ranks[words[1], int(words[2])] = int(words[3])
+
+
+class Report:
+    """The items of a report in order: Map, Routes, or (line, words) for any other line."""
+
+    def __init__(self, text):
+        self.items, open_item = [], None
+        for line, words in enumerate((it.split() for it in text.splitlines()), 1):
+            if not words:
+                continue
+            if open_item:
+                open_item = self.inside(open_item, words)
+            else:
+                open_item = self.begin(line, words)
+
+    def begin(self, line, words):
+        if words[0] == "map" and "asks" in words:
+            at = words.index("asks")
+            item = Map(line, words[1], " ".join(words[2:at]), int(words[at + 1]), int(words[at + 3]))
+            self.items.append(item)
+            return None if item.words == "incomplete nodes" else item
+        if words[0] == "routes" and words[1] != "refused":
+            self.items.append(Routes(line))
+            return self.items[-1]
+        self.items.append((line, words))
+        return None
+
+    def inside(self, item, words):
+        if words[0] in ("endmap", "endroutes"):
+            return None
+        item.add(words)
+        return item
+
+    def of(self, kind):
+        return [it for it in self.items if isinstance(it, kind)]
+
+
+def place(fabric, shown):
+    """How a map lies in its fabric: for each of its vertices the fabric's name and the port that its port 0 is.
+
+    Follows the map's cables from the mapper's host. A vertex of an incomplete map may be shown twice: both get the one name.
+    """
+    at = {shown.host: (shown.host, 0)}
+    todo = [shown.host]
+    while todo:
+        vertex = todo.pop(0)
+        for (a, p), (b, q) in both_ways(shown.cables):
+            if a == vertex and b not in at:
+                far = fabric.far((at[a][0], at[a][1] + p))
+                if far:
+                    at[b] = (far[0], far[1] - q)
+                    todo.append(b)
+    return at
+
+
+def both_ways(cables):
+    for a, b in cables:
+        yield a, b
+        yield b, a
+
+
+def real_end(at, end):
+    """An end of a map as an end of the fabric, or None where its vertex has no place."""
+    vertex, port = end
+    if vertex not in at:
+        return None
+    return at[vertex][0], at[vertex][1] + port

@@ -1,0 +1,94 @@
+"""What waits behind a settle, and for what: the script's calls and the report's answers, followed side by side."""
+
+from fabtools.report import Map, Routes
+
+
+def least_size(length):
+    """The size class that a message of this length fits."""
+    size = 4
+    while 2**size - 8 < length:
+        size += 1
+    return size
+
+
+class Calls:
+    """What clients have done so far: ports that are open, tokens that are provided, and messages that aren't taken."""
+
+    def __init__(self):
+        self.open, self.provided, self.sent, self.tables, self.is_known = set(), {}, {}, {}, True
+
+    def call(self, line, words, answer):
+        """One call of a script, at its line, with the words of its answer behind its host and port."""
+        at = tuple(words[1:3])
+        if "refused" in answer:
+            return
+        if words[0] == "open":
+            self.open.add(at)
+        elif words[0] == "close":
+            self.open.discard(at)
+            self.provided.pop(at, None)
+        elif words[0] == "provide":
+            self.provided.setdefault(at, []).append((int(words[3]), int(words[4])))
+        elif words[0] == "send":
+            message = (line, (words[3], words[4]), int(words[5]), int(words[6]))
+            self.sent.setdefault((words[1], words[3]), []).append(message)
+        elif words[0] == "step":
+            self.is_known = False
+
+    def settle(self):
+        """Each message that can be taken is."""
+        goes_on = True
+        while goes_on:
+            goes_on = False
+            for pair in self.sent:
+                while self.take_first(pair):
+                    goes_on = True
+
+    def take_first(self, pair):
+        if not self.sent[pair] or self.cause(pair):
+            return False
+        _, port, prio, length = self.sent[pair].pop(0)
+        self.provided[port].remove((least_size(length), prio))
+        return True
+
+    def cause(self, pair):
+        """Why the first message of a pair can't be taken and acknowledged, or None."""
+        _, port, prio, length = self.sent[pair][0]
+        size = least_size(length)
+        if self.tables.get(pair[1]) != "active":
+            return f"{pair[1]} has no routes, so it can't acknowledge: 'install' again"
+        if port not in self.open:
+            return f"port {port[1]} of {port[0]} isn't open"
+        if (size, prio) not in self.provided.get(port, []):
+            return f"port {port[1]} of {port[0]} has no token of size {size} and priority {prio}: 'provide {port[0]} {port[1]} {size} {prio}'"
+        return None
+
+    def waiting(self):
+        """For each pair of hosts with messages that wait: the first one, how many more, and what it waits for."""
+        for pair, messages in self.sent.items():
+            if messages:
+                line, port, prio, length = messages[0]
+                behind = f", and {len(messages) - 1} more behind it" if len(messages) > 1 else ""
+                first = f"{pair[0]} to {pair[1]}: the message of line {line} ({length} bytes, priority {prio}) waits{behind}"
+                yield f"{first}: {self.cause(pair)}"
+
+
+def behind_settles(script, items):
+    """For the line of each settle in a report: what waits behind it, where its count of unacknowledged messages agrees."""
+    calls, told, items = Calls(), {}, list(items)
+    for line, words in script:
+        if not items:
+            break
+        item = items.pop(0)
+        if isinstance(item, (Map, Routes)):
+            continue
+        at, answer = item
+        calls.call(line, words, answer)
+        if words[0] == "settle":
+            calls.settle()
+            waiting = sum(map(len, calls.sent.values()))
+            told[at] = list(calls.waiting()) if calls.is_known and waiting == int(answer[-1]) else []
+        while items and isinstance(items[0], tuple) and items[0][1][0] == "table":
+            _, (_, host, state) = items.pop(0)
+            calls.tables[host] = state
+    return told

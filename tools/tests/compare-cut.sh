@@ -1,0 +1,1 @@
+compare ../../examples/fat-tree.in ../../examples/cut-leaf.out

@@ -1,0 +1,1 @@
+compare ../../examples/lost-probes.in ../../examples/lost-probes.out

@@ -1,0 +1,1 @@
+compare ../../examples/cut-leaf.in ../../examples/fat-tree.out

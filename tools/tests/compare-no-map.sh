@@ -1,0 +1,1 @@
+compare ../../examples/two-hosts.in ../../examples/first-walk.out

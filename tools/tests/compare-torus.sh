@@ -1,0 +1,1 @@
+compare ../../examples/torus.in ../../examples/torus.out

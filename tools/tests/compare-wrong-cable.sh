@@ -1,0 +1,1 @@
+compare ../../examples/fat-tree.in ../../examples/wrong-cable.out

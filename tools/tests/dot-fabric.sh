@@ -1,0 +1,1 @@
+dot ../../examples/two-hosts.in

@@ -1,0 +1,1 @@
+explain ../../examples/refused-calls.in ../../examples/refused-calls.out

@@ -1,0 +1,1 @@
+explain ../../examples/cut-leaf.in < ../../examples/cut-leaf.out | head -n 16

@@ -1,0 +1,1 @@
+explain ../../examples/lost-probes.in ../../examples/lost-probes.out

@@ -1,0 +1,1 @@
+explain ../../examples/refused.in ../../examples/refused.out

@@ -1,0 +1,1 @@
+explain ../../examples/ring-too-shallow.in ../../examples/ring-too-shallow.out

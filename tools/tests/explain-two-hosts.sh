@@ -1,0 +1,1 @@
+explain ../../examples/two-hosts.in ../../examples/two-hosts.out

@@ -1,0 +1,1 @@
+explain ../../examples/updn-cycle.in ../../examples/updn-cycle.out

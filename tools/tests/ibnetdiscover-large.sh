@@ -1,0 +1,1 @@
+from-ibnetdiscover large.txt

@@ -1,0 +1,1 @@
+from-ibnetdiscover ibnetdiscover.txt --map h0

@@ -1,0 +1,1 @@
+explain nothing.in; to-ibsim nothing.in; compare nothing.in

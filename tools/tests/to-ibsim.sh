@@ -1,0 +1,1 @@
+to-ibsim ../../examples/ring-of-four.in

@@ -1,0 +1,1 @@
+try one two

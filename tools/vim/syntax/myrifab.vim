@@ -1,0 +1,27 @@
+" Vim syntax of myrifab's texts: a fabric and a script. Copy tools/vim into ~/.vim, or add it to 'runtimepath'.
+if exists('b:current_syntax')
+  finish
+endif
+
+syntax case match
+
+syntax match myrifabComment '^\s*#.*$'
+syntax match myrifabUnknown '^\s*[^[:blank:]#]\S*'
+syntax match myrifabFabric '^\s*\%(host\|switch\|cable\)\>'
+syntax match myrifabPart '^\s*\%(script\|end\)\s*$'
+syntax match myrifabCommand '^\s*\%(walk\|map\|routes\|install\|settle\)\>'
+syntax match myrifabClient '^\s*\%(open\|provide\|send\|poll\|tokens\|close\)\>'
+syntax match myrifabEvent '^\s*plan\s\+\%(lose\|repeat\|hold\|flip\)\>'
+syntax match myrifabEvent '^\s*step\s\+\%(inject\|giveup\|expire\|advance\|lose\|repeat\|hold\|reset\|flip\|replay\)\>'
+syntax match myrifabNumber '\s\zs[+-]\?\d\+\ze\%(\s\|$\)'
+
+highlight default link myrifabComment Comment
+highlight default link myrifabUnknown Error
+highlight default link myrifabFabric Type
+highlight default link myrifabPart PreProc
+highlight default link myrifabCommand Statement
+highlight default link myrifabClient Function
+highlight default link myrifabEvent Special
+highlight default link myrifabNumber Number
+
+let b:current_syntax = 'myrifab'
