@@ -15,9 +15,9 @@ use Rattle.world_defs.specs.Hearing.{hear}
 use Rattle.world_defs.specs.Client.{Called}
 use Rattle.world_defs.specs.World.{WorldState, fabric_of, host_count, node_at}
 use Rattle.act_defs.specs.Acts.{Act, Happens, Plans, Adopts, acted}
-use Rattle.act_defs.proofs.Lists.{each-set}
-use Rattle.act_defs.proofs.Views.{HostChange, CallChange, Change, view}
-use Rattle.act_defs.proofs.Strikes.{injection-nodes}
+use Rattle.world_defs.proofs.Lists.{each-set}
+use Rattle.world_defs.proofs.Views.{HostChange, CallChange, Change, view}
+use Rattle.world_defs.proofs.Strikes.{injection-nodes}
 
 -- One host as an act leaves it: it changed by itself, heard a packet, sent one, was called, or adopted routes.
 pub data NodeChange (w : WorldState) : Act → ℕ → NodeState → Type 0 where
@@ -34,7 +34,7 @@ pub data NodesChange (w : WorldState) (a : Act) (v : WorldState) : Type 0 where
 
 pub change-nodes : {w : WorldState} {e : Event} {r : Effect × WorldState} → Change w e r → NodesChange w (Happens e) r.1
 change-nodes Change.idle = NodesChange.same refl
-change-nodes (Change.blocked next) = NodesChange.same refl
+change-nodes (Change.blocked packet next d e) = NodesChange.same refl
 change-nodes (Change.links k) = NodesChange.same refl
 change-nodes (Change.drops packet why d e f) = NodesChange.same refl
 change-nodes (Change.arrives packet h d e f g) = NodesChange.one (NodeChange.hears packet h d e) refl

@@ -49,7 +49,8 @@ IsByteAct (Happens e) = IsByteEvent e
 IsByteAct (Plans ahead fault) = IsByteFault fault
 IsByteAct (Adopts mapper routes) = Unit {0}
 
--- An event may always happen, and a plan names an injection to come, with flips of eight bits; routes may be adopted where they are adoptable and no other set is.
+-- An event may always happen, and a plan names an injection to come, with flips of eight bits; routes may be adopted
+-- where they are adoptable and no other set is.
 abbrev pub MayAct : WorldState → Act → Type 0
 MayAct w (Happens e) = IsByteEvent e
 MayAct w (Plans ahead fault) = (1 ≤ ahead) × IsByteFault fault

@@ -1,5 +1,6 @@
 -- When a mapper may adopt routes, what a world keeps of them, and when other routes are adopted.
-use Rattle.std.specs.Prelude.{◌≡◌, ◌≢◌, ℕ, ◌≤◌, ◌<◌, ℤ, Bool, true, ◌||◌, List, length, nat_eq, if◌then◌else◌, Option, Some, None, IfSome}
+use Rattle.std.specs.Prelude.{◌≡◌, ◌≢◌, ℕ, ◌≤◌, ◌<◌, ℤ, Bool, true, ◌||◌, List, length, nat_eq, if◌then◌else◌, Option}
+use Rattle.std.specs.Prelude.{Some, None, IfSome}
 use Rattle.std.specs.List.{AllByRecursion, list_any}
 use Rattle.net_defs.specs.declared.place.Place.TheVariants.{Host as AtHost}
 use Rattle.net_defs.specs.declared.route.Route.{Route}
@@ -17,15 +18,19 @@ use Rattle.adopted_routes.specs.declared.routes.PartToSend.{PartToSend}
 abbrev pub is_among : ℕ → List Route → ℕ → Bool
 is_among mapper routes h = nat_eq h mapper || list_any (λ r. nat_eq r.from h || nat_eq r.to h) routes
 
--- Routes that a mapper may adopt in a fabric: each leads to its host; of the mapper and the hosts that the routes name each has one to each other, and none to itself; and some numbering of channels rises along every two neighbouring channels of every route.
+-- Routes that a mapper may adopt in a fabric: each leads to its host; of the mapper and the hosts that the routes
+-- name each has one to each other, and none to itself; and some numbering of channels rises along every two
+-- neighbouring channels of every route.
 pub record IsAdoptable (n : Network) (mapper : ℕ) (routes : List Route) : Type 0 where
   pub lead : AllByRecursion (λ r. place n r.from r.walk ≡ AtHost r.to) routes
-  pub whole : (a b : ℕ) → is_among mapper routes a ≡ true → is_among mapper routes b ≡ true → a ≢ b → HasRoute routes a b
+  pub whole : (a b : ℕ) → is_among mapper routes a ≡ true → is_among mapper routes b ≡ true → a ≢ b
+      → HasRoute routes a b
   pub apart : AllByRecursion (λ r. r.from ≢ r.to) routes
   pub number : ℕ → ℕ
   pub rises : (c d : ℕ) → IsBefore (channels_of_all n routes) c d → number c < number d
 
--- What a world of so many hosts keeps of an adopted set: its adopter is a host, its routes go from hosts to hosts, and each host's table fits into sixteen parts.
+-- What a world of so many hosts keeps of an adopted set: its adopter is a host, its routes go from hosts to hosts,
+-- and each host's table fits into sixteen parts.
 pub record IsSetOfHosts (hosts : ℕ) (a : Adoption) : Type 0 where
   pub mapper : a.mapper < hosts
   pub ends : AllByRecursion (λ r. (r.from < hosts) × (r.to < hosts)) a.routes
@@ -34,7 +39,8 @@ pub record IsSetOfHosts (hosts : ℕ) (a : Adoption) : Type 0 where
 -- routes that a host may adopt in a fabric are a set of its hosts
 abbrev pub AdoptableIsOfHosts : Type 0
 AdoptableIsOfHosts =
-    (n : Network) (hosts mapper epoch : ℕ) (routes : List Route) → IsFabric n → hosts ≡ length n.hosts → mapper < hosts → AreRising routes → IsAdoptable n mapper routes
+    (n : Network) (hosts mapper epoch : ℕ) (routes : List Route) → IsFabric n → hosts ≡ length n.hosts
+    → mapper < hosts → AreRising routes → IsAdoptable n mapper routes
     → IsSetOfHosts hosts (record { mapper = mapper; epoch = epoch; routes = routes })
 
 -- why routes aren't adopted: another set is
@@ -55,7 +61,8 @@ abbrev pub sent_by_route : ℕ → Option RoutePart → Option (List ℤ) → Op
 sent_by_route mapper (Some p) (Some by) = Some (record { mapper = mapper; part = p; by = by })
 sent_by_route mapper _ _ = None
 
--- the part of a host's table that the adopter of a set has to send, where a set is adopted and has such a part and a route to the host
+-- the part of a host's table that the adopter of a set has to send, where a set is adopted and has such a part and a
+-- route to the host
 abbrev pub part_to_send : Option Adoption → ℕ → ℕ → Option PartToSend
 part_to_send None dst part = None
 part_to_send (Some a) dst part = sent_by_route a.mapper (part_for a dst part) (route_of a.routes a.mapper dst)

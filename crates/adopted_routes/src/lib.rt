@@ -1,7 +1,7 @@
 //! What a world keeps of the routes that were adopted in it: at most one set, with its adopter and its epoch.
 //!
-//! It sends nothing and knows no host: it makes the adopter's table, and the parts of the others with the routes that they travel by.
-//! `specs/Adopting.antt` says which routes may be adopted, and when they are refused.
+//! It sends nothing and knows no host: it makes the adopter's table, and the parts of the others with the routes that
+//! they travel by. `specs/Adopting.antt` says which routes may be adopted, and when they are refused.
 //!
 //! ```text
 //!   routes --> adopt --> the adopter's table          the same routes may be adopted again, others are handed back

@@ -98,7 +98,8 @@ impl AdoptedRoutes {
         }
     }
 
-    /// How many parts the adopted routes have for a host's table: none for their adopter's, and none where no routes are adopted.
+    /// How many parts the adopted routes have for a host's table: none for their adopter's, and none where no routes
+    /// are adopted.
     pub fn part_count(&self, dst: u16) -> u8
         requires { HasFewFor self.now dst }
         ensures { result ≡ part_count_for self.now dst }
@@ -109,8 +110,8 @@ impl AdoptedRoutes {
         }
     }
 
-    /// A part of a host's table, and how its adopter sends it. None exactly where no routes are adopted, or they have no such part or no
-    /// route to the host.
+    /// A part of a host's table, and how its adopter sends it. None exactly where no routes are adopted, or they have
+    /// no such part or no route to the host.
     pub fn part(&self, alloc: Global, dst: u16, part: u8) -> Result<Option<PartToSend>, AllocError>
         requires { HasFewFor self.now dst }
         ensures value { IfOk result (λ s. s ≡ part_to_send self.now dst part) }

@@ -1,92 +1,62 @@
 -- An ask has three injections at most for each try.
-use Rattle.std.proofs.Common.{◌≡◌, ◌≤◌, ◌+◌, ◌*◌, ℕ, zero, suc, Bool, true, false, ◌||◌, nat_le, ℤ, List, [], ◌∷◌, map, Option, Some, None, is_some, refl, ◌∙◌, arith, if◌then◌else◌}
-use Rattle.net_defs.specs.Route.{host_port, channel_from}
-use Rattle.link_defs.specs.declared.moved.Moved.{Moved}
-use Rattle.link_defs.specs.declared.moved.Moved.TheVariants.{To, AtHost, Dropped as MovedDropped, Blocked as MovedBlocked, Empty}
-use Rattle.link_defs.specs.Links.{LinkState, packet_in}
-use Rattle.link_defs.specs.Advance.{advance}
+use Rattle.std.proofs.Common.{◌≡◌, ◌≤◌, ◌+◌, ◌*◌, ℕ, zero, suc, Bool, true, false, ℤ, List, map, Option, Some, None, is_some, refl, arith, if◌then◌else◌}
 use Rattle.world_defs.specs.declared.event.Event.{Event}
-use Rattle.world_defs.specs.declared.event.Event.TheVariants.{Ask, Advance, GiveUp}
+use Rattle.world_defs.specs.declared.event.Event.TheVariants.{Ask, Inject, GiveUp}
 use Rattle.world_defs.specs.declared.effect.Effect.{Effect}
-use Rattle.world_defs.specs.declared.arrival.Arrival.{Arrival}
-use Rattle.world_defs.specs.declared.arrival.Arrival.TheVariants.{Heard as Hears, Dropped as HostDropped, NotMine as ArrivalNotMine}
-use Rattle.world_defs.specs.Node.{NodeState, Outgoing, to_send, has_staged, given_up}
-use Rattle.world_defs.specs.Hearing.{hear}
-use Rattle.world_defs.specs.World.{WorldState, fabric_of, host_count, last_count, node_at, with_node, with_links, addresses}
-use Rattle.world_defs.specs.Step.{planned_strikes, sent_out, inject_one, inject_into, injected, arrived, advanced_by, advanced, asked, gave_up, step, after_all}
+use Rattle.world_defs.specs.Node.{Outgoing}
+use Rattle.world_defs.specs.World.{WorldState, addresses}
+use Rattle.world_defs.specs.Step.{planned_strikes, sent_out, step, after_all}
 use Rattle.world_defs.specs.Drain.{drain}
 use Rattle.world_defs.specs.Asking.{Tried, Sent, sends, heard_by, probed_host, host_try, loop_try, also_harmed, tries_of, asked_hosts, host_tries, all_given_up, ask}
-use Rattle.world_laws.proofs.Along.{drain-along}
+use Rattle.world_defs.proofs.Views.{Change, view}
+use Rattle.world_laws.proofs.Along.{Along, after_all-along, drain-along, all-map}
 use Rattle.world_laws.proofs.Strikes.{planned_strikes-kept}
 use Rattle.ask_laws.specs.Row.{AskInjectsFew}
-
-arrived-count : (w : WorldState) (h : ℕ) (o : Arrival × NodeState) → (arrived w h o).1.injected ≡ w.injected
-arrived-count w h (Hears heard, n) = refl
-arrived-count w h (HostDropped drop, n) = refl
-arrived-count w h (ArrivalNotMine, n) = refl
-
-advanced-count : (w : WorldState) (o : Moved (List ℕ) × LinkState) → (advanced_by w o).1.injected ≡ w.injected
-advanced-count w (To next, l) = refl
-advanced-count w (AtHost h wire, l) = arrived-count (with_links w l) h (hear h (host_count w) (node_at w h) wire)
-advanced-count w (MovedDropped why, l) = refl
-advanced-count w (MovedBlocked next, l) = refl
-advanced-count w (Empty, l) = refl
-
-advance-count : (w : WorldState) (c : ℕ) → (step w (Advance c)).1.injected ≡ w.injected
-unfolding advanced
-advance-count w c = advanced-count w (advance w.links c)
-
-abbrev IsAdvance : Event → Type 0
-IsAdvance (Advance c) = Unit {0}
-IsAdvance _ = ⊥
-
-advances : (w : WorldState) (e : Event) → IsAdvance e → (step w e).1.injected ≡ w.injected
-advances w (Advance c) q = advance-count w c
-advances w _ q = absurd q
-
-drain-count : (w : WorldState) → (drain w).1.injected ≡ w.injected
-drain-count w =
-    drain-along (λ u v. v.injected ≡ u.injected) IsAdvance (record { same = λ u. refl; both = λ u v t a b. b ∙ a; event = advances }) (λ c. tt) w
 
 struck-count : (w : WorldState) (h c : ℕ) (out : Outgoing) → (planned_strikes (sent_out w h c out) c).injected ≡ w.injected + 1
 unfolding sent_out
 struck-count w h c out = (planned_strikes-kept (sent_out w h c out) c).injected
 
-one-count : (w : WorldState) (h c : ℕ) (o : Option Outgoing) → (inject_one w h c o).1.injected ≤ w.injected + 1
-one-count w h c None = omega arith
-one-count w h c (Some out) = by (is_some (packet_in w.links c)) (nat_le last_count w.injected)
-  where
-    by : (a b : Bool) → (if a || b then (let r : Effect × WorldState = (Effect.Idle, w) in r) else (Effect.Injected (w.injected + 1), planned_strikes (sent_out w h c out) c)).1.injected ≤ w.injected + 1
-    by true b = omega arith
-    by false true = omega arith
-    by false false = let e = struck-count w h c out in omega (arith, e)
+-- an event injects at most one packet, and none where it is no injection
+abbrev most : Event → ℕ
+most (Inject h) = 1
+most _ = 0
 
-into-count : (w : WorldState) (h : ℕ) (o : Option ℕ) → (inject_into w h o).1.injected ≤ w.injected + 1
-into-count w h None = omega arith
-into-count w h (Some c) = one-count w h c (to_send h (node_at w h))
+change-count : {w : WorldState} {e : Event} {r : Effect × WorldState} → Change w e r → r.1.injected ≤ w.injected + most e
+change-count Change.idle = omega arith
+change-count (Change.blocked packet next d e) = omega arith
+change-count (Change.links k) = omega arith
+change-count (Change.drops packet why d e f) = omega arith
+change-count (Change.arrives packet h d e f k) = omega arith
+change-count (Change.host k) = omega arith
+change-count {w = w} (Change.injects {h = h} c out d e f g) = let n = struck-count w h c out in omega (arith, n)
+change-count (Change.calls k) = omega arith
+
+step-count : (w : WorldState) (e : Event) → (step w e).1.injected ≤ w.injected + most e
+step-count w e = change-count (view w e)
+
+-- events that aren't injections
+abbrev IsStill : Event → Type 0
+IsStill e = most e ≡ 0
+
+still-count : Along (λ u v. v.injected ≤ u.injected) IsStill
+still-count = record { same = λ w. omega arith; both = λ u v w a b. omega (arith, a, b); event = λ w e none. let n = step-count w e in let z : most e ≡ 0 = none in omega (arith, n, z) }
+
+drain-count : (w : WorldState) → (drain w).1.injected ≤ w.injected
+drain-count w = drain-along (λ u v. v.injected ≤ u.injected) IsStill still-count (λ c. refl) w
+
+give_ups-count : (w : WorldState) (hs : List ℕ) → (after_all w (map GiveUp hs)).injected ≤ w.injected
+give_ups-count w hs = after_all-along (λ u v. v.injected ≤ u.injected) IsStill still-count w (map GiveUp hs) (all-map IsStill GiveUp (λ h. refl) hs)
 
 send-count : (w : WorldState) (h : ℕ) → (sends w h).world.injected ≤ w.injected + 1
-unfolding sends injected
+unfolding sends
 send-count w h =
-    let a = into-count w h (channel_from (fabric_of w) (host_port h)) in
-    let b = drain-count (inject_into w h (channel_from (fabric_of w) (host_port h))).1 in
+    let a : (step w (Inject h)).1.injected ≤ w.injected + 1 = step-count w (Inject h) in
+    let b = drain-count (step w (Inject h)).1 in
     omega (arith, a, b)
 
-stage-count : (w : WorldState) (h : ℕ) (walk : List ℤ) (looped : Bool) → (step w (Ask h walk looped)).1.injected ≡ w.injected
-unfolding asked
-stage-count w h walk looped = refl
-
-give_up-count : (w : WorldState) (h : ℕ) → (step w (GiveUp h)).1.injected ≡ w.injected
-unfolding gave_up
-give_up-count w h = by (has_staged (node_at w h))
-  where
-    by : (t : Bool) → (if t then (let r : Effect × WorldState = (Effect.GaveUp, with_node w h (given_up (node_at w h))) in r) else (Effect.Idle, w)).1.injected ≡ w.injected
-    by true = refl
-    by false = refl
-
-give_ups-count : (w : WorldState) (hs : List ℕ) → (after_all w (map GiveUp hs)).injected ≡ w.injected
-give_ups-count w [] = refl
-give_ups-count w (h ∷ hs) = give_ups-count (step w (GiveUp h)).1 hs ∙ give_up-count w h
+stage-count : (w : WorldState) (h : ℕ) (walk : List ℤ) (looped : Bool) → (step w (Ask h walk looped)).1.injected ≤ w.injected
+stage-count w h walk looped = let n : (step w (Ask h walk looped)).1.injected ≤ w.injected + 0 = step-count w (Ask h walk looped) in omega (arith, n)
 
 host_try-count : (mapper : ℕ) (walk : List ℤ) (w : WorldState) → (host_try mapper walk w).world.injected ≤ w.injected + 2
 unfolding host_try

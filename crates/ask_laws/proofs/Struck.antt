@@ -1,5 +1,5 @@
 -- What a planned fault does to a packet alone: nothing, or it takes it away, or it spoils it.
-use Rattle.std.proofs.Common.{◌≡◌, ◌≢◌, ◌<◌, ◌≤◌, ◌+◌, ◌*◌, ℕ, Bool, true, false, not, ◌&&◌, nat_eq, nat_lt, List, [], ◌∷◌, length, Option, Some, None, cond, is_some, refl, sym, ap, ◌∙◌, subst, arith, true≢false, if◌then◌else◌}
+use Rattle.std.proofs.Common.{◌≡◌, ◌≢◌, ◌<◌, ◌≤◌, ◌+◌, ◌*◌, ℕ, Bool, true, false, not, ◌&&◌, nat_eq, nat_lt, List, [], ◌∷◌, length, Option, Some, None, IfSome, cond, is_some, refl, sym, ap, ◌∙◌, subst, arith, true≢false, if◌then◌else◌}
 use Rattle.std.specs.List.{AllByRecursion}
 use Rattle.std.specs.Map.{lookup, remove_entry}
 use Rattle.std.proofs.lemmas.Bool.Decides.{nat_tests}
@@ -16,6 +16,7 @@ use Rattle.world_defs.specs.declared.fault.Fault.TheVariants.{Lose as LoseFault,
 use Rattle.world_defs.specs.World.{WorldState, without_fault}
 use Rattle.world_defs.specs.Step.{fault_on, is_harm, struck_by, fault_strikes, planned_strikes}
 use Rattle.world_defs.specs.EightBits.{IsByteFault, HasByteFaults}
+use Rattle.world_defs.proofs.Kept.{without-all, planned_one}
 use Rattle.ask_laws.proofs.Lone.{IsBare, HasLone, has-lone, take-lone, other-lone, lone-there}
 
 -- a fault on a channel that has a packet alone
@@ -86,14 +87,6 @@ pub record StruckSo (u v : WorldState) (c : ℕ) (held : Held) : Type 0 where
   pub outcome : Outcome u v c held
 
 -- the plan without one fault
-without-all : (P : ℕ × Fault → Type 0) (test : ℕ → Bool) (fs : List (ℕ × Fault)) → AllByRecursion P fs → AllByRecursion P (remove_entry test fs)
-without-all P test [] all = tt
-without-all P test (f ∷ fs) all = by (test f.0) (without-all P test fs all.1)
-  where
-    by : (t : Bool) → AllByRecursion P (remove_entry test fs) → AllByRecursion P (if t then fs else f ∷ remove_entry test fs)
-    by true rest = all.1
-    by false rest = (all.0, rest)
-
 without-none : (test other : ℕ → Bool) (fs : List (ℕ × Fault)) → lookup other fs ≡ None → lookup other (remove_entry test fs) ≡ None
 without-none test other [] e = refl
 without-none test other (f ∷ fs) e = by (test f.0) (other f.0) refl e (without-none test other fs)
@@ -103,13 +96,8 @@ without-none test other (f ∷ fs) e = by (test f.0) (other f.0) refl e (without
     by true false p d rest = d
     by false false p d rest = rw p (rest d)
 
-looked-up : (test : ℕ → Bool) (fs : List (ℕ × Fault)) (x : Fault) → AllByRecursion (λ f. IsByteFault f.1) fs → lookup test fs ≡ Some x → IsByteFault x
-looked-up test [] x all e = cc
-looked-up test (f ∷ fs) x all e = by (test f.0) e (looked-up test fs x all.1)
-  where
-    by : (t : Bool) → cond t (Some f.1) (lookup test fs) ≡ Some x → (lookup test fs ≡ Some x → IsByteFault x) → IsByteFault x
-    by true d rest = let same : f.1 ≡ x = cc in subst IsByteFault same all.0
-    by false d rest = rest d
+looked-up : (number : ℕ) (fs : List (ℕ × Fault)) (x : Fault) → AllByRecursion (λ f. IsByteFault f.1) fs → lookup (nat_eq number) fs ≡ Some x → IsByteFault x
+looked-up number fs x all e = subst (λ o. IfSome o IsByteFault) e (planned_one number fs all)
 
 no-strike : (u : WorldState) → StrikeKeeps u u
 no-strike u = record { net = refl; nodes = refl; clients = refl; adopted = refl; injected = refl; unplanned = λ number e. e; byte_flips = λ all. all; struck = omega arith; harmed = omega arith }
@@ -133,7 +121,7 @@ strike-so u c held f (true, l) planned is fate = record {
     adopted = refl;
     injected = refl;
     unplanned = λ number e. without-none (nat_eq u.injected) (nat_eq number) u.plan e;
-    byte_flips = λ all. without-all (λ x. IsByteFault x.1) (nat_eq u.injected) u.plan all;
+    byte_flips = λ all. without-all u.injected u.plan all;
     struck = omega arith;
     harmed = harm-rises (is_harm f) u.harmed;
   };
@@ -153,7 +141,7 @@ strike-so u c held f (true, l) planned is fate = record {
     by (Fate.missed m) = absurd (true≢false m)
     by (Fate.copied h s n e) = Outcome.intact e (harm-same f u.harmed h)
     by (Fate.taken h s n e) = Outcome.gone e (harm-more f u.harmed h) some
-    by (Fate.spoilt new h s n e d) = Outcome.marred new e (λ all m none. d (looked-up (nat_eq u.injected) u.plan f all planned) m none) (harm-more f u.harmed h) some
+    by (Fate.spoilt new h s n e d) = Outcome.marred new e (λ all m none. d (looked-up u.injected u.plan f all planned) m none) (harm-more f u.harmed h) some
 strike-so u c held f (false, l) planned is fate = record {
   keeps = record {
     net = refl;
@@ -162,7 +150,7 @@ strike-so u c held f (false, l) planned is fate = record {
     adopted = refl;
     injected = refl;
     unplanned = λ number e. without-none (nat_eq u.injected) (nat_eq number) u.plan e;
-    byte_flips = λ all. without-all (λ x. IsByteFault x.1) (nat_eq u.injected) u.plan all;
+    byte_flips = λ all. without-all u.injected u.plan all;
     struck = omega arith;
     harmed = omega arith;
   };

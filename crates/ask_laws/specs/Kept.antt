@@ -6,7 +6,8 @@ use Rattle.world_defs.specs.Asking.{ask}
 use Rattle.world_defs.specs.EightBits.{HasByteFaults}
 use Rattle.ask_laws.specs.Premises.{CanAsk}
 
--- The fabric, each host's table, connections and ports, the clients and the adopted routes are as before; no fault is planned anew; and no count falls.
+-- The fabric, each host's table, connections and ports, the clients and the adopted routes are as before; no fault is
+-- planned anew; and no count falls.
 pub record IsAskKept (w v : WorldState) : Type 0 where
   pub fabric : fabric_of v ≡ fabric_of w
   pub hosts : host_count v ≡ host_count w
@@ -23,8 +24,10 @@ pub record IsAskKept (w v : WorldState) : Type 0 where
 
 -- an ask keeps them
 abbrev pub AskKeeps : Type 0
-AskKeeps = (w : WorldState) (mapper tries : ℕ) (walk : List ℤ) → CanAsk w mapper walk → IsAskKept w (ask mapper tries walk w).world
+AskKeeps = (w : WorldState) (mapper tries : ℕ) (walk : List ℤ) → CanAsk w mapper walk
+    → IsAskKept w (ask mapper tries walk w).world
 
 -- and the mapper can ask again, by another walk
 abbrev pub CanAskAgain : Type 0
-CanAskAgain = (w : WorldState) (mapper tries : ℕ) (walk next : List ℤ) → CanAsk w mapper walk → CanAsk w mapper next → CanAsk (ask mapper tries walk w).world mapper next
+CanAskAgain = (w : WorldState) (mapper tries : ℕ) (walk next : List ℤ) → CanAsk w mapper walk → CanAsk w mapper next
+    → CanAsk (ask mapper tries walk w).world mapper next

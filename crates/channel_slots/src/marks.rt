@@ -6,7 +6,8 @@
 //!   number     0 1 2 .. 63     64 65 .. 127  128 ..
 //! ```
 
-ghost use Rattle.std.specs.Prelude.{◌≡◌, ◌+◌, ◌*◌, ◌/◌, ◌<◌, ◌≤◌, ◌^◌, ℕ, length, replicate, IfOk, IfSome, IfNone, vec_len};
+ghost use Rattle.std.specs.Prelude.{◌≡◌, ◌+◌, ◌*◌, ◌/◌, ◌<◌, ◌≤◌, ◌^◌, ℕ, length, replicate, IfOk, IfSome, IfNone};
+ghost use Rattle.std.specs.Prelude.{vec_len};
 ghost use Rattle.std.specs.Int.{bit_at};
 ghost use Rattle.channel_slots.specs.Marks.{IsWritten, IsNextMark, IsLowestBit, mark_at};
 

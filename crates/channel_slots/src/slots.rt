@@ -1,6 +1,8 @@
 //! The packets in the channels.
 
-ghost use Rattle.std.specs.Prelude.{◌≡◌, ◌<◌, ◌≤◌, length, replicate, not, ◌&&◌, if◌then◌else◌, slice_index_or, slice_set, Option, Some, None, IsSome, is_some, is_none, option_map, option_copied, IfOk, IfSome, IfErr, OnOk, true, false};
+ghost use Rattle.std.specs.Prelude.{◌≡◌, ◌<◌, ◌≤◌, length, replicate, not, ◌&&◌, if◌then◌else◌, slice_index_or};
+ghost use Rattle.std.specs.Prelude.{slice_set, Option, Some, None, IsSome, is_some, is_none, option_map, option_copied};
+ghost use Rattle.std.specs.Prelude.{IfOk, IfSome, IfErr, OnOk, true, false};
 ghost use Rattle.std.specs.List.{list_all};
 ghost use Rattle.packet_defs.specs.Packet.{front_turn, stripped};
 ghost use Rattle.packet_defs.specs.Burst.{flipped, may_flip};
@@ -73,7 +75,8 @@ impl Slot {
     /// The packet after a flip, and whether the flip met it: a marked packet is flipped no more.
     pub fn flip(self, bit: u32, pattern: u8) -> (Slot, bool)
         ensures meets { result.1 ≡ (not self.marked && may_flip self.wire bit pattern) }
-        ensures slot { result.0 ≡ (if result.1 then record { wire = flipped self.wire bit pattern; marked = result.1 } else self) }
+        ensures slot { result.0 ≡ (if result.1 then record { wire = flipped self.wire bit pattern; marked = result.1 }
+            else self) }
     {
         let Slot { packet, marked } = self;
         if marked {

@@ -10,7 +10,8 @@ use Rattle.circ_defs.specs.Circuit.{circuit_answer}
 -- a walk of the whole tree to a depth: the empty one, or a switch node that crosses fewer cables with a turn more
 pub data IsOfTree (depth : ℕ) (j : List Entry) (x : List ℤ) : Type 0 where
   first : x ≡ [] → IsOfTree depth j x
-  onward : (w : List ℤ) (t : ℤ) → IsSwitchNode j w → crossed w < depth → IsOnward t → x ≡ w ++ t ∷ [] → IsOfTree depth j x
+  onward : (w : List ℤ) (t : ℤ) → IsSwitchNode j w → crossed w < depth → IsOnward t → x ≡ w ++ t ∷ []
+      → IsOfTree depth j x
 
 -- The next ask: the least walk of the tree, in the order of walks, that isn't asked.
 pub record IsNextOfTree (depth : ℕ) (j : List Entry) (x : List ℤ) : Type 0 where
@@ -21,7 +22,9 @@ pub record IsNextOfTree (depth : ℕ) (j : List Entry) (x : List ℤ) : Type 0 w
 -- each entry is the circuit answer to the next ask after the entries before it
 pub data IsTreeGrowing (n : Network) (host depth : ℕ) : List Entry → Type 0 where
   nothing : IsTreeGrowing n host depth []
-  more : {j : List Entry} → (before : List Entry) (e : Entry) → IsTreeGrowing n host depth before → IsNextOfTree depth before e.walk → e.answer ≡ circuit_answer n host e.walk → j ≡ before ++ e ∷ [] → IsTreeGrowing n host depth j
+  more : {j : List Entry} → (before : List Entry) (e : Entry) → IsTreeGrowing n host depth before
+      → IsNextOfTree depth before e.walk → e.answer ≡ circuit_answer n host e.walk → j ≡ before ++ e ∷ []
+      → IsTreeGrowing n host depth j
 
 -- every walk of the tree is asked, and its nodes keep the limit
 pub record IsTreeEnded (depth : ℕ) (j : List Entry) : Type 0 where

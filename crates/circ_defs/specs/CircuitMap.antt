@@ -35,14 +35,16 @@ pub record HasNumber (kept : List ℕ) (u : ℕ) : Type 0 where
   pub number : ℕ
   pub there : slice_get kept number ≡ Some u
 
--- A map without the vertices of another that are outside: the others in their order, the switches numbered anew, and the cables between them; all of it is core.
+-- A map without the vertices of another that are outside: the others in their order, the switches numbered anew, and
+-- the cables between them; all of it is core.
 pub record IsWithoutOutside (m k : NetMap) : Type 0 where
   pub kept : List ℕ
   pub each : (v u : ℕ) → slice_get kept v ≡ Some u → (u < length m.vertices) × (is_outside m u ≡ false)
   pub in_order : (v w u x : ℕ) → v < w → slice_get kept v ≡ Some u → slice_get kept w ≡ Some x → u < x
   pub covered : (u : ℕ) → u < length m.vertices → is_outside m u ≡ false → HasNumber kept u
   pub vertices : k.vertices ≡ named 0 (map (host_of_vertex m) kept)
-  pub cabled : (v w : ℕ) (p q : ℤ) → IsCabled k (record { v = v; p = p }) (record { v = w; p = q }) ↔ IsKeptCable m kept v p w q
+  pub cabled : (v w : ℕ) (p q : ℤ) → IsCabled k (record { v = v; p = p })
+      (record { v = w; p = q }) ↔ IsKeptCable m kept v p w q
   pub cables_in_order : AreInOrder k.cables
   pub all_core : k.core ≡ map (λ v. true) k.vertices
 

@@ -1,4 +1,5 @@
--- The core of a mapper's part: what no cable between two switches cuts off from all hosts (after Mainwaring et al., SPAA 1997, in a narrower sense).
+-- The core of a mapper's part: what no cable between two switches cuts off from all hosts (after Mainwaring et al.,
+-- SPAA 1997, in a narrower sense).
 use Rattle.std.specs.Prelude.{◌≡◌, ℕ, List}
 use Rattle.net_defs.specs.declared.vertex.Vertex.{Vertex}
 use Rattle.net_defs.specs.declared.vertex.Vertex.TheVariants.{Host, Switch}
@@ -8,7 +9,8 @@ use Rattle.journal_defs.specs.Part.{IsInPart}
 use Rattle.circ_defs.specs.Ways.{Joins, Step, IsWay, IsOneOf, cables_on}
 use Rattle.circ_defs.specs.PathList.{Ear, IsPathList, cables_of}
 
--- A vertex on a side without hosts: a cable between two switches leads to the side that holds it, and each way from there to a host crosses that cable.
+-- A vertex on a side without hosts: a cable between two switches leads to the side that holds it, and each way from
+-- there to a host crosses that cable.
 pub record IsCutOff (n : Network) (x : Vertex) : Type 0 where
   pub bridge : ℕ
   pub from : End

@@ -6,7 +6,8 @@ use Rattle.net_defs.specs.Network.{Network, far}
 use Rattle.net_defs.specs.Route.{host_port}
 use Rattle.circ_defs.specs.Ways.{Step, IsWay, IsNewWay, IsOneOf, AreAmong, AreNone, IsTouched, IsOwnCable, cables_on}
 
--- A path with its return walk: over the cables before it, across it, and over those after it. (An ear, as graphs without bridges have them.)
+-- A path with its return walk: over the cables before it, across it, and over those after it. (An ear, as graphs
+-- without bridges have them.)
 pub record Ear : Type 0 where
   pub before : List Step
   pub path : List Step
@@ -16,12 +17,15 @@ pub record Ear : Type 0 where
 abbrev pub return_walk : Ear → List Step
 return_walk ear = ear.before ++ (ear.path ++ ear.after)
 
--- Steps after a last one that cross no cable twice, nor one of these, but that the last may lead home over the mapper's own, not straight back.
+-- Steps after a last one that cross no cable twice, nor one of these, but that the last may lead home over the
+-- mapper's own, not straight back.
 abbrev pub CrossesOnce : ℕ → ℕ → List ℕ → List Step → Type 0
 CrossesOnce host last ks [] = Unit {0}
-CrossesOnce host last ks (s ∷ ss) = ((¬ IsOneOf s.cable ks) × CrossesOnce host s.cable (s.cable ∷ ks) ss) ⊎ ((s.into ≡ host_port host) × (s.cable ≢ last) × (ss ≡ []))
+CrossesOnce host last ks (s ∷ ss) = ((¬ IsOneOf s.cable ks) × CrossesOnce host s.cable (s.cable ∷ ks) ss)
+    ⊎ ((s.into ≡ host_port host) × (s.cable ≢ last) × (ss ≡ []))
 
--- A path that is taken after old cables, with a return walk over these and its own, which crosses no cable twice but the mapper's.
+-- A path that is taken after old cables, with a return walk over these and its own, which crosses no cable twice but
+-- the mapper's.
 pub record IsEar (n : Network) (host : ℕ) (old : List ℕ) (ear : Ear) : Type 0 where
   pub start : Vertex
   pub end : Vertex

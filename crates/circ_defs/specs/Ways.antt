@@ -60,7 +60,8 @@ pub record IsTouched (n : Network) (ks : List ℕ) (x : Vertex) : Type 0 where
 abbrev pub IsNewWay : Network → List ℕ → Vertex → List Step → Vertex → Type 0
 IsNewWay n old x [] z = ⊥
 IsNewWay n old x (s ∷ []) z = IsStep n s × (s.out.v ≡ x) × (s.into.v ≡ z)
-IsNewWay n old x (s ∷ t ∷ ss) z = IsStep n s × (s.out.v ≡ x) × (¬ IsTouched n old s.into.v) × IsNewWay n (s.cable ∷ old) s.into.v (t ∷ ss) z
+IsNewWay n old x (s ∷ t ∷ ss) z = IsStep n s × (s.out.v ≡ x) × (¬ IsTouched n old s.into.v)
+    × IsNewWay n (s.cable ∷ old) s.into.v (t ∷ ss) z
 
 -- the mapper's own cable, crossed from its host
 pub record IsOwnCable (n : Network) (host : ℕ) (path : List Step) : Type 0 where
@@ -69,7 +70,8 @@ pub record IsOwnCable (n : Network) (host : ℕ) (path : List Step) : Type 0 whe
   pub joins : Joins n cable (host_port host) into
   pub is : path ≡ record { cable = cable; out = host_port host; into = into } ∷ []
 
--- A path that is taken after old cables: it begins at one of them, ends at one of them or at a host, and crosses other cables, none twice.
+-- A path that is taken after old cables: it begins at one of them, ends at one of them or at a host, and crosses
+-- other cables, none twice.
 pub record IsPath (n : Network) (old : List ℕ) (path : List Step) : Type 0 where
   pub start : Vertex
   pub end : Vertex

@@ -8,7 +8,8 @@ ghost use Rattle.net_defs.specs.declared.place.Place.{Place};
 ghost use Rattle.net_defs.specs.declared.place.Answer.{Answer};
 ghost use Rattle.journal_defs.specs.Fabrics.{one_cable};
 ghost use Rattle.journal_defs.specs.Examples.{one_cable_journal};
-ghost use Rattle.circ_defs.specs.Circuit.{are_apart, cable_of, held_place, circuit_place, circuit_answer, IsCircuitJournal, IsWholeTree};
+ghost use Rattle.circ_defs.specs.Circuit.{are_apart, cable_of, held_place, circuit_place, circuit_answer};
+ghost use Rattle.circ_defs.specs.Circuit.{IsCircuitJournal, IsWholeTree};
 ghost use Rattle.circ_defs.specs.Asking.{IsTreeGrowing, IsTreeEnded};
 ghost use Rattle.circ_defs.specs.Ways.{IsWay, cables_on};
 ghost use Rattle.circ_defs.specs.PathList.{IsPathList, return_walk, cables_of, most_back};
@@ -29,7 +30,8 @@ pub fn circuit_places_of_two_hosts()
     ensures told_of_the_switch { circuit_answer two_hosts 0 [] ≡ Answer.Switch }
 {}
 
-/// A switch that is cabled to itself, behind another: round the loop and back, the walk meets itself on the cable between the two.
+/// A switch that is cabled to itself, behind another: round the loop and back, the walk meets itself on the cable
+/// between the two.
 pub fn circuit_places_of_the_self_cabled_switch()
     ensures round_once { circuit_place self_cabled 0 (pos 3 ∷ pos 1 ∷ []) ≡ Place.Switch 1 2 }
     ensures back_in_truth { place self_cabled 0 (pos 3 ∷ pos 1 ∷ negsuc 1 ∷ []) ≡ Place.Switch 0 3 }

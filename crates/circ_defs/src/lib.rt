@@ -1,4 +1,5 @@
-//! The circuit profile: what a mapper is told where a packet holds each cable that it has crossed, and how far it has to probe there.
+//! The circuit profile: what a mapper is told where a packet holds each cable that it has crossed, and how far it has
+//! to probe there.
 //!
 //! This crate holds definitions alone. It asks nothing and makes no map.
 //!

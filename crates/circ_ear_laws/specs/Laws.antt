@@ -14,11 +14,13 @@ pub record HasReturns (n : Network) (host : ℕ) (ps : List (List Step)) : Type 
 
 -- Paths that were taken one by one have return walks.
 abbrev pub PathsHaveReturns : Type 0
-PathsHaveReturns = (n : Network) (host : ℕ) (ps : List (List Step)) → IsFabric n → ArePaths n host ps → HasReturns n host ps
+PathsHaveReturns = (n : Network) (host : ℕ) (ps : List (List Step)) → IsFabric n → ArePaths n host ps
+    → HasReturns n host ps
 
 -- A return walk of a path list crosses at most one cable more than the list has.
 abbrev pub PathListsAreShort : Type 0
-PathListsAreShort = (n : Network) (host : ℕ) (es : List Ear) → IsPathList n host es → most_back es ≤ suc (length (cables_of es))
+PathListsAreShort = (n : Network) (host : ℕ) (es : List Ear) → IsPathList n host es
+    → most_back es ≤ suc (length (cables_of es))
 
 -- a path list of the core, whose return walks cross at most one cable more than the core has
 pub record HasPathList (n : Network) (host : ℕ) : Type 0 where

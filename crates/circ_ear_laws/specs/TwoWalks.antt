@@ -12,7 +12,8 @@ abbrev pub IsHomeward : ℕ → List Step → Type 0
 IsHomeward host [] = Unit {0}
 IsHomeward host (s ∷ ss) = (s.into ≡ host_port host) × (ss ≡ [])
 
--- Two walks over these cables: one from the mapper's host to the first vertex, one from the second vertex to some host, with no cable in common, and none twice, but the mapper's own.
+-- Two walks over these cables: one from the mapper's host to the first vertex, one from the second vertex to some
+-- host, with no cable in common, and none twice, but the mapper's own.
 pub record HasTwo (n : Network) (host : ℕ) (gs : List ℕ) (x y : Vertex) : Type 0 where
   pub there : List Step
   pub body : List Step
@@ -29,4 +30,6 @@ pub record HasTwo (n : Network) (host : ℕ) (gs : List ℕ) (x y : Vertex) : Ty
 
 -- Any two vertices of paths that were taken one by one have two such walks, in some order.
 abbrev pub PathsHaveTwoWalks : Type 0
-PathsHaveTwoWalks = (n : Network) (host : ℕ) (ps : List (List Step)) (x y : Vertex) → ArePaths n host ps → IsTouched n (cables_in ps) x → IsTouched n (cables_in ps) y → HasTwo n host (cables_in ps) x y ⊎ HasTwo n host (cables_in ps) y x
+PathsHaveTwoWalks = (n : Network) (host : ℕ) (ps : List (List Step)) (x y : Vertex) → ArePaths n host ps
+    → IsTouched n (cables_in ps) x → IsTouched n (cables_in ps) y
+    → HasTwo n host (cables_in ps) x y ⊎ HasTwo n host (cables_in ps) y x

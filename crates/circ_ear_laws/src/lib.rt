@@ -13,8 +13,9 @@
 //!                                                  way round. A path that is new at y and ends there at a host needs the first alone.
 //! ```
 //!
-//! The proof, in the order of its files in `proofs/`: `TwoWalks`, `Inner` (paths read backwards), `Returns`, `Short`, `Onward` (where a
-//! cable of the core is left, there is a next path), `Telltale` (what is of the core can be told), `Existing`.
+//! The proof, in the order of its files in `proofs/`: `TwoWalks`, `Inner` (paths read backwards), `Returns`, `Short`,
+//! `Onward` (where a cable of the core is left, there is a next path), `Telltale` (what is of the core can be told),
+//! `Existing`.
 #![tactic(auto)]
 
 mod laws;

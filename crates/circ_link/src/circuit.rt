@@ -3,7 +3,8 @@
 ghost use Rattle.std.specs.Prelude.{◌≡◌, ◌+◌, ◌<◌, ◌≤◌, ◌||◌, length, take, Some, IfSome};
 ghost use Rattle.std.specs.List.{list_any};
 ghost use Rattle.net_defs.specs.Network.{far, same_end, IsFabric};
-ghost use Rattle.net_defs.specs.Route.{entered_after, host_port, leaving_port, next_exit, exit_at, IsPlaceOf, IsEntered};
+ghost use Rattle.net_defs.specs.Route.{entered_after, host_port, leaving_port, next_exit, exit_at, IsPlaceOf};
+ghost use Rattle.net_defs.specs.Route.{IsEntered};
 ghost use Rattle.circ_defs.specs.Circuit.{circuit_place};
 ghost use Rattle.circ_link.specs.Exits.{exits_of, is_end, back_of, are_free, held_at, held_by_exits};
 
@@ -13,8 +14,9 @@ use port_graph::Fabric;
 // The most exits of a walk: its host's, and one for each of 64 turns.
 const MAX_EXITS: usize = 65;
 
-/// The circuit place of a walk from a host: its place, but `Nothing` where it meets itself. A walk to a host does so where it crosses
-/// a channel twice, a walk to a switch where it crosses a cable twice, in whatever direction. It takes no memory.
+/// The circuit place of a walk from a host: its place, but `Nothing` where it meets itself. A walk to a host does so
+/// where it crosses a channel twice, a walk to a switch where it crosses a cable twice, in whatever direction. It
+/// takes no memory.
 pub fn circ_place(f: &Fabric, host: u16, turns: &[i8]) -> Place
     requires short { length turns.now ≤ 64 }
     ensures place { result ≡ circuit_place f.now host turns.now }

@@ -1,7 +1,7 @@
 //! Circuit links: where a walk ends if its packet holds each cable that it has crossed until it is heard.
 //!
-//! It moves no packet: it looks at a fabric alone, and takes no memory. `specs/Circuit.antt` of `circ_defs` says what a circuit place is;
-//! `specs/Exits.antt` here, by which ends a walk leaves, and when it meets itself.
+//! It moves no packet: it looks at a fabric alone, and takes no memory. `specs/Circuit.antt` of `circ_defs` says what
+//! a circuit place is; `specs/Exits.antt` here, by which ends a walk leaves, and when it meets itself.
 //!
 //! ```text
 //!   host a            switch s               switch t        The walk +3 +1 -2 leaves by port 0 of a, ports 3 of s, 1 and 0 of t.

@@ -12,14 +12,19 @@ use Rattle.circ_defs.specs.PathList.{Ear, most_back}
 use Rattle.circ_defs.specs.Cores.{ArePathsOfCore}
 use Rattle.circ_defs.specs.CircuitMap.{graph_of_inside, graph_of_core, IsCircuitMap, IsMapOfCore}
 
--- Where the depth is at least the most cables in a return walk of a path list, what isn't outside in the map of the whole tree is the core, up to each switch's offset.
+-- Where the depth is at least the most cables in a return walk of a path list, what isn't outside in the map of the
+-- whole tree is the core, up to each switch's offset.
 abbrev pub InsideIsCore : Type 0
-InsideIsCore = (n : Network) (host depth : ℕ) (j : List Entry) (es : List Ear) (m : NetMap) → IsFabric n → IsWholeTree n host depth j → ArePathsOfCore n host es → most_back es ≤ depth → IsQuotient host j m → IsSame (graph_of_inside m) (graph_of_core n host)
+InsideIsCore = (n : Network) (host depth : ℕ) (j : List Entry) (es : List Ear) (m : NetMap) → IsFabric n
+    → IsWholeTree n host depth j → ArePathsOfCore n host es → most_back es ≤ depth → IsQuotient host j m
+    → IsSame (graph_of_inside m) (graph_of_core n host)
 
 -- So the circuit map is the core, up to each switch's offset.
 abbrev pub CircuitMapIsCore : Type 0
-CircuitMapIsCore = (n : Network) (host depth : ℕ) (j : List Entry) (es : List Ear) (k : NetMap) → IsFabric n → ArePathsOfCore n host es → most_back es ≤ depth → IsCircuitMap n host depth j k → IsMapOfCore n host k
+CircuitMapIsCore = (n : Network) (host depth : ℕ) (j : List Entry) (es : List Ear) (k : NetMap) → IsFabric n
+    → ArePathsOfCore n host es → most_back es ≤ depth → IsCircuitMap n host depth j k → IsMapOfCore n host k
 
 -- What a journal found is enough for its map: the entries answered Nothing make no node.
 abbrev pub FoundIsEnough : Type 0
-FoundIsEnough = (host : ℕ) (j : List Entry) (m : NetMap) → IsJournal j → IsQuotient host (found_of j) m → IsQuotient host j m
+FoundIsEnough = (host : ℕ) (j : List Entry) (m : NetMap) → IsJournal j → IsQuotient host (found_of j) m
+    → IsQuotient host j m

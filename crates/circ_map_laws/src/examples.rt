@@ -6,7 +6,8 @@ ghost use Rattle.map_defs.specs.Examples.{two_hosts_map};
 ghost use Rattle.circ_defs.specs.Circuit.{IsWholeTree};
 ghost use Rattle.circ_defs.specs.CircuitMap.{IsCircuitMap, IsMapOfCore};
 
-/// Two hosts at a switch: the whole tree of 31 asks to a depth of five cables, its circuit map, and that this is the core.
+/// Two hosts at a switch: the whole tree of 31 asks to a depth of five cables, its circuit map, and that this is the
+/// core.
 pub fn circuit_map_of_two_hosts()
     ensures tree { IsWholeTree two_hosts 0 5 two_hosts_journal }
     ensures map { IsCircuitMap two_hosts 0 5 two_hosts_journal two_hosts_map }

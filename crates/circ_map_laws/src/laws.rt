@@ -2,8 +2,8 @@
 
 ghost use Rattle.circ_map_laws.specs.Laws.{InsideIsCore, CircuitMapIsCore, FoundIsEnough};
 
-/// Where the depth is at least the most cables in a return walk of a path list, what isn't outside in the map of the whole tree is the
-/// core, up to each switch's offset. So the circuit map is.
+/// Where the depth is at least the most cables in a return walk of a path list, what isn't outside in the map of the
+/// whole tree is the core, up to each switch's offset. So the circuit map is.
 pub fn circuit_map_is_the_core()
     ensures inside { InsideIsCore }
     ensures whole { CircuitMapIsCore }

@@ -18,7 +18,12 @@ in_state s n = record s { state = n }
 
 -- a host among so many, before anything happened
 abbrev pub unused_host : ℕ → ℕ → ServedHost
-unused_host host hosts = record { host = host; hosts = hosts; state = new_node hosts; clients = replicate port_count None }
+unused_host host hosts = record {
+  host = host;
+  hosts = hosts;
+  state = new_node hosts;
+  clients = replicate port_count None;
+}
 
 -- the client of a port
 abbrev pub client_in : ServedHost → ℕ → Option ClientState

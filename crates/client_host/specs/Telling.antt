@@ -2,11 +2,15 @@
 use Rattle.std.specs.Prelude.{ℕ, ◌<◌, ◌^◌, Option, Some, None, if◌then◌else◌}
 use Rattle.gm_defs.specs.Port.{is_bad_size}
 use Rattle.host_ports.specs.declared.ask.PortClose.{PortClose}
-use Rattle.host_ports.specs.declared.ask.PortClose.TheVariants.{NotOpen as NothingToClose, Busy as CloseBusy, Unread as CloseUnread}
+use Rattle.host_ports.specs.declared.ask.PortClose.TheVariants.{NotOpen as NothingToClose, Busy as CloseBusy}
+use Rattle.host_ports.specs.declared.ask.PortClose.TheVariants.{Unread as CloseUnread}
 use Rattle.nic_node.specs.declared.refusal.NodeSend.{NodeSend}
-use Rattle.nic_node.specs.declared.refusal.NodeSend.TheVariants.{NotOpen as NothingSends, TooLong as SendTooLong, BufferShort, NoRoute as SendNoRoute, Spent as SendSpent, NoMemory}
+use Rattle.nic_node.specs.declared.refusal.NodeSend.TheVariants.{NotOpen as NothingSends, TooLong as SendTooLong}
+use Rattle.nic_node.specs.declared.refusal.NodeSend.TheVariants.{BufferShort, NoRoute as SendNoRoute}
+use Rattle.nic_node.specs.declared.refusal.NodeSend.TheVariants.{Spent as SendSpent, NoMemory}
 use Rattle.world_defs.specs.declared.client.ClientCause.{ClientCause}
-use Rattle.world_defs.specs.declared.client.ClientCause.TheVariants.{NotOpen, TooLong, NoRoute, Spent, Busy, Unread, BadSize}
+use Rattle.world_defs.specs.declared.client.ClientCause.TheVariants.{NotOpen, TooLong, NoRoute, Spent, Busy, Unread}
+use Rattle.world_defs.specs.declared.client.ClientCause.TheVariants.{BadSize}
 
 -- a refusal to close, as the client is told of it
 abbrev pub close_cause : PortClose → ClientCause
@@ -24,7 +28,8 @@ IsCounted (CloseUnread n) = n < 2 ^ 32
 abbrev pub size_cause : ℕ → ℕ → Option ClientCause
 size_cause size prio = if is_bad_size size prio then Some BadSize else None
 
--- a message isn't accepted, as the client is told of it: none for want of memory, and for a buffer that is too short, which a client's never is
+-- a message isn't accepted, as the client is told of it: none for want of memory, and for a buffer that is too short,
+-- which a client's never is
 abbrev pub send_cause : NodeSend → Option ClientCause
 send_cause NothingSends = Some NotOpen
 send_cause SendTooLong = Some TooLong

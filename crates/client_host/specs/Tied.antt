@@ -29,8 +29,8 @@ abbrev pub IsEventFrom : ℕ → PortEvent → Type 0
 IsEventFrom hosts (Sent token buffer) = Unit {0}
 IsEventFrom hosts (Received token buffer from sport prio len) = from < hosts
 
--- A client is the one of an open port: of this host and of the port's number, it can retire as many tokens as the port has, each token has one owner,
--- and each message that waits came from one of the hosts.
+-- A client is the one of an open port: of this host and of the port's number, it can retire as many tokens as the
+-- port has, each token has one owner, and each message that waits came from one of the hosts.
 pub record IsServing (host hosts port : ℕ) (p : PortState) (c : OpenClient) : Type 0 where
   pub own_host : c.host ≡ host
   pub own_port : c.port ≡ port

@@ -20,7 +20,8 @@ use std::alloc::{AllocError, Global};
 use world_defs::Said;
 
 impl ClientHost {
-    /// Opens a port, where it isn't open: its client holds so many send tokens and receive tokens. Want of memory changes nothing.
+    /// Opens a port, where it isn't open: its client holds so many send tokens and receive tokens. Want of memory
+    /// changes nothing.
     pub fn begin(
         &mut self,
         alloc: Global,
@@ -29,15 +30,18 @@ impl ClientHost {
         recvs: u16,
     ) -> Result<Said, AllocError>
         requires { port < 8 }
-        ensures said { IfOk result (λ said. said ≡ (begun self.old.state port sends recvs (client_in self.old port)).said) }
-        ensures after { OnOk result (self.new ≡ after_call self.old port (begun self.old.state port sends recvs (client_in self.old port))) }
+        ensures said { IfOk result (λ said.
+            said ≡ (begun self.old.state port sends recvs (client_in self.old port)).said) }
+        ensures after { OnOk result (self.new ≡ after_call self.old port
+            (begun self.old.state port sends recvs (client_in self.old port))) }
         ensures unchanged { OnErr result (self.new ≡ self.old) }
     {
         let slot = &mut self.clients[usize::from(port)];
         begin(alloc, &mut self.node, slot, port, sends, recvs)
     }
 
-    /// Closes an open port where no send is unfinished and no event waits: its provided tokens come back, and all of its tokens end.
+    /// Closes an open port where no send is unfinished and no event waits: its provided tokens come back, and all of
+    /// its tokens end.
     pub fn close(&mut self, port: u8) -> Said
         requires { port < 8 }
         ensures said { result ≡ (closed self.old.state port (client_in self.old port)).said }
@@ -48,7 +52,8 @@ impl ClientHost {
         close(alloc, &mut self.node, slot, port)
     }
 
-    /// The client provides the receive token that it has held longest, with a buffer of zero bytes. Want of memory changes nothing.
+    /// The client provides the receive token that it has held longest, with a buffer of zero bytes. Want of memory
+    /// changes nothing.
     pub fn provide(
         &mut self,
         alloc: Global,
@@ -57,16 +62,18 @@ impl ClientHost {
         prio: u8,
     ) -> Result<Said, AllocError>
         requires { port < 8 }
-        ensures said { IfOk result (λ said. said ≡ (provided_by self.old.state port size prio (client_in self.old port)).said) }
-        ensures after { OnOk result (self.new ≡ after_call self.old port (provided_by self.old.state port size prio (client_in self.old port))) }
+        ensures said { IfOk result (λ said.
+            said ≡ (provided_by self.old.state port size prio (client_in self.old port)).said) }
+        ensures after { OnOk result (self.new ≡ after_call self.old port
+            (provided_by self.old.state port size prio (client_in self.old port))) }
         ensures unchanged { OnErr result (self.new ≡ self.old) }
     {
         let slot = &mut self.clients[usize::from(port)];
         provide(alloc, &mut self.node, slot, port, size, prio)
     }
 
-    /// The client sends so many bytes with the send token that it has held longest: byte i is the seed plus i, modulo 256. Want of memory
-    /// changes nothing.
+    /// The client sends so many bytes with the send token that it has held longest: byte i is the seed plus i, modulo
+    /// 256. Want of memory changes nothing.
     pub fn send(
         &mut self,
         alloc: Global,
@@ -81,8 +88,10 @@ impl ClientHost {
         requires dest { dest < self.old.hosts }
         requires dport { dport < 8 }
         requires prio { prio < 2 }
-        ensures said { IfOk result (λ said. said ≡ (sent_by self.old.state (wanted port dest dport prio len seed) (client_in self.old port)).said) }
-        ensures after { OnOk result (self.new ≡ after_call self.old port (sent_by self.old.state (wanted port dest dport prio len seed) (client_in self.old port))) }
+        ensures said { IfOk result (λ said.
+            said ≡ (sent_by self.old.state (wanted port dest dport prio len seed) (client_in self.old port)).said) }
+        ensures after { OnOk result (self.new ≡ after_call self.old port
+            (sent_by self.old.state (wanted port dest dport prio len seed) (client_in self.old port))) }
         ensures unchanged { OnErr result (self.new ≡ self.old) }
     {
         let slot = &mut self.clients[usize::from(port)];
@@ -114,7 +123,8 @@ impl ClientHost {
         minted_of(&self.clients[usize::from(port)])
     }
 
-    /// The place of a send token or of a receive token of a port, by its number. None where the client has it, or the port isn't open.
+    /// The place of a send token or of a receive token of a port, by its number. None where the client has it, or the
+    /// port isn't open.
     pub fn token_place(&self, port: u8, send: bool, number: u16) -> Option<TokenPlace>
         requires { port < 8 }
         ensures { result ≡ place_at (port_at self.now.state port) send number }

@@ -1,9 +1,11 @@
 //! One host with its clients, and all that is no call of a client.
 
-ghost use Rattle.std.specs.Prelude.{◌≡◌, ◌<◌, ◌≤◌, ℕ, nat_lt, length, replicate, true, is_some, if◌then◌else◌, Some, None, option_map, IfOk, OnOk, OnErr};
+ghost use Rattle.std.specs.Prelude.{◌≡◌, ◌<◌, ◌≤◌, ℕ, nat_lt, length, replicate, true, is_some, if◌then◌else◌, Some};
+ghost use Rattle.std.specs.Prelude.{None, option_map, IfOk, OnOk, OnErr};
 ghost use Rattle.mapping_defs.specs.Mapping.{is_part};
 ghost use Rattle.world_defs.specs.Table.{active_epoch};
-ghost use Rattle.world_defs.specs.Node.{StagedProbe, StagedPart, port_count, to_send, packet_for, has_staged, given_up, node_expired, unacknowledged_to, peer_at};
+ghost use Rattle.world_defs.specs.Node.{StagedProbe, StagedPart, port_count, to_send, packet_for, has_staged, given_up};
+ghost use Rattle.world_defs.specs.Node.{node_expired, unacknowledged_to, peer_at};
 ghost use Rattle.world_defs.specs.Hearing.{hear};
 ghost use Rattle.nic_node.specs.Sending.{once_sent};
 ghost use Rattle.client_host.specs.Held.{unused_host, in_state};
@@ -18,7 +20,8 @@ use std::marker::Model;
 // How many ports a host has.
 const PORTS: usize = 8;
 
-/// One host among others, with the clients of its ports. Contracts see the host of the world and the tokens that each client holds.
+/// One host among others, with the clients of its ports. Contracts see the host of the world and the tokens that each
+/// client holds.
 ///
 /// It must be spent, by [`ClientHost::end`].
 pub struct ClientHost {
@@ -69,10 +72,12 @@ impl ClientHost {
         self.node.hosts()
     }
 
-    /// A packet reached the host: what was made of it is exactly what the definition makes of its bytes. Want of memory changes nothing.
+    /// A packet reached the host: what was made of it is exactly what the definition makes of its bytes. Want of
+    /// memory changes nothing.
     pub fn on_packet(&mut self, alloc: Global, p: &Packet) -> Result<Arrival, AllocError>
         ensures heard { IfOk result (λ arrival. arrival ≡ (hear self.old.host self.old.hosts self.old.state p.now).0) }
-        ensures after { OnOk result (self.new ≡ in_state self.old (hear self.old.host self.old.hosts self.old.state p.now).1) }
+        ensures after { OnOk result (self.new ≡ in_state self.old
+            (hear self.old.host self.old.hosts self.old.state p.now).1) }
         ensures unchanged { OnErr result (self.new ≡ self.old) }
     {
         self.node.on_packet(alloc, p)
@@ -86,7 +91,8 @@ impl ClientHost {
         self.node.ask(walk, looped);
     }
 
-    /// Stages a part of a table, in the place of what was staged before; it travels by a route. The part is by the rules of its body.
+    /// Stages a part of a table, in the place of what was staged before; it travels by a route. The part is by the
+    /// rules of its body.
     pub fn part(&mut self, part: RoutePart, by: Walk)
         requires { is_part part ≡ true }
         ensures { self.new ≡ in_state self.old (record self.old.state { staged = Some (StagedPart part by) }) }
@@ -102,7 +108,15 @@ impl ClientHost {
         self.node.take_table(table);
     }
 
-    /// Drops the staged probe or part, the reply to a probe and the acknowledgement of a part. False exactly where none of them stood.
+    /// Whether a probe, a part, the reply to a probe or the acknowledgement of a part is staged.
+    pub fn has_staged(&self) -> bool
+        ensures { result ≡ has_staged self.now.state }
+    {
+        self.node.has_staged()
+    }
+
+    /// Drops the staged probe or part, the reply to a probe and the acknowledgement of a part. False exactly where
+    /// none of them stood.
     pub fn give_up(&mut self) -> bool
         ensures told { result ≡ has_staged self.old.state }
         ensures after { self.new ≡ in_state self.old (given_up self.old.state) }
@@ -117,11 +131,13 @@ impl ClientHost {
         self.node.has_part_ack()
     }
 
-    /// What a peer didn't acknowledge is sent again. False exactly where nothing is unacknowledged, and then nothing changes.
+    /// What a peer didn't acknowledge is sent again. False exactly where nothing is unacknowledged, and then nothing
+    /// changes.
     pub fn expire(&mut self, peer: u16) -> bool
         requires { peer < self.old.hosts }
         ensures told { result ≡ nat_lt 0 (unacknowledged_to self.old.state peer) }
-        ensures after { self.new ≡ in_state self.old (if result then node_expired self.old.state peer else self.old.state) }
+        ensures after { self.new ≡ in_state self.old (if result then node_expired self.old.state peer
+            else self.old.state) }
     {
         self.node.expire(peer)
     }
@@ -164,10 +180,11 @@ impl ClientHost {
         self.node.has_to_send()
     }
 
-    /// The packet of what it sends first, injected under a number. None exactly where it has nothing to send. It stays as it is: see
-    /// [`ClientHost::staged`].
+    /// The packet of what it sends first, injected under a number. None exactly where it has nothing to send. It
+    /// stays as it is: see [`ClientHost::staged`].
     pub fn stage(&self, alloc: Global, number: u64) -> Result<Option<Packet>, AllocError>
-        ensures { IfOk result (λ packet. packet ≡ option_map (packet_for self.now.host number) (to_send self.now.host self.now.state)) }
+        ensures { IfOk result (λ packet. packet ≡ option_map (packet_for self.now.host number)
+            (to_send self.now.host self.now.state)) }
     {
         self.node.stage(alloc, number)
     }

@@ -1,8 +1,9 @@
 //! One host with the clients of its ports.
 //!
-//! It moves no packet and knows no other host. Here a client makes its calls: it takes its tokens and its buffers, hands them to the
-//! host's port, and takes them back. `specs/Client.antt` of `world_defs` says what each call does; `specs/Held.antt` says what a contract
-//! sees, and `specs/Tied.antt` what ties a port to its client: each token has one owner.
+//! It moves no packet and knows no other host. Here a client makes its calls: it takes its tokens and its buffers,
+//! hands them to the host's port, and takes them back. `specs/Client.antt` of `world_defs` says what each call does;
+//! `specs/Held.antt` says what a contract sees, and `specs/Tied.antt` what ties a port to its client: each token has
+//! one owner.
 //!
 //! ```text
 //!             open: mint     provide, send: token and buffer

@@ -25,7 +25,8 @@ pub(crate) fn begin(
     requires port { port < 8 }
     requires tied { IsTied node.old.host node.old.hosts port (port_at node.old.state port) slot.old }
     ensures said { IfOk result (λ said. said ≡ (begun node.old.state port sends recvs (held_of slot.old)).said) }
-    ensures node { OnOk result (node.new ≡ in_state node.old (begun node.old.state port sends recvs (held_of slot.old)).node) }
+    ensures node { OnOk result (node.new ≡ in_state node.old
+        (begun node.old.state port sends recvs (held_of slot.old)).node) }
     ensures client { OnOk result (slot.new ≡ opened_where node.old.host port sends recvs slot.old) }
     ensures node_stays { OnErr result (node.new ≡ node.old) }
     ensures client_stays { OnErr result (slot.new ≡ slot.old) }

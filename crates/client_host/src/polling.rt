@@ -32,7 +32,8 @@ fn poll_open(node: &mut NicNode, client: &mut Client, port: u8) -> Said
     requires tied { IsTied node.old.host node.old.hosts port (port_at node.old.state port) (Some client.old) }
     ensures said { result ≡ (polled_by node.old.state port (Some client.old.held)).said }
     ensures node { node.new ≡ in_state node.old (polled_by node.old.state port (Some client.old.held)).node }
-    ensures client { Some client.new ≡ now_holding (Some client.old) (polled_by node.old.state port (Some client.old.held)).client }
+    ensures client { Some client.new ≡ now_holding (Some client.old)
+        (polled_by node.old.state port (Some client.old.held)).client }
 {
     match node.poll(port) {
         Ok(Some(event)) => take_back(client, event),

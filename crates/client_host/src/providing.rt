@@ -1,6 +1,7 @@
 //! A receive token is provided with a buffer.
 
-ghost use Rattle.std.specs.Prelude.{◌≡◌, ◌<◌, ◌≤◌, is_some, true, false, Some, None, option_map, IfOk, IfErr, OnOk, OnErr, MatchResult, ◌||◌};
+ghost use Rattle.std.specs.Prelude.{◌≡◌, ◌<◌, ◌≤◌, is_some, true, false, Some, None, option_map, IfOk, IfErr, OnOk};
+ghost use Rattle.std.specs.Prelude.{OnErr, MatchResult, ◌||◌};
 ghost use Rattle.std.specs.Option.{ForSome};
 ghost use Rattle.gm_defs.specs.Token.{place_of_recv};
 ghost use Rattle.gm_defs.specs.Port.{is_bad_size, provided_with};
@@ -19,8 +20,8 @@ use reg_mem::register;
 use std::alloc::{AllocError, Global};
 use world_defs::{ClientCause, Said};
 
-/// The client provides the receive token that it has held longest: refused where the port isn't open, where the client holds no such token,
-/// and then for its size or priority.
+/// The client provides the receive token that it has held longest: refused where the port isn't open, where the
+/// client holds no such token, and then for its size or priority.
 pub(crate) fn provide(
     alloc: Global,
     node: &mut NicNode,
@@ -32,8 +33,10 @@ pub(crate) fn provide(
     requires port { port < 8 }
     requires tied { IsTied node.old.host node.old.hosts port (port_at node.old.state port) slot.old }
     ensures said { IfOk result (λ said. said ≡ (provided_by node.old.state port size prio (held_of slot.old)).said) }
-    ensures node { OnOk result (node.new ≡ in_state node.old (provided_by node.old.state port size prio (held_of slot.old)).node) }
-    ensures client { OnOk result (slot.new ≡ now_holding slot.old (provided_by node.old.state port size prio (held_of slot.old)).client) }
+    ensures node { OnOk result (node.new ≡ in_state node.old
+        (provided_by node.old.state port size prio (held_of slot.old)).node) }
+    ensures client { OnOk result (slot.new ≡ now_holding slot.old
+        (provided_by node.old.state port size prio (held_of slot.old)).client) }
     ensures node_stays { OnErr result (node.new ≡ node.old) }
     ensures client_stays { OnErr result (slot.new ≡ slot.old) }
 {
@@ -54,9 +57,12 @@ fn provide_open(
 ) -> Result<Said, AllocError>
     requires port { port < 8 }
     requires tied { IsTied node.old.host node.old.hosts port (port_at node.old.state port) (Some client.old) }
-    ensures said { IfOk result (λ said. said ≡ (provided_by node.old.state port size prio (Some client.old.held)).said) }
-    ensures node { OnOk result (node.new ≡ in_state node.old (provided_by node.old.state port size prio (Some client.old.held)).node) }
-    ensures client { OnOk result (Some client.new ≡ now_holding (Some client.old) (provided_by node.old.state port size prio (Some client.old.held)).client) }
+    ensures said { IfOk result (λ said.
+        said ≡ (provided_by node.old.state port size prio (Some client.old.held)).said) }
+    ensures node { OnOk result (node.new ≡ in_state node.old
+        (provided_by node.old.state port size prio (Some client.old.held)).node) }
+    ensures client { OnOk result (Some client.new
+        ≡ now_holding (Some client.old) (provided_by node.old.state port size prio (Some client.old.held)).client) }
     ensures node_stays { OnErr result (node.new ≡ node.old) }
     ensures client_stays { OnErr result (client.new ≡ client.old) }
 {
@@ -72,7 +78,8 @@ fn provide_open(
     }
 }
 
-// A token is provided with a new buffer. It comes back where that is refused, with the cause, or with none for want of memory.
+// A token is provided with a new buffer. It comes back where that is refused, with the cause, or with none for want
+// of memory.
 fn provide_token(
     alloc: Global,
     node: &mut NicNode,
@@ -88,7 +95,10 @@ fn provide_token(
     requires free { ForSome (port_at node.old.state port) (λ p. place_of_recv p token.number ≡ None) }
     ensures refused { MatchResult result (λ _. size_cause size prio ≡ None) (λ e. e.1 ≡ size_cause size prio) }
     ensures number { IfOk result (λ n. n ≡ token.number) }
-    ensures provided { OnOk result (node.new ≡ in_state node.old (with_port node.old.state port (option_map (λ p. provided_with p (record { token = token.number; size = size; prio = prio; buffer = empty_buffer size })) (port_at node.old.state port)))) }
+    ensures provided { OnOk result (node.new ≡ in_state node.old
+        (with_port node.old.state port (option_map (λ p.
+        provided_with p (record { token = token.number; size = size; prio = prio; buffer = empty_buffer size }))
+        (port_at node.old.state port)))) }
     ensures handed_back { IfErr result (λ e. e.0 ≡ token) }
     ensures unchanged { OnErr result (node.new ≡ node.old) }
 {

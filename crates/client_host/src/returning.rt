@@ -6,7 +6,8 @@ ghost use Rattle.gm_defs.specs.Token.{sent_tokens, received_tokens};
 ghost use Rattle.gm_port.specs.Held.{event_of};
 ghost use Rattle.world_defs.specs.Sound.{IsEachOnce};
 ghost use Rattle.port_client.specs.Held.{with_sends, with_recvs};
-ghost use Rattle.client_host.specs.Back.{numbers_with, AreOwnWith, IsOwnEvent, HasRoomFor, with_event, event_said, events_of};
+ghost use Rattle.client_host.specs.Back.{numbers_with, AreOwnWith, IsOwnEvent, HasRoomFor, with_event, event_said};
+ghost use Rattle.client_host.specs.Back.{events_of};
 
 use gm_defs::Blob;
 use gm_tokens::{RecvToken, SendToken};
@@ -45,8 +46,8 @@ pub(crate) fn take_back_recvs(client: &mut Client, provided: Vec<(RecvToken, Reg
     rest.destroy_empty();
 }
 
-/// Takes the token of an event back behind those that the client holds, and says what the event was. The buffer of a message is cut to the
-/// message, in its place. Takes no memory.
+/// Takes the token of an event back behind those that the client holds, and says what the event was. The buffer of a
+/// message is cut to the message, in its place. Takes no memory.
 pub(crate) fn take_back(client: &mut Client, event: PortEvent) -> Said
     requires own { IsOwnEvent client.old.host client.old.port event }
     requires room { HasRoomFor client.old (event_of event) }
@@ -86,9 +87,13 @@ pub(crate) fn take_back(client: &mut Client, event: PortEvent) -> Said
 /// Takes the tokens of events back behind those that the client holds.
 pub(crate) fn take_back_events(client: &mut Client, events: Vec<PortEvent>)
     requires own { AllByRecursion (IsOwnEvent client.old.host client.old.port) events.items }
-    requires send_room { length client.old.held.sends + length (sent_tokens (events_of events.items)) ≤ client.old.minted_sends }
-    requires recv_room { length client.old.held.recvs + length (received_tokens (events_of events.items)) ≤ client.old.minted_recvs }
-    ensures { client.new ≡ with_recvs (with_sends client.old (client.old.held.sends ++ sent_tokens (events_of events.items))) (client.old.held.recvs ++ received_tokens (events_of events.items)) }
+    requires send_room { length client.old.held.sends
+        + length (sent_tokens (events_of events.items)) ≤ client.old.minted_sends }
+    requires recv_room { length client.old.held.recvs
+        + length (received_tokens (events_of events.items)) ≤ client.old.minted_recvs }
+    ensures { client.new ≡ with_recvs (with_sends client.old
+        (client.old.held.sends ++ sent_tokens (events_of events.items)))
+        (client.old.held.recvs ++ received_tokens (events_of events.items)) }
 {
     let mut rest = VecDeque::from_vec(events);
     while let Some(event) = rest.pop_front() {

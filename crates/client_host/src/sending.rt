@@ -1,7 +1,9 @@
 //! A message is sent.
 
-ghost use Rattle.std.specs.Prelude.{◌≡◌, ◌⊎◌, ◌<◌, ◌≤◌, ◌+◌, ◌%◌, is_some, true, Some, None, option_map, IfOk, IfErr, OnOk, OnErr, MatchResult};
+ghost use Rattle.std.specs.Prelude.{◌≡◌, ◌⊎◌, ◌<◌, ◌≤◌, ◌+◌, ◌%◌, is_some, true, Some, None, option_map, IfOk, IfErr};
+ghost use Rattle.std.specs.Prelude.{OnOk, OnErr, MatchResult};
 ghost use Rattle.std.specs.Option.{ForSome};
+ghost use Rattle.gm_defs.specs.Body.{message_limit};
 ghost use Rattle.gm_defs.specs.Token.{place_of_send};
 ghost use Rattle.gm_defs.specs.Port.{sent_with};
 ghost use Rattle.gm_tokens.specs.Token.{token_at};
@@ -14,18 +16,15 @@ ghost use Rattle.client_host.specs.Telling.{send_cause};
 ghost use Rattle.client_host.specs.Tied.{held_of, now_holding, IsTied};
 
 use crate::telling::refused;
-use gm_tokens::SendToken;
+use gm_tokens::{SendToken, is_too_long};
 use nic_node::{NicNode, NodeSend, SendAsk};
 use port_client::Client;
 use reg_mem::{deregister, register};
 use std::alloc::{AllocError, Global};
 use world_defs::{ClientCause, Said};
 
-// The most bytes of a message.
-const MESSAGE_LIMIT: u32 = 1_016;
-
-/// The client sends with the send token that it has held longest: refused where the port isn't open, where the client holds no such token,
-/// and then for the message.
+/// The client sends with the send token that it has held longest: refused where the port isn't open, where the client
+/// holds no such token, and then for the message.
 pub(crate) fn send(
     alloc: Global,
     node: &mut NicNode,
@@ -39,9 +38,12 @@ pub(crate) fn send(
     requires dest { a.dest < node.old.hosts }
     requires dport { a.dport < 8 }
     requires prio { a.prio < 2 }
-    ensures said { IfOk result (λ said. said ≡ (sent_by node.old.state (wanted port a.dest a.dport a.prio a.len seed) (held_of slot.old)).said) }
-    ensures node { OnOk result (node.new ≡ in_state node.old (sent_by node.old.state (wanted port a.dest a.dport a.prio a.len seed) (held_of slot.old)).node) }
-    ensures client { OnOk result (slot.new ≡ now_holding slot.old (sent_by node.old.state (wanted port a.dest a.dport a.prio a.len seed) (held_of slot.old)).client) }
+    ensures said { IfOk result (λ said.
+        said ≡ (sent_by node.old.state (wanted port a.dest a.dport a.prio a.len seed) (held_of slot.old)).said) }
+    ensures node { OnOk result (node.new ≡ in_state node.old
+        (sent_by node.old.state (wanted port a.dest a.dport a.prio a.len seed) (held_of slot.old)).node) }
+    ensures client { OnOk result (slot.new ≡ now_holding slot.old
+        (sent_by node.old.state (wanted port a.dest a.dport a.prio a.len seed) (held_of slot.old)).client) }
     ensures node_stays { OnErr result (node.new ≡ node.old) }
     ensures client_stays { OnErr result (slot.new ≡ slot.old) }
 {
@@ -65,9 +67,13 @@ fn send_open(
     requires dest { a.dest < node.old.hosts }
     requires dport { a.dport < 8 }
     requires prio { a.prio < 2 }
-    ensures said { IfOk result (λ said. said ≡ (sent_by node.old.state (wanted port a.dest a.dport a.prio a.len seed) (Some client.old.held)).said) }
-    ensures node { OnOk result (node.new ≡ in_state node.old (sent_by node.old.state (wanted port a.dest a.dport a.prio a.len seed) (Some client.old.held)).node) }
-    ensures client { OnOk result (Some client.new ≡ now_holding (Some client.old) (sent_by node.old.state (wanted port a.dest a.dport a.prio a.len seed) (Some client.old.held)).client) }
+    ensures said { IfOk result (λ said.
+        said ≡ (sent_by node.old.state (wanted port a.dest a.dport a.prio a.len seed) (Some client.old.held)).said) }
+    ensures node { OnOk result (node.new ≡ in_state node.old
+        (sent_by node.old.state (wanted port a.dest a.dport a.prio a.len seed) (Some client.old.held)).node) }
+    ensures client { OnOk result (Some client.new
+        ≡ now_holding (Some client.old) (sent_by node.old.state (wanted port a.dest a.dport a.prio a.len seed)
+        (Some client.old.held)).client) }
     ensures node_stays { OnErr result (node.new ≡ node.old) }
     ensures client_stays { OnErr result (client.new ≡ client.old) }
 {
@@ -83,7 +89,8 @@ fn send_open(
     }
 }
 
-// A token sends the message of a new buffer. It comes back where that is refused, with the cause, or with none for want of memory.
+// A token sends the message of a new buffer. It comes back where that is refused, with the cause, or with none for
+// want of memory.
 fn send_token(
     alloc: Global,
     node: &mut NicNode,
@@ -100,13 +107,19 @@ fn send_token(
     requires dest { a.dest < node.old.hosts }
     requires dport { a.dport < 8 }
     requires prio { a.prio < 2 }
-    ensures refused { MatchResult result (λ _. send_refusal node.old.state (wanted port a.dest a.dport a.prio a.len seed) ≡ None) (λ e. (e.1 ≡ send_refusal node.old.state (wanted port a.dest a.dport a.prio a.len seed)) ⊎ (e.1 ≡ None)) }
+    ensures refused { MatchResult result (λ _. send_refusal node.old.state
+        (wanted port a.dest a.dport a.prio a.len seed) ≡ None) (λ e.
+        (e.1 ≡ send_refusal node.old.state (wanted port a.dest a.dport a.prio a.len seed)) ⊎ (e.1 ≡ None)) }
     ensures number { IfOk result (λ n. n ≡ token.number) }
-    ensures sent { OnOk result (node.new ≡ in_state node.old (with_port (with_peer node.old.state a.dest (with_message (peer_at node.old.state a.dest) (wanted_message (wanted port a.dest a.dport a.prio a.len seed)) (record { port = port; token = token.number }))) port (option_map (λ p. sent_with p token.number (client_bytes a.len seed)) (port_at node.old.state port)))) }
+    ensures sent { OnOk result (node.new ≡ in_state node.old
+        (with_port (with_peer node.old.state a.dest (with_message (peer_at node.old.state a.dest)
+        (wanted_message (wanted port a.dest a.dport a.prio a.len seed))
+        (record { port = port; token = token.number }))) port
+        (option_map (λ p. sent_with p token.number (client_bytes a.len seed)) (port_at node.old.state port)))) }
     ensures handed_back { IfErr result (λ e. e.0 ≡ token) }
     ensures unchanged { OnErr result (node.new ≡ node.old) }
 {
-    if a.len > MESSAGE_LIMIT {
+    if is_too_long(a.len) {
         return Err((token, Some(ClientCause::TooLong)));
     }
     match client_bytes(alloc, a.len, seed) {
@@ -126,7 +139,7 @@ fn send_token(
 
 // The bytes of a client's message: the first is the seed, and each is one more than the one before it, modulo 256.
 fn client_bytes(alloc: Global, len: u32, seed: u8) -> Result<Vec<u8>, AllocError>
-    requires { len ≤ 1016 }
+    requires { len ≤ message_limit }
     ensures { IfOk result (λ v. v.items ≡ client_bytes len seed) }
 {
     let mut bytes = Vec::with_capacity(alloc, len as usize)?;
@@ -138,7 +151,7 @@ fn client_bytes(alloc: Global, len: u32, seed: u8) -> Result<Vec<u8>, AllocError
 
 // A byte of a client's message.
 fn byte_at(seed: u8, i: u32) -> u8
-    requires { i < 1016 }
+    requires { i < message_limit }
     ensures { result ≡ (seed + i) % 256 }
 {
     ((u32::from(seed) + i) % 256) as u8

@@ -1,3 +1,5 @@
+pub mod Covering
+pub mod Cutting
 pub mod Marking
 pub mod Sides
 pub mod Spreading

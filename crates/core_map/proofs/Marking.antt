@@ -11,7 +11,7 @@ use Rattle.journal_defs.proofs.Reach.{among-parts, among-self}
 use Rattle.map_defs.specs.declared.vertex.MapCable.{MapCable}
 use Rattle.map_defs.specs.NetMap.{NetMap, IsMap, host_of_vertex, is_switch_vertex}
 use Rattle.map_defs.specs.Core.{side, is_hostless, hostless_side, cut_off, cut_off_by, is_switch_bridge, is_outside, core_of}
-use Rattle.core_map.specs.Marks.{marks_of, either, outside_of}
+use Rattle.core_map.specs.Marks.{marks_of, either, outside_of, outside_by}
 use Rattle.core_map.proofs.Sides.{map-at, long-numbers, side-low}
 
 -- marks of either of two lists are those of both together
@@ -19,7 +19,7 @@ either-map : (p q : ℕ → Bool) (ns : List ℕ) → either (map p ns) (map q n
 either-map p q [] = refl
 either-map p q (n ∷ ns) = ap (λ l. (p n || q n) ∷ l) (either-map p q ns)
 
-among-both : (xs ys : List ℕ) (u : ℕ) → is_among nat_eq (xs ++ ys) u ≡ (is_among nat_eq xs u || is_among nat_eq ys u)
+pub among-both : (xs ys : List ℕ) (u : ℕ) → is_among nat_eq (xs ++ ys) u ≡ (is_among nat_eq xs u || is_among nat_eq ys u)
 among-both [] ys u = refl
 among-both (x ∷ xs) ys u = by (nat_eq u x) (among-both xs ys u)
   where
@@ -76,7 +76,7 @@ either-long (b ∷ bs) [] l = absurd (omega arith)
 either-long (b ∷ bs) (c ∷ cs) l = ap suc (either-long bs cs (omega arith))
 
 -- a marked vertex
-marked-among : (m : NetMap) (vs : List ℕ) (u : ℕ) → get_or (marks_of m vs) u false ≡ true → is_among nat_eq vs u ≡ true
+pub marked-among : (m : NetMap) (vs : List ℕ) (u : ℕ) → get_or (marks_of m vs) u false ≡ true → is_among nat_eq vs u ≡ true
 marked-among m vs u e = by (cases_order u (length m.vertices))
   where
     past : (f : ℕ → Bool) (n k : ℕ) → n ≤ k → get_or (map f (numbers_below n)) k false ≡ false
@@ -93,7 +93,7 @@ marked-among m vs u e = by (cases_order u (length m.vertices))
     by (inr (inr l)) = absurd (false≢true (sym (past (is_among nat_eq vs) (length m.vertices) u (let h : length m.vertices ≤ u = omega arith in h)) ∙ e))
 
 -- a list without hosts, by its marks
-any-none : (test : ℕ → Bool) (vs ws : List ℕ) → ((u : ℕ) → is_among nat_eq vs u ≡ true → is_among nat_eq ws u ≡ true) → ((u : ℕ) → is_among nat_eq ws u ≡ true → test u ≡ false) → list_any test vs ≡ false
+pub any-none : (test : ℕ → Bool) (vs ws : List ℕ) → ((u : ℕ) → is_among nat_eq vs u ≡ true → is_among nat_eq ws u ≡ true) → ((u : ℕ) → is_among nat_eq ws u ≡ true → test u ≡ false) → list_any test vs ≡ false
 any-none test [] ws sub none = refl
 any-none test (v ∷ vs) ws sub none =
     by (test v) (none v (sub v (among-self nat_eq Decides-eqb v vs))) (any-none test vs ws (λ u e. sub u (more u e)) none)
@@ -109,7 +109,7 @@ any-none test (v ∷ vs) ws sub none =
     by true e rest = absurd (true≢false e)
     by false e rest = rest
 
-any-some : (test : ℕ → Bool) (vs : List ℕ) (u : ℕ) → is_among nat_eq vs u ≡ true → test u ≡ true → list_any test vs ≡ true
+pub any-some : (test : ℕ → Bool) (vs : List ℕ) (u : ℕ) → is_among nat_eq vs u ≡ true → test u ≡ true → list_any test vs ≡ true
 any-some test [] u e t = absurd (false≢true e)
 any-some test (v ∷ vs) u e t = by (among-parts nat_eq Decides-eqb u v vs e) (any-some test vs u)
   where
@@ -144,7 +144,7 @@ any-mark m (v ∷ vs) low = here (marks_of m (v ∷ vs)) v (map-at (is_among nat
     here (false ∷ bs) (suc k) e = here bs k e
 
 -- what a cable cuts off are vertices of the map
-hostless-low : (m : NetMap) (k v : ℕ) → IsMap m → v < length m.vertices → (u : ℕ) → is_among nat_eq (hostless_side m k v) u ≡ true → u < length m.vertices
+pub hostless-low : (m : NetMap) (k v : ℕ) → IsMap m → v < length m.vertices → (u : ℕ) → is_among nat_eq (hostless_side m k v) u ≡ true → u < length m.vertices
 hostless-low m k v r l u e = by (is_hostless m (side m k v)) e
   where
     by : (b : Bool) → is_among nat_eq (if b then side m k v else []) u ≡ true → u < length m.vertices
@@ -162,11 +162,7 @@ cut-low m k c r lv lw there u e = by (is_switch_vertex m c.v && is_switch_vertex
         two (inr p) = hostless-low m k c.w r lw u p
     by false f = absurd (false≢true f)
 
--- marks of what the first cables cut off
-abbrev pub outside_by : NetMap → ℕ → List Bool
-outside_by m k = map (λ u. list_any (λ i. is_among nat_eq (cut_off_by m i) u) (numbers_below k)) (numbers_below (length m.vertices))
-
-any-push : (test : ℕ → Bool) (xs : List ℕ) (x : ℕ) → list_any test (xs ++ x ∷ []) ≡ (list_any test xs || test x)
+pub any-push : (test : ℕ → Bool) (xs : List ℕ) (x : ℕ) → list_any test (xs ++ x ∷ []) ≡ (list_any test xs || test x)
 any-push test [] x = by (test x)
   where
     by : (b : Bool) → (b || false) ≡ b

@@ -54,7 +54,7 @@ count-most (suc k) test = by (test k) (count-most k test)
     by false l = omega arith
 
 -- a path leads to what lies within as many cables as there are vertices
-reached-within : (n : ℕ) (cs : List MapCable) (v u j : ℕ) → AllByRecursion (λ c. (c.v < n) × (c.w < n)) cs → v < n → Steps (map_edges cs) v j u → is_among nat_eq (within nat_eq (map_edges cs) v n) u ≡ true
+pub reached-within : (n : ℕ) (cs : List MapCable) (v u j : ℕ) → AllByRecursion (λ c. (c.v < n) × (c.w < n)) cs → v < n → Steps (map_edges cs) v j u → is_among nat_eq (within nat_eq (map_edges cs) v n) u ≡ true
 reached-within n cs v u j low l path =
     let es = map_edges cs in
     let held : Holds nat_eq es (numbers_below n) v = record { first = number-among n v l; others = λ x w e. number-among n w (edge-low n cs x w low e) } in

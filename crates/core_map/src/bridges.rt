@@ -1,11 +1,12 @@
 //! Switch bridges, what they cut off, and the marks of the core.
 
-ghost use Rattle.std.specs.Prelude.{◌≡◌, ℕ, ◌<◌, ◌++◌, ◌∷◌, [], Bool, true, false, not, map, length, is_some, slice_get, slice_index_or, if◌then◌else◌, Some, IfOk, OnOk, OnErr};
+ghost use Rattle.std.specs.Prelude.{◌≡◌, ℕ, ◌<◌, ◌+◌, ◌++◌, ◌∷◌, [], Bool, true, false, not, map, length, is_some};
+ghost use Rattle.std.specs.Prelude.{slice_get, slice_index_or, if◌then◌else◌, Some, IfOk, OnOk, OnErr};
 ghost use Rattle.std.specs.List.{list_any};
 ghost use Rattle.map_defs.specs.NetMap.{IsMap, host_of_vertex, is_switch_vertex};
 ghost use Rattle.map_defs.specs.Core.{bridges_of, core_of, cut_off_by, hostless_side, is_switch_bridge};
 ghost use Rattle.fabric_map.specs.Growing.{with_core};
-ghost use Rattle.core_map.specs.Marks.{marks_of, either, outside_of};
+ghost use Rattle.core_map.specs.Marks.{marks_of, either, outside_of, outside_by, with_side};
 
 use crate::side::side;
 use fabric_map::{FabricMap, MapCable, MapVertex};
@@ -57,10 +58,51 @@ fn outside(alloc: Global, m: &FabricMap) -> Result<Vec<bool>, AllocError>
 {
     let mut outside = no_marks(alloc, m)?;
     for k in 0..m.cables().len() {
-        let cut = cut_off(alloc, m, k)?;
-        add_marks(&mut outside, &cut);
+        add_cut_off(alloc, m, k, &mut outside)?;
     }
     Ok(outside)
+}
+
+// Marks what a cable cuts off, beside what the cables before it cut off.
+fn add_cut_off(
+    alloc: Global,
+    m: &FabricMap,
+    k: usize,
+    outside: &mut [bool],
+) -> Result<(), AllocError>
+    requires cable { k < length m.now.cables }
+    requires before { outside.old ≡ outside_by m.now k }
+    ensures { OnOk result (outside.new ≡ outside_by m.now (k + 1)) }
+{
+    let c = cable_at(m, k);
+    if is_switch(m, c.v) && is_switch(m, c.w) {
+        add_side(alloc, m, k, c.v, outside)?;
+        add_side(alloc, m, k, c.w, outside)?;
+    }
+    Ok(())
+}
+
+// Marks the side of a vertex without a cable, if it has no host. Of a vertex that an earlier cable cuts off, that
+// cable has marked whatever this one would: nothing is searched.
+fn add_side(
+    alloc: Global,
+    m: &FabricMap,
+    k: usize,
+    v: u32,
+    outside: &mut [bool],
+) -> Result<(), AllocError>
+    requires cable { k < length m.now.cables }
+    requires vertex { v < length m.now.vertices }
+    requires long { length outside.old ≡ length m.now.vertices }
+    ensures added { OnOk result (outside.new ≡ with_side m.now k v outside.old) }
+    ensures same { length outside.new ≡ length outside.old }
+{
+    if outside[v as usize] {
+        return Ok(());
+    }
+    let cut = hostless_side(alloc, m, k, v)?;
+    add_marks(outside, &cut);
+    Ok(())
 }
 
 // Adds a number, if it is to be.
@@ -101,7 +143,8 @@ fn both_sides(alloc: Global, m: &FabricMap, k: usize, c: MapCable) -> Result<Vec
     requires cable { k < length m.now.cables }
     requires first { c.v < length m.now.vertices }
     requires second { c.w < length m.now.vertices }
-    ensures { IfOk result (λ marks. marks.items ≡ marks_of m.now (hostless_side m.now k c.v ++ hostless_side m.now k c.w)) }
+    ensures { IfOk result (λ marks. marks.items ≡ marks_of m.now
+        (hostless_side m.now k c.v ++ hostless_side m.now k c.w)) }
 {
     let mut marks = hostless_side(alloc, m, k, c.v)?;
     let other = hostless_side(alloc, m, k, c.w)?;
@@ -145,8 +188,10 @@ fn cable_at(m: &FabricMap, k: usize) -> MapCable
 
 // Whether none of the marked vertices is a host.
 fn is_hostless(m: &FabricMap, marks: &[bool]) -> bool
-    ensures no_host { result ≡ true → (v : ℕ) → slice_index_or marks.now v false ≡ true → is_some (host_of_vertex m.now v) ≡ false }
-    ensures a_host { result ≡ false → (v : ℕ) × (slice_index_or marks.now v false ≡ true) × (is_some (host_of_vertex m.now v) ≡ true) }
+    ensures no_host { result ≡ true → (v : ℕ) → slice_index_or marks.now v false ≡ true
+        → is_some (host_of_vertex m.now v) ≡ false }
+    ensures a_host { result ≡ false → (v : ℕ) × (slice_index_or marks.now v false ≡ true)
+        × (is_some (host_of_vertex m.now v) ≡ true) }
 {
     for (v, mark) in marks.iter().enumerate() {
         if *mark && is_host(m, v) {

@@ -1,9 +1,12 @@
 //! The core of a map: what no cable between two switches cuts off from all hosts.
 //!
-//! It removes nothing from the map. `specs/Core.antt` of `map_defs` says what a switch bridge is, and which vertices it cuts off.
+//! It removes nothing from the map. `specs/Core.antt` of `map_defs` says what a switch bridge is, and which vertices
+//! it cuts off.
 //!
-//! Each cable between two switches is tried: without it, a search from either end. With c cables and paths of at most d cables from
-//! vertex to vertex that is some 2 c c d steps: nothing for a fabric of a few hundred cables, a second for ten thousand.
+//! Each cable between two switches is tried: without it, a search from either end. With c cables and paths of at most
+//! d cables from vertex to vertex that is some 2 c c d steps: nothing for a fabric of a few hundred cables. For the
+//! core nothing is searched from a vertex that a cable before cut off, so that a map that is almost all outside takes
+//! few searches.
 //!
 //! | module | has |
 //! |---|---|

@@ -8,7 +8,8 @@ ghost use Rattle.core_map.specs.Marks.{marks_of, spreads, spread, spreads_by, sp
 use fabric_map::{FabricMap, MapCable};
 use std::alloc::{AllocError, Global};
 
-/// Marks the vertices that are joined to one when a cable is taken away. Marks spread along the other cables until nothing changes.
+/// Marks the vertices that are joined to one when a cable is taken away. Marks spread along the other cables until
+/// nothing changes.
 pub(crate) fn side(alloc: Global, m: &FabricMap, k: usize, v: u32) -> Result<Vec<bool>, AllocError>
     requires cable { k < length m.now.cables }
     requires vertex { v < length m.now.vertices }

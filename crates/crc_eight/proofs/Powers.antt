@@ -82,7 +82,7 @@ round (suc k) r n h =
 pub round_to : (r n : ℕ) → r < 256 → left r (zeros n) ≡ left r (zeros (n % 127))
 round_to r n h = let e : n ≡ n / 127 * 127 + n % 127 = omega arith in ap (λ x. left r (zeros x)) e ∙ round (n / 127) r (n % 127) h
 
-zero_bits : (n : ℕ) → bits_of (replicate n 0) ≡ zeros (8 * n)
+pub zero_bits : (n : ℕ) → bits_of (replicate n 0) ≡ zeros (8 * n)
 zero_bits zero = refl
 zero_bits (suc n) =
     let e : 8 * suc n ≡ 8 + 8 * n = omega arith in ap (λ l. zeros 8 ++ l) (zero_bits n) ∙ replicate-append-replicate 8 (8 * n) false ∙ sym (ap zeros e)
@@ -91,7 +91,7 @@ cycles : (k byte n : ℕ) → contribution byte (k * 127 + n) ≡ contribution b
 cycles zero byte n = let e : zero * 127 + n ≡ n = omega arith in ap (contribution byte) e
 cycles (suc k) byte n = let e : suc k * 127 + n ≡ 127 + (k * 127 + n) = omega arith in ap (contribution byte) e ∙ contribution-period byte (k * 127 + n) ∙ cycles k byte n
 
-left_at : (byte n : ℕ) → byte < 256 → contribution byte n ≡ left byte (zeros (8 * (n + 1)))
+pub left_at : (byte n : ℕ) → byte < 256 → contribution byte n ≡ left byte (zeros (8 * (n + 1)))
 left_at byte n h =
     let e : 8 * (n + 1) ≡ 8 * n + 8 = omega arith in
     ap (left 0) (append_assoc (bits_of_byte byte) (bits_of (replicate n 0)) (zeros 8))

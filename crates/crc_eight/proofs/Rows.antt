@@ -1,22 +1,52 @@
--- Each row of the table is the CRC of its byte.
-use Rattle.std.proofs.Common.{◌≡◌, ◌<◌, ◌+◌, ℕ, true, nat_eq, List, [], ◌∷◌, get_or, take, length, add-one, refl, sym, ap, ◌∙◌}
-use Rattle.std.proofs.Math.Seq.{take-suc}
+-- Each row of a table is a contribution.
+use Rattle.std.proofs.Common.{◌≡◌, ◌<◌, ◌+◌, ℕ, zero, suc, Bool, true, nat_eq, [], ◌∷◌, get_or, replicate, add-one, refl, sym, ap, ◌∙◌, arith}
+use Rattle.std.proofs.lemmas.List.{replicate-append-replicate}
 use Rattle.std.proofs.lemmas.Bool.Decides.{Decides-eqb}
-use Rattle.std.specs.Int.Bits.{bit_xor}
-use Rattle.packet_defs.specs.Crc.{crc}
+use Rattle.std.specs.Int.Bits.{xor_zero_r}
+use Rattle.packet_defs.specs.Crc.{crc, contribution}
 use Rattle.packet_defs.proofs.Checking.{below, each_below}
 use Rattle.packet_defs.proofs.Crcs.{crc-push}
-use Rattle.crc_eight.specs.declared.tables.TheConstants.{ROWS}
+use Rattle.crc_eight.specs.declared.tables.TheConstants.{TABLES}
 
-rows_check : below (λ b. nat_eq (get_or ROWS b 0) (crc (b ∷ []))) 256 ≡ true
-rows_check = refl
+-- row b of the table for k places
+abbrev entry : ℕ → ℕ → ℕ
+entry k b = get_or (get_or TABLES k []) b 0
 
-pub row-crc : (b : ℕ) → b < 256 → get_or ROWS b 0 ≡ crc (b ∷ [])
-row-crc b h = (Decides-eqb (get_or ROWS b 0) (crc (b ∷ []))).0 (each_below (λ b. nat_eq (get_or ROWS b 0) (crc (b ∷ []))) 256 rows_check b h)
+-- the rows of the first table are the CRCs of their bytes
+abbrev is_first : ℕ → Bool
+is_first b = nat_eq (entry 0 b) (crc (b ∷ []))
 
--- the CRC of one byte more is the row of the CRC before, with that byte added
-pub crc-next : (bytes : List ℕ) (i check : ℕ) → i < length bytes → get_or bytes i 0 < 256 → check ≡ crc (take i bytes) → crc (bit_xor check (get_or bytes i 0) ∷ []) ≡ crc (take (i + 1) bytes)
-crc-next bytes i check h small e =
-    ap (λ c. crc (bit_xor c (get_or bytes i 0) ∷ [])) e
-    ∙ sym (crc-push (take i bytes) (get_or bytes i 0) small)
-    ∙ sym (ap crc (ap (λ n. take n bytes) (add-one i) ∙ take-suc bytes i 0 h))
+-- and those of each other the CRCs of the rows of the one before
+abbrev is_next : ℕ → ℕ → Bool
+is_next k b = nat_eq (entry (k + 1) b) (crc (entry k b ∷ []))
+
+first_check : below is_first 256 ≡ true
+first_check = refl
+
+next_check : below (λ k. below (is_next k) 256) 15 ≡ true
+next_check = refl
+
+first-row : (b : ℕ) → b < 256 → entry 0 b ≡ crc (b ∷ [])
+first-row b h = (Decides-eqb (entry 0 b) (crc (b ∷ []))).0 (each_below is_first 256 first_check b h)
+
+next-row : (k b : ℕ) → k < 15 → b < 256 → entry (k + 1) b ≡ crc (entry k b ∷ [])
+next-row k b few h =
+    let all : below (is_next k) 256 ≡ true = each_below (λ k. below (is_next k) 256) 15 next_check k few in
+    (Decides-eqb (entry (k + 1) b) (crc (entry k b ∷ []))).0 (each_below (is_next k) 256 all b h)
+
+-- one place more is one zero byte more
+contribution-next : (b k : ℕ) → contribution b (k + 1) ≡ crc (contribution b k ∷ [])
+contribution-next b k =
+    ap (λ l. crc (b ∷ l)) (sym (replicate-append-replicate k 1 0))
+    ∙ crc-push (b ∷ replicate k 0) 0 (omega arith)
+    ∙ ap (λ x. crc (x ∷ [])) (xor_zero_r (contribution b k))
+
+-- so each row is what its byte adds at the table's place
+pub row-contribution : (k b : ℕ) → k < 16 → b < 256 → get_or (get_or TABLES k []) b 0 ≡ contribution b k
+row-contribution zero b few h = first-row b h
+row-contribution (suc k) b few h =
+    ap (λ n. entry n b) (sym (add-one k))
+    ∙ next-row k b (omega arith) h
+    ∙ ap (λ x. crc (x ∷ [])) (row-contribution k b (omega arith) h)
+    ∙ sym (contribution-next b k)
+    ∙ ap (contribution b) (add-one k)

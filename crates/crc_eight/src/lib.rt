@@ -1,9 +1,14 @@
-//! The CRC of a packet's bytes, from a table, and what a byte in front adds to it.
+//! The CRC of a packet's bytes, from tables, and what a byte in front adds to it.
 //!
-//! It knows no packet. `specs/Crc.antt` of `packet_defs` says what a CRC and a contribution are, and `specs/Bits.antt` there the polynomial.
+//! It knows no packet. `specs/Crc.antt` of `packet_defs` says what a CRC and a contribution are, and `specs/Bits.antt`
+//! there the polynomial.
 //!
 //! ```text
-//!   CRC after a byte = row of (CRC before, with the byte added)
+//!   front | block | block | block     x^127 leaves 1, so a block of 127 bytes counts alike wherever it stands:
+//!                                     the bytes have the CRC of the sum of all blocks
+//!
+//!   front | slice | slice | slice     CRC after a slice of sixteen bytes
+//!                                         = what the CRC before it adds + what each of its bytes adds
 //! ```
 #![tactic(auto)]
 
@@ -11,33 +16,42 @@ ghost use Rattle.std.specs.Prelude.{◌≡◌, ◌<◌, ◌++◌};
 ghost use Rattle.packet_defs.specs.Bits.{bits_of_byte, remainder, zeros};
 ghost use Rattle.packet_defs.specs.Crc.{crc, contribution};
 
+mod folding;
+mod slices;
 mod tables;
 
-use tables::{power, row};
+use folding::folded;
+use slices::crc_by_slices;
+use tables::power;
 
 // The powers of x repeat after so many.
 const PERIOD: usize = 127;
 
-/// The CRC of bytes: polynomial x^8 + x^2 + x + 1, start value 0, most significant bit first, no reflection, no final exclusive or.
+// From so many bytes on it takes less time to fold them first.
+const LONG: usize = 160;
+
+/// The CRC of bytes: polynomial x^8 + x^2 + x + 1, start value 0, most significant bit first, no reflection, no final
+/// exclusive or.
 pub fn crc(bytes: &[u8]) -> u8
     ensures { result ≡ crc bytes.now }
 {
-    let mut check = 0;
-    for byte in bytes {
-        check = row(check ^ *byte);
+    if bytes.len() < LONG {
+        crc_by_slices(bytes)
+    } else {
+        crc_by_slices(&folded(bytes))
     }
-    check
 }
 
-/// What a byte adds to the CRC of so many bytes that follow it: the CRC of the byte followed by so many zero bytes. It takes the same work
-/// for any number of them.
+/// What a byte adds to the CRC of so many bytes that follow it: the CRC of the byte followed by so many zero bytes. It
+/// takes the same work for any number of them.
 pub fn contribution(byte: u8, places: usize) -> u8
     ensures { result ≡ contribution byte places }
 {
     sum_of_powers(byte, 8 * (places % PERIOD + 1) % PERIOD)
 }
 
-// The sum of the powers of x, from the first of these on, at the bits of a byte: what is left of the byte with so many zero bits behind it.
+// The sum of the powers of x, from the first of these on, at the bits of a byte: what is left of the byte with so many
+// zero bits behind it.
 fn sum_of_powers(byte: u8, first: usize) -> u8
     requires { first < PERIOD }
     ensures { result ≡ remainder (bits_of_byte byte ++ zeros first) }

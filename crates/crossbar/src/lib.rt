@@ -1,6 +1,7 @@
 //! A switch: where it sends a packet by the route byte in front, with one contract for 4, 8 and 16 ports.
 //!
-//! It holds no packet, and knows no cable. `specs/Switch.antt` of `link_defs` says where a turn leads and what is left of the packet.
+//! It holds no packet, and knows no cable. `specs/Switch.antt` of `link_defs` says where a turn leads and what is
+//! left of the packet.
 //!
 //! ```text
 //!   entry 2, turn +3            0 1 2 3 4 5 6 7       the packet leaves by port 5, without its route byte;
@@ -28,7 +29,8 @@ pub fn aim<const P: usize>(entry: u8, p: &Packet) -> Turned
     }
 }
 
-/// Sends a packet through a switch: it is stripped exactly where it goes out. The switch computes no CRC anew, so a difference stays.
+/// Sends a packet through a switch: it is stripped exactly where it goes out. The switch computes no CRC anew, so a
+/// difference stays.
 pub fn turn<const P: usize>(entry: u8, p: &mut Packet) -> Turned
     requires entered { entry < P }
     requires few { P ≤ 16 }

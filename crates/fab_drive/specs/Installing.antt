@@ -6,7 +6,8 @@ use Rattle.world_defs.specs.World.{WorldState}
 use Rattle.route_install.specs.Installing.{AreHosts}
 use Rattle.adopted_routes.specs.Adopting.{is_among}
 
--- What an installation begins with: routes are adopted, no packet is on its way, the hosts are the adopter and those that the routes name, each once by rising address, and each part is tried once to eight times.
+-- What an installation begins with: routes are adopted, no packet is on its way, the hosts are the adopter and those
+-- that the routes name, each once by rising address, and each part is tried once to eight times.
 pub record CanInstall (w : WorldState) (hosts : List ℕ) (tries : ℕ) : Type 0 where
   pub adopted : IsSome w.adopted
   pub idle : is_idle w.links ≡ true

@@ -22,9 +22,13 @@ pub record IsAsking (p : WorldAsking) : Type 0 where
 abbrev pub next_ask : WorldAsking → List ℤ → Asked
 next_ask p walk = ask p.host p.tries walk p.world
 
--- the mapper behind its next ask: the count of drowned asks is one greater where that drowned, and stays at its last value
+-- the mapper behind its next ask: the count of drowned asks is one greater where that drowned, and stays at its last
+-- value
 abbrev pub after_ask : WorldAsking → List ℤ → WorldAsking
-after_ask p walk = record p { world = (next_ask p walk).world; drowned = if (next_ask p walk).drowned then one_more p.drowned else p.drowned }
+after_ask p walk = record p {
+  world = (next_ask p walk).world;
+  drowned = if (next_ask p walk).drowned then one_more p.drowned else p.drowned;
+}
 
 -- An ask of a walk is answered so, and leads from the one to the other.
 pub record IsAsked (before : WorldAsking) (walk : List ℤ) (answer : Answer) (after : WorldAsking) : Type 0 where

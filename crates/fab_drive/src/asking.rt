@@ -19,8 +19,8 @@ pub(crate) struct Asked {
     pub(crate) drowned: bool,
 }
 
-/// An ask: every host gives up what it staged; up to so many host probes, to the first reply; without one up to so many loopback probes, to the first
-/// that returns.
+/// An ask: every host gives up what it staged; up to so many host probes, to the first reply; without one up to so
+/// many loopback probes, to the first that returns.
 #[tactic(auto, unfolding(world_defs::specs::Asking::ask))]
 pub(crate) fn ask(
     alloc: Global,

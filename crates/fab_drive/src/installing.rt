@@ -24,8 +24,9 @@ pub struct Installed {
     pub of: u16,
 }
 
-/// Installs the adopted routes on the adopter and the hosts that they name. Every host gives up what it staged; then each host is sent its parts, each
-/// up to so many times, and a part that isn't acknowledged ends the work for its host. Want of memory leaves a world that some events lead to.
+/// Installs the adopted routes on the adopter and the hosts that they name. Every host gives up what it staged; then
+/// each host is sent its parts, each up to so many times, and a part that isn't acknowledged ends the work for its
+/// host. Want of memory leaves a world that some events lead to.
 #[tactic(auto, unfolding(world_defs::specs::Install::installed))]
 pub fn install(
     alloc: Global,
@@ -34,7 +35,8 @@ pub fn install(
     tries: u8,
 ) -> Result<Installed, AllocError>
     requires { CanInstall w.old hosts.now tries }
-    ensures acked { IfOk result (λ x. IfSome w.old.adopted (λ a. installed a hosts.now tries w.old ≡ (x.acked, w.new))) }
+    ensures acked { IfOk result (λ x. IfSome w.old.adopted (λ a.
+        installed a hosts.now tries w.old ≡ (x.acked, w.new))) }
     ensures of { IfOk result (λ x. x.of ≡ length hosts.now) }
     ensures err { OnErr result (IsLater w.old w.new) }
     ensures idle { OnOk result (is_idle w.new.links ≡ true) }
@@ -67,7 +69,8 @@ fn install_hosts(
     requires there { IsHostOf w.old mapper }
     requires hosts { AllByRecursion (IsHostOf w.old) hosts.now }
     requires few { length hosts.now ≤ 128 }
-    ensures acked { (a : Adoption) → w.old.adopted ≡ Some a → IfOk result (λ k. hosts_installed a tries hosts.now w.old ≡ (k, w.new)) }
+    ensures acked { (a : Adoption) → w.old.adopted ≡ Some a
+        → IfOk result (λ k. hosts_installed a tries hosts.now w.old ≡ (k, w.new)) }
     ensures later { IsLater w.old w.new }
     ensures fabric { fabric_of w.new ≡ fabric_of w.old }
     ensures hosts { host_count w.new ≡ host_count w.old }

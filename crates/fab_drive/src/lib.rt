@@ -1,7 +1,8 @@
 //! A mapper over a world: it asks by probe packets, and installs adopted routes on their hosts.
 //!
-//! It keeps nothing of its own but the mapper's count: all that it does are events of the world. What needs no mapper stands in
-//! `world_drain`, and is handed on. `specs/Prober.antt` says what an ask is, and `specs/Installing.antt` what an installation begins with.
+//! It keeps nothing of its own but the mapper's count: all that it does are events of the world. What needs no mapper
+//! stands in `world_drain`, and is handed on. `specs/Prober.antt` says what an ask is, and `specs/Installing.antt`
+//! what an installation begins with.
 //!
 //! ```text
 //!   ask of a walk --> every host gives up --> host probes, each alone --> loopback probes, each alone

@@ -15,7 +15,8 @@ use probe::Prober;
 use std::alloc::{AllocError, Global};
 use std::marker::Model;
 
-/// A mapper that asks by probe packets over a world: each ask stands for events of that world. It may be asked while no packet is on its way.
+/// A mapper that asks by probe packets over a world: each ask stands for events of that world. It may be asked while
+/// no packet is on its way.
 ///
 /// It holds the world, and must be spent, by [`WorldProber::into_world`].
 pub struct WorldProber {
@@ -33,7 +34,8 @@ impl Model for WorldProber {
 
     ghost view = { λ p. record { world = p.world; host = p.host; tries = p.tries; drowned = p.drowned } };
 
-    ghost invariant = { λ p. IsAsking (record { world = p.world; host = p.host; tries = p.tries; drowned = p.drowned }) };
+    ghost invariant = { λ p.
+        IsAsking (record { world = p.world; host = p.host; tries = p.tries; drowned = p.drowned }) };
 }
 
 impl WorldProber {
@@ -102,7 +104,8 @@ impl Prober for WorldProber {
     fn ask(&mut self, w: &Walk) -> Result<Answer, AllocError>
         requires short { length w.now ≤ 31 }
         requires is_ready { is_idle self.old.world.links ≡ true }
-        ensures truth { IfOk result (λ a. IsTrueOrDrowned (answer (fabric_of self.old.world) self.old.host w.now) self.old.drowned self.new.drowned a) }
+        ensures truth { IfOk result (λ a. IsTrueOrDrowned
+            (answer (fabric_of self.old.world) self.old.host w.now) self.old.drowned self.new.drowned a) }
         ensures later { self.old.drowned ≤ self.new.drowned }
         ensures same_fabric { fabric_of self.new.world ≡ fabric_of self.old.world }
         ensures same_mapper { self.new.host ≡ self.old.host }

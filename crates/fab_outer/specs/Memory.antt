@@ -3,7 +3,8 @@ use Rattle.std.specs.Prelude.{◌≡◌, ℕ, Bool, List, length, drop, min, nat
 use Rattle.std.specs.List.{list_any}
 use Rattle.fab_outer.specs.Fault.{one_more}
 
--- the bytes that are left, the most that go at a call, the numbers of the calls that fail, and how many calls were made and failed
+-- the bytes that are left, the most that go at a call, the numbers of the calls that fail, and how many calls were
+-- made and failed
 pub record SourceState : Type 0 where
   pub left : List ℕ
   pub piece : ℕ

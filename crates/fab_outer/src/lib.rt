@@ -1,7 +1,8 @@
 //! Where bytes come from and go to: a source, a sink, and calls that read and write all.
 //!
-//! It is not std's `Read` and `Write`: each object here counts its faults, so a call above it can say that it answers a fault only
-//! where that count rose. `specs/Fault.antt` says what a risen count is, `specs/Memory.antt` what the adapters over memory do.
+//! It is not std's `Read` and `Write`: each object here counts its faults, so a call above it can say that it answers
+//! a fault only where that count rose. `specs/Fault.antt` says what a risen count is, `specs/Memory.antt` what the
+//! adapters over memory do.
 //!
 //! | module | has |
 //! |---|---|

@@ -1,6 +1,7 @@
 //! A sink over memory, for tests: it takes bytes in small pieces, and chosen calls fail.
 
-ghost use Rattle.std.specs.Prelude.{◌≡◌, ◌<◌, ◌≤◌, [], length, max, IsTrue, IsFalse, Some, Ok, IfOk, IsOk, IsErr, is_err};
+ghost use Rattle.std.specs.Prelude.{◌≡◌, ◌<◌, ◌≤◌, [], length, max, IsTrue, IsFalse, Some, Ok, IfOk, IsOk, IsErr};
+ghost use Rattle.std.specs.Prelude.{is_err};
 ghost use Rattle.std.specs.Io.KnownBytes.{WriteAppends};
 ghost use Rattle.fab_outer.specs.Fault.{HasCause, Rose};
 ghost use Rattle.fab_outer.specs.Memory.{fails_next, portion, IsSinkStep};
@@ -28,13 +29,27 @@ impl Model for MemSink {
 
     ghost Value = { SinkState };
 
-    ghost view = { λ s. record { taken = s.taken.items; room = vec_capacity s.taken - vec_len s.taken; piece = max s.piece 1; fail = s.fail.items; calls = s.calls; failed = s.failed } };
+    ghost view = { λ s. record {
+      taken = s.taken.items;
+      room = vec_capacity s.taken - vec_len s.taken;
+      piece = max s.piece 1;
+      fail = s.fail.items;
+      calls = s.calls;
+      failed = s.failed;
+    } };
 }
 
 impl MemSink {
     /// A sink that has taken nothing. The first call has number 1.
     pub fn new(alloc: Global, piece: usize, fail: Vec<u32>) -> MemSink
-        ensures { result ≡ record { taken = []; room = result.room; piece = max piece 1; fail = fail.items; calls = 0; failed = 0 } }
+        ensures { result ≡ record {
+          taken = [];
+          room = result.room;
+          piece = max piece 1;
+          fail = fail.items;
+          calls = 0;
+          failed = 0;
+        } }
     {
         MemSink {
             taken: Vec::new(alloc),
@@ -64,7 +79,8 @@ impl Sink for MemSink {
         ensures cause { HasCause self.old.failed self.new.failed result }
         ensures stalled { result ≡ Ok 0 → 0 < length from.now → Rose self.old.failed self.new.failed }
         ensures fails { IsTrue (fails_next self.old.fail self.old.calls) → IsErr result }
-        ensures succeeds { IsFalse (fails_next self.old.fail self.old.calls) → portion self.old (length from.now) ≤ self.old.room → IsOk result }
+        ensures succeeds { IsFalse (fails_next self.old.fail self.old.calls)
+            → portion self.old (length from.now) ≤ self.old.room → IsOk result }
         ensures count { IfOk result (λ n. n ≡ portion self.old (length from.now)) }
         ensures after { IsSinkStep self.old (is_err result) self.new }
     {

@@ -9,7 +9,8 @@ ghost use Rattle.fab_outer.specs.Memory.{fails_next, source_failed, source_moved
 use crate::{Failed, Source};
 use std::marker::Model;
 
-/// A source over memory. At most `piece` bytes, and at least one, go at a call, and the calls of the given numbers fail.
+/// A source over memory. At most `piece` bytes, and at least one, go at a call, and the calls of the given numbers
+/// fail.
 #[derive(Debug, Drop)]
 pub struct MemSource {
     content: Vec<u8>,
@@ -26,7 +27,13 @@ impl Model for MemSource {
 
     ghost Value = { SourceState };
 
-    ghost view = { λ s. record { left = drop s.read s.content.items; piece = max s.piece 1; fail = s.fail.items; calls = s.calls; failed = s.failed } };
+    ghost view = { λ s. record {
+      left = drop s.read s.content.items;
+      piece = max s.piece 1;
+      fail = s.fail.items;
+      calls = s.calls;
+      failed = s.failed;
+    } };
 
     ghost invariant = { λ s. s.read ≤ length s.content.items };
 }
@@ -34,7 +41,13 @@ impl Model for MemSource {
 impl MemSource {
     /// A source of this content. The first call has number 1.
     pub fn new(content: Vec<u8>, piece: usize, fail: Vec<u32>) -> MemSource
-        ensures { result ≡ record { left = content.items; piece = max piece 1; fail = fail.items; calls = 0; failed = 0 } }
+        ensures { result ≡ record {
+          left = content.items;
+          piece = max piece 1;
+          fail = fail.items;
+          calls = 0;
+          failed = 0;
+        } }
     {
         MemSource {
             content,
@@ -58,7 +71,8 @@ impl Source for MemSource {
         ensures cause { HasCause self.old.failed self.new.failed result }
         ensures fails { is_err result ≡ fails_next self.old.fail self.old.calls }
         ensures count { IfOk result (λ n. n ≡ amount self.old (length into.new)) }
-        ensures after { self.new ≡ (if is_err result then source_failed self.old else source_moved self.old (length into.new)) }
+        ensures after { self.new ≡ (if is_err result then source_failed self.old
+            else source_moved self.old (length into.new)) }
     {
         self.calls = self.calls.saturating_add(1);
         if is_among(&self.fail, self.calls) {

@@ -1,6 +1,7 @@
 //! The trusted edge: std's readers and writers as a source and a sink. They tell no content.
 
-ghost use Rattle.std.specs.Prelude.{◌≡◌, ◌<◌, ◌≤◌, ℕ, List, length, Option, None, Ok, IfOk, OnOk, OnErr, is_err, if◌then◌else◌};
+ghost use Rattle.std.specs.Prelude.{◌≡◌, ◌<◌, ◌≤◌, ℕ, List, length, Option, None, Ok, IfOk, OnOk, OnErr, is_err};
+ghost use Rattle.std.specs.Prelude.{if◌then◌else◌};
 ghost use Rattle.std.specs.Io.KnownBytes.{ReadConsumes, WriteAppends};
 ghost use Rattle.fab_outer.specs.Fault.{HasCause, Rose, one_more};
 
@@ -44,7 +45,8 @@ impl<R: Read> Source for StdSource<R> {
     }
 }
 
-/// A sink over any writer of std. It flushes after each write. Each `Err` is a fault, and so is a write that takes nothing.
+/// A sink over any writer of std. It flushes after each write. Each `Err` is a fault, and so is a write that takes
+/// nothing.
 #[derive(Debug, Drop)]
 pub struct StdSink<W> {
     inner: W,

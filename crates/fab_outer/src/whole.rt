@@ -62,7 +62,8 @@ fn append_some<S: Source>(
     piece: &mut [u8],
     content: &mut Vec<u8>,
 ) -> Result<usize, ReadEnd>
-    ensures came { IfOk result (λ n. Appended (S.left source.old) (S.left source.new) content.old.items content.new.items n) }
+    ensures came { IfOk result (λ n. Appended (S.left source.old)
+        (S.left source.new) content.old.items content.new.items n) }
     ensures end { result ≡ Ok 0 → 0 < length piece.new → IsAtEnd (S.left source.new) }
     ensures bound { IfOk result (λ n. n ≤ length piece.new) }
     ensures goes_on { GoesOn (S.left source.old) (S.left source.new) }

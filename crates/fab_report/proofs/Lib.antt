@@ -1,1 +1,3 @@
+pub mod Printing
+pub mod Summaries
 pub mod Writing

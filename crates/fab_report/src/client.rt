@@ -26,7 +26,8 @@ pub(crate) fn client_line(
 ) -> Result<(), AllocError>
     requires host { IsHost f.now host }
     requires sender { IsSaidOf f.now said.now }
-    ensures { OnOk result (text.new.items ≡ text.old.items ++ spaced (words_in f.now (Client call host port said.now))) }
+    ensures { OnOk result (text.new.items ≡ text.old.items
+        ++ spaced (words_in f.now (Client call host port said.now))) }
 {
     let port = port.to_string(alloc)?;
     let name = f.name_of(Vertex::Host(host));
@@ -44,7 +45,8 @@ fn append_call(
     said: &Said,
 ) -> Result<(), AllocError>
     requires { IsSaidOf f.now said.now }
-    ensures { OnOk result (text.new.items ≡ text.old.items ++ spaced (word.now ∷ name.now ∷ port.now ∷ said_words f.now said.now)) }
+    ensures { OnOk result (text.new.items ≡ text.old.items
+        ++ spaced (word.now ∷ name.now ∷ port.now ∷ said_words f.now said.now)) }
 {
     append(text, &[word])?;
     append(text, &[b" ", name, b" ", port])?;
@@ -111,7 +113,8 @@ fn append_received(
     body: &[u8],
 ) -> Result<(), AllocError>
     requires { IsHost f.now from }
-    ensures { OnOk result (text.new.items ≡ text.old.items ++ behind (said_words f.now (Received token from sport prio body.now))) }
+    ensures { OnOk result (text.new.items ≡ text.old.items
+        ++ behind (said_words f.now (Received token from sport prio body.now))) }
 {
     let token = token.to_string(alloc)?;
     let sport = sport.to_string(alloc)?;
@@ -137,7 +140,9 @@ fn append_message(
     prio: u8,
     body: &[u8],
 ) -> Result<(), AllocError>
-    ensures { OnOk result (text.new.items ≡ text.old.items ++ behind (codes "received" ∷ codes "token" ∷ token.now ∷ codes "from" ∷ name.now ∷ sport.now ∷ codes "prio" ∷ decimal prio ∷ codes "len" ∷ decimal (length body.now) ∷ codes "bytes" ∷ hex_text body.now ∷ [])) }
+    ensures { OnOk result (text.new.items ≡ text.old.items
+        ++ behind (codes "received" ∷ codes "token" ∷ token.now ∷ codes "from" ∷ name.now ∷ sport.now ∷ codes "prio"
+        ∷ decimal prio ∷ codes "len" ∷ decimal (length body.now) ∷ codes "bytes" ∷ hex_text body.now ∷ [])) }
 {
     append(
         text,
@@ -148,7 +153,9 @@ fn append_message(
 
 // `prio R len L bytes HEX`
 fn append_body(alloc: Global, text: &mut Vec<u8>, prio: u8, body: &[u8]) -> Result<(), AllocError>
-    ensures { OnOk result (text.new.items ≡ text.old.items ++ behind (codes "prio" ∷ decimal prio ∷ codes "len" ∷ decimal (length body.now) ∷ codes "bytes" ∷ hex_text body.now ∷ [])) }
+    ensures { OnOk result (text.new.items ≡ text.old.items
+        ++ behind (codes "prio" ∷ decimal prio ∷ codes "len" ∷ decimal (length body.now) ∷ codes "bytes"
+        ∷ hex_text body.now ∷ [])) }
 {
     let prio = prio.to_string(alloc)?;
     let len = body.len().to_string(alloc)?;
@@ -181,7 +188,8 @@ fn hex_of(alloc: Global, body: &[u8]) -> Result<Vec<u8>, AllocError>
 
 // Bytes as two digits each.
 fn append_digits(text: &mut Vec<u8>, body: &[u8]) -> Result<(), AllocError>
-    ensures { OnOk result (text.new.items ≡ text.old.items ++ flat_map (λ x. hex_digit (x / 16) ∷ hex_digit (x % 16) ∷ []) body.now) }
+    ensures { OnOk result (text.new.items ≡ text.old.items
+        ++ flat_map (λ x. hex_digit (x / 16) ∷ hex_digit (x % 16) ∷ []) body.now) }
 {
     for byte in body {
         append(text, &[&[digit(*byte / 16), digit(*byte % 16)]])?;

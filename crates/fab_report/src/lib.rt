@@ -1,7 +1,7 @@
-//! The text of each line of a report.
+//! The text of each line of a report, and of a summary of it.
 //!
-//! It prints lines and runs nothing. `specs/LineText.antt` of `run_defs` says what each line's text is; the lines of a map are
-//! printed elsewhere, with the map.
+//! It prints lines and runs nothing. `specs/LineText.antt` of `run_defs` says what each line's text is; the lines of
+//! a map are printed elsewhere, with the map.
 //!
 //! ```text
 //! Line::Client { call: Poll, host: b, port: 1, said: Received { .. } }
@@ -15,15 +15,25 @@
 //! | `client` | what a client's call was answered |
 //! | `step` | what one event did |
 //! | `places` | where tokens are |
+//! | `generated` | the lines that a generated run alone has |
+//! | `printed` | what a command printed: a text, and its figure for a summary |
+//! | `summary` | the summary of a run |
 //! | `append` | parts of a text, one after another |
 #![tactic(auto)]
 
 mod append;
 mod client;
+mod generated;
 mod line;
 mod mapping;
 mod places;
+mod printed;
 mod step;
+mod summary;
 
 pub use line::print_line;
-pub use run_defs::{ClientCall, InstallCause, Line, MapWords, PlaceEntry, PlaceList, StepWords};
+pub use printed::Printed;
+pub use run_defs::{
+    ClientCall, Figure, InstallCause, Line, MapWords, PlaceEntry, PlaceList, StepWords,
+};
+pub use summary::print_summary;

@@ -10,6 +10,7 @@ ghost use Rattle.fab_report.specs.There.{AreThere, IsHost};
 
 use crate::append::append;
 use crate::client::client_line;
+use crate::generated::{FabricSize, gen_count_line, gen_line, gen_map_line};
 use crate::mapping::{busy_line, map_line, rank_line, route_line, routes_line};
 use crate::places::tokens_line;
 use crate::step::step_line;
@@ -18,7 +19,8 @@ use port_graph::{Fabric, Place, Vertex};
 use run_defs::{InstallCause, Line};
 use std::alloc::{AllocError, Global};
 
-/// The text of a line with its end. The hosts, switches and ends that it names are of the fabric, whose names it is printed with.
+/// The text of a line with its end. The hosts, switches and ends that it names are of the fabric, whose names it is
+/// printed with.
 pub fn print_line(alloc: Global, l: &Line, f: &Fabric) -> Result<Vec<u8>, AllocError>
     requires there { AreThere f.now l.now }
     ensures text { IfOk result (λ text. text.items ≡ line_text f.now l.now) }
@@ -72,6 +74,29 @@ fn append_line(alloc: Global, text: &mut Vec<u8>, l: &Line, f: &Fabric) -> Resul
             unacked,
         } => settle_line(alloc, text, *rounds, *resets, *unacked),
         Line::Finish { injected, dropped } => end_line(alloc, text, *injected, *dropped),
+        Line::GenHead {
+            n,
+            seed,
+            hosts,
+            switches,
+            cables,
+        } => gen_line(
+            alloc,
+            text,
+            *n,
+            *seed,
+            FabricSize {
+                hosts: *hosts,
+                switches: *switches,
+                cables: *cables,
+            },
+        ),
+        Line::GenMap {
+            words,
+            asks,
+            packets,
+        } => gen_map_line(alloc, text, *words, *asks, *packets),
+        Line::GenCount { accepted, received } => gen_count_line(alloc, text, *accepted, *received),
     }
 }
 
@@ -82,7 +107,8 @@ fn refused_line(
     line: u32,
     kind: FaultKind,
 ) -> Result<(), AllocError>
-    ensures { OnOk result (text.new.items ≡ text.old.items ++ spaced (codes "refused" ∷ decimal line ∷ kind_word kind ∷ [])) }
+    ensures { OnOk result (text.new.items ≡ text.old.items
+        ++ spaced (codes "refused" ∷ decimal line ∷ kind_word kind ∷ [])) }
 {
     let line = line.to_string(alloc)?;
     append(text, &[b"refused ", line.as_bytes(), b" ", kind.word()])
@@ -106,7 +132,8 @@ fn walk_line(alloc: Global, text: &mut Vec<u8>, f: &Fabric, place: Place) -> Res
 
 // `installed K of N`
 fn installed_line(alloc: Global, text: &mut Vec<u8>, acked: u16, of: u16) -> Result<(), AllocError>
-    ensures { OnOk result (text.new.items ≡ text.old.items ++ spaced (codes "installed" ∷ decimal acked ∷ codes "of" ∷ decimal of ∷ [])) }
+    ensures { OnOk result (text.new.items ≡ text.old.items
+        ++ spaced (codes "installed" ∷ decimal acked ∷ codes "of" ∷ decimal of ∷ [])) }
 {
     let acked = acked.to_string(alloc)?;
     let of = of.to_string(alloc)?;
@@ -142,7 +169,8 @@ fn install_word(cause: InstallCause) -> &'static [u8]
 
 // `plan at N`
 fn plan_line(alloc: Global, text: &mut Vec<u8>, number: u128) -> Result<(), AllocError>
-    ensures { OnOk result (text.new.items ≡ text.old.items ++ spaced (codes "plan" ∷ codes "at" ∷ decimal number ∷ [])) }
+    ensures { OnOk result (text.new.items ≡ text.old.items
+        ++ spaced (codes "plan" ∷ codes "at" ∷ decimal number ∷ [])) }
 {
     let number = number.to_string(alloc)?;
     append(text, &[b"plan at ", number.as_bytes()])
@@ -156,7 +184,9 @@ fn settle_line(
     resets: u64,
     unacked: u64,
 ) -> Result<(), AllocError>
-    ensures { OnOk result (text.new.items ≡ text.old.items ++ spaced (codes "settle" ∷ codes "rounds" ∷ decimal rounds ∷ codes "resets" ∷ decimal resets ∷ codes "unacked" ∷ decimal unacked ∷ [])) }
+    ensures { OnOk result (text.new.items ≡ text.old.items
+        ++ spaced (codes "settle" ∷ codes "rounds" ∷ decimal rounds ∷ codes "resets" ∷ decimal resets
+        ∷ codes "unacked" ∷ decimal unacked ∷ [])) }
 {
     let rounds = rounds.to_string(alloc)?;
     let resets = resets.to_string(alloc)?;
@@ -181,7 +211,8 @@ fn end_line(
     injected: u64,
     dropped: u64,
 ) -> Result<(), AllocError>
-    ensures { OnOk result (text.new.items ≡ text.old.items ++ spaced (codes "end" ∷ codes "injected" ∷ decimal injected ∷ codes "dropped" ∷ decimal dropped ∷ [])) }
+    ensures { OnOk result (text.new.items ≡ text.old.items
+        ++ spaced (codes "end" ∷ codes "injected" ∷ decimal injected ∷ codes "dropped" ∷ decimal dropped ∷ [])) }
 {
     let injected = injected.to_string(alloc)?;
     let dropped = dropped.to_string(alloc)?;

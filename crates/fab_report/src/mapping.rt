@@ -48,15 +48,21 @@ fn append_map(
     asks: &[u8],
     packets: &[u8],
 ) -> Result<(), AllocError>
-    ensures { OnOk result (text.new.items ≡ text.old.items ++ spaced (codes "map" ∷ name.now ∷ (map_words words ++ codes "asks" ∷ asks.now ∷ codes "packets" ∷ packets.now ∷ []))) }
+    ensures { OnOk result (text.new.items ≡ text.old.items
+        ++ spaced (codes "map" ∷ name.now ∷ (map_words words
+        ++ codes "asks" ∷ asks.now ∷ codes "packets" ∷ packets.now ∷ []))) }
 {
     append(text, &[b"map ", name])?;
     append_map_words(alloc, text, words)?;
     append(text, &[b" asks ", asks, b" packets ", packets])
 }
 
-// How far a map is known to be right.
-fn append_map_words(alloc: Global, text: &mut Vec<u8>, words: MapWords) -> Result<(), AllocError>
+/// How far a map is known to be right, behind other words.
+pub(crate) fn append_map_words(
+    alloc: Global,
+    text: &mut Vec<u8>,
+    words: MapWords,
+) -> Result<(), AllocError>
     ensures { OnOk result (text.new.items ≡ text.old.items ++ behind (map_words words)) }
 {
     match words {
@@ -115,7 +121,8 @@ fn append_route(
     receiver: &[u8],
     turns: &[i8],
 ) -> Result<(), AllocError>
-    ensures { OnOk result (text.new.items ≡ text.old.items ++ spaced (codes "route" ∷ sender.now ∷ receiver.now ∷ map turn_text turns.now)) }
+    ensures { OnOk result (text.new.items ≡ text.old.items
+        ++ spaced (codes "route" ∷ sender.now ∷ receiver.now ∷ map turn_text turns.now)) }
 {
     append(text, &[b"route ", sender, b" ", receiver])?;
     append_turns(alloc, text, turns)

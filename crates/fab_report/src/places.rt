@@ -23,7 +23,8 @@ pub(crate) fn tokens_line(
     recvs: &[PlaceEntry],
 ) -> Result<(), AllocError>
     requires { IsHost f.now host }
-    ensures { OnOk result (text.new.items ≡ text.old.items ++ spaced (words_in f.now (Tokens host port sends.now recvs.now))) }
+    ensures { OnOk result (text.new.items ≡ text.old.items
+        ++ spaced (words_in f.now (Tokens host port sends.now recvs.now))) }
 {
     let port = port.to_string(alloc)?;
     let name = f.name_of(Vertex::Host(host));
@@ -39,7 +40,9 @@ fn append_tokens(
     sends: &[PlaceEntry],
     recvs: &[PlaceEntry],
 ) -> Result<(), AllocError>
-    ensures { OnOk result (text.new.items ≡ text.old.items ++ spaced (codes "tokens" ∷ name.now ∷ port.now ∷ codes "send" ∷ (map place_text sends.now ++ codes "recv" ∷ map place_text recvs.now))) }
+    ensures { OnOk result (text.new.items ≡ text.old.items
+        ++ spaced (codes "tokens" ∷ name.now ∷ port.now ∷ codes "send"
+        ∷ (map place_text sends.now ++ codes "recv" ∷ map place_text recvs.now))) }
 {
     append(text, &[b"tokens ", name, b" ", port, b" send"])?;
     append_places(alloc, text, sends)?;

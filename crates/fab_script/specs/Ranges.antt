@@ -5,11 +5,14 @@ use Rattle.net_defs.specs.declared.vertex.End.{End}
 use Rattle.net_defs.specs.Network.{Network, has_vertex, has_port}
 use Rattle.net_defs.specs.Turn.{walk_refusal}
 use Rattle.run_defs.specs.declared.command.Command.{Command}
-use Rattle.run_defs.specs.declared.command.Command.TheVariants.{Walk, Map, Routes, Install, Begin, Close, Poll, Tokens, Provide, Send, Plan, Step, Settle, Finish}
+use Rattle.run_defs.specs.declared.command.Command.TheVariants.{Walk, Map, Routes, Install, Begin, Close, Poll, Tokens}
+use Rattle.run_defs.specs.declared.command.Command.TheVariants.{Provide, Send, Plan, Step, Settle, Finish}
 use Rattle.run_defs.specs.declared.command.PlanKind.{PlanKind}
-use Rattle.run_defs.specs.declared.command.PlanKind.TheVariants.{Lose as PlanLose, Repeat as PlanRepeat, Hold as PlanHold, Flip as PlanFlip}
+use Rattle.run_defs.specs.declared.command.PlanKind.TheVariants.{Lose as PlanLose, Repeat as PlanRepeat}
+use Rattle.run_defs.specs.declared.command.PlanKind.TheVariants.{Hold as PlanHold, Flip as PlanFlip}
 use Rattle.run_defs.specs.declared.command.StepLine.{StepLine}
-use Rattle.run_defs.specs.declared.command.StepLine.TheVariants.{Inject, GiveUp, Advance, Lose, Repeat, Hold, Reset, Flip, Expire, Replay}
+use Rattle.run_defs.specs.declared.command.StepLine.TheVariants.{Inject, GiveUp, Advance, Lose, Repeat, Hold, Reset}
+use Rattle.run_defs.specs.declared.command.StepLine.TheVariants.{Flip, Expire, Replay}
 
 -- the fabric has the host
 abbrev pub IsHost : Network → ℕ → Type 0
@@ -59,7 +62,8 @@ IsCommandOf n (Poll h port) = IsHost n h × IsWithin 0 7 port
 IsCommandOf n (Tokens h port) = IsHost n h × IsWithin 0 7 port
 IsCommandOf n (Provide h port size prio) = IsHost n h × IsWithin 0 7 port × IsWithin 0 31 size × IsWithin 0 1 prio
 IsCommandOf n (Send h port dest dport prio len seed) =
-    IsHost n h × IsHost n dest × IsWithin 0 7 port × IsWithin 0 7 dport × IsWithin 0 1 prio × IsWithin 0 1000000 len × IsWithin 0 255 seed
+    IsHost n h × IsHost n dest × IsWithin 0 7 port × IsWithin 0 7 dport × IsWithin 0 1 prio × IsWithin 0 1000000 len
+    × IsWithin 0 255 seed
 IsCommandOf n (Plan ahead kind) = IsWithin 1 1000000000 ahead × IsPlanned kind
 IsCommandOf n (Step line) = IsStepOf n line
 IsCommandOf n Settle = Unit {0}

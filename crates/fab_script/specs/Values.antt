@@ -1,4 +1,5 @@
--- What the readers of single words answer, as values of the grammar; and the lines that begin with another word than `walk`.
+-- What the readers of single words answer, as values of the grammar; and the lines that begin with another word than
+-- `walk`.
 use Rattle.std.specs.Prelude.{ℕ, List, Result, Ok, Err, codes, bytes_eq, if◌then◌else◌}
 use Rattle.net_defs.specs.Network.{Network}
 use Rattle.fab_text.specs.declared.fault.FaultKind.{FaultKind}

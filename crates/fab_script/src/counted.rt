@@ -14,7 +14,8 @@ pub(crate) fn none(mut args: Words) -> bool
 
 /// The one word that is left.
 pub(crate) fn one(mut args: Words) -> Option<&[u8]>
-    ensures { MatchOption result (nat_eq 1 (length (words_of args.entry)) ≡ false) (λ a. words_of args.entry ≡ a.now ∷ []) }
+    ensures { MatchOption result (nat_eq 1 (length (words_of args.entry)) ≡ false) (λ a.
+        words_of args.entry ≡ a.now ∷ []) }
 {
     match args.next_word() {
         Some(word) if none(args) => Some(word),
@@ -24,7 +25,8 @@ pub(crate) fn one(mut args: Words) -> Option<&[u8]>
 
 /// The two words that are left.
 pub(crate) fn two(mut args: Words) -> Option<(&[u8], &[u8])>
-    ensures { MatchOption result (nat_eq 2 (length (words_of args.entry)) ≡ false) (λ a. words_of args.entry ≡ a.0.now ∷ a.1.now ∷ []) }
+    ensures { MatchOption result (nat_eq 2 (length (words_of args.entry)) ≡ false) (λ a.
+        words_of args.entry ≡ a.0.now ∷ a.1.now ∷ []) }
 {
     match args.next_word() {
         Some(first) => match one(args) {
@@ -37,7 +39,8 @@ pub(crate) fn two(mut args: Words) -> Option<(&[u8], &[u8])>
 
 /// The three words that are left.
 pub(crate) fn three(mut args: Words) -> Option<(&[u8], &[u8], &[u8])>
-    ensures { MatchOption result (nat_eq 3 (length (words_of args.entry)) ≡ false) (λ a. words_of args.entry ≡ a.0.now ∷ a.1.now ∷ a.2.now ∷ []) }
+    ensures { MatchOption result (nat_eq 3 (length (words_of args.entry)) ≡ false) (λ a.
+        words_of args.entry ≡ a.0.now ∷ a.1.now ∷ a.2.now ∷ []) }
 {
     match args.next_word() {
         Some(first) => match two(args) {
@@ -50,7 +53,8 @@ pub(crate) fn three(mut args: Words) -> Option<(&[u8], &[u8], &[u8])>
 
 /// The four words that are left.
 pub(crate) fn four(mut args: Words) -> Option<(&[u8], &[u8], &[u8], &[u8])>
-    ensures { MatchOption result (nat_eq 4 (length (words_of args.entry)) ≡ false) (λ a. words_of args.entry ≡ a.0.now ∷ a.1.now ∷ a.2.now ∷ a.3.now ∷ []) }
+    ensures { MatchOption result (nat_eq 4 (length (words_of args.entry)) ≡ false) (λ a.
+        words_of args.entry ≡ a.0.now ∷ a.1.now ∷ a.2.now ∷ a.3.now ∷ []) }
 {
     match args.next_word() {
         Some(first) => match three(args) {
@@ -65,7 +69,8 @@ pub(crate) fn four(mut args: Words) -> Option<(&[u8], &[u8], &[u8], &[u8])>
 pub(crate) fn seven(
     mut args: Words,
 ) -> Option<((&[u8], &[u8], &[u8]), (&[u8], &[u8], &[u8], &[u8]))>
-    ensures { MatchOption result (nat_eq 7 (length (words_of args.entry)) ≡ false) (λ a. words_of args.entry ≡ a.0.0.now ∷ a.0.1.now ∷ a.0.2.now ∷ a.1.0.now ∷ a.1.1.now ∷ a.1.2.now ∷ a.1.3.now ∷ []) }
+    ensures { MatchOption result (nat_eq 7 (length (words_of args.entry)) ≡ false) (λ a.
+        words_of args.entry ≡ a.0.0.now ∷ a.0.1.now ∷ a.0.2.now ∷ a.1.0.now ∷ a.1.1.now ∷ a.1.2.now ∷ a.1.3.now ∷ []) }
 {
     let (Some(first), Some(second)) = (args.next_word(), args.next_word()) else {
         return None;

@@ -1,7 +1,7 @@
 //! The script of a text: its lines, read into commands over a fabric.
 //!
-//! It reads no fabric part, and runs no command. `specs/Script.antt` of `run_defs` is the grammar: the commands that a script says, or
-//! its first fault.
+//! It reads no fabric part, and runs no command. `specs/Script.antt` of `run_defs` is the grammar: the commands that
+//! a script says, or its first fault.
 //!
 //! ```text
 //!   script                   line 7 of its text: the fabric part ends

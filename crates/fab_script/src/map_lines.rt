@@ -20,7 +20,8 @@ const MAX_TRIES: u8 = 8;
 
 /// `map H DEPTH TRIES`
 pub(crate) fn map(fabric: &Fabric, args: Words) -> Result<Command, FaultKind>
-    ensures { result ≡ and_then (said_by (OfName ∷ OfNumber 1 32 ∷ of_tries ∷ []) (words_of args.entry)) (map_meant fabric.now) }
+    ensures { result ≡ and_then (said_by (OfName ∷ OfNumber 1 32 ∷ of_tries ∷ []) (words_of args.entry))
+        (map_meant fabric.now) }
 {
     let Some((h, depth, tries)) = three(args) else {
         return Err(FaultKind::BadWord);

@@ -1,9 +1,11 @@
-//! Lines that plan a fault: `plan lose`, `plan repeat`, `plan hold` and `plan flip`. The second word counts with the first.
+//! Lines that plan a fault: `plan lose`, `plan repeat`, `plan hold` and `plan flip`. The second word counts with the
+//! first.
 
 ghost use Rattle.std.specs.Prelude.{◌≡◌, ◌∷◌, []};
 ghost use Rattle.fab_text.specs.Line.{words_of};
 ghost use Rattle.fab_text.specs.Fault.{and_then};
-ghost use Rattle.run_defs.specs.Script.{of_ahead, of_bit, of_pattern, said_by, plan_meant, plan_flip_meant, plan_kinds, by_second, command_by};
+ghost use Rattle.run_defs.specs.Script.{of_ahead, of_bit, of_pattern, said_by, plan_meant, plan_flip_meant, plan_kinds};
+ghost use Rattle.run_defs.specs.Script.{by_second, command_by};
 
 use crate::counted::{one, three};
 use crate::values::{byte, number};
@@ -57,7 +59,8 @@ fn plan_for(fabric: &Fabric, kind: PlanKind, args: Words) -> Result<Command, Fau
 
 // `N BIT PATTERN`
 fn plan_flip(fabric: &Fabric, args: Words) -> Result<Command, FaultKind>
-    ensures { result ≡ and_then (said_by (of_ahead ∷ of_bit ∷ of_pattern ∷ []) (words_of args.entry)) (plan_flip_meant fabric.now) }
+    ensures { result ≡ and_then (said_by (of_ahead ∷ of_bit ∷ of_pattern ∷ []) (words_of args.entry))
+        (plan_flip_meant fabric.now) }
 {
     let Some((ahead, bit, pattern)) = three(args) else {
         return Err(FaultKind::BadWord);

@@ -3,7 +3,8 @@
 ghost use Rattle.std.specs.Prelude.{◌≡◌, ◌∷◌, []};
 ghost use Rattle.fab_text.specs.Line.{words_of};
 ghost use Rattle.fab_text.specs.Fault.{and_then};
-ghost use Rattle.run_defs.specs.Script.{OfName, OfNumber, of_port, of_count, of_prio, said_by, open_meant, at_port_meant, provide_meant, send_meant};
+ghost use Rattle.run_defs.specs.Script.{OfName, OfNumber, of_port, of_count, of_prio, said_by, open_meant};
+ghost use Rattle.run_defs.specs.Script.{at_port_meant, provide_meant, send_meant};
 ghost use Rattle.fab_script.specs.Commands.{port_command};
 
 use crate::counted::{four, seven, two};
@@ -37,7 +38,8 @@ pub(crate) enum PortCall {
 
 /// `open H PORT SENDS RECVS`
 pub(crate) fn open(fabric: &Fabric, args: Words) -> Result<Command, FaultKind>
-    ensures { result ≡ and_then (said_by (OfName ∷ of_port ∷ of_count ∷ of_count ∷ []) (words_of args.entry)) (open_meant fabric.now) }
+    ensures { result ≡ and_then (said_by (OfName ∷ of_port ∷ of_count ∷ of_count ∷ []) (words_of args.entry))
+        (open_meant fabric.now) }
 {
     let Some((h, port, sends, recvs)) = four(args) else {
         return Err(FaultKind::BadWord);
@@ -57,7 +59,8 @@ pub(crate) fn open(fabric: &Fabric, args: Words) -> Result<Command, FaultKind>
 
 /// `close H PORT`, `poll H PORT`, `tokens H PORT`
 pub(crate) fn at_port(fabric: &Fabric, call: PortCall, args: Words) -> Result<Command, FaultKind>
-    ensures { result ≡ and_then (said_by (OfName ∷ of_port ∷ []) (words_of args.entry)) (at_port_meant (port_command call) fabric.now) }
+    ensures { result ≡ and_then (said_by (OfName ∷ of_port ∷ []) (words_of args.entry))
+        (at_port_meant (port_command call) fabric.now) }
 {
     let Some((h, port)) = two(args) else {
         return Err(FaultKind::BadWord);
@@ -74,7 +77,8 @@ pub(crate) fn at_port(fabric: &Fabric, call: PortCall, args: Words) -> Result<Co
 
 /// `provide H PORT SIZE PRIO`
 pub(crate) fn provide(fabric: &Fabric, args: Words) -> Result<Command, FaultKind>
-    ensures { result ≡ and_then (said_by (OfName ∷ of_port ∷ OfNumber 0 31 ∷ of_prio ∷ []) (words_of args.entry)) (provide_meant fabric.now) }
+    ensures { result ≡ and_then (said_by (OfName ∷ of_port ∷ OfNumber 0 31 ∷ of_prio ∷ []) (words_of args.entry))
+        (provide_meant fabric.now) }
 {
     let Some((h, port, size, prio)) = four(args) else {
         return Err(FaultKind::BadWord);
@@ -94,7 +98,8 @@ pub(crate) fn provide(fabric: &Fabric, args: Words) -> Result<Command, FaultKind
 
 /// `send H PORT B BPORT PRIO LEN SEED`
 pub(crate) fn send(fabric: &Fabric, args: Words) -> Result<Command, FaultKind>
-    ensures { result ≡ and_then (said_by (OfName ∷ of_port ∷ OfName ∷ of_port ∷ of_prio ∷ OfNumber 0 1000000 ∷ OfNumber 0 255 ∷ []) (words_of args.entry)) (send_meant fabric.now) }
+    ensures { result ≡ and_then (said_by (OfName ∷ of_port ∷ OfName ∷ of_port ∷ of_prio ∷ OfNumber 0 1000000
+        ∷ OfNumber 0 255 ∷ []) (words_of args.entry)) (send_meant fabric.now) }
 {
     let Some(((h, port, b), (dport, prio, len, seed))) = seven(args) else {
         return Err(FaultKind::BadWord);

@@ -39,12 +39,14 @@ impl Script {
     }
 }
 
-/// Reads the script of a text: the lines behind its line `script`, which has the number `line`. Names are those of the fabric.
+/// Reads the script of a text: the lines behind its line `script`, which has the number `line`. Names are those of
+/// the fabric.
 ///
-/// A script that isn't of the form is refused with its first fault: the first line that has one, and in it, in this order, the first
-/// word (with `plan` and `step` the second word too), the number of words, each further word's form from left to right, and then the
-/// rules of the fabric: `NoVertex` for a name that no vertex has, or a switch's where a host must stand, and `PortRange` for a port
-/// that its vertex lacks. A script without `end` is refused at the line behind its last.
+/// A script that isn't of the form is refused with its first fault: the first line that has one, and in it, in this
+/// order, the first word (with `plan` and `step` the second word too), the number of words, each further word's form
+/// from left to right, and then the rules of the fabric: `NoVertex` for a name that no vertex has, or a switch's
+/// where a host must stand, and `PortRange` for a port that its vertex lacks. A script without `end` is refused at
+/// the line behind its last.
 pub fn read_script(alloc: Global, text: &[u8], line: u32, f: &Fabric) -> Result<Script, TextFault>
     requires { line + length text.now ≤ 4294967290 }
     // Exactly the commands that the lines say, or exactly the first fault.

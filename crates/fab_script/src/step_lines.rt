@@ -1,9 +1,12 @@
-//! Lines of single events: `step` and one word more, which counts with it. A channel is named by the end that it leaves.
+//! Lines of single events: `step` and one word more, which counts with it. A channel is named by the end that it
+//! leaves.
 
 ghost use Rattle.std.specs.Prelude.{◌≡◌, ◌∷◌, []};
 ghost use Rattle.fab_text.specs.Line.{words_of};
 ghost use Rattle.fab_text.specs.Fault.{and_then};
-ghost use Rattle.run_defs.specs.Script.{OfName, OfNumber, of_switch_port, of_bit, of_pattern, said_by, host_step_meant, end_step_meant, flip_step_meant, expire_meant, replay_meant, step_kinds, by_second, command_by};
+ghost use Rattle.run_defs.specs.Script.{OfName, OfNumber, of_switch_port, of_bit, of_pattern, said_by, host_step_meant};
+ghost use Rattle.run_defs.specs.Script.{end_step_meant, flip_step_meant, expire_meant, replay_meant, step_kinds};
+ghost use Rattle.run_defs.specs.Script.{by_second, command_by};
 ghost use Rattle.fab_script.specs.Commands.{end_step, host_step};
 
 use crate::counted::{four, one, two};
@@ -74,7 +77,8 @@ fn step_by(fabric: &Fabric, second: &[u8], args: Words) -> Result<Command, Fault
 
 // `H`
 fn at_host(fabric: &Fabric, step: HostStep, args: Words) -> Result<Command, FaultKind>
-    ensures { result ≡ and_then (said_by (OfName ∷ []) (words_of args.entry)) (host_step_meant (host_step step) fabric.now) }
+    ensures { result ≡ and_then (said_by (OfName ∷ []) (words_of args.entry))
+        (host_step_meant (host_step step) fabric.now) }
 {
     let Some(h) = one(args) else {
         return Err(FaultKind::BadWord);
@@ -89,7 +93,8 @@ fn at_host(fabric: &Fabric, step: HostStep, args: Words) -> Result<Command, Faul
 
 // `V P`
 fn at_end(fabric: &Fabric, step: EndStep, args: Words) -> Result<Command, FaultKind>
-    ensures { result ≡ and_then (said_by (OfName ∷ of_switch_port ∷ []) (words_of args.entry)) (end_step_meant (end_step step) fabric.now) }
+    ensures { result ≡ and_then (said_by (OfName ∷ of_switch_port ∷ []) (words_of args.entry))
+        (end_step_meant (end_step step) fabric.now) }
 {
     let Some((v, p)) = two(args) else {
         return Err(FaultKind::BadWord);
@@ -108,7 +113,8 @@ fn at_end(fabric: &Fabric, step: EndStep, args: Words) -> Result<Command, FaultK
 
 // `V P BIT PATTERN`
 fn flip(fabric: &Fabric, args: Words) -> Result<Command, FaultKind>
-    ensures { result ≡ and_then (said_by (OfName ∷ of_switch_port ∷ of_bit ∷ of_pattern ∷ []) (words_of args.entry)) (flip_step_meant fabric.now) }
+    ensures { result ≡ and_then (said_by (OfName ∷ of_switch_port ∷ of_bit ∷ of_pattern ∷ []) (words_of args.entry))
+        (flip_step_meant fabric.now) }
 {
     let Some((v, p, bit, pattern)) = four(args) else {
         return Err(FaultKind::BadWord);

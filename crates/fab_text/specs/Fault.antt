@@ -3,7 +3,8 @@ use Rattle.std.specs.Prelude.{◌≡◌, ℕ, List, Result, Ok, Err, codes}
 use Rattle.fab_text.specs.declared.fault.NumFault.{NumFault}
 use Rattle.fab_text.specs.declared.fault.NumFault.TheVariants.{NotNumber as NoNumber, TooLarge as AboveRange}
 use Rattle.fab_text.specs.declared.fault.FaultKind.{FaultKind}
-use Rattle.fab_text.specs.declared.fault.FaultKind.TheVariants.{BadWord, NotNumber, TooLarge, NameTaken, NoVertex, PortRange, PortUsed, Full, NoEnd, AfterEnd}
+use Rattle.fab_text.specs.declared.fault.FaultKind.TheVariants.{BadWord, NotNumber, TooLarge, NameTaken, NoVertex}
+use Rattle.fab_text.specs.declared.fault.FaultKind.TheVariants.{PortRange, PortUsed, Full, NoEnd, AfterEnd}
 use Rattle.fab_text.specs.declared.fault.LineFault.{LineFault}
 use Rattle.fab_text.specs.declared.fault.LineFault.TheVariants.{Wrong, NoMemory as NoMemoryInLine}
 use Rattle.fab_text.specs.declared.fault.TextFault.{TextFault}

@@ -1,5 +1,6 @@
 -- The lines of a text and the words of a line.
-use Rattle.std.specs.Prelude.{ℕ, ◌+◌, ◌-◌, Bool, true, false, ◌&&◌, ◌||◌, not, List, [], ◌∷◌, map, filter, length, nat_eq, nat_lt, slice_index, count_by, if◌then◌else◌, Option, Some, None, option_map}
+use Rattle.std.specs.Prelude.{ℕ, ◌+◌, ◌-◌, Bool, true, false, ◌&&◌, ◌||◌, not, List, [], ◌∷◌, map, filter, length}
+use Rattle.std.specs.Prelude.{nat_eq, nat_lt, slice_index, count_by, if◌then◌else◌, Option, Some, None, option_map}
 use Rattle.std.specs.List.{onto_first}
 
 -- LF
@@ -30,8 +31,8 @@ abbrev pub onto_first_line : ℕ → ℕ → List TextLine → List TextLine
 onto_first_line number b [] = record { number = number; bytes = b ∷ []; after = [] } ∷ []
 onto_first_line number b (l ∷ ls) = record l { bytes = b ∷ l.bytes } ∷ ls
 
--- The lines of a text, numbered from a first number on. LF ends a line, the last one may lack it, and a CR directly before an LF
--- is no byte of its line.
+-- The lines of a text, numbered from a first number on. LF ends a line, the last one may lack it, and a CR directly
+-- before an LF is no byte of its line.
 abbrev pub lines_from : ℕ → List ℕ → List TextLine
 lines_from number [] = []
 lines_from number (b ∷ bs) =

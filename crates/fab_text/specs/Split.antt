@@ -5,7 +5,8 @@ use Rattle.fab_text.specs.Line.{is_line_end, is_return}
 
 -- a line that LF ends, without a CR at its end
 abbrev pub without_return : List ℕ → List ℕ
-without_return line = if nat_lt 0 (length line) && is_return (slice_index line (length line - 1)) then take (length line - 1) line else line
+without_return line = if nat_lt 0 (length line) && is_return (slice_index line (length line - 1))
+    then take (length line - 1) line else line
 
 -- what stands before the first LF, or all
 abbrev pub line_before : List ℕ → List ℕ
@@ -13,7 +14,8 @@ line_before text = take (position_or_len is_line_end text) text
 
 -- the first line
 abbrev pub line_front : List ℕ → List ℕ
-line_front text = if nat_lt (position_or_len is_line_end text) (length text) then without_return (line_before text) else text
+line_front text = if nat_lt (position_or_len is_line_end text) (length text) then without_return (line_before text)
+    else text
 
 -- what follows it
 abbrev pub line_back : List ℕ → List ℕ

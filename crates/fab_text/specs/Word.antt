@@ -1,5 +1,6 @@
 -- The forms of words: names, numbers and turns.
-use Rattle.std.specs.Prelude.{ℕ, ◌-◌, ◌^◌, ℤ, pos, neg_ℤ, Bool, ◌&&◌, ◌||◌, List, [], ◌∷◌, length, slice_index, nat_eq, nat_lt, nat_le, if◌then◌else◌, Result, Ok, Err}
+use Rattle.std.specs.Prelude.{ℕ, ◌-◌, ◌^◌, ℤ, pos, neg_ℤ, Bool, ◌&&◌, ◌||◌, List, [], ◌∷◌, length, slice_index, nat_eq}
+use Rattle.std.specs.Prelude.{nat_lt, nat_le, if◌then◌else◌, Result, Ok, Err}
 use Rattle.std.specs.List.{list_all}
 use Rattle.std.specs.Str.Parse.{digits_value}
 use Rattle.fab_text.specs.declared.fault.NumFault.{NumFault}
@@ -28,7 +29,8 @@ number_test w = nat_lt 0 (length w) && list_all is_digit w
 -- the number that a word says, which may be at most so large
 abbrev pub number_within : ℕ → List ℕ → Result ℕ NumFault
 number_within most w =
-    if number_test w then (if nat_le (digits_value 10 w) most then Ok (digits_value 10 w) else Err TooLarge) else Err NotNumber
+    if number_test w then (if nat_le (digits_value 10 w) most then Ok (digits_value 10 w) else Err TooLarge)
+    else Err NotNumber
 
 -- the number of 32 bits that a word says
 abbrev pub u32_of : List ℕ → Result ℕ NumFault

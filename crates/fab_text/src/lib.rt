@@ -1,7 +1,7 @@
 //! Texts in lines and words: names, numbers, turns, and the kinds of fault that a text can have.
 //!
-//! It knows no command and no fabric, and takes no memory. `specs/Line.antt` says what a line and a word are, `specs/Word.antt`
-//! what a name, a number and a turn are, `specs/Fault.antt` what a first fault is.
+//! It knows no command and no fabric, and takes no memory. `specs/Line.antt` says what a line and a word are,
+//! `specs/Word.antt` what a name, a number and a turn are, `specs/Fault.antt` what a first fault is.
 //!
 //! ```text
 //!   # two hosts        1  passed over: a comment

@@ -9,7 +9,8 @@ use crate::line_words::Words;
 
 // The first line of a text without its end, and what follows it.
 pub(crate) fn split_line(text: &[u8]) -> Option<(&[u8], &[u8])>
-    ensures parts { MatchOption result (text.now ≡ []) (λ parts. (parts.0.now ≡ line_front text.now) × (parts.1.now ≡ line_back text.now)) }
+    ensures parts { MatchOption result (text.now ≡ []) (λ parts.
+        (parts.0.now ≡ line_front text.now) × (parts.1.now ≡ line_back text.now)) }
     ensures shorter { MatchOption result (text.now ≡ []) (λ parts. length parts.1.now < length text.now) }
 {
     if text.is_empty() {

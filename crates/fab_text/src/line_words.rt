@@ -38,7 +38,8 @@ impl<'a> Words<'a> {
 
     /// The next word. None where only blanks are left.
     pub fn next_word(&mut self) -> Option<&'a [u8]>
-        ensures { MatchOption result ((words_of self.old ≡ []) × (words_of self.new ≡ [])) (λ w. words_of self.old ≡ w.now ∷ words_of self.new) }
+        ensures { MatchOption result ((words_of self.old ≡ []) × (words_of self.new ≡ [])) (λ w.
+            words_of self.old ≡ w.now ∷ words_of self.new) }
     {
         match split_word(self.rest) {
             Some((word, rest)) => {
@@ -76,7 +77,8 @@ impl<'a> Words<'a> {
 
     /// The four words that are left, as two pairs. None where there are fewer, or more.
     pub fn four(mut self) -> Option<((&'a [u8], &'a [u8]), (&'a [u8], &'a [u8]))>
-        ensures { option_map (λ p. ((p.0.0.now, p.0.1.now), (p.1.0.now, p.1.1.now))) result ≡ four_of (words_of self.entry) }
+        ensures { option_map (λ p. ((p.0.0.now, p.0.1.now), (p.1.0.now, p.1.1.now))) result
+            ≡ four_of (words_of self.entry) }
     {
         let (Some(first), Some(second)) = (self.next_word(), self.next_word()) else {
             return None;
@@ -90,7 +92,8 @@ impl<'a> Words<'a> {
 
 // The first word of a line, and what follows it.
 fn split_word(line: &[u8]) -> Option<(&[u8], &[u8])>
-    ensures { MatchOption result (words_of line.now ≡ []) (λ parts. words_of line.now ≡ parts.0.now ∷ words_of parts.1.now) }
+    ensures { MatchOption result (words_of line.now ≡ []) (λ parts.
+        words_of line.now ≡ parts.0.now ∷ words_of parts.1.now) }
 {
     match word_start(line) {
         Some(start) => {

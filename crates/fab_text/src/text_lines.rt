@@ -7,7 +7,8 @@ ghost use Rattle.fab_text.specs.Line.{LinesLeft, lines_left, numbered_lines};
 use crate::line::{says_nothing, split_line};
 use std::marker::Model;
 
-/// The lines of a text that say something, with their numbers. Contracts see the number of the next line and the text that is left.
+/// The lines of a text that say something, with their numbers. Contracts see the number of the next line and the text
+/// that is left.
 #[derive(Drop)]
 pub struct Lines<'a> {
     number: u32,
@@ -44,7 +45,8 @@ impl<'a> Lines<'a> {
     /// The next line that says something, with its number. None where only blank lines and comments are left.
     pub fn next_line(&mut self) -> Option<(u32, &'a [u8])>
         ensures lines { MatchOption result ((lines_left self.old ≡ []) × (lines_left self.new ≡ []))
-            (λ l. lines_left self.old ≡ record { number = l.0; bytes = l.1.now; after = self.new.text } ∷ lines_left self.new) }
+            (λ l. lines_left self.old ≡ record { number = l.0; bytes = l.1.now; after = self.new.text }
+            ∷ lines_left self.new) }
         ensures bounded { IfSome result (λ l. l.0 + length self.new.text ≤ 4294967290) }
         ensures shorter { MatchOption result (self.new.text ≡ []) (λ l. length self.new.text < length self.old.text) }
     {

@@ -1,7 +1,9 @@
 -- When an event may be given to a world.
 use Rattle.std.specs.Prelude.{◌≡◌, ℕ, ◌≤◌, ◌<◌, true, length}
 use Rattle.world_defs.specs.declared.event.Event.{Event}
-use Rattle.world_defs.specs.declared.event.Event.TheVariants.{Ask, Part, Inject, Advance, Lose, Repeat, Hold, Flip, Replay, Reset, Expire, GiveUp, Begin, Close, Provide, Send, Poll}
+use Rattle.world_defs.specs.declared.event.Event.TheVariants.{Ask, Part, Inject, Advance, Lose, Repeat, Hold, Flip}
+use Rattle.world_defs.specs.declared.event.Event.TheVariants.{Replay, Reset, Expire, GiveUp, Begin, Close, Provide}
+use Rattle.world_defs.specs.declared.event.Event.TheVariants.{Send, Poll}
 use Rattle.world_defs.specs.World.{WorldState, host_count}
 
 -- the host is there
@@ -12,7 +14,8 @@ IsHostOf w h = h < host_count w
 abbrev pub IsChannelOf : WorldState → ℕ → Type 0
 IsChannelOf w c = c < length w.links.channels
 
--- The hosts, ports and channels of an event are there, a loopback probe has room for its way back, and a message has one of two priorities.
+-- The hosts, ports and channels of an event are there, a loopback probe has room for its way back, and a message has
+-- one of two priorities.
 abbrev pub IsGiven : WorldState → Event → Type 0
 IsGiven w (Ask h walk looped) = IsHostOf w h × (looped ≡ true → length walk ≤ 31)
 IsGiven w (Part dst part) = IsHostOf w dst
@@ -29,5 +32,6 @@ IsGiven w (GiveUp h) = IsHostOf w h
 IsGiven w (Begin h port sends recvs) = IsHostOf w h × (port < 8)
 IsGiven w (Close h port) = IsHostOf w h × (port < 8)
 IsGiven w (Provide h port size prio) = IsHostOf w h × (port < 8)
-IsGiven w (Send h port dest dport prio len seed) = IsHostOf w h × IsHostOf w dest × (port < 8) × (dport < 8) × (prio < 2)
+IsGiven w (Send h port dest dport prio len seed) =
+    IsHostOf w h × IsHostOf w dest × (port < 8) × (dport < 8) × (prio < 2)
 IsGiven w (Poll h port) = IsHostOf w h × (port < 8)

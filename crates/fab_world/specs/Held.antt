@@ -32,7 +32,8 @@ world_of p hosts adopted = record {
   harmed = p.harmed;
 }
 
--- What a world keeps: its fabric is one, it is a world of that, the numbers of each connection are in order, planned flips have patterns of eight bits, and adopted routes are of its hosts.
+-- What a world keeps: its fabric is one, it is a world of that, the numbers of each connection are in order, planned
+-- flips have patterns of eight bits, and adopted routes are of its hosts.
 pub record IsMoment (w : WorldState) : Type 0 where
   pub fabric : IsFabric (fabric_of w)
   pub world : IsWorld w
@@ -65,7 +66,8 @@ IsSendingAt w h s effect v = IsCallAt w h s.port (λ n c. sent_by n s c) effect 
 
 -- an arrival at a host is told so, and leaves these links, whatever it made of the host
 abbrev pub IsToldOf : LinksAndPlan → ℕ → Arrival → Effect → LinksAndPlan → Type 0
-IsToldOf old h arrival effect new = (w : WorldState) (n : NodeState) → arrived (with_part w old) h (arrival, n) ≡ (effect, with_part (with_node w h n) new)
+IsToldOf old h arrival effect new = (w : WorldState) (n : NodeState)
+    → arrived (with_part w old) h (arrival, n) ≡ (effect, with_part (with_node w h n) new)
 
 -- a packet of these links was dropped at a host, and counts
 abbrev pub CountsDrop : LinksAndPlan → LinksAndPlan → Type 0

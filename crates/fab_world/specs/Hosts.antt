@@ -19,4 +19,5 @@ no_host = unused_host 0 0
 -- Each host stands at its address and knows how many there are, and an address has two bytes.
 pub record AreHosts (ss : List ServedHost) : Type 0 where
   pub few : length ss < 2 ^ 16
-  pub own : (h : ℕ) → h < length ss → ((slice_index_or ss h no_host).host ≡ h) × ((slice_index_or ss h no_host).hosts ≡ length ss)
+  pub own : (h : ℕ) → h < length ss → ((slice_index_or ss h no_host).host ≡ h)
+      × ((slice_index_or ss h no_host).hosts ≡ length ss)

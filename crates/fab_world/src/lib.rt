@@ -1,8 +1,10 @@
-//! The world: the links of a fabric, its hosts with their clients, the plan of faults and the counts, and one event of it.
+//! The world: the links of a fabric, its hosts with their clients, the plan of faults and the counts, and one event
+//! of it.
 //!
-//! [`World::step`] answers exactly the effect and leaves exactly the world of the definition `step` of `world_defs`. So each law of worlds after
-//! every list of events is a law of this one. `specs/Events.antt` says which events may be given. Routes are adopted once: no others after them.
-//! `specs/Adopting.antt` of `adopted_routes` says which may be.
+//! [`World::step`] answers exactly the effect and leaves exactly the world of the definition `step` of `world_defs`.
+//! So each law of worlds after every list of events is a law of this one. `specs/Events.antt` says which events may
+//! be given. Routes are adopted once: no others after them. `specs/Adopting.antt` of `adopted_routes` says which may
+//! be.
 //!
 //! ```text
 //!             World                      hosts and links, each at its own

@@ -1,6 +1,7 @@
 //! The world.
 
-ghost use Rattle.std.specs.Prelude.{◌≡◌, ◌≤◌, ◌<◌, ◌^◌, ℕ, length, is_some, option_map, Some, None, IfOk, IfSome, IfNone, OnOk, OnErr};
+ghost use Rattle.std.specs.Prelude.{◌≡◌, ◌≤◌, ◌<◌, ◌^◌, ℕ, length, is_some, option_map, Some, None, IfOk, IfSome};
+ghost use Rattle.std.specs.Prelude.{IfNone, OnOk, OnErr};
 ghost use Rattle.net_defs.specs.Route.{channel_from};
 ghost use Rattle.link_defs.specs.Channel.{channel_count, channel_tail, channel_head};
 ghost use Rattle.link_defs.specs.Hops.{total_hops};
@@ -8,7 +9,7 @@ ghost use Rattle.link_defs.specs.Links.{packet_in, is_idle};
 ghost use Rattle.link_defs.specs.Fault.{next_limbo};
 ghost use Rattle.link_model.specs.Full.{IsNextFull};
 ghost use Rattle.port_graph.specs.Routes.{HandsBack};
-ghost use Rattle.world_defs.specs.Node.{to_send, peer_at, port_at, unacknowledged_to};
+ghost use Rattle.world_defs.specs.Node.{has_staged, to_send, peer_at, port_at, unacknowledged_to};
 ghost use Rattle.world_defs.specs.Table.{active_epoch};
 ghost use Rattle.world_defs.specs.World.{fabric_of, host_count, new_world, node_at, planned, adopted_by};
 ghost use Rattle.world_defs.specs.EightBits.{IsByteFault};
@@ -27,8 +28,8 @@ use std::alloc::{AllocError, Global};
 use std::marker::Model;
 use world_defs::{Effect, Event, Fault};
 
-/// The world of a fabric: its links and what they hold, its hosts with their clients, the routes that are adopted, the plan of faults, and the
-/// counts. Hosts and channels in arguments are there, and a host has eight ports.
+/// The world of a fabric: its links and what they hold, its hosts with their clients, the routes that are adopted,
+/// the plan of faults, and the counts. Hosts and channels in arguments are there, and a host has eight ports.
 ///
 /// It must be spent, by [`World::end`].
 pub struct World {
@@ -57,8 +58,8 @@ impl World {
         Ok(World { fabric, machine })
     }
 
-    /// One event: its effect, and the world after it. Where memory is wanting, nothing has changed, or the packet that would have reached a host
-    /// is lost.
+    /// One event: its effect, and the world after it. Where memory is wanting, nothing has changed, or the packet
+    /// that would have reached a host is lost.
     pub fn step(&mut self, alloc: Global, e: Event) -> Result<Effect, AllocError>
         requires { IsGiven self.old e }
         ensures ok { IfOk result (λ x. step self.old e ≡ (x, self.new)) }
@@ -72,7 +73,8 @@ impl World {
         self.machine.step(alloc, e)
     }
 
-    /// Adopts routes: a host is their adopter from now on, and its table is theirs at once. The same routes may be adopted again, by any host.
+    /// Adopts routes: a host is their adopter from now on, and its table is theirs at once. The same routes may be
+    /// adopted again, by any host.
     ///
     /// Refused routes are handed back, and nothing has changed: `Another` exactly where other routes are adopted.
     pub fn adopt(
@@ -101,14 +103,16 @@ impl World {
         self.machine.adopted.adopter()
     }
 
-    /// How many parts the adopted routes have for a host's table: none for their adopter's, and none where no routes are adopted.
+    /// How many parts the adopted routes have for a host's table: none for their adopter's, and none where no routes
+    /// are adopted.
     pub fn part_count(&self, dst: u16) -> u8
         ensures { result ≡ part_count_for self.now.adopted dst }
     {
         self.machine.adopted.part_count(dst)
     }
 
-    /// Plans a fault for the injection so far ahead, in the place of an earlier one, and answers that injection's number.
+    /// Plans a fault for the injection so far ahead, in the place of an earlier one, and answers that injection's
+    /// number.
     pub fn plan(&mut self, ahead: u64, fault: Fault) -> Result<u128, AllocError>
         requires { 1 ≤ ahead }
         ensures ok { IfOk result (λ number. planned self.old ahead fault ≡ (number, self.new)) }
@@ -180,7 +184,8 @@ impl World {
         self.machine.links.next_full(from)
     }
 
-    /// At least the hops that all packets in channels have left: so many advances at most change something before none does.
+    /// At least the hops that all packets in channels have left: so many advances at most change something before
+    /// none does.
     pub fn hops_bound(&self) -> u64
         ensures enough { total_hops self.now.links ≤ result }
         ensures few { result ≤ 1275264 }
@@ -240,6 +245,14 @@ impl World {
         self.machine.at(host).unacked(peer)
     }
 
+    /// Whether a host has a probe, a part, the reply to a probe or the acknowledgement of a part staged.
+    pub fn has_staged(&self, host: u16) -> bool
+        requires { IsHostOf self.now host }
+        ensures { result ≡ has_staged (node_at self.now host) }
+    {
+        self.machine.at(host).has_staged()
+    }
+
     /// Whether a host has something to send.
     pub fn has_to_send(&self, host: u16) -> bool
         requires { IsHostOf self.now host }
@@ -282,7 +295,8 @@ impl World {
         self.machine.at(host).got(peer)
     }
 
-    /// How many send tokens and how many receive tokens a port of a host was opened with. None exactly where it isn't open.
+    /// How many send tokens and how many receive tokens a port of a host was opened with. None exactly where it isn't
+    /// open.
     pub fn minted(&self, host: u16, port: u8) -> Option<(u16, u16)>
         requires there { IsHostOf self.now host }
         requires port { port < 8 }
@@ -291,7 +305,8 @@ impl World {
         self.machine.at(host).minted(port)
     }
 
-    /// The place of a send token or of a receive token of a port, by its number. None where the client has it, or the port isn't open.
+    /// The place of a send token or of a receive token of a port, by its number. None where the client has it, or the
+    /// port isn't open.
     pub fn token_place(&self, host: u16, port: u8, send: bool, number: u16) -> Option<TokenPlace>
         requires there { IsHostOf self.now host }
         requires port { port < 8 }

@@ -1,13 +1,18 @@
 -- What a line of the fabric part declares, by its words, or its first fault.
-use Rattle.std.specs.Prelude.{ℕ, Bool, false, List, [], ◌∷◌, nat_le, if◌then◌else◌, Option, Some, None, Result, Ok, Err, codes, bytes_eq}
+use Rattle.std.specs.Prelude.{ℕ, Bool, false, List, [], ◌∷◌, nat_le, if◌then◌else◌, Option, Some, None, Result, Ok, Err}
+use Rattle.std.specs.Prelude.{codes, bytes_eq}
 use Rattle.std.specs.Option.{option_map_or}
 use Rattle.net_defs.specs.declared.vertex.Vertex.{Vertex}
 use Rattle.net_defs.specs.declared.fault.GraphFault.{GraphFault}
-use Rattle.net_defs.specs.declared.fault.GraphFault.TheVariants.{PortRange as NoPort, NameTaken as IsTaken, Full as IsFull, NoVertex as Unknown, PortUsed as IsUsed, NoMemory as NoMoreMemory}
+use Rattle.net_defs.specs.declared.fault.GraphFault.TheVariants.{PortRange as NoPort, NameTaken as IsTaken}
+use Rattle.net_defs.specs.declared.fault.GraphFault.TheVariants.{Full as IsFull, NoVertex as Unknown}
+use Rattle.net_defs.specs.declared.fault.GraphFault.TheVariants.{PortUsed as IsUsed, NoMemory as NoMoreMemory}
 use Rattle.net_defs.specs.Network.{Network}
-use Rattle.net_defs.specs.Building.{vertex_named, host_refusal, switch_refusal, cable_refusal, with_host, with_switch, with_cable}
+use Rattle.net_defs.specs.Building.{vertex_named, host_refusal, switch_refusal, cable_refusal, with_host, with_switch}
+use Rattle.net_defs.specs.Building.{with_cable}
 use Rattle.fab_text.specs.declared.fault.FaultKind.{FaultKind}
-use Rattle.fab_text.specs.declared.fault.FaultKind.TheVariants.{BadWord, TooLarge, NameTaken, NoVertex, PortRange, PortUsed, Full}
+use Rattle.fab_text.specs.declared.fault.FaultKind.TheVariants.{BadWord, TooLarge, NameTaken, NoVertex, PortRange}
+use Rattle.fab_text.specs.declared.fault.FaultKind.TheVariants.{PortUsed, Full}
 use Rattle.fab_text.specs.declared.fault.LineFault.{LineFault}
 use Rattle.fab_text.specs.declared.fault.LineFault.TheVariants.{Wrong, NoMemory}
 use Rattle.fab_text.specs.Word.{name_test, u32_of}
@@ -56,7 +61,8 @@ host_line n args = where_there (one_of args) (host_declared n)
 -- `switch NAME PORTS`
 abbrev pub switch_declared : Network → List ℕ → List ℕ → Result Network FaultKind
 switch_declared n name ports =
-    if name_test name then and_then (number_word ports) (λ p. unless (switch_refusal n name p) (with_switch n name p)) else Err BadWord
+    if name_test name then and_then (number_word ports) (λ p. unless (switch_refusal n name p) (with_switch n name p))
+    else Err BadWord
 
 -- what a line `switch NAME PORTS` declares
 abbrev pub switch_line : Network → List (List ℕ) → Result Network FaultKind
@@ -66,11 +72,13 @@ switch_line n args = where_there (two_of args) (λ w. switch_declared n w.0 w.1)
 abbrev pub cable_between : Network → Option Vertex → ℕ → Option Vertex → ℕ → Result Network FaultKind
 cable_between n None p w q = Err NoVertex
 cable_between n (Some v) p None q = Err NoVertex
-cable_between n (Some v) p (Some w) q = unless (cable_refusal n (record { v = v; p = p }) (record { v = w; p = q })) (with_cable n (record { v = v; p = p }) (record { v = w; p = q }))
+cable_between n (Some v) p (Some w) q = unless (cable_refusal n (record { v = v; p = p }) (record { v = w; p = q }))
+    (with_cable n (record { v = v; p = p }) (record { v = w; p = q }))
 
 -- `cable V P W Q`: the forms from left to right, and then the vertices and ports
 abbrev pub cable_declared : Network → List ℕ → List ℕ → List ℕ → List ℕ → Result Network FaultKind
-cable_declared n v p w q = and_then (end_word v p) (λ i. and_then (end_word w q) (λ j. cable_between n (vertex_named n v) i (vertex_named n w) j))
+cable_declared n v p w q = and_then (end_word v p) (λ i.
+    and_then (end_word w q) (λ j. cable_between n (vertex_named n v) i (vertex_named n w) j))
 
 -- what a line `cable V P W Q` declares
 abbrev pub cable_line : Network → List (List ℕ) → Result Network FaultKind

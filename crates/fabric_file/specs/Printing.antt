@@ -45,4 +45,5 @@ fabric_lines n = length n.hosts + length n.switches + length n.cables
 -- A text and then a line `script` are read as the fabric, whatever follows.
 abbrev pub IsReadBack : Network → List ℕ → Type 0
 IsReadBack n text =
-    (rest : List ℕ) → fabric_reading (text ++ (script_line ++ rest)) ≡ Ok (record { fabric = n; next = length text + length script_line; line = fabric_lines n + 1 })
+    (rest : List ℕ) → fabric_reading (text ++ (script_line ++ rest))
+    ≡ Ok (record { fabric = n; next = length text + length script_line; line = fabric_lines n + 1 })

@@ -9,8 +9,8 @@ use Rattle.fab_text.specs.Fault.{FirstFault, at_line, and_then}
 use Rattle.fabric_file.specs.declared.reading.FabricText.{FabricText}
 use Rattle.fabric_file.specs.Declaring.{declared, is_script}
 
--- What the lines up to `script` declare, one after another. `size` is the length of the text, and `past` is one more than the number of
--- its lines.
+-- What the lines up to `script` declare, one after another. `size` is the length of the text, and `past` is one more
+-- than the number of its lines.
 abbrev pub fabric_from : ℕ → ℕ → Network → List TextLine → Result FabricText FirstFault
 fabric_from size past n [] = Err (record { line = past; kind = NoEnd })
 fabric_from size past n (l ∷ ls) =
@@ -20,7 +20,8 @@ fabric_from size past n (l ∷ ls) =
 
 -- The fabric of a text, where it is accepted up to its line `script`, or the first fault.
 abbrev pub fabric_reading : List ℕ → Result FabricText FirstFault
-fabric_reading text = fabric_from (length text) (line_count text + 1) empty_network (lines_left (record { number = 1; text = text }))
+fabric_reading text = fabric_from (length text) (line_count text + 1) empty_network
+    (lines_left (record { number = 1; text = text }))
 
 -- each vertex has a name of the text's form
 abbrev pub AreNamed : Network → Type 0

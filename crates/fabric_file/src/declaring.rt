@@ -3,7 +3,9 @@
 ghost use Rattle.std.specs.Prelude.{◌≡◌};
 ghost use Rattle.fab_text.specs.Line.{words_of};
 ghost use Rattle.fab_text.specs.Fault.{LineLeaves};
-ghost use Rattle.fabric_file.specs.Declaring.{declared, declared_as, host_line, switch_line, cable_line, host_declared, switch_declared, cable_declared, cable_between, number_word, port_word, end_word, added_of, is_script};
+ghost use Rattle.fabric_file.specs.Declaring.{declared, declared_as, host_line, switch_line, cable_line, host_declared};
+ghost use Rattle.fabric_file.specs.Declaring.{switch_declared, cable_declared, cable_between, number_word, port_word};
+ghost use Rattle.fabric_file.specs.Declaring.{end_word, added_of, is_script};
 
 use fab_text::{FaultKind, LineFault, Words, is_name, read_u32, words};
 use port_graph::{End, Fabric, GraphFault, Vertex};

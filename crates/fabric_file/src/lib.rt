@@ -1,7 +1,7 @@
 //! The fabric part of a text: read into a fabric, and printed from one.
 //!
-//! It reads up to the line `script`, and knows no command. `specs/Declaring.antt` says what a line declares, `specs/Reading.antt`
-//! which texts are accepted and what the first fault is, `specs/Printing.antt` what is printed.
+//! It reads up to the line `script`, and knows no command. `specs/Declaring.antt` says what a line declares,
+//! `specs/Reading.antt` which texts are accepted and what the first fault is, `specs/Printing.antt` what is printed.
 //!
 //! ```text
 //!   host a             a host, which has port 0 alone

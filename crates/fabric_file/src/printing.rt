@@ -4,15 +4,16 @@ ghost use Rattle.std.specs.Prelude.{◌≡◌, ◌++◌, flat_map, IfOk, OnOk, I
 ghost use Rattle.net_defs.specs.Network.{has_vertex, IsFabric};
 ghost use Rattle.fabric_file.specs.Reading.{AreNamed};
 ghost use Rattle.fab_text.specs.Written.{line_text};
-ghost use Rattle.fabric_file.specs.Printing.{cable_words, cables_text, fabric_text, host_words, hosts_text, switch_words, switches_text, IsReadBack};
+ghost use Rattle.fabric_file.specs.Printing.{cable_words, cables_text, fabric_text, host_words, hosts_text};
+ghost use Rattle.fabric_file.specs.Printing.{switch_words, switches_text, IsReadBack};
 
 use port_graph::{Cable, Fabric, Vertex};
 use std::alloc::{AllocError, Global};
 
 /// The text of a fabric up to its line `script`: its hosts, its switches and its cables, a line each, in their order.
 ///
-/// Followed by a line `script` it is read back as the same fabric. Its names have the form of the text, as those of a fabric
-/// that was read have.
+/// Followed by a line `script` it is read back as the same fabric. Its names have the form of the text, as those of a
+/// fabric that was read have.
 pub fn print_fabric(alloc: Global, f: &Fabric) -> Result<Vec<u8>, AllocError>
     requires fabric { IsFabric f.now }
     requires named { AreNamed f.now }
@@ -67,7 +68,8 @@ fn host_line(text: &mut Vec<u8>, name: &[u8]) -> Result<(), AllocError>
 
 // `switch NAME PORTS`
 fn switch_line(alloc: Global, text: &mut Vec<u8>, name: &[u8], ports: u8) -> Result<(), AllocError>
-    ensures { OnOk result (text.new.items ≡ text.old.items ++ line_text (switch_words record { name = name.now; ports = ports })) }
+    ensures { OnOk result (text.new.items ≡ text.old.items
+        ++ line_text (switch_words record { name = name.now; ports = ports })) }
 {
     let ports = ports.to_string(alloc)?;
     append(text, &[b"switch ", name, b" ", ports.as_bytes(), b"\n"])

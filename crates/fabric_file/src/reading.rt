@@ -22,8 +22,9 @@ pub struct FabricText {
 
 /// Reads a text up to its line `script` into a fabric.
 ///
-/// A text that isn't of the form is refused with the first fault: the first line that has one, and in it, in this order, the first
-/// word, the number of words, each further word's form from left to right, and what refuses the vertex or the cable.
+/// A text that isn't of the form is refused with the first fault: the first line that has one, and in it, in this
+/// order, the first word, the number of words, each further word's form from left to right, and what refuses the
+/// vertex or the cable.
 pub fn read_fabric(alloc: Global, text: &[u8]) -> Result<FabricText, TextFault>
     requires { length text.now ≤ 4294967290 }
     // Exactly the fabric that the lines declare, or exactly the first fault.

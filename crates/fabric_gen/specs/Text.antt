@@ -1,5 +1,7 @@
--- The text of a generated run: a chain of switches with a host at each, and a script in which each host sends four messages.
-use Rattle.std.specs.Prelude.{ℕ, ◌+◌, ◌-◌, ◌*◌, ◌%◌, List, [], ◌∷◌, ◌++◌, map, flat_map, replicate, codes, decimal, unwrap_or}
+-- The text of a generated run: a chain of switches with a host at each, and a script in which each host sends four
+-- messages.
+use Rattle.std.specs.Prelude.{ℕ, ◌+◌, ◌-◌, ◌*◌, ◌%◌, List, [], ◌∷◌, ◌++◌, map, flat_map, replicate, codes, decimal}
+use Rattle.std.specs.Prelude.{unwrap_or}
 use Rattle.std.specs.List.{range_with_len}
 use Rattle.fab_text.specs.Written.{line_text}
 use Rattle.gm_defs.specs.Token.{size_for_length}
@@ -36,11 +38,13 @@ chain_words i = codes "cable" ∷ switch_name i ∷ codes "0" ∷ switch_name (i
 abbrev pub link_words : ℕ → List (List ℕ)
 link_words i = codes "cable" ∷ host_name i ∷ codes "0" ∷ switch_name i ∷ codes "2" ∷ []
 
--- the fabric of so many hosts: the hosts, the switches, the chain of the switches, each host at its switch, and the end of the fabric
+-- the fabric of so many hosts: the hosts, the switches, the chain of the switches, each host at its switch, and the
+-- end of the fabric
 abbrev pub fabric_lines : ℕ → List (List (List ℕ))
 fabric_lines n =
     map host_words (below n)
-    ++ (map switch_words (below n) ++ (map chain_words (below (n - 1)) ++ (map link_words (below n) ++ (codes "script" ∷ []) ∷ [])))
+    ++ (map switch_words (below n) ++ (map chain_words (below (n - 1))
+    ++ (map link_words (below n) ++ (codes "script" ∷ []) ∷ [])))
 
 -- the depth that host 0 maps the fabric to: as many cables as hosts, and three more
 abbrev pub depth : ℕ → ℕ
@@ -61,7 +65,8 @@ open_lines i =
     ∷ (codes "open" ∷ host_name i ∷ codes "1" ∷ codes "0" ∷ codes "4" ∷ [])
     ∷ []
 
--- the host that a host's message goes to: each message of a host goes on past the host itself by a step that the seed gives
+-- the host that a host's message goes to: each message of a host goes on past the host itself by a step that the seed
+-- gives
 abbrev pub peer : ℕ → ℕ → ℕ → ℕ → ℕ
 peer n seed i m = (i + 1 + (seed + m) % (n - 1)) % n
 
@@ -84,8 +89,10 @@ message_size seed i m = unwrap_or (size_for_length (message_length seed i m)) 0
 -- a message: a buffer for it at the host that it goes to, and its send
 abbrev pub message_lines : ℕ → ℕ → ℕ → ℕ → List (List (List ℕ))
 message_lines n seed i m =
-    (codes "provide" ∷ host_name (peer n seed i m) ∷ codes "1" ∷ decimal (message_size seed i m) ∷ decimal (message_prio m) ∷ [])
-    ∷ (codes "send" ∷ host_name i ∷ codes "0" ∷ host_name (peer n seed i m) ∷ codes "1" ∷ decimal (message_prio m) ∷ decimal (message_length seed i m) ∷ decimal (message_seed seed i m) ∷ [])
+    (codes "provide" ∷ host_name (peer n seed i m) ∷ codes "1" ∷ decimal (message_size seed i m)
+    ∷ decimal (message_prio m) ∷ [])
+    ∷ (codes "send" ∷ host_name i ∷ codes "0" ∷ host_name (peer n seed i m) ∷ codes "1" ∷ decimal (message_prio m)
+    ∷ decimal (message_length seed i m) ∷ decimal (message_seed seed i m) ∷ [])
     ∷ []
 
 -- the four messages of a host

@@ -4,7 +4,8 @@ ghost use Rattle.std.specs.Prelude.{◌≡◌, ◌≤◌, ◌<◌, ◌++◌, ◌
 ghost use Rattle.fab_text.specs.Written.{line_text};
 ghost use Rattle.gm_defs.specs.Token.{size_for_length as least_size};
 ghost use Rattle.fabric_gen.specs.Words.{word_text};
-ghost use Rattle.fabric_gen.specs.Text.{below, host_name, lines_text, client_lines, open_lines, messages_of, message_lines};
+ghost use Rattle.fabric_gen.specs.Text.{below, host_name, lines_text, client_lines, open_lines, messages_of};
+ghost use Rattle.fabric_gen.specs.Text.{message_lines};
 
 use crate::message::{message_length, message_seed, peer};
 use crate::words::{Word, append_line};
@@ -117,7 +118,9 @@ fn append_provide(
     len: u32,
     prio: Word,
 ) -> Result<(), AllocError>
-    ensures { OnOk result (text.new.items ≡ text.old.items ++ line_text (codes "provide" ∷ word_text to ∷ codes "1" ∷ decimal (unwrap_or (least_size len) 0) ∷ word_text prio ∷ [])) }
+    ensures { OnOk result (text.new.items ≡ text.old.items
+        ++ line_text (codes "provide" ∷ word_text to ∷ codes "1" ∷ decimal (unwrap_or (least_size len) 0)
+        ∷ word_text prio ∷ [])) }
 {
     let size = Word::Number(u32::from(size_for_length(len).unwrap_or(0)));
     append_line(
@@ -137,7 +140,9 @@ fn append_send(
     len: u32,
     bytes: u32,
 ) -> Result<(), AllocError>
-    ensures { OnOk result (text.new.items ≡ text.old.items ++ line_text (codes "send" ∷ host_name i ∷ codes "0" ∷ word_text to ∷ codes "1" ∷ word_text prio ∷ decimal len ∷ decimal bytes ∷ [])) }
+    ensures { OnOk result (text.new.items ≡ text.old.items
+        ++ line_text (codes "send" ∷ host_name i ∷ codes "0" ∷ word_text to ∷ codes "1" ∷ word_text prio ∷ decimal len
+        ∷ decimal bytes ∷ [])) }
 {
     append_line(
         alloc,

@@ -1,7 +1,8 @@
 //! The lines of the fabric: hosts, switches and cables.
 
 ghost use Rattle.std.specs.Prelude.{◌≡◌, ◌≤◌, ◌++◌, OnOk, map};
-ghost use Rattle.fabric_gen.specs.Text.{below, lines_text, fabric_lines, host_words, switch_words, chain_words, link_words};
+ghost use Rattle.fabric_gen.specs.Text.{below, lines_text, fabric_lines, host_words, switch_words, chain_words};
+ghost use Rattle.fabric_gen.specs.Text.{link_words};
 
 use crate::words::{Word, append_line};
 use std::alloc::{AllocError, Global};

@@ -1,4 +1,5 @@
-//! The text of a generated run: a fabric of any number of hosts from 2 to 24, and a script that has each host send four messages.
+//! The text of a generated run: a fabric of any number of hosts from 2 to 24, and a script that has each host send
+//! four messages.
 //!
 //! It prints the text, and reads and runs nothing. `specs/Text.antt` says what the text is.
 //!

@@ -18,7 +18,8 @@ pub(crate) fn append_mapping(alloc: Global, text: &mut Vec<u8>, n: u8) -> Result
 
 // `map h0 DEPTH 1`
 fn append_map(alloc: Global, text: &mut Vec<u8>, depth: u32) -> Result<(), AllocError>
-    ensures { OnOk result (text.new.items ≡ text.old.items ++ line_text (codes "map" ∷ host_name 0 ∷ decimal depth ∷ codes "1" ∷ [])) }
+    ensures { OnOk result (text.new.items ≡ text.old.items
+        ++ line_text (codes "map" ∷ host_name 0 ∷ decimal depth ∷ codes "1" ∷ [])) }
 {
     append_line(
         alloc,

@@ -9,7 +9,8 @@ use crate::fabric::append_fabric;
 use crate::mapping::append_mapping;
 use std::alloc::{AllocError, Global};
 
-/// The text of a run of `n` hosts, each of which sends four messages, whose peers, lengths and bytes come from the seed.
+/// The text of a run of `n` hosts, each of which sends four messages, whose peers, lengths and bytes come from the
+/// seed.
 ///
 /// It has the fabric, the line `script` and the script to its line `end`.
 pub fn gen_text(alloc: Global, n: u8, seed: u32) -> Result<Vec<u8>, AllocError>

@@ -1,11 +1,13 @@
 -- How a map in memory grows by a host, a switch or a cable, and what refuses it.
-use Rattle.std.specs.Prelude.{ℕ, ◌<◌, ◌^◌, pos, ◌-ℤ◌, Bool, true, ◌&&◌, ◌||◌, not, List, [], ◌∷◌, ◌++◌, length, nat_eq, nat_lt, nat_le, is_some, if◌then◌else◌, Option, Some, None}
+use Rattle.std.specs.Prelude.{ℕ, ◌<◌, ◌^◌, pos, ◌-ℤ◌, Bool, true, ◌&&◌, ◌||◌, not, List, [], ◌∷◌, ◌++◌, length, nat_eq}
+use Rattle.std.specs.Prelude.{nat_lt, nat_le, is_some, if◌then◌else◌, Option, Some, None}
 use Rattle.std.specs.Ordering.{int_eq}
 use Rattle.std.specs.List.{list_any, list_all}
 use Rattle.net_defs.specs.Turn.{is_turn}
 use Rattle.map_defs.specs.declared.vertex.MapVertex.TheVariants.{Host, Switch}
 use Rattle.map_defs.specs.declared.vertex.MapCable.{MapCable}
-use Rattle.map_defs.specs.NetMap.{NetMap, MapPort, IsMap, first_end, second_end, same_port, map_far, map_ends, is_switch_vertex, switches_of}
+use Rattle.map_defs.specs.NetMap.{NetMap, MapPort, IsMap, first_end, second_end, same_port, map_far, map_ends}
+use Rattle.map_defs.specs.NetMap.{is_switch_vertex, switches_of}
 use Rattle.map_defs.specs.Routing.{is_host_named}
 use Rattle.fabric_map.specs.declared.fault.MapFault.{MapFault}
 use Rattle.fabric_map.specs.declared.fault.MapFault.TheVariants.{HostTaken, Full, NoVertex, PortRange, PortUsed}
@@ -26,7 +28,11 @@ with_host m h = record { vertices = m.vertices ++ Host h ∷ []; cables = m.cabl
 
 -- a switch has the next number
 abbrev pub with_switch : NetMap → Bool → NetMap
-with_switch m mark = record { vertices = m.vertices ++ Switch (length (switches_of m.vertices)) ∷ []; cables = m.cables; core = m.core ++ mark ∷ [] }
+with_switch m mark = record {
+  vertices = m.vertices ++ Switch (length (switches_of m.vertices)) ∷ [];
+  cables = m.cables;
+  core = m.core ++ mark ∷ [];
+}
 
 -- the map with one cable more
 abbrev pub with_cable : NetMap → MapCable → NetMap
@@ -66,7 +72,8 @@ may_have m d = is_turn d.p && ((is_switch_vertex m d.v || int_eq d.p (pos 0)) &&
 
 -- a cable would end where one ends already, or at one port with both ends
 abbrev pub is_used : NetMap → MapCable → Bool
-is_used m c = is_some (map_far m (first_end c)) || is_some (map_far m (second_end c)) || same_port (first_end c) (second_end c)
+is_used m c = is_some (map_far m (first_end c)) || is_some (map_far m (second_end c)) || same_port (first_end c)
+    (second_end c)
 
 -- why it doesn't take a cable
 abbrev pub cable_refusal : NetMap → MapCable → Option MapFault

@@ -16,7 +16,8 @@ addresses_of [] = 0
 addresses_of (Host h ∷ vs) = max (h + 1) (addresses_of vs)
 addresses_of (Switch s ∷ vs) = addresses_of vs
 
--- The count is that of the switches, and the index has the vertex of each host and a place for each address up to the greatest.
+-- The count is that of the switches, and the index has the vertex of each host and a place for each address up to the
+-- greatest.
 pub record IsIndexOf (vertices : List MapVertex) (switches : ℕ) (by_address : List (Option ℕ)) : Type 0 where
   pub counted : switches ≡ length (switches_of vertices)
   pub long : length by_address ≡ addresses_of vertices

@@ -6,7 +6,8 @@
 //!           vertex 0              vertex 1
 //! ```
 
-ghost use Rattle.std.specs.Prelude.{◌≡◌, ◌≢◌, ℕ, ◌<◌, ◌≤◌, ◌*◌, pos, ◌-ℤ◌, ◌++◌, ◌∷◌, [], length, slice_index_or, Option, None, OnOk, OnErr};
+ghost use Rattle.std.specs.Prelude.{◌≡◌, ◌≢◌, ℕ, ◌<◌, ◌≤◌, ◌*◌, pos, ◌-ℤ◌, ◌++◌, ◌∷◌, [], length, slice_index_or};
+ghost use Rattle.std.specs.Prelude.{Option, None, OnOk, OnErr};
 ghost use Rattle.net_defs.specs.Turn.{is_turn, IsTurn};
 ghost use Rattle.map_defs.specs.NetMap.{MapPort, first_end, second_end, far_port};
 ghost use Rattle.fabric_map.specs.Growing.{are_near};

@@ -1,7 +1,7 @@
 //! A map in memory: vertices, cables and core marks, with the far end of each port and the vertex of each host.
 //!
-//! It makes no map of a journal and reads no text. What a contract sees of a `FabricMap` is a `NetMap` of `map_defs`, whose
-//! `specs/NetMap.antt` says what each call means; `specs/Growing.antt` here says what it takes.
+//! It makes no map of a journal and reads no text. What a contract sees of a `FabricMap` is a `NetMap` of `map_defs`,
+//! whose `specs/NetMap.antt` says what each call means; `specs/Growing.antt` here says what it takes.
 //!
 //! | module | has |
 //! |---|---|

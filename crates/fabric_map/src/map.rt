@@ -1,11 +1,14 @@
 //! A map in memory: reading it, growing it, marking its core.
 
-ghost use Rattle.std.specs.Prelude.{◌≡◌, ℕ, ◌<◌, ◌≤◌, ◌↔◌, IsTrue, true, length, position, Some, None, IfSome, IfOk, IfErr, OnOk, OnErr};
+ghost use Rattle.std.specs.Prelude.{◌≡◌, ℕ, ◌<◌, ◌≤◌, ◌↔◌, IsTrue, true, length, position, Some, None, IfSome, IfOk};
+ghost use Rattle.std.specs.Prelude.{IfErr, OnOk, OnErr};
 ghost use Rattle.net_defs.specs.Refusal.{Refuses};
 ghost use Rattle.net_defs.specs.Turn.{IsTurn};
 ghost use Rattle.map_defs.specs.NetMap.{map_far, host_of_vertex, is_switch_vertex, switches_of, IsMap};
 ghost use Rattle.map_defs.specs.Routing.{vertex_of_host};
-ghost use Rattle.fabric_map.specs.Growing.{IsFabricMap, empty_map, with_host, with_switch, with_cable, with_core, has_host, host_refusal, switch_refusal, cable_refusal, is_full as fullness, may_have, is_used};
+ghost use Rattle.fabric_map.specs.Growing.{IsFabricMap, empty_map, with_host, with_switch, with_cable, with_core};
+ghost use Rattle.fabric_map.specs.Growing.{has_host, host_refusal, switch_refusal, cable_refusal, is_full as fullness};
+ghost use Rattle.fabric_map.specs.Growing.{may_have, is_used};
 ghost use Rattle.fabric_map.specs.Listing.{addresses_of};
 ghost use Rattle.fabric_map.specs.Table.{far_pair};
 
@@ -33,7 +36,8 @@ impl Model for FabricMap {
 
     ghost view = { λ m. record { vertices = m.vertices.vertices; cables = m.cabling; core = m.vertices.core } };
 
-    ghost invariant = { λ m. IsFabricMap (record { vertices = m.vertices.vertices; cables = m.cabling; core = m.vertices.core }) };
+    ghost invariant = { λ m.
+        IsFabricMap (record { vertices = m.vertices.vertices; cables = m.cabling; core = m.vertices.core }) };
 }
 
 impl FabricMap {
@@ -128,8 +132,9 @@ impl FabricMap {
         }
     }
 
-    /// Adds a cable, and answers its number. Refused in this order: `NoVertex` of the first end, of the second, `PortRange` of the
-    /// first, of the second, of both together, `PortUsed` where one has a cable or both are one port, `Full`.
+    /// Adds a cable, and answers its number. Refused in this order: `NoVertex` of the first end, of the second,
+    /// `PortRange` of the first, of the second, of both together, `PortUsed` where one has a cable or both are one
+    /// port, `Full`.
     pub fn add_cable(&mut self, c: MapCable) -> Result<u32, MapFault>
         ensures number { IfOk result (λ k. k ≡ length self.old.cables) }
         ensures added { OnOk result (self.new ≡ with_cable self.old c) }

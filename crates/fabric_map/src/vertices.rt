@@ -1,6 +1,7 @@
 //! The vertices of a map with their marks, and an index of the hosts by address.
 
-ghost use Rattle.std.specs.Prelude.{◌≡◌, ℕ, ◌<◌, max, true, ◌++◌, ◌∷◌, [], length, position, slice_index_or, Some, None, OnOk, OnErr, slice_get};
+ghost use Rattle.std.specs.Prelude.{◌≡◌, ℕ, ◌<◌, max, true, ◌++◌, ◌∷◌, [], length, position, slice_index_or, Some};
+ghost use Rattle.std.specs.Prelude.{None, OnOk, OnErr, slice_get};
 ghost use Rattle.map_defs.specs.declared.vertex.MapVertex.{MapVertex};
 ghost use Rattle.map_defs.specs.NetMap.{switches_of, host_at};
 ghost use Rattle.map_defs.specs.Routing.{is_host_named};
@@ -80,7 +81,10 @@ impl Vertices {
     pub(crate) fn push_host(&mut self, h: u16) -> Result<(), AllocError>
         requires new { position (is_host_named h) self.old.vertices ≡ None }
         requires few { length self.old.vertices < 4294967295 }
-        ensures ok { OnOk result (self.new ≡ record { vertices = self.old.vertices ++ MapVertex.Host h ∷ []; core = self.old.core ++ true ∷ [] }) }
+        ensures ok { OnOk result (self.new ≡ record {
+          vertices = self.old.vertices ++ MapVertex.Host h ∷ [];
+          core = self.old.core ++ true ∷ [];
+        }) }
         ensures err { OnErr result (self.new ≡ self.old) }
     {
         let vertex = self.vertices.len() as u32;
@@ -96,7 +100,11 @@ impl Vertices {
     /// Adds the next switch with a mark.
     pub(crate) fn push_switch(&mut self, mark: bool) -> Result<(), AllocError>
         requires { length self.old.vertices < 4294967295 }
-        ensures ok { OnOk result (self.new ≡ record { vertices = self.old.vertices ++ MapVertex.Switch (length (switches_of self.old.vertices)) ∷ []; core = self.old.core ++ mark ∷ [] }) }
+        ensures ok { OnOk result (self.new ≡ record {
+          vertices = self.old.vertices
+              ++ MapVertex.Switch (length (switches_of self.old.vertices)) ∷ [];
+          core = self.old.core ++ mark ∷ [];
+        }) }
         ensures err { OnErr result (self.new ≡ self.old) }
     {
         self.core.reserve(1)?;

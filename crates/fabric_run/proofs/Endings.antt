@@ -1,7 +1,5 @@
 -- How a run ends, from how its parts end.
-use Rattle.std.proofs.Common.{◌≡◌, ◌⊎◌, inl, inr, ℕ, List, [], ◌∷◌, Bool, length, get_or, IsTrue, Option, Some, None, Ok, Err, refl, subst, ap, sym, ◌∙◌, arith}
-use Rattle.std.specs.Prelude.{bytes_eq, codes}
-use Rattle.std.proofs.lemmas.Slice.Eq.{bytes_eq-Decides}
+use Rattle.std.proofs.Common.{◌≡◌, ◌⊎◌, inl, inr, ℕ, List, [], Option, Some, None, Ok, Err, refl, subst, ap, sym, ◌∙◌}
 use Rattle.std.specs.Io.KnownBytes.{Appends, Keeps}
 use Rattle.std.proofs.KnownBytes.{Appends-nil}
 use Rattle.fab_outer.specs.Whole.{TakesPrefix}
@@ -10,21 +8,7 @@ use Rattle.run_defs.specs.Session.{SessionState}
 use Rattle.fabric_run.specs.declared.status.Status.{Status}
 use Rattle.fabric_run.specs.declared.status.Status.TheVariants.{Done, Usage, Refused, ReadFault, WriteFault, NoMemory, TooLong}
 use Rattle.fabric_run.specs.Reading.{AcceptedText, reading}
-use Rattle.fabric_run.specs.Ends.{IsForm, Came, IsWriteCut, IsMemoryCut, refusal_text, Moment, RefusalEnds, ReportEnds, TextEnds, InputEnds}
-
--- one word is the form exactly where it is `run`
-pub one-word : (words : List (List ℕ)) (w : List ℕ) → length words ≡ 1 → w ≡ get_or words 0 w → words ≡ w ∷ []
-one-word [] w e f = cc
-one-word (x ∷ []) w e f = ap (λ y. y ∷ []) (sym f)
-one-word (x ∷ y ∷ ys) w e f = absurd (omega arith)
-
-pub form-word : (words : List (List ℕ)) (w : List ℕ) (test : Bool) → length words ≡ 1 → w ≡ get_or words 0 w → test ≡ bytes_eq w (codes "run") → (IsTrue test → IsForm words) × (IsForm words → IsTrue test)
-form-word words w test e f t =
-    let one = one-word words w e f in
-    let d = bytes_eq-Decides w (codes "run") in (
-      (λ yes. one ∙ ap (λ y. y ∷ []) (d.0 (sym t ∙ yes))),
-      (λ form. t ∙ d.1 (f ∙ ap (λ l. get_or l 0 w) form)),
-    )
+use Rattle.fabric_run.specs.Ends.{Came, IsWriteCut, IsMemoryCut, refusal_text, Moment, RefusalEnds, ReportEnds, TextEnds, InputEnds}
 
 -- bytes stay as they are
 pub keeps-same : (taken : Option (List ℕ)) → Keeps taken taken

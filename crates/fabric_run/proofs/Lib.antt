@@ -1,3 +1,4 @@
+pub mod Counting
 pub mod Endings
 pub mod Promises
 pub mod Writing

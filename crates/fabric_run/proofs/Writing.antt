@@ -13,6 +13,7 @@ use Rattle.run_defs.specs.Session.{SessionState, new_session}
 use Rattle.run_defs.specs.Run.{Runs}
 use Rattle.run_defs.specs.Run.Runs.{ended}
 use Rattle.run_defs.specs.LineText.{output_text}
+use Rattle.fab_report.specs.Printed.{PrintedState}
 use Rattle.run_laws.proofs.RunsOnce.{runs-more, first_runs_are_part, text_of_both}
 use Rattle.run_session.specs.Obeyed.{IsObeyed}
 use Rattle.fabric_run.specs.Reading.{AcceptedText}
@@ -68,23 +69,23 @@ part-of-all n cs k taken now s out part rest r e took all end whole =
     )
 
 -- one command more ran, and its text was taken
-pub more-ran : (n : Network) (cs : List Command) (i : ℕ) (taken between now : Option (List ℕ)) (s next : SessionState) (c : Command) (text : List ℕ) → i < length cs → c ≡ get_or cs i c
-    → HaveRun n (take i cs) taken between s → fabric_of s.world ≡ n → IsObeyed s c next text → Appends between now text → HaveRun n (take (suc i) cs) taken now next
-more-ran n cs i taken between now s next c text low at ran net does took = record {
+pub more-ran : (n : Network) (cs : List Command) (i : ℕ) (taken between now : Option (List ℕ)) (s next : SessionState) (c : Command) (p : PrintedState) → i < length cs → c ≡ get_or cs i c
+    → HaveRun n (take i cs) taken between s → fabric_of s.world ≡ n → IsObeyed s c next p → Appends between now p.text → HaveRun n (take (suc i) cs) taken now next
+more-ran n cs i taken between now s next c p low at ran net does took = record {
   output = ran.output ++ does.output;
   run = subst (λ l. Runs (new_session n) l (ran.output ++ does.output) next) (sym (take-one cs i c low at)) (runs-more c does.output ran.run does.does);
-  took = subst (Appends taken now) (ap (λ l. output_text n ran.output ++ l) does.printed ∙ sym (output-on n (fabric_of s.world) ran.output does.output net))
-      (Appends-trans taken between now (output_text n ran.output) text ran.took took);
+  took = subst (Appends taken now) (ap (λ (q : PrintedState). output_text n ran.output ++ q.text) does.printed ∙ sym (output-on n (fabric_of s.world) ran.output does.output net))
+      (Appends-trans taken between now (output_text n ran.output) p.text ran.took took);
 }
 
 -- one command more ran, and the front of its text was taken
-pub cut-ran : (n : Network) (cs : List Command) (i : ℕ) (taken between now : Option (List ℕ)) (s next : SessionState) (c : Command) (text : List ℕ) → i < length cs → c ≡ get_or cs i c
-    → HaveRun n (take i cs) taken between s → fabric_of s.world ≡ n → IsObeyed s c next text → TakesPrefix between now text
+pub cut-ran : (n : Network) (cs : List Command) (i : ℕ) (taken between now : Option (List ℕ)) (s next : SessionState) (c : Command) (p : PrintedState) → i < length cs → c ≡ get_or cs i c
+    → HaveRun n (take i cs) taken between s → fabric_of s.world ≡ n → IsObeyed s c next p → TakesPrefix between now p.text
     → IsCutOff (record { network = n; commands = cs }) taken now (Some next)
-cut-ran n cs i taken between now s next c text low at ran net does took =
+cut-ran n cs i taken between now s next c p low at ran net does took =
     let run : Runs (new_session n) (take (suc i) cs) (ran.output ++ does.output) next =
     subst (λ l. Runs (new_session n) l (ran.output ++ does.output) next) (sym (take-one cs i c low at)) (runs-more c does.output ran.run does.does) in
-    let own : output_text n does.output ≡ took.0 ++ took.1 = ap (λ k. output_text k does.output) (sym net) ∙ sym does.printed ∙ took.2 in
+    let own : output_text n does.output ≡ took.0 ++ took.1 = ap (λ k. output_text k does.output) (sym net) ∙ sym (ap (λ (q : PrintedState). q.text) does.printed) ∙ took.2 in
     let front : Appends taken now (output_text n ran.output ++ took.0) = Appends-trans taken between now (output_text n ran.output) took.0 ran.took took.3 in
     let whole : output_text n (ran.output ++ does.output) ≡ (output_text n ran.output ++ took.0) ++ took.1 =
     text_of_both n ran.output does.output ∙ ap (λ l. output_text n ran.output ++ l) own ∙ sym (append_assoc (output_text n ran.output) took.0 took.1) in

@@ -1,5 +1,6 @@
 -- How a run may end: its answer, what was read, what was written, and the session that it hands back.
-use Rattle.std.specs.Prelude.{◌≡◌, ◌⊎◌, ℕ, suc, ◌≤◌, Bool, true, false, List, [], ◌∷◌, ◌++◌, length, take, nat_lt, if◌then◌else◌, Option, Some, None, Result, Ok, Err, codes, decimal}
+use Rattle.std.specs.Prelude.{◌≡◌, ◌⊎◌, ℕ, suc, ◌≤◌, Bool, true, false, List, [], ◌∷◌, ◌++◌, length, take, nat_lt}
+use Rattle.std.specs.Prelude.{if◌then◌else◌, Option, Some, None, Result, Ok, Err, codes, decimal}
 use Rattle.std.specs.Io.KnownBytes.{Appends, Keeps}
 use Rattle.net_defs.specs.Network.{Network}
 use Rattle.fab_outer.specs.Fault.{Rose}
@@ -13,12 +14,9 @@ use Rattle.run_defs.specs.Session.{SessionState}
 use Rattle.run_defs.specs.Run.{IsRun}
 use Rattle.run_defs.specs.LineText.{output_text}
 use Rattle.fabric_run.specs.declared.status.Status.{Status}
-use Rattle.fabric_run.specs.declared.status.Status.TheVariants.{Done, Usage, Refused, ReadFault, WriteFault, NoMemory, TooLong}
+use Rattle.fabric_run.specs.declared.status.Status.TheVariants.{Done, Usage, Refused, ReadFault, WriteFault, NoMemory}
+use Rattle.fabric_run.specs.declared.status.Status.TheVariants.{TooLong}
 use Rattle.fabric_run.specs.Reading.{AcceptedText, reading}
-
--- the words that ask for a run: `run` alone
-abbrev pub IsForm : List (List ℕ) → Type 0
-IsForm words = words ≡ codes "run" ∷ []
 
 -- the most bytes of an input
 abbrev pub input_limit : ℕ
@@ -49,8 +47,10 @@ answer_to (Err f) = Refused f.line f.kind
 abbrev pub own_answer : List ℕ → Status
 own_answer text = if nat_lt input_limit (length text) then TooLong else answer_to (reading text)
 
--- Commands ran over a fabric, one after another from its first world on, and led to this session; the sink took exactly what they printed.
-pub record HaveRun (n : Network) (commands : List Command) (taken now : Option (List ℕ)) (last : SessionState) : Type 0 where
+-- Commands ran over a fabric, one after another from its first world on, and led to this session; the sink took
+-- exactly what they printed.
+pub record HaveRun (n : Network) (commands : List Command) (taken now : Option (List ℕ))
+    (last : SessionState) : Type 0 where
   pub output : List Piece
   pub run : IsRun n commands output last
   pub took : Appends taken now (output_text n output)
@@ -63,13 +63,16 @@ pub record IsReported (a : AcceptedText) (taken now : Option (List ℕ)) (held :
 
 -- What the sink took is the front of the report of the whole text: of what every run of all its commands prints.
 abbrev pub IsPartOfReport : AcceptedText → Option (List ℕ) → Option (List ℕ) → Type 0
-IsPartOfReport a taken now = (all : List Piece) (end : SessionState) → IsRun a.network a.commands all end → TakesPrefix taken now (output_text a.network all)
+IsPartOfReport a taken now = (all : List Piece) (end : SessionState) → IsRun a.network a.commands all end
+    → TakesPrefix taken now (output_text a.network all)
 
 -- The sink took the whole of a first text, and then the front of a second.
 abbrev pub TakesPast : Option (List ℕ) → Option (List ℕ) → List ℕ → List ℕ → Type 0
-TakesPast taken now first second = (part : List ℕ) × (rest : List ℕ) × (second ≡ part ++ rest) × Appends taken now (first ++ part)
+TakesPast taken now first second = (part : List ℕ) × (rest : List ℕ) × (second ≡ part ++ rest)
+    × Appends taken now (first ++ part)
 
--- A write failed behind a command: all that those before it printed was taken, and the front of its own text; its session is handed back.
+-- A write failed behind a command: all that those before it printed was taken, and the front of its own text; its
+-- session is handed back.
 pub record IsCutOff (a : AcceptedText) (taken now : Option (List ℕ)) (held : Option SessionState) : Type 0 where
   pub count : ℕ
   pub between : SessionState
@@ -98,18 +101,22 @@ ReportEnds a taken now faults risen _ held = ⊥
 
 -- How the writing of a refusal may end. No session was made.
 abbrev pub RefusalEnds : FirstFault → Option (List ℕ) → Option (List ℕ) → ℕ → ℕ → Status → Option SessionState → Type 0
-RefusalEnds f taken now faults risen (Refused line kind) held = (line ≡ f.line) × (kind ≡ f.kind) × Appends taken now (refusal_text f) × (held ≡ None)
-RefusalEnds f taken now faults risen WriteFault held = Rose faults risen × TakesPrefix taken now (refusal_text f) × (held ≡ None)
+RefusalEnds f taken now faults risen (Refused line kind) held =
+    (line ≡ f.line) × (kind ≡ f.kind) × Appends taken now (refusal_text f) × (held ≡ None)
+RefusalEnds f taken now faults risen WriteFault held =
+    Rose faults risen × TakesPrefix taken now (refusal_text f) × (held ≡ None)
 RefusalEnds f taken now faults risen NoMemory held = TakesPrefix taken now (refusal_text f) × (held ≡ None)
 RefusalEnds f taken now faults risen _ held = ⊥
 
 -- A write failed: behind a command of an accepted text, or in the one line of a refused text, which has no session.
-abbrev pub IsWriteCut : Result AcceptedText FirstFault → Option (List ℕ) → Option (List ℕ) → Option SessionState → Type 0
+abbrev pub IsWriteCut : Result AcceptedText FirstFault → Option (List ℕ) → Option (List ℕ) → Option SessionState
+    → Type 0
 IsWriteCut (Ok a) taken now held = IsCutOff a taken now held
 IsWriteCut (Err f) taken now held = TakesPrefix taken now (refusal_text f) × (held ≡ None)
 
 -- Memory was wanting: for a command of an accepted text, or for the one line of a refused text, which has no session.
-abbrev pub IsMemoryCut : Result AcceptedText FirstFault → Option (List ℕ) → Option (List ℕ) → Option SessionState → Type 0
+abbrev pub IsMemoryCut : Result AcceptedText FirstFault → Option (List ℕ) → Option (List ℕ) → Option SessionState
+    → Type 0
 IsMemoryCut (Ok a) taken now held = IsInterrupted a taken now
 IsMemoryCut (Err f) taken now held = TakesPrefix taken now (refusal_text f) × (held ≡ None)
 
@@ -132,14 +139,16 @@ pub record Moment : Type 0 where
 -- Some text came whole, and the work on it ended so.
 abbrev pub SomeTextEnds : Moment → Moment → Status → Option SessionState → Type 0
 SomeTextEnds before now status held =
-    (text : List ℕ) × Came before.left now.left text × TextEnds text before.taken now.taken before.write_faults now.write_faults status held
+    (text : List ℕ) × Came before.left now.left text
+    × TextEnds text before.taken now.taken before.write_faults now.write_faults status held
 
 -- How a run of the form `run` may end.
 abbrev pub InputEnds : Moment → Moment → Status → Option SessionState → Type 0
 InputEnds before now Done held = SomeTextEnds before now Done held
 InputEnds before now (Refused line kind) held = SomeTextEnds before now (Refused line kind) held
 InputEnds before now WriteFault held = SomeTextEnds before now WriteFault held
-InputEnds before now NoMemory held = Keeps before.taken now.taken ⊎ ((text : List ℕ) × Came before.left now.left text × IsMemoryCut (reading text) before.taken now.taken held)
+InputEnds before now NoMemory held = Keeps before.taken now.taken
+    ⊎ ((text : List ℕ) × Came before.left now.left text × IsMemoryCut (reading text) before.taken now.taken held)
 InputEnds before now ReadFault held = Rose before.read_faults now.read_faults × (held ≡ None)
 InputEnds before now TooLong held = IsLonger before.left input_limit × (held ≡ None)
 InputEnds before now Usage held = ⊥

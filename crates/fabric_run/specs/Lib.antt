@@ -1,3 +1,5 @@
 pub mod Ends
+pub mod Forms
+pub mod Generated
 pub mod Promise
 pub mod Reading

@@ -32,14 +32,18 @@ pub record IsRight (n : Network) (mapper : ℕ) (m : NetMap) : Type 0 where
 -- every map that a run of first commands of a text prints under the word complete is right
 abbrev pub CompleteMapsAreTrue : AcceptedText → Type 0
 CompleteMapsAreTrue a =
-    (count : ℕ) (out : List Piece) (last : SessionState) (mapper : ℕ) (m : NetMap) → IsRun a.network (take count a.commands) out last → HasPrinted out mapper m → IsRight a.network mapper m
+    (count : ℕ) (out : List Piece) (last : SessionState) (mapper : ℕ) (m : NetMap)
+    → IsRun a.network (take count a.commands) out last → HasPrinted out mapper m → IsRight a.network mapper m
 
--- behind first commands of a text, on a quiet fabric, a map from a host of the fabric to the depth that suffices, of at most 65 cables, with 1 to 8 tries an ask, says complete
+-- behind first commands of a text, on a quiet fabric, a map from a host of the fabric to the depth that suffices, of
+-- at most 65 cables, with 1 to 8 tries an ask, says complete
 abbrev pub DeepMapsAreComplete : AcceptedText → Type 0
 DeepMapsAreComplete a =
-    (count : ℕ) (out : List Piece) (s : SessionState) (host depth tries : ℕ) (after : WorldState) (j : List Entry) (m : NetMap) (words : MapWords)
+    (count : ℕ) (out : List Piece) (s : SessionState) (host depth tries : ℕ) (after : WorldState) (j : List Entry)
+    (m : NetMap) (words : MapWords)
     → IsRun a.network (take count a.commands) out s
-    → host < length a.network.hosts → depth ≤ 65 → IsMapped host depth tries s.world after j m words → IsQuiet host s.world after
+    → host < length a.network.hosts → depth ≤ 65 → IsMapped host depth tries s.world after j m words
+    → IsQuiet host s.world after
     → 1 ≤ tries → tries ≤ 8 → enough_depth a.network host ≤ depth → words ≡ Complete
 
 -- so the next command of a text, where it is such a map, prints a map under the word complete
@@ -47,13 +51,16 @@ abbrev pub DeepMapsArePrinted : AcceptedText → Type 0
 DeepMapsArePrinted a =
     (count : ℕ) (out printed : List Piece) (s next : SessionState) (host depth tries : ℕ)
     → IsRun a.network (take count a.commands) out s → slice_get a.commands count ≡ Some (Map host depth tries)
-    → Does s (Map host depth tries) printed next → IsQuiet host s.world next.world → enough_depth a.network host ≤ depth → (m : NetMap) × HasPrinted printed host m
+    → Does s (Map host depth tries) printed next → IsQuiet host s.world next.world
+    → enough_depth a.network host ≤ depth → (m : NetMap) × HasPrinted printed host m
 
 -- behind first commands of a text no channel waits for itself along the installed routes
 abbrev pub RoutesHaveNoCycle : AcceptedText → Type 0
-RoutesHaveNoCycle a = (count : ℕ) (out : List Piece) (last : SessionState) → IsRun a.network (take count a.commands) out last → HasNoCycle (IsBefore (installed_channels last.world))
+RoutesHaveNoCycle a = (count : ℕ) (out : List Piece) (last : SessionState)
+    → IsRun a.network (take count a.commands) out last → HasNoCycle (IsBefore (installed_channels last.world))
 
--- behind first commands of a text, where the next one is an installation that prints `installed K of N`, that line has its cause
+-- behind first commands of a text, where the next one is an installation that prints `installed K of N`, that line
+-- has its cause
 abbrev pub InstalledLinesAreTrue : AcceptedText → Type 0
 InstalledLinesAreTrue a =
     (count : ℕ) (out rest : List Piece) (s next : SessionState) (tries acked total : ℕ)
@@ -68,14 +75,18 @@ UnharmedInstallationsCountAll a =
     → Does s (Install tries) (OneLine (Installed acked total) ∷ rest) next
     → next.world.injected < last_count → next.world.harmed ≡ s.world.harmed → acked ≡ total
 
--- behind first commands of a text, where the next one is a settle, what its line says is true; and where injections are left behind it, the world is settled
+-- behind first commands of a text, where the next one is a settle, what its line says is true; and where injections
+-- are left behind it, the world is settled
 abbrev pub SettledLinesAreTrue : AcceptedText → Type 0
 SettledLinesAreTrue a =
     (count : ℕ) (out rest : List Piece) (s next : SessionState) (rounds resets unacked : ℕ)
     → IsRun a.network (take count a.commands) out s → slice_get a.commands count ≡ Some Settle
-    → Does s Settle (OneLine (SettleLine rounds resets unacked) ∷ rest) next → IsSettledLine s next rounds resets unacked
+    → Does s Settle (OneLine (SettleLine rounds resets unacked) ∷ rest) next
+    → IsSettledLine s next rounds resets unacked
 
--- The promise of an accepted text: its maps under the word complete are true, deep maps of a quiet fabric say so, each count of installed hosts has its cause, each settle ends settled, every moment is sound, and the installed routes have no cycle.
+-- The promise of an accepted text: its maps under the word complete are true, deep maps of a quiet fabric say so,
+-- each count of installed hosts has its cause, each settle ends settled, every moment is sound, and the installed
+-- routes have no cycle.
 pub record IsPromised (a : AcceptedText) : Type 0 where
   pub complete : CompleteMapsAreTrue a
   pub deep : DeepMapsAreComplete a

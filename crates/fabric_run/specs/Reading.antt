@@ -14,7 +14,8 @@ pub record AcceptedText : Type 0 where
 
 -- what a text says whose fabric part says this
 abbrev pub reading_from : List ℕ → FabricText → Result AcceptedText FirstFault
-reading_from text t = and_then (script_reading t.fabric t.line (drop t.next text)) (λ commands. Ok (record { network = t.fabric; commands = commands }))
+reading_from text t = and_then (script_reading t.fabric t.line (drop t.next text)) (λ commands.
+    Ok (record { network = t.fabric; commands = commands }))
 
 -- What a text says, where it is accepted; or else its first fault.
 abbrev pub reading : List ℕ → Result AcceptedText FirstFault

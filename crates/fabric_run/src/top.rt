@@ -1,6 +1,6 @@
 //! The top call.
 
-ghost use Rattle.std.specs.Prelude.{◌≡◌, ◌≤◌, ◌↔◌, ◌⊎◌, ℕ, List, length, false, IfOk, IfSome, IsTrue, None};
+ghost use Rattle.std.specs.Prelude.{◌≡◌, ◌≤◌, ◌↔◌, ◌⊎◌, ℕ, List, length, false, IfOk, IfSome, None};
 ghost use Rattle.std.specs.List.{AllByRecursion};
 ghost use Rattle.std.specs.Io.KnownBytes.{Appends, Keeps};
 ghost use Rattle.fab_outer.specs.Fault.{Rose};
@@ -10,8 +10,14 @@ ghost use Rattle.run_defs.specs.Session.{new_session};
 ghost use Rattle.fab_script.specs.Ranges.{IsCommandOf};
 ghost use Rattle.fabric_run.specs.Reading.{AcceptedText, reading};
 ghost use Rattle.fabric_run.specs.Promise.{IsPromised};
-ghost use Rattle.fabric_run.specs.Ends.{IsForm, Came, IsAccepted, IsRefused, IsReported, IsWriteCut, IsMemoryCut, refusal_text, own_answer, may_hold, input_limit, ReportEnds, RefusalEnds, TextEnds, InputEnds};
+ghost use Rattle.fabric_run.specs.Forms.{form_of, IsRunForm, IsGenForm};
+ghost use Rattle.fabric_run.specs.Generated.{GenEnds};
+ghost use Rattle.fabric_run.specs.Ends.{Came, IsAccepted, IsRefused, IsReported, IsWriteCut, IsMemoryCut, refusal_text};
+ghost use Rattle.fabric_run.specs.Ends.{own_answer, may_hold, input_limit, ReportEnds, RefusalEnds, TextEnds};
+ghost use Rattle.fabric_run.specs.Ends.{InputEnds};
 
+use crate::form::{Form, form_of};
+use crate::generated::run_generated;
 use crate::promise::promised_texts;
 use crate::ran::Ran;
 use crate::reading::{Accepted, read_text};
@@ -26,13 +32,15 @@ use std::alloc::{AllocError, Global};
 // The most bytes of an input.
 const MAX_INPUT: usize = 1048576;
 
-/// Does what the words of a command line ask for: the one form is `run`.
+/// Does what the words of a command line ask for.
 ///
-/// It reads a text to its end, and writes the report of its script, each command's lines once it has run, or the one line of a text that
-/// is refused, which tells the first fault. The session of the script is handed back.
+/// Under `run` it reads a text to its end, and writes the report of its script, each command's lines once it has run,
+/// or the one line of a text that is refused, which tells the first fault. Under `gen N SEED` it reads nothing: it
+/// runs the text of N hosts and the seed, and writes the summary of its report once all commands ran. The session of
+/// the script is handed back.
 pub fn run<S: Source, K: Sink>(alloc: Global, words: &[Word], input: &mut S, out: &mut K) -> Ran
     // Exactly where the words are none of the forms, nothing is done.
-    ensures usage { (result.status ≡ Status.Usage) ↔ (¬ IsForm words.now) }
+    ensures usage { (result.status ≡ Status.Usage) ↔ (form_of words.now ≡ None) }
     ensures usage_reads_nothing { result.status ≡ Status.Usage → input.new ≡ input.old }
     ensures usage_writes_nothing { result.status ≡ Status.Usage → out.new ≡ out.old }
 
@@ -40,67 +48,84 @@ pub fn run<S: Source, K: Sink>(alloc: Global, words: &[Word], input: &mut S, out
     ensures read_later { S.faults input.old ≤ S.faults input.new }
     ensures written_later { K.faults out.old ≤ K.faults out.new }
 
-    // Where nothing fails, the answer is the text's own.
-    ensures own_answer { IsForm words.now → ¬ Rose (S.faults input.old) (S.faults input.new) → ¬ Rose (K.faults out.old) (K.faults out.new)
+    // Under `run`, where nothing fails, the answer is the text's own.
+    ensures own_answer { IsRunForm words.now → ¬ Rose (S.faults input.old) (S.faults input.new)
+        → ¬ Rose (K.faults out.old) (K.faults out.new)
         → IfSome (S.left input.old) (λ text. (result.status ≡ own_answer text) ⊎ (result.status ≡ Status.NoMemory)) }
 
-    // The whole input was read and is accepted: all its commands ran, the sink took exactly what they printed, and their session is handed back.
-    ensures done { result.status ≡ Status.Done
-        → (text : List ℕ) × Came (S.left input.old) (S.left input.new) text × ((a : AcceptedText) × IsAccepted text a × IsReported a (K.taken out.old) (K.taken out.new) result.session) }
+    // Under `run` the whole input was read and is accepted: all its commands ran, the sink took exactly what they
+    // printed, and their session is handed back.
+    ensures done { IsRunForm words.now → result.status ≡ Status.Done
+        → (text : List ℕ) × Came (S.left input.old) (S.left input.new) text
+        × ((a : AcceptedText) × IsAccepted text a × IsReported a (K.taken out.old)
+        (K.taken out.new) result.session) }
 
     // The whole input was read and isn't accepted, and the sink took exactly the line that tells its first fault.
     ensures refused { (line kind : _) → result.status ≡ Status.Refused line kind
-        → (text : List ℕ) × Came (S.left input.old) (S.left input.new) text × IsRefused text line kind × Appends (K.taken out.old) (K.taken out.new) (refusal_text (record { line = line; kind = kind })) }
+        → (text : List ℕ) × Came (S.left input.old) (S.left input.new) text × IsRefused text line kind
+        × Appends (K.taken out.old) (K.taken out.new) (refusal_text (record { line = line; kind = kind })) }
 
     // A fault is answered only where the object's count rose.
     ensures read_fault { result.status ≡ Status.ReadFault → Rose (S.faults input.old) (S.faults input.new) }
     ensures read_fault_writes_nothing { result.status ≡ Status.ReadFault → out.new ≡ out.old }
     ensures write_fault { result.status ≡ Status.WriteFault → Rose (K.faults out.old) (K.faults out.new) }
 
-    // After a failed write: the session behind the commands that ran, of which the sink took what they printed, but for the end of the last one's text.
-    ensures write_fault_part { result.status ≡ Status.WriteFault
-        → (text : List ℕ) × Came (S.left input.old) (S.left input.new) text × IsWriteCut (reading text) (K.taken out.old) (K.taken out.new) result.session }
+    // Under `run`, after a failed write: the session behind the commands that ran, of which the sink took what they
+    // printed, but for the end of the last one's text.
+    ensures write_fault_part { IsRunForm words.now → result.status ≡ Status.WriteFault
+        → (text : List ℕ) × Came (S.left input.old) (S.left input.new) text
+        × IsWriteCut (reading text) (K.taken out.old) (K.taken out.new) result.session }
 
     // More came than an input may have.
     ensures too_long { result.status ≡ Status.TooLong → IsLonger (S.left input.old) input_limit }
     ensures too_long_writes_nothing { result.status ≡ Status.TooLong → out.new ≡ out.old }
 
-    // Want of memory: nothing was written, or exactly what the commands that ran printed, or the front of a refusal's line.
-    ensures no_memory { result.status ≡ Status.NoMemory
+    // Want of memory under `run`: nothing was written, or exactly what the commands that ran printed, or the front of
+    // a refusal's line.
+    ensures no_memory { IsRunForm words.now → result.status ≡ Status.NoMemory
         → Keeps (K.taken out.old) (K.taken out.new)
-        ⊎ ((text : List ℕ) × Came (S.left input.old) (S.left input.new) text × IsMemoryCut (reading text) (K.taken out.old) (K.taken out.new) result.session) }
+        ⊎ ((text : List ℕ) × Came (S.left input.old) (S.left input.new) text
+        × IsMemoryCut (reading text) (K.taken out.old) (K.taken out.new) result.session) }
+
+    // Under `gen N SEED` nothing is read. The text of N and SEED is accepted and all its commands ran: the sink took
+    // exactly the summary of what they printed, or its front before a failed write, and their session is handed back;
+    // or memory was wanting, and nothing was written. There is no other answer.
+    ensures gen_reads_nothing { (n seed : ℕ) → IsGenForm words.now n seed → input.new ≡ input.old }
+    ensures generated { (n seed : ℕ) → IsGenForm words.now n seed
+        → GenEnds n seed (K.taken out.old) (K.taken out.new) (K.faults out.old)
+        (K.faults out.new) result.status result.session }
 
     // Where no command may have run, no session is handed back.
     ensures no_session { may_hold result.status ≡ false → result.session ≡ None }
 
-    // Every accepted text, and so every front part of its script, keeps the promise: a map under the word complete is right, a deep one of
-    // a quiet fabric says so, each count of installed hosts has its cause, each settle ends settled, every moment is sound, and the
-    // installed routes have no cycle.
+    // Every accepted text, and so every front part of its script, keeps the promise: a map under the word complete is
+    // right, a deep one of a quiet fabric says so, each count of installed hosts has its cause, each settle ends
+    // settled, every moment is sound, and the installed routes have no cycle.
     ensures promise { (text : List ℕ) (a : AcceptedText) → IsAccepted text a → IsPromised a }
 {
     promised_texts();
-    if is_run(words) {
-        run_input(alloc, input, out)
-    } else {
-        Ran::without_session(Status::Usage)
-    }
-}
-
-// Whether the words are the form `run`.
-fn is_run(words: &[Word]) -> bool
-    ensures { IsTrue result ↔ IsForm words.now }
-{
-    match words {
-        [word] => word.bytes() == b"run".as_slice(),
-        _ => false,
+    match form_of(words) {
+        Some(Form::Run) => run_input(alloc, input, out),
+        Some(Form::Gen { n, seed }) => run_generated(alloc, n, seed, out),
+        None => Ran::without_session(Status::Usage),
     }
 }
 
 // Reads the whole input and does what it says.
 fn run_input<S: Source, K: Sink>(alloc: Global, input: &mut S, out: &mut K) -> Ran
     ensures ends { InputEnds
-        record { left = S.left input.old; read_faults = S.faults input.old; taken = K.taken out.old; write_faults = K.faults out.old }
-        record { left = S.left input.new; read_faults = S.faults input.new; taken = K.taken out.new; write_faults = K.faults out.new }
+        record {
+          left = S.left input.old;
+          read_faults = S.faults input.old;
+          taken = K.taken out.old;
+          write_faults = K.faults out.old;
+        }
+        record {
+          left = S.left input.new;
+          read_faults = S.faults input.new;
+          taken = K.taken out.new;
+          write_faults = K.faults out.new;
+        }
         result.status result.session }
     ensures read_later { S.faults input.old ≤ S.faults input.new }
     ensures written_later { K.faults out.old ≤ K.faults out.new }
@@ -118,7 +143,8 @@ fn run_input<S: Source, K: Sink>(alloc: Global, input: &mut S, out: &mut K) -> R
 // Does what a text says.
 fn run_text<K: Sink>(alloc: Global, text: &[u8], out: &mut K) -> Ran
     requires { length text.now ≤ input_limit }
-    ensures ends { TextEnds text.now (K.taken out.old) (K.taken out.new) (K.faults out.old) (K.faults out.new) result.status result.session }
+    ensures ends { TextEnds text.now (K.taken out.old) (K.taken out.new) (K.faults out.old)
+        (K.faults out.new) result.status result.session }
     ensures later { K.faults out.old ≤ K.faults out.new }
 {
     match read_text(alloc, text) {
@@ -131,7 +157,8 @@ fn run_text<K: Sink>(alloc: Global, text: &[u8], out: &mut K) -> Ran
 // Runs a script over its fabric, in a session of its own.
 fn run_script<K: Sink>(alloc: Global, accepted: Accepted, out: &mut K) -> Ran
     requires over { AllByRecursion (IsCommandOf accepted.network) accepted.commands }
-    ensures ends { ReportEnds accepted (K.taken out.old) (K.taken out.new) (K.faults out.old) (K.faults out.new) result.status result.session }
+    ensures ends { ReportEnds accepted (K.taken out.old) (K.taken out.new) (K.faults out.old)
+        (K.faults out.new) result.status result.session }
     ensures later { K.faults out.old ≤ K.faults out.new }
 {
     let Accepted { fabric, script } = accepted;
@@ -171,7 +198,11 @@ fn run_commands<K: Sink>(
 
 // Writes the line of a text that isn't accepted.
 fn write_refusal<K: Sink>(alloc: Global, line: u32, kind: FaultKind, out: &mut K) -> Ran
-    ensures ends { RefusalEnds record { line = line; kind = kind } (K.taken out.old) (K.taken out.new) (K.faults out.old) (K.faults out.new) result.status result.session }
+    ensures ends { RefusalEnds record {
+      line = line;
+      kind = kind;
+    } (K.taken out.old) (K.taken out.new) (K.faults out.old)
+        (K.faults out.new) result.status result.session }
     ensures later { K.faults out.old ≤ K.faults out.new }
 {
     let Ok(text) = refusal_line(alloc, line, kind) else {

@@ -1,5 +1,6 @@
 -- What the tables of a wiring hold.
-use Rattle.std.specs.Prelude.{◌≡◌, ℕ, ◌+◌, ◌*◌, slice_set, true, List, map, length, slice_index_or, if◌then◌else◌, Option, Some, None}
+use Rattle.std.specs.Prelude.{◌≡◌, ℕ, ◌+◌, ◌*◌, slice_set, true, List, map, length, slice_index_or, if◌then◌else◌}
+use Rattle.std.specs.Prelude.{Option, Some, None}
 use Rattle.net_defs.specs.declared.vertex.End.{End}
 use Rattle.net_defs.specs.declared.vertex.Cable.{Cable}
 use Rattle.net_defs.specs.Network.{Network, IsFabric}
@@ -17,7 +18,8 @@ pub record IsOutTable (k : ℕ) (cables : List Cable) (out : List (Option ℕ)) 
 
 -- the table with the channels of a cable of this number
 abbrev pub with_cable : ℕ → Cable → List (Option ℕ) → List (Option ℕ)
-with_cable k cable out = slice_set (slice_set out (place_of_end cable.b) (Some (2 * k + 1))) (place_of_end cable.a) (Some (2 * k))
+with_cable k cable out = slice_set (slice_set out (place_of_end cable.b) (Some (2 * k + 1))) (place_of_end cable.a)
+    (Some (2 * k))
 
 -- The tables are those of a fabric.
 pub record IsWiring (n : Network) (cables : List Cable) (ports : List ℕ) (out : List (Option ℕ)) : Type 0 where

@@ -1,6 +1,7 @@
 //! The wiring of a fabric in flat tables.
 
-ghost use Rattle.std.specs.Prelude.{◌≡◌, ◌<◌, ◌≤◌, ◌*◌, ◌/◌, slice_get, replicate, length, map, drop, true, Some, None, slice_index, IfOk, IfSome, IsTrue};
+ghost use Rattle.std.specs.Prelude.{◌≡◌, ◌<◌, ◌≤◌, ◌*◌, ◌/◌, slice_get, replicate, length, map, drop, true, Some, None};
+ghost use Rattle.std.specs.Prelude.{slice_index, IfOk, IfSome, IsTrue};
 ghost use Rattle.std.specs.List.{AllByRecursion};
 ghost use Rattle.net_defs.specs.Network.{ends_of, has_port, is_port_count, ports_of, IsFabric};
 ghost use Rattle.net_defs.specs.Route.{channel_from};
@@ -23,7 +24,8 @@ const PORT_PLACES: usize = 16;
 // The places of the table.
 const PLACES: usize = HOST_PLACES + 64 * PORT_PLACES;
 
-/// The cables of a fabric, the ports of its switches, and the channel that leaves by each port. Contracts see the fabric.
+/// The cables of a fabric, the ports of its switches, and the channel that leaves by each port. Contracts see the
+/// fabric.
 #[derive(Drop)]
 pub struct Wiring {
     // The fabric that the tables were made of. It has no bytes: contracts alone read it.
@@ -139,7 +141,8 @@ fn port_counts(alloc: Global, f: &Fabric) -> Result<Vec<u8>, AllocError>
     Ok(ports)
 }
 
-// The channels that leave by each port. The last cable is written first, so that a port has the channel of its first cable.
+// The channels that leave by each port. The last cable is written first, so that a port has the channel of its first
+// cable.
 fn out_table(alloc: Global, cables: &[Cable]) -> Result<Vec<Option<u16>>, AllocError>
     requires few { length cables.now ≤ 576 }
     requires possible { AllByRecursion (λ e. is_possible e ≡ true) (ends_of cables.now) }

@@ -39,7 +39,8 @@ course_at-host : (n : Network) (v : Vertex) (p : ℕ) (wire : List ℕ) (h : ℕ
 course_at-host n (Host g) p wire h port e = let same : g ≡ h = cc in subst (λ k. k < length n.hosts) same (host_below n g p port)
 course_at-host n (Switch s) p wire h port e = absurd (course_out-host n s (aim (ports_of n (Switch s)) p wire) h e)
 
-course-host : (n : Network) (c : ℕ) (wire : List ℕ) (h : ℕ) → IsFabric n → course n c wire ≡ Arrives h → h < length n.hosts
+-- the host that a packet comes to is one of the fabric's
+pub course-host : (n : Network) (c : ℕ) (wire : List ℕ) (h : ℕ) → IsFabric n → course n c wire ≡ Arrives h → h < length n.hosts
 course-host n c wire h fabric e = by (slice_get n.cables (c / 2)) refl e
   where
     side : (cable : Cable) (t : Bool) → (has_port n cable.a ≡ true) × (has_port n cable.b ≡ true) → course_into n (Some (if t then cable.b else cable.a)) wire ≡ Arrives h → h < length n.hosts
@@ -59,7 +60,7 @@ gone_on-host s c held (Arrives g) h wire e = cc
 gone_on-host s c held (Enters next) h wire e = absurd (entered-host s c held next (packet_in (emptied s c) next) h wire e)
 gone_on-host s c held (Drops why) h wire e = cc
 
--- the host that a packet reaches is one of the fabric's
+-- and so is the one that an advance tells
 pub host_there : (s : LinkState) (c h : ℕ) (wire : List ℕ) → IsFabric s.net → (advance s c).0 ≡ AtHost h wire → h < length s.net.hosts
 host_there s c h wire fabric e = by (packet_in s c) e
   where

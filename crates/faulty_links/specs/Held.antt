@@ -1,5 +1,6 @@
 -- The part of a world that its links keep: what the channels and limbo hold, the plan of faults, and the counts.
-use Rattle.std.specs.Prelude.{◌≡◌, ℕ, ◌+◌, ◌<◌, ◌||◌, Bool, true, false, not, nat_le, List, length, Some, is_some, if◌then◌else◌}
+use Rattle.std.specs.Prelude.{◌≡◌, ℕ, ◌+◌, ◌<◌, ◌||◌, Bool, true, false, not, nat_le, List, length, Some, is_some}
+use Rattle.std.specs.Prelude.{if◌then◌else◌}
 use Rattle.net_defs.specs.Network.{Network}
 use Rattle.link_defs.specs.Links.{LinkState, packet_in, put}
 use Rattle.world_defs.specs.declared.effect.Effect.{Effect}
@@ -12,7 +13,8 @@ use Rattle.world_defs.specs.Step.{lost, arrived, inject_one, planned_strikes}
 use Rattle.faulty_links.specs.declared.gone.Gone.{Gone}
 use Rattle.faulty_links.specs.declared.gone.Gone.TheVariants.{Done, AtHost}
 
--- How many injections there were, how many packets were dropped, and how many planned faults struck, and of these how many lost, held or flipped their packet.
+-- How many injections there were, how many packets were dropped, and how many planned faults struck, and of these how
+-- many lost, held or flipped their packet.
 pub record CountState : Type 0 where
   pub injected : ℕ
   pub dropped : ℕ
@@ -27,7 +29,8 @@ behind_fault n strikes is_harm = record n {
   harmed = if strikes then (if is_harm then n.harmed + 1 else n.harmed) else n.harmed;
 }
 
--- The links with their fabric, the planned faults by rising injection, and the counts: a world without its hosts, their clients and the adopted routes.
+-- The links with their fabric, the planned faults by rising injection, and the counts: a world without its hosts,
+-- their clients and the adopted routes.
 pub record LinksAndPlan : Type 0 where
   pub links : LinkState
   pub plan : List (ℕ × Fault)
@@ -38,21 +41,43 @@ pub record LinksAndPlan : Type 0 where
 
 -- the part of a world
 abbrev pub of_world : WorldState → LinksAndPlan
-of_world w = record { links = w.links; plan = w.plan; injected = w.injected; dropped = w.dropped; struck = w.struck; harmed = w.harmed }
+of_world w = record {
+  links = w.links;
+  plan = w.plan;
+  injected = w.injected;
+  dropped = w.dropped;
+  struck = w.struck;
+  harmed = w.harmed;
+}
 
 -- the world with this part, and the hosts, clients and routes that it has
 abbrev pub with_part : WorldState → LinksAndPlan → WorldState
-with_part w p = record w { links = p.links; plan = p.plan; injected = p.injected; dropped = p.dropped; struck = p.struck; harmed = p.harmed }
+with_part w p = record w {
+  links = p.links;
+  plan = p.plan;
+  injected = p.injected;
+  dropped = p.dropped;
+  struck = p.struck;
+  harmed = p.harmed;
+}
 
 -- the part of these links, this plan and these counts
 abbrev pub part_of : LinkState → List (ℕ × Fault) → CountState → LinksAndPlan
-part_of links plan counts = record { links = links; plan = plan; injected = counts.injected; dropped = counts.dropped; struck = counts.struck; harmed = counts.harmed }
+part_of links plan counts = record {
+  links = links;
+  plan = plan;
+  injected = counts.injected;
+  dropped = counts.dropped;
+  struck = counts.struck;
+  harmed = counts.harmed;
+}
 
 -- a channel is empty, and an injection is left for it
 abbrev pub can_inject : LinksAndPlan → ℕ → Bool
 can_inject p c = not (is_some (packet_in p.links c) || nat_le last_count p.injected)
 
--- the world in which a packet of these bytes was put into a channel under the next number, before a planned fault strikes
+-- the world in which a packet of these bytes was put into a channel under the next number, before a planned fault
+-- strikes
 abbrev pub put_under_next : WorldState → ℕ → List ℕ → WorldState
 put_under_next w c wire = record w { links = (put w.links c wire).1; injected = w.injected + 1 }
 
@@ -79,12 +104,18 @@ WorldHasItsPart = (w : WorldState) → with_part w (of_world w) ≡ w
 abbrev pub PartOfWorldWithPart : Type 0
 PartOfWorldWithPart = (w : WorldState) (p : LinksAndPlan) → of_world (with_part w p) ≡ p
 
--- an injection from a host into a channel that can take it is the put under the next number, in the world whose host counts it as sent
+-- an injection from a host into a channel that can take it is the put under the next number, in the world whose host
+-- counts it as sent
 abbrev pub InjectionIsPut : Type 0
 InjectionIsPut =
     (w : WorldState) (h c : ℕ) (out : Outgoing) → can_inject (of_world w) c ≡ true
-    → inject_one w h c (Some out) ≡ (Injected (w.injected + 1), planned_strikes (put_under_next (with_node w h (after_sending (node_at w h) out)) c (packet_for h (w.injected + 1) out)) c)
+    → inject_one w h c (Some out) ≡ (
+      Injected (w.injected + 1),
+      planned_strikes (put_under_next (with_node w h (after_sending (node_at w h) out)) c
+          (packet_for h (w.injected + 1) out)) c,
+    )
 
 -- an injection into a channel that can't take it is idle
 abbrev pub InjectionIsIdle : Type 0
-InjectionIsIdle = (w : WorldState) (h c : ℕ) (out : Outgoing) → can_inject (of_world w) c ≡ false → inject_one w h c (Some out) ≡ (Idle, w)
+InjectionIsIdle = (w : WorldState) (h c : ℕ) (out : Outgoing) → can_inject (of_world w) c ≡ false
+    → inject_one w h c (Some out) ≡ (Idle, w)

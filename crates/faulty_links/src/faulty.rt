@@ -24,7 +24,8 @@ use port_graph::Fabric;
 use std::alloc::{AllocError, Global};
 use std::marker::Model;
 
-/// The links of a fabric, the planned faults, and the counts of injections, drops, strikes and harms. A channel in an argument exists.
+/// The links of a fabric, the planned faults, and the counts of injections, drops, strikes and harms. A channel in an
+/// argument exists.
 #[derive(Drop)]
 pub struct FaultyLinks {
     links: Links,
@@ -148,7 +149,8 @@ impl FaultyLinks {
         self.plan.count()
     }
 
-    /// At least the hops that all packets in channels have left: so many advances at most change something before none does.
+    /// At least the hops that all packets in channels have left: so many advances at most change something before
+    /// none does.
     pub fn hops_bound(&self) -> u64
         ensures enough { total_hops self.now.links ≤ result }
         ensures few { result ≤ 1275264 }

@@ -1,4 +1,5 @@
-//! What holds of the parts of worlds: each function's contract is the law, and its body is empty. `specs/Held.antt` has the statements.
+//! What holds of the parts of worlds: each function's contract is the law, and its body is empty. `specs/Held.antt`
+//! has the statements.
 
 ghost use Rattle.faulty_links.specs.Held.{WorldHasItsPart, PartOfWorldWithPart, InjectionIsPut, InjectionIsIdle};
 

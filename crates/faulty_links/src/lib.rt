@@ -1,8 +1,9 @@
-//! The links of a fabric with the plan of faults and the counts of a world: all of a world but its hosts, their clients and the adopted routes.
+//! The links of a fabric with the plan of faults and the counts of a world: all of a world but its hosts, their
+//! clients and the adopted routes.
 //!
-//! It hears no packet, and knows no host's state: a packet that reaches a host is handed out. Each call is exactly its event, in every world
-//! that has these links, this plan and these counts: `specs/Held.antt` says what part of a world that is, and `specs/Step.antt` of
-//! `world_defs` what the event does.
+//! It hears no packet, and knows no host's state: a packet that reaches a host is handed out. Each call is exactly
+//! its event, in every world that has these links, this plan and these counts: `specs/Held.antt` says what part of a
+//! world that is, and `specs/Step.antt` of `world_defs` what the event does.
 //!
 //! ```text
 //!   plan     3: Lose   8: Hold            the fault of injection 3 strikes as soon as packet 3 is in its channel

@@ -6,7 +6,8 @@ ghost use Rattle.link_defs.specs.Links.{packet_in};
 
 use link_model::Links;
 
-/// At least the hops that all packets in channels have left: a packet has no more than bytes. It looks at full channels alone.
+/// At least the hops that all packets in channels have left: a packet has no more than bytes. It looks at full
+/// channels alone.
 pub(crate) fn hops_bound(links: &Links) -> u64
     ensures enough { total_hops links.now ≤ result }
     ensures few { result ≤ 1275264 }

@@ -1,14 +1,17 @@
 -- What every generated text says: its fabric, and the commands of its script.
-use Rattle.std.specs.Prelude.{◌≡◌, ℕ, ◌+◌, ◌-◌, ◌*◌, ◌≤◌, List, [], ◌∷◌, ◌++◌, map, flat_map, replicate, drop, length, Ok}
+use Rattle.std.specs.Prelude.{◌≡◌, ℕ, ◌+◌, ◌-◌, ◌*◌, ◌≤◌, List, [], ◌∷◌, ◌++◌, map, flat_map, replicate, drop, length}
+use Rattle.std.specs.Prelude.{Ok}
 use Rattle.net_defs.specs.declared.vertex.Vertex.TheVariants.{Host, Switch}
 use Rattle.net_defs.specs.declared.vertex.Cable.{Cable}
 use Rattle.net_defs.specs.Network.{Network, NamedSwitch}
 use Rattle.run_defs.specs.declared.command.Command.{Command}
-use Rattle.run_defs.specs.declared.command.Command.TheVariants.{Map, Routes, Install, Begin, Poll, Provide, Send, Plan, Settle, Finish}
+use Rattle.run_defs.specs.declared.command.Command.TheVariants.{Map, Routes, Install, Begin, Poll, Provide, Send, Plan}
+use Rattle.run_defs.specs.declared.command.Command.TheVariants.{Settle, Finish}
 use Rattle.run_defs.specs.declared.command.PlanKind.TheVariants.{Lose, Hold, Repeat}
 use Rattle.run_defs.specs.Script.{script_reading}
 use Rattle.fabric_file.specs.Reading.{fabric_reading}
-use Rattle.fabric_gen.specs.Text.{below, lines_text, host_name, switch_name, depth, peer, message_size, message_prio, message_length, message_seed, fabric_lines, gen_text}
+use Rattle.fabric_gen.specs.Text.{below, lines_text, host_name, switch_name, depth, peer, message_size, message_prio}
+use Rattle.fabric_gen.specs.Text.{message_length, message_seed, fabric_lines, gen_text}
 
 -- a switch of the chain
 abbrev pub chain_switch : ℕ → NamedSwitch
@@ -63,7 +66,8 @@ poll_commands i = replicate 4 (Poll i 1)
 
 -- the commands of the script
 abbrev pub gen_commands : ℕ → ℕ → List Command
-gen_commands n seed = mapping_commands n ++ (client_commands n seed ++ (settle_commands ++ (flat_map poll_commands (below n) ++ Finish ∷ [])))
+gen_commands n seed = mapping_commands n ++ (client_commands n seed
+    ++ (settle_commands ++ (flat_map poll_commands (below n) ++ Finish ∷ [])))
 
 -- where the fabric part of the text ends
 abbrev pub script_start : ℕ → ℕ
@@ -71,8 +75,10 @@ script_start n = length (lines_text (fabric_lines n))
 
 -- A text is accepted: it has its fabric up to the line `script`, and behind that line exactly its commands.
 pub record IsAccepted (n seed : ℕ) : Type 0 where
-  pub fabric : fabric_reading (gen_text n seed) ≡ Ok (record { fabric = gen_fabric n; next = script_start n; line = 4 * n })
-  pub script : script_reading (gen_fabric n) (4 * n) (drop (script_start n) (gen_text n seed)) ≡ Ok (gen_commands n seed)
+  pub fabric : fabric_reading (gen_text n seed)
+      ≡ Ok (record { fabric = gen_fabric n; next = script_start n; line = 4 * n })
+  pub script : script_reading (gen_fabric n) (4 * n) (drop (script_start n) (gen_text n seed))
+      ≡ Ok (gen_commands n seed)
 
 -- Every text of 2 to 24 hosts is accepted, whatever the seed.
 abbrev pub EachIsAccepted : Type 0

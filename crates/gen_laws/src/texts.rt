@@ -2,7 +2,8 @@
 
 ghost use Rattle.gen_laws.specs.Laws.{EachIsAccepted};
 
-/// Every generated text is accepted: its fabric part as the chain of switches with a host at each, and its script as exactly its commands.
+/// Every generated text is accepted: its fabric part as the chain of switches with a host at each, and its script as
+/// exactly its commands.
 pub fn texts_are_accepted()
     ensures { EachIsAccepted }
 {}

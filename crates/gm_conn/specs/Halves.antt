@@ -1,5 +1,7 @@
 -- The two halves of a connection, as their contracts see them. Their numbers and their rules are those of `gm_defs`.
-use Rattle.std.specs.Prelude.{◌≡◌, ℕ, ◌+◌, ◌-◌, ◌≤◌, Bool, true, ◌&&◌, nat_lt, nat_le, List, [], ◌∷◌, ◌++◌, map, length, replicate, slice_get, drop, if◌then◌else◌, Option, Some, None, option_map, option_and_then}
+use Rattle.std.specs.Prelude.{◌≡◌, ℕ, ◌+◌, ◌-◌, ◌≤◌, Bool, true, ◌&&◌, nat_lt, nat_le, List, [], ◌∷◌, ◌++◌, map, length}
+use Rattle.std.specs.Prelude.{replicate, slice_get, drop, if◌then◌else◌, Option, Some, None, option_map}
+use Rattle.std.specs.Prelude.{option_and_then}
 use Rattle.std.specs.List.{AllByRecursion}
 use Rattle.gm_defs.specs.declared.message.Message.{Message}
 use Rattle.gm_defs.specs.declared.frame.Ack.{Ack}
@@ -12,7 +14,8 @@ use Rattle.gm_conn.specs.declared.desc.Due.{Due}
 use Rattle.gm_conn.specs.declared.refusal.OfferRefusal.{OfferRefusal}
 use Rattle.gm_conn.specs.declared.refusal.OfferRefusal.TheVariants.{Spent}
 
--- A sender: its connection, its numbers, the descriptors that were offered and not taken out again, oldest first, and the room that was made for more.
+-- A sender: its connection, its numbers, the descriptors that were offered and not taken out again, oldest first, and
+-- the room that was made for more.
 pub record Outgoing : Type 0 where
   pub src : ℕ
   pub dst : ℕ
@@ -28,7 +31,13 @@ pub record Incoming : Type 0 where
 
 -- a sender by its fields
 abbrev pub outgoing : ℕ → ℕ → SenderState → List Desc → ℕ → Outgoing
-outgoing src dst numbers waiting spare = record { src = src; dst = dst; numbers = numbers; waiting = waiting; spare = spare }
+outgoing src dst numbers waiting spare = record {
+  src = src;
+  dst = dst;
+  numbers = numbers;
+  waiting = waiting;
+  spare = spare;
+}
 
 -- a descriptor of a message by the rules
 abbrev pub is_desc : Desc → Bool
@@ -50,7 +59,8 @@ first w = w.numbers.next - length (fragments (messages w))
 abbrev pub due_at : Outgoing → ℕ → Option Due
 due_at w n =
     option_and_then
-    (λ f. option_map (λ d. record { head = head_of w.src w.dst n f; ticket = d.ticket }) (slice_get w.waiting (whole_below (messages w) (n - first w))))
+    (λ f. option_map (λ d. record { head = head_of w.src w.dst n f; ticket = d.ticket })
+    (slice_get w.waiting (whole_below (messages w) (n - first w))))
     (slice_get (fragments (messages w)) (n - first w))
 
 -- the fragment that is due
@@ -75,7 +85,11 @@ without_finished w = if nat_lt 0 (finished w) then record w { waiting = drop 1 w
 
 -- a message is offered
 abbrev pub with_offer : Outgoing → Desc → Outgoing
-with_offer w d = record w { numbers = offered w.numbers (piece_count d.total); waiting = w.waiting ++ d ∷ []; spare = w.spare - 1 }
+with_offer w d = record w {
+  numbers = offered w.numbers (piece_count d.total);
+  waiting = w.waiting ++ d ∷ [];
+  spare = w.spare - 1;
+}
 
 -- the head of a message's only frame
 abbrev pub head_for : ℕ → ℕ → ℕ → Desc → FrameHead

@@ -10,10 +10,16 @@ use Rattle.gm_conn.specs.Pair.{new_pair, after_all, IsFair, IsInOrder}
 
 -- whatever is lost, repeated and delayed, what was taken is a prefix of what was offered
 abbrev pub PairInOrder : Type 0
-PairInOrder = (src dst : ℕ) (events : List PairEvent) → AllByRecursion IsFair events → IsInOrder (after_all (new_pair src dst) events)
+PairInOrder = (src dst : ℕ) (events : List PairEvent) → AllByRecursion IsFair events
+    → IsInOrder (after_all (new_pair src dst) events)
 
 -- a sender whose descriptors are of the messages that were sent has due the frame of the message of that number
 abbrev pub DueIsOfMessage : Type 0
 DueIsOfMessage =
-    (w : Outgoing) (sent : List Message) (n : ℕ) (m : Message) → IsOutgoing w → WaitsFor w sent → due w.numbers ≡ Some n → slice_get sent n ≡ Some m
-    → (ticket : ℕ) × (due_frame w ≡ Some (record { head = head_of w.src w.dst n (record { message = m; offset = 0; part = m.body }); ticket = ticket }))
+    (w : Outgoing) (sent : List Message) (n : ℕ) (m : Message) → IsOutgoing w → WaitsFor w sent
+    → due w.numbers ≡ Some n → slice_get sent n ≡ Some m
+    → (ticket : ℕ) × (due_frame w
+    ≡ Some (record {
+      head = head_of w.src w.dst n (record { message = m; offset = 0; part = m.body });
+      ticket = ticket;
+    }))

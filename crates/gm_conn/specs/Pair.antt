@@ -1,5 +1,7 @@
--- Both halves of one connection over a medium that loses, repeats and delays: what was emitted stays there to be delivered at any time, any number of times, or never.
-use Rattle.std.specs.Prelude.{◌≡◌, ℕ, ◌≤◌, ◌<◌, Bool, true, false, nat_eq, List, [], ◌∷◌, ◌++◌, map, take, slice_get, if◌then◌else◌, Option, Some, None}
+-- Both halves of one connection over a medium that loses, repeats and delays: what was emitted stays there to be
+-- delivered at any time, any number of times, or never.
+use Rattle.std.specs.Prelude.{◌≡◌, ℕ, ◌≤◌, ◌<◌, Bool, true, false, nat_eq, List, [], ◌∷◌, ◌++◌, map, take, slice_get}
+use Rattle.std.specs.Prelude.{if◌then◌else◌, Option, Some, None}
 use Rattle.std.specs.List.{AllByRecursion}
 use Rattle.gm_defs.specs.declared.message.Message.{Message}
 use Rattle.gm_defs.specs.declared.frame.FrameHead.{FrameHead}
@@ -9,14 +11,16 @@ use Rattle.gm_defs.specs.declared.token.Took.{Took}
 use Rattle.gm_defs.specs.declared.token.Took.TheVariants.{NotNext, NoToken, Whole}
 use Rattle.gm_defs.specs.Body.{message_limit}
 use Rattle.gm_defs.specs.Fragment.{piece_count, whole_below, frame_of}
-use Rattle.gm_defs.specs.Connection.{SenderState, starting, due, sent_one, acknowledged, expired, unacknowledged, is_spent, offered, took, taken_after}
+use Rattle.gm_defs.specs.Connection.{SenderState, starting, due, sent_one, acknowledged, expired, unacknowledged}
+use Rattle.gm_defs.specs.Connection.{is_spent, offered, took, taken_after}
 use Rattle.gm_conn.specs.declared.desc.Desc.{Desc}
 use Rattle.gm_conn.specs.declared.event.PairMsg.{PairMsg}
 use Rattle.gm_conn.specs.declared.event.PairEvent.{PairEvent}
 use Rattle.gm_conn.specs.declared.event.PairEvent.TheVariants.{Offer, Emit, EmitAck, Deliver, Expire}
 use Rattle.gm_conn.specs.Halves.{Outgoing, Incoming, message_of}
 
--- A pair: its hosts, the sender's numbers, how many fragments the receiver has taken, all that was ever emitted, the messages that were offered and those that were taken whole.
+-- A pair: its hosts, the sender's numbers, how many fragments the receiver has taken, all that was ever emitted, the
+-- messages that were offered and those that were taken whole.
 pub record PairState : Type 0 where
   pub src : ℕ
   pub dst : ℕ
@@ -36,7 +40,15 @@ messages_of ms = map (λ m. message_of (desc_of m)) ms
 
 -- nothing offered, emitted or taken
 abbrev pub new_pair : ℕ → ℕ → PairState
-new_pair src dst = record { src = src; dst = dst; numbers = starting 0; received = 0; packets = []; offered = []; taken = [] }
+new_pair src dst = record {
+  src = src;
+  dst = dst;
+  numbers = starting 0;
+  received = 0;
+  packets = [];
+  offered = [];
+  taken = [];
+}
 
 -- a message is offered, unless it needs a number above the greatest
 abbrev pub offer : PairState → PairMsg → Bool × PairState
@@ -52,12 +64,20 @@ frame_packet (Some f) = Frame f.0 ∷ []
 -- the due frame is emitted, if one is due
 abbrev pub emit : PairState → Option ℕ → Bool × PairState
 emit p None = (false, p)
-emit p (Some n) =
-    (true, record p { numbers = sent_one p.numbers; packets = p.packets ++ frame_packet (frame_of p.src p.dst (messages_of p.offered) n) })
+emit p (Some n) = (
+  true,
+  record p {
+    numbers = sent_one p.numbers;
+    packets = p.packets ++ frame_packet (frame_of p.src p.dst (messages_of p.offered) n);
+  },
+)
 
 -- the acknowledgement of what was taken is emitted
 abbrev pub emit_ack : PairState → PairState
-emit_ack p = record p { packets = p.packets ++ Acknowledges (record { src = p.dst; dst = p.src; next = p.received }) ∷ [] }
+emit_ack p = record p {
+  packets = p.packets ++ Acknowledges (record { src = p.dst; dst = p.src; next = p.received })
+      ∷ [];
+}
 
 -- the message of a frame, where it was taken whole
 abbrev pub whole_message : FrameHead → Took → List PairMsg
@@ -111,7 +131,15 @@ pub record IsReached (p : PairState) : Type 0 where
 -- a pair by its halves and its lists
 abbrev pub pair_of : Outgoing → Incoming → List GmBody → List PairMsg → List PairMsg → PairState
 pair_of w r packets offered taken =
-    record { src = w.src; dst = w.dst; numbers = w.numbers; received = r.taken; packets = packets; offered = offered; taken = taken }
+    record {
+      src = w.src;
+      dst = w.dst;
+      numbers = w.numbers;
+      received = r.taken;
+      packets = packets;
+      offered = offered;
+      taken = taken;
+    }
 
 -- What a pair keeps: all descriptors that were offered wait, both halves are of one connection, and events lead to it.
 pub record IsPair (w : Outgoing) (r : Incoming) (packets : List GmBody) (offered taken : List PairMsg) : Type 0 where
@@ -120,7 +148,8 @@ pub record IsPair (w : Outgoing) (r : Incoming) (packets : List GmBody) (offered
   pub dst : r.dst ≡ w.dst
   pub reached : IsReached (pair_of w r packets offered taken)
 
--- A pair in order: its numbers stand as they should, and the messages taken whole are a prefix of those offered: those that lie wholly below the number of fragments taken.
+-- A pair in order: its numbers stand as they should, and the messages taken whole are a prefix of those offered:
+-- those that lie wholly below the number of fragments taken.
 pub record IsInOrder (p : PairState) : Type 0 where
   pub base_below_received : p.numbers.base ≤ p.received
   pub received_below : p.received ≤ p.numbers.top

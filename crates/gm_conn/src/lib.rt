@@ -1,7 +1,8 @@
-//! The two halves of a connection: a sender that repeats what isn't acknowledged, and a receiver that takes the next number alone.
+//! The two halves of a connection: a sender that repeats what isn't acknowledged, and a receiver that takes the next
+//! number alone.
 //!
-//! It holds no message's bytes and knows no port. `specs/Connection.antt` of `gm_defs` has the rules of the numbers, `specs/Halves.antt`
-//! what a half is, and `specs/Pair.antt` two halves over a medium that loses, repeats and delays.
+//! It holds no message's bytes and knows no port. `specs/Connection.antt` of `gm_defs` has the rules of the numbers,
+//! `specs/Halves.antt` what a half is, and `specs/Pair.antt` two halves over a medium that loses, repeats and delays.
 //!
 //! ```text
 //!   0              base         cursor        top          next

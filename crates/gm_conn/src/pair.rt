@@ -10,7 +10,8 @@ use gm_defs::{GmBody, Took};
 use std::alloc::{AllocError, Global};
 use std::marker::Model;
 
-/// A sender, its receiver, and all that was ever emitted. A packet that is never delivered is lost, and one may be delivered again.
+/// A sender, its receiver, and all that was ever emitted. A packet that is never delivered is lost, and one may be
+/// delivered again.
 #[derive(Drop)]
 pub struct Pair {
     sender: Sender,
@@ -44,7 +45,8 @@ impl Pair {
         }
     }
 
-    /// One event. False exactly where the number is spent, nothing is due, there is no such packet, or nothing is unacknowledged.
+    /// One event. False exactly where the number is spent, nothing is due, there is no such packet, or nothing is
+    /// unacknowledged.
     pub fn step(&mut self, e: PairEvent) -> Result<bool, AllocError>
         requires { IsFair e }
         ensures ok { IfOk result (λ answer. step self.old e ≡ (answer, self.new)) }
@@ -127,7 +129,8 @@ impl Pair {
 
     // A packet arrives.
     fn deliver(&mut self, packet: usize, fits: bool) -> Result<bool, AllocError>
-        ensures ok { IfOk result (λ answer. deliver self.old fits (slice_get self.old.packets packet) ≡ (answer, self.new)) }
+        ensures ok { IfOk result (λ answer. deliver self.old fits (slice_get self.old.packets packet)
+            ≡ (answer, self.new)) }
         ensures err { OnErr result (self.new ≡ self.old) }
     {
         match packet_at(&self.packets, packet) {

@@ -1,12 +1,14 @@
 //! The sending half.
 
-ghost use Rattle.std.specs.Prelude.{◌≡◌, ◌<◌, ◌≤◌, ◌-◌, ◌+◌, [], true, false, nat_lt, length, slice_get, IsTrue, IsSome, IfSome, OnOk, OnErr};
+ghost use Rattle.std.specs.Prelude.{◌≡◌, ◌<◌, ◌≤◌, ◌-◌, ◌+◌, [], true, false, nat_lt, length, slice_get, IsTrue};
+ghost use Rattle.std.specs.Prelude.{IsSome, IfSome, OnOk, OnErr};
 ghost use Rattle.std.specs.VecDeque.{deque_len, deque_capacity};
 ghost use Rattle.net_defs.specs.Refusal.{Refuses};
 ghost use Rattle.gm_defs.specs.Body.{is_head, message_limit};
 ghost use Rattle.gm_defs.specs.Fragment.{piece_count};
 ghost use Rattle.gm_defs.specs.Connection.{starting, due, sent_one, is_taken, expired, unacknowledged, is_spent};
-ghost use Rattle.gm_conn.specs.Halves.{IsOutgoing, outgoing, is_desc, due_frame, finished, heard_ack, oldest_finished, without_finished, offer_refusal, with_offer, head_for};
+ghost use Rattle.gm_conn.specs.Halves.{IsOutgoing, outgoing, is_desc, due_frame, finished, heard_ack, oldest_finished};
+ghost use Rattle.gm_conn.specs.Halves.{without_finished, offer_refusal, with_offer, head_for};
 
 use crate::{Desc, Due, OfferRefusal};
 use gm_defs::FrameHead;
@@ -38,9 +40,20 @@ impl Model for Sender {
 
     ghost Value = { Outgoing };
 
-    ghost view = { λ s. outgoing s.src s.dst (record { base = s.base; cursor = s.cursor; top = s.top; next = s.next }) s.waiting.items (deque_capacity s.waiting - deque_len s.waiting) };
+    ghost view = { λ s. outgoing s.src s.dst (record {
+      base = s.base;
+      cursor = s.cursor;
+      top = s.top;
+      next = s.next;
+    }) s.waiting.items (deque_capacity s.waiting - deque_len s.waiting) };
 
-    ghost invariant = { λ s. IsOutgoing (outgoing s.src s.dst (record { base = s.base; cursor = s.cursor; top = s.top; next = s.next }) s.waiting.items (deque_capacity s.waiting - deque_len s.waiting)) };
+    ghost invariant = { λ s.
+        IsOutgoing (outgoing s.src s.dst (record {
+          base = s.base;
+          cursor = s.cursor;
+          top = s.top;
+          next = s.next;
+        }) s.waiting.items (deque_capacity s.waiting - deque_len s.waiting)) };
 }
 
 impl Sender {
@@ -188,7 +201,8 @@ impl Sender {
     }
 }
 
-// Makes room for one more, twice as much as before where there is none. False for want of memory, which leaves the room as it was.
+// Makes room for one more, twice as much as before where there is none. False for want of memory, which leaves the
+// room as it was.
 fn make_room(waiting: &mut VecDeque<Desc>) -> bool
     ensures items { waiting.new.items ≡ waiting.old.items }
     ensures len { deque_len waiting.new ≡ deque_len waiting.old }

@@ -1,5 +1,7 @@
--- The bytes of type 0x0008, version 1: frames and acknowledgements. Numbers stand with the greatest byte first; each body has exactly its bytes.
-use Rattle.std.specs.Prelude.{ℕ, ◌-◌, ◌%◌, ◌&&◌, Bool, List, ◌∷◌, ◌++◌, length, take, drop, slice_index, min, nat_eq, nat_lt, nat_le, if◌then◌else◌, Result, Ok, Err}
+-- The bytes of type 0x0008, version 1: frames and acknowledgements. Numbers stand with the greatest byte first; each
+-- body has exactly its bytes.
+use Rattle.std.specs.Prelude.{ℕ, ◌-◌, ◌%◌, ◌&&◌, Bool, List, ◌∷◌, ◌++◌, length, take, drop, slice_index, min, nat_eq}
+use Rattle.std.specs.Prelude.{nat_lt, nat_le, if◌then◌else◌, Result, Ok, Err}
 use Rattle.std.specs.Int.{Width, w16, w32, to_be_bytes, from_be_bytes}
 use Rattle.gm_defs.specs.declared.frame.FrameHead.{FrameHead}
 use Rattle.gm_defs.specs.declared.frame.Ack.{Ack}
@@ -33,7 +35,8 @@ head_bytes h =
     1 ∷ 1 ∷ to_be_bytes w16 h.src ++ to_be_bytes w16 h.dst ++ h.sport ∷ h.dport ∷ h.prio
     ∷ to_be_bytes w32 h.seq ++ to_be_bytes w32 h.total ++ to_be_bytes w32 h.offset ++ to_be_bytes w16 h.len
 
--- a frame: kind 1, version 1, sender, receiver, ports, priority, number, total, offset, length, and the fragment's bytes
+-- a frame: kind 1, version 1, sender, receiver, ports, priority, number, total, offset, length, and the fragment's
+-- bytes
 abbrev pub frame_bytes : FrameHead → List ℕ → List ℕ
 frame_bytes h part = head_bytes h ++ part
 
@@ -84,7 +87,8 @@ begins_with kind body = nat_eq (slice_index body 0) kind && nat_eq (slice_index 
 -- a frame: its head is by the rules, and exactly its fragment's bytes follow
 abbrev pub is_frame : List ℕ → Bool
 is_frame body =
-    nat_le frame_length (length body) && begins_with 1 body && is_head (head_in body) && nat_eq (length (part_in body)) (head_in body).len
+    nat_le frame_length (length body) && begins_with 1 body && is_head (head_in body) && nat_eq
+    (length (part_in body)) (head_in body).len
 
 -- an acknowledgement: exactly its bytes
 abbrev pub is_ack : List ℕ → Bool
@@ -93,4 +97,5 @@ is_ack body = nat_eq (length body) ack_length && begins_with 2 body
 -- what a body says
 abbrev pub decode : List ℕ → Result GmBody Malformed
 decode body =
-    if is_frame body then Ok (Frame (head_in body)) else if is_ack body then Ok (Acknowledges (ack_in body)) else Err (record {})
+    if is_frame body then Ok (Frame (head_in body)) else if is_ack body then Ok (Acknowledges (ack_in body))
+    else Err (record {})

@@ -1,5 +1,6 @@
 -- The numbers of a connection, from one host to another. Its fragments are numbered from 0.
-use Rattle.std.specs.Prelude.{ℕ, ◌+◌, ◌-◌, ◌≤◌, Bool, ◌&&◌, nat_lt, nat_le, nat_eq, max, if◌then◌else◌, Option, Some, None}
+use Rattle.std.specs.Prelude.{ℕ, ◌+◌, ◌-◌, ◌≤◌, Bool, ◌&&◌, nat_lt, nat_le, nat_eq, max, if◌then◌else◌, Option, Some}
+use Rattle.std.specs.Prelude.{None}
 use Rattle.gm_defs.specs.declared.frame.ConnectionKey.{ConnectionKey}
 use Rattle.gm_defs.specs.declared.frame.GmBody.{GmBody}
 use Rattle.gm_defs.specs.declared.frame.GmBody.TheVariants.{Frame, Ack as Acknowledges}
@@ -7,12 +8,14 @@ use Rattle.gm_defs.specs.declared.token.Took.{Took}
 use Rattle.gm_defs.specs.declared.token.Took.TheVariants.{NotNext, NoToken, Whole}
 use Rattle.gm_defs.specs.Body.{number_limit}
 
--- The connection that a body belongs to: a frame's goes from its sender to its receiver, an acknowledgement's the other way.
+-- The connection that a body belongs to: a frame's goes from its sender to its receiver, an acknowledgement's the
+-- other way.
 abbrev pub key_of : GmBody → ConnectionKey
 key_of (Frame h) = record { src = h.src; dst = h.dst }
 key_of (Acknowledges a) = record { src = a.dst; dst = a.src }
 
--- A sender: the first number that isn't acknowledged, the next to send, one past the greatest ever sent, one past the last offered.
+-- A sender: the first number that isn't acknowledged, the next to send, one past the greatest ever sent, one past the
+-- last offered.
 pub record SenderState : Type 0 where
   pub base : ℕ
   pub cursor : ℕ

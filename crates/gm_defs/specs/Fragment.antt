@@ -1,5 +1,6 @@
 -- Messages in pieces, and what makes a frame or an acknowledgement honest.
-use Rattle.std.specs.Prelude.{◌≡◌, ℕ, zero, suc, ◌+◌, ◌-◌, ◌/◌, ◌≤◌, List, [], ◌∷◌, ◌++◌, length, take, drop, max, nat_le, slice_get, if◌then◌else◌, Option, Some, option_map}
+use Rattle.std.specs.Prelude.{◌≡◌, ℕ, zero, suc, ◌+◌, ◌-◌, ◌/◌, ◌≤◌, List, [], ◌∷◌, ◌++◌, length, take, drop, max}
+use Rattle.std.specs.Prelude.{nat_le, slice_get, if◌then◌else◌, Option, Some, option_map}
 use Rattle.gm_defs.specs.declared.message.Message.{Message}
 use Rattle.gm_defs.specs.declared.frame.FrameHead.{FrameHead}
 use Rattle.gm_defs.specs.declared.frame.Ack.{Ack}
@@ -36,7 +37,8 @@ fragments (m ∷ ms) = pieces m ++ fragments ms
 -- how many of these messages lie wholly below a number
 abbrev pub whole_below : List Message → ℕ → ℕ
 whole_below [] n = 0
-whole_below (m ∷ ms) n = if nat_le (piece_count (length m.body)) n then 1 + whole_below ms (n - piece_count (length m.body)) else 0
+whole_below (m ∷ ms) n = if nat_le (piece_count (length m.body)) n
+    then 1 + whole_below ms (n - piece_count (length m.body)) else 0
 
 -- the head of the frame that carries a fragment, by its number, from one host to another
 abbrev pub head_of : ℕ → ℕ → ℕ → Fragment → FrameHead

@@ -1,5 +1,6 @@
 -- What holds of every body, every connection and every message.
-use Rattle.std.specs.Prelude.{◌≡◌, ◌↔◌, ℕ, ◌<◌, ◌≤◌, ◌^◌, true, false, nat_eq, List, [], ◌∷◌, length, slice_index, Some, None, Ok}
+use Rattle.std.specs.Prelude.{◌≡◌, ◌↔◌, ℕ, ◌<◌, ◌≤◌, ◌^◌, true, false, nat_eq, List, [], ◌∷◌, length, slice_index, Some}
+use Rattle.std.specs.Prelude.{None, Ok}
 use Rattle.std.specs.List.{AllByRecursion, list_any}
 use Rattle.gm_defs.specs.declared.message.Message.{Message}
 use Rattle.gm_defs.specs.declared.frame.FrameHead.{FrameHead}
@@ -7,7 +8,8 @@ use Rattle.gm_defs.specs.declared.frame.Ack.{Ack}
 use Rattle.gm_defs.specs.declared.frame.GmBody.TheVariants.{Frame, Ack as Acknowledges}
 use Rattle.gm_defs.specs.Fragment.{pieces, joined}
 use Rattle.gm_defs.specs.Body.{piece, is_head, frame_bytes, ack_bytes, part_in, decode, number_limit}
-use Rattle.gm_defs.specs.Connection.{SenderState, IsSender, starting, due, sent_one, acknowledged, expired, is_spent, offered}
+use Rattle.gm_defs.specs.Connection.{SenderState, IsSender, starting, due, sent_one, acknowledged, expired, is_spent}
+use Rattle.gm_defs.specs.Connection.{offered}
 use Rattle.gm_defs.specs.Token.{sizes, room, size_for_length}
 
 -- a frame by the rules is read as what it is
@@ -87,4 +89,5 @@ PiecesMakeMessage = (m : Message) → joined (pieces m) ≡ m.body
 
 -- a message of one piece
 abbrev pub ShortIsOnePiece : Type 0
-ShortIsOnePiece = (m : Message) → length m.body ≤ piece → pieces m ≡ record { message = m; offset = 0; part = m.body } ∷ []
+ShortIsOnePiece = (m : Message) → length m.body ≤ piece
+    → pieces m ≡ record { message = m; offset = 0; part = m.body } ∷ []

@@ -1,6 +1,7 @@
--- What each call makes of an open port. Each is to be made only where its premise holds; where a send or a fitting token is missing, the
--- port stays as it is.
-use Rattle.std.specs.Prelude.{ℕ, Bool, ◌||◌, List, [], ◌∷◌, ◌++◌, length, drop, find, nat_eq, nat_lt, slice_get, if◌then◌else◌, Option, Some, None}
+-- What each call makes of an open port. Each is to be made only where its premise holds; where a send or a fitting
+-- token is missing, the port stays as it is.
+use Rattle.std.specs.Prelude.{ℕ, Bool, ◌||◌, List, [], ◌∷◌, ◌++◌, length, drop, find, nat_eq, nat_lt, slice_get}
+use Rattle.std.specs.Prelude.{if◌then◌else◌, Option, Some, None}
 use Rattle.gm_defs.specs.declared.frame.FrameHead.{FrameHead}
 use Rattle.gm_defs.specs.Body.{message_limit}
 use Rattle.gm_defs.specs.Token.{fits, Sending, Provided, PortEvent, Sent, Received, PortState, fitting}

@@ -1,5 +1,6 @@
 -- Sizes of buffers, and where the tokens of a port are.
-use Rattle.std.specs.Prelude.{ℕ, ◌-◌, ◌<◌, ◌^◌, Bool, false, ◌&&◌, List, [], ◌∷◌, ◌++◌, map, find, nat_eq, nat_le, is_some, if◌then◌else◌, Option, Some, None}
+use Rattle.std.specs.Prelude.{ℕ, ◌-◌, ◌<◌, ◌^◌, Bool, false, ◌&&◌, List, [], ◌∷◌, ◌++◌, map, find, nat_eq, nat_le}
+use Rattle.std.specs.Prelude.{is_some, if◌then◌else◌, Option, Some, None}
 use Rattle.std.specs.List.{list_any, AllByRecursion}
 use Rattle.net_defs.specs.Network.{Apart}
 use Rattle.gm_defs.specs.declared.token.TokenPlace.{TokenPlace}
@@ -43,7 +44,8 @@ pub data PortEvent : Type 0 where
   Sent : (token : ℕ) → (buffer : List ℕ) → PortEvent
   Received : (token : ℕ) → (buffer : List ℕ) → (from sport prio len : ℕ) → PortEvent
 
--- An open port: how many tokens of each kind it has, the sends that aren't finished, the provided tokens, first provided first, and the events, first put in first.
+-- An open port: how many tokens of each kind it has, the sends that aren't finished, the provided tokens, first
+-- provided first, and the events, first put in first.
 pub record PortState : Type 0 where
   pub sends : ℕ
   pub recvs : ℕ
@@ -75,7 +77,8 @@ sends_out p = map (λ s. s.token) p.queue ++ sent_tokens p.events
 abbrev pub recvs_out : PortState → List ℕ
 recvs_out p = map (λ r. r.token) p.provided ++ received_tokens p.events
 
--- One owner: each number that the client hasn't is one of the port's and stands in one place, once, and there with one buffer.
+-- One owner: each number that the client hasn't is one of the port's and stands in one place, once, and there with
+-- one buffer.
 pub record HasOneOwner (p : PortState) : Type 0 where
   pub sends_once : Apart (sends_out p)
   pub recvs_once : Apart (recvs_out p)
@@ -89,7 +92,8 @@ has_number ts t = list_any (nat_eq t) ts
 -- the place of a send token: none where the client has it
 abbrev pub place_of_send : PortState → ℕ → Option TokenPlace
 place_of_send p t =
-    if has_number (map (λ s. s.token) p.queue) t then Some Queue else if has_number (sent_tokens p.events) t then Some Event else None
+    if has_number (map (λ s. s.token) p.queue) t then Some Queue
+    else if has_number (sent_tokens p.events) t then Some Event else None
 
 -- the place of a receive token
 abbrev pub place_of_recv : PortState → ℕ → Option TokenPlace

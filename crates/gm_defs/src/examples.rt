@@ -6,18 +6,23 @@ ghost use Rattle.gm_defs.specs.declared.token.Took.{Took};
 ghost use Rattle.gm_defs.specs.declared.token.TokenPlace.{TokenPlace};
 ghost use Rattle.gm_defs.specs.Body.{frame_bytes, ack_bytes, decode, is_head};
 ghost use Rattle.gm_defs.specs.Fragment.{pieces, fragments, frame_of, whole_below, piece_count};
-ghost use Rattle.gm_defs.specs.Connection.{starting, due, sent_one, acknowledged, expired, offered, unacknowledged, is_spent, took};
+ghost use Rattle.gm_defs.specs.Connection.{starting, due, sent_one, acknowledged, expired, offered, unacknowledged};
+ghost use Rattle.gm_defs.specs.Connection.{is_spent, took};
 ghost use Rattle.gm_defs.specs.Token.{size_for_length, fits, HasOneOwner, place_of_send, place_of_recv, can_take};
-ghost use Rattle.gm_defs.specs.Port.{filled, is_bad_size, is_too_long, sent_with, provided_with, finished, delivered, next_event, polled, unfinished};
+ghost use Rattle.gm_defs.specs.Port.{filled, is_bad_size, is_too_long, sent_with, provided_with, finished, delivered};
+ghost use Rattle.gm_defs.specs.Port.{next_event, polled, unfinished};
 ghost use Rattle.gm_defs.specs.Examples.{message, abc, busy_port, sends_of, provided_of, events_of, sent_event};
 
 /// A frame of three bytes and its acknowledgement.
 pub fn bodies_of_frames()
-    ensures frame { frame_bytes abc (codes "ABC") ≡ 1 ∷ 1 ∷ 0 ∷ 0 ∷ 0 ∷ 1 ∷ 0 ∷ 1 ∷ 0 ∷ 0 ∷ 0 ∷ 0 ∷ 0 ∷ 0 ∷ 0 ∷ 0 ∷ 3 ∷ 0 ∷ 0 ∷ 0 ∷ 0 ∷ 0 ∷ 3 ∷ 65 ∷ 66 ∷ 67 ∷ [] }
+    ensures frame { frame_bytes abc (codes "ABC")
+        ≡ 1 ∷ 1 ∷ 0 ∷ 0 ∷ 0 ∷ 1 ∷ 0 ∷ 1 ∷ 0 ∷ 0 ∷ 0 ∷ 0 ∷ 0 ∷ 0 ∷ 0 ∷ 0 ∷ 3 ∷ 0 ∷ 0 ∷ 0 ∷ 0 ∷ 0 ∷ 3 ∷ 65 ∷ 66 ∷ 67
+        ∷ [] }
     ensures read { decode (frame_bytes abc (codes "ABC")) ≡ Ok (GmBody.Frame abc) }
     ensures too_long { decode (frame_bytes abc (codes "ABCD")) ≡ Err (record {}) }
     ensures other_version { decode (1 ∷ 2 ∷ replicate 21 0) ≡ Err (record {}) }
-    ensures acknowledged { decode (ack_bytes (record { src = 1; dst = 0; next = 1 })) ≡ Ok (GmBody.Ack (record { src = 1; dst = 0; next = 1 })) }
+    ensures acknowledged { decode (ack_bytes (record { src = 1; dst = 0; next = 1 }))
+        ≡ Ok (GmBody.Ack (record { src = 1; dst = 0; next = 1 })) }
     ensures nothing { decode [] ≡ Err (record {}) }
     ensures wrong_port { is_head (record abc { dport = 8 }) ≡ false }
     ensures wrong_offset { is_head (record abc { offset = 3 }) ≡ false }
@@ -41,7 +46,8 @@ pub fn numbers_of_a_connection()
     ensures first_due { due (offered (starting 0) 2) ≡ Some 0 }
     ensures sent { sent_one (offered (starting 0) 2) ≡ record { base = 0; cursor = 1; top = 1; next = 2 } }
     ensures again { due (expired (sent_one (offered (starting 0) 2))) ≡ Some 0 }
-    ensures acknowledged { acknowledged (expired (sent_one (offered (starting 0) 2))) 1 ≡ record { base = 1; cursor = 1; top = 1; next = 2 } }
+    ensures acknowledged { acknowledged (expired (sent_one (offered (starting 0) 2))) 1
+        ≡ record { base = 1; cursor = 1; top = 1; next = 2 } }
     ensures never_sent { acknowledged (sent_one (offered (starting 0) 2)) 2 ≡ sent_one (offered (starting 0) 2) }
     ensures one_left { unacknowledged (acknowledged (sent_one (offered (starting 0) 2)) 1) ≡ 1 }
     ensures window_full { due (record { base = 0; cursor = 8; top = 8; next = 9 }) ≡ None }
@@ -82,7 +88,8 @@ pub fn ports_after_calls()
     ensures sent_before { sends_of (sent_with busy_port 0 (codes "DE")) ≡ 0 ∷ 1 ∷ [] }
     ensures finished { events_of (finished busy_port 1) ≡ 0 ∷ 1 ∷ 1 ∷ [] }
     ensures none_left { unfinished (finished busy_port 1) ≡ 0 }
-    ensures provided { provided_of (provided_with busy_port (record { token = 2; size = 4; prio = 1; buffer = [] })) ≡ 0 ∷ 2 ∷ [] }
+    ensures provided { provided_of (provided_with busy_port (record { token = 2; size = 4; prio = 1; buffer = [] }))
+        ≡ 0 ∷ 2 ∷ [] }
     ensures delivered { events_of (delivered busy_port abc (codes "ABC")) ≡ 0 ∷ 1 ∷ 0 ∷ [] }
     ensures used { provided_of (delivered busy_port abc (codes "ABC")) ≡ [] }
     ensures first_event { next_event busy_port ≡ Some (sent_event 0 []) }

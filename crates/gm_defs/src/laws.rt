@@ -1,6 +1,8 @@
 //! What holds of every body, connection and size: each function's contract is the law, and its body is empty.
 
-ghost use Rattle.gm_defs.specs.Laws.{FrameIsRead, AckIsRead, FrameWasWritten, AckWasWritten, StartingIsSender, SendingStays, AcknowledgingStays, ExpiringStays, OfferingStays, SizeIsLeast, NoSizeAbove, PiecesMakeMessage, ShortIsOnePiece};
+ghost use Rattle.gm_defs.specs.Laws.{FrameIsRead, AckIsRead, FrameWasWritten, AckWasWritten, StartingIsSender};
+ghost use Rattle.gm_defs.specs.Laws.{SendingStays, AcknowledgingStays, ExpiringStays, OfferingStays, SizeIsLeast};
+ghost use Rattle.gm_defs.specs.Laws.{NoSizeAbove, PiecesMakeMessage, ShortIsOnePiece};
 
 /// Bytes that were written are read as what they are.
 pub fn bodies_are_read()

@@ -1,5 +1,5 @@
-//! What the ports' messages are: message, fragment, frame and acknowledgement with their bytes, the numbers of a connection, and the
-//! places of a port's tokens.
+//! What the ports' messages are: message, fragment, frame and acknowledgement with their bytes, the numbers of a
+//! connection, and the places of a port's tokens.
 //!
 //! This crate holds definitions and the small types that they speak of. It sends no message.
 //!

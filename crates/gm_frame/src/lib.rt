@@ -1,7 +1,7 @@
 //! The bytes of frames and acknowledgements, written and read.
 //!
-//! It keeps no connection and holds no buffer. `specs/Body.antt` of `gm_defs` says what a body is, and `specs/Written.antt` what a
-//! reader may conclude from one.
+//! It keeps no connection and holds no buffer. `specs/Body.antt` of `gm_defs` says what a body is, and
+//! `specs/Written.antt` what a reader may conclude from one.
 //!
 //! ```text
 //!   frame            1 version src:2 dst:2 sport dport prio seq:4 total:4 offset:4 len:2 | len bytes

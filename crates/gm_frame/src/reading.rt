@@ -2,17 +2,16 @@
 
 ghost use Rattle.std.specs.Prelude.{◌≡◌, ◌+◌, ◌≤◌, length, true, IfOk, nat_eq};
 ghost use Rattle.std.specs.Int.{w16, w32};
-ghost use Rattle.gm_defs.specs.Body.{number_at, begins_with, head_in, ack_in, part_in, is_head, is_offset, is_frame, is_ack, decode};
+ghost use Rattle.gm_defs.specs.Body.{number_at, begins_with, head_in, ack_in, part_in, is_head, is_offset, is_frame};
+ghost use Rattle.gm_defs.specs.Body.{is_ack, decode};
 ghost use Rattle.gm_frame.specs.Written.{IsWritten};
 
 use crate::{ACK, ACK_LENGTH, FRAME, FRAME_LENGTH, VERSION};
 use gm_defs::{Ack, FrameHead, GmBody, Malformed, bodies_were_written};
+use gm_tokens::MESSAGE_LIMIT;
 
 // The most bytes of a fragment.
 const PIECE: u32 = 1016;
-
-// The most bytes of a message.
-const MESSAGE_LIMIT: u32 = 1016;
 
 /// What a body says. `Malformed` exactly where it is outside the grammar.
 pub fn decode(b: &[u8]) -> Result<GmBody, Malformed>

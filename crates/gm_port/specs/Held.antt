@@ -7,8 +7,8 @@ use Rattle.gm_port.specs.declared.event.PortEvent.{PortEvent as Event}
 use Rattle.gm_port.specs.declared.event.PortEvent.TheVariants.{Sent as SentEvent, Received as ReceivedEvent}
 use Rattle.gm_port.specs.declared.event.ProvidedToken.{ProvidedToken}
 
--- The unfinished sends of a port: whose tokens they are, how many there may be, the sends by the rising numbers of their tokens, and the
--- number of the token at each ticket.
+-- The unfinished sends of a port: whose tokens they are, how many there may be, the sends by the rising numbers of
+-- their tokens, and the number of the token at each ticket.
 pub record Sends : Type 0 where
   pub host : ℕ
   pub port : ℕ

@@ -11,12 +11,14 @@ OpeningHasOneOwner = (sends recvs : ℕ) → HasOneOwner (opened sends recvs)
 -- a send keeps one owner
 abbrev pub SendingKeepsOneOwner : Type 0
 SendingKeepsOneOwner =
-    (p : PortState) (t : ℕ) (b : List ℕ) → HasOneOwner p → t < p.sends → place_of_send p t ≡ None → HasOneOwner (sent_with p t b)
+    (p : PortState) (t : ℕ) (b : List ℕ) → HasOneOwner p → t < p.sends → place_of_send p t ≡ None
+    → HasOneOwner (sent_with p t b)
 
 -- a provided buffer keeps one owner
 abbrev pub ProvidingKeepsOneOwner : Type 0
 ProvidingKeepsOneOwner =
-    (p : PortState) (r : Provided) → HasOneOwner p → r.token < p.recvs → place_of_recv p r.token ≡ None → HasOneOwner (provided_with p r)
+    (p : PortState) (r : Provided) → HasOneOwner p → r.token < p.recvs → place_of_recv p r.token ≡ None
+    → HasOneOwner (provided_with p r)
 
 -- a finished send keeps one owner
 abbrev pub FinishingKeepsOneOwner : Type 0
@@ -34,7 +36,8 @@ PollingKeepsOneOwner = (p : PortState) → HasOneOwner p → HasOneOwner (polled
 -- a send that is taken in and finished leaves its token with its buffer, unchanged, in an event, and nothing else
 abbrev pub BufferComesBack : Type 0
 BufferComesBack =
-    (p : PortState) (t : ℕ) (b : List ℕ) → place_of_send p t ≡ None → finished (sent_with p t b) t ≡ record p { events = p.events ++ Sent t b ∷ [] }
+    (p : PortState) (t : ℕ) (b : List ℕ) → place_of_send p t ≡ None
+    → finished (sent_with p t b) t ≡ record p { events = p.events ++ Sent t b ∷ [] }
 
 -- A buffer that took a message: it is as long as before, begins with the message, and its other bytes are as before.
 pub record TookMessage (buffer message after : List ℕ) : Type 0 where

@@ -16,9 +16,10 @@ AreOwnTokens host port rs = AllByRecursion (λ r. provided_at host port (provide
 abbrev pub AreOwnEvents : ℕ → ℕ → List Event → Type 0
 AreOwnEvents host port es = AllByRecursion (λ e. event_at host port (event_of e) ≡ e) es
 
--- The provided tokens are of this port and no more than it has, and there is room for all of them and for the list in which they are
--- handed back.
-pub record AreBuffers (host port limit : ℕ) (provided : List ProvidedToken) (room : ℕ) (listed : List (Token × List ℕ)) (list_room : ℕ) : Type 0 where
+-- The provided tokens are of this port and no more than it has, and there is room for all of them and for the list in
+-- which they are handed back.
+pub record AreBuffers (host port limit : ℕ) (provided : List ProvidedToken) (room : ℕ)
+    (listed : List (Token × List ℕ)) (list_room : ℕ) : Type 0 where
   pub own : AreOwnTokens host port provided
   pub few : length provided ≤ limit
   pub roomy : limit ≤ room

@@ -32,14 +32,17 @@ finished_by s (Some token) = finished s token
 
 -- the send at a ticket is finished
 abbrev pub finished_at : OpenPort → ℕ → OpenPort
-finished_at p ticket = record p { state = finished_by p.state (token_of p ticket); tickets = slice_set p.tickets ticket None }
+finished_at p ticket = record p {
+  state = finished_by p.state (token_of p ticket);
+  tickets = slice_set p.tickets ticket None;
+}
 
 -- the place of a token: none where the client has it
 abbrev pub place_of : PortState → Bool → ℕ → Option TokenPlace
 place_of s send number = if send then place_of_send s number else place_of_recv s number
 
--- The parts of a port are of one port, each token has one owner, each provided buffer has the bytes of its size, and there is room for an
--- event of each token.
+-- The parts of a port are of one port, each token has one owner, each provided buffer has the bytes of its size, and
+-- there is room for an event of each token.
 pub record IsPort (s : Sends) (b : Buffers) (e : Events) : Type 0 where
   pub buffers_host : b.host ≡ s.host
   pub buffers_port : b.port ≡ s.port

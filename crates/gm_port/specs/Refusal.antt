@@ -22,4 +22,5 @@ provide_refusal buffer size prio =
 -- a port is not closed
 abbrev pub close_refusal : PortState → Option CloseRefusal
 close_refusal p =
-    if nat_lt 0 (unfinished p) then Some (Busy (unfinished p)) else if nat_lt 0 (unread p) then Some (Unread (unread p)) else None
+    if nat_lt 0 (unfinished p) then Some (Busy (unfinished p))
+    else if nat_lt 0 (unread p) then Some (Unread (unread p)) else None

@@ -1,6 +1,7 @@
 //! The provided tokens of a port, with their buffers.
 
-ghost use Rattle.std.specs.Prelude.{◌≡◌, ◌<◌, ◌≤◌, ◌++◌, ◌∷◌, [], length, map, find, position, nat_eq, is_some, Some, IsSome, IfOk, option_map, vec_capacity};
+ghost use Rattle.std.specs.Prelude.{◌≡◌, ◌<◌, ◌≤◌, ◌++◌, ◌∷◌, [], length, map, find, position, nat_eq, is_some, Some};
+ghost use Rattle.std.specs.Prelude.{IsSome, IfOk, option_map, vec_capacity};
 ghost use Rattle.std.specs.List.{list_any};
 ghost use Rattle.gm_defs.specs.Token.{has_number, fits as token_fits};
 ghost use Rattle.gm_defs.specs.Port.{without_first};
@@ -40,7 +41,8 @@ impl Model for BufferList {
       provided = map provided_of b.provided.items;
     } };
 
-    ghost invariant = { λ b. AreBuffers b.host b.port b.limit b.provided.items (deque_capacity b.provided) b.listed.items (vec_capacity b.listed) };
+    ghost invariant = { λ b. AreBuffers b.host b.port b.limit b.provided.items
+        (deque_capacity b.provided) b.listed.items (vec_capacity b.listed) };
 }
 
 impl BufferList {
@@ -95,7 +97,8 @@ impl BufferList {
     /// Takes the first token out that fits a message of this length and priority.
     pub(crate) fn take(&mut self, len: u32, prio: u8) -> ProvidedToken
         requires { IsSome (find (takes len prio) self.old.provided) }
-        ensures taken { option_map (provided_at self.old.host self.old.port) (find (takes len prio) self.old.provided) ≡ Some result }
+        ensures taken { option_map (provided_at self.old.host self.old.port) (find (takes len prio) self.old.provided)
+            ≡ Some result }
         ensures rest { self.new ≡ record self.old { provided = without_first (takes len prio) self.old.provided } }
     {
         let Some(at) = first_fitting(&self.provided, len, prio) else {

@@ -1,6 +1,8 @@
 //! What holds of every port: each function's contract is the law, and its body is empty.
 
-ghost use Rattle.gm_port.specs.Laws.{OpeningHasOneOwner, SendingKeepsOneOwner, ProvidingKeepsOneOwner, FinishingKeepsOneOwner, DeliveringKeepsOneOwner, PollingKeepsOneOwner, BufferComesBack, MessageStandsInFront};
+ghost use Rattle.gm_port.specs.Laws.{OpeningHasOneOwner, SendingKeepsOneOwner, ProvidingKeepsOneOwner};
+ghost use Rattle.gm_port.specs.Laws.{FinishingKeepsOneOwner, DeliveringKeepsOneOwner, PollingKeepsOneOwner};
+ghost use Rattle.gm_port.specs.Laws.{BufferComesBack, MessageStandsInFront};
 
 /// Each call keeps one owner for each token.
 pub fn tokens_have_one_owner()

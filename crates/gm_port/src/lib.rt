@@ -1,9 +1,9 @@
 //! A port of a host: it holds tokens and buffers from the client's call until an event hands them back.
 //!
-//! It sends no packet and speaks to no other host: the host's node makes frames of its sends and hands it the messages that come. A token
-//! or a buffer is in one place at a time, with the client, in the queue of sends, provided, or in an event; it moves by the calls below.
-//! What a contract sees of a port is `specs/Opened.antt`, over the state of a port in `gm_defs`, whose `specs/Port.antt` says what each call
-//! makes of it.
+//! It sends no packet and speaks to no other host: the host's node makes frames of its sends and hands it the
+//! messages that come. A token or a buffer is in one place at a time, with the client, in the queue of sends,
+//! provided, or in an event; it moves by the calls below. What a contract sees of a port is `specs/Opened.antt`, over
+//! the state of a port in `gm_defs`, whose `specs/Port.antt` says what each call makes of it.
 //!
 //! ```text
 //!              send               finish

@@ -1,6 +1,7 @@
 //! The port.
 
-ghost use Rattle.std.specs.Prelude.{◌≡◌, ◌<◌, [], length, map, find, false, true, is_some, IsSome, Some, None, IfOk, IfErr, OnErr, OnOk, MatchResult, option_map, slice_get};
+ghost use Rattle.std.specs.Prelude.{◌≡◌, ◌<◌, [], length, map, find, false, true, is_some, IsSome, Some, None, IfOk};
+ghost use Rattle.std.specs.Prelude.{IfErr, OnErr, OnOk, MatchResult, option_map, slice_get};
 ghost use Rattle.gm_defs.specs.Body.{is_head};
 ghost use Rattle.gm_defs.specs.Token.{opened, HasOneOwner, place_of_send, place_of_recv, can_take};
 ghost use Rattle.gm_defs.specs.Port.{sent_with, provided_with, delivered, next_event, polled};
@@ -15,13 +16,10 @@ use crate::event::{PortEvent, ProvidedToken, Wreck};
 use crate::events::EventQueue;
 use crate::sends::SendQueue;
 use gm_defs::{FrameHead, TokenPlace};
-use gm_tokens::{NoMemory, RecvToken, SendToken};
+use gm_tokens::{NoMemory, RecvToken, SendToken, is_too_long};
 use reg_mem::Reg;
 use std::alloc::Global;
 use std::marker::Model;
-
-// The most bytes of a message.
-const MESSAGE_LIMIT: u32 = 1_016;
 
 /// An open port, with the tokens and buffers that its client handed over.
 ///
@@ -48,7 +46,8 @@ impl Model for Port {
 }
 
 impl Port {
-    /// Opens a port with room for all of its tokens. It mints nothing: the client mints the tokens of the opening by the same four numbers.
+    /// Opens a port with room for all of its tokens. It mints nothing: the client mints the tokens of the opening by
+    /// the same four numbers.
     pub fn begin(
         alloc: Global,
         host: u16,
@@ -81,8 +80,9 @@ impl Port {
         }
     }
 
-    /// Takes a message to send: the buffer's first `len` bytes. The answer is its ticket. A refusal hands token and buffer back and changes
-    /// nothing: TooLong above the greatest length of a message, then BufferShort where the buffer is shorter than the message.
+    /// Takes a message to send: the buffer's first `len` bytes. The answer is its ticket. A refusal hands token and
+    /// buffer back and changes nothing: TooLong above the greatest length of a message, then BufferShort where the
+    /// buffer is shorter than the message.
     pub fn send(
         &mut self,
         t: SendToken,
@@ -94,10 +94,14 @@ impl Port {
         requires free { place_of_send self.old.state t.number ≡ None }
         requires dport { a.dport < 8 }
         requires prio { a.prio < 2 }
-        ensures refused { MatchResult result (λ ticket. send_refusal a.len b ≡ None) (λ e. send_refusal a.len b ≡ Some e.2) }
+        ensures refused { MatchResult result (λ ticket. send_refusal a.len b ≡ None) (λ e.
+            send_refusal a.len b ≡ Some e.2) }
         ensures handed_back { IfErr result (λ e. (e.0 ≡ t) × (e.1 ≡ b)) }
         ensures unchanged { OnErr result (self.new ≡ self.old) }
-        ensures sent { OnOk result (self.new ≡ record self.old { state = sent_with self.old.state t.number b; tickets = self.new.tickets }) }
+        ensures sent { OnOk result (self.new ≡ record self.old {
+          state = sent_with self.old.state t.number b;
+          tickets = self.new.tickets;
+        }) }
         ensures ticket { IfOk result (λ ticket. IsGiven self.old.tickets self.new.tickets ticket t.number) }
         ensures one_owner { HasOneOwner self.new.state }
     {
@@ -107,8 +111,9 @@ impl Port {
         }
     }
 
-    /// Takes a buffer to receive into. A refusal hands token and buffer back and changes nothing: BadSize where the size is not from 4 to 16
-    /// or the priority is above 1, then BufferShort where the buffer has fewer bytes than its size has room for.
+    /// Takes a buffer to receive into. A refusal hands token and buffer back and changes nothing: BadSize where the
+    /// size is not from 4 to 16 or the priority is above 1, then BufferShort where the buffer has fewer bytes than
+    /// its size has room for.
     pub fn provide(
         &mut self,
         t: RecvToken,
@@ -119,10 +124,14 @@ impl Port {
         requires own { t ≡ token_at self.old.host self.old.port t.number }
         requires minted { t.number < self.old.state.recvs }
         requires free { place_of_recv self.old.state t.number ≡ None }
-        ensures refused { MatchResult result (λ _. provide_refusal b size prio ≡ None) (λ e. provide_refusal b size prio ≡ Some e.2) }
+        ensures refused { MatchResult result (λ _. provide_refusal b size prio ≡ None) (λ e.
+            provide_refusal b size prio ≡ Some e.2) }
         ensures handed_back { IfErr result (λ e. (e.0 ≡ t) × (e.1 ≡ b)) }
         ensures unchanged { OnErr result (self.new ≡ self.old) }
-        ensures provided { OnOk result (self.new ≡ record self.old { state = provided_with self.old.state (record { token = t.number; size = size; prio = prio; buffer = b }) }) }
+        ensures provided { OnOk result (self.new ≡ record self.old {
+          state = provided_with self.old.state
+              (record { token = t.number; size = size; prio = prio; buffer = b });
+        }) }
         ensures one_owner { HasOneOwner self.new.state }
     {
         match refuse_buffer(b.bytes(), size, prio) {
@@ -147,7 +156,8 @@ impl Port {
         self.sends.buffer(ticket)
     }
 
-    /// All of a send's message is acknowledged: its token and its buffer, unchanged, go into an event, and its ticket is free.
+    /// All of a send's message is acknowledged: its token and its buffer, unchanged, go into an event, and its ticket
+    /// is free.
     pub fn finish(&mut self, ticket: usize)
         requires { IsSome (token_of self.old ticket) }
         ensures finished { self.new ≡ finished_at self.old ticket }
@@ -164,8 +174,8 @@ impl Port {
         self.buffers.can_take(len, prio)
     }
 
-    /// A message came whole. Of the tokens that fit, the one provided first takes it: its buffer begins with the message, its other bytes
-    /// stay, and both go into an event.
+    /// A message came whole. Of the tokens that fit, the one provided first takes it: its buffer begins with the
+    /// message, its other bytes stay, and both go into an event.
     pub fn deliver(&mut self, h: &FrameHead, part: &[u8])
         requires taken { can_take self.old.state h.now.total h.now.prio ≡ true }
         requires head { is_head h.now ≡ true }
@@ -199,10 +209,11 @@ impl Port {
         self.events.pop()
     }
 
-    /// Closes the port, and hands each provided token back with its buffer, first provided first. A refusal hands the port back: Busy where
-    /// sends aren't finished, then Unread where events wait.
+    /// Closes the port, and hands each provided token back with its buffer, first provided first. A refusal hands the
+    /// port back: Busy where sends aren't finished, then Unread where events wait.
     pub fn close(self) -> Result<Vec<(RecvToken, Reg)>, (Port, CloseRefusal)>
-        ensures refused { MatchResult result (λ _. close_refusal self.state ≡ None) (λ e. close_refusal self.state ≡ Some e.1) }
+        ensures refused { MatchResult result (λ _. close_refusal self.state ≡ None) (λ e.
+            close_refusal self.state ≡ Some e.1) }
         ensures handed_back { IfErr result (λ e. e.0 ≡ self) }
         ensures provided { IfOk result (λ v. v.items ≡ map (receive_at self.host self.port) self.state.provided) }
     {
@@ -284,7 +295,7 @@ impl Port {
 fn refuse_send(len: u32, buffer: &[u8]) -> Option<SendRefusal>
     ensures { result ≡ send_refusal len buffer.now }
 {
-    if len > MESSAGE_LIMIT {
+    if is_too_long(len) {
         Some(SendRefusal::TooLong)
     } else if buffer.len() < len as usize {
         Some(SendRefusal::BufferShort)

@@ -1,7 +1,7 @@
 //! The unfinished sends of a port.
 //!
-//! A send's token and buffer lie at the token's number, and its ticket is a key of the slab, whose slot has that number. The slab holds
-//! numbers alone, since one of values that must be spent could never be let go.
+//! A send's token and buffer lie at the token's number, and its ticket is a key of the slab, whose slot has that
+//! number. The slab holds numbers alone, since one of values that must be spent could never be let go.
 //!
 //! ```text
 //!   ticket      0   1   2              number      0      1      2
@@ -10,7 +10,8 @@
 //!            +---+---+---+                      +------+------+------+
 //! ```
 
-ghost use Rattle.std.specs.Prelude.{◌≡◌, ◌<◌, ◌≤◌, [], length, map, true, false, None, Some, IsSome, IfOk, slice_get, slice_set, option_map, vec_capacity};
+ghost use Rattle.std.specs.Prelude.{◌≡◌, ◌<◌, ◌≤◌, [], length, map, true, false, None, Some, IsSome, IfOk, slice_get};
+ghost use Rattle.std.specs.Prelude.{slice_set, option_map, vec_capacity};
 ghost use Rattle.gm_defs.specs.Token.{has_number};
 ghost use Rattle.gm_defs.specs.Port.{with_send};
 ghost use Rattle.gm_tokens.specs.Token.{token_at};
@@ -110,7 +111,8 @@ impl SendQueue {
     /// The buffer of a ticket's send.
     pub(crate) fn buffer(&self, ticket: usize) -> &[u8]
         requires { IsSome (number_at self.now.tickets ticket) }
-        ensures { option_map (λ s. s.buffer) (send_by self.now.sends (number_at self.now.tickets ticket)) ≡ Some result.now }
+        ensures { option_map (λ s. s.buffer) (send_by self.now.sends (number_at self.now.tickets ticket))
+            ≡ Some result.now }
     {
         match &self.places[usize::from(self.tickets[ticket])] {
             Some((_, buffer)) => buffer.bytes(),
@@ -123,7 +125,11 @@ impl SendQueue {
         requires own { token ≡ token_at self.old.host self.old.port token.number }
         requires minted { token.number < self.old.limit }
         requires free { has_number (sending_numbers self.old.sends) token.number ≡ false }
-        ensures sends { self.new ≡ record self.old { sends = with_send (record { token = token.number; buffer = buffer }) self.old.sends; tickets = self.new.tickets } }
+        ensures sends { self.new ≡ record self.old {
+          sends = with_send
+              (record { token = token.number; buffer = buffer }) self.old.sends;
+          tickets = self.new.tickets;
+        } }
         ensures ticket { IsGiven self.old.tickets self.new.tickets result token.number }
     {
         let number = token.number();
@@ -134,8 +140,13 @@ impl SendQueue {
     /// Takes the send of a ticket out.
     pub(crate) fn remove(&mut self, ticket: usize) -> (SendToken, Reg)
         requires { IsSome (number_at self.old.tickets ticket) }
-        ensures sends { self.new ≡ record self.old { sends = without_send self.old.sends (number_at self.old.tickets ticket); tickets = slice_set self.old.tickets ticket None } }
-        ensures taken { option_map (send_at self.old.host self.old.port) (send_by self.old.sends (number_at self.old.tickets ticket)) ≡ Some result }
+        ensures sends { self.new ≡ record self.old {
+          sends = without_send self.old.sends
+              (number_at self.old.tickets ticket);
+          tickets = slice_set self.old.tickets ticket None;
+        } }
+        ensures taken { option_map (send_at self.old.host self.old.port)
+            (send_by self.old.sends (number_at self.old.tickets ticket)) ≡ Some result }
     {
         let number = self.tickets.remove(ticket);
         take(&mut self.places, usize::from(number))

@@ -1,10 +1,21 @@
-//! Sizes of buffers.
+//! Sizes of buffers, and the limit of a message.
 
 ghost use Rattle.std.specs.Prelude.{◌≡◌};
 ghost use Rattle.gm_defs.specs.Token.{size_for_length as least_size, fits as token_fits};
+ghost use Rattle.gm_defs.specs.Port.{is_too_long};
 
-/// The least size of a buffer that has room for a message of this length: a buffer of size `s` has room for `2^s - 8` bytes, and sizes are
-/// 4 to 16. None exactly above 65,528 bytes.
+/// The most bytes of a message.
+pub const MESSAGE_LIMIT: u32 = 1_016;
+
+/// Whether a message of this length has more bytes than a message may.
+pub fn is_too_long(len: u32) -> bool
+    ensures { result ≡ is_too_long len }
+{
+    len > MESSAGE_LIMIT
+}
+
+/// The least size of a buffer that has room for a message of this length: a buffer of size `s` has room for `2^s - 8`
+/// bytes, and sizes are 4 to 16. None exactly above 65,528 bytes.
 pub fn size_for_length(len: u32) -> Option<u8>
     ensures { result ≡ least_size len }
 {
@@ -26,8 +37,8 @@ pub fn size_for_length(len: u32) -> Option<u8>
     }
 }
 
-/// Whether a token that was provided with this size and priority takes a message: its size is the least that has room for the message, and
-/// its priority is the message's.
+/// Whether a token that was provided with this size and priority takes a message: its size is the least that has room
+/// for the message, and its priority is the message's.
 pub fn fits(size: u8, prio: u8, len: u32, mprio: u8) -> bool
     ensures { result ≡ token_fits size prio len mprio }
 {

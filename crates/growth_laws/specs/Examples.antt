@@ -26,7 +26,8 @@ abbrev pub unrolled : Network
 unrolled = record {
   hosts = codes "a" ∷ [];
   switches = switch_named (codes "s") 4 ∷ switch_named (codes "t") 4 ∷ switch_named (codes "u") 4 ∷ [];
-  cables = joined (host_end 0) (switch_end 0 0) ∷ joined (switch_end 0 1) (switch_end 1 2) ∷ joined (switch_end 0 2) (switch_end 2 1) ∷ [];
+  cables = joined (host_end 0) (switch_end 0 0) ∷ joined (switch_end 0 1) (switch_end 1 2)
+      ∷ joined (switch_end 0 2) (switch_end 2 1) ∷ [];
 }
 
 -- what the walks of one turn find there
@@ -41,7 +42,8 @@ looped_journal = told [] Switch ∷ map (λ t. told (t ∷ []) (looped_answer t)
 abbrev pub unrolled_ring : Network
 unrolled_ring = record {
   hosts = codes "a" ∷ [];
-  switches = map (λ name. switch_named name 4) (codes "s0" ∷ codes "s1" ∷ codes "s2" ∷ codes "s3" ∷ codes "s4" ∷ codes "s5" ∷ codes "s6" ∷ []);
+  switches = map (λ name. switch_named name 4) (codes "s0" ∷ codes "s1" ∷ codes "s2" ∷ codes "s3" ∷ codes "s4"
+      ∷ codes "s5" ∷ codes "s6" ∷ []);
   cables =
       joined (host_end 0) (switch_end 0 2)
       ∷ joined (switch_end 0 0) (switch_end 1 1)

@@ -26,7 +26,8 @@ pub fn depth_of_two_hosts()
     ensures deeper { IsGrown 0 32 two_hosts_journal }
 {}
 
-/// One host at a switch that is cabled to itself: at depth 2 its journal is also that of three switches, and nothing tells which.
+/// One host at a switch that is cabled to itself: at depth 2 its journal is also that of three switches, and nothing
+/// tells which.
 pub fn depth_of_a_loop()
     ensures enough { enough_depth looped 0 ≡ 3 }
     ensures a_fabric { IsFabric looped }
@@ -38,7 +39,8 @@ pub fn depth_of_a_loop()
     ensures closed_one_deeper { Closes looped 0 3 }
 {}
 
-/// A ring of four switches with one host: to depth 4 nothing tells it from a line of seven, to depth 7 its journal is closed.
+/// A ring of four switches with one host: to depth 4 nothing tells it from a line of seven, to depth 7 its journal is
+/// closed.
 pub fn depth_of_the_ring()
     ensures enough { enough_depth lonely_ring 0 ≡ 7 }
     ensures closed { Closes lonely_ring 0 7 }

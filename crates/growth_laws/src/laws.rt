@@ -33,8 +33,8 @@ pub fn asks_are_few()
     ensures { AsksAreFew }
 {}
 
-/// Where every answer is true of a fabric, a depth of Q + D + 1 suffices: the journal is closed, within the node limit, and a greater
-/// depth changes nothing.
+/// Where every answer is true of a fabric, a depth of Q + D + 1 suffices: the journal is closed, within the node
+/// limit, and a greater depth changes nothing.
 pub fn depth_suffices()
     ensures { DepthSuffices }
 {}

@@ -1,6 +1,7 @@
 //! How far a mapper has to probe: the laws of its journal's growth over a fabric's true answers.
 //!
-//! This crate holds laws and their proofs. It probes nothing. The laws stand in `Laws` of `specs/`, and `laws.rt` shows that they hold.
+//! This crate holds laws and their proofs. It probes nothing. The laws stand in `Laws` of `specs/`, and `laws.rt`
+//! shows that they hold.
 //!
 //! ```text
 //!            +---+           Q = 1, D = 1. At depth 2 the walks +1 and +2 find a switch each, and nothing tells that
@@ -10,13 +11,13 @@
 //!              +-----+
 //! ```
 //!
-//! That a grown journal is one: `OneJournal`. That there is one: `Few` (asks are few), `Looking`, `Leading`, `Classes` (replicates can be
-//! decided), `Next`, `Existence`.
+//! That a grown journal is one: `OneJournal`. That there is one: `Few` (asks are few), `Looking`, `Leading`,
+//! `Classes` (replicates can be decided), `Next`, `Existence`.
 //!
-//! The proof of the depth that suffices, in the order of its files in `proofs/`: `Keeping`, `Asks` (what a journal keeps, what an ask
-//! is), `Phases` (an expanded class has an expanded member no longer than a given one), `Crossing` (over each cable there is a node),
-//! `Full` (one class over each vertex within bounds), `Closing` (so all classes are expanded), `Near` and `Ends` (the node limit),
-//! `Depth`.
+//! The proof of the depth that suffices, in the order of its files in `proofs/`: `Keeping`, `Asks` (what a journal
+//! keeps, what an ask is), `Phases` (an expanded class has an expanded member no longer than a given one), `Crossing`
+//! (over each cable there is a node), `Full` (one class over each vertex within bounds), `Closing` (so all classes
+//! are expanded), `Near` and `Ends` (the node limit), `Depth`.
 #![tactic(auto)]
 
 mod examples;

@@ -1,7 +1,9 @@
 -- What a host has staged to send besides messages, within a host of the world.
-use Rattle.std.specs.Prelude.{◌≡◌, ◌≤◌, ℕ, ℤ, Bool, true, ◌||◌, List, length, is_some, if◌then◌else◌, Option, Some, None, option_map}
+use Rattle.std.specs.Prelude.{◌≡◌, ◌≤◌, ℕ, ℤ, Bool, true, ◌||◌, List, length, is_some, if◌then◌else◌, Option, Some}
+use Rattle.std.specs.Prelude.{None, option_map}
 use Rattle.mapping_defs.specs.Mapping.{is_part}
-use Rattle.world_defs.specs.Node.{Staged, StagedProbe, StagedPart, StagedReply, StagedAck, NodeState, Outgoing, Reply, PartAnswer, outgoing_staged, either, packet_for}
+use Rattle.world_defs.specs.Node.{Staged, StagedProbe, StagedPart, StagedReply, StagedAck, NodeState, Outgoing, Reply}
+use Rattle.world_defs.specs.Node.{PartAnswer, outgoing_staged, either, packet_for}
 use Rattle.host_items.specs.declared.staged.StagedItem.{StagedItem}
 use Rattle.host_items.specs.declared.staged.StagedItem.TheVariants.{Probe as ProbeItem, Part as PartItem}
 use Rattle.host_items.specs.declared.answers.ProbeReply.{ProbeReply}
@@ -32,7 +34,11 @@ answer_of a = record { epoch = a.epoch; part = a.part; back = a.back }
 
 -- the three, as the world has them
 abbrev pub items_of : Option StagedItem → Option ProbeReply → Option AnswerItem → HostItems
-items_of staged reply answer = record { staged = option_map staged_of staged; reply = option_map reply_of reply; part_ack = option_map answer_of answer }
+items_of staged reply answer = record {
+  staged = option_map staged_of staged;
+  reply = option_map reply_of reply;
+  part_ack = option_map answer_of answer;
+}
 
 -- What can be sent: a looped walk leaves room for its way back, and a part is by the rules of its body.
 abbrev pub IsSendable : Staged → Type 0

@@ -5,11 +5,13 @@ use Rattle.host_items.specs.Held.{HostItems, no_items, is_staged, first_of, with
 
 -- what stands first is sent first; where none stands, what the host sends without them
 abbrev pub FirstIsSentFirst : Type 0
-FirstIsSentFirst = (host : ℕ) (n : NodeState) (i : HostItems) → to_send host (with_items n i) ≡ either (first_of i) (to_send host (with_items n no_items))
+FirstIsSentFirst = (host : ℕ) (n : NodeState) (i : HostItems)
+    → to_send host (with_items n i) ≡ either (first_of i) (to_send host (with_items n no_items))
 
 -- once it counts as sent, the host is without it
 abbrev pub SentIsAfterSending : Type 0
-SentIsAfterSending = (n : NodeState) (i : HostItems) (out : Outgoing) → first_of i ≡ Some out → after_sending (with_items n i) out ≡ with_items n (without_first i)
+SentIsAfterSending = (n : NodeState) (i : HostItems) (out : Outgoing) → first_of i ≡ Some out
+    → after_sending (with_items n i) out ≡ with_items n (without_first i)
 
 -- one stands where the host has something to give up
 abbrev pub StagedIsHas : Type 0

@@ -44,7 +44,8 @@ impl PartAnswer {
     /// Its packet.
     #[tactic(auto, unfolding(world_defs::specs::Node::packet_for))]
     pub(crate) fn packet(&self, alloc: Global, host: u16) -> Result<Packet, AllocError>
-        ensures { (number : ℕ) → IfOk result (λ p. p ≡ packet_for host number (Outgoing.PartAnswer (answer_of self.now))) }
+        ensures { (number : ℕ)
+            → IfOk result (λ p. p ≡ packet_for host number (Outgoing.PartAnswer (answer_of self.now))) }
     {
         let ack = PartAck {
             epoch: self.epoch,

@@ -3,7 +3,8 @@
 ghost use Rattle.std.specs.Prelude.{◌≡◌, ◌≤◌, length, true, is_some, Some, IfOk};
 ghost use Rattle.mapping_defs.specs.Mapping.{is_part};
 ghost use Rattle.world_defs.specs.Node.{StagedProbe, StagedPart};
-ghost use Rattle.host_items.specs.Held.{no_items, is_staged, packet_of_first, packet_of_answer, without_first, first_of, with_staged, with_reply, with_answer};
+ghost use Rattle.host_items.specs.Held.{no_items, is_staged, packet_of_first, packet_of_answer, without_first};
+ghost use Rattle.host_items.specs.Held.{first_of, with_staged, with_reply, with_answer};
 
 use crate::answers::{PartAnswer, ProbeReply};
 use crate::staged::StagedItem;
@@ -13,8 +14,9 @@ use route_parts::RoutePart;
 use std::alloc::{AllocError, Global};
 use std::marker::Model;
 
-/// What a host has staged to send besides messages: a probe or a part that it was told to send, the reply to a probe, and the acknowledgement of a
-/// part. They are sent in this order. Of each kind it has one at most: a later one takes the place of an earlier.
+/// What a host has staged to send besides messages: a probe or a part that it was told to send, the reply to a probe,
+/// and the acknowledgement of a part. They are sent in this order. Of each kind it has one at most: a later one takes
+/// the place of an earlier.
 ///
 /// Contracts see the three, each where it stands.
 #[derive(Debug, Drop)]
@@ -47,8 +49,8 @@ impl Items {
         }
     }
 
-    /// Stages a probe of a walk, in the place of what was staged before. A looped one returns to this host: its walk has at most 31 turns, so that
-    /// there is room for the way back.
+    /// Stages a probe of a walk, in the place of what was staged before. A looped one returns to this host: its walk
+    /// has at most 31 turns, so that there is room for the way back.
     pub fn ask(&mut self, walk: Walk, looped: bool)
         requires { looped ≡ true → length walk ≤ 31 }
         ensures { self.new ≡ with_staged self.old (StagedProbe walk looped) }
@@ -56,7 +58,8 @@ impl Items {
         self.staged = Some(StagedItem::Probe { walk, looped });
     }
 
-    /// Stages a part of a table by a route, in the place of what was staged before. The part is by the rules of its body.
+    /// Stages a part of a table by a route, in the place of what was staged before. The part is by the rules of its
+    /// body.
     pub fn part(&mut self, part: RoutePart, by: Walk)
         requires { is_part part ≡ true }
         ensures { self.new ≡ with_staged self.old (StagedPart part by) }

@@ -1,7 +1,7 @@
 //! What a host has staged to send besides messages, and the packet of the first of it.
 //!
-//! It hears nothing and keeps no connection. `specs/Node.antt` of `world_defs` says what is staged and in which order it is sent;
-//! `specs/Held.antt` sets the three items into a host of the world.
+//! It hears nothing and keeps no connection. `specs/Node.antt` of `world_defs` says what is staged and in which order
+//! it is sent; `specs/Held.antt` sets the three items into a host of the world.
 //!
 //! ```text
 //!   staged probe or part  ---+

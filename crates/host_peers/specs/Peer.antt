@@ -43,8 +43,8 @@ message_in e body = record { sport = e.sport; dport = e.dport; prio = e.prio; bo
 abbrev pub accept_refusal : PeerState → ℕ → Option OfferRefusal
 accept_refusal p total = if is_spent p.sender (piece_count total) then Some Spent else None
 
--- What the two halves and the messages keep: each message is one piece, so its place is its number; the descriptors that wait are of the last
--- messages; and what comes from the peer goes the other way.
+-- What the two halves and the messages keep: each message is one piece, so its place is its number; the descriptors
+-- that wait are of the last messages; and what comes from the peer goes the other way.
 pub record IsPeer (w : Outgoing) (r : Incoming) (sent : List Message) : Type 0 where
   pub numbered : length sent ≡ w.numbers.next
   pub short : AllByRecursion (λ m. length m.body ≤ piece) sent

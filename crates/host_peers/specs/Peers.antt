@@ -1,5 +1,6 @@
 -- What a contract sees of a host's connections with all of its peers.
-use Rattle.std.specs.Prelude.{◌≡◌, ℕ, ◌<◌, ◌≤◌, ◌^◌, Bool, true, false, List, map, length, replicate, slice_index_or, slice_set, is_some, Option, Some, None}
+use Rattle.std.specs.Prelude.{◌≡◌, ℕ, ◌<◌, ◌≤◌, ◌^◌, Bool, true, false, List, map, length, replicate, slice_index_or}
+use Rattle.std.specs.Prelude.{slice_set, is_some, Option, Some, None}
 use Rattle.gm_defs.specs.declared.frame.FrameHead.{FrameHead}
 use Rattle.world_defs.specs.Peer.{PeerState, new_peer}
 use Rattle.host_peers.specs.Peer.{HostPeer, due_frame, unused}
@@ -40,7 +41,8 @@ nobody = unused 0 0
 -- The connections are those of the host, with each peer at its address, and an address has two bytes.
 pub record AreOf (host : ℕ) (ps : List HostPeer) : Type 0 where
   pub few : length ps < 2 ^ 16
-  pub own : (peer : ℕ) → peer < length ps → ((slice_index_or ps peer nobody).host ≡ host) × ((slice_index_or ps peer nobody).peer ≡ peer)
+  pub own : (peer : ℕ) → peer < length ps → ((slice_index_or ps peer nobody).host ≡ host)
+      × ((slice_index_or ps peer nobody).peer ≡ peer)
 
 -- A peer from an address on, below another, for which a test fails.
 abbrev pub NoneBetween : (ℕ → Bool) → ℕ → ℕ → Type 0
@@ -48,7 +50,8 @@ NoneBetween test from below = (peer : ℕ) → from ≤ peer → peer < below �
 
 -- The least peer from an address on that passes a test, if there is one among so many.
 pub data IsNext (test : ℕ → Bool) (from count : ℕ) : Option ℕ → Type 0 where
-  next : {peer : ℕ} → from ≤ peer → peer < count → test peer ≡ true → NoneBetween test from peer → IsNext test from count (Some peer)
+  next : {peer : ℕ} → from ≤ peer → peer < count → test peer ≡ true → NoneBetween test from peer
+      → IsNext test from count (Some peer)
   nobody_left : NoneBetween test from count → IsNext test from count None
 
 -- the peer is owed an acknowledgement; a frame is due to it

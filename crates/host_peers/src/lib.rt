@@ -1,8 +1,10 @@
-//! One host's connections with all of its peers: the messages that it sends to each and those that it takes from each, with the numbers of both.
+//! One host's connections with all of its peers: the messages that it sends to each and those that it takes from
+//! each, with the numbers of both.
 //!
-//! It makes no packet, and knows no route and no port: the host's node asks which peer is owed an acknowledgement, or has a frame due, looks for
-//! the way there, and hands over what came. What a contract sees of one peer is `specs/Peer.antt`, over the state of a peer in `world_defs`,
-//! whose `specs/Peer.antt` says what each call makes of it; `specs/Peers.antt` is the same for all peers by their addresses.
+//! It makes no packet, and knows no route and no port: the host's node asks which peer is owed an acknowledgement, or
+//! has a frame due, looks for the way there, and hands over what came. What a contract sees of one peer is
+//! `specs/Peer.antt`, over the state of a peer in `world_defs`, whose `specs/Peer.antt` says what each call makes of
+//! it; `specs/Peers.antt` is the same for all peers by their addresses.
 //!
 //! ```text
 //!   Peers -- by the peer's address --> Peer:

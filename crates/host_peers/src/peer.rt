@@ -1,6 +1,7 @@
 //! A host's connections with one peer.
 
-ghost use Rattle.std.specs.Prelude.{◌≡◌, ◌<◌, ◌≤◌, true, nat_lt, List, length, drop, slice_get, vec_len, vec_capacity, IsSome, IfSome, OnOk, OnErr, IfOk, IfErr};
+ghost use Rattle.std.specs.Prelude.{◌≡◌, ◌<◌, ◌≤◌, true, nat_lt, List, length, drop, slice_get, vec_len, vec_capacity};
+ghost use Rattle.std.specs.Prelude.{IsSome, IfSome, OnOk, OnErr, IfOk, IfErr};
 ghost use Rattle.std.specs.Option.{option_copied};
 ghost use Rattle.std.specs.VecDeque.{deque_len, deque_capacity};
 ghost use Rattle.net_defs.specs.Refusal.{Refuses};
@@ -8,7 +9,8 @@ ghost use Rattle.gm_defs.specs.Body.{is_head, message_limit};
 ghost use Rattle.gm_defs.specs.Connection.{due, unacknowledged, took};
 ghost use Rattle.gm_defs.specs.declared.message.Message.{Message};
 ghost use Rattle.gm_conn.specs.Halves.{WaitsFor};
-ghost use Rattle.world_defs.specs.Peer.{with_message, finished_by, peer_acknowledged, peer_expired, peer_sent_one, peer_answered, got_after, peer_after};
+ghost use Rattle.world_defs.specs.Peer.{with_message, finished_by, peer_acknowledged, peer_expired, peer_sent_one};
+ghost use Rattle.world_defs.specs.Peer.{peer_answered, got_after, peer_after};
 ghost use Rattle.world_defs.specs.Hearing.{message_of};
 ghost use Rattle.host_peers.specs.Peer.{in_state, unused, due_frame, frame_shown, message_in, accept_refusal};
 
@@ -38,7 +40,14 @@ impl Model for Peer {
     ghost view = { λ p. record {
       host = p.sender.src;
       peer = p.sender.dst;
-      state = record { sender = p.sender.numbers; sent = p.sent.items; pending = p.pending.items; got = p.got.items; taken = p.receiver.taken; owes = p.owes };
+      state = record {
+        sender = p.sender.numbers;
+        sent = p.sent.items;
+        pending = p.pending.items;
+        got = p.got.items;
+        taken = p.receiver.taken;
+        owes = p.owes;
+      };
     } };
 
     ghost invariant = { λ p. IsPeer p.sender p.receiver p.sent.items };
@@ -119,8 +128,8 @@ impl Peer {
         self.receiver.ack()
     }
 
-    /// Accepts a message for the peer, with the number of its port's token. `Spent` exactly where it needs a number above 4,294,967,294.
-    /// A refusal changes nothing.
+    /// Accepts a message for the peer, with the number of its port's token. `Spent` exactly where it needs a number
+    /// above 4,294,967,294. A refusal changes nothing.
     pub fn accept(
         &mut self,
         alloc: Global,
@@ -133,7 +142,8 @@ impl Peer {
         requires prio { e.prio < 2 }
         requires length { length body.now ≤ message_limit }
         ensures refused { Refuses (accept_refusal self.old.state (length body.now)) OfferRefusal.NoMemory result }
-        ensures ok { OnOk result (self.new ≡ in_state self.old (with_message self.old.state (message_in e body.now) (record { port = e.sport; token = token }))) }
+        ensures ok { OnOk result (self.new ≡ in_state self.old
+            (with_message self.old.state (message_in e body.now) (record { port = e.sport; token = token }))) }
         ensures err { OnErr result (self.new ≡ self.old) }
     {
         let total = body.len() as u32;
@@ -182,8 +192,8 @@ impl Peer {
         drop_finished(&mut self.sender, finished);
     }
 
-    /// A frame came; `fits` says whether a token fits its message. Whatever is made of it, an acknowledgement is owed. Want of memory changes
-    /// nothing.
+    /// A frame came; `fits` says whether a token fits its message. Whatever is made of it, an acknowledgement is
+    /// owed. Want of memory changes nothing.
     pub fn on_frame(
         &mut self,
         alloc: Global,
@@ -193,7 +203,8 @@ impl Peer {
     ) -> Result<Took, AllocError>
         requires head { is_head h.now ≡ true }
         ensures took { IfOk result (λ t. t ≡ took self.old.state.taken h.now.seq fits) }
-        ensures ok { IfOk result (λ t. self.new ≡ in_state self.old (peer_after self.old.state t (message_of h.now part.now))) }
+        ensures ok { IfOk result (λ t. self.new ≡ in_state self.old
+            (peer_after self.old.state t (message_of h.now part.now))) }
         ensures err { OnErr result (self.new ≡ self.old) }
     {
         let took = took_of(self.receiver.ack().next, h.seq, fits);

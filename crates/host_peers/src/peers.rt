@@ -4,7 +4,8 @@ ghost use Rattle.std.specs.Prelude.{◌≡◌, ◌<◌, ◌≤◌, length, true,
 ghost use Rattle.net_defs.specs.Refusal.{Refuses};
 ghost use Rattle.gm_defs.specs.Body.{is_head, message_limit};
 ghost use Rattle.gm_defs.specs.Connection.{due, unacknowledged, took};
-ghost use Rattle.world_defs.specs.Peer.{with_message, peer_acknowledged, peer_expired, peer_sent_one, peer_answered, peer_after};
+ghost use Rattle.world_defs.specs.Peer.{with_message, peer_acknowledged, peer_expired, peer_sent_one, peer_answered};
+ghost use Rattle.world_defs.specs.Peer.{peer_after};
 ghost use Rattle.world_defs.specs.Hearing.{message_of};
 ghost use Rattle.host_peers.specs.Peer.{message_in, accept_refusal};
 ghost use Rattle.host_peers.specs.Peers.{all_unused, peer_in, peer_of, with_state, owes_to, has_due, IsNext};
@@ -13,7 +14,8 @@ use crate::{Envelope, FrameHead, OfferRefusal, Peer, Took};
 use std::alloc::{AllocError, Global};
 use std::marker::Model;
 
-/// What a host sends to its peers and takes from them, by their addresses. The host is among them, and sends nothing to itself.
+/// What a host sends to its peers and takes from them, by their addresses. The host is among them, and sends nothing
+/// to itself.
 #[derive(Drop)]
 pub struct Peers {
     host: u16,
@@ -123,8 +125,8 @@ impl Peers {
         self.at(peer).due().is_some()
     }
 
-    /// Accepts a message for a peer, with the number of its port's token. A refusal changes nothing: Spent where it needs a number above
-    /// 4,294,967,294.
+    /// Accepts a message for a peer, with the number of its port's token. A refusal changes nothing: Spent where it
+    /// needs a number above 4,294,967,294.
     pub fn accept(
         &mut self,
         alloc: Global,
@@ -138,8 +140,10 @@ impl Peers {
         requires dport { e.dport < 8 }
         requires prio { e.prio < 2 }
         requires length { length body.now ≤ message_limit }
-        ensures refused { Refuses (accept_refusal (peer_in self.old peer) (length body.now)) OfferRefusal.NoMemory result }
-        ensures ok { OnOk result (self.new ≡ with_state self.old peer (with_message (peer_in self.old peer) (message_in e body.now) (record { port = e.sport; token = token }))) }
+        ensures refused { Refuses (accept_refusal (peer_in self.old peer)
+            (length body.now)) OfferRefusal.NoMemory result }
+        ensures ok { OnOk result (self.new ≡ with_state self.old peer
+            (with_message (peer_in self.old peer) (message_in e body.now) (record { port = e.sport; token = token }))) }
         ensures err { OnErr result (self.new ≡ self.old) }
     {
         self.peers[usize::from(peer)].accept(alloc, e, body, token)
@@ -153,8 +157,8 @@ impl Peers {
         self.peers[usize::from(peer)].on_ack(next);
     }
 
-    /// A frame came from a peer; `fits` says whether a token fits its message. Whatever is made of it, an acknowledgement is owed. Want of
-    /// memory changes nothing.
+    /// A frame came from a peer; `fits` says whether a token fits its message. Whatever is made of it, an
+    /// acknowledgement is owed. Want of memory changes nothing.
     pub fn on_frame(
         &mut self,
         alloc: Global,
@@ -165,7 +169,8 @@ impl Peers {
         requires within { h.now.src < length self.old.peers }
         requires head { is_head h.now ≡ true }
         ensures took { IfOk result (λ t. t ≡ took (peer_in self.old h.now.src).taken h.now.seq fits) }
-        ensures ok { IfOk result (λ t. self.new ≡ with_state self.old h.now.src (peer_after (peer_in self.old h.now.src) t (message_of h.now part.now))) }
+        ensures ok { IfOk result (λ t. self.new ≡ with_state self.old h.now.src
+            (peer_after (peer_in self.old h.now.src) t (message_of h.now part.now))) }
         ensures err { OnErr result (self.new ≡ self.old) }
     {
         self.peers[usize::from(h.src)].on_frame(alloc, h, part, fits)

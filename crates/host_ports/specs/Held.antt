@@ -1,5 +1,6 @@
 -- What a contract sees of the ports of a host.
-use Rattle.std.specs.Prelude.{◌≡◌, ℕ, Bool, List, map, length, replicate, slice_index_or, slice_set, Option, Some, None, option_map}
+use Rattle.std.specs.Prelude.{◌≡◌, ℕ, Bool, List, map, length, replicate, slice_index_or, slice_set, Option, Some, None}
+use Rattle.std.specs.Prelude.{option_map}
 use Rattle.gm_defs.specs.declared.token.TokenPlace.{TokenPlace}
 use Rattle.gm_defs.specs.Token.{PortState}
 use Rattle.gm_port.specs.Opened.{place_of}

@@ -11,11 +11,14 @@ use Rattle.gm_port.specs.Refusal.{send_refusal, provide_refusal, close_refusal}
 use Rattle.host_ports.specs.declared.ask.PortBegin.{PortBegin}
 use Rattle.host_ports.specs.declared.ask.PortBegin.TheVariants.{Already}
 use Rattle.host_ports.specs.declared.ask.PortSend.{PortSend}
-use Rattle.host_ports.specs.declared.ask.PortSend.TheVariants.{NotOpen as NoSender, TooLong as SendTooLong, BufferShort as SendShort}
+use Rattle.host_ports.specs.declared.ask.PortSend.TheVariants.{NotOpen as NoSender, TooLong as SendTooLong}
+use Rattle.host_ports.specs.declared.ask.PortSend.TheVariants.{BufferShort as SendShort}
 use Rattle.host_ports.specs.declared.ask.PortProvide.{PortProvide}
-use Rattle.host_ports.specs.declared.ask.PortProvide.TheVariants.{NotOpen as NoProvider, BadSize as ProvideBadSize, BufferShort as ProvideShort}
+use Rattle.host_ports.specs.declared.ask.PortProvide.TheVariants.{NotOpen as NoProvider, BadSize as ProvideBadSize}
+use Rattle.host_ports.specs.declared.ask.PortProvide.TheVariants.{BufferShort as ProvideShort}
 use Rattle.host_ports.specs.declared.ask.PortClose.{PortClose}
-use Rattle.host_ports.specs.declared.ask.PortClose.TheVariants.{NotOpen as NothingToClose, Busy as CloseBusy, Unread as CloseUnread}
+use Rattle.host_ports.specs.declared.ask.PortClose.TheVariants.{NotOpen as NothingToClose, Busy as CloseBusy}
+use Rattle.host_ports.specs.declared.ask.PortClose.TheVariants.{Unread as CloseUnread}
 
 -- a port is not opened where it is open
 abbrev pub begin_bar : Option PortState → Option PortBegin

@@ -1,7 +1,8 @@
 //! The ports of a host.
 //!
-//! It sends no packet and knows no peer: the host's node hands it the messages that came and tells it the sends that are finished, by the
-//! number of their token. What a contract sees of one port is `specs/Numbered.antt`, over the state of a port in `gm_defs`.
+//! It sends no packet and knows no peer: the host's node hands it the messages that came and tells it the sends that
+//! are finished, by the number of their token. What a contract sees of one port is `specs/Numbered.antt`, over the
+//! state of a port in `gm_defs`.
 //!
 //! ```text
 //!   number      0      1      2            the tickets of unfinished sends, by the numbers of their tokens

@@ -1,6 +1,7 @@
 //! One open port of a host.
 
-ghost use Rattle.std.specs.Prelude.{◌≡◌, ◌<◌, ℕ, map, None, length, true, slice_set, IfOk, IfErr, OnOk, OnErr, MatchResult, option_map};
+ghost use Rattle.std.specs.Prelude.{◌≡◌, ◌<◌, ℕ, map, None, length, true, slice_set, IfOk, IfErr, OnOk, OnErr};
+ghost use Rattle.std.specs.Prelude.{MatchResult, option_map};
 ghost use Rattle.gm_defs.specs.Body.{is_head};
 ghost use Rattle.gm_defs.specs.Token.{opened, HasOneOwner, place_of_send, place_of_recv, can_take};
 ghost use Rattle.gm_defs.specs.Port.{sent_with, provided_with, finished, delivered, next_event, polled};
@@ -91,15 +92,18 @@ impl NodePort {
         requires own { t ≡ token_at self.old.host self.old.port t.number }
         requires minted { t.number < self.old.state.recvs }
         requires free { place_of_recv self.old.state t.number ≡ None }
-        ensures refused { MatchResult result (λ _. provide_refusal b size prio ≡ None) (λ e. provide_refusal b size prio ≡ Some e.2) }
+        ensures refused { MatchResult result (λ _. provide_refusal b size prio ≡ None) (λ e.
+            provide_refusal b size prio ≡ Some e.2) }
         ensures handed_back { IfErr result (λ e. (e.0 ≡ t) × (e.1 ≡ b)) }
         ensures unchanged { OnErr result (self.new ≡ self.old) }
-        ensures provided { OnOk result (self.new ≡ port_in self.old (provided_with self.old.state (record { token = t.number; size = size; prio = prio; buffer = b }))) }
+        ensures provided { OnOk result (self.new ≡ port_in self.old
+            (provided_with self.old.state (record { token = t.number; size = size; prio = prio; buffer = b }))) }
     {
         self.port.provide(t, b, size, prio)
     }
 
-    /// The message of a token is acknowledged: token and buffer go into an event. Nothing changes where the token has no unfinished send.
+    /// The message of a token is acknowledged: token and buffer go into an event. Nothing changes where the token has
+    /// no unfinished send.
     pub fn finish(&mut self, number: u16)
         ensures { self.new ≡ port_in self.old (finished self.old.state number) }
     {
@@ -135,9 +139,11 @@ impl NodePort {
         self.port.poll()
     }
 
-    /// Closes the port, and hands each provided token back with its buffer, first provided first. A refusal hands the port back.
+    /// Closes the port, and hands each provided token back with its buffer, first provided first. A refusal hands the
+    /// port back.
     pub fn close(self) -> Result<Vec<(RecvToken, Reg)>, (NodePort, CloseRefusal)>
-        ensures refused { MatchResult result (λ _. close_refusal self.state ≡ None) (λ e. close_refusal self.state ≡ Some e.1) }
+        ensures refused { MatchResult result (λ _. close_refusal self.state ≡ None) (λ e.
+            close_refusal self.state ≡ Some e.1) }
         ensures handed_back { IfErr result (λ e. e.0 ≡ self) }
         ensures provided { IfOk result (λ v. v.items ≡ map (receive_at self.host self.port) self.state.provided) }
     {

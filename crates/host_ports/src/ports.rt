@@ -1,6 +1,7 @@
 //! The ports of a host.
 
-ghost use Rattle.std.specs.Prelude.{◌≡◌, ◌<◌, map, length, true, is_some, None, Some, IfOk, IfErr, IfNone, IfSome, OnOk, OnErr, OnSome, MatchResult, MatchOption, option_map};
+ghost use Rattle.std.specs.Prelude.{◌≡◌, ◌<◌, map, length, true, is_some, None, Some, IfOk, IfErr, IfNone, IfSome};
+ghost use Rattle.std.specs.Prelude.{OnOk, OnErr, OnSome, MatchResult, MatchOption, option_map};
 ghost use Rattle.std.specs.Option.{ForSome};
 ghost use Rattle.net_defs.specs.Refusal.{Refuses};
 ghost use Rattle.gm_defs.specs.Body.{is_head};
@@ -101,8 +102,8 @@ impl Ports {
         slot::can_take(&self.ports[usize::from(port)], len, prio)
     }
 
-    /// Why a send of so many bytes of a buffer is refused: NotOpen, TooLong above the greatest length of a message, BufferShort where the
-    /// buffer is shorter than the message.
+    /// Why a send of so many bytes of a buffer is refused: NotOpen, TooLong above the greatest length of a message,
+    /// BufferShort where the buffer is shorter than the message.
     pub fn refuse_send(&self, port: u8, len: u32, buffer: &[u8]) -> Option<PortSend>
         requires { port < 8 }
         ensures { result ≡ send_bar (open_at self.now port) len buffer.now }
@@ -124,8 +125,9 @@ impl Ports {
         slot::send(&mut self.ports[usize::from(port)], t, b, a);
     }
 
-    /// Takes a buffer to receive into. A refusal hands token and buffer back and changes nothing: NotOpen, BadSize where the size is not from
-    /// 4 to 16 or the priority is above 1, BufferShort where the buffer has fewer bytes than its size has room for.
+    /// Takes a buffer to receive into. A refusal hands token and buffer back and changes nothing: NotOpen, BadSize
+    /// where the size is not from 4 to 16 or the priority is above 1, BufferShort where the buffer has fewer bytes
+    /// than its size has room for.
     pub fn provide(
         &mut self,
         port: u8,
@@ -138,10 +140,12 @@ impl Ports {
         requires own { t ≡ token_at self.old.host port t.number }
         requires minted { ForSome (open_at self.old port) (λ p. t.number < p.recvs) }
         requires free { ForSome (open_at self.old port) (λ p. place_of_recv p t.number ≡ None) }
-        ensures refused { MatchResult result (λ _. provide_bar (open_at self.old port) b size prio ≡ None) (λ e. provide_bar (open_at self.old port) b size prio ≡ Some e.2) }
+        ensures refused { MatchResult result (λ _. provide_bar (open_at self.old port) b size prio ≡ None) (λ e.
+            provide_bar (open_at self.old port) b size prio ≡ Some e.2) }
         ensures handed_back { IfErr result (λ e. (e.0 ≡ t) × (e.1 ≡ b)) }
         ensures unchanged { OnErr result (self.new ≡ self.old) }
-        ensures provided { OnOk result (self.new ≡ changed self.old port (λ s. provided_with s (record { token = t.number; size = size; prio = prio; buffer = b }))) }
+        ensures provided { OnOk result (self.new ≡ changed self.old port (λ s.
+            provided_with s (record { token = t.number; size = size; prio = prio; buffer = b }))) }
     {
         slot::provide(&mut self.ports[usize::from(port)], t, b, size, prio)
     }
@@ -157,24 +161,29 @@ impl Ports {
         slot::deliver(&mut self.ports[usize::from(h.dport)], h, part);
     }
 
-    /// Hands out the event that was put in first. None exactly where no event waits, NotOpen exactly where the port isn't open.
+    /// Hands out the event that was put in first. None exactly where no event waits, NotOpen exactly where the port
+    /// isn't open.
     pub fn poll(&mut self, port: u8) -> Result<Option<PortEvent>, NotOpen>
         requires { port < 8 }
-        ensures open { MatchResult result (λ _. is_some (open_at self.old port) ≡ true) (λ _. open_at self.old port ≡ None) }
-        ensures first { IfOk result (λ e. IfSome (open_at self.old port) (λ p. e ≡ option_map (event_at self.old.host port) (next_event p))) }
+        ensures open { MatchResult result (λ _. is_some (open_at self.old port) ≡ true) (λ _.
+            open_at self.old port ≡ None) }
+        ensures first { IfOk result (λ e. IfSome (open_at self.old port) (λ p.
+            e ≡ option_map (event_at self.old.host port) (next_event p))) }
         ensures rest { self.new ≡ changed self.old port (λ s. polled s) }
     {
         slot::poll(&mut self.ports[usize::from(port)])
     }
 
-    /// Closes a port, and hands each provided token back with its buffer, first provided first. A refusal changes nothing: NotOpen, Busy where
-    /// sends aren't finished, Unread where events wait.
+    /// Closes a port, and hands each provided token back with its buffer, first provided first. A refusal changes
+    /// nothing: NotOpen, Busy where sends aren't finished, Unread where events wait.
     pub fn close(&mut self, port: u8) -> Result<Vec<(RecvToken, Reg)>, PortClose>
         requires { port < 8 }
-        ensures refused { MatchResult result (λ _. close_bar (open_at self.old port) ≡ None) (λ e. close_bar (open_at self.old port) ≡ Some e) }
+        ensures refused { MatchResult result (λ _. close_bar (open_at self.old port) ≡ None) (λ e.
+            close_bar (open_at self.old port) ≡ Some e) }
         ensures unchanged { OnErr result (self.new ≡ self.old) }
         ensures closed { OnOk result (self.new ≡ with_open self.old port None) }
-        ensures provided { IfOk result (λ v. IfSome (open_at self.old port) (λ p. v.items ≡ map (receive_at self.old.host port) p.provided)) }
+        ensures provided { IfOk result (λ v. IfSome (open_at self.old port) (λ p.
+            v.items ≡ map (receive_at self.old.host port) p.provided)) }
     {
         slot::close(&mut self.ports[usize::from(port)])
     }
@@ -183,9 +192,12 @@ impl Ports {
     pub fn abandon(&mut self, port: u8) -> Option<Wreck>
         requires { port < 8 }
         ensures open { is_some result ≡ is_some (open_at self.old port) }
-        ensures sending { IfSome result (λ w. IfSome (open_at self.old port) (λ p. w.sending.items ≡ map (send_at self.old.host port) p.queue)) }
-        ensures provided { IfSome result (λ w. IfSome (open_at self.old port) (λ p. w.provided.items ≡ map (receive_at self.old.host port) p.provided)) }
-        ensures events { IfSome result (λ w. IfSome (open_at self.old port) (λ p. w.events.items ≡ map (event_at self.old.host port) p.events)) }
+        ensures sending { IfSome result (λ w. IfSome (open_at self.old port) (λ p.
+            w.sending.items ≡ map (send_at self.old.host port) p.queue)) }
+        ensures provided { IfSome result (λ w. IfSome (open_at self.old port) (λ p.
+            w.provided.items ≡ map (receive_at self.old.host port) p.provided)) }
+        ensures events { IfSome result (λ w. IfSome (open_at self.old port) (λ p.
+            w.events.items ≡ map (event_at self.old.host port) p.events)) }
         ensures ended { self.new ≡ with_open self.old port None }
     {
         slot::abandon(&mut self.ports[usize::from(port)])
@@ -199,7 +211,8 @@ impl Ports {
         self.ports[usize::from(port)].is_some()
     }
 
-    /// The place of a send token or of a receive token of a port, by its number. None where the client has it, or the port isn't open.
+    /// The place of a send token or of a receive token of a port, by its number. None where the client has it, or the
+    /// port isn't open.
     pub fn place(&self, port: u8, send: bool, number: u16) -> Option<TokenPlace>
         requires { port < 8 }
         ensures { result ≡ place_at (open_at self.now port) send number }

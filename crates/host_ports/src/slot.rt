@@ -1,6 +1,7 @@
 //! The place of one port, where it may be open.
 
-ghost use Rattle.std.specs.Prelude.{◌≡◌, ◌<◌, ℕ, map, true, None, length, is_some, Some, IfOk, IfErr, IfSome, OnOk, OnErr, MatchResult, MatchOption, option_map};
+ghost use Rattle.std.specs.Prelude.{◌≡◌, ◌<◌, ℕ, map, true, None, length, is_some, Some, IfOk, IfErr, IfSome, OnOk};
+ghost use Rattle.std.specs.Prelude.{OnErr, MatchResult, MatchOption, option_map};
 ghost use Rattle.std.specs.Option.{ForSome};
 ghost use Rattle.gm_defs.specs.Body.{is_head};
 ghost use Rattle.gm_defs.specs.Token.{place_of_send, place_of_recv};
@@ -15,11 +16,8 @@ use crate::ask::{NotOpen, PortClose, PortProvide, PortSend};
 use crate::node_port::NodePort;
 use gm_defs::{FrameHead, TokenPlace};
 use gm_port::{CloseRefusal, PortEvent, ProvideRefusal, SendAsk, Wreck};
-use gm_tokens::{RecvToken, SendToken};
+use gm_tokens::{RecvToken, SendToken, is_too_long};
 use reg_mem::Reg;
-
-// The most bytes of a message.
-const MESSAGE_LIMIT: u32 = 1_016;
 
 // Why a send of so many bytes of a buffer is refused.
 pub(crate) fn refuse_send(slot: &Option<NodePort>, len: u32, buffer: &[u8]) -> Option<PortSend>
@@ -27,7 +25,7 @@ pub(crate) fn refuse_send(slot: &Option<NodePort>, len: u32, buffer: &[u8]) -> O
 {
     if slot.is_none() {
         Some(PortSend::NotOpen)
-    } else if len > MESSAGE_LIMIT {
+    } else if is_too_long(len) {
         Some(PortSend::TooLong)
     } else if buffer.len() < len as usize {
         Some(PortSend::BufferShort)
@@ -66,10 +64,12 @@ pub(crate) fn provide(
     requires own { ForSome slot.old (λ p. t ≡ token_at p.host p.port t.number) }
     requires minted { ForSome slot.old (λ p. t.number < p.state.recvs) }
     requires free { ForSome slot.old (λ p. place_of_recv p.state t.number ≡ None) }
-    ensures refused { MatchResult result (λ _. provide_bar (state_at slot.old) b size prio ≡ None) (λ e. provide_bar (state_at slot.old) b size prio ≡ Some e.2) }
+    ensures refused { MatchResult result (λ _. provide_bar (state_at slot.old) b size prio ≡ None) (λ e.
+        provide_bar (state_at slot.old) b size prio ≡ Some e.2) }
     ensures handed_back { IfErr result (λ e. (e.0 ≡ t) × (e.1 ≡ b)) }
     ensures unchanged { OnErr result (slot.new ≡ slot.old) }
-    ensures provided { OnOk result (slot.new ≡ changed_port slot.old (λ s. provided_with s (record { token = t.number; size = size; prio = prio; buffer = b }))) }
+    ensures provided { OnOk result (slot.new ≡ changed_port slot.old (λ s.
+        provided_with s (record { token = t.number; size = size; prio = prio; buffer = b }))) }
 {
     match slot {
         Some(port) => match port.provide(t, b, size, prio) {
@@ -116,7 +116,8 @@ pub(crate) fn deliver(slot: &mut Option<NodePort>, h: &FrameHead, part: &[u8])
 // Hands out the event that was put in first.
 pub(crate) fn poll(slot: &mut Option<NodePort>) -> Result<Option<PortEvent>, NotOpen>
     ensures open { MatchResult result (λ _. is_some slot.old ≡ true) (λ _. slot.old ≡ None) }
-    ensures first { IfOk result (λ e. IfSome slot.old (λ p. e ≡ option_map (event_at p.host p.port) (next_event p.state))) }
+    ensures first { IfOk result (λ e. IfSome slot.old (λ p.
+        e ≡ option_map (event_at p.host p.port) (next_event p.state))) }
     ensures rest { slot.new ≡ changed_port slot.old (λ s. polled s) }
 {
     match slot {
@@ -127,10 +128,12 @@ pub(crate) fn poll(slot: &mut Option<NodePort>) -> Result<Option<PortEvent>, Not
 
 // Closes a port, and hands each provided token back with its buffer.
 pub(crate) fn close(slot: &mut Option<NodePort>) -> Result<Vec<(RecvToken, Reg)>, PortClose>
-    ensures refused { MatchResult result (λ _. close_bar (state_at slot.old) ≡ None) (λ e. close_bar (state_at slot.old) ≡ Some e) }
+    ensures refused { MatchResult result (λ _. close_bar (state_at slot.old) ≡ None) (λ e.
+        close_bar (state_at slot.old) ≡ Some e) }
     ensures unchanged { OnErr result (slot.new ≡ slot.old) }
     ensures closed { OnOk result (slot.new ≡ None) }
-    ensures provided { IfOk result (λ v. IfSome slot.old (λ p. v.items ≡ map (receive_at p.host p.port) p.state.provided)) }
+    ensures provided { IfOk result (λ v. IfSome slot.old (λ p.
+        v.items ≡ map (receive_at p.host p.port) p.state.provided)) }
 {
     match slot.take() {
         Some(port) => match port.close() {
@@ -147,9 +150,12 @@ pub(crate) fn close(slot: &mut Option<NodePort>) -> Result<Vec<(RecvToken, Reg)>
 // Ends a port, whatever it holds, and hands all of it back.
 pub(crate) fn abandon(slot: &mut Option<NodePort>) -> Option<Wreck>
     ensures open { is_some result ≡ is_some slot.old }
-    ensures sending { IfSome result (λ w. IfSome slot.old (λ p. w.sending.items ≡ map (send_at p.host p.port) p.state.queue)) }
-    ensures provided { IfSome result (λ w. IfSome slot.old (λ p. w.provided.items ≡ map (receive_at p.host p.port) p.state.provided)) }
-    ensures events { IfSome result (λ w. IfSome slot.old (λ p. w.events.items ≡ map (event_at p.host p.port) p.state.events)) }
+    ensures sending { IfSome result (λ w. IfSome slot.old (λ p.
+        w.sending.items ≡ map (send_at p.host p.port) p.state.queue)) }
+    ensures provided { IfSome result (λ w. IfSome slot.old (λ p.
+        w.provided.items ≡ map (receive_at p.host p.port) p.state.provided)) }
+    ensures events { IfSome result (λ w. IfSome slot.old (λ p.
+        w.events.items ≡ map (event_at p.host p.port) p.state.events)) }
     ensures ended { slot.new ≡ None }
 {
     match slot.take() {

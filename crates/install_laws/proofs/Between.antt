@@ -23,7 +23,7 @@ use Rattle.ask_laws.proofs.Parcels.{SendKeeps}
 use Rattle.ask_laws.proofs.Along.{given_up-of, asks-bare}
 use Rattle.ask_laws.proofs.Ready.{kept-start}
 use Rattle.install_laws.specs.Kept.{IsInstallKept}
-use Rattle.act_defs.proofs.Lists.{each-set}
+use Rattle.world_defs.proofs.Lists.{each-set}
 
 -- what an installation leaves of a host
 pub record SamePorts (n m : NodeState) : Type 0 where

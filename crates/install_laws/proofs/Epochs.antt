@@ -1,19 +1,21 @@
 -- No host has seen an epoch above 1, whatever acts that may happen there were.
-use Rattle.std.proofs.Common.{ℕ, List, [], ◌∷◌, length, sym, subst, arith}
-use Rattle.net_defs.specs.Network.{Network, IsFabric}
+use Rattle.std.proofs.Common.{ℕ, length, arith}
+use Rattle.net_defs.specs.Network.{Network}
 use Rattle.world_defs.specs.declared.event.Event.{Event}
 use Rattle.world_defs.specs.declared.effect.Effect.{Effect}
 use Rattle.world_defs.specs.Node.{NodeState, new_node}
 use Rattle.world_defs.specs.World.{WorldState, host_count, new_world, node_at}
-use Rattle.act_defs.specs.Acts.{Act, acted, acted_all, MayActAll, IsReached}
-use Rattle.act_defs.proofs.Lists.{each-replicate}
-use Rattle.act_defs.proofs.Views.{HostChange}
-use Rattle.act_defs.proofs.Calls.{call_view}
+use Rattle.act_defs.specs.Acts.{Act, acted, IsReached}
+use Rattle.world_defs.proofs.Lists.{each-replicate}
+use Rattle.world_defs.proofs.Views.{HostChange}
+use Rattle.world_defs.proofs.Calls.{call_view}
 use Rattle.act_defs.proofs.Hosts.{NodeChange, nodes_view, each_node}
-use Rattle.act_defs.proofs.Tables.{call-table, sent-table}
+use Rattle.world_defs.proofs.Tables.{call-table, sent-table}
 use Rattle.table_laws.specs.Bodies.{IsBody}
 use Rattle.table_laws.proofs.Keeping.{holds-read}
-use Rattle.table_laws.proofs.Steps.{IsOfSet, acted_all-of, new-of}
+use Rattle.act_defs.proofs.Reaching.{reached-has}
+use Rattle.table_laws.proofs.Steps.{IsOfSet}
+use Rattle.table_laws.proofs.Dependencies.{reached-of}
 use Rattle.install_laws.proofs.Tables.{IsLow, low-same, hear-low, body-first}
 
 -- each host's
@@ -38,12 +40,8 @@ node-low n w a is low h m NodeChange.adopts = omega arith
 acted-low : (n : Network) (w : WorldState) (a : Act) → IsOfSet n w → AreLow w → AreLow (acted w a)
 acted-low n w a is low = record { each = each_node (λ h. IsLow) (nodes_view w a) low.each (node-low n w a is low) }
 
-acts-low : (n : Network) (w : WorldState) (acts : List Act) → IsFabric n → MayActAll w acts → IsOfSet n w → AreLow w → AreLow (acted_all w acts)
-acts-low n w [] f may is low = low
-acts-low n w (a ∷ acts) f may is low = acts-low n (acted w a) acts f may.1 (acted_all-of n w (a ∷ []) f (may.0, tt) is) (acted-low n w a is low)
-
 new-low : (n : Network) → AreLow (new_world n)
 new-low n = record { each = λ h. each-replicate IsLow (length n.hosts) h (new_node (length n.hosts)) (new_node 0) (omega arith) (omega arith) }
 
 pub reached-low : (n : Network) (w : WorldState) → IsReached n w → AreLow w
-reached-low n w r = subst AreLow (sym r.leads) (acts-low n (new_world n) r.acts r.fabric r.may (new-of n) (new-low n))
+reached-low n w is = reached-has AreLow n (new-low n) (λ w a r may. acted-low n w a (reached-of n w r)) w is

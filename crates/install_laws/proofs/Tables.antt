@@ -21,7 +21,7 @@ use Rattle.world_defs.specs.Node.{NodeState, peer_at, with_peer}
 use Rattle.world_defs.specs.Hearing.{is_host, heard_if, is_part_for, part_heard, hear_mapping, hear_mapping_body, message_of, frame_heard, frame_took, ack_heard, hear_gm, hear_gm_body, hear_body, hear_decoded, hear}
 use Rattle.table_laws.specs.Set.{IsPart}
 use Rattle.table_laws.specs.Bodies.{IsBody}
-use Rattle.act_defs.proofs.Tables.{part_heard-table, all_finished-table, delivered_after-table}
+use Rattle.world_defs.proofs.Tables.{part_heard-table, all_finished-table, delivered_after-table}
 
 -- a host's table has seen no epoch above 1
 abbrev pub IsLow : NodeState → Type 0

@@ -6,7 +6,8 @@ use Rattle.world_defs.specs.Install.{part_try, part_tries, parts_installed, part
 use Rattle.world_defs.specs.Asking.{all_given_up}
 use Rattle.install_laws.specs.Premises.{CanInstall}
 
--- A part is sent in vain so many times, and each time a planned fault loses, holds or flips a packet of that try: the part, or its acknowledgement.
+-- A part is sent in vain so many times, and each time a planned fault loses, holds or flips a packet of that try: the
+-- part, or its acknowledgement.
 abbrev pub EachTryWasHarmed : ℕ → ℕ → ℕ → ℕ → WorldState → Type 0
 EachTryWasHarmed mapper dst part zero w = Unit {0}
 EachTryWasHarmed mapper dst part (suc tries) w =
@@ -19,7 +20,8 @@ abbrev pub HasHarmedPart : ℕ → ℕ → ℕ → List ℕ → WorldState → T
 HasHarmedPart mapper dst tries [] w = ⊥
 HasHarmedPart mapper dst tries (p ∷ ps) w =
     EachTryWasHarmed mapper dst p tries w
-    ⊎ (((part_tries mapper dst tries p w).found ≡ true) × HasHarmedPart mapper dst tries ps (part_tries mapper dst tries p w).world)
+    ⊎ (((part_tries mapper dst tries p w).found ≡ true)
+    × HasHarmedPart mapper dst tries ps (part_tries mapper dst tries p w).world)
 
 -- what becomes of one host: whether all its parts are acknowledged, and the world then
 abbrev pub host_installed : Adoption → ℕ → ℕ → WorldState → Bool × WorldState
@@ -32,9 +34,10 @@ EachMissedWasHarmed a tries (h ∷ hs) w =
     ((host_installed a tries h w).0 ≡ false → HasHarmedPart a.mapper h tries (parts_of a h) w)
     × EachMissedWasHarmed a tries hs (host_installed a tries h w).1
 
--- Where injections are left behind an installation, each host that it doesn't count has a part each of whose tries met a planned loss, hold or
--- flip, on the part or on its acknowledgement.
+-- Where injections are left behind an installation, each host that it doesn't count has a part each of whose tries
+-- met a planned loss, hold or flip, on the part or on its acknowledgement.
 abbrev pub MissedHostsWereHarmed : Type 0
 MissedHostsWereHarmed =
-    (a : Adoption) (hosts : List ℕ) (tries : ℕ) (w : WorldState) → CanInstall a hosts w → (installed a hosts tries w).1.injected < last_count
+    (a : Adoption) (hosts : List ℕ) (tries : ℕ) (w : WorldState) → CanInstall a hosts w
+    → (installed a hosts tries w).1.injected < last_count
     → EachMissedWasHarmed a tries hosts (all_given_up w)

@@ -11,32 +11,39 @@ use Rattle.install_laws.specs.Cause.{host_installed}
 -- of these hosts, one after another, each has all its parts acknowledged
 abbrev pub EachIsAcknowledged : Adoption → ℕ → List ℕ → WorldState → Type 0
 EachIsAcknowledged a tries [] w = Unit {0}
-EachIsAcknowledged a tries (h ∷ hs) w = ((host_installed a tries h w).0 ≡ true) × EachIsAcknowledged a tries hs (host_installed a tries h w).1
+EachIsAcknowledged a tries (h ∷ hs) w = ((host_installed a tries h w).0 ≡ true)
+    × EachIsAcknowledged a tries hs (host_installed a tries h w).1
 
 -- no more hosts are counted than there are
 abbrev pub CountsAtMostAll : Type 0
-CountsAtMostAll = (a : Adoption) (hosts : List ℕ) (tries : ℕ) (w : WorldState) → (installed a hosts tries w).0 ≤ length hosts
+CountsAtMostAll = (a : Adoption) (hosts : List ℕ) (tries : ℕ) (w : WorldState)
+    → (installed a hosts tries w).0 ≤ length hosts
 
 -- all are counted exactly where each part of each host was acknowledged
 abbrev pub CountsAllWhereAcknowledged : Type 0
 CountsAllWhereAcknowledged =
-    (a : Adoption) (hosts : List ℕ) (tries : ℕ) (w : WorldState) → ((installed a hosts tries w).0 ≡ length hosts) ↔ EachIsAcknowledged a tries hosts (all_given_up w)
+    (a : Adoption) (hosts : List ℕ) (tries : ℕ) (w : WorldState)
+    → ((installed a hosts tries w).0 ≡ length hosts) ↔ EachIsAcknowledged a tries hosts (all_given_up w)
 
 -- each host that isn't counted costs as many planned faults as a part has tries
 abbrev pub EachMissCostsFaults : Type 0
 EachMissCostsFaults =
-    (a : Adoption) (hosts : List ℕ) (tries : ℕ) (w : WorldState) → CanInstall a hosts w → (installed a hosts tries w).1.injected < last_count
+    (a : Adoption) (hosts : List ℕ) (tries : ℕ) (w : WorldState) → CanInstall a hosts w
+    → (installed a hosts tries w).1.injected < last_count
     → w.harmed + tries * length hosts ≤ (installed a hosts tries w).1.harmed + tries * (installed a hosts tries w).0
 
 -- so all hosts are counted where a part has a try at least and no planned fault loses, holds or flips a packet
 abbrev pub UnharmedCountsAll : Type 0
 UnharmedCountsAll =
-    (a : Adoption) (hosts : List ℕ) (tries : ℕ) (w : WorldState) → CanInstall a hosts w → 0 < tries → (installed a hosts tries w).1.injected < last_count
+    (a : Adoption) (hosts : List ℕ) (tries : ℕ) (w : WorldState) → CanInstall a hosts w → 0 < tries
+    → (installed a hosts tries w).1.injected < last_count
     → (installed a hosts tries w).1.harmed ≡ w.harmed → (installed a hosts tries w).0 ≡ length hosts
 
 -- and so where no fault is planned for an injection of it
 abbrev pub UnplannedCountsAll : Type 0
 UnplannedCountsAll =
-    (a : Adoption) (hosts : List ℕ) (tries : ℕ) (w : WorldState) → CanInstall a hosts w → 0 < tries → (installed a hosts tries w).1.injected < last_count
-    → ((number : ℕ) → w.injected < number → number ≤ (installed a hosts tries w).1.injected → lookup (nat_eq number) w.plan ≡ None)
+    (a : Adoption) (hosts : List ℕ) (tries : ℕ) (w : WorldState) → CanInstall a hosts w → 0 < tries
+    → (installed a hosts tries w).1.injected < last_count
+    → ((number : ℕ) → w.injected < number → number ≤ (installed a hosts tries w).1.injected
+    → lookup (nat_eq number) w.plan ≡ None)
     → (installed a hosts tries w).0 ≡ length hosts

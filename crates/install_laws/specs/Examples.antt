@@ -22,7 +22,8 @@ BothCanInstall = CanInstall setup_adoption both_hosts (losing 1)
 
 -- where no fault is planned, both hosts are counted, by two injections
 abbrev pub BothAreCounted : Type 0
-BothAreCounted = ((installed setup_adoption both_hosts 1 adopted_world).0 ≡ 2) × ((installed setup_adoption both_hosts 1 adopted_world).1.injected ≡ 2)
+BothAreCounted = ((installed setup_adoption both_hosts 1 adopted_world).0 ≡ 2)
+    × ((installed setup_adoption both_hosts 1 adopted_world).1.injected ≡ 2)
 
 -- where the part is lost, one try counts the adopter alone, and host 1 has no table
 abbrev pub LostPartIsMissed : Type 0
@@ -40,4 +41,5 @@ LostAnswerIsMissed =
 
 -- a second try counts both
 abbrev pub SecondTryCounts : Type 0
-SecondTryCounts = ((installed setup_adoption both_hosts 2 (losing 1)).0 ≡ 2) × ((installed setup_adoption both_hosts 2 (losing 2)).0 ≡ 2)
+SecondTryCounts = ((installed setup_adoption both_hosts 2 (losing 1)).0 ≡ 2)
+    × ((installed setup_adoption both_hosts 2 (losing 2)).0 ≡ 2)

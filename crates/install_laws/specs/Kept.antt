@@ -8,7 +8,8 @@ use Rattle.world_defs.specs.Install.{installed}
 use Rattle.world_defs.specs.EightBits.{HasByteFaults}
 use Rattle.install_laws.specs.Premises.{CanInstall}
 
--- The fabric, each host's connections and ports, the clients and the adopted set are as before; no fault is planned anew; and no count falls. Tables alone change.
+-- The fabric, each host's connections and ports, the clients and the adopted set are as before; no fault is planned
+-- anew; and no count falls. Tables alone change.
 pub record IsInstallKept (w v : WorldState) : Type 0 where
   pub fabric : fabric_of v ≡ fabric_of w
   pub hosts : host_count v ≡ host_count w
@@ -24,12 +25,15 @@ pub record IsInstallKept (w v : WorldState) : Type 0 where
 
 -- an installation keeps them
 abbrev pub InstallingKeeps : Type 0
-InstallingKeeps = (a : Adoption) (hosts : List ℕ) (tries : ℕ) (w : WorldState) → CanInstall a hosts w → IsInstallKept w (installed a hosts tries w).1
+InstallingKeeps = (a : Adoption) (hosts : List ℕ) (tries : ℕ) (w : WorldState) → CanInstall a hosts w
+    → IsInstallKept w (installed a hosts tries w).1
 
 -- and leaves idle links
 abbrev pub InstallingEndsIdle : Type 0
-InstallingEndsIdle = (a : Adoption) (hosts : List ℕ) (tries : ℕ) (w : WorldState) → CanInstall a hosts w → is_idle (installed a hosts tries w).1.links ≡ true
+InstallingEndsIdle = (a : Adoption) (hosts : List ℕ) (tries : ℕ) (w : WorldState) → CanInstall a hosts w
+    → is_idle (installed a hosts tries w).1.links ≡ true
 
 -- and the same set can be installed again
 abbrev pub CanInstallAgain : Type 0
-CanInstallAgain = (a : Adoption) (hosts : List ℕ) (tries : ℕ) (w : WorldState) → CanInstall a hosts w → CanInstall a hosts (installed a hosts tries w).1
+CanInstallAgain = (a : Adoption) (hosts : List ℕ) (tries : ℕ) (w : WorldState) → CanInstall a hosts w
+    → CanInstall a hosts (installed a hosts tries w).1

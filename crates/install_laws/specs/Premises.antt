@@ -12,8 +12,9 @@ pub record IsJoined (a : Adoption) (host : ℕ) : Type 0 where
   pub there : HasRoute a.routes a.mapper host
   pub back : HasRoute a.routes host a.mapper
 
--- An installation of the adopted set on these hosts, in a world that acts which may happen lead to: the links are idle; the set's routes stand in
--- their order, and each has at most 64 turns, as many as a part carries; and to each of the hosts but the adopter a route leads, and one back.
+-- An installation of the adopted set on these hosts, in a world that acts which may happen lead to: the links are
+-- idle; the set's routes stand in their order, and each has at most 64 turns, as many as a part carries; and to each
+-- of the hosts but the adopter a route leads, and one back.
 pub record CanInstall (a : Adoption) (hosts : List ℕ) (w : WorldState) : Type 0 where
   pub reached : IsReached (fabric_of w) w
   pub idle : is_idle w.links ≡ true

@@ -26,7 +26,8 @@ use Rattle.install_laws.specs.Cause.{EachMissedWasHarmed}
 -- Each route of a right map, of a mapper that the fabric has, takes at most 64 turns: it turns at no switch twice.
 abbrev pub RightRoutesAreShort : Type 0
 RightRoutesAreShort =
-    (n : Network) (host : ℕ) (m : NetMap) (routes : List Route) → IsFabric n → host < length n.hosts → IsMapOfPart n host m → AreRoutesOf m (order_of m) routes
+    (n : Network) (host : ℕ) (m : NetMap) (routes : List Route) → IsFabric n → host < length n.hosts
+    → IsMapOfPart n host m → AreRoutesOf m (order_of m) routes
     → AllByRecursion (λ r. length r.walk ≤ 64) routes
 
 -- The last routes of a run are those of a right map of a host of the fabric, and their hosts are of that map.
@@ -41,29 +42,37 @@ pub record IsSetOfMap (n : Network) (l : LastRoutes) : Type 0 where
 -- every run keeps such routes
 abbrev pub RunRoutesAreOfMap : Type 0
 RunRoutesAreOfMap =
-    (n : Network) (commands : List Command) (out : List Piece) (s : SessionState) (l : LastRoutes) → IsFabric n → AllByRecursion (IsActOf n) commands
+    (n : Network) (commands : List Command) (out : List Piece) (s : SessionState) (l : LastRoutes) → IsFabric n
+    → AllByRecursion (IsActOf n) commands
     → IsRun n commands out s → s.last_routes ≡ Some l → IsSetOfMap n l
 
 -- where nothing refuses an installation behind a run, the last routes can be installed once they are adopted
 abbrev pub RunCanInstall : Type 0
 RunCanInstall =
-    (n : Network) (commands : List Command) (out : List Piece) (s : SessionState) (l : LastRoutes) → IsFabric n → AllByRecursion (IsActOf n) commands
-    → IsRun n commands out s → s.last_routes ≡ Some l → is_idle s.world.links ≡ true → is_other l.routes s.world.adopted ≡ false
+    (n : Network) (commands : List Command) (out : List Piece) (s : SessionState) (l : LastRoutes) → IsFabric n
+    → AllByRecursion (IsActOf n) commands
+    → IsRun n commands out s → s.last_routes ≡ Some l → is_idle s.world.links ≡ true
+    → is_other l.routes s.world.adopted ≡ false
     → CanInstall (adoption_of l) l.hosts (adopted_by s.world l.mapper l.routes)
 
--- What the line `installed K of N` says: K hosts of the N of the last routes have all parts acknowledged, and where injections are left then, each
--- other one has a part each of whose tries met a planned loss, hold or flip, on the part or on its acknowledgement; so K is N where none did.
+-- What the line `installed K of N` says: K hosts of the N of the last routes have all parts acknowledged, and where
+-- injections are left then, each other one has a part each of whose tries met a planned loss, hold or flip, on the
+-- part or on its acknowledgement; so K is N where none did.
 pub record IsInstalledLine (s next : SessionState) (tries acked total : ℕ) : Type 0 where
   pub last : LastRoutes
   pub are : s.last_routes ≡ Some last
-  pub counted : installed (adoption_of last) last.hosts tries (adopted_by s.world last.mapper last.routes) ≡ (acked, next.world)
+  pub counted : installed (adoption_of last) last.hosts tries (adopted_by s.world last.mapper last.routes)
+      ≡ (acked, next.world)
   pub all : total ≡ length last.hosts
   pub at_most : acked ≤ total
-  pub cause : next.world.injected < last_count → EachMissedWasHarmed (adoption_of last) tries last.hosts (all_given_up (adopted_by s.world last.mapper last.routes))
+  pub cause : next.world.injected < last_count → EachMissedWasHarmed (adoption_of last) tries last.hosts
+      (all_given_up (adopted_by s.world last.mapper last.routes))
   pub unharmed : 0 < tries → next.world.injected < last_count → next.world.harmed ≡ s.world.harmed → acked ≡ total
 
 -- every such line behind a run says so
 abbrev pub InstalledLineIsTrue : Type 0
 InstalledLineIsTrue =
-    (n : Network) (commands : List Command) (out rest : List Piece) (s next : SessionState) (tries acked total : ℕ) → IsFabric n → AllByRecursion (IsActOf n) commands
-    → IsRun n commands out s → Does s (Install tries) (OneLine (Installed acked total) ∷ rest) next → IsInstalledLine s next tries acked total
+    (n : Network) (commands : List Command) (out rest : List Piece) (s next : SessionState) (tries acked total : ℕ)
+    → IsFabric n → AllByRecursion (IsActOf n) commands
+    → IsRun n commands out s → Does s (Install tries) (OneLine (Installed acked total) ∷ rest) next
+    → IsInstalledLine s next tries acked total

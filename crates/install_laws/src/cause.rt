@@ -1,9 +1,11 @@
 //! Which hosts are counted: `specs/Cause.antt` and `specs/Counts.antt` have the statements.
 
 ghost use Rattle.install_laws.specs.Cause.{MissedHostsWereHarmed};
-ghost use Rattle.install_laws.specs.Counts.{CountsAtMostAll, CountsAllWhereAcknowledged, EachMissCostsFaults, UnharmedCountsAll, UnplannedCountsAll};
+ghost use Rattle.install_laws.specs.Counts.{CountsAtMostAll, CountsAllWhereAcknowledged, EachMissCostsFaults};
+ghost use Rattle.install_laws.specs.Counts.{UnharmedCountsAll, UnplannedCountsAll};
 
-/// Each host that an installation doesn't count has a part each of whose tries met a planned fault, on the part or on its acknowledgement.
+/// Each host that an installation doesn't count has a part each of whose tries met a planned fault, on the part or on
+/// its acknowledgement.
 pub fn missed_hosts()
     ensures harmed { MissedHostsWereHarmed }
     ensures cost { EachMissCostsFaults }

@@ -1,6 +1,7 @@
 //! Why an installation counts fewer hosts than it has, and what it leaves as it was.
 //!
-//! It installs nothing, and leaves open whether a counted host's table is active behind the installation. Read `specs/Cause.antt` first.
+//! It installs nothing, and leaves open whether a counted host's table is active behind the installation. Read
+//! `specs/Cause.antt` first.
 //!
 //! | file of `specs/` | says |
 //! |---|---|

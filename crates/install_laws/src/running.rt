@@ -7,7 +7,8 @@ pub fn short_routes()
     ensures { RightRoutesAreShort }
 {}
 
-/// A run's last routes are those of a right map, so they can be installed, and each line `installed K of N` has its cause.
+/// A run's last routes are those of a right map, so they can be installed, and each line `installed K of N` has its
+/// cause.
 pub fn installed_lines()
     ensures routes { RunRoutesAreOfMap }
     ensures can { RunCanInstall }

@@ -1,6 +1,7 @@
 //! Installations on two hosts, worked out: `specs/Examples.antt` has the statements.
 
-ghost use Rattle.install_laws.specs.Examples.{BothCanInstall, BothAreCounted, LostPartIsMissed, LostAnswerIsMissed, SecondTryCounts};
+ghost use Rattle.install_laws.specs.Examples.{BothCanInstall, BothAreCounted, LostPartIsMissed, LostAnswerIsMissed};
+ghost use Rattle.install_laws.specs.Examples.{SecondTryCounts};
 
 /// One try counts both hosts where nothing is lost; where the part or its acknowledgement is, it takes a second try.
 pub fn lost_packets()

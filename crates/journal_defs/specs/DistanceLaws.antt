@@ -13,15 +13,18 @@ pub record IsShortest (n : Network) (x y : Vertex) : Type 0 where
 
 -- where a path joins two vertices of a fabric, their distance is that of a shortest one
 abbrev pub DistanceIsShortest : Type 0
-DistanceIsShortest = (n : Network) (x y : Vertex) (m : ℕ) → IsFabric n → has_vertex n x ≡ true → Path n x m y → IsShortest n x y
+DistanceIsShortest = (n : Network) (x y : Vertex) (m : ℕ) → IsFabric n → has_vertex n x ≡ true → Path n x m y
+    → IsShortest n x y
 
 -- the part that is computed is what paths join to the host
 abbrev pub PartIsReached : Type 0
-PartIsReached = (n : Network) (host : ℕ) (v : Vertex) → IsFabric n → has_vertex n (Host host) ≡ true → (is_among same_vertex (part n host) v ≡ true) ↔ IsInPart n host v
+PartIsReached = (n : Network) (host : ℕ) (v : Vertex) → IsFabric n → has_vertex n (Host host) ≡ true
+    → (is_among same_vertex (part n host) v ≡ true) ↔ IsInPart n host v
 
 -- each vertex of the part lies within the greatest distance
 abbrev pub PartIsNear : Type 0
-PartIsNear = (n : Network) (host : ℕ) (v : Vertex) → IsFabric n → has_vertex n (Host host) ≡ true → IsInPart n host v → distance n (Host host) v ≤ farthest n host
+PartIsNear = (n : Network) (host : ℕ) (v : Vertex) → IsFabric n → has_vertex n (Host host) ≡ true → IsInPart n host v
+    → distance n (Host host) v ≤ farthest n host
 
 -- a path of so many cables at most leads to a host
 pub record HasHostWithin (n : Network) (x : Vertex) (most : ℕ) : Type 0 where
@@ -32,4 +35,5 @@ pub record HasHostWithin (n : Network) (x : Vertex) (most : ℕ) : Type 0 where
 
 -- each switch of the part has a host within the greatest of those distances
 abbrev pub HostsAreNear : Type 0
-HostsAreNear = (n : Network) (host s : ℕ) → IsFabric n → has_vertex n (Host host) ≡ true → IsInPart n host (Switch s) → HasHostWithin n (Switch s) (host_distance n host)
+HostsAreNear = (n : Network) (host s : ℕ) → IsFabric n → has_vertex n (Host host) ≡ true → IsInPart n host (Switch s)
+    → HasHostWithin n (Switch s) (host_distance n host)

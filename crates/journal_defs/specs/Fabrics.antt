@@ -53,7 +53,11 @@ ring_switches = map (λ name. switch_named name 4) (codes "s0" ∷ codes "s1" �
 
 -- A ring of four switches with one host.
 abbrev pub lonely_ring : Network
-lonely_ring = record { hosts = codes "a" ∷ []; switches = ring_switches; cables = ring ++ joined (host_end 0) (switch_end 0 2) ∷ [] }
+lonely_ring = record {
+  hosts = codes "a" ∷ [];
+  switches = ring_switches;
+  cables = ring ++ joined (host_end 0) (switch_end 0 2) ∷ [];
+}
 
 -- A ring of four switches with a host each.
 abbrev pub ring_of_four : Network

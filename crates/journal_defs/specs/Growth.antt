@@ -38,23 +38,27 @@ pub record IsLeastUnasked (j : List Entry) (w : List ℤ) (t : ℤ) : Type 0 whe
 abbrev pub crossed : List ℤ → ℕ
 crossed w = suc (length w)
 
--- The node to expand next: the least switch that crosses fewer than so many cables and whose class has no expanded member.
+-- The node to expand next: the least switch that crosses fewer than so many cables and whose class has no expanded
+-- member.
 pub record IsChosen (host depth : ℕ) (j : List Entry) (w : List ℤ) : Type 0 where
   pub switch : IsSwitchNode j w
   pub near : crossed w < depth
   pub fresh : ¬ HasExpanded host j (Reached w)
   pub lesser : (v : List ℤ) → IsSwitchNode j v → walk_below v w ≡ true → HasExpanded host j (Reached v)
 
--- The next ask to a depth: the empty walk first; then the least turn of the least node that is begun and not expanded; with none left, the turn -15 of the next node.
+-- The next ask to a depth: the empty walk first; then the least turn of the least node that is begun and not
+-- expanded; with none left, the turn -15 of the next node.
 pub data NextAsk (host depth : ℕ) (j : List Entry) (x : List ℤ) : Type 0 where
   first : j ≡ [] → x ≡ [] → NextAsk host depth j x
-  goes_on : (w : List ℤ) (t : ℤ) → IsBegun j w → IsLeastUnasked j w t → ((v : List ℤ) → IsBegun j v → walk_below v w ≡ true → IsExpanded j v) → x ≡ w ++ t ∷ [] → NextAsk host depth j x
+  goes_on : (w : List ℤ) (t : ℤ) → IsBegun j w → IsLeastUnasked j w t
+      → ((v : List ℤ) → IsBegun j v → walk_below v w ≡ true → IsExpanded j v) → x ≡ w ++ t ∷ [] → NextAsk host depth j x
   begins : (w : List ℤ) → IsAtRest j → IsChosen host depth j w → x ≡ w ++ negsuc 14 ∷ [] → NextAsk host depth j x
 
 -- each entry was the next ask after the entries before it
 pub data IsGrowing (host depth : ℕ) : List Entry → Type 0 where
   nothing : IsGrowing host depth []
-  more : {j : List Entry} → (before : List Entry) (e : Entry) → IsGrowing host depth before → NextAsk host depth before e.walk → j ≡ before ++ e ∷ [] → IsGrowing host depth j
+  more : {j : List Entry} → (before : List Entry) (e : Entry) → IsGrowing host depth before
+      → NextAsk host depth before e.walk → j ≡ before ++ e ∷ [] → IsGrowing host depth j
 
 -- the most nodes that a journal keeps, the mapper's host among them
 abbrev pub node_limit : ℕ

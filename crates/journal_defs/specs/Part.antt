@@ -1,5 +1,6 @@
 -- The mapper's part of a fabric, distances in it, and the depth that suffices to map it.
-use Rattle.std.specs.Prelude.{◌≡◌, ℕ, zero, suc, ◌+◌, Bool, true, false, not, List, [], ◌∷◌, ◌++◌, map, length, Option, Some, None}
+use Rattle.std.specs.Prelude.{◌≡◌, ℕ, zero, suc, ◌+◌, Bool, true, false, not, List, [], ◌∷◌, ◌++◌, map, length, Option}
+use Rattle.std.specs.Prelude.{Some, None}
 use Rattle.std.specs.List.{list_any, filter}
 use Rattle.net_defs.specs.declared.vertex.Vertex.{Vertex}
 use Rattle.net_defs.specs.declared.vertex.Vertex.TheVariants.{Host, Switch}
@@ -14,7 +15,8 @@ use Rattle.journal_defs.specs.Walks.{onward_turns}
 -- a path of so many cables from a vertex
 pub data Path (n : Network) (x : Vertex) : ℕ → Vertex → Type 0 where
   here : Path n x zero x
-  over : {m : ℕ} {v w : Vertex} → Path n x m v → (p q : ℕ) → far n (record { v = v; p = p }) ≡ Some (record { v = w; p = q }) → Path n x (suc m) w
+  over : {m : ℕ} {v w : Vertex} → Path n x m v → (p q : ℕ)
+      → far n (record { v = v; p = p }) ≡ Some (record { v = w; p = q }) → Path n x (suc m) w
 
 -- what paths join to the mapper's host
 pub record IsInPart (n : Network) (host : ℕ) (v : Vertex) : Type 0 where

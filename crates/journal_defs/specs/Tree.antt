@@ -1,5 +1,6 @@
 -- The tree of a journal: the mapper's host, and the walks that found a host or a switch.
-use Rattle.std.specs.Prelude.{◌≡◌, ℕ, ℤ, pos, Bool, true, false, List, [], ◌∷◌, ◌++◌, map, if◌then◌else◌, Option, Some, None, is_some}
+use Rattle.std.specs.Prelude.{◌≡◌, ℕ, ℤ, pos, Bool, true, false, List, [], ◌∷◌, ◌++◌, map, if◌then◌else◌, Option, Some}
+use Rattle.std.specs.Prelude.{None, is_some}
 use Rattle.net_defs.specs.declared.place.Answer.{Answer}
 use Rattle.net_defs.specs.declared.place.Answer.TheVariants.{Host, Switch, Nothing}
 use Rattle.net_defs.specs.Network.{Apart}
@@ -74,9 +75,12 @@ node_below u Mapper = false
 node_below Mapper (Reached w) = true
 node_below (Reached v) (Reached w) = walk_below v w
 
--- Port p of a node leads to port i of another. A node's turn p leads to port 0 of the node that it reaches; so does the mapper's own port 0. Each is read both ways.
+-- Port p of a node leads to port i of another. A node's turn p leads to port 0 of the node that it reaches; so does
+-- the mapper's own port 0. Each is read both ways.
 pub data Leads (j : List Entry) : Node → ℤ → Node → ℤ → Type 0 where
-  onward : {w x : List ℤ} {p : ℤ} → IsNode j (Reached w) → IsNode j (Reached x) → x ≡ w ++ p ∷ [] → Leads j (Reached w) p (Reached x) (pos 0)
-  back : {w x : List ℤ} {p : ℤ} → IsNode j (Reached w) → IsNode j (Reached x) → x ≡ w ++ p ∷ [] → Leads j (Reached x) (pos 0) (Reached w) p
+  onward : {w x : List ℤ} {p : ℤ} → IsNode j (Reached w) → IsNode j (Reached x) → x ≡ w ++ p ∷ []
+      → Leads j (Reached w) p (Reached x) (pos 0)
+  back : {w x : List ℤ} {p : ℤ} → IsNode j (Reached w) → IsNode j (Reached x) → x ≡ w ++ p ∷ []
+      → Leads j (Reached x) (pos 0) (Reached w) p
   out : IsNode j (Reached []) → Leads j Mapper (pos 0) (Reached []) (pos 0)
   home : IsNode j (Reached []) → Leads j (Reached []) (pos 0) Mapper (pos 0)

@@ -25,8 +25,10 @@ most_turns n host = host_distance n host + farthest n host
 
 -- W is the length of the list of all these walks
 abbrev pub WalksAreCounted : Type 0
-WalksAreCounted = (n : Network) (host : ℕ) → (ws : List (List ℤ)) × AreAllWalks n host (most_turns n host) ws × (length ws ≡ walk_count n host)
+WalksAreCounted = (n : Network) (host : ℕ) → (ws : List (List ℤ)) × AreAllWalks n host (most_turns n host) ws
+    × (length ws ≡ walk_count n host)
 
 -- so different walks of this kind are at most W
 abbrev pub WalksAreFew : Type 0
-WalksAreFew = (n : Network) (host : ℕ) (ws : List (List ℤ)) → Apart ws → AllByRecursion (IsCounted n host (most_turns n host)) ws → length ws ≤ walk_count n host
+WalksAreFew = (n : Network) (host : ℕ) (ws : List (List ℤ)) → Apart ws
+    → AllByRecursion (IsCounted n host (most_turns n host)) ws → length ws ≤ walk_count n host

@@ -1,5 +1,6 @@
 -- Walks in their order: by length, then turn by turn as signed numbers.
-use Rattle.std.specs.Prelude.{◌≡◌, ◌≢◌, ℕ, zero, suc, ℤ, pos, negsuc, Bool, true, false, ◌&&◌, ◌||◌, List, [], ◌∷◌, ◌++◌, map, length, nat_eq, nat_lt, int_lt}
+use Rattle.std.specs.Prelude.{◌≡◌, ◌≢◌, ℕ, zero, suc, ℤ, pos, negsuc, Bool, true, false, ◌&&◌, ◌||◌, List, [], ◌∷◌}
+use Rattle.std.specs.Prelude.{◌++◌, map, length, nat_eq, nat_lt, int_lt}
 use Rattle.std.specs.Ordering.{int_eq}
 use Rattle.net_defs.specs.Turn.{IsTurn}
 use Rattle.journal_defs.specs.Counting.{numbers_below}

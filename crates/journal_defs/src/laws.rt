@@ -3,7 +3,8 @@
 ghost use Rattle.journal_defs.specs.Walks.{walk_below, IsStrictOrder};
 ghost use Rattle.journal_defs.specs.DistanceLaws.{DistanceIsShortest, PartIsReached, PartIsNear, HostsAreNear};
 ghost use Rattle.journal_defs.specs.WalkLaws.{WalksAreCounted, WalksAreFew};
-ghost use Rattle.journal_defs.specs.Laws.{FarEndGoesBothWays, ReplicatesStandTogether, OffsetsAreTurns, OffsetIsUnique, OwnOffsetIsZero, NextAskIsUnique, NoAskAtTheEnd};
+ghost use Rattle.journal_defs.specs.Laws.{FarEndGoesBothWays, ReplicatesStandTogether, OffsetsAreTurns, OffsetIsUnique};
+ghost use Rattle.journal_defs.specs.Laws.{OwnOffsetIsZero, NextAskIsUnique, NoAskAtTheEnd};
 
 /// A cable's far end goes both ways.
 pub fn far_ends_go_both_ways()

@@ -1,5 +1,5 @@
-//! What a mapper's journal is: the walks that a host asked with their answers, which of its nodes are one vertex, how it grows, and how
-//! deep it has to.
+//! What a mapper's journal is: the walks that a host asked with their answers, which of its nodes are one vertex, how
+//! it grows, and how deep it has to.
 //!
 //! This crate holds definitions and laws, and the type of an entry. It asks nothing and keeps no journal in memory.
 //! The laws stand in `DistanceLaws`, `Laws` and `WalkLaws` of `specs/`, and `laws.rt` shows that they hold.
@@ -20,8 +20,8 @@
 //!            port 2 +-----------------+ port 6
 //! ```
 //!
-//! From host a the walks `+1` and `+2` find a switch, `+1 +1` and `+2 -2` find host b. Host b is one host, so the two switches
-//! behind it are one: port p of `+1` is port p - 3 of `+2`.
+//! From host a the walks `+1` and `+2` find a switch, `+1 +1` and `+2 -2` find host b. Host b is one host, so the two
+//! switches behind it are one: port p of `+1` is port p - 3 of `+2`.
 #![tactic(auto)]
 
 mod entry;

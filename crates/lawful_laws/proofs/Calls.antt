@@ -3,7 +3,7 @@ use Rattle.std.proofs.Common.{ℕ, List, Option, Some}
 use Rattle.net_defs.specs.declared.route.Route.{Route}
 use Rattle.world_defs.specs.Node.{NodeState, Staged, Outgoing, Probe, TablePart, Reply, PartAnswer, FrameAnswer, Fragment, after_sending, given_up, node_expired}
 use Rattle.world_defs.specs.Client.{ClientState, Called}
-use Rattle.act_defs.proofs.Calls.{Call}
+use Rattle.world_defs.proofs.Calls.{Call}
 use Rattle.lawful_laws.proofs.Sends.{IsOwnStaged, IsOwn}
 
 pub after_sending-own : (Fair : Type 0) (routes : List Route) (host : ℕ) (n : NodeState) (x : Outgoing) → IsOwn Fair routes host n → IsOwn Fair routes host (after_sending n x)

@@ -35,7 +35,8 @@ use Rattle.lawful_laws.specs.Lawful.{AdvanceKeepsLawful}
 use Rattle.lawful_laws.specs.Stuck.{LawfulIsNotStuck, LawfulDrainsIdle, LawfulNeedsNoReset}
 use Rattle.lawful_laws.proofs.Ahead.{IsLedBy, led-next}
 use Rattle.lawful_laws.proofs.Stuck.{led-flows}
-use Rattle.lawful_laws.proofs.Lawful.{reached-of, led-lawful}
+use Rattle.table_laws.proofs.Dependencies.{reached-of}
+use Rattle.lawful_laws.proofs.Lawful.{led-lawful}
 
 -- what holds of the packet in each channel holds so behind an advance
 abbrev IsInEach : (ℕ → Held → Type 0) → LinkState → Type 0

@@ -12,15 +12,15 @@ use Rattle.world_defs.specs.World.{WorldState, fabric_of, new_world, node_at, ad
 use Rattle.world_defs.specs.Traffic.{routes_in, adopted_routes, IsLawful}
 use Rattle.act_defs.specs.Acts.{Act, Happens, Plans, Adopts, acted, acted_all, IsSameSet, MayAct, MayActAll, IsReached}
 use Rattle.table_laws.proofs.Medium.{weaker-holds, empty-holds}
-use Rattle.act_defs.proofs.Kept.{with-all}
-use Rattle.table_laws.proofs.Steps.{IsOfSet, acted_all-of, new-of}
+use Rattle.world_defs.proofs.Kept.{with-all}
+use Rattle.table_laws.proofs.Steps.{IsOfSet, acted-of, new-of}
 use Rattle.lawful_laws.specs.Probes.{IsProbe, IsReadAsProbe, IsWalkAct}
 use Rattle.lawful_laws.specs.Lawful.{UnflippedIsLawful, UnflippedIsRead, LimboIsLawful, LimboIsRead}
 use Rattle.lawful_laws.proofs.Ahead.{IsLedBy}
 use Rattle.lawful_laws.proofs.Walks.{IsWalkFrom, IsWithin, all-at, walk-within, led-within}
 use Rattle.lawful_laws.proofs.Sends.{IsProbeBody, IsSent, IsOwnStaged, IsOwn}
 use Rattle.lawful_laws.proofs.ProbePackets.{probe-is_read}
-use Rattle.act_defs.proofs.Lists.{each-set, each-replicate}
+use Rattle.world_defs.proofs.Lists.{each-set, each-replicate}
 use Rattle.lawful_laws.proofs.Worlds.{IsLed, step-led}
 
 -- an adoption of the same set, or of the first
@@ -82,7 +82,7 @@ acted-led Fair n w (Adopts mapper more) f may asks of is =
 
 acted_all-led : (Fair : Type 0) (n : Network) (w : WorldState) (acts : List Act) → IsFabric n → MayActAll w acts → (Fair → AllByRecursion IsWalkAct acts) → IsOfSet n w → IsLedNow Fair n w → IsLedNow Fair n (acted_all w acts)
 acted_all-led Fair n w [] f may asks of is = is
-acted_all-led Fair n w (a ∷ acts) f may asks of is = acted_all-led Fair n (acted w a) acts f may.1 (λ x. (asks x).1) (acted_all-of n w (a ∷ []) f (may.0, tt) of) (acted-led Fair n w a f may.0 (λ x. (asks x).0) of is)
+acted_all-led Fair n w (a ∷ acts) f may asks of is = acted_all-led Fair n (acted w a) acts f may.1 (λ x. (asks x).1) (acted-of n w a f may.0 of) (acted-led Fair n w a f may.0 (λ x. (asks x).0) of is)
 
 new-own : (Fair : Type 0) (h k : ℕ) → IsOwn Fair [] h (new_node k)
 new-own Fair h k = record { staged = tt; reply = tt; ack = tt }
@@ -96,9 +96,6 @@ new-led Fair n =
     }
 
 -- every reached world
-pub reached-of : (n : Network) (w : WorldState) → IsReached n w → IsOfSet n w
-reached-of n w r = subst (IsOfSet n) (sym r.leads) (acted_all-of n (new_world n) r.acts r.fabric r.may (new-of n))
-
 pub reached-led : (Fair : Type 0) (n : Network) (w : WorldState) (r : IsReached n w) → (Fair → AllByRecursion IsWalkAct r.acts) → IsLed Fair n (adopted_routes w) w
 reached-led Fair n w r asks =
     let x : IsLedNow Fair n w = subst (IsLedNow Fair n) (sym r.leads) (acted_all-led Fair n (new_world n) r.acts r.fabric r.may asks (new-of n) (new-led Fair n)) in

@@ -30,10 +30,10 @@ use Rattle.lawful_laws.proofs.Sends.{HasWayBack, IsProbeBody, IsOnWay, IsSent, I
 use Rattle.lawful_laws.proofs.Hears.{hear-own}
 use Rattle.world_defs.specs.Step.{step}
 use Rattle.act_defs.specs.Acts.{Happens}
-use Rattle.act_defs.proofs.Views.{HostChange, Change, view}
-use Rattle.act_defs.proofs.Calls.{call_view}
+use Rattle.world_defs.proofs.Views.{HostChange, Change, view}
+use Rattle.world_defs.proofs.Calls.{call_view}
 use Rattle.act_defs.proofs.Hosts.{NodeChange, change-nodes, each_node}
-use Rattle.act_defs.proofs.Kept.{change-net, change-adopted, change-plan}
+use Rattle.world_defs.proofs.Kept.{change-net, change-adopted, change-plan}
 use Rattle.table_laws.proofs.Medium.{Holds, Carries, no_turn, honest-read}
 use Rattle.table_laws.proofs.Keeping.{HoldsOfNew, acted-holds}
 use Rattle.table_laws.proofs.Steps.{IsOfSet, IsAdopted}

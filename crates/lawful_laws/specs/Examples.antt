@@ -1,4 +1,5 @@
--- Worked examples: a frame on its way is lawful; probes may be stuck, and of a walk with a turn out of range no host reads the probe.
+-- Worked examples: a frame on its way is lawful; probes may be stuck, and of a walk with a turn out of range no host
+-- reads the probe.
 use Rattle.std.specs.Prelude.{◌≡◌, pos, true, false, List, [], ◌∷◌, Some, option_map, Err}
 use Rattle.net_defs.specs.Examples.{two_hosts, self_cabled}
 use Rattle.packet_defs.specs.declared.host_drop.HostDrop.TheVariants.{UnknownType}
@@ -25,7 +26,8 @@ FrameWorldIsReached = IsReached two_hosts frame_world
 
 -- before the frame lies the whole of its route: its own channel, and the one from the switch to host 1
 abbrev pub FrameIsAhead : Type 0
-FrameIsAhead = option_map (λ held. channels_ahead frame_world 0 held.wire) (packet_in frame_world.links 0) ≡ Some (0 ∷ 3 ∷ [])
+FrameIsAhead = option_map (λ held. channels_ahead frame_world 0 held.wire) (packet_in frame_world.links 0)
+    ≡ Some (0 ∷ 3 ∷ [])
 
 -- so the traffic is lawful
 abbrev pub FrameIsLawful : Type 0
@@ -35,7 +37,8 @@ FrameIsLawful = IsLawfulTraffic frame_world
 abbrev pub stuck_acts : List Act
 stuck_acts =
     Happens (Ask 0 (pos 3 ∷ pos 1 ∷ pos 0 ∷ []) false) ∷ Happens (Inject 0) ∷ Happens (Advance 0) ∷ Happens (Advance 4)
-    ∷ Happens (Ask 0 (pos 3 ∷ pos 2 ∷ pos 0 ∷ []) false) ∷ Happens (Inject 0) ∷ Happens (Advance 0) ∷ Happens (Advance 4) ∷ []
+    ∷ Happens (Ask 0 (pos 3 ∷ pos 2 ∷ pos 0 ∷ []) false) ∷ Happens (Inject 0) ∷ Happens (Advance 0)
+    ∷ Happens (Advance 4) ∷ []
 
 -- the world after them
 abbrev pub stuck_world : WorldState
@@ -63,4 +66,5 @@ StrangeWorldIsReached = IsReached two_hosts strange_world
 
 -- no body of the mapper's protocol is read of it: so a probe is what its bytes are, and not what is read of them
 abbrev pub StrangeIsUnread : Type 0
-StrangeIsUnread = option_map (λ held. body_of (unrouted held.wire)) (packet_in strange_world.links 0) ≡ Some (Err UnknownType)
+StrangeIsUnread = option_map (λ held. body_of (unrouted held.wire)) (packet_in strange_world.links 0)
+    ≡ Some (Err UnknownType)

@@ -13,27 +13,33 @@ use Rattle.lawful_laws.specs.Probes.{IsProbe, IsReadAsProbe, IsWalkAct}
 -- each packet in a channel that no flip has met is a probe or a reply, or lawful
 abbrev pub UnflippedIsLawful : Type 0
 UnflippedIsLawful =
-    (n : Network) (w : WorldState) (c : ℕ) (held : Held) → IsReached n w → packet_in w.links c ≡ Some held → held.marked ≡ false
+    (n : Network) (w : WorldState) (c : ℕ) (held : Held) → IsReached n w → packet_in w.links c ≡ Some held
+    → held.marked ≡ false
     → IsProbe held.wire ⊎ IsLawful w c held
 
 -- and where each walk that was asked is one, as each of the program's is, the probes and replies are read as such
 abbrev pub UnflippedIsRead : Type 0
 UnflippedIsRead =
-    (n : Network) (w : WorldState) (c : ℕ) (held : Held) (r : IsReached n w) → AllByRecursion IsWalkAct r.acts → packet_in w.links c ≡ Some held
+    (n : Network) (w : WorldState) (c : ℕ) (held : Held) (r : IsReached n w) → AllByRecursion IsWalkAct r.acts
+    → packet_in w.links c ≡ Some held
     → held.marked ≡ false → IsReadAsProbe held.wire ⊎ IsLawful w c held
 
 -- each packet in limbo that no flip has met is a probe or a reply, or lawful in the channel that it was taken from
 abbrev pub LimboIsLawful : Type 0
 LimboIsLawful =
-    (n : Network) (w : WorldState) (place serial : ℕ) (caught : Caught) → IsReached n w → slice_get w.links.limbo place ≡ Some (serial, caught)
+    (n : Network) (w : WorldState) (place serial : ℕ) (caught : Caught) → IsReached n w
+    → slice_get w.links.limbo place ≡ Some (serial, caught)
     → caught.held.marked ≡ false → IsProbe caught.held.wire ⊎ IsLawful w caught.channel caught.held
 
 -- and so it is read, where each walk that was asked is one
 abbrev pub LimboIsRead : Type 0
 LimboIsRead =
-    (n : Network) (w : WorldState) (place serial : ℕ) (caught : Caught) (r : IsReached n w) → AllByRecursion IsWalkAct r.acts
-    → slice_get w.links.limbo place ≡ Some (serial, caught) → caught.held.marked ≡ false → IsReadAsProbe caught.held.wire ⊎ IsLawful w caught.channel caught.held
+    (n : Network) (w : WorldState) (place serial : ℕ) (caught : Caught) (r : IsReached n w)
+    → AllByRecursion IsWalkAct r.acts
+    → slice_get w.links.limbo place ≡ Some (serial, caught) → caught.held.marked ≡ false
+    → IsReadAsProbe caught.held.wire ⊎ IsLawful w caught.channel caught.held
 
 -- where all traffic is lawful, it is so behind an advance of any channel
 abbrev pub AdvanceKeepsLawful : Type 0
-AdvanceKeepsLawful = (n : Network) (w : WorldState) (c : ℕ) → IsReached n w → IsLawfulTraffic w → IsLawfulTraffic (step w (Advance c)).1
+AdvanceKeepsLawful = (n : Network) (w : WorldState) (c : ℕ) → IsReached n w → IsLawfulTraffic w
+    → IsLawfulTraffic (step w (Advance c)).1

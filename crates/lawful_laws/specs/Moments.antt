@@ -1,4 +1,5 @@
--- The moments at which a settle clears, and that it resets a channel only where at one of them the traffic isn't lawful.
+-- The moments at which a settle clears, and that it resets a channel only where at one of them the traffic isn't
+-- lawful.
 use Rattle.std.specs.Prelude.{◌≡◌, ℕ, zero, suc, Bool, true, false, List, [], ◌∷◌, ◌++◌, map}
 use Rattle.std.specs.List.{AllByRecursion}
 use Rattle.net_defs.specs.Network.{Network}
@@ -6,7 +7,8 @@ use Rattle.world_defs.specs.declared.event.Event.TheVariants.{Inject, Replay, Gi
 use Rattle.world_defs.specs.World.{WorldState, addresses}
 use Rattle.world_defs.specs.Step.{step, steps, after_all}
 use Rattle.world_defs.specs.Drain.{clear}
-use Rattle.world_defs.specs.Settle.{serials, round_pass, is_last_pass, pass_bound, expiries, round, is_last_round, round_bound, settle}
+use Rattle.world_defs.specs.Settle.{serials, round_pass, is_last_pass, pass_bound, expiries, round, is_last_round}
+use Rattle.world_defs.specs.Settle.{round_bound, settle}
 use Rattle.world_defs.specs.Traffic.{IsLawfulTraffic}
 use Rattle.act_defs.specs.Acts.{IsReached}
 
@@ -31,7 +33,8 @@ unless_last false w rest = rest w
 -- those of at most so many passes, up to the last
 abbrev pub passes_clears : ℕ → WorldState → List WorldState
 passes_clears zero w = []
-passes_clears (suc k) w = pass_clears w ++ unless_last (is_last_pass (round_pass w)) (round_pass w).world (passes_clears k)
+passes_clears (suc k) w = pass_clears w ++ unless_last (is_last_pass (round_pass w)) (round_pass w).world
+    (passes_clears k)
 
 -- those of a round: its passes behind all expiries
 abbrev pub round_clears : WorldState → List WorldState
@@ -40,7 +43,8 @@ round_clears w = passes_clears (pass_bound w) (after_all w (expiries w))
 -- those of at most so many rounds, up to the last
 abbrev pub rounds_clears : ℕ → WorldState → List WorldState
 rounds_clears zero w = []
-rounds_clears (suc k) w = round_clears w ++ unless_last (is_last_round w (round w).world) (round w).world (rounds_clears k)
+rounds_clears (suc k) w = round_clears w ++ unless_last (is_last_round w (round w).world) (round w).world
+    (rounds_clears k)
 
 -- The worlds in which the clears of a settle begin, in order: its own, and those of its rounds behind the first clear.
 abbrev pub settle_clears : WorldState → List WorldState
@@ -48,4 +52,5 @@ settle_clears w = w ∷ rounds_clears (round_bound (clear w).1) (clear w).1
 
 -- where the traffic is lawful at each of these moments, a settle resets no channel
 abbrev pub OnlyUnlawfulIsReset : Type 0
-OnlyUnlawfulIsReset = (n : Network) (w : WorldState) → IsReached n w → AllByRecursion IsLawfulTraffic (settle_clears w) → (settle w).resets ≡ 0
+OnlyUnlawfulIsReset = (n : Network) (w : WorldState) → IsReached n w
+    → AllByRecursion IsLawfulTraffic (settle_clears w) → (settle w).resets ≡ 0

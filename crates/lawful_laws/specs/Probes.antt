@@ -54,7 +54,8 @@ GmIsNoProbe = (route : List ℤ) (payload : List ℕ) → ¬ IsProbe (packet_of 
 
 -- nor is the packet of a part or of a part's acknowledgement
 abbrev pub PartIsNoProbe : Type 0
-PartIsNoProbe = (route : List ℤ) (body : MappingBody) → is_probe body ≡ false → ¬ IsProbe (packet_of route Mapping (mapping_bytes body))
+PartIsNoProbe = (route : List ℤ) (body : MappingBody) → is_probe body ≡ false
+    → ¬ IsProbe (packet_of route Mapping (mapping_bytes body))
 
 -- an event that asks a walk asks one of at most 64 turns, each from -15 to 15
 abbrev pub IsWalkEvent : Event → Type 0

@@ -1,4 +1,5 @@
--- Lawful traffic is never stuck: numbers rise along the routes, so of all packets the one in the channel of the greatest number can go on.
+-- Lawful traffic is never stuck: numbers rise along the routes, so of all packets the one in the channel of the
+-- greatest number can go on.
 use Rattle.std.specs.Prelude.{◌≡◌, true, false}
 use Rattle.net_defs.specs.Network.{Network}
 use Rattle.link_defs.specs.Links.{is_idle}

@@ -1,6 +1,8 @@
-//! What hosts send on adopted routes is lawful, and lawful traffic is never stuck, after every list of acts that may happen.
+//! What hosts send on adopted routes is lawful, and lawful traffic is never stuck, after every list of acts that may
+//! happen.
 //!
-//! It moves no packet, and of probes it says only that they are told apart. Read `specs/Lawful.antt` first, and `specs/Stuck.antt`.
+//! It moves no packet, and of probes it says only that they are told apart. Read `specs/Lawful.antt` first, and
+//! `specs/Stuck.antt`.
 //!
 //! | file of `specs/` | says |
 //! |---|---|

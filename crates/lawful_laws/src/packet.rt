@@ -1,8 +1,10 @@
 //! Which packets are lawful: `specs/Lawful.antt` has the statements.
 
-ghost use Rattle.lawful_laws.specs.Lawful.{UnflippedIsLawful, UnflippedIsRead, LimboIsLawful, LimboIsRead, AdvanceKeepsLawful};
+ghost use Rattle.lawful_laws.specs.Lawful.{UnflippedIsLawful, UnflippedIsRead, LimboIsLawful, LimboIsRead};
+ghost use Rattle.lawful_laws.specs.Lawful.{AdvanceKeepsLawful};
 
-/// Each packet in a channel that no flip has met is a probe's or a reply's, or is on the last part of an adopted route; and an advance leaves lawful traffic.
+/// Each packet in a channel that no flip has met is a probe's or a reply's, or is on the last part of an adopted
+/// route; and an advance leaves lawful traffic.
 pub fn lawful_packets()
     ensures channels { UnflippedIsLawful }
     ensures read { UnflippedIsRead }

@@ -1,6 +1,7 @@
 //! Worked examples: `specs/Examples.antt` has the statements.
 
-ghost use Rattle.lawful_laws.specs.Examples.{FrameWorldIsReached, FrameIsAhead, FrameIsLawful, StuckWorldIsReached, ProbesAreStuck, StrangeWorldIsReached, StrangeIsUnread};
+ghost use Rattle.lawful_laws.specs.Examples.{FrameWorldIsReached, FrameIsAhead, FrameIsLawful, StuckWorldIsReached};
+ghost use Rattle.lawful_laws.specs.Examples.{ProbesAreStuck, StrangeWorldIsReached, StrangeIsUnread};
 
 /// A frame on its way in a reached world is lawful.
 pub fn one_frame()

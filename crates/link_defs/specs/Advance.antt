@@ -38,14 +38,17 @@ abbrev pub course_into : Network → Option End → List ℕ → Course
 course_into n None wire = Drops NoCable
 course_into n (Some e) wire = course_at n e.v e.p wire
 
--- Where a channel's packet goes, whatever the other channels hold: to the host at the channel's head, or by the turn in front of it into the
--- next channel. A switch drops a packet without a turn, with a turn to a port that it lacks, and with one to a port without cable.
+-- Where a channel's packet goes, whatever the other channels hold: to the host at the channel's head, or by the turn
+-- in front of it into the next channel. A switch drops a packet without a turn, with a turn to a port that it lacks,
+-- and with one to a port without cable.
 abbrev pub course : Network → ℕ → List ℕ → Course
 course n c wire = course_into n (channel_head n c) wire
 
--- a packet enters the next channel, if that is empty once this packet is taken out: it may be the channel that it leaves
+-- a packet enters the next channel, if that is empty once this packet is taken out: it may be the channel that it
+-- leaves
 abbrev pub entered : LinkState → ℕ → Held → ℕ → Option Held → Moved (List ℕ) × LinkState
-entered s c held next None = (To next, with_packet (emptied s c) next (Some (record held { wire = stripped held.wire })))
+entered s c held next None =
+    (To next, with_packet (emptied s c) next (Some (record held { wire = stripped held.wire })))
 entered s c held next (Some other) = (Blocked next, s)
 
 -- a packet leaves its channel, for a host, for the next channel or for nowhere

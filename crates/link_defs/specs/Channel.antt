@@ -1,4 +1,5 @@
--- Channels: a channel is a cable in one direction (Dally and Seitz). Cable k has channel 2k, from its first end to its second, and 2k + 1 back.
+-- Channels: a channel is a cable in one direction (Dally and Seitz). Cable k has channel 2k, from its first end to
+-- its second, and 2k + 1 back.
 use Rattle.std.specs.Prelude.{ℕ, ◌*◌, ◌/◌, ◌%◌, nat_eq, length, slice_get, if◌then◌else◌, Option, option_map}
 use Rattle.net_defs.specs.declared.vertex.End.{End}
 use Rattle.net_defs.specs.Network.{Network}

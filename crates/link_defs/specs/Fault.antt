@@ -1,5 +1,6 @@
 -- What a cable may do to a packet: lose, copy, delay or flip it. Limbo keeps what is copied or delayed, until a replay.
-use Rattle.std.specs.Prelude.{ℕ, ◌+◌, ◌-◌, ◌^◌, Bool, true, false, not, ◌&&◌, nat_eq, nat_le, [], ◌∷◌, ◌++◌, find, if◌then◌else◌, Option, Some, None, option_map, is_some}
+use Rattle.std.specs.Prelude.{ℕ, ◌+◌, ◌-◌, ◌^◌, Bool, true, false, not, ◌&&◌, nat_eq, nat_le, [], ◌∷◌, ◌++◌, find}
+use Rattle.std.specs.Prelude.{if◌then◌else◌, Option, Some, None, option_map, is_some}
 use Rattle.std.specs.Map.{lookup, remove_entry}
 use Rattle.packet_defs.specs.Burst.{flipped, may_flip}
 use Rattle.link_defs.specs.declared.replayed.Replayed.{Replayed}
@@ -20,14 +21,18 @@ is_used_up s = nat_eq s.next_serial (2 ^ 64 - 1)
 
 -- the links with a channel's packet in limbo, under the next serial
 abbrev pub with_caught : LinkState → ℕ → Held → LinkState
-with_caught s c held = record s { limbo = s.limbo ++ (s.next_serial, record { channel = c; held = held }) ∷ []; next_serial = s.next_serial + 1 }
+with_caught s c held = record s {
+  limbo = s.limbo ++ (s.next_serial, record { channel = c; held = held }) ∷ [];
+  next_serial = s.next_serial + 1;
+}
 
 -- a repeat of a channel with this packet
 abbrev pub repeat_of : LinkState → ℕ → Option Held → Option ℕ × LinkState
 repeat_of s c None = (None, s)
 repeat_of s c (Some held) = if is_used_up s then (None, s) else (Some s.next_serial, with_caught s c held)
 
--- a copy of a channel's packet comes into limbo, with the packet's mark: its serial, if there is a packet and a serial for it
+-- a copy of a channel's packet comes into limbo, with the packet's mark: its serial, if there is a packet and a
+-- serial for it
 abbrev pub repeat : LinkState → ℕ → Option ℕ × LinkState
 repeat s c = repeat_of s c (packet_in s c)
 
@@ -58,13 +63,15 @@ caught_as s serial = lookup (nat_eq serial) s.limbo
 
 -- a packet goes back from limbo into its channel
 abbrev pub released : LinkState → ℕ → Caught → LinkState
-released s serial caught = record (with_packet s caught.channel (Some caught.held)) { limbo = remove_entry (nat_eq serial) s.limbo }
+released s serial caught =
+    record (with_packet s caught.channel (Some caught.held)) { limbo = remove_entry (nat_eq serial) s.limbo }
 
 -- a replay of this packet of limbo: into its channel, where that is empty
 abbrev pub replay_of : LinkState → ℕ → Option Caught → Replayed × LinkState
 replay_of s serial None = (Unknown, s)
 replay_of s serial (Some caught) =
-    if is_some (packet_in s caught.channel) then (Busy caught.channel, s) else (Back caught.channel, released s serial caught)
+    if is_some (packet_in s caught.channel) then (Busy caught.channel, s)
+    else (Back caught.channel, released s serial caught)
 
 -- a packet in limbo goes back into the channel that it was in, if that is empty
 abbrev pub replay : LinkState → ℕ → Replayed × LinkState

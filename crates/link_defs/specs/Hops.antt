@@ -1,5 +1,6 @@
 -- How far the packets in the links may still go, and links in which none can.
-use Rattle.std.specs.Prelude.{ℕ, zero, suc, ◌+◌, Bool, true, false, not, ◌&&◌, List, [], ◌∷◌, length, Option, Some, None}
+use Rattle.std.specs.Prelude.{ℕ, zero, suc, ◌+◌, Bool, true, false, not, ◌&&◌, List, [], ◌∷◌, length, Option, Some}
+use Rattle.std.specs.Prelude.{None}
 use Rattle.std.specs.List.{prefix_len}
 use Rattle.packet_defs.specs.RouteByte.{is_route_byte}
 use Rattle.packet_defs.specs.Packet.{head}

@@ -37,7 +37,8 @@ NoHopsIsIdle = (s : LinkState) → total_hops s ≡ 0 → is_idle s ≡ true
 
 -- stuck links hold a packet, and no advance changes them
 abbrev pub StuckIsStill : Type 0
-StuckIsStill = (s : LinkState) → is_stuck s ≡ true → ((c : ℕ) × IsSome (packet_in s c)) × ((c : ℕ) → (advance s c).1 ≡ s)
+StuckIsStill = (s : LinkState) → is_stuck s ≡ true
+    → ((c : ℕ) × IsSome (packet_in s c)) × ((c : ℕ) → (advance s c).1 ≡ s)
 
 -- and links that hold a packet and that no advance changes are stuck
 abbrev pub StillIsStuck : Type 0

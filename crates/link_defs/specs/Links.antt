@@ -1,5 +1,7 @@
--- The links of a fabric: each channel holds one packet or none, and limbo holds packets that were taken or copied from a channel.
-use Rattle.std.specs.Prelude.{ℕ, Bool, true, false, List, [], replicate, slice_index_or, slice_set, Option, Some, None, is_some, is_none, if◌then◌else◌}
+-- The links of a fabric: each channel holds one packet or none, and limbo holds packets that were taken or copied
+-- from a channel.
+use Rattle.std.specs.Prelude.{ℕ, Bool, true, false, List, [], replicate, slice_index_or, slice_set, Option, Some, None}
+use Rattle.std.specs.Prelude.{is_some, is_none, if◌then◌else◌}
 use Rattle.std.specs.List.{list_all}
 use Rattle.net_defs.specs.Network.{Network}
 use Rattle.link_defs.specs.Channel.{channel_count}
@@ -43,4 +45,5 @@ is_idle s = list_all is_none s.channels
 
 -- a new packet into a channel: true exactly where the channel was empty
 abbrev pub put : LinkState → ℕ → List ℕ → Bool × LinkState
-put s c wire = if is_some (packet_in s c) then (false, s) else (true, with_packet s c (Some (record { wire = wire; marked = false })))
+put s c wire = if is_some (packet_in s c) then (false, s)
+    else (true, with_packet s c (Some (record { wire = wire; marked = false })))

@@ -48,7 +48,8 @@ lone_place (suc k) n c wire = ended_place n c wire (λ next. lone_place k n next
 
 -- an advance of the packet's channel is its course
 abbrev pub LoneAdvance : Type 0
-LoneAdvance = (n : Network) (c : ℕ) (wire : List ℕ) → c < channel_count n → advance (lone n c wire) c ≡ lone_after n wire (course n c wire)
+LoneAdvance = (n : Network) (c : ℕ) (wire : List ℕ) → c < channel_count n
+    → advance (lone n c wire) c ≡ lone_after n wire (course n c wire)
 
 -- the packet of a route ends at the place of the walk
 abbrev pub LonePacketWalks : Type 0
@@ -59,4 +60,5 @@ LonePacketWalks =
 
 -- and without a channel the walk is stuck
 abbrev pub NoChannelIsStuck : Type 0
-NoChannelIsStuck = (n : Network) (host : ℕ) (route : List ℤ) → channel_from n (host_port host) ≡ None → place n host route ≡ Stuck
+NoChannelIsStuck = (n : Network) (host : ℕ) (route : List ℤ) → channel_from n (host_port host) ≡ None
+    → place n host route ≡ Stuck

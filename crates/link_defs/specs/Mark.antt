@@ -32,4 +32,5 @@ EmptyHasTrueMarks = (n : Network) → HasTrueMarks (empty_links n)
 
 -- marks stay true
 abbrev pub MarksStayTrue : Type 0
-MarksStayTrue = (s : LinkState) (xs : List Step) → AllByRecursion IsFair xs → HasTrueMarks s → HasTrueMarks (stepped_all s xs)
+MarksStayTrue = (s : LinkState) (xs : List Step) → AllByRecursion IsFair xs → HasTrueMarks s
+    → HasTrueMarks (stepped_all s xs)

@@ -26,8 +26,10 @@ NewSerialIsLast =
 
 -- what the order finds is what equality finds
 abbrev pub FoundByOrder : Type 0
-FoundByOrder = (limbo : List (ℕ × Caught)) (serial : ℕ) → lookup (is_at (nat_cmp serial)) limbo ≡ lookup (nat_eq serial) limbo
+FoundByOrder = (limbo : List (ℕ × Caught)) (serial : ℕ)
+    → lookup (is_at (nat_cmp serial)) limbo ≡ lookup (nat_eq serial) limbo
 
 -- and so with what it takes out
 abbrev pub TakenByOrder : Type 0
-TakenByOrder = (limbo : List (ℕ × Caught)) (serial : ℕ) → remove_entry (is_at (nat_cmp serial)) limbo ≡ remove_entry (nat_eq serial) limbo
+TakenByOrder = (limbo : List (ℕ × Caught)) (serial : ℕ)
+    → remove_entry (is_at (nat_cmp serial)) limbo ≡ remove_entry (nat_eq serial) limbo

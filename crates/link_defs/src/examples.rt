@@ -43,7 +43,8 @@ pub fn packet_to_the_other_host()
     ensures two_hops { total_hops (alone two_hosts 0 (pos 3 ∷ [])) ≡ 2 }
     ensures onto_its_way { (advance (alone two_hosts 0 (pos 3 ∷ [])) 0).0 ≡ Moved.To 3 }
     ensures one_hop { total_hops (advanced (alone two_hosts 0 (pos 3 ∷ [])) (0 ∷ [])) ≡ 1 }
-    ensures arrived { (advance (advanced (alone two_hosts 0 (pos 3 ∷ [])) (0 ∷ [])) 3).0 ≡ Moved.AtHost 1 (0 ∷ 5 ∷ 27 ∷ []) }
+    ensures arrived { (advance (advanced (alone two_hosts 0 (pos 3 ∷ [])) (0 ∷ [])) 3).0
+        ≡ Moved.AtHost 1 (0 ∷ 5 ∷ 27 ∷ []) }
     ensures idle_after { advanced (alone two_hosts 0 (pos 3 ∷ [])) (0 ∷ 3 ∷ []) ≡ empty_links two_hosts }
     ensures nothing_there { (advance (empty_links two_hosts) 2).0 ≡ Moved.Empty }
 {}
@@ -57,10 +58,13 @@ pub fn dropped_packets()
     ensures course { course two_hosts 0 (probe (pos 4 ∷ [])) ≡ Course.Drops Why.NoCable }
 {}
 
-/// A packet enters again the channel that it leaves; on a full channel it waits, and two that wait for each other are stuck.
+/// A packet enters again the channel that it leaves; on a full channel it waits, and two that wait for each other are
+/// stuck.
 pub fn blocked_packets()
-    ensures same_channel { (advance (advanced (alone self_cabled 0 (pos 3 ∷ pos 1 ∷ negsuc 0 ∷ [])) (0 ∷ 4 ∷ [])) 6).0 ≡ Moved.To 6 }
-    ensures at_its_end { (advance (advanced (alone self_cabled 0 (pos 3 ∷ pos 1 ∷ negsuc 0 ∷ [])) (0 ∷ 4 ∷ 6 ∷ [])) 6).0 ≡ Moved.Dropped Why.NotRoute }
+    ensures same_channel { (advance (advanced (alone self_cabled 0 (pos 3 ∷ pos 1 ∷ negsuc 0 ∷ [])) (0 ∷ 4 ∷ [])) 6).0
+        ≡ Moved.To 6 }
+    ensures at_its_end { (advance (advanced (alone self_cabled 0 (pos 3 ∷ pos 1 ∷ negsuc 0 ∷ []))
+        (0 ∷ 4 ∷ 6 ∷ [])) 6).0 ≡ Moved.Dropped Why.NotRoute }
     ensures full { advance in_the_way 0 ≡ (Moved.Blocked 3, in_the_way) }
     ensures not_stuck { is_stuck in_the_way ≡ false }
     ensures first_waits { (advance face_to_face 6).0 ≡ Moved.Blocked 7 }
@@ -100,7 +104,8 @@ pub fn faults()
 /// A flip marks a packet, and a marked packet is flipped no more.
 pub fn flips()
     ensures flipped { (flip (alone two_hosts 0 (pos 3 ∷ [])) 0 6 193).0 ≡ true }
-    ensures wire { packet_in (flip (alone two_hosts 0 (pos 3 ∷ [])) 0 6 193).1 0 ≡ Some (record { wire = 128 ∷ 4 ∷ 5 ∷ 173 ∷ []; marked = true }) }
+    ensures wire { packet_in (flip (alone two_hosts 0 (pos 3 ∷ [])) 0 6 193).1 0
+        ≡ Some (record { wire = 128 ∷ 4 ∷ 5 ∷ 173 ∷ []; marked = true }) }
     ensures once { (flip (flip (alone two_hosts 0 (pos 3 ∷ [])) 0 6 193).1 0 6 193).0 ≡ false }
     ensures no_pattern { (flip (alone two_hosts 0 (pos 3 ∷ [])) 0 6 0).0 ≡ false }
     ensures past_the_end { (flip (alone two_hosts 0 (pos 3 ∷ [])) 0 25 1).0 ≡ false }

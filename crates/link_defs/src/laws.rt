@@ -1,11 +1,16 @@
-//! What holds of every step of the links: each function's contract is the law, and its body is empty. `specs/Laws.antt` has the statements.
+//! What holds of every step of the links: each function's contract is the law, and its body is empty.
+//! `specs/Laws.antt` has the statements.
 
-ghost use Rattle.link_defs.specs.Laws.{ChannelLeavesItsEnd, TailHasItsChannel, AdvanceLowersHops, StillAdvance, NoHopsIsIdle, StuckIsStill, StillIsStuck, RefusedPut, IdleLose, IdleReset, IdleRepeat, IdleHold, IdleFlip, IdleReplay, EmptyIsLinks, EmptyIsIdle, StepKeepsFabric, StepKeepsLinks, StepsKeepFabric, StepsKeepLinks};
+ghost use Rattle.link_defs.specs.Laws.{ChannelLeavesItsEnd, TailHasItsChannel, AdvanceLowersHops, StillAdvance};
+ghost use Rattle.link_defs.specs.Laws.{NoHopsIsIdle, StuckIsStill, StillIsStuck, RefusedPut, IdleLose, IdleReset};
+ghost use Rattle.link_defs.specs.Laws.{IdleRepeat, IdleHold, IdleFlip, IdleReplay, EmptyIsLinks, EmptyIsIdle};
+ghost use Rattle.link_defs.specs.Laws.{StepKeepsFabric, StepKeepsLinks, StepsKeepFabric, StepsKeepLinks};
 ghost use Rattle.link_defs.specs.Lone.{LoneAdvance, LonePacketWalks, NoChannelIsStuck};
 ghost use Rattle.link_defs.specs.Ordered.{NextIsLeast, NoNextIsLeft, NewSerialIsLast, FoundByOrder, TakenByOrder};
 ghost use Rattle.link_defs.specs.Mark.{EmptyHasTrueMarks, MarksStayTrue};
 
-/// A channel leaves by its tail and enters by the far end, and in a fabric each channel is the one that leaves by its tail.
+/// A channel leaves by its tail and enters by the far end, and in a fabric each channel is the one that leaves by its
+/// tail.
 pub fn ends_of_channels()
     ensures ends { ChannelLeavesItsEnd }
     ensures back { TailHasItsChannel }
@@ -58,7 +63,8 @@ pub fn true_marks()
     ensures stay { MarksStayTrue }
 {}
 
-/// An ordered map from serials keeps limbo as it stands: a new serial is the last, and a serial is found and taken out by the order.
+/// An ordered map from serials keeps limbo as it stands: a new serial is the last, and a serial is found and taken
+/// out by the order.
 pub fn limbo_in_order()
     ensures next { NextIsLeast }
     ensures no_next { NoNextIsLeft }

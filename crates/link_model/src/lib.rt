@@ -1,7 +1,8 @@
-//! The links of a fabric in memory: channels that hold one packet each, limbo, and the calls that move, lose, copy, delay and flip packets.
+//! The links of a fabric in memory: channels that hold one packet each, limbo, and the calls that move, lose, copy,
+//! delay and flip packets.
 //!
-//! It reads no packet's payload and knows no script. Each call is a step of the link machine: `specs/Links.antt`, `specs/Advance.antt` and
-//! `specs/Fault.antt` of `link_defs` say what it answers and what stays.
+//! It reads no packet's payload and knows no script. Each call is a step of the link machine: `specs/Links.antt`,
+//! `specs/Advance.antt` and `specs/Fault.antt` of `link_defs` say what it answers and what stays.
 //!
 //! | module | has |
 //! |---|---|

@@ -1,6 +1,7 @@
 //! The links of a fabric: reading them, and putting packets into them.
 
-ghost use Rattle.std.specs.Prelude.{◌≡◌, ◌<◌, ◌≤◌, ℕ, length, Some, None, option_map, option_copied, is_ok, IfOk, IfErr, IfSome, IfNone};
+ghost use Rattle.std.specs.Prelude.{◌≡◌, ◌<◌, ◌≤◌, ℕ, length, Some, None, option_map, option_copied, is_ok, IfOk};
+ghost use Rattle.std.specs.Prelude.{IfErr, IfSome, IfNone};
 ghost use Rattle.net_defs.specs.Network.{IsFabric};
 ghost use Rattle.net_defs.specs.Route.{channel_from};
 ghost use Rattle.link_defs.specs.Channel.{channel_count, channel_tail, channel_head};
@@ -107,7 +108,8 @@ impl Links {
         self.slots.are_empty()
     }
 
-    /// The least channel that isn't below a number and holds a packet. It looks at one bit for each channel, 64 at a time.
+    /// The least channel that isn't below a number and holds a packet. It looks at one bit for each channel, 64 at a
+    /// time.
     pub fn next_full(&self, from: u16) -> Option<u16>
         ensures next { result ≡ next_full self.now from }
         ensures found { IfSome result (IsNextFull self.now from) }

@@ -16,7 +16,8 @@ use net_defs::{End, Place, Vertex};
 use packet_defs::Kind;
 use std::alloc::{AllocError, Global};
 
-/// Where a walk from a host ends: a packet without payload takes its turns, alone in these links. They are idle before and after.
+/// Where a walk from a host ends: a packet without payload takes its turns, alone in these links. They are idle
+/// before and after.
 pub fn walk_alone(
     alloc: Global,
     links: &mut Links,
@@ -42,7 +43,8 @@ pub fn walk_alone(
     Ok(run_out(links, channel, turns.len() + 1))
 }
 
-// Where the packet of a channel ends, alone in the links, within so many steps. A packet takes no more than one for each turn, and one.
+// Where the packet of a channel ends, alone in the links, within so many steps. A packet takes no more than one for
+// each turn, and one.
 fn run_out(links: &mut Links, at: u16, steps: usize) -> Place
     requires few { steps ≤ 65 }
     requires there { at < length links.old.channels }

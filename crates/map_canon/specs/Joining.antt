@@ -1,12 +1,13 @@
 -- The cables that the walks of a journal tell of.
-use Rattle.std.specs.Prelude.{◌≡◌, ℕ, ◌+◌, ◌<◌, ℤ, pos, ◌+ℤ◌, false, List, [], ◌∷◌, ◌++◌, length, slice_get, slice_index_or, unwrap_or, is_some, if◌then◌else◌, Option, Some, None}
+use Rattle.std.specs.Prelude.{◌≡◌, ℕ, ◌+◌, ◌<◌, ℤ, pos, ◌+ℤ◌, false, List, [], ◌∷◌, ◌++◌, length, slice_get}
+use Rattle.std.specs.Prelude.{slice_index_or, unwrap_or, is_some, if◌then◌else◌, Option, Some, None}
 use Rattle.net_defs.specs.Turn.{IsTurn}
 use Rattle.map_defs.specs.declared.vertex.MapCable.{MapCable}
 use Rattle.map_defs.specs.NetMap.{NetMap, MapPort, first_end, map_far}
 use Rattle.fabric_map.specs.Growing.{with_cable}
 use Rattle.probe.specs.Keeping.{has_walk}
-use Rattle.replicate_merge.specs.Table.{ClassTable}
-use Rattle.replicate_merge.specs.Ways.{frame_at}
+use Rattle.class_joins.specs.Table.{ClassTable}
+use Rattle.class_joins.specs.Ways.{frame_at}
 use Rattle.map_canon.specs.Numbering.{class_at, IsVertexOf}
 
 -- the vertex of a class
@@ -19,13 +20,22 @@ port_of c vertices n p = record { v = vertex_at vertices (class_at c n); p = p +
 
 -- the cable between a port of a node, and the port by which another was entered
 abbrev pub cable_between : ClassTable → List (Option ℕ) → ℕ → ℤ → ℕ → MapCable
-cable_between c vertices m p n = record { v = (port_of c vertices m p).v; p = (port_of c vertices m p).p; w = (port_of c vertices n (pos 0)).v; q = (port_of c vertices n (pos 0)).p }
+cable_between c vertices m p n = record {
+  v = (port_of c vertices m p).v;
+  p = (port_of c vertices m p).p;
+  w = (port_of c vertices n (pos 0)).v;
+  q = (port_of c vertices n (pos 0)).p;
+}
 
--- What the walk to a node tells: a cable from the mapper's host, or from the node in front; nothing where that was not found.
-pub data TellsCable (walks : List (List ℤ)) (c : ClassTable) (vertices : List (Option ℕ)) (walk : List ℤ) (n : ℕ) (o : Option MapCable) : Type 0 where
+-- What the walk to a node tells: a cable from the mapper's host, or from the node in front; nothing where that was
+-- not found.
+pub data TellsCable (walks : List (List ℤ)) (c : ClassTable) (vertices : List (Option ℕ)) (walk : List ℤ) (n : ℕ)
+    (o : Option MapCable) : Type 0 where
   from_mapper : walk ≡ [] → o ≡ Some (cable_between c vertices 0 (pos 0) n) → TellsCable walks c vertices walk n o
-  from_node : (front : List ℤ) (turn : ℤ) (at : ℕ) → walk ≡ front ++ turn ∷ [] → slice_get walks at ≡ Some front → o ≡ Some (cable_between c vertices (at + 1) turn n) → TellsCable walks c vertices walk n o
-  from_none : (front : List ℤ) (turn : ℤ) → walk ≡ front ++ turn ∷ [] → has_walk walks front ≡ false → o ≡ None → TellsCable walks c vertices walk n o
+  from_node : (front : List ℤ) (turn : ℤ) (at : ℕ) → walk ≡ front ++ turn ∷ [] → slice_get walks at ≡ Some front
+      → o ≡ Some (cable_between c vertices (at + 1) turn n) → TellsCable walks c vertices walk n o
+  from_none : (front : List ℤ) (turn : ℤ) → walk ≡ front ++ turn ∷ [] → has_walk walks front ≡ false → o ≡ None
+      → TellsCable walks c vertices walk n o
 
 -- a map with one cable more, where there is none at its first end
 abbrev pub joined : NetMap → MapCable → NetMap
@@ -37,9 +47,12 @@ joined_by m None = m
 joined_by m (Some c) = joined m c
 
 -- A map with the cables more that the first walks tell of.
-pub data JoinsBelow (walks : List (List ℤ)) (c : ClassTable) (vertices : List (Option ℕ)) (first : NetMap) : ℕ → NetMap → Type 0 where
+pub data JoinsBelow (walks : List (List ℤ)) (c : ClassTable) (vertices : List (Option ℕ)) (first : NetMap) : ℕ
+    → NetMap → Type 0 where
   start : (m : NetMap) → m ≡ first → JoinsBelow walks c vertices first 0 m
-  next : (k at : ℕ) (old new : NetMap) (walk : List ℤ) (o : Option MapCable) → k ≡ at + 1 → JoinsBelow walks c vertices first at old → slice_get walks at ≡ Some walk → TellsCable walks c vertices walk (at + 1) o → new ≡ joined_by old o → JoinsBelow walks c vertices first k new
+  next : (k at : ℕ) (old new : NetMap) (walk : List ℤ) (o : Option MapCable) → k ≡ at + 1
+      → JoinsBelow walks c vertices first at old → slice_get walks at ≡ Some walk
+      → TellsCable walks c vertices walk (at + 1) o → new ≡ joined_by old o → JoinsBelow walks c vertices first k new
 
 -- each node's class has a vertex
 abbrev pub HaveVertices : ClassTable → List (Option ℕ) → Type 0
@@ -47,4 +60,5 @@ HaveVertices c vertices = (n : ℕ) → n < length c.nodes → (v : ℕ) × IsVe
 
 -- the last turn of a walk is a turn, where its front was found too
 abbrev pub EndInTurns : List (List ℤ) → Type 0
-EndInTurns walks = (at m : ℕ) (front : List ℤ) (turn : ℤ) → slice_get walks at ≡ Some (front ++ turn ∷ []) → slice_get walks m ≡ Some front → IsTurn turn
+EndInTurns walks = (at m : ℕ) (front : List ℤ) (turn : ℤ) → slice_get walks at ≡ Some (front ++ turn ∷ [])
+    → slice_get walks m ≡ Some front → IsTurn turn

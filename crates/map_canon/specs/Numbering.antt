@@ -1,8 +1,8 @@
 -- The nodes of a journal in their order, and the vertices of their classes.
 use Rattle.std.specs.Prelude.{◌≡◌, ℕ, ◌<◌, true, false, List, length, slice_get, Option, Some}
 use Rattle.journal_defs.specs.Tree.{node_below, Node}
-use Rattle.replicate_merge.specs.Table.{ClassTable}
-use Rattle.replicate_merge.specs.Ways.{node_at, frame_at}
+use Rattle.class_joins.specs.Table.{ClassTable}
+use Rattle.class_joins.specs.Ways.{node_at, frame_at}
 
 -- the numbers below a count, each at its place
 pub record AreNumbersBelow (count : ℕ) (numbers : List ℕ) : Type 0 where
@@ -16,7 +16,8 @@ pub record IsPlaced (numbers : List ℕ) (n : ℕ) : Type 0 where
 
 -- The numbers of all nodes, no node before a lesser one.
 pub record IsNodeOrder (ns : List Node) (order : List ℕ) : Type 0 where
-  pub rises : (i k m n : ℕ) → i < k → slice_get order i ≡ Some m → slice_get order k ≡ Some n → node_below (node_at ns n) (node_at ns m) ≡ false
+  pub rises : (i k m n : ℕ) → i < k → slice_get order i ≡ Some m → slice_get order k ≡ Some n
+      → node_below (node_at ns n) (node_at ns m) ≡ false
   pub whole : (n : ℕ) → n < length ns → IsPlaced order n
   pub inside : (i n : ℕ) → slice_get order i ≡ Some n → n < length ns
   pub few : length order ≡ length ns
@@ -43,6 +44,8 @@ pub record HasNumber (c : ClassTable) (least : List ℕ) (vertices : List (Optio
 pub record AreVertices (c : ClassTable) (least : List ℕ) (vertices : List (Option ℕ)) : Type 0 where
   pub inside : (v n : ℕ) → slice_get least v ≡ Some n → n < length c.nodes
   pub own : (v n : ℕ) → slice_get least v ≡ Some n → IsVertexOf vertices (class_at c n) v
-  pub first : (v n m : ℕ) → slice_get least v ≡ Some n → m < length c.nodes → class_at c m ≡ class_at c n → node_below (node_at c.nodes m) (node_at c.nodes n) ≡ false
-  pub in_order : (v w m n : ℕ) → v < w → slice_get least v ≡ Some m → slice_get least w ≡ Some n → node_below (node_at c.nodes m) (node_at c.nodes n) ≡ true
+  pub first : (v n m : ℕ) → slice_get least v ≡ Some n → m < length c.nodes → class_at c m ≡ class_at c n
+      → node_below (node_at c.nodes m) (node_at c.nodes n) ≡ false
+  pub in_order : (v w m n : ℕ) → v < w → slice_get least v ≡ Some m → slice_get least w ≡ Some n
+      → node_below (node_at c.nodes m) (node_at c.nodes n) ≡ true
   pub whole : (n : ℕ) → n < length c.nodes → HasNumber c least vertices n

@@ -4,13 +4,14 @@ ghost use Rattle.std.specs.Prelude.{◌≡◌, ◌↔◌, true, IsTrue};
 ghost use Rattle.journal_defs.specs.Tree.{IsSwitchNode};
 ghost use Rattle.journal_defs.specs.Tree.Node.{Reached};
 ghost use Rattle.journal_defs.specs.Growth.{HasExpanded, IsClosed};
-ghost use Rattle.replicate_merge.specs.Table.{StandsFor};
+ghost use Rattle.class_joins.specs.Table.{StandsFor};
 
 use net_defs::{Answer, Walk};
 use probe::Journal;
 use replicate_merge::Classes;
 
-/// Whether each class of switches has an expanded member: a node whose 30 turns are all asked. The classes stand for the journal.
+/// Whether each class of switches has an expanded member: a node whose 30 turns are all asked. The classes stand for
+/// the journal.
 pub fn closed(j: &Journal, c: &Classes) -> bool
     requires { StandsFor j.now.host j.now.entries c.now }
     ensures { IsTrue result ↔ IsClosed j.now.host j.now.entries }

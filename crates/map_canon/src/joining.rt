@@ -1,10 +1,12 @@
-//! The cables of a map, from the walks of a journal: each walk tells of one, to the node that it reached from the node in front.
+//! The cables of a map, from the walks of a journal: each walk tells of one, to the node that it reached from the
+//! node in front.
 
 ghost use Rattle.std.specs.Prelude.{◌≡◌, ℕ, ◌+◌, ◌<◌, ◌^◌, ℤ, List, length, slice_get, Some, OnOk};
 ghost use Rattle.map_canon.specs.Numbering.{IsVertexOf};
 ghost use Rattle.net_defs.specs.Turn.{IsTurn};
-ghost use Rattle.replicate_merge.specs.Nodes.{nodes_of};
-ghost use Rattle.map_canon.specs.Joining.{TellsCable, JoinsBelow, HaveVertices, EndInTurns, port_of, cable_between, vertex_at, joined, joined_by};
+ghost use Rattle.class_joins.specs.Nodes.{nodes_of};
+ghost use Rattle.map_canon.specs.Joining.{TellsCable, JoinsBelow, HaveVertices, EndInTurns, port_of, cable_between};
+ghost use Rattle.map_canon.specs.Joining.{vertex_at, joined, joined_by};
 
 use fabric_map::{FabricMap, MapCable};
 use probe::WalkIndex;
@@ -43,7 +45,8 @@ fn told_cable(
     requires numbered { HaveVertices c.now vertices.now }
     requires turns { EndInTurns walks.now }
     requires there { at < length walks.now }
-    ensures { (walk : List ℤ) → slice_get walks.now at ≡ Some walk → TellsCable walks.now c.now vertices.now walk (at + 1) result }
+    ensures { (walk : List ℤ) → slice_get walks.now at ≡ Some walk
+        → TellsCable walks.now c.now vertices.now walk (at + 1) result }
 {
     let node = (at + 1) as u32;
     let Some((turn, front)) = walks.walk(at).split_last() else {

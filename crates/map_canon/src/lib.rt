@@ -1,7 +1,7 @@
 //! The map of a journal, and whether a journal is closed.
 //!
-//! It asks nothing, and joins no nodes to classes: that is `replicate_merge`. `specs/Quotient.antt` of `map_defs` says what the map of a
-//! journal is; the files of `specs/` here say what the parts of the code give each other.
+//! It asks nothing, and joins no nodes to classes: that is `replicate_merge`. `specs/Quotient.antt` of `map_defs`
+//! says what the map of a journal is; the files of `specs/` here say what the parts of the code give each other.
 //!
 //! ```text
 //!   journal of host a                    its map

@@ -2,7 +2,7 @@
 
 ghost use Rattle.std.specs.Prelude.{◌<◌, length, IfOk};
 ghost use Rattle.map_defs.specs.Quotient.{IsQuotient};
-ghost use Rattle.replicate_merge.specs.Table.{StandsFor, IsTrueOfOne};
+ghost use Rattle.class_joins.specs.Table.{StandsFor, IsTrueOfOne};
 
 use crate::cables::add_in_order;
 use crate::found::found_walks;
@@ -15,9 +15,9 @@ use probe::Journal;
 use replicate_merge::Classes;
 use std::alloc::{AllocError, Global};
 
-/// The map of a journal, whose classes these are: a vertex for each class in the order of their least walks, the mapper's host first, and
-/// the cables that the walks tell of, once each in order. All vertices are of the core. The answers other than Nothing are true of one
-/// fabric.
+/// The map of a journal, whose classes these are: a vertex for each class in the order of their least walks, the
+/// mapper's host first, and the cables that the walks tell of, once each in order. All vertices are of the core. The
+/// answers other than Nothing are true of one fabric.
 pub fn quotient(alloc: Global, j: &Journal, c: &Classes) -> Result<FabricMap, AllocError>
     requires stands { StandsFor j.now.host j.now.entries c.now }
     requires true_of_one { IsTrueOfOne j.now.host j.now.entries }

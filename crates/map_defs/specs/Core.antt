@@ -1,5 +1,7 @@
--- The core of a map: what no cable between two switches cuts off from all hosts (after Mainwaring et al., SPAA 1997, in a narrower sense).
-use Rattle.std.specs.Prelude.{ℕ, zero, suc, Bool, true, ◌&&◌, not, List, [], ◌∷◌, ◌++◌, map, length, nat_eq, is_some, slice_get, if◌then◌else◌, Option, Some, None}
+-- The core of a map: what no cable between two switches cuts off from all hosts (after Mainwaring et al., SPAA 1997,
+-- in a narrower sense).
+use Rattle.std.specs.Prelude.{ℕ, zero, suc, Bool, true, ◌&&◌, not, List, [], ◌∷◌, ◌++◌, map, length, nat_eq, is_some}
+use Rattle.std.specs.Prelude.{slice_get, if◌then◌else◌, Option, Some, None}
 use Rattle.std.specs.List.{list_any, filter}
 use Rattle.journal_defs.specs.Counting.{numbers_below}
 use Rattle.journal_defs.specs.Edges.{is_among, within}
@@ -27,7 +29,8 @@ hostless_side m k v = if is_hostless m (side m k v) then side m k v else []
 -- the hostless sides of a cable, which is one of the map
 abbrev pub cut_off : NetMap → ℕ → Option MapCable → List ℕ
 cut_off m k None = []
-cut_off m k (Some c) = if is_switch_vertex m c.v && is_switch_vertex m c.w then hostless_side m k c.v ++ hostless_side m k c.w else []
+cut_off m k (Some c) = if is_switch_vertex m c.v && is_switch_vertex m c.w then hostless_side m k c.v
+    ++ hostless_side m k c.w else []
 
 -- the vertices that the cable of this number joins to the hosts: none unless it is a switch bridge
 abbrev pub cut_off_by : NetMap → ℕ → List ℕ

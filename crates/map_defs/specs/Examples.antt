@@ -21,7 +21,8 @@ unmarked_map vertices cables = record { vertices = vertices; cables = cables; co
 
 -- Two hosts at one switch.
 abbrev pub two_hosts_map : NetMap
-two_hosts_map = unmarked_map (Host 0 ∷ Switch 0 ∷ Host 1 ∷ []) (cable 0 (pos 0) 1 (pos 0) ∷ cable 1 (pos 3) 2 (pos 0) ∷ [])
+two_hosts_map = unmarked_map (Host 0 ∷ Switch 0 ∷ Host 1 ∷ [])
+    (cable 0 (pos 0) 1 (pos 0) ∷ cable 1 (pos 3) 2 (pos 0) ∷ [])
 
 -- The map of two hosts at one switch, its ports counted as the fabric does: two more each.
 abbrev pub moved_map : NetMap

@@ -18,21 +18,25 @@ FarIsCabled = (m : NetMap) (d e : MapPort) → IsMap m → (map_far m d ≡ Some
 
 -- routes with a rank certificate have no cycle of dependencies
 abbrev pub CertificateLeavesNoCycle : Type 0
-CertificateLeavesNoCycle = (m : NetMap) (routes : List Route) (ranks : List RankEntry) → IsCertificate m routes ranks → HasNoCycle (IsBefore (channels_of_routes m routes))
+CertificateLeavesNoCycle = (m : NetMap) (routes : List Route) (ranks : List RankEntry) → IsCertificate m routes ranks
+    → HasNoCycle (IsBefore (channels_of_routes m routes))
 
 -- the same of channels by number: numbers that rise along every route leave no cycle
 abbrev pub RisingLeavesNoCycle : Type 0
-RisingLeavesNoCycle = (routes : List (List ℕ)) (rank : ℕ → ℕ) → ((c d : ℕ) → IsBefore routes c d → rank c < rank d) → HasNoCycle (IsBefore routes)
+RisingLeavesNoCycle = (routes : List (List ℕ)) (rank : ℕ → ℕ) → ((c d : ℕ) → IsBefore routes c d → rank c < rank d)
+    → HasNoCycle (IsBefore routes)
 
 -- Sameness of maps is an equivalence.
 pub record SamenessIsEquivalence : Type 0 where
   pub itself : (m : NetMap) → IsSame (graph_of_map m) (graph_of_map m)
   pub symmetric : (m k : NetMap) → IsSame (graph_of_map m) (graph_of_map k) → IsSame (graph_of_map k) (graph_of_map m)
-  pub transitive : (m k o : NetMap) → IsSame (graph_of_map m) (graph_of_map k) → IsSame (graph_of_map k) (graph_of_map o) → IsSame (graph_of_map m) (graph_of_map o)
+  pub transitive : (m k o : NetMap) → IsSame (graph_of_map m) (graph_of_map k)
+      → IsSame (graph_of_map k) (graph_of_map o) → IsSame (graph_of_map m) (graph_of_map o)
 
 -- what is the same as a right map is right too
 abbrev pub SameMapIsRight : Type 0
-SameMapIsRight = (n : Network) (host : ℕ) (m k : NetMap) → IsSame (graph_of_map k) (graph_of_map m) → IsMapOfPart n host m → IsMapOfPart n host k
+SameMapIsRight = (n : Network) (host : ℕ) (m k : NetMap) → IsSame (graph_of_map k) (graph_of_map m)
+    → IsMapOfPart n host m → IsMapOfPart n host k
 
 -- the level of a vertex is the length of a shortest path from the root
 pub record IsLevel (m : NetMap) (v : ℕ) : Type 0 where
@@ -49,4 +53,5 @@ PlacesAreAnOrder = (m : NetMap) → IsOrder (order_of m) (length m.vertices)
 
 -- the ranks by an order certify routes that are least among the legal ones
 abbrev pub RanksCertify : Type 0
-RanksCertify = (m : NetMap) (order : List ℕ) (routes : List Route) → IsMap m → IsOrder order (length m.vertices) → AllByRecursion (λ r. IsLeastLegal m order r.from r.to r.walk) routes → IsCertificate m routes (ranks_of m order)
+RanksCertify = (m : NetMap) (order : List ℕ) (routes : List Route) → IsMap m → IsOrder order (length m.vertices)
+    → AllByRecursion (λ r. IsLeastLegal m order r.from r.to r.walk) routes → IsCertificate m routes (ranks_of m order)

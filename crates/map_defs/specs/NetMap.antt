@@ -1,5 +1,6 @@
 -- A map: the vertices that a mapper found, with cables between ports that count from each switch's own entry port.
-use Rattle.std.specs.Prelude.{◌≡◌, ℕ, ◌<◌, ℤ, pos, ◌-ℤ◌, Bool, true, false, ◌&&◌, ◌||◌, List, [], ◌∷◌, length, nat_eq, nat_lt, int_lt, slice_get, if◌then◌else◌, Option, Some, None}
+use Rattle.std.specs.Prelude.{◌≡◌, ℕ, ◌<◌, ℤ, pos, ◌-ℤ◌, Bool, true, false, ◌&&◌, ◌||◌, List, [], ◌∷◌, length, nat_eq}
+use Rattle.std.specs.Prelude.{nat_lt, int_lt, slice_get, if◌then◌else◌, Option, Some, None}
 use Rattle.std.specs.Ordering.{int_eq}
 use Rattle.std.specs.List.{AllByRecursion}
 use Rattle.net_defs.specs.Network.{Apart}
@@ -40,7 +41,8 @@ port_below d e = nat_lt d.v e.v || (nat_eq d.v e.v && int_lt d.p e.p)
 -- the port at the other side of the first of these cables that ends there
 abbrev pub far_port : List MapCable → MapPort → Option MapPort
 far_port [] d = None
-far_port (c ∷ cs) d = if same_port (first_end c) d then Some (second_end c) else if same_port (second_end c) d then Some (first_end c) else far_port cs d
+far_port (c ∷ cs) d = if same_port (first_end c) d then Some (second_end c)
+    else if same_port (second_end c) d then Some (first_end c) else far_port cs d
 
 -- the port at the other end of the cable at a port
 abbrev pub map_far : NetMap → MapPort → Option MapPort
@@ -124,4 +126,5 @@ pub record IsMap (m : NetMap) : Type 0 where
 -- Cables as a report prints them: each at its first end by vertex and port, in the order of these ends.
 abbrev pub AreInOrder : List MapCable → Type 0
 AreInOrder [] = Unit {0}
-AreInOrder (c ∷ cs) = (port_below (first_end c) (second_end c) ≡ true) × AllByRecursion (λ d. port_below (first_end c) (first_end d) ≡ true) cs × AreInOrder cs
+AreInOrder (c ∷ cs) = (port_below (first_end c) (second_end c) ≡ true)
+    × AllByRecursion (λ d. port_below (first_end c) (first_end d) ≡ true) cs × AreInOrder cs

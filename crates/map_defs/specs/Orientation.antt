@@ -1,5 +1,7 @@
--- Up and down on a map (up*/down* routing after Autonet; the choice of the root and of the order is this project's own).
-use Rattle.std.specs.Prelude.{◌≡◌, ℕ, ◌<◌, Bool, ◌&&◌, ◌||◌, false, List, map, length, nat_eq, nat_lt, slice_index, if◌then◌else◌, Option, Some, None}
+-- Up and down on a map (up*/down* routing after Autonet; the choice of the root and of the order is this project's
+-- own).
+use Rattle.std.specs.Prelude.{◌≡◌, ℕ, ◌<◌, Bool, ◌&&◌, ◌||◌, false, List, map, length, nat_eq, nat_lt, slice_index}
+use Rattle.std.specs.Prelude.{if◌then◌else◌, Option, Some, None}
 use Rattle.std.specs.List.{filter, AllByRecursion}
 use Rattle.net_defs.specs.Network.{Apart}
 use Rattle.journal_defs.specs.Counting.{numbers_below}
@@ -20,7 +22,8 @@ levels m = map (level m) (numbers_below (length m.vertices))
 
 -- one vertex stands before another by level, then by number
 abbrev pub stands_before : List ℕ → ℕ → ℕ → Bool
-stands_before ls u v = nat_lt (slice_index ls u) (slice_index ls v) || (nat_eq (slice_index ls u) (slice_index ls v) && nat_lt u v)
+stands_before ls u v = nat_lt (slice_index ls u) (slice_index ls v) ||
+    (nat_eq (slice_index ls u) (slice_index ls v) && nat_lt u v)
 
 -- how many vertices stand before one
 abbrev pub place_among : List ℕ → ℕ → ℕ

@@ -1,5 +1,6 @@
 -- Ranks of the channels of a map, which rule out a cycle of dependencies.
-use Rattle.std.specs.Prelude.{◌≡◌, ℕ, ◌+◌, ◌-◌, ◌<◌, pos, true, List, [], ◌∷◌, ◌++◌, map, length, is_some, slice_index, if◌then◌else◌, Option, Some, None}
+use Rattle.std.specs.Prelude.{◌≡◌, ℕ, ◌+◌, ◌-◌, ◌<◌, pos, true, List, [], ◌∷◌, ◌++◌, map, length, is_some, slice_index}
+use Rattle.std.specs.Prelude.{if◌then◌else◌, Option, Some, None}
 use Rattle.std.specs.List.{AllByRecursion, filter}
 use Rattle.journal_defs.specs.Counting.{numbers_below}
 use Rattle.journal_defs.specs.Walks.{falling_turns}
@@ -30,7 +31,8 @@ pub record Rises (ranks : List RankEntry) (c d : MapPort) : Type 0 where
 
 -- A rank certificate of routes: each channel in use has a rank, and ranks rise along every route.
 pub record IsCertificate (m : NetMap) (routes : List Route) (ranks : List RankEntry) : Type 0 where
-  pub ranked : AllByRecursion (λ cs. AllByRecursion (λ c. is_some (rank_of ranks c) ≡ true) cs) (channels_of_routes m routes)
+  pub ranked : AllByRecursion (λ cs. AllByRecursion (λ c. is_some (rank_of ranks c) ≡ true) cs)
+      (channels_of_routes m routes)
   pub rising : (c d : MapPort) → IsBefore (channels_of_routes m routes) c d → Rises ranks c d
 
 -- the ports that a vertex may have, from -15 to 15

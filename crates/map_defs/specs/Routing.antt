@@ -1,5 +1,6 @@
 -- Routes on a map: where they lead, which are legal, and which is least.
-use Rattle.std.specs.Prelude.{◌≡◌, ◌≢◌, ℕ, ℤ, pos, ◌+ℤ◌, Bool, true, false, not, List, [], ◌∷◌, ◌++◌, map, nat_eq, if◌then◌else◌, Option, Some, None, option_map, option_and_then, option_to_list, position}
+use Rattle.std.specs.Prelude.{◌≡◌, ◌≢◌, ℕ, ℤ, pos, ◌+ℤ◌, Bool, true, false, not, List, [], ◌∷◌, ◌++◌, map, nat_eq}
+use Rattle.std.specs.Prelude.{if◌then◌else◌, Option, Some, None, option_map, option_and_then, option_to_list, position}
 use Rattle.std.specs.List.{list_all, AllByRecursion}
 use Rattle.journal_defs.specs.Walks.{walk_below}
 use Rattle.map_defs.specs.declared.vertex.MapVertex.{MapVertex}
@@ -66,7 +67,8 @@ is_legal m order a turns = no_up_after_down (map (is_up m order) (channels_on m 
 pub record IsLeastLegal (m : NetMap) (order : List ℕ) (a b : ℕ) (turns : List ℤ) : Type 0 where
   pub leads : LeadsTo m a b turns
   pub legal : is_legal m order a turns ≡ true
-  pub least : (others : List ℤ) → LeadsTo m a b others → is_legal m order a others ≡ true → walk_below others turns ≡ false
+  pub least : (others : List ℤ) → LeadsTo m a b others → is_legal m order a others ≡ true
+      → walk_below others turns ≡ false
 
 -- The routes of a map: the least legal one for each two different hosts, and no other.
 pub record AreRoutesOf (m : NetMap) (order : List ℕ) (routes : List Route) : Type 0 where

@@ -12,7 +12,9 @@ pub record PortGraph (V : Type 0) : Type 1 where
   pub address : V → Option ℕ
   pub Joins : V → ℤ → V → ℤ → Type 0
 
--- Two port graphs are the same up to offset: their vertices are paired one to one, hosts with hosts of the same address and switches with switches, and port p of a vertex stands for port p + offset of its image. A host's offset is 0.
+-- Two port graphs are the same up to offset: their vertices are paired one to one, hosts with hosts of the same
+-- address and switches with switches, and port p of a vertex stands for port p + offset of its image. A host's offset
+-- is 0.
 pub record IsSame {V W : Type 0} (g : PortGraph V) (h : PortGraph W) : Type 0 where
   pub image : V → W
   pub origin : W → V
@@ -23,7 +25,8 @@ pub record IsSame {V W : Type 0} (g : PortGraph V) (h : PortGraph W) : Type 0 wh
   pub image_origin : (w : W) → h.IsIn w → image (origin w) ≡ w
   pub addresses : (v : V) → g.IsIn v → h.address (image v) ≡ g.address v
   pub host_offsets : (v : V) (a : ℕ) → g.IsIn v → g.address v ≡ Some a → offset v ≡ pos 0
-  pub cables : (v w : V) (p q : ℤ) → g.IsIn v → g.IsIn w → g.Joins v p w q ↔ h.Joins (image v) (p +ℤ offset v) (image w) (q +ℤ offset w)
+  pub cables : (v w : V) (p q : ℤ) → g.IsIn v → g.IsIn w
+      → g.Joins v p w q ↔ h.Joins (image v) (p +ℤ offset v) (image w) (q +ℤ offset w)
 
 -- a map as a port graph
 abbrev pub graph_of_map : NetMap → PortGraph ℕ

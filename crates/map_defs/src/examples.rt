@@ -38,7 +38,8 @@ pub fn core_of_the_self_cabled_map()
     ensures no_bridge_of_the_ring { bridges_of ring_map ≡ [] }
 {}
 
-/// A ring of four switches with a host each: the root is the first switch, and the cable opposite to it is down in one direction.
+/// A ring of four switches with a host each: the root is the first switch, and the cable opposite to it is down in
+/// one direction.
 pub fn orientation_of_the_ring()
     ensures is_a_map { IsMap ring_map }
     ensures in_order { AreInOrder ring_map.cables }
@@ -55,7 +56,8 @@ pub fn orientation_of_the_ring()
 /// From b to d the route by the root is legal and least. The other way round goes up after it went down.
 pub fn routes_of_the_ring()
     ensures host_b { port_of_host ring_map 1 ≡ Some (port 5 (pos 0)) }
-    ensures crossed { channels_on ring_map (port_of_host ring_map 1) (negsuc 0 ∷ pos 1 ∷ pos 2 ∷ []) ≡ port 5 (pos 0) ∷ port 2 (pos 0) ∷ port 1 (negsuc 0) ∷ port 3 (pos 2) ∷ [] }
+    ensures crossed { channels_on ring_map (port_of_host ring_map 1) (negsuc 0 ∷ pos 1 ∷ pos 2 ∷ [])
+        ≡ port 5 (pos 0) ∷ port 2 (pos 0) ∷ port 1 (negsuc 0) ∷ port 3 (pos 2) ∷ [] }
     ensures not_legal { is_legal ring_map (order_of ring_map) 1 (negsuc 1 ∷ negsuc 0 ∷ pos 1 ∷ []) ≡ false }
     ensures least { IsLeastLegal ring_map (order_of ring_map) 1 3 (negsuc 0 ∷ pos 1 ∷ pos 2 ∷ []) }
     ensures all_routes { AreRoutesOf ring_map (order_of ring_map) ring_routes }

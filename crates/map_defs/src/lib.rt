@@ -1,5 +1,5 @@
-//! What a map is: the vertices that a mapper found with their cables, the journal that it stands for, when two maps are the same, its
-//! core, its routes, and what keeps these free of deadlock.
+//! What a map is: the vertices that a mapper found with their cables, the journal that it stands for, when two maps
+//! are the same, its core, its routes, and what keeps these free of deadlock.
 //!
 //! This crate holds definitions and laws, and the types that they speak of. It makes no map and no route.
 //!

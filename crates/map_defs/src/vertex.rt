@@ -7,8 +7,8 @@ pub enum MapVertex {
     Switch(u32),
 }
 
-/// A cable of a map: port p of vertex v and port q of vertex w. Vertices are places in the map's list; ports count from each switch's own
-/// entry port and may be negative.
+/// A cable of a map: port p of vertex v and port q of vertex w. Vertices are places in the map's list; ports count
+/// from each switch's own entry port and may be negative.
 #[derive(Clone, Copy, Debug, PartialEq, Eq)]
 pub struct MapCable {
     pub v: u32,

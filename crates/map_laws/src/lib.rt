@@ -15,7 +15,8 @@
 //!   +---+      +-----------------+         +---+      +-----------+
 //! ```
 //!
-//! The mapper enters the switch by port 2 and calls it port 0: port p of the map is port p + 2 of the fabric. The route `+3` is the same.
+//! The mapper enters the switch by port 2 and calls it port 0: port p of the map is port p + 2 of the fabric. The
+//! route `+3` is the same.
 #![tactic(auto)]
 
 mod examples;

@@ -10,8 +10,10 @@ use Rattle.run_defs.specs.Mapped.{IsCalled}
 use Rattle.mapper.specs.Asks.{AreAsked}
 use Rattle.map_making.specs.declared.making.MadeMap.{MadeMap}
 
--- Mapping from a host to a depth: a grown journal's asks lead the prober from the one state to the other, and the map is the journal's, with its core marked. It is called by how the journal ended and how many asks drowned.
-pub record IsMade (S : Type 0) (asked : S → List ℤ → Answer → S → Type 0) (host depth : ℕ) (before : S) (drowned : ℕ) (m : MadeMap) (after : S) : Type 0 where
+-- Mapping from a host to a depth: a grown journal's asks lead the prober from the one state to the other, and the map
+-- is the journal's, with its core marked. It is called by how the journal ended and how many asks drowned.
+pub record IsMade (S : Type 0) (asked : S → List ℤ → Answer → S
+    → Type 0) (host depth : ℕ) (before : S) (drowned : ℕ) (m : MadeMap) (after : S) : Type 0 where
   pub journal : List Entry
   pub led : AreAsked S asked before journal after
   pub grown : IsGrown host depth journal

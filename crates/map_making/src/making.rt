@@ -29,18 +29,23 @@ pub struct MadeMap {
 
 /// Maps from the prober's host to a depth of so many cables, marks the core, and says what the map may be called.
 ///
-/// A map that is called complete is the host's part of the fabric, the ports of each switch counted from elsewhere. While no ask drowns, a
-/// depth of Q + D + 1 makes it complete, where the fabric is small enough. The prober's count of drowned asks begins at 0, since each ask
-/// that drowns makes the map doubtful. Where it wants memory, the map is lost, and the prober was asked a part of its asks, or all.
+/// A map that is called complete is the host's part of the fabric, the ports of each switch counted from elsewhere.
+/// While no ask drowns, a depth of Q + D + 1 makes it complete, where the fabric is small enough. The prober's count
+/// of drowned asks begins at 0, since each ask that drowns makes the map doubtful. Where it wants memory, the map is
+/// lost, and the prober was asked a part of its asks, or all.
 pub fn make_map<P: Prober>(alloc: Global, p: &mut P, depth: u8) -> Result<MadeMap, AllocError>
     requires shallow { depth ≤ 32 }
     requires is_ready { P.ready p.old }
     requires fresh { P.lost p.old ≡ 0 }
-    ensures made { IfOk result (λ m. IsMade P.State P.asked (P.mapper p.old) depth (P.state p.old) (P.lost p.new) m (P.state p.new)) }
-    ensures certificate { IfOk result (λ m. m.words ≡ MapWords.Complete → IsMapOfPart (P.fabric p.old) (P.mapper p.old) m.map) }
-    ensures depth { IfOk result (λ m. P.lost p.new ≡ 0 → enough_depth (P.fabric p.old) (P.mapper p.old) ≤ depth → IsSmallEnough (P.fabric p.old) (P.mapper p.old) → m.words ≡ MapWords.Complete) }
+    ensures made { IfOk result (λ m. IsMade P.State P.asked (P.mapper p.old) depth (P.state p.old) (P.lost p.new) m
+        (P.state p.new)) }
+    ensures certificate { IfOk result (λ m. m.words ≡ MapWords.Complete
+        → IsMapOfPart (P.fabric p.old) (P.mapper p.old) m.map) }
+    ensures depth { IfOk result (λ m. P.lost p.new ≡ 0 → enough_depth (P.fabric p.old) (P.mapper p.old) ≤ depth
+        → IsSmallEnough (P.fabric p.old) (P.mapper p.old) → m.words ≡ MapWords.Complete) }
     ensures of_fabric { IfOk result (λ m. AreOfFabric (P.fabric p.old) m.map) }
-    ensures stopped { OnErr result (StopsShort P.State P.asked P.cut (P.mapper p.old) depth [] (P.state p.old) (P.state p.new)) }
+    ensures stopped { OnErr result (StopsShort P.State P.asked P.cut (P.mapper p.old) depth [] (P.state p.old)
+        (P.state p.new)) }
     ensures same_fabric { P.fabric p.new ≡ P.fabric p.old }
     ensures same_mapper { P.mapper p.new ≡ P.mapper p.old }
     ensures stays_ready { OnOk result (P.ready p.new) }

@@ -1,5 +1,6 @@
 -- A map renumbered by least walks from vertex 0, as the map of a journal is ordered.
-use Rattle.std.specs.Prelude.{◌≡◌, ◌↔◌, ℕ, ◌<◌, ℤ, pos, ◌+ℤ◌, Bool, true, false, List, map, length, slice_get, slice_index_or, Option, Some}
+use Rattle.std.specs.Prelude.{◌≡◌, ◌↔◌, ℕ, ◌<◌, ℤ, pos, ◌+ℤ◌, Bool, true, false, List, map, length, slice_get}
+use Rattle.std.specs.Prelude.{slice_index_or, Option, Some}
 use Rattle.journal_defs.specs.Tree.{Node, node_below}
 use Rattle.journal_defs.specs.Tree.Node.{Mapper, Reached}
 use Rattle.map_defs.specs.NetMap.{NetMap, MapPort, IsCabled, AreInOrder, host_of_vertex}
@@ -44,13 +45,16 @@ pub record IsRenumbered (entries : List MapPort) (x : ℕ) : Type 0 where
 abbrev pub is_of_core : NetMap → ℕ → Bool
 is_of_core m v = slice_index_or m.core v true
 
--- Vertices with their marks in the order of their least walks from vertex 0, which is a host; their ports counted from the ports by which these enter; cables as a report orders them.
+-- Vertices with their marks in the order of their least walks from vertex 0, which is a host; their ports counted
+-- from the ports by which these enter; cables as a report orders them.
 pub record IsCanon (m k : NetMap) : Type 0 where
   pub ways : List Node
   pub entries : List MapPort
   pub one_each : length ways ≡ length entries
-  pub each_least : (v : ℕ) (u : Node) (d : MapPort) → slice_get ways v ≡ Some u → slice_get entries v ≡ Some d → IsLeastWay m u d
-  pub in_order : (v w : ℕ) (u x : Node) → v < w → slice_get ways v ≡ Some u → slice_get ways w ≡ Some x → node_below u x ≡ true
+  pub each_least : (v : ℕ) (u : Node) (d : MapPort) → slice_get ways v ≡ Some u → slice_get entries v ≡ Some d
+      → IsLeastWay m u d
+  pub in_order : (v w : ℕ) (u x : Node) → v < w → slice_get ways v ≡ Some u → slice_get ways w ≡ Some x
+      → node_below u x ≡ true
   pub covered : (x : ℕ) → x < length m.vertices → IsRenumbered entries x
   pub vertices : k.vertices ≡ named 0 (map (λ d. host_of_vertex m d.v) entries)
   pub core : k.core ≡ map (λ d. is_of_core m d.v) entries

@@ -1,5 +1,6 @@
 -- The cables of a map in the order of a report.
-use Rattle.std.specs.Prelude.{ℕ, zero, suc, ◌*◌, ◌/◌, ◌%◌, pos, ◌-ℤ◌, List, [], ◌++◌, length, option_to_list, if◌then◌else◌, Option, Some, None}
+use Rattle.std.specs.Prelude.{ℕ, zero, suc, ◌*◌, ◌/◌, ◌%◌, pos, ◌-ℤ◌, List, [], ◌++◌, length, option_to_list}
+use Rattle.std.specs.Prelude.{if◌then◌else◌, Option, Some, None}
 use Rattle.map_defs.specs.declared.vertex.MapCable.{MapCable}
 use Rattle.map_defs.specs.NetMap.{NetMap, MapPort, map_far, port_below}
 

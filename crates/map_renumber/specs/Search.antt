@@ -1,5 +1,6 @@
 -- A search through a map by levels: which vertices were found, with their entry ports.
-use Rattle.std.specs.Prelude.{◌≡◌, ◌⊎◌, ℕ, suc, ◌+◌, ◌<◌, ℤ, pos, ◌+ℤ◌, ◌-ℤ◌, true, false, List, [], ◌∷◌, ◌++◌, map, length, slice_get, slice_index_or, unwrap_or, Option, Some, None}
+use Rattle.std.specs.Prelude.{◌≡◌, ◌⊎◌, ℕ, suc, ◌+◌, ◌<◌, ℤ, pos, ◌+ℤ◌, ◌-ℤ◌, true, false, List, [], ◌∷◌, ◌++◌, map}
+use Rattle.std.specs.Prelude.{length, slice_get, slice_index_or, unwrap_or, Option, Some, None}
 use Rattle.net_defs.specs.Turn.{IsTurn}
 use Rattle.journal_defs.specs.Tree.{Node, node_below}
 use Rattle.journal_defs.specs.Tree.Node.{Mapper, Reached}
@@ -35,7 +36,8 @@ abbrev pub GoesOn : NetMap → ℕ → MapPort → Type 0
 GoesOn m v d = (v ≡ 0) ⊎ (is_switch_vertex m d.v ≡ true)
 
 -- a node was found behind a port of an earlier one
-pub record IsBehind (m : NetMap) (found : List MapPort) (ways : List Node) (next k : ℕ) (u : Node) (d : MapPort) : Type 0 where
+pub record IsBehind (m : NetMap) (found : List MapPort) (ways : List Node) (next k : ℕ) (u : Node)
+    (d : MapPort) : Type 0 where
   pub vertex : ℕ
   pub place : ℕ
   pub way : Node
@@ -48,7 +50,8 @@ pub record IsBehind (m : NetMap) (found : List MapPort) (ways : List Node) (next
   pub at_start : vertex ≡ 0 → place ≡ 15
 
 -- What is known of a search that has gone on from all vertices before one, and from the first places of that one.
-pub record IsSearch (m : NetMap) (found : List MapPort) (numbers : List (Option ℕ)) (ways : List Node) (next k : ℕ) : Type 0 where
+pub record IsSearch (m : NetMap) (found : List MapPort) (numbers : List (Option ℕ)) (ways : List Node)
+    (next k : ℕ) : Type 0 where
   pub counted : length numbers ≡ length m.vertices
   pub left : free numbers + length found ≡ length m.vertices
   pub one_each : length ways ≡ length found
@@ -56,11 +59,16 @@ pub record IsSearch (m : NetMap) (found : List MapPort) (numbers : List (Option 
   pub start_entry : slice_get found 0 ≡ Some start_port
   pub placed : (v : ℕ) (d : MapPort) → slice_get found v ≡ Some d → HasNumber numbers d.v v
   pub named : (x v : ℕ) → HasNumber numbers x v → (p : ℤ) × (slice_get found v ≡ Some (record { v = x; p = p }))
-  pub enters : (v : ℕ) (u : Node) (d : MapPort) → slice_get ways v ≡ Some u → slice_get found v ≡ Some d → entered m u ≡ Some d
-  pub least : (v : ℕ) (u : Node) (d : MapPort) (x : Node) (q : ℤ) → slice_get ways v ≡ Some u → slice_get found v ≡ Some d → entered m x ≡ Some (record { v = d.v; p = q }) → node_below x u ≡ false
-  pub rising : (v w : ℕ) (u x : Node) → v < w → slice_get ways v ≡ Some u → slice_get ways w ≡ Some x → node_below u x ≡ true
-  pub behind : (v : ℕ) (u : Node) (d : MapPort) → slice_get ways v ≡ Some u → slice_get found v ≡ Some d → (v ≡ 0) ⊎ IsBehind m found ways next k u d
-  pub closed : (v s : ℕ) (d e : MapPort) → IsDone v s next k → s < 31 → slice_get found v ≡ Some d → GoesOn m v d → map_far m (record { v = d.v; p = d.p +ℤ turn_at s }) ≡ Some e → (x : ℕ) × HasNumber numbers e.v x
+  pub enters : (v : ℕ) (u : Node) (d : MapPort) → slice_get ways v ≡ Some u → slice_get found v ≡ Some d
+      → entered m u ≡ Some d
+  pub least : (v : ℕ) (u : Node) (d : MapPort) (x : Node) (q : ℤ) → slice_get ways v ≡ Some u
+      → slice_get found v ≡ Some d → entered m x ≡ Some (record { v = d.v; p = q }) → node_below x u ≡ false
+  pub rising : (v w : ℕ) (u x : Node) → v < w → slice_get ways v ≡ Some u → slice_get ways w ≡ Some x
+      → node_below u x ≡ true
+  pub behind : (v : ℕ) (u : Node) (d : MapPort) → slice_get ways v ≡ Some u → slice_get found v ≡ Some d
+      → (v ≡ 0) ⊎ IsBehind m found ways next k u d
+  pub closed : (v s : ℕ) (d e : MapPort) → IsDone v s next k → s < 31 → slice_get found v ≡ Some d → GoesOn m v d
+      → map_far m (record { v = d.v; p = d.p +ℤ turn_at s }) ≡ Some e → (x : ℕ) × HasNumber numbers e.v x
 
 -- a port as the code has it
 abbrev pub port_of_pair : ℕ × ℤ → MapPort

@@ -1,8 +1,8 @@
 //! A map renumbered by least walks from vertex 0: its canonical form.
 //!
-//! Two maps of one network differ by their vertices' numbers and by the port from which each switch counts. Renumbered they are equal, if
-//! vertex 0 of both is the same host. `specs/Canon.antt` says what a renumbered map is; the other files of `specs/` say what the parts of the
-//! code give each other.
+//! Two maps of one network differ by their vertices' numbers and by the port from which each switch counts.
+//! Renumbered they are equal, if vertex 0 of both is the same host. `specs/Canon.antt` says what a renumbered map is;
+//! the other files of `specs/` say what the parts of the code give each other.
 //!
 //! ```text
 //!   a map                                     renumbered

@@ -15,7 +15,8 @@ pub(crate) fn vertices_of(
     m: &FabricMap,
     found: &[(u32, i8)],
 ) -> Result<FabricMap, AllocError>
-    ensures { IfOk result (λ k. k ≡ bare_map (named 0 (map_list (λ d. host_of_vertex m.now d.0) found.now)) (map_list (λ d. is_of_core m.now d.0) found.now)) }
+    ensures { IfOk result (λ k. k ≡ bare_map (named 0 (map_list (λ d. host_of_vertex m.now d.0) found.now))
+        (map_list (λ d. is_of_core m.now d.0) found.now)) }
 {
     let _ = m.vertices();
     let mut map = FabricMap::new(alloc);

@@ -13,9 +13,9 @@ use crate::search::{Search, searched};
 use fabric_map::{FabricMap, MapCable};
 use std::alloc::{AllocError, Global};
 
-/// The map with its vertices, and their marks, in the order of their least walks from vertex 0, the ports of each counted from the port by
-/// which that walk enters it, and its cables in order. So two maps that are the same up to offset, with the same host as vertex 0, have one
-/// canon, marks aside. The map is connected, and vertex 0 is a host.
+/// The map with its vertices, and their marks, in the order of their least walks from vertex 0, the ports of each
+/// counted from the port by which that walk enters it, and its cables in order. So two maps that are the same up to
+/// offset, with the same host as vertex 0, have one canon, marks aside. The map is connected, and vertex 0 is a host.
 pub fn canon(alloc: Global, m: &FabricMap) -> Result<FabricMap, AllocError>
     requires connected { IsConnected m.now }
     requires host { (h : ℕ) × (host_of_vertex m.now 0 ≡ Some h) }
@@ -33,8 +33,15 @@ pub fn canon(alloc: Global, m: &FabricMap) -> Result<FabricMap, AllocError>
 
 // Adds the cables between the same vertices, by their new numbers and ports.
 fn move_cables(map: &mut FabricMap, m: &FabricMap, search: &Search) -> Result<(), AllocError>
-    requires { (c : MapCable) (k : ℕ) → slice_get m.now.cables k ≡ Some c → IsKnown search.now.found.items search.now.numbers.items (first_end c) × IsKnown search.now.found.items search.now.numbers.items (second_end c) }
-    ensures { OnOk result (map.new ≡ record { vertices = map.old.vertices; cables = map.old.cables ++ map_list (moved_cable (map_list port_of_pair search.now.found.items) search.now.numbers.items) m.now.cables; core = map.old.core }) }
+    requires { (c : MapCable) (k : ℕ) → slice_get m.now.cables k ≡ Some c
+        → IsKnown search.now.found.items search.now.numbers.items (first_end c)
+        × IsKnown search.now.found.items search.now.numbers.items (second_end c) }
+    ensures { OnOk result (map.new ≡ record {
+      vertices = map.old.vertices;
+      cables = map.old.cables ++ map_list (moved_cable
+          (map_list port_of_pair search.now.found.items) search.now.numbers.items) m.now.cables;
+      core = map.old.core;
+    }) }
 {
     for cable in m.cables() {
         add(map, moved_cable(search, *cable))?;
@@ -61,8 +68,16 @@ fn moved_cable(search: &Search, c: MapCable) -> MapCable
 // A port by its vertex's new number, counted from the port by which that was entered.
 fn moved_port(search: &Search, v: u32, p: i8) -> (u32, i8)
     requires { IsKnown search.now.found.items search.now.numbers.items record { v = v; p = p } }
-    ensures vertex { result.0 ≡ (moved_port (map_list port_of_pair search.now.found.items) search.now.numbers.items record { v = v; p = p }).v }
-    ensures port { result.1 ≡ (moved_port (map_list port_of_pair search.now.found.items) search.now.numbers.items record { v = v; p = p }).p }
+    ensures vertex { result.0
+        ≡ (moved_port (map_list port_of_pair search.now.found.items) search.now.numbers.items record {
+          v = v;
+          p = p;
+        }).v }
+    ensures port { result.1
+        ≡ (moved_port (map_list port_of_pair search.now.found.items) search.now.numbers.items record {
+          v = v;
+          p = p;
+        }).p }
 {
     let number = search.numbers[v as usize].unwrap();
     (number, p - search.found[number as usize].1)

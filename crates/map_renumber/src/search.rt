@@ -1,4 +1,5 @@
-//! A search through a map by levels, from vertex 0, at each vertex by turns from its entry port: vertices are found by their least walks.
+//! A search through a map by levels, from vertex 0, at each vertex by turns from its entry port: vertices are found
+//! by their least walks.
 
 ghost use Rattle.std.specs.Prelude.{◌≡◌, ◌+◌, ◌+ℤ◌, ◌<◌, ℕ, ℤ, true, false, length, slice_get, Some, IfOk, OnOk};
 ghost use Rattle.net_defs.specs.Turn.{IsTurn};
@@ -14,7 +15,8 @@ const PORTS: usize = 31;
 // The greatest turn; the least is its negative.
 const MAX_TURN: i8 = 15;
 
-/// The vertices in the order of their least walks, each with the port by which that walk enters it, and the number of each vertex.
+/// The vertices in the order of their least walks, each with the port by which that walk enters it, and the number of
+/// each vertex.
 #[derive(Drop)]
 pub(crate) struct Search {
     pub(crate) found: Vec<(u32, i8)>,
@@ -63,7 +65,8 @@ fn search_from(m: &FabricMap, search: &mut Search, next: usize) -> Result<(), Al
 // Whether the search goes on from the vertex of a number: a host other than vertex 0 leads nowhere.
 fn goes_on(m: &FabricMap, search: &Search, next: usize) -> bool
     ensures yes { result ≡ true → GoesOnFrom m.now search.now.found.items next }
-    ensures no { result ≡ false → (d : ℕ × ℤ) → slice_get search.now.found.items next ≡ Some d → GoesOn m.now next (port_of_pair d) → ⊥ }
+    ensures no { result ≡ false → (d : ℕ × ℤ) → slice_get search.now.found.items next ≡ Some d
+        → GoesOn m.now next (port_of_pair d) → ⊥ }
 {
     match search.found.get(next) {
         Some(_) if next == 0 => true,

@@ -45,7 +45,8 @@ fn walk_of(alloc: Global, turns: &[i8]) -> Result<Walk, AllocError> {
 // Puts the true answer to a walk at the end of a journal.
 fn ask(alloc: Global, fabric: &Fabric, j: &mut Journal, turns: &[i8]) -> Result<(), AllocError>
     ensures host { OnOk result (j.new.host ≡ j.old.host) }
-    ensures told { OnOk result (IsTrueWhereFound fabric.now j.old.host j.old.entries → IsTrueWhereFound fabric.now j.old.host j.new.entries) }
+    ensures told { OnOk result (IsTrueWhereFound fabric.now j.old.host j.old.entries
+        → IsTrueWhereFound fabric.now j.old.host j.new.entries) }
 {
     let walk = walk_of(alloc, turns)?;
     let answer = told(fabric.walk(j.host(), walk.turns()));

@@ -1,7 +1,7 @@
 //! The classes of whole grown journals, compared with a plain closure.
 
 ghost use Rattle.std.specs.Prelude.{◌<◌, length, IfOk, IfSome};
-ghost use Rattle.replicate_merge.specs.Table.{IsTrueOfOne};
+ghost use Rattle.class_joins.specs.Table.{IsTrueOfOne};
 
 use crate::fabrics::{
     CHAIN, LONE_HOST, ONE_CABLE, PARALLEL, RING, RING_WITH_ONE_HOST, SELF_CABLED, TWO_HOSTS,
@@ -93,7 +93,8 @@ fn joined(alloc: Global, frames: &[ClassFrame]) -> Result<Vec<Pair>, AllocError>
     Ok(pairs)
 }
 
-// How many nodes a journal has, and how many pairs of them are in one class; none where the plain closure has other pairs.
+// How many nodes a journal has, and how many pairs of them are in one class; none where the plain closure has other
+// pairs.
 fn compared(alloc: Global, journal: &Journal) -> Result<Option<(usize, usize)>, AllocError>
     requires { IsTrueOfOne journal.now.host journal.now.entries }
 {

@@ -33,7 +33,8 @@ fn a_ring_with_one_host_is_closed_by_seven_cables(rt: HostRuntime) -> Result<(),
     Ok(())
 }
 
-// How the growth of host 0's journal ends whose asks of these numbers drown, and whether its map is one host and one switch.
+// How the growth of host 0's journal ends whose asks of these numbers drown, and whether its map is one host and one
+// switch.
 fn drowned(
     alloc: Global,
     fabric: &Fabric,

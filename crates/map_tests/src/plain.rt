@@ -2,10 +2,12 @@
 
 use std::alloc::{AllocError, Global};
 
-/// Port p of the first node is port p + k of the second. Node 0 is the mapper's host, each other node the walk at its number less one.
+/// Port p of the first node is port p + k of the second. Node 0 is the mapper's host, each other node the walk at its
+/// number less one.
 pub(crate) type Pair = (usize, usize, i16);
 
-/// All pairs of replicates among the mapper's host and these walks, each of which found a host of this address or a switch.
+/// All pairs of replicates among the mapper's host and these walks, each of which found a host of this address or a
+/// switch.
 pub(crate) fn replicates(
     alloc: Global,
     walks: &[&[i8]],

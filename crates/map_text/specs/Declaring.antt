@@ -1,5 +1,6 @@
 -- What a line of a map declares, by its words, or its first fault.
-use Rattle.std.specs.Prelude.{◌≡◌, ℕ, ℤ, Bool, true, false, ◌&&◌, ◌||◌, List, [], ◌∷◌, length, nat_eq, slice_get, position, if◌then◌else◌, Option, Some, None, Result, Ok, Err, codes, bytes_eq}
+use Rattle.std.specs.Prelude.{◌≡◌, ℕ, ℤ, Bool, true, false, ◌&&◌, ◌||◌, List, [], ◌∷◌, length, nat_eq, slice_get}
+use Rattle.std.specs.Prelude.{position, if◌then◌else◌, Option, Some, None, Result, Ok, Err, codes, bytes_eq}
 use Rattle.net_defs.specs.declared.vertex.Vertex.{Vertex}
 use Rattle.net_defs.specs.declared.vertex.Vertex.TheVariants.{Host, Switch}
 use Rattle.net_defs.specs.Network.{Network}
@@ -20,7 +21,9 @@ use Rattle.fab_text.specs.Line.{one_of, two_of, four_of}
 use Rattle.fab_text.specs.Fault.{as_kind, and_then}
 use Rattle.fabric_file.specs.Declaring.{where_there}
 use Rattle.fabric_map.specs.declared.fault.MapFault.{MapFault}
-use Rattle.fabric_map.specs.declared.fault.MapFault.TheVariants.{HostTaken, Full as IsFull, NoVertex as Unknown, PortRange as NoPort, PortUsed as IsUsed, NoMemory as NoMoreMemory}
+use Rattle.fabric_map.specs.declared.fault.MapFault.TheVariants.{HostTaken, Full as IsFull, NoVertex as Unknown}
+use Rattle.fabric_map.specs.declared.fault.MapFault.TheVariants.{PortRange as NoPort, PortUsed as IsUsed}
+use Rattle.fabric_map.specs.declared.fault.MapFault.TheVariants.{NoMemory as NoMoreMemory}
 use Rattle.fabric_map.specs.Growing.{host_refusal, switch_refusal, cable_refusal, with_host, with_switch, with_cable}
 
 -- the kind of a map's refusal (which is never want of memory)
@@ -75,7 +78,8 @@ switch_vertex m (Err e) = None
 -- the vertex that a word names
 abbrev pub vertex_named : Network → NetMap → List ℕ → Option ℕ
 vertex_named f m [] = host_vertex m (fabric_vertex f [])
-vertex_named f m (b ∷ bs) = if nat_eq b 35 then switch_vertex m (u32_of bs) else host_vertex m (fabric_vertex f (b ∷ bs))
+vertex_named f m (b ∷ bs) = if nat_eq b 35 then switch_vertex m (u32_of bs)
+    else host_vertex m (fabric_vertex f (b ∷ bs))
 
 -- the number that was read is this one
 abbrev pub says : Result ℕ NumFault → ℕ → Bool
@@ -89,7 +93,8 @@ is_next m (b ∷ bs) = nat_eq b 35 && says (u32_of bs) (length (switches_of m.ve
 
 -- `core` or `outside`
 abbrev pub mark_word : List ℕ → Result Bool FaultKind
-mark_word w = if bytes_eq w (codes "core") then Ok true else if bytes_eq w (codes "outside") then Ok false else Err BadWord
+mark_word w = if bytes_eq w (codes "core") then Ok true else if bytes_eq w (codes "outside") then Ok false
+    else Err BadWord
 
 -- the form of `V P`, with the port that it says
 abbrev pub end_word : List ℕ → List ℕ → Result ℤ FaultKind
@@ -111,7 +116,8 @@ host_line f m args = where_there (one_of args) (host_declared f m)
 
 -- `switch #K core` or `switch #K outside`, by the next number
 abbrev pub switch_declared : NetMap → List ℕ → List ℕ → Result NetMap FaultKind
-switch_declared m number mark = if is_next m number then and_then (mark_word mark) (λ core. unless (switch_refusal m) (with_switch m core)) else Err BadWord
+switch_declared m number mark = if is_next m number then and_then (mark_word mark) (λ core.
+    unless (switch_refusal m) (with_switch m core)) else Err BadWord
 
 -- what a line `switch #K MARK` declares
 abbrev pub switch_line : NetMap → List (List ℕ) → Result NetMap FaultKind
@@ -129,7 +135,8 @@ cable_between m (Some v) p (Some w) q = cable_placed m (record { v = v; p = p; w
 
 -- `cable V P W Q`: the forms from left to right, and then the vertices and ports
 abbrev pub cable_declared : Network → NetMap → List ℕ → List ℕ → List ℕ → List ℕ → Result NetMap FaultKind
-cable_declared f m v p w q = and_then (end_word v p) (λ i. and_then (end_word w q) (λ j. cable_between m (vertex_named f m v) i (vertex_named f m w) j))
+cable_declared f m v p w q = and_then (end_word v p) (λ i.
+    and_then (end_word w q) (λ j. cable_between m (vertex_named f m v) i (vertex_named f m w) j))
 
 -- what a line `cable V P W Q` declares
 abbrev pub cable_line : Network → NetMap → List (List ℕ) → Result NetMap FaultKind

@@ -3,7 +3,10 @@
 ghost use Rattle.std.specs.Prelude.{◌≡◌};
 ghost use Rattle.fab_text.specs.Line.{words_of};
 ghost use Rattle.fab_text.specs.Fault.{LineLeaves};
-ghost use Rattle.map_text.specs.Declaring.{declared, declared_as, host_line, host_declared, host_placed, switch_line, switch_declared, cable_line, cable_declared, cable_between, end_word, mark_word, switch_test, is_number, is_next, says, vertex_named, switch_vertex, host_vertex, vertex_test};
+ghost use Rattle.map_text.specs.Declaring.{declared, declared_as, host_line, host_declared, host_placed, switch_line};
+ghost use Rattle.map_text.specs.Declaring.{switch_declared, cable_line, cable_declared, cable_between, end_word};
+ghost use Rattle.map_text.specs.Declaring.{mark_word, switch_test, is_number, is_next, says, vertex_named};
+ghost use Rattle.map_text.specs.Declaring.{switch_vertex, host_vertex, vertex_test};
 ghost use Rattle.map_text.specs.Reading.{is_end};
 
 use crate::growing::MapSoFar;

@@ -1,7 +1,8 @@
 //! The text of a map: printed, and read back.
 //!
-//! It makes no map of a journal, and prints no other line of a report. `specs/LineText.antt` of `run_defs` says what the lines of a map are;
-//! `specs/Declaring.antt` and `specs/Reading.antt` here say which texts are read, as which map, and what the first fault of others is.
+//! It makes no map of a journal, and prints no other line of a report. `specs/LineText.antt` of `run_defs` says what
+//! the lines of a map are; `specs/Declaring.antt` and `specs/Reading.antt` here say which texts are read, as which
+//! map, and what the first fault of others is.
 //!
 //! | module | has |
 //! |---|---|

@@ -3,16 +3,19 @@
 ghost use Rattle.std.specs.Prelude.{◌≡◌, ◌++◌, ◌∷◌, [], codes, decimal, flat_map, IfOk, OnOk};
 ghost use Rattle.fab_text.specs.Written.{line_text};
 ghost use Rattle.net_defs.specs.Turn.{IsTurn};
-ghost use Rattle.run_defs.specs.LineText.{map_text, vertices_text, vertex_words, vertex_text, vertex_numbered, cable_words, core_word, turn_text};
+ghost use Rattle.run_defs.specs.LineText.{map_text, vertices_text, vertex_words, vertex_text, vertex_numbered};
+ghost use Rattle.run_defs.specs.LineText.{cable_words, core_word, turn_text};
 ghost use Rattle.map_text.specs.Printing.{AreOfFabric, IsOfFabric, IsReadBack, sign_text};
 
 use fabric_map::{FabricMap, MapCable, MapVertex};
 use port_graph::{Fabric, Vertex};
 use std::alloc::{AllocError, Global};
 
-/// The lines of a map, its hosts by their names in a fabric: the vertices in their order, the cables in theirs, and `endmap`.
+/// The lines of a map, its hosts by their names in a fabric: the vertices in their order, the cables in theirs, and
+/// `endmap`.
 ///
-/// They are read back as the same map, where the fabric's names have the form of the text, as those of a fabric that was read have.
+/// They are read back as the same map, where the fabric's names have the form of the text, as those of a fabric that
+/// was read have.
 pub fn print_map(alloc: Global, m: &FabricMap, f: &Fabric) -> Result<Vec<u8>, AllocError>
     requires { AreOfFabric f.now m.now }
     ensures text { IfOk result (λ text. text.items ≡ map_text f.now m.now) }
@@ -51,7 +54,8 @@ fn print_cables(
     text: &mut Vec<u8>,
 ) -> Result<(), AllocError>
     requires { AreOfFabric f.now m.now }
-    ensures { OnOk result (text.new.items ≡ text.old.items ++ flat_map (λ c. line_text (cable_words f.now m.now c)) m.now.cables) }
+    ensures { OnOk result (text.new.items ≡ text.old.items
+        ++ flat_map (λ c. line_text (cable_words f.now m.now c)) m.now.cables) }
 {
     for c in m.cables() {
         cable_line(alloc, text, m, f, *c)?;
@@ -78,7 +82,8 @@ fn vertex_line(
 
 // `switch #K` with its mark
 fn switch_line(alloc: Global, text: &mut Vec<u8>, s: u32, core: bool) -> Result<(), AllocError>
-    ensures { OnOk result (text.new.items ≡ text.old.items ++ line_text (codes "switch" ∷ (codes "#" ++ decimal s) ∷ core_word core ∷ [])) }
+    ensures { OnOk result (text.new.items ≡ text.old.items
+        ++ line_text (codes "switch" ∷ (codes "#" ++ decimal s) ∷ core_word core ∷ [])) }
 {
     let number = s.to_string(alloc)?;
     append(

@@ -16,11 +16,12 @@ use std::alloc::Global;
 
 /// Reads the lines of a map, from its first vertex to `endmap`, its hosts by their names in a fabric.
 ///
-/// A text that isn't of the form is refused with the first fault: the first line that has one, and in it, in this order, the first
-/// word, the number of words, each further word's form from left to right, and what refuses the vertex or the cable: `NoVertex` for a name
-/// that is no host of the fabric or a vertex without a line before, `NameTaken` for a host that stands there twice, `BadWord` for a switch
-/// whose number isn't the next, and for a cable `PortRange` before `PortUsed`. Without `endmap` it is `NoEnd` in the line after the last; a
-/// line after `endmap` is `AfterEnd`. The order of the cables isn't tested.
+/// A text that isn't of the form is refused with the first fault: the first line that has one, and in it, in this
+/// order, the first word, the number of words, each further word's form from left to right, and what refuses the
+/// vertex or the cable: `NoVertex` for a name that is no host of the fabric or a vertex without a line before,
+/// `NameTaken` for a host that stands there twice, `BadWord` for a switch whose number isn't the next, and for a
+/// cable `PortRange` before `PortUsed`. Without `endmap` it is `NoEnd` in the line after the last; a line after
+/// `endmap` is `AfterEnd`. The order of the cables isn't tested.
 pub fn read_map(alloc: Global, text: &[u8], f: &Fabric) -> Result<FabricMap, TextFault>
     requires { length text.now ≤ 4294967290 }
     // Exactly the map that the lines declare, or exactly the first fault.

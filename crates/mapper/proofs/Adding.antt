@@ -1,28 +1,37 @@
 -- What one ask adds to a tree.
-use Rattle.std.proofs.Common.{◌≡◌, ◌<◌, ◌≤◌, ◌+◌, ℕ, List, [], ◌∷◌, ◌++◌, length, sym, ◌∙◌, subst, ap, refl, arith, append_assoc, append-nil, to_z, of_z, w8}
-use Rattle.std.specs.Prelude.{ℤ, Result, Ok, Err, OnErr, Option, Some}
-use Rattle.mapper.specs.Finding.{IfFound}
+use Rattle.std.proofs.Common.{◌≡◌, ◌≢◌, ◌<◌, ◌≤◌, ◌+◌, ℕ, List, [], ◌∷◌, ◌++◌, length, sym, ◌∙◌, subst, ap, refl, arith, append_assoc, append-nil, to_z, of_z, w8, inl, inr}
+use Rattle.std.specs.Prelude.{ℤ, Result, Ok, Err, OnErr, Option, Some, IfSome}
 use Rattle.std.proofs.lemmas.Int.{ints}
 use Rattle.net_defs.specs.Turn.{IsTurn}
 use Rattle.net_defs.specs.declared.place.Answer.{Answer}
+use Rattle.net_defs.specs.declared.place.Answer.TheVariants.{Nothing}
 use Rattle.net_defs.specs.Network.{Network}
 use Rattle.net_defs.specs.Route.{answer}
 use Rattle.journal_defs.specs.declared.entry.Entry.{Entry}
-use Rattle.journal_defs.specs.Tree.{nodes}
 use Rattle.journal_defs.specs.Growth.{NextAsk, node_limit}
 use Rattle.journal_defs.specs.Growth.IsGrowing.{more as one_more_entry}
-use Rattle.growth_laws.proofs.Asks.{growing-tree}
+use Rattle.journal_defs.specs.Truth.{IsTrueWhereFound}
+use Rattle.journal_defs.specs.Tree.{nodes}
+use Rattle.journal_defs.proofs.Members.{all-join}
+use Rattle.growth_laws.proofs.Asks.{growing-tree, growing-once, ask-new}
+use Rattle.growth_laws.proofs.Few.{asks_are_few}
+use Rattle.replicate_merge.specs.Next.{IsNext}
+use Rattle.class_joins.specs.Table.{ClassTable, StandsFor}
 use Rattle.probe.specs.Drowning.{IsTrueOrDrowned}
 use Rattle.mapper.specs.Turns.{turn_at}
-use Rattle.mapper.specs.Growths.{StopsShort, IsLostAsk, IsAsk, HasGrown, IsUnderWay, ExpandsOrFills, grown_by}
+use Rattle.mapper.specs.Growths.{StopsShort, IsLostAsk, IsAsk, HasGrown, IsToldOf, IsNextWalk, IsNextEntry, IsUnderWay, ExpandsOrFills, GrownBy, grown_by}
 use Rattle.mapper.specs.Growths.ExpandsOrFills.{expands, fills}
 use Rattle.mapper.specs.declared.tree.Tree.{Tree}
 use Rattle.mapper.proofs.Growing.{nodes-push, grows-none, grows-join, grows-ask, stops-between, stops-lost}
 use Rattle.mapper.proofs.Midway.{IsMidway, midway-ask, midway-next, midway-expanded, midway-rest}
 
 -- a tree with an entry more has one node more where it found something
-pub counted-push : (t : Tree) (w : List ℤ) (a : Answer) → t.nodes ≡ length (nodes t.journal.entries) → (grown_by t w a).nodes ≡ length (nodes (grown_by t w a).journal.entries)
-counted-push t w a e = let p = nodes-push t.journal.entries (record { walk = w; answer = a }) in omega arith
+pub counted-push : (t : Tree) (w : List ℤ) (a : Answer) (c : ClassTable) → t.nodes ≡ length (nodes t.journal.entries) → (grown_by t w a c).nodes ≡ length (nodes (grown_by t w a c).journal.entries)
+counted-push t w a c e = let p = nodes-push t.journal.entries (record { walk = w; answer = a }) in omega arith
+
+-- the classes of a tree with an entry more stand for its journal
+kept-stands : (t new : Tree) (w : List ℤ) (a : Answer) → GrownBy w a t new → StandsFor t.journal.host (t.journal.entries ++ record { walk = w; answer = a } ∷ []) new.classes
+kept-stands t new w a g = subst (λ (x : Tree). StandsFor x.journal.host x.journal.entries new.classes) g.kept g.stands
 
 module _ (S : Type 0) (asked : S → List ℤ → Answer → S → Type 0) (n : Network) where
   -- a tree from which nothing was asked yet
@@ -31,8 +40,8 @@ module _ (S : Type 0) (asked : S → List ℤ → Answer → S → Type 0) (n : 
 
   module _ (old : Tree) (before : S) (lost : ℕ) where
     -- the next ask, in the fabric's own words
-    grown-push : (t : Tree) (s after : S) (l now : ℕ) (w : List ℤ) (a : Answer) → HasGrown S asked n old before lost t s l → NextAsk t.journal.host t.depth t.journal.entries w → asked s w a after → IsTrueOrDrowned (answer n t.journal.host w) l now a → l ≤ now → HasGrown S asked n old before lost (grown_by t w a) after now
-    grown-push t s after l now w a g next led told later =
+    grown-push : (t : Tree) (s after : S) (l now : ℕ) (w : List ℤ) (a : Answer) (c : ClassTable) → HasGrown S asked n old before lost t s l → NextAsk t.journal.host t.depth t.journal.entries w → asked s w a after → IsTrueOrDrowned (answer n t.journal.host w) l now a → l ≤ now → HasGrown S asked n old before lost (grown_by t w a c) after now
+    grown-push t s after l now w a c g next led told later =
         let host = old.journal.host in
         let depth = old.depth in
         let j = old.journal.entries in
@@ -47,7 +56,7 @@ module _ (S : Type 0) (asked : S → List ℤ → Answer → S → Type 0) (n : 
         }
 
     pub grown-next : (t new : Tree) (s after : S) (l now : ℕ) (w : List ℤ) → HasGrown S asked n old before lost t s l → NextAsk t.journal.host t.depth t.journal.entries w → IsAsk S asked (answer n t.journal.host w) s l w t new after now → l ≤ now → HasGrown S asked n old before lost new after now
-    grown-next t new s after l now w g next ask later = subst (λ (x : Tree). HasGrown S asked n old before lost x after now) (sym ask.kept) (grown-push t s after l now w ask.told g next ask.as_asked ask.is_true later)
+    grown-next t new s after l now w g next ask later = subst (λ (x : Tree). HasGrown S asked n old before lost x after now) (sym ask.grown.kept) (grown-push t s after l now w ask.told new.classes g next ask.as_asked ask.is_true later)
 
     -- A node whose first k turns were asked since a tree was there.
     pub record IsMidst (front : List ℤ) (k : ℕ) (t : Tree) (s : S) (l : ℕ) : Type 0 where
@@ -56,14 +65,15 @@ module _ (S : Type 0) (asked : S → List ℤ → Answer → S → Type 0) (n : 
       pub grown : HasGrown S asked n old before lost t s l
 
     -- the tree after one more turn
-    midst-push : (front : List ℤ) (k : ℕ) (t : Tree) (s after : S) (l now : ℕ) (a : Answer) → k < 30 → IsMidst front k t s l → (grown_by t (front ++ turn_at k ∷ []) a).nodes ≤ node_limit → HasGrown S asked n old before lost (grown_by t (front ++ turn_at k ∷ []) a) after now → IsMidst front (k + 1) (grown_by t (front ++ turn_at k ∷ []) a) after now
-    midst-push front k t s after l now a few m kept g =
+    midst-push : (front : List ℤ) (k : ℕ) (t : Tree) (s after : S) (l now : ℕ) (a : Answer) (c : ClassTable) → k < 30 → IsMidst front k t s l
+        → (let new : Tree = grown_by t (front ++ turn_at k ∷ []) a c in new.nodes ≤ node_limit → StandsFor new.journal.host new.journal.entries c → HasGrown S asked n old before lost new after now → IsMidst front (k + 1) new after now)
+    midst-push front k t s after l now a c few m kept stands g =
         let w = front ++ turn_at k ∷ [] in
         let e : Entry = record { walk = w; answer = a } in
         let host = t.journal.host in
         record {
           midway = midway-next host t.depth t.journal.entries e front k (growing-tree host t.depth t.journal.entries m.under_way.growing) m.midway few refl;
-          under_way = record { growing = one_more_entry t.journal.entries e m.under_way.growing (midway-ask host t.depth t.journal.entries front k m.midway few) refl; counted = counted-push t w a m.under_way.counted; kept = kept };
+          under_way = record { stands = stands; growing = one_more_entry t.journal.entries e m.under_way.growing (midway-ask host t.depth t.journal.entries front k m.midway few) refl; counted = counted-push t w a c m.under_way.counted; kept = kept };
           grown = g;
         }
 
@@ -71,17 +81,28 @@ module _ (S : Type 0) (asked : S → List ℤ → Answer → S → Type 0) (n : 
     midst-next front k t new s after l now few m ask later kept =
         let w = front ++ turn_at k ∷ [] in
         let next = midway-ask t.journal.host t.depth t.journal.entries front k m.midway few in
-        subst (λ (x : Tree). IsMidst front (k + 1) x after now) (sym ask.kept) (midst-push front k t s after l now ask.told few m (subst (λ (x : Tree). x.nodes ≤ node_limit) ask.kept kept) (grown-push t s after l now w ask.told m.grown next ask.as_asked ask.is_true later))
+        subst (λ (x : Tree). IsMidst front (k + 1) x after now) (sym ask.grown.kept) (midst-push front k t s after l now ask.told new.classes few m (subst (λ (x : Tree). x.nodes ≤ node_limit) ask.grown.kept kept) (kept-stands t new w ask.told ask.grown) (grown-push t s after l now w ask.told new.classes m.grown next ask.as_asked ask.is_true later))
+
+    -- and the next turn is one that may be asked
+    pub midst-walk : (front : List ℤ) (k : ℕ) (t : Tree) (s : S) (l : ℕ) → k < 30 → IsMidst front k t s l → IsToldOf n old.journal.host old.journal.entries → IsNextWalk n t.journal.host t (front ++ turn_at k ∷ [])
+    midst-walk front k t s l few m told = record {
+      same_host = refl;
+      stands = m.under_way.stands;
+      told = record { is_fabric = told.is_fabric; told = subst (λ h. IsTrueWhereFound n h t.journal.entries) (sym m.grown.host) (subst (IsTrueWhereFound n old.journal.host) (sym m.grown.entries) (all-join (λ (e : Entry). e.answer ≢ Nothing → e.answer ≡ answer n old.journal.host e.walk) old.journal.entries m.grown.more told.told m.grown.by_asks.found)) };
+      once = growing-once t.journal.host t.depth t.journal.entries m.under_way.growing;
+      fresh = ask-new t.journal.host t.depth t.journal.entries (front ++ turn_at k ∷ []) (midway-ask t.journal.host t.depth t.journal.entries front k m.midway few);
+      few = (let many = asks_are_few t.journal.host t.depth t.journal.entries m.under_way.growing in let c = m.under_way.counted in let b = m.under_way.kept in omega arith);
+    }
 
     pub midst-grown : (front : List ℤ) (k : ℕ) (t new : Tree) (s after : S) (l now : ℕ) → k < 30 → IsMidst front k t s l → IsAsk S asked (answer n t.journal.host (front ++ turn_at k ∷ [])) s l (front ++ turn_at k ∷ []) t new after now → l ≤ now → HasGrown S asked n old before lost new after now
     midst-grown front k t new s after l now few m ask later = grown-next t new s after l now (front ++ turn_at k ∷ []) m.grown (midway-ask t.journal.host t.depth t.journal.entries front k m.midway few) ask later
 
     -- the limit of nodes was passed
     pub midst-full : (front : List ℤ) (k : ℕ) (t new : Tree) (s after : S) (l now : ℕ) → IsMidst front k t s l → IsAsk S asked (answer n t.journal.host (front ++ turn_at k ∷ [])) s l (front ++ turn_at k ∷ []) t new after now → node_limit < new.nodes → ExpandsOrFills new front
-    midst-full front k t new s after l now m ask passed = subst (λ (x : Tree). ExpandsOrFills x front) (sym ask.kept) (fills counted (record { before = t.journal.entries; last = record { walk = front ++ turn_at k ∷ []; answer = ask.told }; whole = refl; kept = (let c = m.under_way.counted in let h = m.under_way.kept in omega arith); passed = (let c = counted in let h = subst (λ (x : Tree). node_limit < x.nodes) ask.kept passed in omega arith) }))
+    midst-full front k t new s after l now m ask passed = subst (λ (x : Tree). ExpandsOrFills x front) (sym ask.grown.kept) (fills (kept-stands t new (front ++ turn_at k ∷ []) ask.told ask.grown) counted (record { before = t.journal.entries; last = record { walk = front ++ turn_at k ∷ []; answer = ask.told }; whole = refl; kept = (let c = m.under_way.counted in let h = m.under_way.kept in omega arith); passed = (let c = counted in let h = subst (λ (x : Tree). node_limit < x.nodes) ask.grown.kept passed in omega arith) }))
       where
-        counted : (grown_by t (front ++ turn_at k ∷ []) ask.told).nodes ≡ length (nodes (grown_by t (front ++ turn_at k ∷ []) ask.told).journal.entries)
-        counted = counted-push t (front ++ turn_at k ∷ []) ask.told m.under_way.counted
+        counted : (grown_by t (front ++ turn_at k ∷ []) ask.told new.classes).nodes ≡ length (nodes (grown_by t (front ++ turn_at k ∷ []) ask.told new.classes).journal.entries)
+        counted = counted-push t (front ++ turn_at k ∷ []) ask.told new.classes m.under_way.counted
 
     pub midst-whole : (front : List ℤ) (t : Tree) (s : S) (l : ℕ) → IsMidst front 30 t s l → ExpandsOrFills t front
     midst-whole front t s l m = expands m.under_way (midway-rest t.journal.host t.depth t.journal.entries front m.midway) (midway-expanded t.journal.host t.depth t.journal.entries front m.midway)
@@ -124,5 +145,30 @@ pub stops-still : (S : Type 0) (asked : S → List ℤ → Answer → S → Type
 stops-still S asked cut n t s lost u = stops-between S asked cut n t.journal.host t.depth t.journal.entries [] s s lost lost (grows-none S asked n t.journal.host t.depth t.journal.entries s lost u.growing) (let c = u.counted in let k = u.kept in let e : length (nodes (t.journal.entries ++ [])) ≡ length (nodes t.journal.entries) = ap (λ i. length (nodes i)) (append-nil t.journal.entries) in omega arith)
 
 -- what holds of what was found
-pub found-some : {T : Type 0} (E : Type 0) (P : T → Type 0) (o : Option T) (x : T) → o ≡ Some x → IfFound {T = T} {E = E} (Ok o) P → P x
-found-some {T = T} E P o x e f = subst (λ q. IfFound {T = T} {E = E} (Ok q) P) e f
+pub found-some : {T : Type 0} (P : T → Type 0) (o : Option T) (x : T) → o ≡ Some x → IfSome o P → P x
+found-some P o x e f = subst (λ q. IfSome q P) e f
+
+-- an answer other than Nothing is true
+told-found : (truth a : Answer) (lost now : ℕ) → IsTrueOrDrowned truth lost now a → a ≢ Nothing → a ≡ truth
+told-found truth a lost now (inl e) some = e
+told-found truth a lost now (inr d) some = absurd (some d.0)
+
+-- so the answer to a walk that may be asked is one that its journal takes
+pub next-entry : (n : Network) (host : ℕ) (t : Tree) (w : List ℤ) (a : Answer) (lost now : ℕ) → IsNextWalk n host t w → IsTrueOrDrowned (answer n host w) lost now a → IsNextEntry t (record { walk = w; answer = a })
+next-entry n host t w a lost now m told = record {
+  stands = subst (λ h. StandsFor h t.journal.entries t.classes) (sym m.same_host) m.stands;
+  next = subst (λ h. IsNext h t.journal.entries (record { walk = w; answer = a })) (sym m.same_host) (record {
+    once = m.once;
+    fresh = m.fresh;
+    few = m.few;
+    true_of_one = record {
+      fabric = n;
+      is_fabric = m.told.is_fabric;
+      told = all-join (λ (e : Entry). e.answer ≢ Nothing → e.answer ≡ answer n host e.walk) t.journal.entries (record { walk = w; answer = a } ∷ []) m.told.told (told-found (answer n host w) a lost now told, tt);
+    };
+  });
+}
+
+-- a walk that may be asked, in other words for the same fabric, host and walk
+pub as-next : (m n : Network) (h host : ℕ) (t : Tree) (v w : List ℤ) → m ≡ n → h ≡ host → v ≡ w → IsNextWalk n host t w → IsNextWalk m h t v
+as-next m n h host t v w p q r k = subst (λ f. IsNextWalk f h t v) (sym p) (subst (λ a. IsNextWalk n a t v) (sym q) (subst (λ u. IsNextWalk n host t u) (sym r) k))

@@ -33,7 +33,7 @@ module _ (S : Type 0) (asked : S → List ℤ → Answer → S → Type 0) (n : 
     at_host = new_host;
     to_depth = new_depth;
     settled = record {
-      under_way = record { growing = growing; counted = counted; kept = (let a = nodes_are in let b = few-found (is_found ask.told) in omega arith) };
+      under_way = record { stands = ask.grown.stands; growing = growing; counted = counted; kept = (let a = nodes_are in let b = few-found (is_found ask.told) in omega arith) };
       rest = record { expanded = λ m b. absurd (first-unbegun [] e m refl empty (subst (λ i. IsBegun i m) entries b)) };
       started = subst (λ i. is_asked i [] ≡ true) (sym entries) (subst (λ v. is_asked (e ∷ []) v ≡ true) empty (asked-last [] e));
       within = omega arith;
@@ -46,16 +46,16 @@ module _ (S : Type 0) (asked : S → List ℤ → Answer → S → Type 0) (n : 
       e = record { walk = w; answer = ask.told }
 
       new_host : new.journal.host ≡ host
-      new_host = ap (λ (t : Tree). t.journal.host) ask.kept ∙ h
+      new_host = ap (λ (t : Tree). t.journal.host) ask.grown.kept ∙ h
 
       new_depth : new.depth ≡ depth
-      new_depth = ap (λ (t : Tree). t.depth) ask.kept ∙ d
+      new_depth = ap (λ (t : Tree). t.depth) ask.grown.kept ∙ d
 
       entries : new.journal.entries ≡ e ∷ []
-      entries = ap (λ (t : Tree). t.journal.entries) ask.kept ∙ ap (λ i. i ++ e ∷ []) none
+      entries = ap (λ (t : Tree). t.journal.entries) ask.grown.kept ∙ ap (λ i. i ++ e ∷ []) none
 
       nodes_are : new.nodes ≡ 1 + (if is_found ask.told then 1 else 0)
-      nodes_are = ap (λ (t : Tree). t.nodes) ask.kept ∙ ap (λ k. k + (if is_found ask.told then 1 else 0)) one
+      nodes_are = ap (λ (t : Tree). t.nodes) ask.grown.kept ∙ ap (λ k. k + (if is_found ask.told then 1 else 0)) one
 
       grown : GrowsBy S asked n host depth [] before lost (e ∷ []) after now
       grown = grows-ask S asked n host depth [] before after lost now w ask.told (nothing) (first refl empty) ask.as_asked ask.is_true later

@@ -18,6 +18,7 @@ use Rattle.journal_defs.proofs.Order.{below-parts, below-trans, below-irrefl}
 use Rattle.growth_laws.proofs.Keeping.{Keeps, keeps-append, asked-kept, has_expanded-kept}
 use Rattle.growth_laws.proofs.Asks.{growing-once, switch-node, expanded-has}
 use Rattle.growth_laws.proofs.Few.{asks_are_few}
+use Rattle.class_joins.specs.Table.{StandsFor}
 use Rattle.mapper.specs.Growths.{HasGrown, IsUnderWay, ExpandsOrFills, IsNextOpen, AreExpanded, IsSettled, IsWhole}
 use Rattle.mapper.specs.Growths.ExpandsOrFills.{expands, fills}
 use Rattle.mapper.specs.declared.tree.Tree.{Tree}
@@ -112,6 +113,7 @@ module _ (t : Tree) (next : ℕ) (settled : IsSettled t next) where
   -- a tree of which no entry is to be expanded has grown
   pub settled-whole : AreExpanded t.journal.host t.depth t.journal.entries next (length t.journal.entries) → IsWhole t
   settled-whole rest = record {
+    stands = settled.under_way.stands;
     counted = settled.under_way.counted;
     grown = record {
       growing = settled.under_way.growing;
@@ -177,8 +179,9 @@ module _ (t : Tree) (next : ℕ) (settled : IsSettled t next) where
             to_new d.walk (by i d (old i d (omega arith) there) sw near (cases_order i place) b)
 
     -- a tree that passed the limit has grown
-    pub filled-whole : new.nodes ≡ length (nodes new.journal.entries) → IsEndedAtLimit new.journal.entries → IsWhole new
-    filled-whole c l = record {
+    pub filled-whole : StandsFor new.journal.host new.journal.entries new.classes → new.nodes ≡ length (nodes new.journal.entries) → IsEndedAtLimit new.journal.entries → IsWhole new
+    filled-whole s c l = record {
+      stands = s;
       counted = c;
       grown = record {
         growing = subst (λ h. IsGrowing h new.depth new.journal.entries) (sym g.host) (subst (λ d. IsGrowing t.journal.host d new.journal.entries) (sym g.depth) (subst (IsGrowing t.journal.host t.depth) (sym g.entries) g.by_asks.growing));
@@ -201,13 +204,13 @@ Gives r b = r ≡ Ok b
 module _ (S : Type 0) (asked : S → List ℤ → Answer → S → Type 0) (n : Network) (t : Tree) (next : ℕ) (settled : IsSettled t next) (new : Tree) (before after : S) (lost now : ℕ) (g : HasGrown S asked n t before lost new after now) where
   pub goes-settled : (place : ℕ) → IsNextOpen t.journal.host t.depth t.journal.entries next place → (w : List ℤ) (e : Entry) → slice_get t.journal.entries place ≡ Some e → e.walk ≡ w → ExpandsOrFills new w → Gives (Ok (nat_le new.nodes 65536)) true → IsSettled new (place + 1)
   goes-settled place o w e at is (expands u r x) ok = open-settled t next settled S asked n new before after lost now g place o w e at is u r x
-  goes-settled place o w e at is (fills c l) ok = absurd (let few : new.nodes ≤ 65536 = within ok in let p = l.passed in omega arith)
+  goes-settled place o w e at is (fills s c l) ok = absurd (let few : new.nodes ≤ 65536 = within ok in let p = l.passed in omega arith)
     where
       within : Gives (Ok (nat_le new.nodes 65536)) true → new.nodes ≤ 65536
       within f = let one : nat_le new.nodes 65536 ≡ true = cc in grind (arith, nat_tests)
 
   pub goes-whole : (w : List ℤ) → ExpandsOrFills new w → Gives (Ok (nat_le new.nodes 65536)) false → IsWhole new
-  goes-whole w (fills c l) ok = filled-whole t next settled S asked n new before after lost now g c l
+  goes-whole w (fills s c l) ok = filled-whole t next settled S asked n new before after lost now g s c l
   goes-whole w (expands u r x) ok = absurd (let many : 65536 < new.nodes = beyond ok in let k = u.kept in omega arith)
     where
       beyond : Gives (Ok (nat_le new.nodes 65536)) false → 65536 < new.nodes

@@ -7,7 +7,8 @@ use Rattle.journal_defs.specs.Growth.{IsGrown, IsEndedAtLimit, IsClosed}
 use Rattle.mapper.specs.declared.mapping.MapEnd.{MapEnd}
 use Rattle.mapper.specs.declared.mapping.MapEnd.TheVariants.{Closed, OpenAtDepth, OpenAtNodes}
 
--- A journal's end, which is one of three: at the limit of nodes; else closed; else open, since the depth cut the growth.
+-- A journal's end, which is one of three: at the limit of nodes; else closed; else open, since the depth cut the
+-- growth.
 abbrev pub IsEnd : ℕ → List Entry → MapEnd → Type 0
 IsEnd host j OpenAtNodes = IsEndedAtLimit j
 IsEnd host j Closed = (¬ IsEndedAtLimit j) × IsClosed host j
@@ -15,4 +16,5 @@ IsEnd host j OpenAtDepth = (¬ IsEndedAtLimit j) × (¬ IsClosed host j)
 
 -- Each journal of true answers that has grown to a greater depth is this one.
 abbrev pub IsOneDeeper : Network → ℕ → ℕ → List Entry → Type 0
-IsOneDeeper n host depth j = (more : ℕ) (l : List Entry) → depth ≤ more → IsTrueJournal n host l → IsGrown host more l → l ≡ j
+IsOneDeeper n host depth j = (more : ℕ) (l : List Entry) → depth ≤ more → IsTrueJournal n host l → IsGrown host more l
+    → l ≡ j

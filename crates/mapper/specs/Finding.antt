@@ -1,21 +1,18 @@
 -- What holds of a place that was found, and what the classes of a journal tell of its entries.
-use Rattle.std.specs.Prelude.{◌≡◌, ℕ, ◌<◌, ℤ, Bool, true, false, List, slice_get, Option, Some, Result, Ok}
+use Rattle.std.specs.Prelude.{◌≡◌, ℕ, ◌<◌, ℤ, Bool, true, false, List, slice_get, Some}
 use Rattle.net_defs.specs.declared.place.Answer.TheVariants.{Switch}
 use Rattle.journal_defs.specs.declared.entry.Entry.{Entry}
 use Rattle.journal_defs.specs.Tree.{IsSwitchNode, answered}
 use Rattle.journal_defs.specs.Tree.Node.{Reached}
 use Rattle.journal_defs.specs.Growth.{HasExpanded, crossed}
-use Rattle.replicate_merge.specs.Table.{ClassTable, StandsFor}
-
--- what holds of a value that was found
-abbrev pub IfFound : {T E : Type 0} → Result (Option T) E → (T → Type 0) → Type 0
-IfFound (Ok (Some x)) P = P x
-IfFound _ P = Unit {0}
+use Rattle.class_joins.specs.Table.{ClassTable, StandsFor}
 
 -- Whether the class of a switch has an expanded member, of whatever journal the classes stand for.
 pub record TellsExpanded (c : ClassTable) (w : List ℤ) (told : Bool) : Type 0 where
-  pub yes : (host : ℕ) (j : List Entry) → StandsFor host j c → IsSwitchNode j w → told ≡ true → HasExpanded host j (Reached w)
-  pub no : (host : ℕ) (j : List Entry) → StandsFor host j c → IsSwitchNode j w → told ≡ false → ¬ HasExpanded host j (Reached w)
+  pub yes : (host : ℕ) (j : List Entry) → StandsFor host j c → IsSwitchNode j w → told ≡ true
+      → HasExpanded host j (Reached w)
+  pub no : (host : ℕ) (j : List Entry) → StandsFor host j c → IsSwitchNode j w → told ≡ false
+      → ¬ HasExpanded host j (Reached w)
 
 -- What makes an entry one that is to be expanded.
 pub record IsOpenEntry (host depth : ℕ) (j : List Entry) (e : Entry) : Type 0 where
@@ -25,8 +22,10 @@ pub record IsOpenEntry (host depth : ℕ) (j : List Entry) (e : Entry) : Type 0 
 
 -- Whether an entry is to be expanded.
 pub record TellsOpen (c : ClassTable) (e : Entry) (depth : ℕ) (told : Bool) : Type 0 where
-  pub yes : (host : ℕ) (j : List Entry) → StandsFor host j c → answered j e.walk ≡ Some e.answer → told ≡ true → IsOpenEntry host depth j e
-  pub no : (host : ℕ) (j : List Entry) → StandsFor host j c → answered j e.walk ≡ Some e.answer → told ≡ false → e.answer ≡ Switch → crossed e.walk < depth → HasExpanded host j (Reached e.walk)
+  pub yes : (host : ℕ) (j : List Entry) → StandsFor host j c → answered j e.walk ≡ Some e.answer → told ≡ true
+      → IsOpenEntry host depth j e
+  pub no : (host : ℕ) (j : List Entry) → StandsFor host j c → answered j e.walk ≡ Some e.answer → told ≡ false
+      → e.answer ≡ Switch → crossed e.walk < depth → HasExpanded host j (Reached e.walk)
 
 -- Whether the entry at a place is to be expanded.
 pub record TellsOpenAt (c : ClassTable) (j : List Entry) (place depth : ℕ) (told : Bool) : Type 0 where

@@ -4,7 +4,7 @@ ghost use Rattle.std.specs.Prelude.{◌≡◌, ◌≤◌, length, OnOk, OnErr, i
 ghost use Rattle.journal_defs.specs.Tree.{is_found};
 ghost use Rattle.net_defs.specs.Route.{answer};
 ghost use Rattle.journal_defs.specs.Growth.{node_limit};
-ghost use Rattle.mapper.specs.Growths.{IsAsk, IsLostAsk, grown_by};
+ghost use Rattle.mapper.specs.Growths.{IsAsk, IsLostAsk, IsNextWalk, IsNextEntry, GrownBy};
 
 use crate::tree::Tree;
 use net_defs::{Answer, Walk};
@@ -20,8 +20,10 @@ pub(crate) fn ask<P: Prober>(
 ) -> Result<(), AllocError>
     requires short { length walk ≤ 31 }
     requires is_ready { P.ready p.old }
+    requires next { IsNextWalk (P.fabric p.old) (P.mapper p.old) tree.old walk }
     requires few { tree.old.nodes ≤ node_limit }
-    ensures ok { OnOk result (IsAsk P.State P.asked (answer (P.fabric p.old) (P.mapper p.old) walk) (P.state p.old) (P.lost p.old) walk tree.old tree.new (P.state p.new) (P.lost p.new)) }
+    ensures ok { OnOk result (IsAsk P.State P.asked (answer (P.fabric p.old) (P.mapper p.old) walk) (P.state p.old)
+        (P.lost p.old) walk tree.old tree.new (P.state p.new) (P.lost p.new)) }
     ensures err { OnErr result (IsLostAsk P.State P.asked P.cut (P.state p.old) walk (P.state p.new)) }
     ensures later { P.lost p.old ≤ P.lost p.new }
     ensures same_fabric { P.fabric p.new ≡ P.fabric p.old }
@@ -32,12 +34,16 @@ pub(crate) fn ask<P: Prober>(
     keep(alloc, tree, walk, answer)
 }
 
-// Puts an entry at the end of the journal. A walk that stands there isn't told from want of memory: none is asked twice.
+// Puts an entry at the end of the journal. A walk that stands there isn't told from want of memory: none is asked
+// twice.
 fn keep(alloc: Global, tree: &mut Tree, walk: Walk, answer: Answer) -> Result<(), AllocError>
-    requires { tree.old.nodes ≤ node_limit }
-    ensures { OnOk result (tree.new ≡ grown_by tree.old walk answer) }
+    requires few { tree.old.nodes ≤ node_limit }
+    requires next { IsNextEntry tree.old (record { walk = walk; answer = answer }) }
+    ensures { OnOk result (GrownBy walk answer tree.old tree.new) }
 {
-    match tree.journal.push(alloc, Entry { walk, answer }) {
+    let entry = Entry { walk, answer };
+    tree.classes.push(alloc, &entry)?;
+    match tree.journal.push(alloc, entry) {
         Ok(()) => {
             tree.nodes += node_count(answer);
             Ok(())

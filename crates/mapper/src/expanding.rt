@@ -2,7 +2,7 @@
 
 ghost use Rattle.std.specs.Prelude.{◌≡◌, ◌≤◌, OnOk, OnErr};
 ghost use Rattle.journal_defs.specs.Growth.{IsAtRest, IsChosen};
-ghost use Rattle.mapper.specs.Growths.{HasGrown, StopsShort, IsUnderWay, ExpandsOrFills};
+ghost use Rattle.mapper.specs.Growths.{HasGrown, StopsShort, IsToldOf, IsUnderWay, ExpandsOrFills};
 
 use crate::asking::ask;
 use crate::tree::{NODE_LIMIT, Tree};
@@ -20,12 +20,16 @@ pub(crate) fn expand<P: Prober>(
     requires is_ready { P.ready p.old }
     requires mapper { tree.old.journal.host ≡ P.mapper p.old }
     requires shallow { tree.old.depth ≤ 32 }
+    requires told { IsToldOf (P.fabric p.old) (P.mapper p.old) tree.old.journal.entries }
     requires under_way { IsUnderWay tree.old }
     requires rest { IsAtRest tree.old.journal.entries }
     requires chosen { IsChosen tree.old.journal.host tree.old.depth tree.old.journal.entries front.now }
-    ensures grown { OnOk result (HasGrown P.State P.asked (P.fabric p.old) tree.old (P.state p.old) (P.lost p.old) tree.new (P.state p.new) (P.lost p.new)) }
+    ensures grown { OnOk result (HasGrown P.State P.asked (P.fabric p.old) tree.old (P.state p.old)
+        (P.lost p.old) tree.new (P.state p.new) (P.lost p.new)) }
     ensures expanded { OnOk result (ExpandsOrFills tree.new front.now) }
-    ensures stopped { OnErr result (StopsShort P.State P.asked P.cut tree.old.journal.host tree.old.depth tree.old.journal.entries (P.state p.old) (P.state p.new)) }
+    ensures stopped { OnErr result
+        (StopsShort P.State P.asked P.cut tree.old.journal.host tree.old.depth tree.old.journal.entries
+        (P.state p.old) (P.state p.new)) }
     ensures later { P.lost p.old ≤ P.lost p.new }
     ensures same_fabric { P.fabric p.new ≡ P.fabric p.old }
     ensures same_mapper { P.mapper p.new ≡ P.mapper p.old }

@@ -5,6 +5,7 @@ ghost use Rattle.fab_outer.specs.Fault.{Rose};
 ghost use Rattle.journal_defs.specs.Growth.{IsGrown, IsEndedAtLimit};
 ghost use Rattle.journal_defs.specs.Truth.{IsTrueJournal, IsTrueWhereFound};
 ghost use Rattle.net_defs.specs.Network.{IsFabric};
+ghost use Rattle.class_joins.specs.Table.{StandsFor};
 ghost use Rattle.mapper.specs.Asks.{AreAsked};
 ghost use Rattle.mapper.specs.Growths.{GrowsBy, StopsShort, IsSettled};
 
@@ -13,20 +14,25 @@ use crate::sweep::expand_next;
 use crate::tree::{NODE_LIMIT, Tree};
 use crate::walks::empty_walk;
 use probe::{Journal, Prober};
+use replicate_merge::Classes;
 use std::alloc::{AllocError, Global};
 
-/// A journal that has grown to its depth.
+/// A journal that has grown to its depth, with its classes.
 #[derive(Drop)]
 pub struct Grown {
+    /// The asks of the host, with their answers.
     pub journal: Journal,
+    /// Which of its nodes are one switch or one host.
+    pub classes: Classes,
     /// The growth ended because the last answer made one node more than a journal keeps.
     pub at_limit: bool,
 }
 
 /// Grows the journal of the prober's host to a depth of so many cables.
 ///
-/// The next ask is always the least that is due: the empty walk, the next turn of the node that is being expanded, or the first turn of
-/// the next node that lies within the depth and whose class has no expanded member. Where it wants memory, the journal is lost, and the
+/// The next ask is always the least that is due: the empty walk, the next turn of the node that is being expanded, or
+/// the first turn of the next node that lies within the depth and whose class has no expanded member. Classes go on
+/// with each answer, so that no ask looks at the whole journal. Where it wants memory, the journal is lost, and the
 /// prober was asked a part of these asks.
 pub fn grow<P: Prober>(alloc: Global, p: &mut P, depth: u8) -> Result<Grown, AllocError>
     requires shallow { depth ≤ 32 }
@@ -35,9 +41,12 @@ pub fn grow<P: Prober>(alloc: Global, p: &mut P, depth: u8) -> Result<Grown, All
     ensures grown { IfOk result (λ g. IsGrown (P.mapper p.old) depth g.journal.entries) }
     ensures asked { IfOk result (λ g. AreAsked P.State P.asked (P.state p.old) g.journal.entries (P.state p.new)) }
     ensures found { IfOk result (λ g. IsTrueWhereFound (P.fabric p.old) (P.mapper p.old) g.journal.entries) }
-    ensures truth { IfOk result (λ g. (Rose (P.lost p.old) (P.lost p.new) → ⊥) → IsTrueJournal (P.fabric p.old) (P.mapper p.old) g.journal.entries) }
+    ensures truth { IfOk result (λ g. (Rose (P.lost p.old) (P.lost p.new) → ⊥)
+        → IsTrueJournal (P.fabric p.old) (P.mapper p.old) g.journal.entries) }
+    ensures stands { IfOk result (λ g. StandsFor g.journal.host g.journal.entries g.classes) }
     ensures at_limit { IfOk result (λ g. IsTrue g.at_limit ↔ IsEndedAtLimit g.journal.entries) }
-    ensures stopped { OnErr result (StopsShort P.State P.asked P.cut (P.mapper p.old) depth [] (P.state p.old) (P.state p.new)) }
+    ensures stopped { OnErr result (StopsShort P.State P.asked P.cut (P.mapper p.old) depth [] (P.state p.old)
+        (P.state p.new)) }
     ensures later { P.lost p.old ≤ P.lost p.new }
     ensures same_fabric { P.fabric p.new ≡ P.fabric p.old }
     ensures same_mapper { P.mapper p.new ≡ P.mapper p.old }
@@ -49,6 +58,7 @@ pub fn grow<P: Prober>(alloc: Global, p: &mut P, depth: u8) -> Result<Grown, All
     let at_limit = tree.nodes > NODE_LIMIT;
     Ok(Grown {
         journal: tree.journal,
+        classes: tree.classes,
         at_limit,
     })
 }
@@ -59,16 +69,21 @@ fn started<P: Prober>(alloc: Global, p: &mut P, depth: u8) -> Result<Tree, Alloc
     ensures host { IfOk result (λ t. t.journal.host ≡ P.mapper p.old) }
     ensures depth { IfOk result (λ t. t.depth ≡ depth) }
     ensures settled { IfOk result (λ t. IsSettled t 0) }
-    ensures grown { IfOk result (λ t. GrowsBy P.State P.asked (P.fabric p.old) (P.mapper p.old) depth [] (P.state p.old) (P.lost p.old) t.journal.entries (P.state p.new) (P.lost p.new)) }
-    ensures stopped { OnErr result (StopsShort P.State P.asked P.cut (P.mapper p.old) depth [] (P.state p.old) (P.state p.new)) }
+    ensures grown { IfOk result (λ t. GrowsBy P.State P.asked (P.fabric p.old) (P.mapper p.old) depth []
+        (P.state p.old) (P.lost p.old) t.journal.entries (P.state p.new) (P.lost p.new)) }
+    ensures stopped { OnErr result (StopsShort P.State P.asked P.cut (P.mapper p.old) depth [] (P.state p.old)
+        (P.state p.new)) }
     ensures one_fabric { IsFabric (P.fabric p.old) }
     ensures later { P.lost p.old ≤ P.lost p.new }
     ensures same_fabric { P.fabric p.new ≡ P.fabric p.old }
     ensures same_mapper { P.mapper p.new ≡ P.mapper p.old }
     ensures stays_ready { OnOk result (P.ready p.new) }
 {
+    let host = p.host();
+    let classes = Classes::new(alloc, host)?;
     let mut tree = Tree {
-        journal: Journal::new(alloc, p.host()),
+        journal: Journal::new(alloc, host),
+        classes,
         nodes: 1,
         depth,
     };

@@ -1,7 +1,7 @@
 //! The mapper: the journal of one host, grown by asks to a depth, and its map.
 //!
-//! It knows no fabric: it looks at what a prober answers. `specs/Growths.antt` says what a journal grows by, and `specs/Asks.antt` how the
-//! asks lead a prober from one state to another.
+//! It knows no fabric: it looks at what a prober answers. `specs/Growths.antt` says what a journal grows by, and
+//! `specs/Asks.antt` how the asks lead a prober from one state to another.
 //!
 //! ```text
 //! journal   [] | -15 -14 .. +15 | -2 -15 .. -2 +15 | ..      the walks in their order, as they are asked
@@ -17,7 +17,7 @@
 //! | `opening` | which node is to be expanded next |
 //! | `expanding` | the 30 turns of one node |
 //! | `asking` | one ask |
-//! | `tree` | a journal that grows, with the number of its nodes |
+//! | `tree` | a journal that grows, with its classes and the number of its nodes |
 //! | `walks` | walks that go on by a turn |
 #![tactic(auto)]
 

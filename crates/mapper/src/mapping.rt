@@ -7,7 +7,7 @@ ghost use Rattle.journal_defs.specs.Growth.{IsGrown, IsEndedAtLimit};
 ghost use Rattle.journal_defs.specs.Truth.{IsTrueJournal, IsTrueWhereFound};
 ghost use Rattle.map_defs.specs.Quotient.{IsQuotient};
 ghost use Rattle.map_defs.specs.Sameness.{IsMapOfPart};
-ghost use Rattle.replicate_merge.specs.Table.{StandsFor, IsTrueOfOne};
+ghost use Rattle.class_joins.specs.Table.{StandsFor, IsTrueOfOne};
 ghost use Rattle.mapper.specs.Asks.{AreAsked};
 ghost use Rattle.mapper.specs.Ends.{IsEnd, IsOneDeeper};
 ghost use Rattle.mapper.specs.Growths.{StopsShort};
@@ -15,7 +15,6 @@ ghost use Rattle.mapper.specs.Growths.{StopsShort};
 use crate::growth::{Grown, grow};
 use map_canon::{FabricMap, closed, quotient};
 use probe::{Journal, Prober};
-use replicate_merge::Classes;
 use std::alloc::{AllocError, Global};
 
 /// How the growth of a journal ended.
@@ -37,11 +36,12 @@ pub struct Mapped {
     pub end: MapEnd,
 }
 
-/// Maps from the prober's host to a depth of so many cables: the journal that `grow` gives, and the map of that journal.
+/// Maps from the prober's host to a depth of so many cables: the journal that `grow` gives, and the map of that
+/// journal.
 ///
-/// A map that ends `Closed` while no ask drowned is the host's part of the fabric, the ports of each switch counted from elsewhere. While no
-/// ask drowns, a depth of Q + D + 1 makes it end so, where the fabric is small enough. Where it wants memory, journal and map are lost, and
-/// the prober was asked a part of the journal's asks.
+/// A map that ends `Closed` while no ask drowned is the host's part of the fabric, the ports of each switch counted
+/// from elsewhere. While no ask drowns, a depth of Q + D + 1 makes it end so, where the fabric is small enough. Where
+/// it wants memory, journal and map are lost, and the prober was asked a part of the journal's asks.
 pub fn map<P: Prober>(alloc: Global, p: &mut P, depth: u8) -> Result<Mapped, AllocError>
     requires shallow { depth ≤ 32 }
     requires is_ready { P.ready p.old }
@@ -49,13 +49,20 @@ pub fn map<P: Prober>(alloc: Global, p: &mut P, depth: u8) -> Result<Mapped, All
     ensures grown { IfOk result (λ m. IsGrown (P.mapper p.old) depth m.journal.entries) }
     ensures asked { IfOk result (λ m. AreAsked P.State P.asked (P.state p.old) m.journal.entries (P.state p.new)) }
     ensures found { IfOk result (λ m. IsTrueWhereFound (P.fabric p.old) (P.mapper p.old) m.journal.entries) }
-    ensures truth { IfOk result (λ m. (Rose (P.lost p.old) (P.lost p.new) → ⊥) → IsTrueJournal (P.fabric p.old) (P.mapper p.old) m.journal.entries) }
+    ensures truth { IfOk result (λ m. (Rose (P.lost p.old) (P.lost p.new) → ⊥)
+        → IsTrueJournal (P.fabric p.old) (P.mapper p.old) m.journal.entries) }
     ensures quotient { IfOk result (λ m. IsQuotient (P.mapper p.old) m.journal.entries m.map) }
     ensures end { IfOk result (λ m. IsEnd (P.mapper p.old) m.journal.entries m.end) }
-    ensures certificate { IfOk result (λ m. m.end ≡ MapEnd.Closed → (Rose (P.lost p.old) (P.lost p.new) → ⊥) → IsMapOfPart (P.fabric p.old) (P.mapper p.old) m.map) }
-    ensures depth { IfOk result (λ m. (Rose (P.lost p.old) (P.lost p.new) → ⊥) → enough_depth (P.fabric p.old) (P.mapper p.old) ≤ depth → IsSmallEnough (P.fabric p.old) (P.mapper p.old) → m.end ≡ MapEnd.Closed) }
-    ensures deeper { IfOk result (λ m. (Rose (P.lost p.old) (P.lost p.new) → ⊥) → enough_depth (P.fabric p.old) (P.mapper p.old) ≤ depth → IsSmallEnough (P.fabric p.old) (P.mapper p.old) → IsOneDeeper (P.fabric p.old) (P.mapper p.old) depth m.journal.entries) }
-    ensures stopped { OnErr result (StopsShort P.State P.asked P.cut (P.mapper p.old) depth [] (P.state p.old) (P.state p.new)) }
+    ensures certificate { IfOk result (λ m. m.end ≡ MapEnd.Closed → (Rose (P.lost p.old) (P.lost p.new) → ⊥)
+        → IsMapOfPart (P.fabric p.old) (P.mapper p.old) m.map) }
+    ensures depth { IfOk result (λ m. (Rose (P.lost p.old) (P.lost p.new) → ⊥)
+        → enough_depth (P.fabric p.old) (P.mapper p.old) ≤ depth → IsSmallEnough (P.fabric p.old) (P.mapper p.old)
+        → m.end ≡ MapEnd.Closed) }
+    ensures deeper { IfOk result (λ m. (Rose (P.lost p.old) (P.lost p.new) → ⊥)
+        → enough_depth (P.fabric p.old) (P.mapper p.old) ≤ depth → IsSmallEnough (P.fabric p.old) (P.mapper p.old)
+        → IsOneDeeper (P.fabric p.old) (P.mapper p.old) depth m.journal.entries) }
+    ensures stopped { OnErr result (StopsShort P.State P.asked P.cut (P.mapper p.old) depth [] (P.state p.old)
+        (P.state p.new)) }
     ensures later { P.lost p.old ≤ P.lost p.new }
     ensures same_fabric { P.fabric p.new ≡ P.fabric p.old }
     ensures same_mapper { P.mapper p.new ≡ P.mapper p.old }
@@ -73,26 +80,26 @@ pub fn map<P: Prober>(alloc: Global, p: &mut P, depth: u8) -> Result<Mapped, All
 
 // The map of a journal that has grown, and its end.
 fn map_of(alloc: Global, grown: &Grown) -> Result<(FabricMap, MapEnd), AllocError>
+    requires stands { StandsFor grown.now.journal.host grown.now.journal.entries grown.now.classes }
     requires true_of_one { IsTrueOfOne grown.now.journal.host grown.now.journal.entries }
     requires few { length grown.now.journal.entries < 4294967295 }
     requires at_limit { IsTrue grown.now.at_limit ↔ IsEndedAtLimit grown.now.journal.entries }
     ensures quotient { IfOk result (λ m. IsQuotient grown.now.journal.host grown.now.journal.entries m.0) }
     ensures end { IfOk result (λ m. IsEnd grown.now.journal.host grown.now.journal.entries m.1) }
 {
-    let classes = Classes::from_journal(alloc, &grown.journal)?;
-    let map = quotient(alloc, &grown.journal, &classes)?;
-    Ok((map, end_of(grown, &classes)))
+    let map = quotient(alloc, &grown.journal, &grown.classes)?;
+    Ok((map, end_of(grown)))
 }
 
-// How a growth ended, by the classes of its journal.
-fn end_of(grown: &Grown, classes: &Classes) -> MapEnd
+// How a growth ended.
+fn end_of(grown: &Grown) -> MapEnd
     requires at_limit { IsTrue grown.now.at_limit ↔ IsEndedAtLimit grown.now.journal.entries }
-    requires stands { StandsFor grown.now.journal.host grown.now.journal.entries classes.now }
+    requires stands { StandsFor grown.now.journal.host grown.now.journal.entries grown.now.classes }
     ensures { IsEnd grown.now.journal.host grown.now.journal.entries result }
 {
     if grown.at_limit {
         MapEnd::OpenAtNodes
-    } else if closed(&grown.journal, classes) {
+    } else if closed(&grown.journal, &grown.classes) {
         MapEnd::Closed
     } else {
         MapEnd::OpenAtDepth

@@ -1,35 +1,34 @@
 //! Which node is to be expanded next.
 
-ghost use Rattle.std.specs.Prelude.{◌≡◌, ◌<◌, length, None, Ok};
-ghost use Rattle.replicate_merge.specs.Table.{IsTrueOfOne};
+ghost use Rattle.std.specs.Prelude.{◌≡◌, ◌<◌, length, None, IfSome};
+ghost use Rattle.class_joins.specs.Table.{StandsFor};
 ghost use Rattle.mapper.specs.Growths.{AreExpanded, IsNextOpen};
-ghost use Rattle.mapper.specs.Finding.{IfFound, TellsExpanded, TellsOpen, TellsOpenAt};
+ghost use Rattle.mapper.specs.Finding.{TellsExpanded, TellsOpen, TellsOpenAt};
 
 use net_defs::{Answer, Walk};
 use probe::{Entry, Journal};
 use replicate_merge::Classes;
-use std::alloc::{AllocError, Global};
 
-/// The first place of a journal, from one on, where a switch stands that lies within the depth and whose class has no expanded member.
+/// The first place of a journal, from one on, where a switch stands that lies within the depth and whose class has no
+/// expanded member.
 pub(crate) fn next_open(
-    alloc: Global,
+    classes: &Classes,
     journal: &Journal,
     from: usize,
     depth: u8,
-) -> Result<Option<usize>, AllocError>
-    requires true_of_one { IsTrueOfOne journal.now.host journal.now.entries }
-    requires few { length journal.now.entries < 4294967295 }
-    ensures found { IfFound result (λ place. IsNextOpen journal.now.host depth journal.now.entries from place) }
-    ensures none { result ≡ Ok None → AreExpanded journal.now.host depth journal.now.entries from (length journal.now.entries) }
+) -> Option<usize>
+    requires { StandsFor journal.now.host journal.now.entries classes.now }
+    ensures found { IfSome result (λ place. IsNextOpen journal.now.host depth journal.now.entries from place) }
+    ensures none { result ≡ None → AreExpanded journal.now.host depth journal.now.entries from
+        (length journal.now.entries) }
 {
-    let classes = Classes::from_journal(alloc, journal)?;
     let entries = journal.entries();
     for place in from..entries.len() {
-        if is_open_at(&classes, entries, place, depth) {
-            return Ok(Some(place));
+        if is_open_at(classes, entries, place, depth) {
+            return Some(place);
         }
     }
-    Ok(None)
+    None
 }
 
 // Whether the entry at a place is to be expanded.

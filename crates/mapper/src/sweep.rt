@@ -1,8 +1,7 @@
 //! One node after another, in the order of their walks.
 
 ghost use Rattle.std.specs.Prelude.{◌≡◌, ◌<◌, ◌≤◌, true, false, length, IfOk, OnOk, OnErr, Ok};
-ghost use Rattle.replicate_merge.specs.Table.{IsTrueOfOne};
-ghost use Rattle.mapper.specs.Growths.{HasGrown, StopsShort, IsNextOpen, IsSettled, IsWhole, IsWalkAt};
+ghost use Rattle.mapper.specs.Growths.{HasGrown, StopsShort, IsToldOf, IsNextOpen, IsSettled, IsWhole, IsWalkAt};
 
 use crate::expanding::expand;
 use crate::opening::next_open;
@@ -20,20 +19,22 @@ pub(crate) fn expand_next<P: Prober>(
     requires is_ready { P.ready p.old }
     requires mapper { tree.old.journal.host ≡ P.mapper p.old }
     requires shallow { tree.old.depth ≤ 32 }
-    requires true_of_one { IsTrueOfOne tree.old.journal.host tree.old.journal.entries }
+    requires told { IsToldOf (P.fabric p.old) (P.mapper p.old) tree.old.journal.entries }
     requires settled { IsSettled tree.old next.old }
-    ensures grown { OnOk result (HasGrown P.State P.asked (P.fabric p.old) tree.old (P.state p.old) (P.lost p.old) tree.new (P.state p.new) (P.lost p.new)) }
+    ensures grown { OnOk result (HasGrown P.State P.asked (P.fabric p.old) tree.old (P.state p.old)
+        (P.lost p.old) tree.new (P.state p.new) (P.lost p.new)) }
     ensures goes_on { result ≡ Ok true → IsSettled tree.new next.new }
     ensures rises { result ≡ Ok true → next.old < next.new }
     ensures ends { result ≡ Ok false → IsWhole tree.new }
-    ensures stopped { OnErr result (StopsShort P.State P.asked P.cut tree.old.journal.host tree.old.depth tree.old.journal.entries (P.state p.old) (P.state p.new)) }
+    ensures stopped { OnErr result
+        (StopsShort P.State P.asked P.cut tree.old.journal.host tree.old.depth tree.old.journal.entries
+        (P.state p.old) (P.state p.new)) }
     ensures later { P.lost p.old ≤ P.lost p.new }
     ensures same_fabric { P.fabric p.new ≡ P.fabric p.old }
     ensures same_mapper { P.mapper p.new ≡ P.mapper p.old }
     ensures stays_ready { OnOk result (P.ready p.new) }
 {
-    let found = next_open(alloc, &tree.journal, *next, tree.depth)?;
-    match found {
+    match next_open(&tree.classes, &tree.journal, *next, tree.depth) {
         Some(place) => expand_at(alloc, p, tree, next, place),
         None => Ok(false),
     }
@@ -50,13 +51,17 @@ fn expand_at<P: Prober>(
     requires is_ready { P.ready p.old }
     requires mapper { tree.old.journal.host ≡ P.mapper p.old }
     requires shallow { tree.old.depth ≤ 32 }
+    requires told { IsToldOf (P.fabric p.old) (P.mapper p.old) tree.old.journal.entries }
     requires settled { IsSettled tree.old next.old }
     requires is_next { IsNextOpen tree.old.journal.host tree.old.depth tree.old.journal.entries next.old place }
-    ensures grown { OnOk result (HasGrown P.State P.asked (P.fabric p.old) tree.old (P.state p.old) (P.lost p.old) tree.new (P.state p.new) (P.lost p.new)) }
+    ensures grown { OnOk result (HasGrown P.State P.asked (P.fabric p.old) tree.old (P.state p.old)
+        (P.lost p.old) tree.new (P.state p.new) (P.lost p.new)) }
     ensures goes_on { result ≡ Ok true → IsSettled tree.new next.new }
     ensures rises { result ≡ Ok true → next.old < next.new }
     ensures ends { result ≡ Ok false → IsWhole tree.new }
-    ensures stopped { OnErr result (StopsShort P.State P.asked P.cut tree.old.journal.host tree.old.depth tree.old.journal.entries (P.state p.old) (P.state p.new)) }
+    ensures stopped { OnErr result
+        (StopsShort P.State P.asked P.cut tree.old.journal.host tree.old.depth tree.old.journal.entries
+        (P.state p.old) (P.state p.new)) }
     ensures later { P.lost p.old ≤ P.lost p.new }
     ensures same_fabric { P.fabric p.new ≡ P.fabric p.old }
     ensures same_mapper { P.mapper p.new ≡ P.mapper p.old }

@@ -9,4 +9,5 @@ MappingIsRead = (b : MappingBody) → is_mapping b ≡ true → decode_mapping (
 
 -- and what is read as one was written so, by the rules
 abbrev pub MappingWasWritten : Type 0
-MappingWasWritten = (bytes : List ℕ) (b : MappingBody) → AreBytes bytes → decode_mapping bytes ≡ Some b → (bytes ≡ mapping_bytes b) × (is_mapping b ≡ true)
+MappingWasWritten = (bytes : List ℕ) (b : MappingBody) → AreBytes bytes → decode_mapping bytes ≡ Some b
+    → (bytes ≡ mapping_bytes b) × (is_mapping b ≡ true)

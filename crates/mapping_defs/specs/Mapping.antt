@@ -1,5 +1,7 @@
--- The bytes of type 0x0005: probes, replies, route parts and their acknowledgements. Numbers stand with the greatest byte first; a route is one byte n, at most 64, and n route bytes.
-use Rattle.std.specs.Prelude.{ℕ, zero, suc, ◌^◌, ℤ, Bool, true, ◌&&◌, List, [], ◌∷◌, ◌++◌, map, length, take, drop, nat_eq, nat_lt, nat_le, if◌then◌else◌, Option, Some, None, option_map, option_and_then}
+-- The bytes of type 0x0005: probes, replies, route parts and their acknowledgements. Numbers stand with the greatest
+-- byte first; a route is one byte n, at most 64, and n route bytes.
+use Rattle.std.specs.Prelude.{ℕ, zero, suc, ◌^◌, ℤ, Bool, true, ◌&&◌, List, [], ◌∷◌, ◌++◌, map, length, take, drop}
+use Rattle.std.specs.Prelude.{nat_eq, nat_lt, nat_le, if◌then◌else◌, Option, Some, None, option_map, option_and_then}
 use Rattle.std.specs.List.{list_all}
 use Rattle.std.specs.Int.{Width, w16, w32, w64, to_be_bytes, from_be_bytes}
 use Rattle.net_defs.specs.Turn.{is_turn}
@@ -10,7 +12,8 @@ pub record RouteEntry : Type 0 where
   pub to : ℕ
   pub walk : List ℤ
 
--- One part of a host's table: the epoch of the routes, their mapper, the host, which part of how many, the way back, and entries.
+-- One part of a host's table: the epoch of the routes, their mapper, the host, which part of how many, the way back,
+-- and entries.
 pub record RoutePart : Type 0 where
   pub epoch : ℕ
   pub mapper : ℕ
@@ -43,7 +46,8 @@ mapping_bytes (HostProbe number mapper back) = 1 ∷ to_be_bytes w64 number ++ t
 mapping_bytes (HostReply number host) = 2 ∷ to_be_bytes w64 number ++ to_be_bytes w16 host
 mapping_bytes (Loopback number mapper) = 3 ∷ to_be_bytes w64 number ++ to_be_bytes w16 mapper
 mapping_bytes (Part p) =
-    4 ∷ to_be_bytes w32 p.epoch ++ to_be_bytes w16 p.mapper ++ to_be_bytes w16 p.dst ++ p.part ∷ p.parts ∷ route_bytes p.back
+    4 ∷ to_be_bytes w32 p.epoch ++ to_be_bytes w16 p.mapper ++ to_be_bytes w16 p.dst
+    ++ p.part ∷ p.parts ∷ route_bytes p.back
     ++ length p.entries ∷ entry_bytes p.entries
 mapping_bytes (PartAck epoch host part) = 5 ∷ to_be_bytes w32 epoch ++ to_be_bytes w16 host ++ part ∷ []
 
@@ -59,7 +63,8 @@ are_entries (e ∷ es) = nat_lt e.to (2 ^ 16) && is_route e.walk && list_all (λ
 -- the rules of a route part
 abbrev pub is_part : RoutePart → Bool
 is_part p =
-    nat_lt p.epoch (2 ^ 32) && nat_lt p.mapper (2 ^ 16) && nat_lt p.dst (2 ^ 16) && nat_lt p.part p.parts && nat_le p.parts 16
+    nat_lt p.epoch (2 ^ 32) && nat_lt p.mapper (2 ^ 16) && nat_lt p.dst
+    (2 ^ 16) && nat_lt p.part p.parts && nat_le p.parts 16
     && is_route p.back && nat_le 1 (length p.entries) && nat_le (length p.entries) 8 && are_entries p.entries
 
 -- the rules of a body
@@ -76,7 +81,8 @@ Front A = Option (A × List ℕ)
 
 -- a number of so many bytes in front
 abbrev pub number_front : Width → ℕ → List ℕ → Front ℕ
-number_front w count bytes = if nat_le count (length bytes) then Some (from_be_bytes w (take count bytes), drop count bytes) else None
+number_front w count bytes = if nat_le count (length bytes)
+    then Some (from_be_bytes w (take count bytes), drop count bytes) else None
 
 -- the byte in front
 abbrev pub byte_front : List ℕ → Front ℕ
@@ -85,7 +91,8 @@ byte_front (byte ∷ bytes) = Some (byte, bytes)
 
 -- so many turns in front
 abbrev pub turns_front : ℕ → List ℕ → Front (List ℤ)
-turns_front n bytes = if nat_le n 64 && nat_le n (length bytes) then option_map (λ turns. (turns, drop n bytes)) (turns_of (take n bytes)) else None
+turns_front n bytes = if nat_le n 64 && nat_le n (length bytes) then option_map (λ turns.
+    (turns, drop n bytes)) (turns_of (take n bytes)) else None
 
 -- the route in front
 abbrev pub route_front : List ℕ → Front (List ℤ)
@@ -94,12 +101,14 @@ route_front bytes = option_and_then (λ n. turns_front n.0 n.1) (byte_front byte
 -- the entry in front
 abbrev pub entry_front : List ℕ → Front RouteEntry
 entry_front bytes =
-    option_and_then (λ to. option_map (λ walk. (record { to = to.0; walk = walk.0 }, walk.1)) (route_front to.1)) (number_front w16 2 bytes)
+    option_and_then (λ to. option_map (λ walk. (record { to = to.0; walk = walk.0 }, walk.1)) (route_front to.1))
+    (number_front w16 2 bytes)
 
 -- so many entries in front
 abbrev pub entries_front : ℕ → List ℕ → Front (List RouteEntry)
 entries_front zero bytes = Some ([], bytes)
-entries_front (suc k) bytes = option_and_then (λ e. option_map (λ es. (e.0 ∷ es.0, es.1)) (entries_front k e.1)) (entry_front bytes)
+entries_front (suc k) bytes = option_and_then (λ e.
+    option_map (λ es. (e.0 ∷ es.0, es.1)) (entries_front k e.1)) (entry_front bytes)
 
 -- a value that is all of the bytes
 abbrev pub whole : {A : Type 0} → Front A → Option A
@@ -112,10 +121,12 @@ abbrev pub two_front : Width → ℕ → List ℕ → Front (ℕ × ℕ)
 two_front w count bytes =
     option_and_then (λ n. option_map (λ m. ((n.0, m.0), m.1)) (number_front w16 2 n.1)) (number_front w count bytes)
 
--- a route part with what is in front: its entries, with their number before them; before these its way back; before it part and parts; before them the host
+-- a route part with what is in front: its entries, with their number before them; before these its way back; before
+-- it part and parts; before them the host
 abbrev pub with_entries : RoutePart → List ℕ → Front RoutePart
 with_entries p bytes =
-    option_and_then (λ n. option_map (λ es. (record p { entries = es.0 }, es.1)) (entries_front n.0 n.1)) (byte_front bytes)
+    option_and_then (λ n. option_map (λ es. (record p { entries = es.0 }, es.1)) (entries_front n.0 n.1))
+    (byte_front bytes)
 
 -- a part with its way back in front
 abbrev pub with_back : RoutePart → List ℕ → Front RoutePart
@@ -124,7 +135,8 @@ with_back p bytes = option_and_then (λ back. with_entries (record p { back = ba
 -- a part with its number and the number of parts in front
 abbrev pub with_parts : RoutePart → List ℕ → Front RoutePart
 with_parts p bytes =
-    option_and_then (λ part. option_and_then (λ parts. with_back (record p { part = part.0; parts = parts.0 }) parts.1) (byte_front part.1)) (byte_front bytes)
+    option_and_then (λ part. option_and_then (λ parts.
+    with_back (record p { part = part.0; parts = parts.0 }) parts.1) (byte_front part.1)) (byte_front bytes)
 
 -- a part with its host in front
 abbrev pub with_dst : RoutePart → List ℕ → Front RoutePart
@@ -134,16 +146,26 @@ with_dst p bytes = option_and_then (λ dst. with_parts (record p { dst = dst.0 }
 abbrev pub part_front : List ℕ → Front RoutePart
 part_front bytes =
     option_and_then
-    (λ two. with_dst (record { epoch = two.0.0; mapper = two.0.1; dst = 0; part = 0; parts = 0; back = []; entries = [] }) two.1)
+    (λ two. with_dst (record {
+      epoch = two.0.0;
+      mapper = two.0.1;
+      dst = 0;
+      part = 0;
+      parts = 0;
+      back = [];
+      entries = [];
+    }) two.1)
     (two_front w32 4 bytes)
 
 -- the acknowledgement of a part in front
 abbrev pub ack_front : List ℕ → Front MappingBody
-ack_front bytes = option_and_then (λ two. option_map (λ part. (PartAck two.0.0 two.0.1 part.0, part.1)) (byte_front two.1)) (two_front w32 4 bytes)
+ack_front bytes = option_and_then (λ two. option_map (λ part.
+    (PartAck two.0.0 two.0.1 part.0, part.1)) (byte_front two.1)) (two_front w32 4 bytes)
 
 -- a host probe in front
 abbrev pub probe_front : List ℕ → Front MappingBody
-probe_front bytes = option_and_then (λ two. option_map (λ back. (HostProbe two.0.0 two.0.1 back.0, back.1)) (route_front two.1)) (two_front w64 8 bytes)
+probe_front bytes = option_and_then (λ two. option_map (λ back.
+    (HostProbe two.0.0 two.0.1 back.0, back.1)) (route_front two.1)) (two_front w64 8 bytes)
 
 -- the body of a kind in front of these bytes
 abbrev pub of_kind : ℕ → List ℕ → Front MappingBody

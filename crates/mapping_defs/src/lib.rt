@@ -1,6 +1,8 @@
-//! What the bodies of the mapper's protocol are: probes, their replies, parts of tables and their acknowledgements, with their bytes.
+//! What the bodies of the mapper's protocol are: probes, their replies, parts of tables and their acknowledgements,
+//! with their bytes.
 //!
-//! This crate holds definitions. It reads no packet: that is `probe` and `route_parts`. `specs/Mapping.antt` says what each body's bytes are.
+//! This crate holds definitions. It reads no packet: that is `probe` and `route_parts`. `specs/Mapping.antt` says
+//! what each body's bytes are.
 //!
 //! ```text
 //!   host probe       1 | number (8) | mapper (2) | n | n route bytes of the way back

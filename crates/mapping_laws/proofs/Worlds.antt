@@ -1,80 +1,24 @@
 -- What events, plans, settles and installations keep of a world: the fabric, that it is one of it, and that planned flips have eight bits.
-use Rattle.std.proofs.Common.{◌≡◌, ◌+◌, ℕ, Bool, true, false, List, [], ◌∷◌, nat_eq, Option, Some, None, Ordering, Less, Equal, Greater, refl, sym, ◌∙◌, subst, if◌then◌else◌}
-use Rattle.std.specs.List.{AllByRecursion}
-use Rattle.std.specs.Map.{lookup}
-use Rattle.std.specs.Ordering.{match_ordering, nat_cmp}
+use Rattle.std.proofs.Common.{◌≡◌, ◌+◌, ℕ, Bool, true, false, List, [], ◌∷◌, refl, sym, ◌∙◌, subst, if◌then◌else◌}
 use Rattle.net_defs.specs.declared.route.Route.{Route}
-use Rattle.link_defs.specs.Links.{LinkState}
 use Rattle.world_defs.specs.declared.event.Event.{Event}
 use Rattle.world_defs.specs.declared.event.Event.TheVariants.{Ask, Part, Inject, Flip, GiveUp}
 use Rattle.world_defs.specs.declared.fault.Fault.{Fault}
-use Rattle.world_defs.specs.Node.{Outgoing}
 use Rattle.world_defs.specs.Table.{Adoption}
-use Rattle.world_defs.specs.World.{WorldState, fabric_of, planned, adopted_by, without_fault, with_fault, addresses}
-use Rattle.world_defs.specs.Step.{sent_out, fault_on, struck_by, fault_strikes, planned_strikes, step}
+use Rattle.world_defs.specs.World.{WorldState, fabric_of, planned, adopted_by, addresses}
+use Rattle.world_defs.specs.Step.{step}
 use Rattle.world_defs.specs.Drain.{drain}
 use Rattle.world_defs.specs.Asking.{Tried, Sent, sends, is_harmed, all_given_up}
 use Rattle.world_defs.specs.Install.{has_staged_answer, answered, part_try, part_tries, parts_installed, parts_of, host_counted, hosts_installed, installed}
 use Rattle.world_defs.specs.Settle.{settle}
+use Rattle.world_defs.proofs.Kept.{step-adopted, with-all, step-plan}
 use Rattle.world_defs.specs.EightBits.{IsByteFault, IsByteEvent, HasByteFaults}
 use Rattle.world_laws.specs.Shape.{IsWorld}
 use Rattle.world_laws.specs.Reached.{IsOfSettle}
 use Rattle.world_laws.proofs.Shapes.{step-kept, adopted-world, planned-world}
-use Rattle.world_laws.proofs.Leaves.{Follows, FollowsCalls, step-leaves}
 use Rattle.world_laws.proofs.Along.{Along, after_all-along, drain-along}
 use Rattle.world_laws.proofs.Reached.{settle-reached}
 use Rattle.ask_laws.proofs.Along.{Asks, given_up-of, tries-of}
-
-abbrev AreByteFaults : List (ℕ × Fault) → Type 0
-AreByteFaults fs = AllByRecursion (λ f. IsByteFault f.1) fs
-
--- a plan of such faults stays one
-without-bytes : (number : ℕ) (fs : List (ℕ × Fault)) → AreByteFaults fs → AreByteFaults (without_fault number fs)
-without-bytes number [] all = tt
-without-bytes number (f ∷ fs) all = by (nat_eq number f.0) (without-bytes number fs all.1)
-  where
-    by : (b : Bool) → AreByteFaults (without_fault number fs) → AreByteFaults (if b then fs else f ∷ without_fault number fs)
-    by true rest = all.1
-    by false rest = (all.0, rest)
-
-with-bytes : (number : ℕ) (fault : Fault) (fs : List (ℕ × Fault)) → IsByteFault fault → AreByteFaults fs → AreByteFaults (with_fault number fault fs)
-with-bytes number fault [] low all = (low, tt)
-with-bytes number fault (f ∷ fs) low all = by (nat_cmp number f.0) (with-bytes number fault fs low all.1)
-  where
-    by : (o : Ordering) → AreByteFaults (with_fault number fault fs) → AreByteFaults (match_ordering o ((number, fault) ∷ f ∷ fs) ((f.0, fault) ∷ fs) (f ∷ with_fault number fault fs))
-    by Less rest = (low, all)
-    by Equal rest = (low, all.1)
-    by Greater rest = (all.0, rest)
-
-abbrev StaysOfBytes : WorldState → WorldState → Type 0
-StaysOfBytes w v = AreByteFaults w.plan → AreByteFaults v.plan
-
-struck_by-bytes : (w : WorldState) (f : Fault) (o : Bool × LinkState) → AreByteFaults w.plan → AreByteFaults (struck_by w f o).plan
-struck_by-bytes w f (true, l) all = all
-struck_by-bytes w f (false, l) all = all
-
-fault_strikes-bytes : (w : WorldState) (c : ℕ) (o : Option Fault) → AreByteFaults w.plan → AreByteFaults (fault_strikes w c o).plan
-fault_strikes-bytes w c None all = all
-fault_strikes-bytes w c (Some f) all = struck_by-bytes (record w { plan = without_fault w.injected w.plan }) f (fault_on w.links c f) (without-bytes w.injected w.plan all)
-
-injection-bytes : (w : WorldState) (h c : ℕ) (out : Outgoing) → AreByteFaults w.plan → AreByteFaults (planned_strikes (sent_out w h c out) c).plan
-unfolding sent_out planned_strikes
-injection-bytes w h c out all =
-    let u : WorldState = sent_out w h c out in
-    fault_strikes-bytes u c (lookup (nat_eq u.injected) u.plan) all
-
-follows-bytes : Follows StaysOfBytes
-follows-bytes = record {
-  same = λ w all. all;
-  both = λ u v w f g all. g (f all);
-  links = λ w x all. all;
-  node = λ w h n k all. all;
-  drop = λ w all. all;
-  injection = λ w h c out low e all. injection-bytes w h c out all;
-}
-
-calls-bytes : FollowsCalls StaysOfBytes
-calls-bytes w h port call k all = all
 
 -- what is kept from a world to another
 pub record Stays (w v : WorldState) : Type 0 where
@@ -89,13 +33,13 @@ pub stays-both : (u v w : WorldState) → Stays u v → Stays v w → Stays u w
 stays-both u v w a b = record { fabric = b.fabric ∙ a.fabric; world = λ is. b.world (a.world is); bytes = λ all. b.bytes (a.bytes all) }
 
 pub stays-event : (w : WorldState) (e : Event) → Stays w (step w e).1
-stays-event w e = let k = step-kept w e in record { fabric = k.net; world = k.world; bytes = λ all. step-leaves StaysOfBytes follows-bytes calls-bytes w e all }
+stays-event w e = let k = step-kept w e in record { fabric = k.net; world = k.world; bytes = step-plan w e }
 
 stays-along : (Q : Event → Type 0) → Along Stays Q
 stays-along Q = record { same = stays-same; both = stays-both; event = λ w e q. stays-event w e }
 
 pub stays-plan : (w : WorldState) (ahead : ℕ) (fault : Fault) → IsByteFault fault → Stays w (planned w ahead fault).1
-stays-plan w ahead fault low = record { fabric = refl; world = planned-world w ahead fault; bytes = λ all. with-bytes (w.injected + ahead) fault w.plan low all }
+stays-plan w ahead fault low = record { fabric = refl; world = planned-world w ahead fault; bytes = with-all (w.injected + ahead) fault w.plan low }
 
 pub stays-adopted : (w : WorldState) (mapper : ℕ) (routes : List Route) → Stays w (adopted_by w mapper routes)
 stays-adopted w mapper routes = record { fabric = refl; world = adopted-world w mapper routes; bytes = λ all. all }
@@ -180,33 +124,8 @@ stays-installed a hosts tries w = installed-of Stays (stays-along IsByteEvent) a
 abbrev pub SameSet : WorldState → WorldState → Type 0
 SameSet w v = v.adopted ≡ w.adopted
 
-struck_by-set : (w : WorldState) (f : Fault) (o : Bool × LinkState) → (struck_by w f o).adopted ≡ w.adopted
-struck_by-set w f (true, l) = refl
-struck_by-set w f (false, l) = refl
-
-fault_strikes-set : (w : WorldState) (c : ℕ) (o : Option Fault) → (fault_strikes w c o).adopted ≡ w.adopted
-fault_strikes-set w c None = refl
-fault_strikes-set w c (Some f) = struck_by-set (record w { plan = without_fault w.injected w.plan }) f (fault_on w.links c f)
-
-injection-set : (w : WorldState) (h c : ℕ) (out : Outgoing) → (planned_strikes (sent_out w h c out) c).adopted ≡ w.adopted
-unfolding sent_out planned_strikes
-injection-set w h c out = let u : WorldState = sent_out w h c out in fault_strikes-set u c (lookup (nat_eq u.injected) u.plan)
-
-follows-set : Follows SameSet
-follows-set = record {
-  same = λ w. refl;
-  both = λ u v w f g. g ∙ f;
-  links = λ w x. refl;
-  node = λ w h n k. refl;
-  drop = λ w. refl;
-  injection = λ w h c out low e. injection-set w h c out;
-}
-
-calls-set : FollowsCalls SameSet
-calls-set w h port call k = refl
-
 pub event-set : (w : WorldState) (e : Event) → SameSet w (step w e).1
-event-set w e = step-leaves SameSet follows-set calls-set w e
+event-set w e = step-adopted w e
 
 along-set : Along SameSet IsByteEvent
 along-set = record { same = λ w. refl; both = λ u v w f g. g ∙ f; event = λ w e q. event-set w e }

@@ -17,7 +17,8 @@ pub record IsRightMap (n : Network) (l : LastMap) : Type 0 where
   pub rules : IsMap l.made
   pub right : IsMapOfPart n l.mapper l.made
 
--- A session's last map is right where it says complete; its last routes lead to their hosts, join each two of them, and leave no cycle of dependencies in the fabric; and so do the routes of the adopted set.
+-- A session's last map is right where it says complete; its last routes lead to their hosts, join each two of them,
+-- and leave no cycle of dependencies in the fabric; and so do the routes of the adopted set.
 pub record HoldsRight (n : Network) (s : SessionState) : Type 0 where
   pub complete : (l : LastMap) → complete_map s.last_map ≡ Some l → IsRightMap n l
   pub routes : (l : LastRoutes) → s.last_routes ≡ Some l → AreRightRoutes n l.mapper l.routes
@@ -25,4 +26,5 @@ pub record HoldsRight (n : Network) (s : SessionState) : Type 0 where
 
 -- every run of such commands ends in such a session
 abbrev pub RunHoldsRight : Type 0
-RunHoldsRight = (n : Network) (commands : List Command) (out : List Piece) (last : SessionState) → IsFabric n → AllByRecursion (IsCommandOf n) commands → IsRun n commands out last → HoldsRight n last
+RunHoldsRight = (n : Network) (commands : List Command) (out : List Piece) (last : SessionState) → IsFabric n
+    → AllByRecursion (IsCommandOf n) commands → IsRun n commands out last → HoldsRight n last

@@ -1,4 +1,5 @@
--- What holds of every mapping over the world of a fabric: whatever it found is there, and a map that it calls complete is right.
+-- What holds of every mapping over the world of a fabric: whatever it found is there, and a map that it calls
+-- complete is right.
 use Rattle.std.specs.Prelude.{◌≡◌, ℕ, ◌<◌, ◌≤◌, true, List}
 use Rattle.net_defs.specs.Network.{IsFabric}
 use Rattle.link_defs.specs.Links.{is_idle}
@@ -16,8 +17,9 @@ use Rattle.run_defs.specs.declared.line.MapWords.TheVariants.{Complete}
 use Rattle.run_defs.specs.Mapped.{IsMapped}
 use Rattle.run_defs.specs.Headline.{IsQuiet}
 
--- What a mapping is made over: the world of a fabric, with idle links, in which the mapper is a host, and each planned flip has a pattern of
--- eight bits. To a depth of 65 cables a walk has at most 64 turns, as many as a probe carries.
+-- What a mapping is made over: the world of a fabric, with idle links, in which the mapper is a host, and each
+-- planned flip has a pattern of eight bits. To a depth of 65 cables a walk has at most 64 turns, as many as a probe
+-- carries.
 pub record CanMap (host depth : ℕ) (w : WorldState) : Type 0 where
   pub fabric : IsFabric (fabric_of w)
   pub world : IsWorld w
@@ -30,13 +32,15 @@ pub record CanMap (host depth : ℕ) (w : WorldState) : Type 0 where
 abbrev pub FoundIsThere : Type 0
 FoundIsThere =
     (host depth tries : ℕ) (before after : WorldState) (j : List Entry) (m : NetMap) (words : MapWords)
-    → CanMap host depth before → IsMapped host depth tries before after j m words → IsTrueWhereFound (fabric_of before) host j
+    → CanMap host depth before → IsMapped host depth tries before after j m words
+    → IsTrueWhereFound (fabric_of before) host j
 
 -- Where no ask drowned, all its answers are true.
 abbrev pub UndrownedIsTrue : Type 0
 UndrownedIsTrue =
     (host depth tries : ℕ) (before after : WorldState) (j : List Entry) (m : NetMap) (words : MapWords)
-    → CanMap host depth before → (made : IsMapped host depth tries before after j m words) → made.drowned ≡ 0 → IsTrueJournal (fabric_of before) host j
+    → CanMap host depth before → (made : IsMapped host depth tries before after j m words) → made.drowned ≡ 0
+    → IsTrueJournal (fabric_of before) host j
 
 -- A map that was made keeps the rules of maps, whatever it is called.
 abbrev pub MadeMapIsMap : Type 0
@@ -48,13 +52,15 @@ MadeMapIsMap =
 abbrev pub MadeMapIsRight : Type 0
 MadeMapIsRight =
     (host depth tries : ℕ) (before after : WorldState) (j : List Entry) (m : NetMap)
-    → CanMap host depth before → IsMapped host depth tries before after j m Complete → IsMapOfPart (fabric_of before) host m
+    → CanMap host depth before → IsMapped host depth tries before after j m Complete
+    → IsMapOfPart (fabric_of before) host m
 
 -- A mapping changes no table, no connection and no port, and leaves a world in which the host can map again.
 abbrev pub MappingKeeps : Type 0
 MappingKeeps =
     (host depth tries : ℕ) (before after : WorldState) (j : List Entry) (m : NetMap) (words : MapWords)
-    → CanMap host depth before → IsMapped host depth tries before after j m words → IsAskKept before after × CanMap host depth after
+    → CanMap host depth before → IsMapped host depth tries before after j m words
+    → IsAskKept before after × CanMap host depth after
 
 -- On a quiet fabric a map to the depth that suffices, with 1 to 8 tries an ask, is called complete.
 abbrev pub DeepMapIsComplete : Type 0

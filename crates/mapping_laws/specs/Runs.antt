@@ -1,4 +1,5 @@
--- What holds along every run over a fabric: its world stays one of the fabric, and each map that it prints under the word complete is right.
+-- What holds along every run over a fabric: its world stays one of the fabric, and each map that it prints under the
+-- word complete is right.
 use Rattle.std.specs.Prelude.{◌≡◌, List}
 use Rattle.std.specs.List.{AllByRecursion}
 use Rattle.net_defs.specs.Network.{Network, IsFabric}
@@ -19,7 +20,8 @@ pub record IsSessionOf (n : Network) (s : SessionState) : Type 0 where
 
 -- a run of such commands ends in such a session
 abbrev pub RunKeepsWorld : Type 0
-RunKeepsWorld = (n : Network) (commands : List Command) (out : List Piece) (last : SessionState) → IsFabric n → AllByRecursion (IsCommandOf n) commands → IsRun n commands out last → IsSessionOf n last
+RunKeepsWorld = (n : Network) (commands : List Command) (out : List Piece) (last : SessionState) → IsFabric n
+    → AllByRecursion (IsCommandOf n) commands → IsRun n commands out last → IsSessionOf n last
 
 -- every map that it prints under the word complete is the mapper's part of the fabric
 abbrev pub CompleteMapsAreTrue : Type 0

@@ -1,6 +1,7 @@
 //! What holds of every mapping over the world of a fabric, and of the maps that every run prints.
 //!
-//! It makes no map, and says nothing of how a command prints one. Read `specs/Laws.antt` first, and then `specs/Runs.antt`.
+//! It makes no map, and says nothing of how a command prints one. Read `specs/Laws.antt` first, and then
+//! `specs/Runs.antt`.
 //!
 //! | file of `specs/` | says |
 //! |---|---|

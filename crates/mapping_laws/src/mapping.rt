@@ -1,8 +1,10 @@
 //! What a mapping finds and leaves: `specs/Laws.antt` has the statements.
 
-ghost use Rattle.mapping_laws.specs.Laws.{FoundIsThere, UndrownedIsTrue, MadeMapIsMap, MadeMapIsRight, MappingKeeps, DeepMapIsComplete};
+ghost use Rattle.mapping_laws.specs.Laws.{FoundIsThere, UndrownedIsTrue, MadeMapIsMap, MadeMapIsRight, MappingKeeps};
+ghost use Rattle.mapping_laws.specs.Laws.{DeepMapIsComplete};
 
-/// Whatever a mapping found is there, its map is a map, and where it is called complete it is the mapper's part of the fabric.
+/// Whatever a mapping found is there, its map is a map, and where it is called complete it is the mapper's part of
+/// the fabric.
 pub fn made_maps()
     ensures found { FoundIsThere }
     ensures undrowned { UndrownedIsTrue }

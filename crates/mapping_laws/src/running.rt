@@ -8,13 +8,15 @@ pub fn kept_by_runs()
     ensures { RunKeepsWorld }
 {}
 
-/// Every map that a run prints under the word complete is the mapper's part of the fabric, and a deep map of a quiet fabric says so.
+/// Every map that a run prints under the word complete is the mapper's part of the fabric, and a deep map of a quiet
+/// fabric says so.
 pub fn maps_of_runs()
     ensures complete { CompleteMapsAreTrue }
     ensures deep { DeepMapsAreComplete }
 {}
 
-/// A run holds a right map where it says complete; the routes that it computed from one are right, and so are those that it adopted.
+/// A run holds a right map where it says complete; the routes that it computed from one are right, and so are those
+/// that it adopted.
 pub fn held_by_runs()
     ensures { RunHoldsRight }
 {}

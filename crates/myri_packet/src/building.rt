@@ -6,33 +6,33 @@ ghost use Rattle.packet_defs.specs.RouteByte.{route_byte};
 
 use crate::packet::Packet;
 use crate::route_byte::route_byte;
-use bytes::{BufMut, BytesMut};
+use bytes::BytesMut;
 use crc_eight::crc;
 use packet_defs::Kind;
 use std::alloc::{AllocError, Global};
 
-/// The packet of a route, a kind and a payload, with the CRC that is due. Its turns are from -15 to 15: another has no route byte, and
-/// its byte stops the packet, or turns it elsewhere.
+/// The packet of a route, a kind and a payload, with the CRC that is due. Its turns are from -15 to 15: another has
+/// no route byte, and its byte stops the packet, or turns it elsewhere.
 pub fn encode(alloc: Global, route: &[i8], kind: Kind, payload: &[u8]) -> Result<Packet, AllocError>
     requires few { length route.now ≤ 64 }
     requires short { length payload.now ≤ 1040 }
     ensures { IfOk result (λ p. p ≡ packet_of route.now kind payload.now) }
 {
-    let mut bytes = BytesMut::with_capacity(alloc, route.len() + payload.len() + 3)?;
+    let mut bytes = Vec::with_capacity(alloc, route.len() + payload.len() + 3)?;
     put_route(&mut bytes, route)?;
-    bytes.put_u16(type_number(kind))?;
-    bytes.put_slice(payload)?;
-    let due = crc(bytes.as_slice());
-    bytes.put_u8(due)?;
-    Ok(Packet::from_buffer(bytes))
+    bytes.extend_from_slice(&type_number(kind).to_be_bytes())?;
+    bytes.extend_from_slice(payload)?;
+    let due = crc(&bytes);
+    bytes.push(due)?;
+    Ok(Packet::from_buffer(BytesMut::from_vec(bytes)))
 }
 
 // Puts the route bytes of turns behind what is there.
-fn put_route(bytes: &mut BytesMut, route: &[i8]) -> Result<(), AllocError>
+fn put_route(bytes: &mut Vec<u8>, route: &[i8]) -> Result<(), AllocError>
     ensures { OnOk result (bytes.new.items ≡ bytes.old.items ++ map route_byte route.now) }
 {
     for turn in route {
-        bytes.put_u8(route_byte(*turn))?;
+        bytes.push(route_byte(*turn))?;
     }
     Ok(())
 }

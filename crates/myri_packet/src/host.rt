@@ -16,8 +16,8 @@ pub enum Body<'a> {
     Gm(&'a [u8]),
 }
 
-/// The payload of a packet that reached a host, or the first reason to drop it: `BadCrc`, `RouteLeft` where the head begins with 0x80 or
-/// more, `Malformed` where the head is shorter than a type, `UnknownType`.
+/// The payload of a packet that reached a host, or the first reason to drop it: `BadCrc`, `RouteLeft` where the head
+/// begins with 0x80 or more, `Malformed` where the head is shorter than a type, `UnknownType`.
 pub fn decode_at_host(p: &Packet) -> Result<Body<'_>, HostDrop>
     ensures { MatchResult result (λ body. decode p.now ≡ Ok (parts_of body)) (λ drop. decode p.now ≡ Err drop) }
 {

@@ -1,7 +1,7 @@
 //! A packet in memory: building it, the strip of its front byte, a flip, and what a host makes of it.
 //!
-//! It moves no packet and knows no switch. What a contract sees of a `Packet` is the list of its bytes on the wire; `specs/Packet.antt` of
-//! `packet_defs` says what they are, and `specs/Refusals.antt` here which bytes are refused.
+//! It moves no packet and knows no switch. What a contract sees of a `Packet` is the list of its bytes on the wire;
+//! `specs/Packet.antt` of `packet_defs` says what they are, and `specs/Refusals.antt` here which bytes are refused.
 //!
 //! ```text
 //!   83 | 00 05 | .. | AD      before the strip: one route byte, the type, a payload, the CRC

@@ -1,6 +1,7 @@
 //! A packet: reading it, stripping it, flipping it.
 
-ghost use Rattle.std.specs.Prelude.{◌≡◌, ◌<◌, ◌≤◌, ◌-◌, length, slice_index, slice_set, IfOk, IfErr, OnSome, IfNone, Some, None, ◌+◌, ◌*◌};
+ghost use Rattle.std.specs.Prelude.{◌≡◌, ◌<◌, ◌≤◌, ◌-◌, length, slice_index, slice_set, IfOk, IfErr, OnSome, IfNone};
+ghost use Rattle.std.specs.Prelude.{Some, None, ◌+◌, ◌*◌};
 ghost use Rattle.std.specs.Int.Bits.{bit_xor};
 ghost use Rattle.net_defs.specs.Refusal.{Refuses};
 ghost use Rattle.packet_defs.specs.Packet.{head, crc_byte, difference, front_turn, stripped};
@@ -123,8 +124,9 @@ impl Packet {
         }
     }
 
-    /// Reads the route byte off the front and takes its contribution out of the CRC, so that a difference stays as it is. Answers the
-    /// byte's turn; none exactly where the head is empty or its first byte is no route byte, and then the packet stays whole.
+    /// Reads the route byte off the front and takes its contribution out of the CRC, so that a difference stays as it
+    /// is. Answers the byte's turn; none exactly where the head is empty or its first byte is no route byte, and then
+    /// the packet stays whole.
     pub fn strip(&mut self) -> Option<i8>
         ensures turn { result ≡ front_turn self.old }
         ensures stripped { OnSome result (self.new ≡ stripped self.old) }
@@ -138,8 +140,9 @@ impl Packet {
         turn
     }
 
-    /// Flips the packet's bit `bit + i` where bit i of the pattern is 1, both counted from the most significant bit of a first byte. The
-    /// last byte is the CRC. Refused in this order: `NoPattern`, `OutOfPacket`; it hands the packet back.
+    /// Flips the packet's bit `bit + i` where bit i of the pattern is 1, both counted from the most significant bit
+    /// of a first byte. The last byte is the CRC. Refused in this order: `NoPattern`, `OutOfPacket`; it hands the
+    /// packet back.
     pub fn flip(self, bit: u32, pattern: u8) -> Result<Packet, (Packet, FlipRefusal)>
         ensures ok { IfOk result (λ p. (flip_refusal self bit pattern ≡ None) × (p ≡ flipped self bit pattern)) }
         ensures refused { IfErr result (λ e. (flip_refusal self bit pattern ≡ Some e.1) × (e.0 ≡ self)) }

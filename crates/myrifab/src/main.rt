@@ -1,7 +1,8 @@
-//! The program: it hands the words of its command line, standard input and standard output to `run`, and ends with the status.
+//! The program: it hands the words of its command line, standard input and standard output to `run`, and ends with
+//! the status.
 //!
-//! It prints nothing itself. Statuses: 0 done, 2 usage, 3 the text is refused, 4 a read failed, 5 a write failed, 6 want of
-//! memory, 7 the input is too long, 8 the system refused the words of the command line.
+//! It prints nothing itself. Statuses: 0 done, 2 usage, 3 the text is refused, 4 a read failed, 5 a write failed, 6
+//! want of memory, 7 the input is too long, 8 the system refused the words of the command line.
 #![tactic(auto)]
 
 use fab_outer::{StdSink, StdSource};

@@ -1,5 +1,6 @@
 -- How a fabric grows by a host, a switch or a cable, what refuses it, and which vertex has a name.
-use Rattle.std.specs.Prelude.{ℕ, Bool, ◌||◌, not, List, [], ◌∷◌, ◌++◌, length, nat_le, slice_get, position, if◌then◌else◌, Option, Some, None, option_map, is_some, bytes_eq}
+use Rattle.std.specs.Prelude.{ℕ, Bool, ◌||◌, not, List, [], ◌∷◌, ◌++◌, length, nat_le, slice_get, position}
+use Rattle.std.specs.Prelude.{if◌then◌else◌, Option, Some, None, option_map, is_some, bytes_eq}
 use Rattle.std.specs.Option.{option_map_or}
 use Rattle.std.specs.List.{list_any}
 use Rattle.net_defs.specs.declared.vertex.Vertex.{Vertex}

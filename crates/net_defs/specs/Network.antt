@@ -1,5 +1,6 @@
 -- A fabric as a labelled port graph: hosts of one port, switches of 4, 8 or 16 ports, and cables that join two ports.
-use Rattle.std.specs.Prelude.{◌≡◌, ◌≢◌, ℕ, ◌≤◌, Bool, true, false, ◌&&◌, ◌||◌, List, [], ◌∷◌, ◌++◌, map, length, nat_eq, nat_lt, slice_get, if◌then◌else◌, Option, Some, None}
+use Rattle.std.specs.Prelude.{◌≡◌, ◌≢◌, ℕ, ◌≤◌, Bool, true, false, ◌&&◌, ◌||◌, List, [], ◌∷◌, ◌++◌, map, length, nat_eq}
+use Rattle.std.specs.Prelude.{nat_lt, slice_get, if◌then◌else◌, Option, Some, None}
 use Rattle.std.specs.Option.{option_map_or}
 use Rattle.std.specs.List.{AllByRecursion}
 use Rattle.net_defs.specs.declared.vertex.Vertex.{Vertex}
@@ -69,7 +70,8 @@ ends_of (c ∷ cs) = c.a ∷ c.b ∷ ends_of cs
 abbrev pub is_port_count : ℕ → Bool
 is_port_count p = nat_eq p 4 || nat_eq p 8 || nat_eq p 16
 
--- What makes a fabric: at most 128 hosts and 64 switches, names apart, and cables between ports that exist, no port in two.
+-- What makes a fabric: at most 128 hosts and 64 switches, names apart, and cables between ports that exist, no port
+-- in two.
 pub record IsFabric (n : Network) : Type 0 where
   pub few_hosts : length n.hosts ≤ 128
   pub few_switches : length n.switches ≤ 64

@@ -1,5 +1,7 @@
 -- Where a walk leads (relative turns, SPAA 1997), what is true of its end, and the channels that it crosses.
-use Rattle.std.specs.Prelude.{ℕ, ◌+◌, ◌*◌, ℤ, pos, ◌+ℤ◌, int_le, int_lt, nat_abs, ◌&&◌, List, [], ◌∷◌, ◌++◌, if◌then◌else◌, IsTrue, IfSome, Option, Some, None, option_map, option_and_then, option_to_list}
+use Rattle.std.specs.Prelude.{ℕ, ◌+◌, ◌*◌, ℤ, pos, ◌+ℤ◌, int_le, int_lt, nat_abs, ◌&&◌, List, [], ◌∷◌, ◌++◌}
+use Rattle.std.specs.Prelude.{if◌then◌else◌, IsTrue, IfSome, Option, Some, None, option_map, option_and_then}
+use Rattle.std.specs.Prelude.{option_to_list}
 use Rattle.net_defs.specs.declared.vertex.Vertex.{Vertex}
 use Rattle.net_defs.specs.declared.vertex.Vertex.TheVariants.{Host, Switch}
 use Rattle.net_defs.specs.declared.vertex.End.{End}
@@ -13,12 +15,14 @@ use Rattle.net_defs.specs.Network.{Network, ports_of, has_vertex, has_port, far,
 -- the port that a turn leaves by, at a switch of so many ports that was entered by a port
 abbrev pub leaving_port : ℕ → ℕ → ℤ → Option ℕ
 leaving_port ports entry turn =
-    if int_le (pos 0) (pos entry +ℤ turn) && int_lt (pos entry +ℤ turn) (pos ports) then Some (nat_abs (pos entry +ℤ turn)) else None
+    if int_le (pos 0) (pos entry +ℤ turn) && int_lt (pos entry +ℤ turn) (pos ports)
+    then Some (nat_abs (pos entry +ℤ turn)) else None
 
 -- the end that a turn leaves by: none at a host, which takes no turn
 abbrev pub exit_at : Network → Vertex → ℕ → ℤ → Option End
 exit_at n (Host h) entry turn = None
-exit_at n (Switch s) entry turn = option_map (λ p. record { v = Switch s; p = p }) (leaving_port (ports_of n (Switch s)) entry turn)
+exit_at n (Switch s) entry turn = option_map (λ p.
+    record { v = Switch s; p = p }) (leaving_port (ports_of n (Switch s)) entry turn)
 
 -- the end that is entered next, from the end entered last
 abbrev pub turned : Network → Option End → ℤ → Option End
@@ -68,10 +72,12 @@ answer_at Stuck = IsNothing
 abbrev pub answer : Network → ℕ → List ℤ → Answer
 answer n host turns = answer_at (place n host turns)
 
--- The channel that leaves by an end: cable k, counted from the first of these, has channel 2k from its first end and 2k + 1 back.
+-- The channel that leaves by an end: cable k, counted from the first of these, has channel 2k from its first end and
+-- 2k + 1 back.
 abbrev pub channel_out : ℕ → List Cable → End → Option ℕ
 channel_out k [] e = None
-channel_out k (c ∷ cs) e = if same_end c.a e then Some (2 * k) else if same_end c.b e then Some (2 * k + 1) else channel_out (k + 1) cs e
+channel_out k (c ∷ cs) e = if same_end c.a e then Some (2 * k) else if same_end c.b e then Some (2 * k + 1)
+    else channel_out (k + 1) cs e
 
 -- the channel of the fabric that leaves by an end
 abbrev pub channel_from : Network → End → Option ℕ

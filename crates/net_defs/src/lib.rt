@@ -1,7 +1,8 @@
 //! What a fabric is: hosts, switches and cables, walks over them, and where a walk ends.
 //!
-//! This crate holds definitions and the small types that they speak of. It holds no fabric in memory: that is `port_graph`.
-//! `specs/Network.antt` says what makes a fabric one, `specs/Building.antt` how it grows, `specs/Route.antt` where a walk leads.
+//! This crate holds definitions and the small types that they speak of. It holds no fabric in memory: that is
+//! `port_graph`. `specs/Network.antt` says what makes a fabric one, `specs/Building.antt` how it grows,
+//! `specs/Route.antt` where a walk leads.
 //!
 //! ```text
 //!   host a            switch s, 8 ports           host b

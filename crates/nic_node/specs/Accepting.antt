@@ -1,4 +1,5 @@
--- What a host makes of a message that is to be sent: why it doesn't accept it, in which order, and what it has of one that it accepted.
+-- What a host makes of a message that is to be sent: why it doesn't accept it, in which order, and what it has of one
+-- that it accepted.
 use Rattle.std.specs.Prelude.{ℕ, Bool, List, take, is_some, if◌then◌else◌, Option, Some, None, option_map}
 use Rattle.gm_defs.specs.declared.message.Message.{Message}
 use Rattle.gm_port.specs.declared.ask.SendAsk.{SendAsk}
@@ -10,13 +11,15 @@ use Rattle.world_defs.specs.Table.{table_route}
 use Rattle.world_defs.specs.Peer.{with_message}
 use Rattle.world_defs.specs.Node.{NodeState, peer_at, with_peer, port_at, with_port}
 use Rattle.host_ports.specs.declared.ask.PortSend.{PortSend}
-use Rattle.host_ports.specs.declared.ask.PortSend.TheVariants.{NotOpen as PortNotOpen, TooLong as PortTooLong, BufferShort as PortShort}
+use Rattle.host_ports.specs.declared.ask.PortSend.TheVariants.{NotOpen as PortNotOpen, TooLong as PortTooLong}
+use Rattle.host_ports.specs.declared.ask.PortSend.TheVariants.{BufferShort as PortShort}
 use Rattle.host_ports.specs.Held.{HostPorts, open_at}
 use Rattle.host_ports.specs.Refusal.{send_bar as port_bar}
 use Rattle.host_peers.specs.Peer.{accept_refusal}
 use Rattle.host_peers.specs.Peers.{HostPeers, peer_in, with_state}
 use Rattle.nic_node.specs.declared.refusal.NodeSend.{NodeSend}
-use Rattle.nic_node.specs.declared.refusal.NodeSend.TheVariants.{NotOpen, TooLong, BufferShort, NoRoute, Spent, NoMemory}
+use Rattle.nic_node.specs.declared.refusal.NodeSend.TheVariants.{NotOpen, TooLong, BufferShort, NoRoute, Spent}
+use Rattle.nic_node.specs.declared.refusal.NodeSend.TheVariants.{NoMemory}
 use Rattle.nic_node.specs.Held.{HostNode}
 
 -- a refusal of the port, as the host's
@@ -46,7 +49,8 @@ early_bar p route len buffer = first_of (option_map port_word (port_bar p len bu
 -- and then where it needs a number above the greatest
 abbrev pub node_bar : HostPeers → HostPorts → Bool → ℕ → SendAsk → List ℕ → Option NodeSend
 node_bar peers ports route port a buffer =
-    first_of (early_bar (open_at ports port) route a.len buffer) (option_map peer_word (accept_refusal (peer_in peers a.dest) a.len))
+    first_of (early_bar (open_at ports port) route a.len buffer)
+    (option_map peer_word (accept_refusal (peer_in peers a.dest) a.len))
 
 -- the connections of a host, as a contract sees them alone
 abbrev pub peers_in : HostNode → HostPeers
@@ -67,10 +71,12 @@ message_sent port a buffer = record { sport = port; dport = a.dport; prio = a.pr
 -- the connections once a send of a port's token was accepted
 abbrev pub accepted_in : HostPeers → ℕ → ℕ → SendAsk → List ℕ → HostPeers
 accepted_in peers port token a buffer =
-    with_state peers a.dest (with_message (peer_in peers a.dest) (message_sent port a buffer) (record { port = port; token = token }))
+    with_state peers a.dest (with_message (peer_in peers a.dest) (message_sent port a buffer)
+    (record { port = port; token = token }))
 
 -- a message of a port's token was accepted: its peer has the message, and the port has the token with its buffer
 abbrev pub accepted : NodeState → ℕ → ℕ → SendAsk → List ℕ → NodeState
 accepted n port token a buffer =
-    with_port (with_peer n a.dest (with_message (peer_at n a.dest) (message_sent port a buffer) (record { port = port; token = token }))) port
+    with_port (with_peer n a.dest (with_message (peer_at n a.dest) (message_sent port a buffer)
+    (record { port = port; token = token }))) port
     (option_map (λ s. sent_with s token buffer) (port_at n port))

@@ -26,6 +26,8 @@ arrival_where false heard = NotMine
 
 -- a part that was taken is acknowledged by its way back, and an old one isn't
 abbrev pub answered_part : NodeState → Applied → ℕ → ℕ → List ℤ → NodeState
-answered_part n OnePart epoch part back = record n { part_ack = Some (record { epoch = epoch; part = part; back = back }) }
-answered_part n Active epoch part back = record n { part_ack = Some (record { epoch = epoch; part = part; back = back }) }
+answered_part n OnePart epoch part back =
+    record n { part_ack = Some (record { epoch = epoch; part = part; back = back }) }
+answered_part n Active epoch part back =
+    record n { part_ack = Some (record { epoch = epoch; part = part; back = back }) }
 answered_part n Old epoch part back = n

@@ -17,9 +17,9 @@ use host_ports::{PortSend, Ports, SendAsk};
 use reg_mem::Reg;
 use std::alloc::Global;
 
-/// Accepts a message of a port for a peer; `route` says whether a route leads there. The port has token and buffer until the message is
-/// acknowledged. A refusal hands both back and changes nothing: NotOpen, TooLong, BufferShort, NoRoute, Spent, in this order, and only
-/// then want of memory.
+/// Accepts a message of a port for a peer; `route` says whether a route leads there. The port has token and buffer
+/// until the message is acknowledged. A refusal hands both back and changes nothing: NotOpen, TooLong, BufferShort,
+/// NoRoute, Spent, in this order, and only then want of memory.
 pub(crate) fn send(
     alloc: Global,
     peers: &mut Peers,
@@ -37,7 +37,9 @@ pub(crate) fn send(
     requires free { ForSome (open_at ports.old port) (λ p. place_of_send p t.number ≡ None) }
     requires dport { a.dport < 8 }
     requires prio { a.prio < 2 }
-    ensures refused { MatchResult result (λ _. node_bar peers.old ports.old route port a b ≡ None) (λ e. (node_bar peers.old ports.old route port a b ≡ Some e.2) ⊎ ((node_bar peers.old ports.old route port a b ≡ None) × (e.2 ≡ NodeSend.NoMemory))) }
+    ensures refused { MatchResult result (λ _. node_bar peers.old ports.old route port a b ≡ None) (λ e.
+        (node_bar peers.old ports.old route port a b ≡ Some e.2)
+        ⊎ ((node_bar peers.old ports.old route port a b ≡ None) × (e.2 ≡ NodeSend.NoMemory))) }
     ensures handed_back { IfErr result (λ e. (e.0 ≡ t) × (e.1 ≡ b)) }
     ensures accepted { OnOk result (peers.new ≡ accepted_in peers.old port t.number a b) }
     ensures sent { OnOk result (ports.new ≡ changed ports.old port (λ s. sent_with s t.number b)) }

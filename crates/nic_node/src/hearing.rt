@@ -11,10 +11,12 @@ use std::alloc::{AllocError, Global};
 use world_defs::Arrival;
 
 impl NicNode {
-    /// A packet reached the host: what was made of it is exactly what the definition makes of its bytes. Want of memory changes nothing.
+    /// A packet reached the host: what was made of it is exactly what the definition makes of its bytes. Want of
+    /// memory changes nothing.
     #[tactic(auto, unfolding(world_defs::specs::Hearing::hear))]
     pub fn on_packet(&mut self, alloc: Global, p: &Packet) -> Result<Arrival, AllocError>
-        ensures heard { IfOk result (λ arrival. hear self.old.host self.old.hosts self.old.state p.now ≡ (arrival, self.new.state)) }
+        ensures heard { IfOk result (λ arrival. hear self.old.host self.old.hosts self.old.state p.now
+            ≡ (arrival, self.new.state)) }
         ensures host { self.new.host ≡ self.old.host }
         ensures hosts { self.new.hosts ≡ self.old.hosts }
         ensures unchanged { OnErr result (self.new ≡ self.old) }
@@ -28,7 +30,8 @@ impl NicNode {
 
     // A body of messages came.
     fn hear_messages(&mut self, alloc: Global, body: &[u8]) -> Result<Arrival, AllocError>
-        ensures heard { IfOk result (λ arrival. hear_gm_body self.old.host self.old.hosts self.old.state body.now (decode body.now) ≡ (arrival, self.new.state)) }
+        ensures heard { IfOk result (λ arrival. hear_gm_body self.old.host self.old.hosts self.old.state body.now
+            (decode body.now) ≡ (arrival, self.new.state)) }
         ensures host { self.new.host ≡ self.old.host }
         ensures hosts { self.new.hosts ≡ self.old.hosts }
         ensures unchanged { OnErr result (self.new ≡ self.old) }

@@ -1,8 +1,9 @@
 //! One host: what it has staged, its table, its connections and its ports, under one roof.
 //!
-//! It moves no packet and knows no client: the world hands it the packets that reach it, and takes the packet that it has to send.
-//! `specs/Node.antt` and `specs/Hearing.antt` of `world_defs` say what a host is and what it does; `specs/Held.antt` makes that host of the parts,
-//! and `specs/Messages.antt` sets connections and ports alone into it. `specs/Accepting.antt` says when a message is accepted, and what is kept of it.
+//! It moves no packet and knows no client: the world hands it the packets that reach it, and takes the packet that it
+//! has to send. `specs/Node.antt` and `specs/Hearing.antt` of `world_defs` say what a host is and what it does;
+//! `specs/Held.antt` makes that host of the parts, and `specs/Messages.antt` sets connections and ports alone into
+//! it. `specs/Accepting.antt` says when a message is accepted, and what is kept of it.
 //!
 //! ```text
 //!                      +--> items: a reply, an acknowledgement ---+

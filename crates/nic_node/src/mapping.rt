@@ -22,7 +22,8 @@ use world_defs::{Applied, Arrival, Heard};
 impl NicNode {
     /// A body of the mapper's protocol came. Want of memory changes nothing.
     pub(crate) fn hear_mapping(&mut self, alloc: Global, body: &[u8]) -> Result<Arrival, AllocError>
-        ensures heard { IfOk result (λ arrival. hear_mapping_body self.old.host self.old.hosts self.old.state (decode_mapping body.now) ≡ (arrival, self.new.state)) }
+        ensures heard { IfOk result (λ arrival. hear_mapping_body self.old.host self.old.hosts self.old.state
+            (decode_mapping body.now) ≡ (arrival, self.new.state)) }
         ensures host { self.new.host ≡ self.old.host }
         ensures hosts { self.new.hosts ≡ self.old.hosts }
         ensures unchanged { OnErr result (self.new ≡ self.old) }
@@ -35,7 +36,8 @@ impl NicNode {
 
     // What a body said.
     fn hear_said(&mut self, alloc: Global, said: MapperBody) -> Result<Arrival, AllocError>
-        ensures heard { IfOk result (λ arrival. hear_mapping self.old.host self.old.hosts self.old.state (said_of said) ≡ (arrival, self.new.state)) }
+        ensures heard { IfOk result (λ arrival. hear_mapping self.old.host self.old.hosts self.old.state
+            (said_of said) ≡ (arrival, self.new.state)) }
         ensures host { self.new.host ≡ self.old.host }
         ensures hosts { self.new.hosts ≡ self.old.hosts }
         ensures unchanged { OnErr result (self.new ≡ self.old) }
@@ -49,7 +51,8 @@ impl NicNode {
 
     // A probe came, or the reply to one.
     fn hear_probe(&mut self, body: ProbeBody) -> Arrival
-        ensures heard { hear_mapping self.old.host self.old.hosts self.old.state (said body) ≡ (result, self.new.state) }
+        ensures heard { hear_mapping self.old.host self.old.hosts self.old.state (said body)
+            ≡ (result, self.new.state) }
         ensures host { self.new.host ≡ self.old.host }
         ensures hosts { self.new.hosts ≡ self.old.hosts }
     {
@@ -70,7 +73,8 @@ impl NicNode {
 
     // A host probe came: its reply is staged, in the place of an earlier one.
     fn hear_host_probe(&mut self, number: u64, mapper: u16, back: Walk) -> Arrival
-        ensures heard { hear_mapping self.old.host self.old.hosts self.old.state (MappingBody.HostProbe number mapper back) ≡ (result, self.new.state) }
+        ensures heard { hear_mapping self.old.host self.old.hosts self.old.state
+            (MappingBody.HostProbe number mapper back) ≡ (result, self.new.state) }
         ensures host { self.new.host ≡ self.old.host }
         ensures hosts { self.new.hosts ≡ self.old.hosts }
     {
@@ -82,9 +86,11 @@ impl NicNode {
         }
     }
 
-    // A part of a table came. Where it is for this host and was taken, its acknowledgement is staged, in the place of an earlier one.
+    // A part of a table came. Where it is for this host and was taken, its acknowledgement is staged, in the place of
+    // an earlier one.
     fn hear_part(&mut self, alloc: Global, part: RoutePart) -> Result<Arrival, AllocError>
-        ensures heard { IfOk result (λ arrival. hear_mapping self.old.host self.old.hosts self.old.state (MappingBody.Part part) ≡ (arrival, self.new.state)) }
+        ensures heard { IfOk result (λ arrival. hear_mapping self.old.host self.old.hosts self.old.state
+            (MappingBody.Part part) ≡ (arrival, self.new.state)) }
         ensures host { self.new.host ≡ self.old.host }
         ensures hosts { self.new.hosts ≡ self.old.hosts }
         ensures unchanged { OnErr result (self.new ≡ self.old) }
@@ -100,7 +106,8 @@ impl NicNode {
     // Takes a part of this host's table.
     fn take_part(&mut self, alloc: Global, part: RoutePart) -> Result<(), AllocError>
         requires { part.dst ≡ self.old.host }
-        ensures taken { OnOk result (self.new.state ≡ part_heard self.old.state part (applied self.old.state.table part)) }
+        ensures taken { OnOk result (self.new.state ≡ part_heard self.old.state part
+            (applied self.old.state.table part)) }
         ensures host { self.new.host ≡ self.old.host }
         ensures hosts { self.new.hosts ≡ self.old.hosts }
         ensures unchanged { OnErr result (self.new ≡ self.old) }
@@ -125,7 +132,8 @@ impl NicNode {
 
     // The acknowledgement of a part came.
     fn hear_ack(&self, ack: &PartAck) -> Arrival
-        ensures { hear_mapping self.now.host self.now.hosts self.now.state (ack_body ack.now) ≡ (result, self.now.state) }
+        ensures { hear_mapping self.now.host self.now.hosts self.now.state (ack_body ack.now)
+            ≡ (result, self.now.state) }
     {
         let heard = Heard::RoutesAck {
             epoch: ack.epoch,

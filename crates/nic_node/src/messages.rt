@@ -3,7 +3,8 @@
 ghost use Rattle.std.specs.Prelude.{◌≡◌, ◌<◌, ◌&&◌, nat_eq, length, take, true, IfOk, OnErr};
 ghost use Rattle.gm_defs.specs.Body.{is_head, decode};
 ghost use Rattle.world_defs.specs.Node.{NodeState};
-ghost use Rattle.world_defs.specs.Hearing.{port_takes, heard_if, is_host, took_word, frame_took, frame_heard, ack_heard, hear_gm_body};
+ghost use Rattle.world_defs.specs.Hearing.{port_takes, heard_if, is_host, took_word, frame_took, frame_heard};
+ghost use Rattle.world_defs.specs.Hearing.{ack_heard, hear_gm_body};
 ghost use Rattle.host_ports.specs.Held.{open_at};
 ghost use Rattle.nic_node.specs.Messages.{with_messages, delivered_in, finished_in};
 
@@ -15,8 +16,9 @@ use packet_defs::HostDrop;
 use std::alloc::{AllocError, Global};
 use world_defs::{Arrival, Heard};
 
-/// The body of a packet came to the host that has these connections and ports. Whatever else the host has, what is made of the body, and what becomes
-/// of connections and ports, is as the world's host makes it. Want of memory changes nothing.
+/// The body of a packet came to the host that has these connections and ports. Whatever else the host has, what is
+/// made of the body, and what becomes of connections and ports, is as the world's host makes it. Want of memory
+/// changes nothing.
 pub(crate) fn hear(
     alloc: Global,
     host: u16,
@@ -25,7 +27,9 @@ pub(crate) fn hear(
     body: &[u8],
 ) -> Result<Arrival, AllocError>
     requires { host ≡ peers.old.host }
-    ensures heard { IfOk result (λ arrival. (n : NodeState) → hear_gm_body host (length peers.old.peers) (with_messages n peers.old ports.old) body.now (decode body.now) ≡ (arrival, with_messages n peers.new ports.new)) }
+    ensures heard { IfOk result (λ arrival. (n : NodeState)
+        → hear_gm_body host (length peers.old.peers) (with_messages n peers.old ports.old) body.now (decode body.now)
+        ≡ (arrival, with_messages n peers.new ports.new)) }
     ensures peers_host { peers.new.host ≡ peers.old.host }
     ensures ports_host { ports.new.host ≡ ports.old.host }
     ensures peers { OnErr result (peers.new ≡ peers.old) }
@@ -49,7 +53,11 @@ fn hear_frame(
 ) -> Result<Arrival, AllocError>
     requires head { is_head h.now ≡ true }
     requires part { length part.now ≡ h.now.len }
-    ensures ok { IfOk result (λ arrival. (n : NodeState) → heard_if (nat_eq h.now.dst host && is_host (length peers.old.peers) h.now.src) (with_messages n peers.old ports.old) (frame_heard (with_messages n peers.old ports.old) h.now part.now (frame_took (with_messages n peers.old ports.old) h.now)) ≡ (arrival, with_messages n peers.new ports.new)) }
+    ensures ok { IfOk result (λ arrival. (n : NodeState)
+        → heard_if (nat_eq h.now.dst host && is_host (length peers.old.peers) h.now.src)
+        (with_messages n peers.old ports.old) (frame_heard (with_messages n peers.old ports.old) h.now part.now
+        (frame_took (with_messages n peers.old ports.old) h.now))
+        ≡ (arrival, with_messages n peers.new ports.new)) }
     ensures peers_host { peers.new.host ≡ peers.old.host }
     ensures ports_host { ports.new.host ≡ ports.old.host }
     ensures peers { OnErr result (peers.new ≡ peers.old) }
@@ -69,7 +77,9 @@ fn hear_frame(
 fn hear_ack(host: u16, peers: &mut Peers, ports: &mut Ports, a: &Ack) -> Arrival
     ensures peers_host { peers.new.host ≡ peers.old.host }
     ensures ports_host { ports.new.host ≡ ports.old.host }
-    ensures heard { (n : NodeState) → heard_if (nat_eq a.now.dst host && is_host (length peers.old.peers) a.now.src) (with_messages n peers.old ports.old) (Heard.Ack, ack_heard (with_messages n peers.old ports.old) a.now) ≡ (result, with_messages n peers.new ports.new) }
+    ensures heard { (n : NodeState) → heard_if (nat_eq a.now.dst host && is_host (length peers.old.peers) a.now.src)
+        (with_messages n peers.old ports.old) (Heard.Ack, ack_heard (with_messages n peers.old ports.old) a.now)
+        ≡ (result, with_messages n peers.new ports.new) }
 {
     if is_mine(host, peers, a.dst, a.src) {
         acknowledge(peers, ports, a);
@@ -97,7 +107,9 @@ fn take(
     requires within { h.now.src < length peers.old.peers }
     requires head { is_head h.now ≡ true }
     requires part { length part.now ≡ h.now.len }
-    ensures ok { IfOk result (λ heard. (n : NodeState) → frame_heard (with_messages n peers.old ports.old) h.now part.now (frame_took (with_messages n peers.old ports.old) h.now) ≡ (heard, with_messages n peers.new ports.new)) }
+    ensures ok { IfOk result (λ heard. (n : NodeState)
+        → frame_heard (with_messages n peers.old ports.old) h.now part.now
+        (frame_took (with_messages n peers.old ports.old) h.now) ≡ (heard, with_messages n peers.new ports.new)) }
     ensures peers_host { peers.new.host ≡ peers.old.host }
     ensures ports_host { ports.new.host ≡ ports.old.host }
     ensures peers { OnErr result (peers.new ≡ peers.old) }
@@ -114,7 +126,8 @@ fn acknowledge(peers: &mut Peers, ports: &mut Ports, a: &Ack)
     requires { a.now.src < length peers.old.peers }
     ensures peers_host { peers.new.host ≡ peers.old.host }
     ensures ports_host { ports.new.host ≡ ports.old.host }
-    ensures heard { (n : NodeState) → ack_heard (with_messages n peers.old ports.old) a.now ≡ with_messages n peers.new ports.new }
+    ensures heard { (n : NodeState) → ack_heard (with_messages n peers.old ports.old) a.now
+        ≡ with_messages n peers.new ports.new }
 {
     let peer = peers.at(a.src);
     let finished = peer.finished_by(a.next);

@@ -38,7 +38,8 @@ impl NicNode {
 
     // The least peer that is owed an acknowledgement, and to which the table has a route.
     fn next_answer(&self) -> Option<u16>
-        ensures first { option_and_then (owed_to self.now.state) result ≡ first_some (owed_to self.now.state) (peers_of self.now.state) }
+        ensures first { option_and_then (owed_to self.now.state) result
+            ≡ first_some (owed_to self.now.state) (peers_of self.now.state) }
         ensures there { IfSome result (λ peer. is_some (owed_to self.now.state peer) ≡ true) }
     {
         let mut from = 0;
@@ -53,7 +54,8 @@ impl NicNode {
 
     // The least peer to which a fragment is due, and to which the table has a route.
     fn next_fragment(&self) -> Option<u16>
-        ensures first { option_and_then (due_to self.now.host self.now.state) result ≡ first_some (due_to self.now.host self.now.state) (peers_of self.now.state) }
+        ensures first { option_and_then (due_to self.now.host self.now.state) result
+            ≡ first_some (due_to self.now.host self.now.state) (peers_of self.now.state) }
         ensures there { IfSome result (λ peer. is_some (due_to self.now.host self.now.state peer) ≡ true) }
     {
         let mut from = 0;

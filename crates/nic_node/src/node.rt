@@ -1,8 +1,10 @@
 //! One host.
 
-ghost use Rattle.std.specs.Prelude.{◌≡◌, ◌<◌, ◌≤◌, nat_lt, length, replicate, true, is_some, if◌then◌else◌, Some, None, IfOk};
+ghost use Rattle.std.specs.Prelude.{◌≡◌, ◌<◌, ◌≤◌, nat_lt, length, replicate, true, is_some, if◌then◌else◌, Some, None};
+ghost use Rattle.std.specs.Prelude.{IfOk};
 ghost use Rattle.mapping_defs.specs.Mapping.{is_part};
-ghost use Rattle.world_defs.specs.Node.{StagedProbe, StagedPart, port_count, has_staged, given_up, node_expired, unacknowledged_to, peer_at};
+ghost use Rattle.world_defs.specs.Node.{StagedProbe, StagedPart, port_count, has_staged, given_up, node_expired};
+ghost use Rattle.world_defs.specs.Node.{unacknowledged_to, peer_at};
 ghost use Rattle.world_defs.specs.Table.{active_epoch};
 ghost use Rattle.nic_node.specs.Held.{unused_node, in_state};
 
@@ -15,7 +17,8 @@ use route_parts::RoutePart;
 use std::alloc::{AllocError, Global};
 use std::marker::Model;
 
-/// One host among others. Contracts see the host of the world that its parts make, beside its address and the number of hosts.
+/// One host among others. Contracts see the host of the world that its parts make, beside its address and the number
+/// of hosts.
 ///
 /// It must be spent, by [`NicNode::end`] once all of its ports are closed.
 pub struct NicNode {
@@ -32,7 +35,11 @@ impl Model for NicNode {
 
     ghost Value = { HostNode };
 
-    ghost view = { λ n. record { host = n.host; hosts = length n.peers.peers; state = state_of n.items n.table n.peers n.ports } };
+    ghost view = { λ n. record {
+      host = n.host;
+      hosts = length n.peers.peers;
+      state = state_of n.items n.table n.peers n.ports;
+    } };
 
     ghost invariant = { λ n. AreOfHost n.host n.table n.peers n.ports };
 }
@@ -70,7 +77,8 @@ impl NicNode {
         self.peers.count()
     }
 
-    /// Stages a probe of a walk, in the place of what was staged before. A looped one returns to this host: its walk has at most 31 turns.
+    /// Stages a probe of a walk, in the place of what was staged before. A looped one returns to this host: its walk
+    /// has at most 31 turns.
     pub fn ask(&mut self, walk: Walk, looped: bool)
         requires { looped ≡ true → length walk ≤ 31 }
         ensures { self.new ≡ in_state self.old (record self.old.state { staged = Some (StagedProbe walk looped) }) }
@@ -78,7 +86,8 @@ impl NicNode {
         self.items.ask(walk, looped);
     }
 
-    /// Stages a part of a table, in the place of what was staged before; it travels by a route. The part is by the rules of its body.
+    /// Stages a part of a table, in the place of what was staged before; it travels by a route. The part is by the
+    /// rules of its body.
     pub fn part(&mut self, part: RoutePart, by: Walk)
         requires { is_part part ≡ true }
         ensures { self.new ≡ in_state self.old (record self.old.state { staged = Some (StagedPart part by) }) }
@@ -94,7 +103,15 @@ impl NicNode {
         self.table = table;
     }
 
-    /// Drops the staged probe or part, the reply to a probe and the acknowledgement of a part. False exactly where none of them stood.
+    /// Whether a probe, a part, the reply to a probe or the acknowledgement of a part is staged.
+    pub fn has_staged(&self) -> bool
+        ensures { result ≡ has_staged self.now.state }
+    {
+        self.items.has_staged()
+    }
+
+    /// Drops the staged probe or part, the reply to a probe and the acknowledgement of a part. False exactly where
+    /// none of them stood.
     pub fn give_up(&mut self) -> bool
         ensures told { result ≡ has_staged self.old.state }
         ensures after { self.new ≡ in_state self.old (given_up self.old.state) }
@@ -109,11 +126,13 @@ impl NicNode {
         self.items.has_answer()
     }
 
-    /// What a peer didn't acknowledge is sent again. False exactly where nothing is unacknowledged, and then nothing changes.
+    /// What a peer didn't acknowledge is sent again. False exactly where nothing is unacknowledged, and then nothing
+    /// changes.
     pub fn expire(&mut self, peer: u16) -> bool
         requires { peer < self.old.hosts }
         ensures told { result ≡ nat_lt 0 (unacknowledged_to self.old.state peer) }
-        ensures after { self.new ≡ in_state self.old (if result then node_expired self.old.state peer else self.old.state) }
+        ensures after { self.new ≡ in_state self.old (if result then node_expired self.old.state peer
+            else self.old.state) }
     {
         if self.peers.at(peer).unacked() == 0 {
             return false;

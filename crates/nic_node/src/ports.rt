@@ -1,6 +1,7 @@
 //! The calls of a host's clients, each on one of its ports.
 
-ghost use Rattle.std.specs.Prelude.{◌≡◌, ◌⊎◌, ◌<◌, map, true, is_some, None, Some, IfOk, IfErr, IfSome, OnOk, OnErr, MatchResult, option_map};
+ghost use Rattle.std.specs.Prelude.{◌≡◌, ◌⊎◌, ◌<◌, map, true, is_some, None, Some, IfOk, IfErr, IfSome, OnOk, OnErr};
+ghost use Rattle.std.specs.Prelude.{MatchResult, option_map};
 ghost use Rattle.std.specs.Option.{ForSome};
 ghost use Rattle.net_defs.specs.Refusal.{Refuses};
 ghost use Rattle.gm_defs.specs.Token.{opened, place_of_send, place_of_recv};
@@ -33,26 +34,30 @@ impl NicNode {
     ) -> Result<(), PortBegin>
         requires { port < 8 }
         ensures refused { Refuses (begin_bar (port_at self.old.state port)) PortBegin.NoMemory result }
-        ensures begun { OnOk result (self.new ≡ in_state self.old (with_port self.old.state port (Some (opened sends recvs)))) }
+        ensures begun { OnOk result (self.new ≡ in_state self.old
+            (with_port self.old.state port (Some (opened sends recvs)))) }
         ensures unchanged { OnErr result (self.new ≡ self.old) }
     {
         self.ports.begin(alloc, port, sends, recvs)
     }
 
-    /// Closes a port, and hands each provided token back with its buffer, first provided first. A refusal changes nothing: NotOpen, Busy where
-    /// sends aren't finished, Unread where events wait.
+    /// Closes a port, and hands each provided token back with its buffer, first provided first. A refusal changes
+    /// nothing: NotOpen, Busy where sends aren't finished, Unread where events wait.
     pub fn close(&mut self, port: u8) -> Result<Vec<(RecvToken, Reg)>, PortClose>
         requires { port < 8 }
-        ensures refused { MatchResult result (λ _. close_bar (port_at self.old.state port) ≡ None) (λ e. close_bar (port_at self.old.state port) ≡ Some e) }
+        ensures refused { MatchResult result (λ _. close_bar (port_at self.old.state port) ≡ None) (λ e.
+            close_bar (port_at self.old.state port) ≡ Some e) }
         ensures unchanged { OnErr result (self.new ≡ self.old) }
         ensures closed { OnOk result (self.new ≡ in_state self.old (with_port self.old.state port None)) }
-        ensures provided { IfOk result (λ v. IfSome (port_at self.old.state port) (λ p. v.items ≡ map (receive_at self.old.host port) p.provided)) }
+        ensures provided { IfOk result (λ v. IfSome (port_at self.old.state port) (λ p.
+            v.items ≡ map (receive_at self.old.host port) p.provided)) }
     {
         self.ports.close(port)
     }
 
-    /// Takes a buffer to receive into. A refusal hands token and buffer back and changes nothing: NotOpen, BadSize where the size is not from
-    /// 4 to 16 or the priority is above 1, BufferShort where the buffer has fewer bytes than its size has room for.
+    /// Takes a buffer to receive into. A refusal hands token and buffer back and changes nothing: NotOpen, BadSize
+    /// where the size is not from 4 to 16 or the priority is above 1, BufferShort where the buffer has fewer bytes
+    /// than its size has room for.
     pub fn provide(
         &mut self,
         port: u8,
@@ -65,16 +70,21 @@ impl NicNode {
         requires own { t ≡ token_at self.old.host port t.number }
         requires minted { ForSome (port_at self.old.state port) (λ p. t.number < p.recvs) }
         requires free { ForSome (port_at self.old.state port) (λ p. place_of_recv p t.number ≡ None) }
-        ensures refused { MatchResult result (λ _. provide_bar (port_at self.old.state port) b size prio ≡ None) (λ e. provide_bar (port_at self.old.state port) b size prio ≡ Some e.2) }
+        ensures refused { MatchResult result (λ _. provide_bar (port_at self.old.state port) b size prio ≡ None) (λ e.
+            provide_bar (port_at self.old.state port) b size prio ≡ Some e.2) }
         ensures handed_back { IfErr result (λ e. (e.0 ≡ t) × (e.1 ≡ b)) }
         ensures unchanged { OnErr result (self.new ≡ self.old) }
-        ensures provided { OnOk result (self.new ≡ in_state self.old (with_port self.old.state port (option_map (λ s. provided_with s (record { token = t.number; size = size; prio = prio; buffer = b })) (port_at self.old.state port)))) }
+        ensures provided { OnOk result (self.new ≡ in_state self.old
+            (with_port self.old.state port (option_map (λ s.
+            provided_with s (record { token = t.number; size = size; prio = prio; buffer = b }))
+            (port_at self.old.state port)))) }
     {
         self.ports.provide(port, t, b, size, prio)
     }
 
-    /// Accepts a message of a port for a peer. The port has token and buffer until the message is acknowledged. A refusal hands both back and
-    /// changes nothing: NotOpen, TooLong, BufferShort, NoRoute, Spent, in this order, and only then want of memory.
+    /// Accepts a message of a port for a peer. The port has token and buffer until the message is acknowledged. A
+    /// refusal hands both back and changes nothing: NotOpen, TooLong, BufferShort, NoRoute, Spent, in this order, and
+    /// only then want of memory.
     pub fn send(
         &mut self,
         alloc: Global,
@@ -90,7 +100,9 @@ impl NicNode {
         requires free { ForSome (port_at self.old.state port) (λ p. place_of_send p t.number ≡ None) }
         requires dport { a.dport < 8 }
         requires prio { a.prio < 2 }
-        ensures refused { MatchResult result (λ _. send_bar self.old port a b ≡ None) (λ e. (send_bar self.old port a b ≡ Some e.2) ⊎ ((send_bar self.old port a b ≡ None) × (e.2 ≡ NodeSend.NoMemory))) }
+        ensures refused { MatchResult result (λ _. send_bar self.old port a b ≡ None) (λ e.
+            (send_bar self.old port a b ≡ Some e.2) ⊎ ((send_bar self.old port a b ≡ None)
+            × (e.2 ≡ NodeSend.NoMemory))) }
         ensures handed_back { IfErr result (λ e. (e.0 ≡ t) × (e.1 ≡ b)) }
         ensures unchanged { OnErr result (self.new ≡ self.old) }
         ensures sent { OnOk result (self.new ≡ in_state self.old (accepted self.old.state port t.number a b)) }
@@ -108,12 +120,16 @@ impl NicNode {
         )
     }
 
-    /// Hands out the event that was put in first. None exactly where no event waits, NotOpen exactly where the port isn't open.
+    /// Hands out the event that was put in first. None exactly where no event waits, NotOpen exactly where the port
+    /// isn't open.
     pub fn poll(&mut self, port: u8) -> Result<Option<PortEvent>, NotOpen>
         requires { port < 8 }
-        ensures open { MatchResult result (λ _. is_some (port_at self.old.state port) ≡ true) (λ _. port_at self.old.state port ≡ None) }
-        ensures first { IfOk result (λ e. IfSome (port_at self.old.state port) (λ p. e ≡ option_map (event_at self.old.host port) (next_event p))) }
-        ensures rest { self.new ≡ in_state self.old (with_port self.old.state port (option_map (λ s. polled s) (port_at self.old.state port))) }
+        ensures open { MatchResult result (λ _. is_some (port_at self.old.state port) ≡ true) (λ _.
+            port_at self.old.state port ≡ None) }
+        ensures first { IfOk result (λ e. IfSome (port_at self.old.state port) (λ p.
+            e ≡ option_map (event_at self.old.host port) (next_event p))) }
+        ensures rest { self.new ≡ in_state self.old (with_port self.old.state port
+            (option_map (λ s. polled s) (port_at self.old.state port))) }
     {
         self.ports.poll(port)
     }
@@ -122,9 +138,12 @@ impl NicNode {
     pub fn abandon(&mut self, port: u8) -> Option<Wreck>
         requires { port < 8 }
         ensures open { is_some result ≡ is_some (port_at self.old.state port) }
-        ensures sending { IfSome result (λ w. IfSome (port_at self.old.state port) (λ p. w.sending.items ≡ map (send_at self.old.host port) p.queue)) }
-        ensures provided { IfSome result (λ w. IfSome (port_at self.old.state port) (λ p. w.provided.items ≡ map (receive_at self.old.host port) p.provided)) }
-        ensures events { IfSome result (λ w. IfSome (port_at self.old.state port) (λ p. w.events.items ≡ map (event_at self.old.host port) p.events)) }
+        ensures sending { IfSome result (λ w. IfSome (port_at self.old.state port) (λ p.
+            w.sending.items ≡ map (send_at self.old.host port) p.queue)) }
+        ensures provided { IfSome result (λ w. IfSome (port_at self.old.state port) (λ p.
+            w.provided.items ≡ map (receive_at self.old.host port) p.provided)) }
+        ensures events { IfSome result (λ w. IfSome (port_at self.old.state port) (λ p.
+            w.events.items ≡ map (event_at self.old.host port) p.events)) }
         ensures ended { self.new ≡ in_state self.old (with_port self.old.state port None) }
     {
         self.ports.abandon(port)
@@ -138,7 +157,8 @@ impl NicNode {
         self.ports.is_open(port)
     }
 
-    /// The place of a send token or of a receive token of a port, by its number. None where the client has it, or the port isn't open.
+    /// The place of a send token or of a receive token of a port, by its number. None where the client has it, or the
+    /// port isn't open.
     pub fn token_place(&self, port: u8, send: bool, number: u16) -> Option<TokenPlace>
         requires { port < 8 }
         ensures { result ≡ place_at (port_at self.now.state port) send number }

@@ -23,10 +23,11 @@ impl NicNode {
         self.next_send().is_some()
     }
 
-    /// The packet of what it sends first, injected under a number. None exactly where it has nothing to send. It stays as it is: see
-    /// [`NicNode::staged`].
+    /// The packet of what it sends first, injected under a number. None exactly where it has nothing to send. It
+    /// stays as it is: see [`NicNode::staged`].
     pub fn stage(&self, alloc: Global, number: u64) -> Result<Option<Packet>, AllocError>
-        ensures { IfOk result (λ packet. packet ≡ option_map (packet_for self.now.host number) (to_send self.now.host self.now.state)) }
+        ensures { IfOk result (λ packet. packet ≡ option_map (packet_for self.now.host number)
+            (to_send self.now.host self.now.state)) }
     {
         match self.next_send() {
             Some(NextSend::Item) => self.items.packet(alloc, self.host, number),
@@ -52,7 +53,8 @@ impl NicNode {
     fn answer_packet(&self, alloc: Global, peer: u16) -> Result<Option<Packet>, AllocError>
         requires within { peer < self.now.hosts }
         requires owes { (peer_at self.now.state peer).owes ≡ true }
-        ensures { (number : ℕ) → IfOk result (λ packet. packet ≡ option_map (packet_for self.now.host number) (owed_to self.now.state peer)) }
+        ensures { (number : ℕ) → IfOk result (λ packet.
+            packet ≡ option_map (packet_for self.now.host number) (owed_to self.now.state peer)) }
     {
         match self.table.route(peer) {
             Some(by) => Ok(Some(ack_packet(alloc, &self.peers.at(peer).ack(), by)?)),
@@ -63,7 +65,8 @@ impl NicNode {
     // The packet of the fragment that is due to a peer, where one is and the table has a route.
     fn fragment_packet(&self, alloc: Global, peer: u16) -> Result<Option<Packet>, AllocError>
         requires { peer < self.now.hosts }
-        ensures { (number : ℕ) → IfOk result (λ packet. packet ≡ option_map (packet_for self.now.host number) (due_to self.now.host self.now.state peer)) }
+        ensures { (number : ℕ) → IfOk result (λ packet.
+            packet ≡ option_map (packet_for self.now.host number) (due_to self.now.host self.now.state peer)) }
     {
         let Some(frame) = self.peers.at(peer).due() else {
             return Ok(None);
@@ -87,7 +90,8 @@ fn ack_packet(alloc: Global, ack: &Ack, by: &Walk) -> Result<Packet, AllocError>
 fn frame_packet(alloc: Global, frame: &DueFrame<'_>, by: &Walk) -> Result<Packet, AllocError>
     requires head { is_head frame.now.head ≡ true }
     requires part { length frame.now.part.now ≡ frame.now.head.len }
-    ensures { IfOk result (λ packet. packet ≡ packet_of by.now Kind.Gm (frame_bytes frame.now.head frame.now.part.now)) }
+    ensures { IfOk result (λ packet. packet ≡ packet_of by.now Kind.Gm
+        (frame_bytes frame.now.head frame.now.part.now)) }
 {
     let payload = encode_frame(alloc, &frame.head, frame.part)?;
     encode(alloc, by.turns(), Kind::Gm, &payload)

@@ -67,7 +67,7 @@ fragments-append : (xs ys : List Message) → fragments (xs ++ ys) ≡ fragments
 fragments-append [] ys = refl
 fragments-append (m ∷ xs) ys = ap (λ l. pieces m ++ l) (fragments-append xs ys) ∙ sym (append_assoc (pieces m) (fragments xs) (fragments ys))
 
-get-front : {A : Type 0} (xs ys : List A) (i : ℕ) (x : A) → slice_get xs i ≡ Some x → slice_get (xs ++ ys) i ≡ Some x
+pub get-front : {A : Type 0} (xs ys : List A) (i : ℕ) (x : A) → slice_get xs i ≡ Some x → slice_get (xs ++ ys) i ≡ Some x
 get-front [] ys i x e = cc
 get-front (z ∷ xs) ys zero x e = e
 get-front (z ∷ xs) ys (suc i) x e = get-front xs ys i x e

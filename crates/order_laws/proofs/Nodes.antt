@@ -1,5 +1,5 @@
 -- What each change of a host keeps of its connections, and what it sends.
-use Rattle.std.proofs.Common.{◌≡◌, ◌+◌, ◌≤◌, ◌<◌, ◌^◌, ℕ, zero, suc, Bool, true, false, ◌&&◌, ℤ, pos, List, [], ◌∷◌, ◌++◌, length, nat_eq, is_none, Option, Some, None, option_map, Result, Ok, Err, refl, sym, ap, ◌∙◌, subst, arith, if◌then◌else◌}
+use Rattle.std.proofs.Common.{◌≡◌, ◌+◌, ◌≤◌, ◌<◌, ◌^◌, ℕ, zero, suc, Bool, true, false, ◌&&◌, ℤ, pos, List, [], ◌∷◌, ◌++◌, length, nat_eq, Option, Some, None, option_map, Result, Ok, Err, refl, sym, ap, ◌∙◌, subst, arith, if◌then◌else◌}
 use Rattle.std.specs.Prelude.{slice_index_or, option_and_then, ◌%◌}
 use Rattle.std.specs.List.{AllByRecursion, range_with_len}
 use Rattle.std.proofs.lemmas.Bool.Decides.{nat_tests}
@@ -27,14 +27,13 @@ use Rattle.gm_defs.proofs.Choices.{both, then-some}
 use Rattle.world_defs.specs.declared.applied.Applied.{Applied}
 use Rattle.world_defs.specs.declared.applied.Applied.TheVariants.{Part as OnePart, Active, Old}
 use Rattle.world_defs.specs.declared.heard.Heard.{Heard}
-use Rattle.world_defs.specs.declared.client.ClientCause.TheVariants.{TooLong, NoRoute, Spent}
 use Rattle.world_defs.specs.Table.{TableState, table_route, applied}
 use Rattle.world_defs.specs.Peer.{PeerState, Ticket, new_peer, with_message, peer_after, tickets_finished}
 use Rattle.world_defs.specs.Node.{NodeState, Staged, StagedReply, StagedAck, StagedProbe, StagedPart, Outgoing, Probe, TablePart, Reply, PartAnswer, FrameAnswer, Fragment, peer_at, with_peer, port_at, with_port, way_back, outgoing_staged, owed_to, due_to, due_frame, either, first_some, peers_of, to_send, packet_for, after_sending, node_expired}
 use Rattle.world_defs.specs.Hearing.{is_host, heard_if, is_part_for, part_heard, port_takes, message_of, hear_mapping, hear_mapping_body, delivered_after, frame_took, all_finished, hear_gm, hear_gm_body, hear_body, hear_decoded, hear}
 use Rattle.world_defs.specs.Client.{ClientState, Called, client_bytes, wanted_message}
-use Rattle.act_defs.proofs.Lists.{each-set}
-use Rattle.act_defs.proofs.Calls.{Call}
+use Rattle.world_defs.proofs.Lists.{each-set}
+use Rattle.world_defs.proofs.Calls.{Call, not_refused-acceptable}
 use Rattle.table_laws.specs.Packets.{Built}
 use Rattle.order_laws.specs.Says.{SaysTrue}
 use Rattle.order_laws.proofs.Peers.{IsNumbered, PeerNext, peer-same, sent_one-next, answered-next, expired-next, acknowledged-next, message-next, frame-message, frame-next}
@@ -144,12 +143,6 @@ node_expired-next S n peer = peer-node S n peer _ (expired-next (S peer) (peer_a
 
 -- what its clients call for
 -- a message is accepted
-not_refused : (a b c : Bool) → (if a then Some TooLong else if b then Some NoRoute else if c then Some Spent else None) ≡ None → (a ≡ false) × (c ≡ false)
-not_refused true b c e = cc
-not_refused false true c e = cc
-not_refused false false true e = cc
-not_refused false false false e = (refl, refl)
-
 not_long : (len : ℕ) → is_too_long len ≡ false → len ≤ piece
 not_long len e = grind (arith, nat_tests)
 
@@ -162,12 +155,12 @@ call-next S {n = n} (Call.opens sends recvs d) = node-kept S n _ refl
 call-next S {n = n} (Call.closes p d e f) = node-kept S n _ refl
 call-next S {n = n} (Call.provides size prio t ts p d e f g k) = node-kept S n _ refl
 call-next S {n = n} (Call.accepts s t ts p d e f g k) =
-    let two = not_refused (is_too_long s.len) (is_none (table_route n.table s.dest)) (is_spent (peer_at n s.dest).sender (piece_count s.len)) k in
+    let free = not_refused-acceptable n s k in
     let long : length (client_bytes s.len s.seed) ≡ s.len = client-length s.len s.seed in
     let here : PeerNext (S s.dest) (peer_at n s.dest) (with_message (peer_at n s.dest) (wanted_message s) (record { port = s.port; token = t })) =
     message-next (S s.dest) (peer_at n s.dest) (wanted_message s) (record { port = s.port; token = t })
-    (subst (λ l. l ≤ piece) (sym long) (not_long s.len two.0))
-    (ap (λ l. is_spent (peer_at n s.dest).sender (piece_count l)) long ∙ two.1) in
+    (subst (λ l. l ≤ piece) (sym long) (not_long s.len free.short))
+    (ap (λ l. is_spent (peer_at n s.dest).sender (piece_count l)) long ∙ free.numbered) in
     then-kept S n _ _ (peer-node S n s.dest _ here) refl
 call-next S {n = n} (Call.hands_sent t buffer p d e f g) = node-kept S n _ refl
 call-next S {n = n} (Call.hands_received t buffer from sport prio len p d e f g) = node-kept S n _ refl

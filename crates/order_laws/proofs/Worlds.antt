@@ -1,5 +1,5 @@
 -- Every act keeps what each host got a front part of what was sent to it, and the frames on their way the fragments of their numbers.
-use Rattle.std.proofs.Common.{◌+◌, ◌≤◌, ◌<◌, ℕ, zero, suc, List, [], ◌∷◌, length, replicate, get_or, IfSome, refl, sym, subst, arith}
+use Rattle.std.proofs.Common.{◌+◌, ◌≤◌, ◌<◌, ℕ, zero, suc, List, length, replicate, get_or, IfSome, refl, subst, arith}
 use Rattle.std.specs.List.{AllByRecursion}
 use Rattle.std.proofs.lemmas.List.{length-replicate}
 use Rattle.net_defs.specs.Network.{Network, IsFabric}
@@ -14,18 +14,19 @@ use Rattle.world_defs.specs.Node.{NodeState, peer_at, packet_for, new_node}
 use Rattle.world_defs.specs.World.{WorldState, fabric_of, host_count, new_world, node_at}
 use Rattle.world_defs.specs.Sound.{IsFront}
 use Rattle.world_defs.specs.Traffic.{sent_between, got_between}
-use Rattle.act_defs.specs.Acts.{Act, acted, acted_all, IsByteAct, MayActAll, IsReached}
+use Rattle.act_defs.specs.Acts.{Act, acted, IsByteAct, IsReached}
 use Rattle.order_laws.specs.Says.{SaysTrue}
 use Rattle.order_laws.specs.Order.{GotIsFrontOfSent, GotIsAsLongAsTaken, FramesAreHonest}
 use Rattle.order_laws.proofs.Peers.{IsNumbered, InOrder, front-then}
 use Rattle.order_laws.proofs.Frames.{says-more}
-use Rattle.act_defs.proofs.Views.{HostChange}
-use Rattle.act_defs.proofs.Calls.{call_view}
+use Rattle.world_defs.proofs.Views.{HostChange}
+use Rattle.world_defs.proofs.Calls.{call_view}
 use Rattle.act_defs.proofs.Hosts.{NodeChange, nodes_view, each_node}
+use Rattle.act_defs.proofs.Reaching.{reached-has}
 use Rattle.act_defs.proofs.Kept.{acted-plan, may-byte}
 use Rattle.table_laws.specs.Packets.{IsHonest}
 use Rattle.table_laws.proofs.Medium.{Holds, weaker-holds, empty-holds, carries-honest, honest-read}
-use Rattle.table_laws.proofs.Keeping.{holds-read, new-honest, acted-holds}
+use Rattle.table_laws.proofs.Keeping.{holds-read, new-honest, honest-more, acted-holds}
 use Rattle.order_laws.proofs.Nodes.{IsHost, NodeNext, node-kept, hear-next, after_sending-next, node_expired-next, call-next, sent-built}
 
 -- what each host has been sent, as the world stands
@@ -60,19 +61,13 @@ pub record IsOrdered (w : WorldState) : Type 0 where
   pub hosts : (h : ℕ) → IsHost h (node_at w h)
   pub order : (a b : ℕ) → InOrder (sent_between w a b) (peer_at (node_at w b) a)
 
-honest-more : (S T : ℕ → ℕ → List Message) (held : Held) → ((a b : ℕ) → IsFront (S a b) (T a b)) → IsHonest (SaysTrue S) held → IsHonest (SaysTrue T) held
-honest-more S T held more is = record {
-  mark = is.mark;
-  built = λ m. let b = is.built m in record { route = b.route; kind = b.kind; payload = b.payload; written = b.written; good = says-more S T more b.kind b.payload b.good };
-}
-
 host-next : (h : ℕ) (S : ℕ → List Message) (n m : NodeState) → IsHost h n → NodeNext S n m → IsHost h m
 host-next h S n m is k = record {
   fits = λ p low. is.fits p (subst (λ l. p < l) k.count low);
   peers = λ p. (k.peers p).numbers (is.peers p);
 }
 
-acted-ordered : (w : WorldState) (a : Act) → IsByteAct a → IsOrdered w → IsOrdered (acted w a)
+pub acted-ordered : (w : WorldState) (a : Act) → IsByteAct a → IsOrdered w → IsOrdered (acted w a)
 acted-ordered w a low is =
     let v : WorldState = acted w a in
     let F : ℕ → Held → Type 0 = λ c. IsHonest (SaysTrue (sent_between w)) in
@@ -81,17 +76,13 @@ acted-ordered w a low is =
     let links : Holds F v.links = acted-holds F w (carries-honest (fabric_of w) (SaysTrue (sent_between w))) is.links is.plan a low
     (λ h c out i. new-honest (SaysTrue (sent_between w)) (packet_for h (w.injected + 1) out) (sent-built (sent_between w) h (w.injected + 1) (node_at w h) out (is.hosts h) (λ p. refl) i.sends)) in
     record {
-      links = weaker-holds F (λ c. IsHonest (SaysTrue (sent_between v))) v.links (λ c held. honest-more (sent_between w) (sent_between v) held grows) links;
+      links = weaker-holds F (λ c. IsHonest (SaysTrue (sent_between v))) v.links (λ c held. honest-more (SaysTrue (sent_between w)) (SaysTrue (sent_between v)) held (says-more (sent_between w) (sent_between v) grows)) links;
       plan = acted-plan w a low is.plan;
       hosts = λ h. host-next h (to_host w h) (node_at w h) (node_at v h) (is.hosts h) (g.nodes h);
       order = λ a b.
           let o = ((g.nodes b).peers a).order ((is.hosts a).peers b).short (is.order a b) in
           record { front = front-then (got_between v a b) (sent_between w a b) (sent_between v a b) o.front (grows a b); count = o.count };
     }
-
-pub acted_all-ordered : (w : WorldState) (acts : List Act) → MayActAll w acts → IsOrdered w → IsOrdered (acted_all w acts)
-acted_all-ordered w [] may is = is
-acted_all-ordered w (a ∷ acts) may is = acted_all-ordered (acted w a) acts may.1 (acted-ordered w a (may-byte w a may.0) is)
 
 -- the new world
 at-replicate : {X : Type 0} (P : ℕ → X → Type 0) (k j : ℕ) (x d : X) → ((i : ℕ) → i < k → P i x) → ((i : ℕ) → P i d) → P j (get_or (replicate k x) j d)
@@ -124,7 +115,7 @@ new-ordered n f =
     }
 
 pub reached-ordered : (n : Network) (w : WorldState) → IsReached n w → IsOrdered w
-reached-ordered n w is = subst IsOrdered (sym is.leads) (acted_all-ordered (new_world n) is.acts is.may (new-ordered n is.fabric))
+reached-ordered n w is = reached-has IsOrdered n (new-ordered n is.fabric) (λ w a r may. acted-ordered w a (may-byte w a may)) w is
 
 pub got-front : GotIsFrontOfSent
 got-front n w is a b = ((reached-ordered n w is).order a b).front

@@ -11,7 +11,8 @@ use Rattle.act_defs.specs.Acts.{Act, Happens, Adopts, acted_all, IsReached}
 -- routes are adopted, both ports open, a buffer is provided, and the message goes through the switch
 abbrev pub one_message : List Act
 one_message =
-    Adopts 0 setup_routes ∷ Happens (Begin 0 0 1 0) ∷ Happens (Begin 1 1 0 1) ∷ Happens (Provide 1 1 4 0) ∷ Happens (Send 0 0 1 1 0 1 10)
+    Adopts 0 setup_routes ∷ Happens (Begin 0 0 1 0) ∷ Happens (Begin 1 1 0 1) ∷ Happens (Provide 1 1 4 0)
+    ∷ Happens (Send 0 0 1 1 0 1 10)
     ∷ Happens (Inject 0) ∷ Happens (Advance 0) ∷ Happens (Advance 3) ∷ []
 
 -- the world after them

@@ -1,4 +1,5 @@
-//! What each host got from another is a front part of what the other sent there, after every list of acts that may happen.
+//! What each host got from another is a front part of what the other sent there, after every list of acts that may
+//! happen.
 //!
 //! It sends nothing, and says nothing of how much is got: that is `window_laws`. Read `specs/Order.antt` first.
 //!

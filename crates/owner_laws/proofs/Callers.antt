@@ -8,7 +8,7 @@ use Rattle.world_defs.specs.declared.effect.Said.{Said}
 use Rattle.world_defs.specs.Node.{NodeState, port_at}
 use Rattle.world_defs.specs.Client.{ClientState, Called, new_client, client_bytes, empty_buffer, left}
 use Rattle.world_defs.specs.declared.effect.Said.TheVariants.{Token}
-use Rattle.act_defs.proofs.Calls.{Call}
+use Rattle.world_defs.proofs.Calls.{Call}
 use Rattle.world_defs.specs.Sound.{IsEachOnce, HasOwners, AreOwned}
 use Rattle.owner_laws.proofs.Moves.{owned-new, owned-provided, owned-sending, once-handed}
 

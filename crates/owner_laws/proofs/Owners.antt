@@ -15,10 +15,10 @@ use Rattle.world_laws.proofs.Lists.{at-set, two-set}
 use Rattle.world_laws.proofs.Shapes.{step-kept, new-world, adopted-world, planned-world}
 use Rattle.act_defs.specs.Acts.{Act, Happens, Plans, Adopts, acted, acted_all}
 use Rattle.owner_laws.proofs.Hosts.{NodeOwned, node-same, hear-owned, after_sending-owned}
-use Rattle.act_defs.proofs.Lists.{each-replicate}
-use Rattle.act_defs.proofs.Views.{HostChange, Change, view}
-use Rattle.act_defs.proofs.Strikes.{injection-nodes, injection-clients}
-use Rattle.act_defs.proofs.Calls.{call_view}
+use Rattle.world_defs.proofs.Lists.{each-replicate}
+use Rattle.world_defs.proofs.Views.{HostChange, Change, view}
+use Rattle.world_defs.proofs.Strikes.{injection-nodes, injection-clients}
+use Rattle.world_defs.proofs.Calls.{call_view}
 use Rattle.owner_laws.proofs.Callers.{CallOwned, call-owned}
 
 -- the ports of a host and their clients, and those of all hosts
@@ -57,7 +57,7 @@ called-owned w h port call world is k = record {
 -- every event
 change-owned : {w : WorldState} {e : Event} {r : Effect × WorldState} → Change w e r → IsWorld w → IsOwned w → IsOwned r.1
 change-owned Change.idle world is = is
-change-owned (Change.blocked next) world is = is
+change-owned (Change.blocked packet next d e) world is = is
 change-owned (Change.links k) world is = record { each = is.each }
 change-owned (Change.drops packet why d e f) world is = record { each = is.each }
 change-owned {w = w} (Change.arrives packet h d e f g) world is = one-owned w _ h (hear h (host_count w) (node_at w h) packet.wire).1 refl refl (hear-owned h (host_count w) (node_at w h) packet.wire) is

@@ -1,4 +1,5 @@
--- Tokens on their way, worked out: the two hosts at one switch, of which host 0 has routes, and opens a port with one send token and two receive tokens.
+-- Tokens on their way, worked out: the two hosts at one switch, of which host 0 has routes, and opens a port with one
+-- send token and two receive tokens.
 use Rattle.std.specs.Prelude.{◌≡◌, List, [], ◌∷◌, Some, option_map}
 use Rattle.net_defs.specs.Examples.{two_hosts}
 use Rattle.gm_defs.specs.Token.{sends_out, recvs_out}

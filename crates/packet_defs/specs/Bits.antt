@@ -1,7 +1,9 @@
 -- Bits of bytes, most significant first, and polynomials whose coefficients are bits.
--- A polynomial is the list of its coefficients, that of the greatest power first, or the number with these binary digits: x^8 + x^2 + x + 1 is
--- 0x107. The sum of two is the exclusive or of their numbers, and x times one is twice its number.
-use Rattle.std.specs.Prelude.{◌≡◌, ℕ, ◌+◌, ◌*◌, ◌/◌, ◌%◌, ◌^◌, ◌<◌, Bool, true, false, nat_eq, nat_lt, List, [], ◌∷◌, ◌++◌, replicate, if◌then◌else◌}
+-- A polynomial is the list of its coefficients, that of the greatest power first, or the number with these binary
+-- digits: x^8 + x^2 + x + 1 is 0x107. The sum of two is the exclusive or of their numbers, and x times one is twice
+-- its number.
+use Rattle.std.specs.Prelude.{◌≡◌, ℕ, ◌+◌, ◌*◌, ◌/◌, ◌%◌, ◌^◌, ◌<◌, Bool, true, false, nat_eq, nat_lt, List, [], ◌∷◌}
+use Rattle.std.specs.Prelude.{◌++◌, replicate, if◌then◌else◌}
 use Rattle.std.specs.List.{fold}
 use Rattle.std.specs.Int.Bits.{bit_xor}
 
@@ -16,7 +18,8 @@ is_set n k = nat_eq (n / 2 ^ k % 2) 1
 
 -- the eight bits of a byte
 abbrev pub bits_of_byte : ℕ → List Bool
-bits_of_byte b = is_set b 7 ∷ is_set b 6 ∷ is_set b 5 ∷ is_set b 4 ∷ is_set b 3 ∷ is_set b 2 ∷ is_set b 1 ∷ is_set b 0 ∷ []
+bits_of_byte b = is_set b 7 ∷ is_set b 6 ∷ is_set b 5 ∷ is_set b 4 ∷ is_set b 3 ∷ is_set b 2 ∷ is_set b 1 ∷ is_set b 0
+    ∷ []
 
 -- the bits of bytes, one byte after another
 abbrev pub bits_of : List ℕ → List Bool
@@ -47,6 +50,7 @@ reduced n = if nat_lt n 256 then n else bit_xor n divisor
 abbrev pub remainder : List Bool → ℕ
 remainder p = fold (λ r c. reduced (2 * r + bit c)) 0 p
 
--- What makes r the remainder of a polynomial: the polynomial is a multiple of the divisor plus r, and r has a degree below 8.
+-- What makes r the remainder of a polynomial: the polynomial is a multiple of the divisor plus r, and r has a degree
+-- below 8.
 abbrev pub IsRemainder : List Bool → ℕ → Type 0
 IsRemainder p r = (q : List Bool) × (polynomial p ≡ bit_xor (product q divisor) r) × (r < 256)

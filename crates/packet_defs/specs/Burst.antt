@@ -1,13 +1,15 @@
 -- A burst: neighbouring bits of a packet that flip on a cable, at most eight.
-use Rattle.std.specs.Prelude.{ℕ, ◌+◌, ◌-◌, ◌*◌, ◌/◌, ◌%◌, ◌^◌, Bool, true, false, not, ◌&&◌, nat_lt, List, [], ◌∷◌, ◌++◌, length, slice_index, slice_set}
+use Rattle.std.specs.Prelude.{ℕ, ◌+◌, ◌-◌, ◌*◌, ◌/◌, ◌%◌, ◌^◌, Bool, true, false, not, ◌&&◌, nat_lt, List, [], ◌∷◌}
+use Rattle.std.specs.Prelude.{◌++◌, length, slice_index, slice_set}
 use Rattle.std.specs.Int.Bits.{bit_xor}
 use Rattle.packet_defs.specs.Bits.{bits_of_byte, zeros}
 
--- Bytes whose bit `bit + i` is flipped where bit i of the pattern is 1, both most significant first: the first byte takes what of the pattern
--- falls into it, and the bytes after it take the rest.
+-- Bytes whose bit `bit + i` is flipped where bit i of the pattern is 1, both most significant first: the first byte
+-- takes what of the pattern falls into it, and the bytes after it take the rest.
 abbrev pub flipped : List ℕ → ℕ → ℕ → List ℕ
 flipped [] bit pattern = []
-flipped (byte ∷ bytes) bit pattern = bit_xor byte (pattern / 2 ^ bit) ∷ flipped bytes (bit - 8) (pattern * 2 ^ (8 - bit) % 256)
+flipped (byte ∷ bytes) bit pattern = bit_xor byte (pattern / 2 ^ bit)
+    ∷ flipped bytes (bit - 8) (pattern * 2 ^ (8 - bit) % 256)
 
 -- bytes with a mask added to the one at a place, if it is there
 abbrev pub masked : List ℕ → ℕ → ℕ → List ℕ

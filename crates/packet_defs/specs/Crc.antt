@@ -1,4 +1,5 @@
--- The check byte of a packet (a CRC-8: start value 0, most significant bit first, no reflection, no final exclusive or).
+-- The check byte of a packet (a CRC-8: start value 0, most significant bit first, no reflection, no final exclusive
+-- or).
 use Rattle.std.specs.Prelude.{ℕ, List, [], ◌∷◌, ◌++◌, replicate}
 use Rattle.std.specs.Int.Bits.{bit_xor}
 use Rattle.packet_defs.specs.Bits.{bits_of, zeros, remainder}

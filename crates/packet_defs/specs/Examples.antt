@@ -9,4 +9,5 @@ short_packet = packet_of (pos 3 ∷ []) Mapping []
 
 -- a frame of three bytes, `ABC`, from host 0 to port 1 of host 1, by a route of one turn
 abbrev pub frame : List ℕ
-frame = packet_of (pos 3 ∷ []) Gm (1 ∷ 1 ∷ 0 ∷ 0 ∷ 0 ∷ 1 ∷ 0 ∷ 1 ∷ 0 ∷ 0 ∷ 0 ∷ 0 ∷ 0 ∷ 0 ∷ 0 ∷ 0 ∷ 3 ∷ 0 ∷ 0 ∷ 0 ∷ 0 ∷ 0 ∷ 3 ∷ 65 ∷ 66 ∷ 67 ∷ [])
+frame = packet_of (pos 3 ∷ []) Gm (1 ∷ 1 ∷ 0 ∷ 0 ∷ 0 ∷ 1 ∷ 0 ∷ 1 ∷ 0 ∷ 0 ∷ 0 ∷ 0 ∷ 0 ∷ 0 ∷ 0 ∷ 0 ∷ 3 ∷ 0 ∷ 0 ∷ 0 ∷ 0
+    ∷ 0 ∷ 3 ∷ 65 ∷ 66 ∷ 67 ∷ [])

@@ -1,5 +1,6 @@
 -- What a host makes of a packet that reaches it.
-use Rattle.std.specs.Prelude.{ℕ, ◌+◌, ◌*◌, Bool, false, nat_le, nat_eq, List, [], ◌∷◌, if◌then◌else◌, Option, Some, None, Result, Ok, Err}
+use Rattle.std.specs.Prelude.{ℕ, ◌+◌, ◌*◌, Bool, false, nat_le, nat_eq, List, [], ◌∷◌, if◌then◌else◌, Option, Some}
+use Rattle.std.specs.Prelude.{None, Result, Ok, Err}
 use Rattle.packet_defs.specs.declared.kind.Kind.{Kind}
 use Rattle.packet_defs.specs.declared.kind.Kind.TheVariants.{Mapping, Gm}
 use Rattle.packet_defs.specs.declared.host_drop.HostDrop.{HostDrop}
@@ -13,7 +14,8 @@ has_route (byte ∷ _) = nat_le 128 byte
 
 -- the kind of a type number
 abbrev pub kind_of : ℕ → Option Kind
-kind_of number = if nat_eq number (type_of Mapping) then Some Mapping else if nat_eq number (type_of Gm) then Some Gm else None
+kind_of number = if nat_eq number (type_of Mapping) then Some Mapping else if nat_eq number (type_of Gm) then Some Gm
+    else None
 
 -- a packet of a kind that is known, with its payload
 abbrev pub of_kind : Option Kind → List ℕ → Result (Kind × List ℕ) HostDrop
@@ -25,8 +27,8 @@ abbrev pub body_of : List ℕ → Result (Kind × List ℕ) HostDrop
 body_of (high ∷ low ∷ payload) = of_kind (kind_of (256 * high + low)) payload
 body_of _ = Err Malformed
 
--- The kind and the payload of a packet that reached a host, or the first reason to drop it: a difference, a route that is left, a head that is
--- too short, another type.
+-- The kind and the payload of a packet that reached a host, or the first reason to drop it: a difference, a route
+-- that is left, a head that is too short, another type.
 abbrev pub decode : List ℕ → Result (Kind × List ℕ) HostDrop
 decode wire =
     if nat_eq (difference wire) 0 then if has_route (head wire) then Err RouteLeft else body_of (head wire)

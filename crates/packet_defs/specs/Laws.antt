@@ -1,5 +1,6 @@
 -- What holds of every packet, CRC and route byte.
-use Rattle.std.specs.Prelude.{◌≡◌, ℕ, ◌+◌, ◌-◌, ◌*◌, ◌/◌, ◌%◌, ◌^◌, ◌<◌, ◌≤◌, Bool, ℤ, List, [], ◌∷◌, ◌++◌, length, Some, Ok, Err}
+use Rattle.std.specs.Prelude.{◌≡◌, ℕ, ◌+◌, ◌-◌, ◌*◌, ◌/◌, ◌%◌, ◌^◌, ◌<◌, ◌≤◌, Bool, ℤ, List, [], ◌∷◌, ◌++◌, length}
+use Rattle.std.specs.Prelude.{Some, Ok, Err}
 use Rattle.std.specs.Int.Bits.{bit_xor}
 use Rattle.net_defs.specs.Turn.{IsTurn}
 use Rattle.packet_defs.specs.declared.kind.Kind.{Kind}
@@ -49,11 +50,13 @@ BuiltIsSound = (route : List ℤ) (kind : Kind) (payload : List ℕ) → differe
 
 -- it takes the turns of its route in order: the first is in front, and a strip leaves the packet of the others
 abbrev pub BuiltBeginsWithTurn : Type 0
-BuiltBeginsWithTurn = (turn : ℤ) (route : List ℤ) (kind : Kind) (payload : List ℕ) → IsTurn turn → front_turn (packet_of (turn ∷ route) kind payload) ≡ Some turn
+BuiltBeginsWithTurn = (turn : ℤ) (route : List ℤ) (kind : Kind) (payload : List ℕ) → IsTurn turn
+    → front_turn (packet_of (turn ∷ route) kind payload) ≡ Some turn
 
 -- a strip leaves the packet of the other turns
 abbrev pub StripLeavesOtherTurns : Type 0
-StripLeavesOtherTurns = (turn : ℤ) (route : List ℤ) (kind : Kind) (payload : List ℕ) → stripped (packet_of (turn ∷ route) kind payload) ≡ packet_of route kind payload
+StripLeavesOtherTurns = (turn : ℤ) (route : List ℤ) (kind : Kind) (payload : List ℕ)
+    → stripped (packet_of (turn ∷ route) kind payload) ≡ packet_of route kind payload
 
 -- and without turns a host takes its kind and payload
 abbrev pub BuiltIsTaken : Type 0
@@ -73,13 +76,15 @@ StripsKeepDifference = (n : ℕ) (wire : List ℕ) → n < length wire → diffe
 
 -- a flip changes the bits of the pattern, from its bit on, and no others
 abbrev pub FlipAddsBurst : Type 0
-FlipAddsBurst = (bytes : List ℕ) (bit pattern : ℕ) → pattern < 256 → bit + 8 ≤ 8 * length bytes → bits_of (flipped bytes bit pattern) ≡ xor_bits (bits_of bytes) (burst (8 * length bytes) bit pattern)
+FlipAddsBurst = (bytes : List ℕ) (bit pattern : ℕ) → pattern < 256 → bit + 8 ≤ 8 * length bytes
+    → bits_of (flipped bytes bit pattern) ≡ xor_bits (bits_of bytes) (burst (8 * length bytes) bit pattern)
 
 -- it writes two neighbouring bytes at most
 abbrev pub FlipWritesTwoBytes : Type 0
 FlipWritesTwoBytes =
     (bytes : List ℕ) (bit pattern : ℕ) → pattern < 256
-    → flipped bytes bit pattern ≡ masked (masked bytes (bit / 8) (pattern / 2 ^ (bit % 8))) (bit / 8 + 1) (pattern * 2 ^ (8 - bit % 8) % 256)
+    → flipped bytes bit pattern ≡ masked (masked bytes (bit / 8) (pattern / 2 ^ (bit % 8))) (bit / 8 + 1)
+    (pattern * 2 ^ (8 - bit % 8) % 256)
 
 -- and keeps the length
 abbrev pub FlipKeepsLength : Type 0
@@ -98,5 +103,6 @@ DifferenceIsDropped = (wire : List ℕ) → 0 < difference wire → decode wire 
 -- so a flipped packet is dropped at every host, after any number of strips
 abbrev pub FlippedIsDropped : Type 0
 FlippedIsDropped =
-    (n : ℕ) (wire : List ℕ) (bit pattern : ℕ) → difference wire ≡ 0 → 0 < pattern → pattern < 256 → bit + 8 ≤ 8 * length wire → n < length wire
+    (n : ℕ) (wire : List ℕ) (bit pattern : ℕ) → difference wire ≡ 0 → 0 < pattern → pattern < 256
+    → bit + 8 ≤ 8 * length wire → n < length wire
     → decode (stripped_times n (flipped wire bit pattern)) ≡ Err BadCrc

@@ -1,6 +1,7 @@
--- A packet's bytes on the wire: route bytes, a type of two bytes, a payload, and the CRC of all before it (packets of ANSI/VITA 26-1998; the
--- codes are this project's own). The head is all bytes before the CRC.
-use Rattle.std.specs.Prelude.{ℕ, zero, suc, ◌-◌, ℤ, List, [], ◌∷◌, ◌++◌, map, length, take, slice_index, slice_get, Option, option_and_then}
+-- A packet's bytes on the wire: route bytes, a type of two bytes, a payload, and the CRC of all before it (packets of
+-- ANSI/VITA 26-1998; the codes are this project's own). The head is all bytes before the CRC.
+use Rattle.std.specs.Prelude.{ℕ, zero, suc, ◌-◌, ℤ, List, [], ◌∷◌, ◌++◌, map, length, take, slice_index, slice_get}
+use Rattle.std.specs.Prelude.{Option, option_and_then}
 use Rattle.std.specs.Int.Bits.{bit_xor}
 use Rattle.packet_defs.specs.declared.kind.Kind.{Kind}
 use Rattle.packet_defs.specs.declared.kind.Kind.TheVariants.{Mapping, Gm}
@@ -40,7 +41,8 @@ difference wire = bit_xor (crc_byte wire) (crc (head wire))
 abbrev pub front_turn : List ℕ → Option ℤ
 front_turn wire = option_and_then turn_of (slice_get (head wire) 0)
 
--- A packet without the first byte of its head: a switch takes that byte's contribution out of the CRC, and computes no CRC anew.
+-- A packet without the first byte of its head: a switch takes that byte's contribution out of the CRC, and computes
+-- no CRC anew.
 abbrev pub stripped : List ℕ → List ℕ
 stripped [] = []
 stripped (byte ∷ wire) = head wire ++ bit_xor (crc_byte wire) (contribution byte (length wire - 1)) ∷ []

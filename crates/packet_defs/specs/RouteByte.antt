@@ -1,12 +1,14 @@
 -- The bytes of a packet's route, each of which stands for a turn.
-use Rattle.std.specs.Prelude.{ℕ, ◌+◌, ℤ, pos, ◌-ℤ◌, Bool, ◌&&◌, List, [], ◌∷◌, nat_le, nat_abs, if◌then◌else◌, Option, Some, None, is_some, option_map, option_and_then}
+use Rattle.std.specs.Prelude.{ℕ, ◌+◌, ℤ, pos, ◌-ℤ◌, Bool, ◌&&◌, List, [], ◌∷◌, nat_le, nat_abs, if◌then◌else◌, Option}
+use Rattle.std.specs.Prelude.{Some, None, is_some, option_map, option_and_then}
 use Rattle.std.specs.Int.{int_rem_euclid}
 
 -- the route byte of a turn: 0x80 + (turn mod 64)
 abbrev pub route_byte : ℤ → ℕ
 route_byte turn = 128 + nat_abs (int_rem_euclid turn (pos 64))
 
--- The turn of a route byte: 0x80 to 0x8F stand for 0 to 15, 0xB1 to 0xBF for -15 to -1, and no other byte is a route byte.
+-- The turn of a route byte: 0x80 to 0x8F stand for 0 to 15, 0xB1 to 0xBF for -15 to -1, and no other byte is a route
+-- byte.
 abbrev pub turn_of : ℕ → Option ℤ
 turn_of byte =
     if nat_le 128 byte && nat_le byte 143 then Some (pos byte -ℤ pos 128)

@@ -1,6 +1,12 @@
-//! What holds of every packet: each function's contract is the law, and its body is empty. `specs/Laws.antt` has the statements.
+//! What holds of every packet: each function's contract is the law, and its body is empty. `specs/Laws.antt` has the
+//! statements.
 
-ghost use Rattle.packet_defs.specs.Laws.{DivisionLeavesRemainder, RemainderIsUnique, CrcIsLinear, CrcAfterFront, CrcAfterEnd, ContributionRepeats, RouteByteHasTurn, OnlyRouteByteHasTurn, BuiltIsSound, BuiltBeginsWithTurn, StripLeavesOtherTurns, BuiltIsTaken, StripKeepsDifference, StripTakesOneByte, StripsKeepDifference, FlipAddsBurst, FlipWritesTwoBytes, FlipKeepsLength, FlipIsSeen, DifferenceIsDropped, FlippedIsDropped};
+ghost use Rattle.packet_defs.specs.Laws.{DivisionLeavesRemainder, RemainderIsUnique, CrcIsLinear, CrcAfterFront};
+ghost use Rattle.packet_defs.specs.Laws.{CrcAfterEnd, ContributionRepeats, RouteByteHasTurn, OnlyRouteByteHasTurn};
+ghost use Rattle.packet_defs.specs.Laws.{BuiltIsSound, BuiltBeginsWithTurn, StripLeavesOtherTurns, BuiltIsTaken};
+ghost use Rattle.packet_defs.specs.Laws.{StripKeepsDifference, StripTakesOneByte, StripsKeepDifference, FlipAddsBurst};
+ghost use Rattle.packet_defs.specs.Laws.{FlipWritesTwoBytes, FlipKeepsLength, FlipIsSeen, DifferenceIsDropped};
+ghost use Rattle.packet_defs.specs.Laws.{FlippedIsDropped};
 
 /// The remainder is the one that a division by x^8 + x^2 + x + 1 leaves.
 pub fn remainder_of_a_division()

@@ -1,8 +1,10 @@
-//! What a packet is: its bytes on the wire, its CRC, the strip of a route byte, a burst of flipped bits, and what a host makes of it.
+//! What a packet is: its bytes on the wire, its CRC, the strip of a route byte, a burst of flipped bits, and what a
+//! host makes of it.
 //!
-//! This crate holds definitions and the small types that they speak of. It holds no packet in memory and computes no CRC.
-//! `specs/Packet.antt` says what a packet's bytes are, `specs/Crc.antt` its CRC, `specs/Bits.antt` the remainder behind it,
-//! `specs/RouteByte.antt` the byte of a turn, `specs/Burst.antt` a flip, and `specs/Host.antt` what a host answers.
+//! This crate holds definitions and the small types that they speak of. It holds no packet in memory and computes no
+//! CRC. `specs/Packet.antt` says what a packet's bytes are, `specs/Crc.antt` its CRC, `specs/Bits.antt` the remainder
+//! behind it, `specs/RouteByte.antt` the byte of a turn, `specs/Burst.antt` a flip, and `specs/Host.antt` what a host
+//! answers.
 //!
 //! ```text
 //!   83 | 00 05 | .. | AD        one turn of +3, the type, a payload, the CRC

@@ -31,7 +31,8 @@ fn probes_and_replies_have_these_bytes(rt: HostRuntime) -> Result<(), Fail> {
     Ok(())
 }
 
-// Part 0 of 1 of host 2's table, of epoch 1 and mapper 0: by -3 back to the mapper and to host 0, and by 2, -1 to host 1.
+// Part 0 of 1 of host 2's table, of epoch 1 and mapper 0: by -3 back to the mapper and to host 0, and by 2, -1 to
+// host 1.
 const PART: &[u8] =
     b"\x04\x00\x00\x00\x01\x00\x00\x00\x02\x00\x01\x01\xbd\x02\x00\x00\x01\xbd\x00\x01\x02\x82\xbf";
 

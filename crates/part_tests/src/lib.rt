@@ -1,4 +1,5 @@
-//! Tests of calls of packets, messages, ports and streams that no worked text reaches, by published values. Nothing stands on it.
+//! Tests of calls of packets, messages, ports and streams that no worked text reaches, by published values. Nothing
+//! stands on it.
 //!
 //! | module | has |
 //! |---|---|

@@ -7,6 +7,7 @@ use Rattle.port_align.specs.declared.frame.ClassFrame.{ClassFrame}
 abbrev pub composed : ℤ → ℤ → Option ℤ
 composed j k = if is_turn (j +ℤ k) then Some (j +ℤ k) else None
 
--- How far the ports of one node lie from another's: port p of the first is port p + k of the second. Only nodes of one class have such a k.
+-- How far the ports of one node lie from another's: port p of the first is port p + k of the second. Only nodes of
+-- one class have such a k.
 abbrev pub apart : ClassFrame → ClassFrame → Option ℤ
 apart u v = if nat_eq u.class v.class then Some (u.offset -ℤ v.offset) else None

@@ -1,6 +1,7 @@
 //! The laws of offsets: each function's contract is the law, and its body is empty.
 
-ghost use Rattle.port_align.specs.Laws.{ZeroIsNeutral, EachHasItsInverse, OrderIsFree, GroupingIsFree, OwnIsZero, OtherWayIsInverse, OverAThirdIsSum};
+ghost use Rattle.port_align.specs.Laws.{ZeroIsNeutral, EachHasItsInverse, OrderIsFree, GroupingIsFree, OwnIsZero};
+ghost use Rattle.port_align.specs.Laws.{OtherWayIsInverse, OverAThirdIsSum};
 
 /// Offsets add, with 0 and inverses, as far as sums stay from -15 to 15.
 pub fn offsets_are_a_group()

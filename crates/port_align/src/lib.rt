@@ -1,7 +1,7 @@
 //! Offsets between the ports of nodes that are one switch.
 //!
-//! It keeps no classes: that is `replicate_merge`. `specs/Offset.antt` says what each call means, and `specs/Laws.antt` that offsets are a
-//! group.
+//! It keeps no classes: that is `replicate_merge`. `specs/Offset.antt` says what each call means, and
+//! `specs/Laws.antt` that offsets are a group.
 //!
 //! ```text
 //!   class      .. 5   6   7   8   9 ..

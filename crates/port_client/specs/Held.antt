@@ -3,7 +3,8 @@ use Rattle.std.specs.Prelude.{ℕ, List, map}
 use Rattle.gm_tokens.specs.Token.{Token, token_at}
 use Rattle.world_defs.specs.Client.{ClientState, new_client}
 
--- The client of one opening of a port: whose port it is, how many tokens of each kind were minted, and those that it holds, by number.
+-- The client of one opening of a port: whose port it is, how many tokens of each kind were minted, and those that it
+-- holds, by number.
 pub record OpenClient : Type 0 where
   pub host : ℕ
   pub port : ℕ
@@ -13,7 +14,13 @@ pub record OpenClient : Type 0 where
 
 -- the client of a port that was just opened: it holds all that was minted
 abbrev pub opened_client : ℕ → ℕ → ℕ → ℕ → OpenClient
-opened_client host port sends recvs = record { host = host; port = port; minted_sends = sends; minted_recvs = recvs; held = new_client sends recvs }
+opened_client host port sends recvs = record {
+  host = host;
+  port = port;
+  minted_sends = sends;
+  minted_recvs = recvs;
+  held = new_client sends recvs;
+}
 
 -- the client with these send tokens, or these receive tokens
 abbrev pub with_sends : OpenClient → List ℕ → OpenClient

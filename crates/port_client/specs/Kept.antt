@@ -9,7 +9,8 @@ abbrev pub AreOwn : ℕ → ℕ → List Token → Type 0
 AreOwn host port ts = AllByRecursion (λ t. t ≡ token_at host port t.number) ts
 
 -- The counts are those of the bank, each token is of its port, and there is room for all that were minted.
-pub record IsClient (bank : Bank) (minted_sends minted_recvs : ℕ) (sends : List Token) (send_room : ℕ) (recvs : List Token) (recv_room : ℕ) : Type 0 where
+pub record IsClient (bank : Bank) (minted_sends minted_recvs : ℕ) (sends : List Token) (send_room : ℕ)
+    (recvs : List Token) (recv_room : ℕ) : Type 0 where
   pub sends_minted : bank.sends ≡ minted_sends
   pub recvs_minted : bank.recvs ≡ minted_recvs
   pub own_sends : AreOwn bank.host bank.port sends

@@ -33,7 +33,8 @@ impl Model for Client {
 
     ghost view = { λ c. client_of c.bank.host c.bank.port c.minted_sends c.minted_recvs c.sends.items c.recvs.items };
 
-    ghost invariant = { λ c. IsClient c.bank c.minted_sends c.minted_recvs c.sends.items (deque_capacity c.sends) c.recvs.items (deque_capacity c.recvs) };
+    ghost invariant = { λ c. IsClient c.bank c.minted_sends c.minted_recvs c.sends.items
+        (deque_capacity c.sends) c.recvs.items (deque_capacity c.recvs) };
 }
 
 impl Client {
@@ -137,8 +138,10 @@ impl Client {
 
     /// Spends all tokens of the opening: those that it holds, and those handed in. Takes no memory.
     pub fn end(self, sends: Vec<SendToken>, recvs: Vec<RecvToken>)
-        requires sends { AreAll self.host self.port self.minted_sends (tokens_of self.host self.port self.held.sends ++ sends.items) }
-        requires recvs { AreAll self.host self.port self.minted_recvs (tokens_of self.host self.port self.held.recvs ++ recvs.items) }
+        requires sends { AreAll self.host self.port self.minted_sends
+            (tokens_of self.host self.port self.held.sends ++ sends.items) }
+        requires recvs { AreAll self.host self.port self.minted_recvs
+            (tokens_of self.host self.port self.held.recvs ++ recvs.items) }
     {
         let Client {
             bank,

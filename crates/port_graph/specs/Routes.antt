@@ -1,5 +1,6 @@
 -- Routes in a list that rises by sender and receiver: what it takes, and which walk it has.
-use Rattle.std.specs.Prelude.{◌≡◌, ◌⊎◌, ℕ, ◌-◌, ℤ, Bool, true, ◌&&◌, List, [], ◌∷◌, length, nat_eq, slice_get, if◌then◌else◌, Option, Some, None, Result, Ok, Err}
+use Rattle.std.specs.Prelude.{◌≡◌, ◌⊎◌, ℕ, ◌-◌, ℤ, Bool, true, ◌&&◌, List, [], ◌∷◌, length, nat_eq, slice_get}
+use Rattle.std.specs.Prelude.{if◌then◌else◌, Option, Some, None, Result, Ok, Err}
 use Rattle.net_defs.specs.declared.route.Route.{Route}
 use Rattle.net_defs.specs.RouteSet.{route_below}
 use Rattle.port_graph.specs.declared.routes.RoutePush.{RoutePush}
@@ -14,10 +15,12 @@ is_above (Some last) r = route_below last r
 abbrev pub push_refusal : List Route → Route → Option RoutePush
 push_refusal routes r = if is_above (slice_get routes (length routes - 1)) r then None else Some Order
 
--- The call refuses exactly where there is a refusal, with that one, and hands back the value. Only where there is none may memory be wanting.
+-- The call refuses exactly where there is a refusal, with that one, and hands back the value. Only where there is
+-- none may memory be wanting.
 abbrev pub HandsBack : {T V E : Type 0} → Option E → E → V → Result T (V × E) → Type 0
 HandsBack refusal no_memory value (Ok x) = refusal ≡ None
-HandsBack refusal no_memory value (Err e) = (e.0 ≡ value) × ((refusal ≡ Some e.1) ⊎ ((refusal ≡ None) × (e.1 ≡ no_memory)))
+HandsBack refusal no_memory value (Err e) = (e.0 ≡ value)
+    × ((refusal ≡ Some e.1) ⊎ ((refusal ≡ None) × (e.1 ≡ no_memory)))
 
 -- a route goes from one host to another
 abbrev pub goes : ℕ → ℕ → Route → Bool

@@ -6,7 +6,8 @@
 //!           host, each       switch 0
 //! ```
 
-ghost use Rattle.std.specs.Prelude.{◌≡◌, ◌≢◌, ◌<◌, ◌++◌, ◌∷◌, [], length, true, slice_get, slice_index_or, None, OnOk, OnErr, nat_eq, ◌||◌};
+ghost use Rattle.std.specs.Prelude.{◌≡◌, ◌≢◌, ◌<◌, ◌++◌, ◌∷◌, [], length, true, slice_get, slice_index_or, None, OnOk};
+ghost use Rattle.std.specs.Prelude.{OnErr, nat_eq, ◌||◌};
 ghost use Rattle.net_defs.specs.Network.{far_end};
 ghost use Rattle.port_graph.specs.Table.{is_possible, place_of_end, entry};
 

@@ -1,4 +1,5 @@
-//! A fabric in memory: its hosts, switches and cables, the far end of each port, and the place of a walk; and sets of routes.
+//! A fabric in memory: its hosts, switches and cables, the far end of each port, and the place of a walk; and sets of
+//! routes.
 //!
 //! It moves no packet and reads no text. What a contract sees of a `Fabric` is a `Network` of `net_defs`; there
 //! `specs/Network.antt`, `specs/Building.antt` and `specs/Route.antt` say what each call means.

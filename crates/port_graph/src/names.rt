@@ -1,6 +1,7 @@
 //! Named vertices in the order of the text.
 
-ghost use Rattle.std.specs.Prelude.{◌≡◌, ◌++◌, ◌∷◌, [], length, position, false, bytes_eq, option_map, option_copied, slice_get, OnOk, OnErr};
+ghost use Rattle.std.specs.Prelude.{◌≡◌, ◌++◌, ◌∷◌, [], length, position, false, bytes_eq, option_map, option_copied};
+ghost use Rattle.std.specs.Prelude.{slice_get, OnOk, OnErr};
 ghost use Rattle.std.specs.List.{list_any};
 
 use indexmap::IndexMap;

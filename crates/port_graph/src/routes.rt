@@ -47,7 +47,8 @@ impl RouteSet {
         }
     }
 
-    /// Adds a route above the last. A refused route is handed back, and the set stays: `Order` exactly where it isn't above.
+    /// Adds a route above the last. A refused route is handed back, and the set stays: `Order` exactly where it isn't
+    /// above.
     pub fn push(&mut self, r: Route) -> Result<(), (Route, RoutePush)>
         ensures pushed { OnOk result (self.new ≡ self.old ++ r ∷ []) }
         ensures refused { HandsBack (push_refusal self.old r) RoutePush.NoMemory r result }

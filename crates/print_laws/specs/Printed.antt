@@ -19,7 +19,8 @@ use Rattle.map_text.specs.Printing.{AreOfFabric}
 use Rattle.map_text.specs.Reading.{map_reading}
 use Rattle.mapping_laws.specs.Laws.{CanMap}
 
--- What a map has that can be printed and read: the rules of maps, hosts of the fabric, no more vertices than nodes of a journal, and at most 31 cabled ports a vertex.
+-- What a map has that can be printed and read: the rules of maps, hosts of the fabric, no more vertices than nodes of
+-- a journal, and at most 31 cabled ports a vertex.
 pub record IsPrintable (n : Network) (m : NetMap) : Type 0 where
   pub rules : IsMap m
   pub hosts : AreOfFabric n m
@@ -44,11 +45,14 @@ PrintableIsReadAgain = (n : Network) (m : NetMap) → IsFabric n → AreNamed n 
 -- Over such a fabric every map that a run prints is read again, wherever it stands and whatever it is called.
 abbrev pub MapsOfRunsReadBack : Type 0
 MapsOfRunsReadBack =
-    (n : Network) (commands : List Command) (out : List Piece) (last : SessionState) (before behind : List Piece) (m : NetMap)
-    → IsFabric n → AreNamed n → AllByRecursion (IsCommandOf n) commands → IsRun n commands out last → out ≡ before ++ MapLines m ∷ behind → IsReadAgain n m
+    (n : Network) (commands : List Command) (out : List Piece) (last : SessionState) (before behind : List Piece)
+    (m : NetMap)
+    → IsFabric n → AreNamed n → AllByRecursion (IsCommandOf n) commands → IsRun n commands out last
+    → out ≡ before ++ MapLines m ∷ behind → IsReadAgain n m
 
 -- So is each that it prints under the word complete.
 abbrev pub CompleteMapsReadBack : Type 0
 CompleteMapsReadBack =
     (n : Network) (commands : List Command) (out : List Piece) (last : SessionState) (mapper : ℕ) (m : NetMap)
-    → IsFabric n → AreNamed n → AllByRecursion (IsCommandOf n) commands → IsRun n commands out last → HasPrinted out mapper m → IsReadAgain n m
+    → IsFabric n → AreNamed n → AllByRecursion (IsCommandOf n) commands → IsRun n commands out last
+    → HasPrinted out mapper m → IsReadAgain n m

@@ -1,9 +1,11 @@
 //! What is proved of printed maps: every map that a run prints is read back from its lines as the map that was printed.
 //!
-//! It reads and prints nothing: that is `map_text`; that a complete map is right is a law of `mapping_laws`. Read `specs/Printed.antt`.
+//! It reads and prints nothing: that is `map_text`; that a complete map is right is a law of `mapping_laws`. Read
+//! `specs/Printed.antt`.
 #![tactic(auto)]
 
-ghost use Rattle.print_laws.specs.Printed.{MadeMapIsPrintable, PrintableIsReadAgain, MapsOfRunsReadBack, CompleteMapsReadBack};
+ghost use Rattle.print_laws.specs.Printed.{MadeMapIsPrintable, PrintableIsReadAgain, MapsOfRunsReadBack};
+ghost use Rattle.print_laws.specs.Printed.{CompleteMapsReadBack};
 
 /// A map that was made can be printed, and its lines are read as that map.
 pub fn printable_maps()

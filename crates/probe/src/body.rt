@@ -11,7 +11,8 @@ use net_defs::Walk;
 use std::alloc::{AllocError, Global};
 use turn_bytes::push_route;
 
-/// What a packet of a mapper's ask says. `number` is that of the probe's injection; a reply carries the number of its probe.
+/// What a packet of a mapper's ask says. `number` is that of the probe's injection; a reply carries the number of its
+/// probe.
 #[derive(Debug, Drop)]
 pub enum ProbeBody {
     /// Asks the host that it reaches for its address.

@@ -13,7 +13,8 @@ use port_graph::Fabric;
 use std::alloc::AllocError;
 use std::marker::Model;
 
-/// Answers by a fabric in memory, but the asks of the given numbers, counted from 1, answer Nothing and are counted as drowned.
+/// Answers by a fabric in memory, but the asks of the given numbers, counted from 1, answer Nothing and are counted
+/// as drowned.
 #[derive(Drop)]
 pub struct FakeProber<'f> {
     fabric: &'f Fabric,
@@ -30,7 +31,13 @@ impl<'f> Model for FakeProber<'f> {
 
     ghost Value = { Drowning };
 
-    ghost view = { λ p. record { fabric = p.fabric.now; host = p.host; drown = p.drown.items; asks = p.asks; drowned = p.drowned } };
+    ghost view = { λ p. record {
+      fabric = p.fabric.now;
+      host = p.host;
+      drown = p.drown.items;
+      asks = p.asks;
+      drowned = p.drowned;
+    } };
 
     ghost invariant = { λ p. IsFabric p.fabric.now × (p.host < length p.fabric.now.hosts) };
 }
@@ -81,7 +88,8 @@ impl Prober for FakeProber<'_> {
     }
 
     fn ask(&mut self, w: &Walk) -> Result<Answer, AllocError>
-        ensures truth { IfOk result (λ a. IsTrueOrDrowned (answer self.old.fabric self.old.host w.now) self.old.drowned self.new.drowned a) }
+        ensures truth { IfOk result (λ a. IsTrueOrDrowned
+            (answer self.old.fabric self.old.host w.now) self.old.drowned self.new.drowned a) }
         ensures later { self.old.drowned ≤ self.new.drowned }
         ensures same_fabric { self.new.fabric ≡ self.old.fabric }
         ensures same_mapper { self.new.host ≡ self.old.host }

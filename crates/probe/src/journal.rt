@@ -19,7 +19,8 @@ pub enum JournalPush {
     NoMemory,
 }
 
-/// The asks of one host with their answers, in the order of the asks, no walk twice. Contracts see the host and the list of entries.
+/// The asks of one host with their answers, in the order of the asks, no walk twice. Contracts see the host and the
+/// list of entries.
 #[derive(Drop)]
 pub struct Journal {
     host: u16,

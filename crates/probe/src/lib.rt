@@ -1,7 +1,9 @@
-//! Asks of a mapper: what answers them, the journal that keeps the answers, and the bodies of the packets that carry them.
+//! Asks of a mapper: what answers them, the journal that keeps the answers, and the bodies of the packets that carry
+//! them.
 //!
-//! It grows no map: that is `mapper`. An ask is answered by a `Prober`; here are two over a fabric in memory, and one over a world of packets
-//! comes above. `specs/Drowning.antt` says what an ask may answer, `specs/Keeping.antt` what a journal is, `specs/Body.antt` what bytes say.
+//! It grows no map: that is `mapper`. An ask is answered by a `Prober`; here are two over a fabric in memory, and one
+//! over a world of packets comes above. `specs/Drowning.antt` says what an ask may answer, `specs/Keeping.antt` what
+//! a journal is, `specs/Body.antt` what bytes say.
 //!
 //! ```text
 //!   host probe       1 | number (8) | mapper (2) | n | n route bytes of the way back

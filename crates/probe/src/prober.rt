@@ -48,7 +48,8 @@ pub trait Prober {
     fn ask(&mut self, w: &Walk) -> Result<Answer, AllocError>
         requires short { length w.now ≤ 31 }
         requires is_ready { ready self.old }
-        ensures truth { IfOk result (λ a. IsTrueOrDrowned (answer (fabric self.old) (mapper self.old) w.now) (lost self.old) (lost self.new) a) }
+        ensures truth { IfOk result (λ a. IsTrueOrDrowned (answer (fabric self.old) (mapper self.old) w.now)
+            (lost self.old) (lost self.new) a) }
         ensures later { lost self.old ≤ lost self.new }
         ensures same_fabric { fabric self.new ≡ fabric self.old }
         ensures same_mapper { mapper self.new ≡ mapper self.old }

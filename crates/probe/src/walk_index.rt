@@ -1,13 +1,15 @@
 //! Walks in order, found by their turns.
 
-ghost use Rattle.std.specs.Prelude.{◌≡◌, ◌<◌, ◌++◌, ◌∷◌, [], false, length, slice_get, is_some, Some, IfSome, OnOk, OnErr};
+ghost use Rattle.std.specs.Prelude.{◌≡◌, ◌<◌, ◌++◌, ◌∷◌, [], false, length, slice_get, is_some, Some, IfSome, OnOk};
+ghost use Rattle.std.specs.Prelude.{OnErr};
 ghost use Rattle.probe.specs.Keeping.{has_walk};
 
 use indexmap::IndexSet;
 use std::alloc::{AllocError, Global};
 use std::marker::Model;
 
-/// Walks in the order in which they came, none twice. A walk is found by a hash of its turns. Contracts see the list of walks.
+/// Walks in the order in which they came, none twice. A walk is found by a hash of its turns. Contracts see the list
+/// of walks.
 #[derive(Drop)]
 pub struct WalkIndex {
     walks: IndexSet<Vec<i8>>,

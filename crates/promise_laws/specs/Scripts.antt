@@ -22,15 +22,20 @@ use Rattle.run_defs.specs.Headline.{HasPrinted, IsQuiet}
 -- Every map that its run prints under the word complete is the mapper's part of the fabric.
 abbrev pub ScriptMapsAreTrue : Type 0
 ScriptMapsAreTrue =
-    (n : Network) (line : ℕ) (text : List ℕ) (commands : List Command) (out : List Piece) (last : SessionState) (mapper : ℕ) (m : NetMap)
-    → IsFabric n → script_reading n line text ≡ Ok commands → IsRun n commands out last → HasPrinted out mapper m → IsMapOfPart n mapper m
+    (n : Network) (line : ℕ) (text : List ℕ) (commands : List Command) (out : List Piece) (last : SessionState)
+    (mapper : ℕ) (m : NetMap)
+    → IsFabric n → script_reading n line text ≡ Ok commands → IsRun n commands out last → HasPrinted out mapper m
+    → IsMapOfPart n mapper m
 
--- Behind its run, on a quiet fabric, a map from a host of the fabric to the depth that suffices, of at most 65 cables, with 1 to 8 tries an ask, says complete.
+-- Behind its run, on a quiet fabric, a map from a host of the fabric to the depth that suffices, of at most 65
+-- cables, with 1 to 8 tries an ask, says complete.
 abbrev pub DeepMapsOfScriptsAreComplete : Type 0
 DeepMapsOfScriptsAreComplete =
-    (n : Network) (line : ℕ) (text : List ℕ) (commands : List Command) (out : List Piece) (s : SessionState) (host depth tries : ℕ) (after : WorldState) (j : List Entry) (m : NetMap) (words : MapWords)
+    (n : Network) (line : ℕ) (text : List ℕ) (commands : List Command) (out : List Piece) (s : SessionState)
+    (host depth tries : ℕ) (after : WorldState) (j : List Entry) (m : NetMap) (words : MapWords)
     → IsFabric n → script_reading n line text ≡ Ok commands → IsRun n commands out s
-    → host < length n.hosts → depth ≤ 65 → IsMapped host depth tries s.world after j m words → IsQuiet host s.world after
+    → host < length n.hosts → depth ≤ 65 → IsMapped host depth tries s.world after j m words
+    → IsQuiet host s.world after
     → 1 ≤ tries → tries ≤ 8 → enough_depth n host ≤ depth → words ≡ Complete
 
 -- Acts that may happen lead to the world behind its run.
@@ -43,4 +48,5 @@ ScriptIsReached =
 abbrev pub ScriptHasNoCycle : Type 0
 ScriptHasNoCycle =
     (n : Network) (line : ℕ) (text : List ℕ) (commands : List Command) (out : List Piece) (last : SessionState)
-    → IsFabric n → script_reading n line text ≡ Ok commands → IsRun n commands out last → HasNoCycle (IsBefore (installed_channels last.world))
+    → IsFabric n → script_reading n line text ≡ Ok commands → IsRun n commands out last
+    → HasNoCycle (IsBefore (installed_channels last.world))

@@ -1,5 +1,6 @@
 -- The first fault of routes and ranks.
-use Rattle.std.specs.Prelude.{◌≡◌, ℕ, ℤ, Bool, false, List, [], ◌∷◌, length, nat_lt, if◌then◌else◌, Option, Some, None, Result, Ok, Err}
+use Rattle.std.specs.Prelude.{◌≡◌, ℕ, ℤ, Bool, false, List, [], ◌∷◌, length, nat_lt, if◌then◌else◌, Option, Some, None}
+use Rattle.std.specs.Prelude.{Result, Ok, Err}
 use Rattle.net_defs.specs.declared.route.Route.{Route}
 use Rattle.net_defs.specs.Building.{first_of_two}
 use Rattle.map_defs.specs.declared.rank.RankEntry.{RankEntry}
@@ -46,11 +47,13 @@ ranked_at ks (Some d) = ranked d (rank_of ks d)
 -- the first fault along channels
 abbrev pub fault_along : List RankEntry → Option Ranked → List MapPort → Option CheckFault
 fault_along ks before [] = None
-fault_along ks before (d ∷ ds) = first_of_two (fault_at before d (rank_of ks d)) (fault_along ks (ranked d (rank_of ks d)) ds)
+fault_along ks before (d ∷ ds) = first_of_two (fault_at before d (rank_of ks d))
+    (fault_along ks (ranked d (rank_of ks d)) ds)
 
 -- the first fault of a route: that it leads elsewhere, then those of its channels in order
 abbrev pub route_fault : NetMap → List RankEntry → Route → Option CheckFault
-route_fault m ks r = if leads m r then fault_along ks None (channels_on m (port_of_host m r.from) r.walk) else Some (BadRoute r.from r.to)
+route_fault m ks r = if leads m r then fault_along ks None (channels_on m (port_of_host m r.from) r.walk)
+    else Some (BadRoute r.from r.to)
 
 -- the fault of the first route that has one
 abbrev pub first_fault : NetMap → List RankEntry → List Route → Option CheckFault

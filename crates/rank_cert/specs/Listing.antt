@@ -1,5 +1,6 @@
 -- Entries of ranks in the order of their ports, and those of a map's channels, one place after the other.
-use Rattle.std.specs.Prelude.{ℕ, ◌+◌, ◌-◌, ◌/◌, ◌%◌, pos, ◌-ℤ◌, slice_index, length, Bool, true, ◌&&◌, List, [], ◌∷◌, is_some, if◌then◌else◌, Option, Some, None}
+use Rattle.std.specs.Prelude.{ℕ, ◌+◌, ◌-◌, ◌/◌, ◌%◌, pos, ◌-ℤ◌, slice_index, length, Bool, true, ◌&&◌, List, [], ◌∷◌}
+use Rattle.std.specs.Prelude.{is_some, if◌then◌else◌, Option, Some, None}
 use Rattle.map_defs.specs.declared.rank.RankEntry.{RankEntry}
 use Rattle.map_defs.specs.NetMap.{NetMap, MapPort, port_below, same_port, map_far}
 use Rattle.map_defs.specs.Orientation.{falls}
@@ -38,4 +39,5 @@ rank_at (Some k) d = if same_port (port_of k) d then Some k.rank else None
 
 -- the rank of a channel from one vertex to another
 abbrev pub rank_between : List ℕ → ℕ → ℕ → ℕ
-rank_between order v w = if falls order v w then length order - 1 - slice_index order v else length order + slice_index order v
+rank_between order v w = if falls order v w then length order - 1 - slice_index order v
+    else length order + slice_index order v

@@ -17,8 +17,8 @@ const PORTS: usize = 31;
 // The greatest port; the least is its negative.
 const MAX_PORT: i8 = 15;
 
-/// The ranks by an order of the vertices, which has each number below their count once: by vertex, then by port. With n vertices an
-/// up channel has the rank n - 1 less the place of its tail, a down channel n more than that place.
+/// The ranks by an order of the vertices, which has each number below their count once: by vertex, then by port. With
+/// n vertices an up channel has the rank n - 1 less the place of its tail, a down channel n more than that place.
 pub fn certify(alloc: Global, m: &FabricMap, order: &[u32]) -> Result<Ranks, AllocError>
     requires { IsOrder order.now (length m.now.vertices) }
     ensures { IfOk result (λ k. k ≡ ranks_of m.now order.now) }

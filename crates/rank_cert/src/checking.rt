@@ -6,7 +6,8 @@ ghost use Rattle.net_defs.specs.Turn.{IsTurn};
 ghost use Rattle.map_defs.specs.Routing.{LeadsTo, channels_on};
 ghost use Rattle.net_defs.specs.Dependencies.{IsBefore, HasNoCycle};
 ghost use Rattle.map_defs.specs.Ranks.{IsCertificate, channels_of_routes};
-ghost use Rattle.rank_cert.specs.Checking.{first_fault, route_fault, fault_along, fault_at, leads, ranked_at, Tells, AreOfOneOrder};
+ghost use Rattle.rank_cert.specs.Checking.{first_fault, route_fault, fault_along, fault_at, leads, ranked_at, Tells};
+ghost use Rattle.rank_cert.specs.Checking.{AreOfOneOrder};
 ghost use Rattle.rank_cert.specs.Following.{unpair, channels_after, port_of_pair};
 
 use crate::fault::CheckFault;
@@ -15,13 +16,15 @@ use crate::ranks::Ranks;
 use fabric_map::FabricMap;
 use port_graph::{Route, RouteSet};
 
-/// Checks that each route leads to its host, and that the ranks rise along it. The first route that fails is named: that it leads
-/// elsewhere before the faults of its channels, and these in their order.
+/// Checks that each route leads to its host, and that the ranks rise along it. The first route that fails is named:
+/// that it leads elsewhere before the faults of its channels, and these in their order.
 ///
-/// After `Ok` no channel waits for itself, by whatever chain of others. The routes and the ranks of a map by one order are always `Ok`.
+/// After `Ok` no channel waits for itself, by whatever chain of others. The routes and the ranks of a map by one
+/// order are always `Ok`.
 pub fn check(m: &FabricMap, r: &RouteSet, k: &Ranks) -> Result<(), CheckFault>
     ensures fault { Tells (first_fault m.now k.now r.now) result }
-    ensures certified { IsOk result ↔ (AllByRecursion (λ s. LeadsTo m.now s.from s.to s.walk) r.now × IsCertificate m.now r.now k.now) }
+    ensures certified { IsOk result ↔ (AllByRecursion (λ s. LeadsTo m.now s.from s.to s.walk) r.now
+        × IsCertificate m.now r.now k.now) }
     ensures of_one_order { AreOfOneOrder m.now r.now k.now → IsOk result }
     ensures no_cycle { OnOk result (HasNoCycle (IsBefore (channels_of_routes m.now r.now))) }
 {

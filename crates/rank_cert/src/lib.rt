@@ -1,7 +1,7 @@
 //! Rank certificates: numbers of channels that rise along every route, which rule out a deadlock.
 //!
-//! It makes no route. `specs/Ranks.antt` of `map_defs` says what a certificate is and which ranks a map's orientation gives;
-//! `specs/Checking.antt` here says which fault is the first.
+//! It makes no route. `specs/Ranks.antt` of `map_defs` says what a certificate is and which ranks a map's orientation
+//! gives; `specs/Checking.antt` here says which fault is the first.
 //!
 //! | module | has |
 //! |---|---|

@@ -44,7 +44,8 @@ impl Ranks {
         &self.entries
     }
 
-    /// The rank of a channel: found by halves where the entries rise by vertex and port, as those of `certify` do, else one by one.
+    /// The rank of a channel: found by halves where the entries rise by vertex and port, as those of `certify` do,
+    /// else one by one.
     pub fn rank_of(&self, v: u32, p: i8) -> Option<u64>
         ensures { result ≡ rank_of self.now record { v = v; p = p } }
     {
@@ -106,7 +107,8 @@ fn found_by_halves(entries: &[RankEntry], v: u32, p: i8) -> Option<u64>
 // The place of the first entry whose port doesn't come before a port.
 fn place_of(entries: &[RankEntry], v: u32, p: i8) -> usize
     requires { rise_after None entries.now ≡ true }
-    ensures { rank_of entries.now record { v = v; p = p } ≡ rank_at (slice_get entries.now result) record { v = v; p = p } }
+    ensures { rank_of entries.now record { v = v; p = p }
+        ≡ rank_at (slice_get entries.now result) record { v = v; p = p } }
 {
     entries.partition_point(|k| k.v < v || (k.v == v && k.p < p))
 }

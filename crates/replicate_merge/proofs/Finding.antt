@@ -1,19 +1,18 @@
 -- The walks that found something, taken from a journal one after another.
-use Rattle.std.proofs.Common.{◌≡◌, ◌≢◌, ◌<◌, ◌≤◌, ℕ, suc, ◌+◌, List, [], ◌∷◌, ◌++◌, Bool, true, false, ◌||◌, length, map, drop, get_or, refl, ap, sym, ◌∙◌, subst, arith, append_assoc, if◌then◌else◌}
+use Rattle.std.proofs.Common.{◌≡◌, ◌≢◌, ◌<◌, ◌≤◌, ℕ, suc, ◌+◌, List, [], ◌∷◌, ◌++◌, Bool, true, false, ◌||◌, length, map, drop, get_or, refl, ap, sym, ◌∙◌, subst, arith, if◌then◌else◌}
 use Rattle.std.specs.Prelude.{ℤ}
 use Rattle.std.specs.List.{AllByRecursion}
 use Rattle.std.proofs.Math.Seq.{drop-cons}
-use Rattle.std.proofs.lemmas.List.{map-append, drop_all}
 use Rattle.net_defs.specs.Network.{Apart}
 use Rattle.journal_defs.specs.declared.entry.Entry.{Entry}
 use Rattle.net_defs.specs.Turn.{same_turns}
 use Rattle.journal_defs.specs.Tree.{Node, IsJournal, is_found, reached, nodes}
-use Rattle.journal_defs.specs.Tree.Node.{Mapper, Reached}
+use Rattle.journal_defs.specs.Tree.Node.{Reached}
 use Rattle.net_defs.proofs.Turns.{same_turns-true}
 use Rattle.probe.specs.Keeping.{has_walk}
-use Rattle.replicate_merge.specs.Nodes.{nodes_of}
-use Rattle.replicate_merge.proofs.Nodes.{reached-apart}
-use Rattle.replicate_merge.proofs.Telling.{count-nodes}
+use Rattle.class_joins.specs.Nodes.{nodes_of}
+use Rattle.class_joins.proofs.Nodes.{reached-apart}
+use Rattle.class_joins.proofs.Telling.{count-nodes}
 
 middle : (P : Node → Type 0) (xs : List Node) (u : Node) (ys : List Node) → AllByRecursion P (xs ++ u ∷ ys) → P u
 middle P [] u ys all = all.0
@@ -33,32 +32,12 @@ split es i e l is = drop-cons es i e l ∙ (λ k. sym is k ∷ drop ((let s : su
 found-first : (e : Entry) (es : List Entry) → is_found e.answer ≡ true → reached (e ∷ es) ≡ Reached e.walk ∷ reached es
 found-first e es f = ap (λ b. if b then Reached e.walk ∷ reached es else reached es) f
 
-lost-first : (e : Entry) (es : List Entry) → is_found e.answer ≡ false → reached (e ∷ es) ≡ reached es
-lost-first e es f = ap (λ b. if b then Reached e.walk ∷ reached es else reached es) f
-
 first-found : (es : List Entry) (i : ℕ) (e : Entry) (ws : List (List ℤ)) → i < length es → e ≡ get_or es i e → is_found e.answer ≡ true → reached es ≡ map Reached ws ++ reached (drop i es) → reached es ≡ map Reached ws ++ Reached e.walk ∷ reached (drop (i + 1) es)
 first-found es i e ws l is f all = all ∙ ap (λ r. map Reached ws ++ r) (ap reached (split es i e l is) ∙ found-first e (drop (i + 1) es) f)
 
 -- a walk that found something is new
 pub walk-new : (es : List Entry) (i : ℕ) (e : Entry) (ws : List (List ℤ)) → IsJournal es → i < length es → e ≡ get_or es i e → is_found e.answer ≡ true → reached es ≡ map Reached ws ++ reached (drop i es) → has_walk ws e.walk ≡ false
 walk-new es i e ws once l is f all = not-yet ws e.walk (reached (drop (i + 1) es)) (subst (λ (us : List Node). Apart us) (first-found es i e ws l is f all) (reached-apart es once))
-
-pub walks-next : (es : List Entry) (i : ℕ) (e : Entry) (ws : List (List ℤ)) → i < length es → e ≡ get_or es i e → is_found e.answer ≡ true → reached es ≡ map Reached ws ++ reached (drop i es) → reached es ≡ map Reached (ws ++ e.walk ∷ []) ++ reached (drop (i + 1) es)
-walks-next es i e ws l is f all =
-    first-found es i e ws l is f all
-    ∙ sym (ap (λ us. us ++ reached (drop (i + 1) es)) (map-append Reached ws (e.walk ∷ [])) ∙ append_assoc (map Reached ws) (Reached e.walk ∷ []) (reached (drop (i + 1) es)))
-
-pub walks-skip : (es : List Entry) (i : ℕ) (e : Entry) (ws : List (List ℤ)) → i < length es → e ≡ get_or es i e → is_found e.answer ≡ false → reached es ≡ map Reached ws ++ reached (drop i es) → reached es ≡ map Reached ws ++ reached (drop (i + 1) es)
-walks-skip es i e ws l is f all = all ∙ ap (λ r. map Reached ws ++ r) (ap reached (split es i e l is) ∙ lost-first e (drop (i + 1) es) f)
-
-append_nil : (us : List Node) → us ++ [] ≡ us
-append_nil [] = refl
-append_nil (u ∷ us) = ap (λ l. u ∷ l) (append_nil us)
-
--- at the end all walks are there
-pub walks-whole : (es : List Entry) (i : ℕ) (ws : List (List ℤ)) → length es ≡ i → reached es ≡ map Reached ws ++ reached (drop i es) → nodes_of ws ≡ nodes es
-walks-whole es i ws e all =
-    ap (λ us. Mapper ∷ us) (sym (all ∙ ap (λ (r : List Entry). map Reached ws ++ reached r) (drop_all i es (omega arith)) ∙ append_nil (map Reached ws)))
 
 -- no more walks than entries
 reached-few : (es : List Entry) → length (reached es) ≤ length es

@@ -1,5 +1,6 @@
-pub mod Found
-pub mod Nodes
-pub mod Spots
-pub mod Table
-pub mod Ways
+pub mod Behind
+pub mod Between
+pub mod Cables
+pub mod Next
+pub mod Onward
+pub mod Seen

@@ -1,58 +1,181 @@
-//! The classes of a journal.
+//! The classes of a journal, kept entry by entry.
 
-ghost use Rattle.std.specs.Prelude.{◌≡◌, ◌≢◌, ◌<◌, ℕ, true, length, slice_get, Some, None, IfSome, IfOk};
+ghost use Rattle.std.specs.Prelude.{◌≡◌, ◌≢◌, ◌<◌, ◌≤◌, ◌+◌, ◌*◌, ◌++◌, ◌∷◌, [], ◌^◌, ℕ, true, false, length, vec_len};
+ghost use Rattle.std.specs.Prelude.{vec_capacity, slice_get, Some, None, IfSome, IfOk, OnOk, OnErr};
 ghost use Rattle.net_defs.specs.Turn.{IsTurn};
+ghost use Rattle.journal_defs.specs.Tree.{is_found};
 ghost use Rattle.journal_defs.specs.Tree.Node.{Reached};
-ghost use Rattle.replicate_merge.specs.Table.{IsTrueOfOne, IsNumbered, HasReplicatesTogether, HasOnlyReplicatesTogether, HasLeastNodes, MarksExpanded};
+ghost use Rattle.probe.specs.Keeping.{has_walk};
+ghost use Rattle.class_joins.specs.Table.{IsTrueOfOne, StandsFor};
+ghost use Rattle.replicate_merge.specs.Next.{HasNext, StandsForNext};
+ghost use Rattle.class_joins.specs.Steps.{HasRoomForNode, SameItems};
+ghost use Rattle.replicate_merge.specs.Between.{AddsEntry, CountsTurn, HasSeenFrames, IsFrontOf, looking_ahead};
+ghost use Rattle.replicate_merge.specs.Between.{turns_of, with_orphan};
 
-use crate::table::built;
-use crate::ways::found_walks;
+use crate::fronts::{Front, front_of};
+use crate::pushing::{asked_behind, ways_added};
+use crate::ways::is_found;
+use class_joins::{Joined, Way};
 use net_defs::Walk;
 use port_align::ClassFrame;
-use probe::{Journal, WalkIndex};
+use probe::{Entry, Journal, WalkIndex};
 use std::alloc::{AllocError, Global};
 use std::marker::Model;
 
-/// The classes of a journal's nodes. Contracts see the nodes by number, their frames, and which classes have an expanded member.
+// How many turns a node has.
+const TURNS: u8 = 30;
+
+/// The classes of a journal's nodes. Contracts see the nodes by number, their frames, and which classes have an
+/// expanded member.
 ///
-/// The mapper's host is node 0; the walks that found a host or a switch are numbered from 1 in the journal's order. Classes are numbered
-/// from 0.
+/// The mapper's host is node 0; the walks that found a host or a switch are numbered from 1 in the journal's order.
+/// Classes are numbered from 0, and a number may pass to another class when an entry is pushed.
 #[derive(Drop)]
 pub struct Classes {
     walks: WalkIndex,
-    frames: Vec<ClassFrame>,
-    expanded: Vec<bool>,
+    // The walks that found nothing and had no node in front when they were asked.
+    orphans: WalkIndex,
+    // Whether any walk had no node in front when it was asked.
+    ahead: bool,
+    // How many of its 30 turns are asked, for each node.
+    asked: Vec<u8>,
+    joined: Joined,
 }
 
 impl Model for Classes {
-    ghost use Rattle.replicate_merge.specs.Table.{ClassTable, IsTable};
-    ghost use Rattle.replicate_merge.specs.Nodes.{class_table};
+    ghost use Rattle.std.specs.Prelude.{◌≡◌, []};
+    ghost use Rattle.class_joins.specs.Table.{ClassTable, IsTable};
+    ghost use Rattle.replicate_merge.specs.Seen.{class_table, kept_of};
+    ghost use Rattle.class_joins.specs.Kept.{IsShaped};
 
     ghost Value = { ClassTable };
 
-    ghost view = { λ c. class_table c.walks c.frames.items c.expanded.items };
+    ghost view = { λ c. class_table c.walks (kept_of c.joined c.asked.items c.orphans c.ahead)
+        c.joined.heads.marks.items };
 
-    ghost invariant = { λ c. IsTable (class_table c.walks c.frames.items c.expanded.items) };
+    ghost invariant = { λ c. IsTable (class_table c.walks (kept_of c.joined c.asked.items c.orphans c.ahead)
+        c.joined.heads.marks.items) × IsShaped (kept_of c.joined c.asked.items c.orphans c.ahead) ×
+        (c.joined.todo.items ≡ []) };
 }
 
 impl Classes {
+    /// The classes of a host's journal before its first ask.
+    pub fn new(alloc: Global, host: u16) -> Result<Classes, AllocError>
+        ensures { IfOk result (λ c. StandsFor host [] c) }
+    {
+        let mut joined = Joined::new(alloc);
+        joined.reserve(1)?;
+        let mut asked = Vec::new(alloc);
+        asked.push(0)?;
+        joined.add_node(false);
+        joined.add_way(&Way::Host {
+            address: host,
+            node: 0,
+        });
+        Ok(Classes {
+            walks: WalkIndex::new(alloc),
+            orphans: WalkIndex::new(alloc),
+            ahead: false,
+            asked,
+            joined,
+        })
+    }
+
     /// The classes of a journal whose answers other than Nothing are true of one fabric.
     pub fn from_journal(alloc: Global, j: &Journal) -> Result<Classes, AllocError>
         requires true_of_one { IsTrueOfOne j.now.host j.now.entries }
         requires few { length j.now.entries < 4294967295 }
-        ensures numbered { IfOk result (λ c. IsNumbered j.now.entries c) }
-        ensures together { IfOk result (λ c. HasReplicatesTogether j.now.host j.now.entries c) }
-        ensures only { IfOk result (λ c. HasOnlyReplicatesTogether j.now.host j.now.entries c) }
-        ensures least { IfOk result (λ c. HasLeastNodes c) }
-        ensures expanded { IfOk result (λ c. MarksExpanded j.now.host j.now.entries c) }
+        ensures { IfOk result (λ c. StandsFor j.now.host j.now.entries c) }
     {
-        let walks = found_walks(alloc, j)?;
-        let table = built(alloc, j, &walks)?;
-        Ok(Classes {
-            walks,
-            frames: table.frames,
-            expanded: table.expanded,
-        })
+        let entries = j.entries();
+        let mut classes = Classes::new(alloc, j.host())?;
+        for e in entries {
+            classes.push(alloc, e)?;
+        }
+        Ok(classes)
+    }
+
+    /// Goes on to the journal with one entry more. All memory is taken before the first change.
+    pub fn push(&mut self, alloc: Global, e: &Entry) -> Result<(), AllocError>
+        requires next { HasNext self.old e.now }
+        ensures pushed { OnOk result (StandsForNext self.old e.now self.new) }
+        ensures unchanged { OnErr result (self.new ≡ self.old) }
+    {
+        let front = front_of(&self.walks, e.walk.turns());
+        self.add_entry(alloc, e, front)?;
+        match front {
+            Front::Mapper => {}
+            Front::Node(node, turn) => self.count_turn(node, turn),
+            Front::Missing => self.look_ahead(),
+        }
+        Ok(())
+    }
+
+    // Adds the node that an entry found. Where it found nothing and no node is in front of it, its walk is kept.
+    fn add_entry(&mut self, alloc: Global, e: &Entry, front: Front) -> Result<(), AllocError>
+        requires next { HasNext self.old e.now }
+        requires front { IsFrontOf self.old.nodes e.now.walk front }
+        requires seen { HasSeenFrames self.old }
+        ensures adds { OnOk result (AddsEntry self.old e.now self.new) }
+        ensures unchanged { OnErr result (self.new ≡ self.old) }
+    {
+        if is_found(e.answer) {
+            return self.push_node(alloc, e);
+        }
+        match front {
+            Front::Missing => self.push_orphan(alloc, e.walk.turns()),
+            Front::Mapper => Ok(()),
+            Front::Node(_, _) => Ok(()),
+        }
+    }
+
+    // Adds the node that an entry found. All memory is taken before the first change.
+    fn push_node(&mut self, alloc: Global, e: &Entry) -> Result<(), AllocError>
+        requires next { HasNext self.old e.now }
+        requires found { is_found e.now.answer ≡ true }
+        ensures adds { OnOk result (AddsEntry self.old e.now self.new) }
+        ensures unchanged { OnErr result (self.new ≡ self.old) }
+    {
+        let walk = e.walk.turns();
+        let ways = ways_added(alloc, &self.walks, self.ahead, walk, e.answer)?;
+        let asked = asked_behind(alloc, &self.walks, &self.orphans, self.ahead, walk)?;
+        take_room(&mut self.joined, &mut self.asked, ways.len())?;
+        self.walks.push(alloc, walk)?;
+        self.asked.push_reserved(asked);
+        self.joined.grow(&self.walks, &ways, asked == TURNS);
+        Ok(())
+    }
+
+    // Keeps a walk that found nothing.
+    fn push_orphan(&mut self, alloc: Global, walk: &[i8]) -> Result<(), AllocError>
+        requires { has_walk self.old.kept.orphans walk.now ≡ false }
+        ensures kept { OnOk result (self.new ≡ with_orphan walk.now self.old) }
+        ensures unchanged { OnErr result (self.new ≡ self.old) }
+    {
+        self.orphans.push(alloc, walk)
+    }
+
+    // From now on turns behind a new node are looked for.
+    fn look_ahead(&mut self)
+        ensures { self.new ≡ looking_ahead self.old }
+    {
+        self.ahead = true;
+    }
+
+    // Counts one more asked turn of a node. At the last of them the node is expanded.
+    fn count_turn(&mut self, node: u32, turn: i8)
+        requires there { node < length self.old.nodes }
+        requires few { turns_of self.old node < 255 }
+        ensures { CountsTurn node turn self.old self.new }
+    {
+        if turn == 0 {
+            return;
+        }
+        let asked = self.asked[node as usize] + 1;
+        self.asked[node as usize] = asked;
+        if asked == TURNS {
+            self.joined.mark(node);
+        }
     }
 
     /// The number of the node of a walk; none where the walk found nothing, or isn't in the journal.
@@ -73,14 +196,14 @@ impl Classes {
         ensures there { result.class < length self.now.expanded }
         ensures in_range { IsTurn result.offset }
     {
-        self.frames[node as usize]
+        self.joined.seen_frame(node)
     }
 
     /// How many classes there are.
     pub fn count(&self) -> u32
         ensures { result ≡ length self.now.expanded }
     {
-        self.expanded.len() as u32
+        self.joined.heads.marks.len() as u32
     }
 
     /// Whether a class has an expanded member: a node whose 30 turns are all asked.
@@ -88,6 +211,22 @@ impl Classes {
         requires { class < length self.now.expanded }
         ensures { slice_get self.now.expanded class ≡ Some result }
     {
-        self.expanded[class as usize]
+        self.joined.heads.marks[class as usize]
     }
+}
+
+// Room for a node with so many ways, and for all that is done until no pair is open.
+fn take_room(joined: &mut Joined, asked: &mut Vec<u8>, ways: usize) -> Result<(), AllocError>
+    requires few { length joined.old.heads.names.items < 2 ^ 32 }
+    requires few_ways { ways ≤ 128 }
+    ensures same { SameItems joined.old joined.new }
+    ensures same_asked { asked.new.items ≡ asked.old.items }
+    ensures node { OnOk result (HasRoomForNode joined.new) }
+    ensures hosts { OnOk result (vec_len joined.new.hosts + ways ≤ vec_capacity joined.new.hosts) }
+    ensures todo { OnOk result (vec_len joined.new.todo + (31 * (length joined.new.heads.names.items + 1) + ways) ≤
+        vec_capacity joined.new.todo) }
+    ensures asked { OnOk result (vec_len asked.new < vec_capacity asked.new) }
+{
+    asked.reserve(1)?;
+    joined.reserve(ways)
 }

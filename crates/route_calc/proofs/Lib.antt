@@ -6,9 +6,10 @@ pub mod First
 pub mod Gathered
 pub mod Going
 pub mod Least
+pub mod Listed
+pub mod Lowered
 pub mod Made
 pub mod Reached
 pub mod Rising
 pub mod Starting
-pub mod Tabled
-pub mod Turning
+pub mod Turned

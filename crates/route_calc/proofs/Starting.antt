@@ -1,21 +1,19 @@
--- From each host a way leads to each other, and the tables have its length.
-use Rattle.std.proofs.Common.{◌≡◌, ◌≢◌, ◌<◌, ◌≤◌, ℕ, zero, suc, List, [], ◌∷◌, length, get_or, Bool, true, not, Option, Some, None, is_some, refl, ap, sym, ◌∙◌, subst, arith}
-use Rattle.std.specs.Prelude.{slice_get, position, option_map}
-use Rattle.std.specs.List.{list_any}
-use Rattle.std.proofs.lemmas.Bool.{false≢true}
-use Rattle.std.proofs.lemmas.List.Quantifiers.{position-Some}
-use Rattle.std.proofs.lemmas.Option.{slice_get-get_or}
-use Rattle.journal_defs.proofs.Order.{or-left, or-right}
+-- From each host a way leads to each other, and the distances have its length.
+use Rattle.std.proofs.Common.{◌≡◌, ◌≢◌, ◌<◌, ◌≤◌, ℕ, List, length, Bool, true, false, not, Option, Some, None, refl, ap, sym, ◌∙◌, subst, arith, nat_le}
+use Rattle.std.specs.Prelude.{option_map}
+use Rattle.std.proofs.lemmas.Bool.Decides.{nat_tests}
 use Rattle.map_defs.specs.NetMap.{NetMap, MapPort, IsMap, IsConnected, map_far, host_of_vertex, switches_of}
 use Rattle.map_defs.specs.Orientation.{order_of, is_up}
-use Rattle.net_defs.specs.Turn.{walk_refusal}
+use Rattle.net_defs.specs.Turn.{IsTurn, walk_refusal}
 use Rattle.map_defs.specs.Routing.{vertex_of_host, IsLeastLegal}
-use Rattle.fabric_map.proofs.Listings.{position-any}
+use Rattle.fabric_map.proofs.Ends.{far-holds}
 use Rattle.route_calc.specs.declared.entered.Entered.{Entered}
-use Rattle.route_calc.specs.Reaching.{Nearness, near_in, reaches}
-use Rattle.route_calc.specs.Ways.{AreTables, IsDistance, entered_by, best_turns}
+use Rattle.route_calc.specs.Reaching.{reaches}
+use Rattle.route_calc.specs.Ways.{IsDistance, entered_by, best_turns}
+use Rattle.route_calc.specs.Far.{far_at, AreDistances}
 use Rattle.route_calc.proofs.Best.{arrival}
 use Rattle.route_calc.proofs.Existing.{Starts, host-starts}
+use Rattle.route_calc.proofs.Few.{fewest, distance-few}
 use Rattle.route_calc.proofs.Least.{host-at, host_start, least-legal, best-walk}
 
 -- hosts of different addresses stand at different vertices
@@ -28,30 +26,26 @@ start-there m va vb a b r c is_a is_b differ =
 pub entered-there : (m : NetMap) (vb va : ℕ) → (s : Starts m vb va) → entered_by m (order_of m) (host_start va) ≡ Some (arrival m (order_of m) (host_start va) s.entered)
 entered-there m vb va s = ap (λ o. option_map (λ (f : MapPort). arrival m (order_of m) (host_start va) f) o) s.far
 
-any-at : (p : Nearness → Bool) (xs : List Nearness) (k : ℕ) (x : Nearness) → slice_get xs k ≡ Some x → p x ≡ true → list_any p xs ≡ true
-any-at p [] k x e t = cc
-any-at p (y ∷ ys) zero x e t = let same : y ≡ x = cc in or-left (p y) (list_any p ys) (ap p same ∙ t)
-any-at p (y ∷ ys) (suc k) x e t = or-right (p y) (list_any p ys) (any-at p ys k x e t)
+le-itself : (a : ℕ) → nat_le a a ≡ true
+le-itself a = grind (arith, nat_tests)
 
-no_near : Nearness
-no_near = record { free = []; down = [] }
+le-not : (a b : ℕ) → b < a → nat_le a b ≡ false
+le-not a b l = grind (arith, nat_tests)
 
-says-at : (m : NetMap) (order : List ℕ) (to k v : ℕ) (down : Bool) (tables : List Nearness) → AreTables m order to tables → k < length tables → near_in (get_or tables k no_near) v down ≡ reaches m order to k v down
-says-at m order to k v down tables a l = ap (λ (g : ℕ → Bool → Bool). g v down) (a.each k (get_or tables k no_near) (slice_get-get_or tables k no_near l))
+le-so : (a b : ℕ) → nat_le a b ≡ true → a ≤ b
+le-so a b e = grind (arith, nat_tests)
 
-pub distance-there : (m : NetMap) (order : List ℕ) (to k v : ℕ) (down : Bool) (tables : List Nearness) → AreTables m order to tables → reaches m order to k v down ≡ true → position (λ n. near_in n v down) tables ≡ None → ⊥
-distance-there m order to k v down tables a e none =
-    let w = a.whole k v down e in
-    let any = any-at (λ n. near_in n v down) tables w.channels (get_or tables w.channels no_near) (slice_get-get_or tables w.channels no_near w.few) (says-at m order to w.channels v down tables a w.few ∙ w.near) in
-    false≢true (ap is_some (sym none) ∙ position-any (λ n. near_in n v down) tables ∙ any)
-
-less-trans : (i j k : ℕ) → i < j → j < k → i < k
-less-trans i j k a b = omega arith
-
-pub distance-found : (m : NetMap) (order : List ℕ) (to k v : ℕ) (down : Bool) (tables : List Nearness) → AreTables m order to tables → position (λ n. near_in n v down) tables ≡ Some k → (k < length tables) × IsDistance m order to k v down
-distance-found m order to k v down tables a e =
-    let p = position-Some (λ n. near_in n v down) tables k no_near e in
-    (p.0, record { near = sym (says-at m order to k v down tables a p.0) ∙ p.1; least = λ j l. sym (says-at m order to j v down tables a (less-trans j k (length tables) l p.0)) ∙ p.2 j l })
+-- what leads there at all has its distance
+pub distance-there : (m : NetMap) (order : List ℕ) (to k v : ℕ) (down : Bool) (far : List ℕ) → IsMap m → length (switches_of m.vertices) ≤ 64 → AreDistances m order to far → reaches m order to k v down ≡ true → IsDistance m order to (far_at far v down) v down
+distance-there m order to k v down far r few d e =
+    let f = fewest m order to k v down e in
+    let most = distance-few m order to f.channels v down r f.is in
+    let near = le-so (far_at far v down) f.channels (d.each f.channels v down (omega arith) ∙ f.is.near) in
+    let low : far_at far v down < 255 = omega arith in
+    record { near = sym (d.each (far_at far v down) v down low) ∙ le-itself (far_at far v down); least = λ j l. sym (d.each j v down (less-trans j (far_at far v down) 255 l low)) ∙ le-not (far_at far v down) j l }
+  where
+    less-trans : (i j k : ℕ) → i < j → j < k → i < k
+    less-trans i j k a b = omega arith
 
 -- Where a channel leads, as a port.
 record Arrived (m : NetMap) (order : List ℕ) (d : MapPort) (s : Entered) : Type 0 where
@@ -77,3 +71,9 @@ pub walk-fits : (m : NetMap) (order : List ℕ) (k va vb : ℕ) (s : Entered) �
 walk-fits m order k va vb s r few e dist =
     let x = arrived m order (host_start va) s e in
     subst (λ (z : Entered). IsDistance m order vb k z.v z.down → walk_refusal (best_turns m order vb k z) ≡ None) x.is (best-walk m order vb k (host_start va) x.entered (not (is_up m order (host_start va))) r few x.far) dist
+
+-- a port that is entered is from -15 to 15
+pub start-turn : (m : NetMap) (order : List ℕ) (d : MapPort) (s : Entered) → IsMap m → entered_by m order d ≡ Some s → IsTurn s.port
+start-turn m order d s r e =
+    let x = arrived m order d s e in
+    subst (λ (z : Entered). IsTurn z.port) x.is (far-holds (λ (y : MapPort). IsTurn y.p) m.cables d x.entered r.ports_in_range x.far)

@@ -13,10 +13,13 @@ pub record IsRightRoute (m : NetMap) (order : List ℕ) (r : Route) : Type 0 whe
   pub least : IsLeastLegal m order r.from r.to r.walk
 
 -- Routes with right ones behind them: one from a host to each other of the first ones, and to none of the rest.
-pub record AddsRoutes (m : NetMap) (order : List ℕ) (from : ℕ) (ways : List HostWays) (count : ℕ) (old new : List Route) : Type 0 where
+pub record AddsRoutes (m : NetMap) (order : List ℕ) (from : ℕ) (ways : List HostWays) (count : ℕ)
+    (old new : List Route) : Type 0 where
   pub added : List Route
   pub is : new ≡ old ++ added
   pub right : AllByRecursion (IsRightRoute m order) added
   pub from_there : AllByRecursion (λ r. r.from ≡ from) added
-  pub before : (k : ℕ) (w : HostWays) → count ≤ k → slice_get ways k ≡ Some w → AllByRecursion (λ r. r.to < w.host) added
-  pub whole : (k : ℕ) (w : HostWays) → k < count → slice_get ways k ≡ Some w → from ≢ w.host → HasRoute added from w.host
+  pub before : (k : ℕ) (w : HostWays) → count ≤ k → slice_get ways k ≡ Some w
+      → AllByRecursion (λ r. r.to < w.host) added
+  pub whole : (k : ℕ) (w : HostWays) → k < count → slice_get ways k ≡ Some w → from ≢ w.host
+      → HasRoute added from w.host

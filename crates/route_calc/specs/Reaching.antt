@@ -1,6 +1,6 @@
 -- Which vertices lead to another by legal channels, seen from there: how far they are, and by which port they go on.
-use Rattle.std.specs.Prelude.{ℕ, zero, suc, pos, ◌-ℤ◌, Bool, true, false, ◌&&◌, ◌||◌, not, List, map, nat_eq, is_some, slice_index_or, if◌then◌else◌, Option, Some, None}
-use Rattle.journal_defs.specs.Counting.{numbers_below}
+use Rattle.std.specs.Prelude.{ℕ, zero, suc, pos, ◌-ℤ◌, Bool, false, ◌&&◌, ◌||◌, not, List, nat_eq, is_some, Option}
+use Rattle.std.specs.Prelude.{Some, None}
 use Rattle.map_defs.specs.NetMap.{NetMap, MapPort, map_far, is_switch_vertex}
 use Rattle.map_defs.specs.Orientation.{is_up}
 use Rattle.route_calc.specs.First.{first_below}
@@ -34,16 +34,3 @@ one_further m order near v down = near v down || (is_switch_vertex m v && is_som
 abbrev pub reaches : NetMap → List ℕ → ℕ → ℕ → ℕ → Bool → Bool
 reaches m order to zero v down = nat_eq v to
 reaches m order to (suc k) v down = one_further m order (reaches m order to k) v down
-
--- For each vertex whether it is near: to packets that went up alone, and to those that went down.
-pub record Nearness : Type 0 where
-  pub free : List Bool
-  pub down : List Bool
-
--- what a table says of a vertex: nothing that is no vertex is near
-abbrev pub near_in : Nearness → ℕ → Bool → Bool
-near_in n v down = slice_index_or (if down then n.down else n.free) v false
-
--- a table of what is near
-abbrev pub table_of : ℕ → (ℕ → Bool → Bool) → Nearness
-table_of count near = record { free = map (λ v. near v false) (numbers_below count); down = map (λ v. near v true) (numbers_below count) }

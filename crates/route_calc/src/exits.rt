@@ -1,15 +1,16 @@
-//! By which port a packet goes on.
+//! The ports by which a packet goes on: a list of the cabled ones for each vertex, made once for a map.
 
-ghost use Rattle.std.specs.Prelude.{◌≡◌, ◌<◌, Some, IfSome};
+ghost use Rattle.std.specs.Prelude.{◌≡◌, ◌<◌, ◌++◌, All, IfSome, IfOk, OnOk, option_to_list};
 ghost use Rattle.net_defs.specs.Turn.{IsTurn};
 ghost use Rattle.map_defs.specs.Orientation.{order_of, is_up};
 ghost use Rattle.updown.specs.Oriented.{orientation_of};
-ghost use Rattle.route_calc.specs.Reaching.{near_in, least_exit, leads_near, port_of_place};
-ghost use Rattle.route_calc.specs.Ways.{entered_by, turned_by, best_turn};
+ghost use Rattle.route_calc.specs.Ways.{entered_by};
+ghost use Rattle.route_calc.specs.Exits.{IsInRange, exit_at, exits_of, all_exits};
 
-use crate::entered::Entered;
-use crate::near::Near;
+use crate::entered::{Entered, Exit};
 use fabric_map::FabricMap;
+use std::alloc::{AllocError, Global};
+use std::marker::Model;
 use updown::Orientation;
 
 // The ports that a vertex may have.
@@ -18,68 +19,87 @@ const PORTS: usize = 31;
 // The greatest port; the least is its negative.
 const MAX_PORT: i8 = 15;
 
-/// The least turn to a vertex that is near, and where it leads.
-pub(crate) fn best_turn(
-    m: &FabricMap,
-    o: &Orientation,
-    near: &Near,
-    e: Entered,
-) -> Option<(i8, Entered)>
-    requires oriented { o.now ≡ orientation_of m.now }
-    requires port { IsTurn e.port }
-    ensures value { result ≡ best_turn m.now (order_of m.now) (near_in near.now) e }
-    ensures port { IfSome result (λ t. IsTurn t.1.port) }
-{
-    match least_exit(m, o, near, e.v, e.down) {
-        None => None,
-        Some(k) => turned_by(m, o, e, k),
-    }
+/// The cabled ports of one vertex, from the least on. Contracts see the list of them.
+#[derive(Drop)]
+pub(crate) struct Exits {
+    list: Vec<Exit>,
 }
 
-/// The place of the least port of a vertex that leads to one that is near.
-pub(crate) fn least_exit(
-    m: &FabricMap,
-    o: &Orientation,
-    near: &Near,
-    v: u32,
-    down: bool,
-) -> Option<usize>
-    requires { o.now ≡ orientation_of m.now }
-    ensures value { result ≡ least_exit m.now (order_of m.now) (near_in near.now) v down }
-    ensures bound { IfSome result (λ k. k < 31) }
-{
-    for k in 0..PORTS {
-        if leads_near(m, o, near, v, k, down) {
-            return Some(k);
+impl Model for Exits {
+    ghost use Rattle.std.specs.Prelude.{List, All};
+    ghost use Rattle.route_calc.specs.declared.entered.Exit.{Exit};
+    ghost use Rattle.route_calc.specs.Exits.{IsInRange};
+
+    ghost Value = { List Exit };
+
+    ghost view = { λ e. e.list.items };
+
+    ghost invariant = { λ e. All IsInRange e.list.items };
+}
+
+impl Exits {
+    /// The cabled ports of a vertex.
+    fn of(alloc: Global, m: &FabricMap, o: &Orientation, v: u32) -> Result<Exits, AllocError>
+        requires { o.now ≡ orientation_of m.now }
+        ensures { IfOk result (λ e. e ≡ exits_of m.now (order_of m.now) v) }
+    {
+        let mut list = Vec::new(alloc);
+        for k in 0..PORTS {
+            push_some(&mut list, exit_at(m, o, v, k))?;
         }
+        Ok(Exits { list })
     }
-    None
+
+    /// The ports, from the least on.
+    pub(crate) fn list(&self) -> &[Exit]
+        ensures value { result.now ≡ self.now }
+        ensures range { All IsInRange result.now }
+    {
+        &self.list
+    }
 }
 
-// Whether the channel that leaves by the port at a place leads to a vertex that is near.
-fn leads_near(m: &FabricMap, o: &Orientation, near: &Near, v: u32, k: usize, down: bool) -> bool
-    requires oriented { o.now ≡ orientation_of m.now }
-    requires place { k < 31 }
-    ensures { result ≡ leads_near m.now (order_of m.now) (near_in near.now) down (port_of_place v k) }
+/// The cabled ports of each vertex.
+pub(crate) fn all_exits(
+    alloc: Global,
+    m: &FabricMap,
+    o: &Orientation,
+) -> Result<Vec<Exits>, AllocError>
+    requires { o.now ≡ orientation_of m.now }
+    ensures { IfOk result (λ es. es.items ≡ all_exits m.now (order_of m.now)) }
 {
-    match entered_by(m, o, v, k as i8 - MAX_PORT) {
-        None => false,
-        Some(next) => (!down || next.down) && near.has(next.v, next.down),
+    let mut exits = Vec::new(alloc);
+    for v in 0..m.vertices().len() {
+        let own = Exits::of(alloc, m, o, v as u32)?;
+        exits.push(own)?;
     }
+    Ok(exits)
 }
 
-// The turn to the port at a place, and where it leads.
-fn turned_by(m: &FabricMap, o: &Orientation, e: Entered, k: usize) -> Option<(i8, Entered)>
+// Adds a port, if there is one.
+fn push_some(list: &mut Vec<Exit>, exit: Option<Exit>) -> Result<(), AllocError>
+    requires old { All IsInRange list.old.items }
+    requires range { IfSome exit IsInRange }
+    ensures value { OnOk result (list.new.items ≡ list.old.items ++ option_to_list exit) }
+    ensures range { All IsInRange list.new.items }
+{
+    if let Some(exit) = exit {
+        list.push(exit)?;
+    }
+    Ok(())
+}
+
+// The port at a place, where a cable is at it.
+fn exit_at(m: &FabricMap, o: &Orientation, v: u32, k: usize) -> Option<Exit>
     requires oriented { o.now ≡ orientation_of m.now }
     requires place { k < 31 }
-    requires port { IsTurn e.port }
-    ensures value { result ≡ turned_by m.now (order_of m.now) e (Some k) }
-    ensures port { IfSome result (λ t. IsTurn t.1.port) }
+    ensures value { result ≡ exit_at m.now (order_of m.now) v k }
+    ensures range { IfSome result IsInRange }
 {
     let port = k as i8 - MAX_PORT;
-    match entered_by(m, o, e.v, port) {
+    match entered_by(m, o, v, port) {
         None => None,
-        Some(next) => Some((port - e.port, next)),
+        Some(next) => Some(Exit { port, next }),
     }
 }
 

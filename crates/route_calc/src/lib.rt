@@ -2,32 +2,34 @@
 //!
 //! It moves no packet. `specs/Routing.antt` of `map_defs` says what is legal and least.
 //!
-//! For each host the search goes backwards: the first table has the host alone, and the table for one channel more adds the switches that a
-//! legal channel joins to what is near already. A packet that went down is told from one that didn't, since it may not go up again. A route
-//! then takes, at each switch, the least port that leads one channel nearer: the first turns decide, so it is the least of all ways of its
-//! length, and a shorter one would stand in an earlier table.
+//! For each host a search goes backwards: the host itself is 0 channels away, and a switch one more than the nearest
+//! that a legal channel of it leads to. A packet that went down is told from one that didn't, since it may not go up
+//! again, so a vertex has two distances. A route then takes, at each switch, the least port that leads one channel
+//! nearer: the first turns decide, so it is the least of all ways of its length, and a shorter one would make the
+//! distance less.
 //!
-//! A table looks once at each port of each switch that isn't near yet, and a host has as many tables as its farthest switch is channels
-//! away, and one more.
+//! The cabled ports of each vertex are listed once for a map. A sweep over these lists lowers all distances to a
+//! host: first those of packets that went down, from the last vertex on, then the others, from the first. A channel
+//! down leads to a place farther from the root, so where vertices are numbered by that distance, as a mapper numbers
+//! them, one sweep finds all, and a second one sees that nothing is left.
 //!
 //! ```text
-//!   0 channels: b            a ---- s ---- t ---- b      From t, one channel is left to b. From s, two are left,
-//!   1 channel:  b t                                      and the first is the one to t: the tables for 0, 1 and 2
-//!   2 channels: b t s                                    channels say so, and no channel leads back.
+//!   a ---- s ---- t ---- b      To b, the distances of b, t and s are 0, 1 and 2. From s, the least port that leads to a distance
+//!   -      2      1      0      of at most 1 is the one to t, from t the one to b. A host leads nowhere on.
 //! ```
 //!
 //! | module | has |
 //! |---|---|
-//! | `near` | which vertices are near to a host |
-//! | `entered` | a vertex that was entered by a port |
-//! | `exits` | the port by which a packet goes on |
+//! | `entered` | a vertex that was entered by a port, and a port by which a packet goes on |
+//! | `exits` | the cabled ports of each vertex |
+//! | `distances` | how far each vertex is from a host |
 //! | `ways` | the ways to one host |
 //! | `pairs` | the routes of all hosts |
 #![tactic(auto)]
 
+mod distances;
 mod entered;
 mod exits;
-mod near;
 mod pairs;
 mod ways;
 

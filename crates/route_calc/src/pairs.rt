@@ -9,10 +9,11 @@ ghost use Rattle.map_defs.specs.Routing.{IsLeastLegal, AreRoutesOf};
 ghost use Rattle.updown.specs.Oriented.{orientation_of};
 ghost use Rattle.port_graph.specs.Routes.{push_refusal};
 ghost use Rattle.route_calc.specs.Adding.{AddsRoutes};
+ghost use Rattle.route_calc.specs.Exits.{all_exits};
 ghost use Rattle.route_calc.specs.Ways.{AreWaysOf, AreAllWays, AreRisingHosts, IsDistance, entered_by};
 
 use crate::entered::Entered;
-use crate::exits::entered_by;
+use crate::exits::{Exits, all_exits};
 use crate::ways::Ways;
 use fabric_map::{FabricMap, MapVertex};
 use net_defs::WalkFault;
@@ -27,24 +28,31 @@ pub fn routes(alloc: Global, m: &FabricMap, o: &Orientation) -> Result<RouteSet,
     requires few { length (switches_of m.now.vertices) ≤ 64 }
     ensures { IfOk result (λ set. AreRoutesOf m.now (order_of m.now) set) }
 {
-    let ways = all_ways(alloc, m, o)?;
+    let exits = all_exits(alloc, m, o)?;
+    let ways = all_ways(alloc, m, o, &exits)?;
     let mut set = RouteSet::new(alloc);
     for from in &ways {
-        add_routes(alloc, m, o, from, &ways, &mut set)?;
+        add_routes(alloc, m, &exits, from, &ways, &mut set)?;
     }
     let _ = set.list();
     Ok(set)
 }
 
 // The ways to each host, by address.
-fn all_ways(alloc: Global, m: &FabricMap, o: &Orientation) -> Result<Vec<Ways>, AllocError>
-    requires { o.now ≡ orientation_of m.now }
+fn all_ways(
+    alloc: Global,
+    m: &FabricMap,
+    o: &Orientation,
+    exits: &[Exits],
+) -> Result<Vec<Ways>, AllocError>
+    requires oriented { o.now ≡ orientation_of m.now }
+    requires exits { exits.now ≡ all_exits m.now (order_of m.now) }
     ensures { IfOk result (λ ws. AreAllWays m.now (order_of m.now) ws.items) }
 {
     let mut ways = Vec::new(alloc);
     for a in 0..usize::from(greatest_address(m)) + 1 {
         if let Some(vertex) = m.vertex_of_host(a as u16) {
-            let way = Ways::to(alloc, m, o, a as u16, vertex)?;
+            let way = Ways::to(alloc, m, o, exits, a as u16, vertex)?;
             ways.push(way)?;
         }
     }
@@ -70,12 +78,12 @@ fn greatest_address(m: &FabricMap) -> u16
 fn add_routes(
     alloc: Global,
     m: &FabricMap,
-    o: &Orientation,
+    exits: &[Exits],
     from: &Ways,
     ways: &[Ways],
     set: &mut RouteSet,
 ) -> Result<(), AllocError>
-    requires oriented { o.now ≡ orientation_of m.now }
+    requires exits { exits.now ≡ all_exits m.now (order_of m.now) }
     requires connected { IsConnected m.now }
     requires few { length (switches_of m.now.vertices) ≤ 64 }
     requires from { AreWaysOf m.now (order_of m.now) from.now }
@@ -88,7 +96,7 @@ fn add_routes(
     for to in ways {
         let b = to.host();
         if a != b {
-            let walk = least_walk(alloc, m, o, from, to)?;
+            let walk = least_walk(alloc, m, exits, from, to)?;
             add_route(
                 Route {
                     from: a,
@@ -118,11 +126,11 @@ fn add_route(r: Route, set: &mut RouteSet) -> Result<(), AllocError>
 fn least_walk(
     alloc: Global,
     m: &FabricMap,
-    o: &Orientation,
+    exits: &[Exits],
     from: &Ways,
     to: &Ways,
 ) -> Result<Walk, AllocError>
-    requires oriented { o.now ≡ orientation_of m.now }
+    requires exits { exits.now ≡ all_exits m.now (order_of m.now) }
     requires connected { IsConnected m.now }
     requires few { length (switches_of m.now.vertices) ≤ 64 }
     requires from { AreWaysOf m.now (order_of m.now) from.now }
@@ -131,8 +139,8 @@ fn least_walk(
     ensures { IfOk result (λ w. IsLeastLegal m.now (order_of m.now) from.now.host to.now.host w) }
 {
     let _ = m.vertices();
-    let (start, count) = least_start(m, o, from, to);
-    let turns = to.turns(alloc, m, o, start, count)?;
+    let (start, count) = least_start(m, from, to);
+    let turns = to.turns(alloc, exits, start, count)?;
     walk_of(alloc, &turns)
 }
 
@@ -150,23 +158,19 @@ fn walk_of(alloc: Global, turns: &[i8]) -> Result<Walk, AllocError>
 }
 
 // Where a host's cable leads, and how many channels are left from there.
-fn least_start(m: &FabricMap, o: &Orientation, from: &Ways, to: &Ways) -> (Entered, usize)
-    requires oriented { o.now ≡ orientation_of m.now }
+fn least_start(m: &FabricMap, from: &Ways, to: &Ways) -> (Entered, u8)
     requires connected { IsConnected m.now }
+    requires few { length (switches_of m.now.vertices) ≤ 64 }
     requires from { AreWaysOf m.now (order_of m.now) from.now }
     requires to { AreWaysOf m.now (order_of m.now) to.now }
     requires differ { from.now.host ≢ to.now.host }
     ensures start { entered_by m.now (order_of m.now) record { v = from.now.vertex; p = pos 0 } ≡ Some result.0 }
     ensures port { IsTurn result.0.port }
-    ensures count { result.1 < length to.now.tables }
     ensures distance { IsDistance m.now (order_of m.now) to.now.vertex result.1 result.0.v result.0.down }
 {
     let _ = m.vertices();
-    match entered_by(m, o, from.vertex(), 0) {
+    match from.start() {
         None => unreachable!(),
-        Some(start) => match to.distance(start.v, start.down) {
-            None => unreachable!(),
-            Some(count) => (start, count),
-        },
+        Some(start) => (start, to.distance(start.v, start.down)),
     }
 }

@@ -1,27 +1,29 @@
 //! The ways to one host.
 
-ghost use Rattle.std.specs.Prelude.{◌≡◌, ◌++◌, ◌∷◌, [], ◌<◌, ◌≤◌, true, length, position, slice_get, Some, IfOk, IfSome};
+ghost use Rattle.std.specs.Prelude.{◌≡◌, ◌<◌, All, length, pos, IfOk, IfSome};
 ghost use Rattle.net_defs.specs.Turn.{IsTurn};
-ghost use Rattle.map_defs.specs.NetMap.{switches_of};
 ghost use Rattle.map_defs.specs.Orientation.{order_of};
 ghost use Rattle.updown.specs.Oriented.{orientation_of};
-ghost use Rattle.route_calc.specs.Reaching.{near_in};
-ghost use Rattle.route_calc.specs.Ways.{best_turns, AreTables};
+ghost use Rattle.route_calc.specs.Exits.{IsInRange, all_exits, exits_at};
+ghost use Rattle.route_calc.specs.Far.{AreDistances, far_at};
+ghost use Rattle.route_calc.specs.Turning.{first_exit, leads_within, turns_on};
+ghost use Rattle.route_calc.specs.Ways.{entered_by};
 
-use crate::entered::Entered;
-use crate::exits::best_turn;
-use crate::near::Near;
+use crate::distances::{distances, far_at};
+use crate::entered::{Entered, Exit};
+use crate::exits::{Exits, entered_by};
 use fabric_map::FabricMap;
 use std::alloc::{AllocError, Global};
 use std::marker::Model;
 use updown::Orientation;
 
-/// A host with its vertex, and the vertices that lead there by at most 0, 1, 2 and more channels.
+/// A host with its vertex, where its cable leads, and how far each vertex is from it.
 #[derive(Drop)]
 pub(crate) struct Ways {
     host: u16,
     vertex: u32,
-    tables: Vec<Near>,
+    start: Option<Entered>,
+    far: Vec<u8>,
 }
 
 impl Model for Ways {
@@ -29,7 +31,7 @@ impl Model for Ways {
 
     ghost Value = { HostWays };
 
-    ghost view = { λ w. record { host = w.host; vertex = w.vertex; tables = w.tables.items } };
+    ghost view = { λ w. record { host = w.host; vertex = w.vertex; start = w.start; far = w.far.items } };
 }
 
 impl Ways {
@@ -38,20 +40,27 @@ impl Ways {
         alloc: Global,
         m: &FabricMap,
         o: &Orientation,
+        exits: &[Exits],
         host: u16,
         vertex: u32,
     ) -> Result<Ways, AllocError>
         requires oriented { o.now ≡ orientation_of m.now }
+        requires exits { exits.now ≡ all_exits m.now (order_of m.now) }
         requires vertex { vertex < length m.now.vertices }
         ensures host { IfOk result (λ w. w.host ≡ host) }
         ensures vertex { IfOk result (λ w. w.vertex ≡ vertex) }
-        ensures tables { IfOk result (λ w. AreTables m.now (order_of m.now) vertex w.tables) }
+        ensures start { IfOk result (λ w. w.start ≡ entered_by m.now (order_of m.now) record {
+          v = vertex;
+          p = pos 0;
+        }) }
+        ensures distances { IfOk result (λ w. AreDistances m.now (order_of m.now) vertex w.far) }
     {
-        let tables = tables_to(alloc, m, o, vertex)?;
+        let far = distances(alloc, m, exits, vertex)?;
         Ok(Ways {
             host,
             vertex,
-            tables,
+            start: entered_by(m, o, vertex, 0),
+            far,
         })
     }
 
@@ -61,44 +70,41 @@ impl Ways {
         self.host
     }
 
-    pub(crate) fn vertex(&self) -> u32
-        ensures { result ≡ self.now.vertex }
+    /// Where the host's cable leads.
+    pub(crate) fn start(&self) -> Option<Entered>
+        ensures { result ≡ self.now.start }
     {
-        self.vertex
+        self.start
     }
 
     /// The fewest channels from a vertex, to a packet that went down already, or didn't.
-    pub(crate) fn distance(&self, v: u32, down: bool) -> Option<usize>
-        ensures { result ≡ position (λ n. near_in n v down) self.now.tables }
+    pub(crate) fn distance(&self, v: u32, down: bool) -> u8
+        ensures { result ≡ far_at self.now.far v down }
     {
-        self.tables.iter().position(|n| n.has(v, down))
+        far_at(&self.far, v, down)
     }
 
     /// The least turns over so many channels.
     pub(crate) fn turns(
         &self,
         alloc: Global,
-        m: &FabricMap,
-        o: &Orientation,
+        exits: &[Exits],
         start: Entered,
-        count: usize,
+        count: u8,
     ) -> Result<Vec<i8>, AllocError>
-        requires oriented { o.now ≡ orientation_of m.now }
-        requires tables { AreTables m.now (order_of m.now) self.now.vertex self.now.tables }
-        requires port { IsTurn start.port }
-        requires count { count < length self.now.tables }
-        ensures { IfOk result (λ ts. ts.items ≡ best_turns m.now (order_of m.now) self.now.vertex count start) }
+        requires { IsTurn start.port }
+        ensures { IfOk result (λ ts. ts.items ≡ turns_on exits.now self.now.far count start) }
     {
-        let mut turns = Vec::new(alloc);
+        let mut turns = Vec::with_capacity(alloc, usize::from(count))?;
         let mut at = start;
         let mut left = count;
         while left > 0 {
             left -= 1;
-            match best_turn(m, o, &self.tables[left], at) {
+            match exit_from(exits, &self.far, left, at) {
                 None => return Ok(turns),
-                Some((turn, next)) => {
-                    turns.push(turn)?;
-                    at = next;
+                Some(exit) => {
+                    turns.push(exit.port - at.port)?;
+                    at = exit.next;
                 }
             }
         }
@@ -106,35 +112,36 @@ impl Ways {
     }
 }
 
-// The tables for 0, 1, 2 and more channels, up to one that has nothing new: at most as many as there are switches, and one more.
-fn tables_to(
-    alloc: Global,
-    m: &FabricMap,
-    o: &Orientation,
-    to: u32,
-) -> Result<Vec<Near>, AllocError>
-    requires oriented { o.now ≡ orientation_of m.now }
-    requires vertex { to < length m.now.vertices }
-    ensures { IfOk result (λ ts. AreTables m.now (order_of m.now) to ts.items) }
+// The least port of the vertex where a packet is that leads so near.
+fn exit_from(exits: &[Exits], far: &[u8], left: u8, at: Entered) -> Option<Exit>
+    ensures value { result ≡ first_exit far.now left at.down (exits_at exits.now at.v) }
+    ensures range { IfSome result IsInRange }
 {
-    let _ = m.vertices();
-    let mut tables = Vec::new(alloc);
-    let mut last = Near::only(alloc, m, to)?;
-    'more: while tables.len() < m.switches() {
-        let next = last.further(alloc, m, o)?;
-        if next.is_same(&last) {
-            return with_last(tables, last);
-        }
-        tables.push(last)?;
-        last = next;
+    let v = at.v as usize;
+    if v < exits.len() {
+        first_exit(exits[v].list(), far, left, at.down)
+    } else {
+        None
     }
-    with_last(tables, last)
 }
 
-// Tables with one more.
-fn with_last(mut tables: Vec<Near>, last: Near) -> Result<Vec<Near>, AllocError>
-    ensures { IfOk result (λ ts. ts.items ≡ tables.items ++ last ∷ []) }
+// The first port that leads so near.
+fn first_exit(exits: &[Exit], far: &[u8], left: u8, down: bool) -> Option<Exit>
+    requires { All IsInRange exits.now }
+    ensures value { result ≡ first_exit far.now left down exits.now }
+    ensures range { IfSome result IsInRange }
 {
-    tables.push(last)?;
-    Ok(tables)
+    for exit in exits {
+        if leads_within(far, left, down, *exit) {
+            return Some(*exit);
+        }
+    }
+    None
+}
+
+// Whether a packet may go by a port, and is within so many channels then.
+fn leads_within(far: &[u8], left: u8, down: bool, exit: Exit) -> bool
+    ensures { result ≡ leads_within far.now left down exit }
+{
+    (!down || exit.next.down) && far_at(far, exit.next.v, exit.next.down) <= left
 }

@@ -1,5 +1,6 @@
 -- A host's table with the host, and the parts that stand together in it.
-use Rattle.std.specs.Prelude.{ℕ, zero, suc, ◌<◌, ◌^◌, Bool, true, false, ◌&&◌, nat_lt, List, [], ◌∷◌, ◌++◌, nat_eq, nat_le, slice_get, if◌then◌else◌, Option, Some, None, option_map}
+use Rattle.std.specs.Prelude.{ℕ, zero, suc, ◌<◌, ◌^◌, Bool, true, false, ◌&&◌, nat_lt, List, [], ◌∷◌, ◌++◌, nat_eq}
+use Rattle.std.specs.Prelude.{nat_le, slice_get, if◌then◌else◌, Option, Some, None, option_map}
 use Rattle.std.specs.List.{AllByRecursion}
 use Rattle.mapping_defs.specs.Mapping.{RouteEntry, is_route}
 use Rattle.world_defs.specs.Table.{TableState, ActiveTable, with_part, of_epoch}
@@ -44,7 +45,8 @@ active_of epoch ps = option_map (λ e. record { epoch = e; entries = joined_all 
 
 -- one part more of an epoch
 abbrev pub with_one : TableState → ℕ → ℕ → List RouteEntry → TableState
-with_one t epoch number entries = record (of_epoch t epoch) { collected = with_part number entries (of_epoch t epoch).collected }
+with_one t epoch number entries =
+    record (of_epoch t epoch) { collected = with_part number entries (of_epoch t epoch).collected }
 
 -- an entry that a body may have
 abbrev pub is_fit : RouteEntry → Bool

@@ -1,10 +1,13 @@
--- The work of an installation: each host's parts are sent one after another, until they are acknowledged or the host is given up.
-use Rattle.std.specs.Prelude.{◌≡◌, ℕ, zero, suc, ◌+◌, ◌-◌, ◌<◌, ◌≤◌, Bool, true, false, ◌||◌, ◌&&◌, not, List, [], ◌∷◌, map, length, find, nat_eq, nat_le, Option, Some, None, option_map, if◌then◌else◌}
+-- The work of an installation: each host's parts are sent one after another, until they are acknowledged or the host
+-- is given up.
+use Rattle.std.specs.Prelude.{◌≡◌, ℕ, zero, suc, ◌+◌, ◌-◌, ◌<◌, ◌≤◌, Bool, true, false, ◌||◌, ◌&&◌, not, List, [], ◌∷◌}
+use Rattle.std.specs.Prelude.{map, length, find, nat_eq, nat_le, Option, Some, None, option_map, if◌then◌else◌}
 use Rattle.std.specs.List.{filter, list_all, list_any, AllByRecursion}
 use Rattle.world_defs.specs.Table.{part_count}
 use Rattle.route_install.specs.declared.installer.Work.{Work}
 
--- An installation: into how many parts each table is cut, how often a part is tried, and the work for each host but the mapper.
+-- An installation: into how many parts each table is cut, how often a part is tried, and the work for each host but
+-- the mapper.
 pub record Installation : Type 0 where
   pub parts : ℕ
   pub tries : ℕ
@@ -55,7 +58,8 @@ is_done i w = is_acked i w || is_given_up i w
 abbrev pub first_open : Installation → Option Work
 first_open i = find (λ w. not (is_done i w)) i.works
 
--- the host and the part that are awaited: of the first host whose work isn't done, the first part that isn't acknowledged
+-- the host and the part that are awaited: of the first host whose work isn't done, the first part that isn't
+-- acknowledged
 abbrev pub awaited : Installation → Option (ℕ × ℕ)
 awaited i = option_map (λ w. (w.host, w.acked)) (first_open i)
 
@@ -79,7 +83,8 @@ is_awaited (Some a) host part = nat_eq a.0 host && nat_eq a.1 part
 
 -- the installation after an acknowledgement: only the awaited one counts
 abbrev pub after_ack : Installation → ℕ → ℕ → Installation
-after_ack i host part = if is_awaited (awaited i) host part then record i { works = changed (is_done i) one_acked i.works } else i
+after_ack i host part = if is_awaited (awaited i) host part
+    then record i { works = changed (is_done i) one_acked i.works } else i
 
 -- the installation after a silence of the awaited part
 abbrev pub after_silence : Installation → Installation

@@ -1,6 +1,7 @@
 //! The parts of a table that came so far.
 
-ghost use Rattle.std.specs.Prelude.{◌≡◌, ◌<◌, ◌∷◌, [], length, find, nat_eq, is_some, slice_get, slice_set, option_copied, option_map, OnOk, OnErr};
+ghost use Rattle.std.specs.Prelude.{◌≡◌, ◌<◌, ◌∷◌, [], length, find, nat_eq, is_some, slice_get, slice_set};
+ghost use Rattle.std.specs.Prelude.{option_copied, option_map, OnOk, OnErr};
 ghost use Rattle.world_defs.specs.Table.{with_part, joined_below};
 ghost use Rattle.route_install.specs.Collecting.{AreNumbered, joined_all, place_of, has_number, are_all};
 

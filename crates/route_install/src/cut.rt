@@ -15,7 +15,8 @@ use std::alloc::{AllocError, Global};
 // The most entries of a part.
 const PART_SIZE: usize = 8;
 
-/// A part of a host's table, with the set's route back to the mapper. None exactly where there is no such part; the mapper itself has none.
+/// A part of a host's table, with the set's route back to the mapper. None exactly where there is no such part; the
+/// mapper itself has none.
 pub fn part_for(
     alloc: Global,
     r: &RouteSet,
@@ -25,7 +26,8 @@ pub fn part_for(
     part: u8,
 ) -> Result<Option<RoutePart>, AllocError>
     requires { length (entries_from r.now dst) ≤ 128 }
-    ensures value { IfOk result (λ p. p ≡ part_for (record { mapper = mapper; epoch = epoch; routes = r.now }) dst part) }
+    ensures value { IfOk result (λ p. p ≡ part_for
+        (record { mapper = mapper; epoch = epoch; routes = r.now }) dst part) }
     ensures by_rules { IfOk result (λ p. IfSome p (λ p. is_part p ≡ true)) }
 {
     if dst == mapper {

@@ -1,8 +1,11 @@
 //! Which part of which table a mapper awaits.
 
-ghost use Rattle.std.specs.Prelude.{◌≡◌, ◌<◌, ◌≤◌, map, not, nat_eq, length, slice_get, slice_set, nat_le, ◌||◌, is_none, IfOk, IfSome, IsSome};
+ghost use Rattle.std.specs.Prelude.{◌≡◌, ◌<◌, ◌≤◌, map, not, nat_eq, length, slice_get, slice_set, nat_le, ◌||◌};
+ghost use Rattle.std.specs.Prelude.{is_none, IfOk, IfSome, IsSome};
 ghost use Rattle.std.specs.List.{filter, list_all};
-ghost use Rattle.route_install.specs.Installing.{Installation, CanBegin, new_work, new_installation, parts_for, is_done, first_open, awaited, is_awaited, one_acked, one_silent, changed, after_ack, after_silence, acked_of};
+ghost use Rattle.route_install.specs.Installing.{Installation, CanBegin, new_work, new_installation, parts_for};
+ghost use Rattle.route_install.specs.Installing.{is_done, first_open, awaited, is_awaited, one_acked, one_silent};
+ghost use Rattle.route_install.specs.Installing.{changed, after_ack, after_silence, acked_of};
 
 use crate::cut::part_count;
 use route_parts::PartAck;
@@ -67,7 +70,8 @@ impl Installer {
         }
     }
 
-    /// Takes an acknowledgement, of any epoch. True exactly where it is of the awaited host and part; else nothing changes.
+    /// Takes an acknowledgement, of any epoch. True exactly where it is of the awaited host and part; else nothing
+    /// changes.
     pub fn on_ack(&mut self, a: PartAck) -> bool
         ensures awaited { result ≡ is_awaited (awaited self.old) a.host a.part }
         ensures after { self.new ≡ after_ack self.old a.host a.part }

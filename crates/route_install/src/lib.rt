@@ -1,7 +1,7 @@
 //! Sets of routes cut into parts, tables made of parts, and the order in which a mapper installs them.
 //!
-//! It sends nothing and reads no bytes: bodies are in `route_parts`. `specs/Table.antt` of `world_defs` says what parts and tables are,
-//! `specs/Installing.antt` what is awaited.
+//! It sends nothing and reads no bytes: bodies are in `route_parts`. `specs/Table.antt` of `world_defs` says what
+//! parts and tables are, `specs/Installing.antt` what is awaited.
 //!
 //! ```text
 //!   the set's routes from a host, by destination:   0 1 2 3 4 5 6 7 | 8 9 11

@@ -14,7 +14,8 @@ use std::marker::Model;
 use std::mem;
 use world_defs::Applied;
 
-/// A host's table: what is active, and the parts of a later one that came so far. Contracts see the table of the definitions, beside its host.
+/// A host's table: what is active, and the parts of a later one that came so far. Contracts see the table of the
+/// definitions, beside its host.
 #[derive(Drop)]
 pub struct Table {
     host: u16,
@@ -31,7 +32,14 @@ impl Model for Table {
 
     ghost Value = { HostTable };
 
-    ghost view = { λ t. record { host = t.host; state = record { epoch = t.epoch; collected = t.collected.items; active = active_of t.active_epoch t.active.items } } };
+    ghost view = { λ t. record {
+      host = t.host;
+      state = record {
+        epoch = t.epoch;
+        collected = t.collected.items;
+        active = active_of t.active_epoch t.active.items;
+      };
+    } };
 
     ghost invariant = { λ t. AreNumbered t.collected.items };
 }

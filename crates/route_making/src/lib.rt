@@ -1,7 +1,7 @@
 //! The routes of a complete map, and what is printed of them.
 //!
-//! It makes no map and installs no route. `specs/Run.antt` of `run_defs` says which lines there are, and `specs/LineText.antt` there what
-//! text they have.
+//! It makes no map and installs no route. `specs/Run.antt` of `run_defs` says which lines there are, and
+//! `specs/LineText.antt` there what text they have.
 //!
 //! ```text
 //!   map --> orientation --> routes --+

@@ -6,11 +6,12 @@ ghost use Rattle.map_defs.specs.Orientation.{order_of};
 ghost use Rattle.map_defs.specs.Routing.{AreRoutesOf};
 ghost use Rattle.map_defs.specs.Ranks.{ranks_of};
 ghost use Rattle.map_text.specs.Printing.{AreOfFabric};
-ghost use Rattle.run_defs.specs.LineText.{output_text};
 ghost use Rattle.run_defs.specs.Output.{lines};
 ghost use Rattle.run_defs.specs.Run.{routes_lines};
+ghost use Rattle.fab_report.specs.Printed.{printed_of};
 
 use crate::printing::routes_text;
+use fab_report::Printed;
 use fabric_map::FabricMap;
 use port_graph::{Fabric, RouteSet};
 use rank_cert::{Ranks, certify, check};
@@ -18,26 +19,28 @@ use route_calc::routes;
 use std::alloc::{AllocError, Global};
 use updown::orient;
 
-/// The routes of a map, and the text of their lines.
+/// The routes of a map, and what is printed of them.
 #[derive(Drop)]
 pub struct MadeRoutes {
+    /// The least legal route of each two hosts.
     pub set: RouteSet,
-    pub text: Vec<u8>,
+    /// Their lines, with the ranks.
+    pub printed: Printed,
 }
 
-/// The routes of a connected map, whose hosts are hosts of a fabric: for each two the least legal one. They are printed with the fabric's
-/// names, and only behind the check that the ranks rise along each of them.
+/// The routes of a connected map, whose hosts are hosts of a fabric: for each two the least legal one. They are
+/// printed with the fabric's names, and only behind the check that the ranks rise along each of them.
 pub fn make_routes(alloc: Global, m: &FabricMap, f: &Fabric) -> Result<MadeRoutes, AllocError>
     requires connected { IsConnected m.now }
     requires few { length (switches_of m.now.vertices) ≤ 64 }
     requires hosts { AreOfFabric f.now m.now }
     ensures routes { IfOk result (λ made. AreRoutesOf m.now (order_of m.now) made.set) }
-    ensures text { IfOk result (λ made. made.text.items ≡ output_text f.now (lines (routes_lines m.now made.set))) }
+    ensures text { IfOk result (λ made. made.printed ≡ printed_of f.now (lines (routes_lines m.now made.set))) }
 {
     let (set, ranks) = certified_routes(alloc, m)?;
     let _ = f.hosts();
-    let text = routes_text(alloc, m, f, set.list(), ranks.list())?;
-    Ok(MadeRoutes { set, text })
+    let printed = routes_text(alloc, m, f, set.list(), ranks.list())?;
+    Ok(MadeRoutes { set, printed })
 }
 
 // The routes of a map with their ranks, behind the check of both.

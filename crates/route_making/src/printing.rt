@@ -5,10 +5,11 @@ ghost use Rattle.map_text.specs.Printing.{AreOfFabric, IsOfFabric};
 ghost use Rattle.run_defs.specs.LineText.{line_text};
 ghost use Rattle.run_defs.specs.Run.{rank_line, route_line, vertex_in};
 ghost use Rattle.run_defs.specs.declared.line.Line.TheVariants.{Routes, EndRoutes};
+ghost use Rattle.run_defs.specs.declared.figure.Figure.TheVariants.{Routed};
 ghost use Rattle.fab_report.specs.There.{AreThere};
 ghost use Rattle.route_making.specs.Listed.{AreBetweenHosts};
 
-use fab_report::print_line;
+use fab_report::{Figure, Printed, print_line};
 use fabric_map::{FabricMap, MapVertex};
 use map_defs::RankEntry;
 use net_defs::{Route, Walk};
@@ -23,18 +24,23 @@ pub(crate) fn routes_text(
     f: &Fabric,
     routes: &[Route],
     ranks: &[RankEntry],
-) -> Result<Vec<u8>, AllocError>
+) -> Result<Printed, AllocError>
     requires hosts { AreOfFabric f.now m.now }
     requires between { AreBetweenHosts f.now routes.now }
     requires few { length routes.now < 2 ^ 32 }
-    ensures { IfOk result (λ text. text.items ≡ line_text f.now (Routes (length routes.now)) ++ (flat_map (λ r. line_text f.now (route_line r)) routes.now ++ (flat_map (λ k. line_text f.now (rank_line m.now k)) ranks.now ++ line_text f.now EndRoutes))) }
+    ensures { IfOk result (λ p. p ≡ record {
+      text = line_text f.now (Routes (length routes.now)) ++ (flat_map (λ r. line_text f.now (route_line r)) routes.now
+          ++ (flat_map (λ k. line_text f.now (rank_line m.now k)) ranks.now ++ line_text f.now EndRoutes));
+      figures = Routed (length routes.now) ∷ [];
+    }) }
 {
+    let count = routes.len() as u32;
     let mut text = Vec::new(alloc);
-    append_line(alloc, &mut text, &Line::Routes(routes.len() as u32), f)?;
+    append_line(alloc, &mut text, &Line::Routes(count), f)?;
     append_routes(alloc, &mut text, f, routes)?;
     append_ranks(alloc, &mut text, m, f, ranks)?;
     append_line(alloc, &mut text, &Line::EndRoutes, f)?;
-    Ok(text)
+    Ok(Printed::with(text, Figure::Routed(count)))
 }
 
 // A line for each route.
@@ -45,7 +51,8 @@ fn append_routes(
     routes: &[Route],
 ) -> Result<(), AllocError>
     requires { AreBetweenHosts f.now routes.now }
-    ensures { OnOk result (text.new.items ≡ text.old.items ++ flat_map (λ r. line_text f.now (route_line r)) routes.now) }
+    ensures { OnOk result (text.new.items ≡ text.old.items
+        ++ flat_map (λ r. line_text f.now (route_line r)) routes.now) }
 {
     for r in routes {
         append_route(alloc, text, f, r)?;
@@ -62,7 +69,8 @@ fn append_ranks(
     ranks: &[RankEntry],
 ) -> Result<(), AllocError>
     requires { AreOfFabric f.now m.now }
-    ensures { OnOk result (text.new.items ≡ text.old.items ++ flat_map (λ k. line_text f.now (rank_line m.now k)) ranks.now) }
+    ensures { OnOk result (text.new.items ≡ text.old.items
+        ++ flat_map (λ k. line_text f.now (rank_line m.now k)) ranks.now) }
 {
     for k in ranks {
         append_rank(alloc, text, m, f, *k)?;

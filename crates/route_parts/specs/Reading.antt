@@ -1,8 +1,10 @@
 -- What bytes say of a part of a table or of its acknowledgement, and how a reader comes to know it.
-use Rattle.std.specs.Prelude.{ℕ, Bool, true, false, ◌&&◌, List, [], nat_lt, if◌then◌else◌, Option, Some, None, option_map, option_and_then}
+use Rattle.std.specs.Prelude.{ℕ, Bool, true, false, ◌&&◌, List, [], nat_lt, if◌then◌else◌, Option, Some, None}
+use Rattle.std.specs.Prelude.{option_map, option_and_then}
 use Rattle.std.specs.List.{list_all}
 use Rattle.std.specs.Int.{w16, w32}
-use Rattle.mapping_defs.specs.Mapping.{MappingBody, RoutePart, RouteEntry, Front, decode_mapping, is_part, are_entries, number_front, byte_front, two_front, entries_front, with_back, whole}
+use Rattle.mapping_defs.specs.Mapping.{MappingBody, RoutePart, RouteEntry, Front, decode_mapping, is_part, are_entries}
+use Rattle.mapping_defs.specs.Mapping.{number_front, byte_front, two_front, entries_front, with_back, whole}
 use Rattle.mapping_defs.specs.Mapping.MappingBody.{Part, PartAck}
 use Rattle.route_parts.specs.declared.ack.PartAck.{PartAck as Acknowledgement}
 use Rattle.route_parts.specs.declared.fault.BodyFault.{BodyFault}
@@ -44,12 +46,22 @@ bytes_front bytes = option_and_then (λ n. option_map (λ m. ((n.0, m.0), m.1)) 
 abbrev pub numbers_front : List ℕ → Front Head
 numbers_front bytes =
     option_and_then
-    (λ two. option_and_then (λ dst. option_map (λ ps. (record { epoch = two.0.0; mapper = two.0.1; dst = dst.0; part = ps.0.0; parts = ps.0.1 }, ps.1)) (bytes_front dst.1)) (number_front w16 2 two.1))
+    (λ two. option_and_then (λ dst. option_map (λ ps.
+    (record { epoch = two.0.0; mapper = two.0.1; dst = dst.0; part = ps.0.0; parts = ps.0.1 }, ps.1))
+    (bytes_front dst.1)) (number_front w16 2 two.1))
     (two_front w32 4 bytes)
 
 -- a part of these numbers, without routes yet
 abbrev pub part_of : Head → RoutePart
-part_of h = record { epoch = h.epoch; mapper = h.mapper; dst = h.dst; part = h.part; parts = h.parts; back = []; entries = [] }
+part_of h = record {
+  epoch = h.epoch;
+  mapper = h.mapper;
+  dst = h.dst;
+  part = h.part;
+  parts = h.parts;
+  back = [];
+  entries = [];
+}
 
 -- a part, if it is by the rules
 abbrev pub ruled : Option RoutePart → Option RoutePart

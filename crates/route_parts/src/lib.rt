@@ -1,7 +1,7 @@
 //! A part of a host's table, and the acknowledgement of one, as they travel: their bodies written and read.
 //!
-//! It cuts no set of routes and keeps no table: that is `route_install`. `specs/Mapping.antt` of `mapping_defs` says what a body is, and
-//! `specs/Reading.antt` what bytes say of these two.
+//! It cuts no set of routes and keeps no table: that is `route_install`. `specs/Mapping.antt` of `mapping_defs` says
+//! what a body is, and `specs/Reading.antt` what bytes say of these two.
 //!
 //! ```text
 //!   part             4 | epoch (4) | mapper (2) | dst (2) | part | parts | n, n route bytes | count | count entries

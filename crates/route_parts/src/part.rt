@@ -3,7 +3,8 @@
 ghost use Rattle.std.specs.Prelude.{◌≡◌, ◌≤◌, ◌++◌, ◌∷◌, [], Some, true, length, IfOk, OnOk};
 ghost use Rattle.std.specs.Int.{w16, w32, to_be_bytes};
 ghost use Rattle.net_defs.specs.Refusal.{Refuses};
-ghost use Rattle.mapping_defs.specs.Mapping.{MappingBody, is_part, mapping_bytes, decode_mapping, route_bytes, entry_bytes};
+ghost use Rattle.mapping_defs.specs.Mapping.{MappingBody, is_part, mapping_bytes, decode_mapping, route_bytes};
+ghost use Rattle.mapping_defs.specs.Mapping.{entry_bytes};
 ghost use Rattle.route_parts.specs.Reading.{part_in, missing};
 
 use crate::entry::{EntryList, TableEntry};
@@ -41,7 +42,15 @@ impl Model for RoutePart {
 
     ghost Value = { PartOfTable };
 
-    ghost view = { λ p. record { epoch = p.epoch; mapper = p.mapper; dst = p.dst; part = p.part; parts = p.parts; back = p.back; entries = p.entries } };
+    ghost view = { λ p. record {
+      epoch = p.epoch;
+      mapper = p.mapper;
+      dst = p.dst;
+      part = p.part;
+      parts = p.parts;
+      back = p.back;
+      entries = p.entries;
+    } };
 }
 
 impl RoutePart {
@@ -76,7 +85,8 @@ impl RoutePart {
 
 // The kind and the numbers in front of a part, with room for short routes.
 fn numbers_of(alloc: Global, part: &RoutePart) -> Result<Vec<u8>, AllocError>
-    ensures { IfOk result (λ bytes. bytes.items ≡ 4 ∷ to_be_bytes w32 part.now.epoch ++ to_be_bytes w16 part.now.mapper ++ to_be_bytes w16 part.now.dst ++ part.now.part ∷ part.now.parts ∷ []) }
+    ensures { IfOk result (λ bytes. bytes.items ≡ 4 ∷ to_be_bytes w32 part.now.epoch
+        ++ to_be_bytes w16 part.now.mapper ++ to_be_bytes w16 part.now.dst ++ part.now.part ∷ part.now.parts ∷ []) }
 {
     let mut bytes = Vec::with_capacity(alloc, 64)?;
     bytes.push(KIND)?;
@@ -102,7 +112,8 @@ fn push_entries(bytes: &mut Vec<u8>, entries: &[TableEntry]) -> Result<(), Alloc
 
 // Adds an entry at the end of bytes.
 fn push_entry(bytes: &mut Vec<u8>, entry: &TableEntry) -> Result<(), AllocError>
-    ensures { OnOk result (bytes.new.items ≡ bytes.old.items ++ (to_be_bytes w16 entry.now.to ++ route_bytes entry.now.walk)) }
+    ensures { OnOk result (bytes.new.items ≡ bytes.old.items
+        ++ (to_be_bytes w16 entry.now.to ++ route_bytes entry.now.walk)) }
 {
     bytes.extend_from_slice(&entry.to.to_be_bytes())?;
     push_route(bytes, entry.walk.turns())

@@ -1,6 +1,7 @@
 //! Routes and entries in front of bytes, known to be such before memory is taken.
 
-ghost use Rattle.std.specs.Prelude.{◌≡◌, ◌<◌, ◌≤◌, ◌^◌, length, true, is_some, option_map, option_and_then, IfSome, IsSome};
+ghost use Rattle.std.specs.Prelude.{◌≡◌, ◌<◌, ◌≤◌, ◌^◌, length, true, is_some, option_map, option_and_then, IfSome};
+ghost use Rattle.std.specs.Prelude.{IsSome};
 ghost use Rattle.std.specs.List.{list_all};
 ghost use Rattle.mapping_defs.specs.Mapping.{route_front, entry_front};
 ghost use Rattle.packet_defs.specs.RouteByte.{turns_of, is_route_byte};

@@ -17,8 +17,10 @@ use Rattle.world_defs.specs.declared.effect.Said.{Said}
 use Rattle.run_defs.specs.declared.line.Line.{Line}
 use Rattle.run_defs.specs.declared.line.MapWords.{MapWords}
 use Rattle.run_defs.specs.declared.line.ClientCall.{ClientCall}
-use Rattle.run_defs.specs.LineText.{line_text, map_text}
-use Rattle.run_defs.specs.Examples.{setup_map, text_of, printed, fresh, installed_session, refused_calls, closing, single_events}
+use Rattle.run_defs.specs.LineText.{line_text, map_text, output_text}
+use Rattle.run_defs.specs.Output.{lines}
+use Rattle.run_defs.specs.Summary.{figures_in, summary}
+use Rattle.run_defs.specs.Examples.{setup_map, text_of, printed, fresh, installed_session, refused_calls, closing, single_events, message_output}
 
 pub refusals_text : printed refused_calls fresh ≡ text_of (codes "open a 0 done" ∷ codes "open a 0 refused already" ∷ codes "provide a 0 refused badsize" ∷ codes "provide a 0 token 0" ∷ codes "provide a 0 refused notoken" ∷ codes "send a 0 refused noroute" ∷ codes "send a 1 refused notopen" ∷ codes "poll a 1 refused notopen" ∷ codes "poll a 0 nothing" ∷ codes "routes refused nomap" ∷ codes "install refused noroutes" ∷ codes "end injected 0 dropped 0" ∷ [])
 unfolding sends host_try loop_try ask begun closed provided_by sent_by polled_by pass drain clear hear part_try installed to_send packet_for after_sending round_pass round settle lost was_reset repeated held flipped replayed asked part_staged planned_strikes sent_out injected advanced expired gave_up applied digits
@@ -55,3 +57,7 @@ line_message = refl
 pub map_lines : map_text two_hosts setup_map ≡ text_of (codes "host a" ∷ codes "switch #0 core" ∷ codes "host b" ∷ codes "cable a 0 #0 0" ∷ codes "cable #0 +3 b 0" ∷ codes "endmap" ∷ [])
 unfolding digits
 map_lines = refl
+
+pub summary_lines : output_text two_hosts (lines (summary 2 0 two_hosts (figures_in message_output))) ≡ text_of (codes "gen 2 0 hosts 2 switches 1 cables 2" ∷ codes "map complete asks 31 packets 62" ∷ codes "routes 2" ∷ codes "installed 2 of 2" ∷ codes "messages 1 received 1" ∷ codes "settle rounds 1 resets 0 unacked 0" ∷ [])
+unfolding digits
+summary_lines = refl

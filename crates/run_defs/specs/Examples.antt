@@ -4,14 +4,18 @@ use Rattle.net_defs.specs.Examples.{two_hosts, host_end, switch_end}
 use Rattle.journal_defs.specs.Examples.{two_hosts_journal}
 use Rattle.map_defs.specs.declared.vertex.MapVertex.TheVariants.{Host, Switch}
 use Rattle.map_defs.specs.NetMap.{NetMap}
+use Rattle.world_defs.specs.declared.effect.Said.{Said}
 use Rattle.world_defs.specs.declared.fault.Fault.TheVariants.{Lose as LoseFault}
 use Rattle.world_defs.specs.World.{WorldState, fabric_of, new_world, planned}
 use Rattle.world_defs.specs.Examples.{setup, setup_routes}
 use Rattle.run_defs.specs.declared.command.Command.{Command}
-use Rattle.run_defs.specs.declared.command.Command.TheVariants.{Map, Routes, Install, Begin, Close, Poll, Tokens, Provide, Send, Step, Settle, Finish}
+use Rattle.run_defs.specs.declared.command.Command.TheVariants.{Map, Routes, Install, Begin, Close, Poll, Tokens}
+use Rattle.run_defs.specs.declared.command.Command.TheVariants.{Provide, Send, Step, Settle, Finish}
 use Rattle.run_defs.specs.declared.command.StepLine.TheVariants.{Inject, Advance, Lose}
 use Rattle.run_defs.specs.declared.line.MapWords.TheVariants.{Complete}
-use Rattle.run_defs.specs.declared.line.Line.TheVariants.{Map as MapLine, Finish as FinishLine}
+use Rattle.run_defs.specs.declared.line.ClientCall.{ClientCall}
+use Rattle.run_defs.specs.declared.line.Line.TheVariants.{Map as MapLine, Routes as RoutesLine, EndRoutes, Installed}
+use Rattle.run_defs.specs.declared.line.Line.TheVariants.{Client, Settle as SettleLine, Finish as FinishLine}
 use Rattle.run_defs.specs.Output.{Piece, OneLine, MapLines}
 use Rattle.run_defs.specs.LineText.{output_text}
 use Rattle.run_defs.specs.Session.{SessionState, new_session}
@@ -22,7 +26,8 @@ use Rattle.run_defs.specs.Mapped.{asked_all}
 abbrev pub text_of : List (List ℕ) → List ℕ
 text_of ls = flat_map (λ l. l ++ 10 ∷ []) ls
 
--- a determined command's text, and then the text of what follows in the session after it; nothing where it isn't determined
+-- a determined command's text, and then the text of what follows in the session after it; nothing where it isn't
+-- determined
 abbrev pub text_then : Option Outcome → (SessionState → List ℕ) → List ℕ
 text_then None rest = []
 text_then (Some o) rest = output_text (fabric_of o.after.world) o.output ++ rest o.after
@@ -38,7 +43,11 @@ fresh = new_session two_hosts
 
 -- the session of the two hosts, with their routes installed
 abbrev pub installed_session : SessionState
-installed_session = record { world = setup; last_map = None; last_routes = Some (record { mapper = 0; hosts = 0 ∷ 1 ∷ []; routes = setup_routes }) }
+installed_session = record {
+  world = setup;
+  last_map = None;
+  last_routes = Some (record { mapper = 0; hosts = 0 ∷ 1 ∷ []; routes = setup_routes });
+}
 
 -- the map of the two hosts: the switch's ports count from the first host's
 abbrev pub setup_map : NetMap
@@ -51,21 +60,25 @@ setup_map = record {
 -- calls without routes, each refused once
 abbrev pub refused_calls : List Command
 refused_calls =
-    Begin 0 0 1 1 ∷ Begin 0 0 1 1 ∷ Provide 0 0 3 0 ∷ Provide 0 0 4 0 ∷ Provide 0 0 4 0 ∷ Send 0 0 1 1 0 1 1 ∷ Send 0 1 1 1 0 1 1
+    Begin 0 0 1 1 ∷ Begin 0 0 1 1 ∷ Provide 0 0 3 0 ∷ Provide 0 0 4 0 ∷ Provide 0 0 4 0 ∷ Send 0 0 1 1 0 1 1
+    ∷ Send 0 1 1 1 0 1 1
     ∷ Poll 0 1 ∷ Poll 0 0 ∷ Routes ∷ Install 1 ∷ Finish ∷ []
 
 -- a port is closed once nothing of it is unfinished and nothing waits
 abbrev pub closing : List Command
 closing =
-    Begin 0 0 1 2 ∷ Provide 0 0 4 0 ∷ Provide 0 0 5 1 ∷ Begin 1 1 0 1 ∷ Provide 1 1 4 0 ∷ Send 0 0 1 1 0 1 9 ∷ Close 0 0 ∷ Settle ∷ Close 0 0
+    Begin 0 0 1 2 ∷ Provide 0 0 4 0 ∷ Provide 0 0 5 1 ∷ Begin 1 1 0 1 ∷ Provide 1 1 4 0 ∷ Send 0 0 1 1 0 1 9
+    ∷ Close 0 0 ∷ Settle ∷ Close 0 0
     ∷ Poll 0 0 ∷ Tokens 0 0 ∷ Close 0 0 ∷ Tokens 0 0 ∷ Finish ∷ []
 
 -- events one by one
 abbrev pub single_events : List Command
 single_events =
     Begin 0 0 2 0 ∷ Begin 1 1 0 2 ∷ Provide 1 1 4 0 ∷ Provide 1 1 4 0 ∷ Send 0 0 1 1 0 1 1 ∷ Send 0 0 1 1 0 1 2
-    ∷ Step (Inject 0) ∷ Step (Advance (host_end 0)) ∷ Step (Inject 0) ∷ Step (Inject 0) ∷ Step (Advance (host_end 0)) ∷ Map 0 4 1
-    ∷ Step (Advance (switch_end 0 5)) ∷ Step (Advance (host_end 0)) ∷ Step (Lose (switch_end 0 5)) ∷ Step (Lose (switch_end 0 7)) ∷ Settle
+    ∷ Step (Inject 0) ∷ Step (Advance (host_end 0)) ∷ Step (Inject 0) ∷ Step (Inject 0) ∷ Step (Advance (host_end 0))
+    ∷ Map 0 4 1
+    ∷ Step (Advance (switch_end 0 5)) ∷ Step (Advance (host_end 0)) ∷ Step (Lose (switch_end 0 5))
+    ∷ Step (Lose (switch_end 0 7)) ∷ Settle
     ∷ Poll 1 1 ∷ Poll 1 1 ∷ Finish ∷ []
 
 -- the world behind the asks of a map, from the first host on
@@ -82,8 +95,22 @@ mapping_output = OneLine (MapLine 0 Complete 31 62) ∷ MapLines setup_map ∷ O
 
 -- the session behind it
 abbrev pub mapped_session : SessionState
-mapped_session = record { world = mapped_world; last_map = Some (record { mapper = 0; words = Complete; made = setup_map }); last_routes = None }
+mapped_session = record {
+  world = mapped_world;
+  last_map = Some (record { mapper = 0; words = Complete; made = setup_map });
+  last_routes = None;
+}
 
 -- the first world, with a fault planned for the first injection
 abbrev pub doubtful_world : WorldState
 doubtful_world = (planned (new_world two_hosts) 1 LoseFault).1
+
+-- what a run with one message prints, cut short
+abbrev pub message_output : List Piece
+message_output =
+    OneLine (MapLine 0 Complete 31 62) ∷ MapLines setup_map ∷ OneLine (RoutesLine 2) ∷ OneLine EndRoutes
+    ∷ OneLine (Installed 2 2)
+    ∷ OneLine (Client ClientCall.Provide 1 1 (Said.Token 0)) ∷ OneLine (Client ClientCall.Send 0 0 (Said.Token 0))
+    ∷ OneLine (SettleLine 1 0 0)
+    ∷ OneLine (Client ClientCall.Poll 1 1 (Said.Received 0 0 0 0 (9 ∷ [])))
+    ∷ OneLine (Client ClientCall.Poll 1 1 Said.Nothing) ∷ OneLine (FinishLine 66 59) ∷ []

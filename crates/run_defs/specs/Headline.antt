@@ -1,4 +1,5 @@
--- What a run promises: a map that says complete is the mapper's part of the fabric; on a quiet fabric, probed deeply enough, it says so; every moment is sound.
+-- What a run promises: a map that says complete is the mapper's part of the fabric; on a quiet fabric, probed deeply
+-- enough, it says so; every moment is sound.
 use Rattle.std.specs.Prelude.{◌≡◌, ◌⊎◌, ℕ, ◌<◌, ◌≤◌, ◌^◌, true, List, [], ◌∷◌, ◌++◌, length, Option, Some, None}
 use Rattle.std.specs.List.{AllByRecursion}
 use Rattle.net_defs.specs.Network.{Network, IsFabric}
@@ -39,9 +40,11 @@ IsCommandOf n _ = Unit {0}
 abbrev pub CompleteIsTrue : Network → List Command → Type 0
 CompleteIsTrue n commands =
     IsFabric n → AllByRecursion (IsCommandOf n) commands
-    → (out : List Piece) (last : SessionState) (mapper : ℕ) (m : NetMap) → IsRun n commands out last → HasPrinted out mapper m → IsMapOfPart n mapper m
+    → (out : List Piece) (last : SessionState) (mapper : ℕ) (m : NetMap) → IsRun n commands out last
+    → HasPrinted out mapper m → IsMapOfPart n mapper m
 
--- Mapping meets a quiet fabric: no packet is on its way, no planned fault names an injection of it, injections are left in plenty, and the tree stays small.
+-- Mapping meets a quiet fabric: no packet is on its way, no planned fault names an injection of it, injections are
+-- left in plenty, and the tree stays small.
 pub record IsQuiet (host : ℕ) (before after : WorldState) : Type 0 where
   pub idle : is_idle before.links ≡ true
   pub unplanned : AllByRecursion (λ f. (f.0 ≤ before.injected) ⊎ (after.injected < f.0)) before.plan
@@ -51,9 +54,11 @@ pub record IsQuiet (host : ℕ) (before after : WorldState) : Type 0 where
 -- on a quiet fabric a map to the depth that suffices, with 1 to 8 tries an ask, says complete
 abbrev pub DeepIsComplete : Network → List Command → Type 0
 DeepIsComplete n commands =
-    (out : List Piece) (s : SessionState) (host depth tries : ℕ) (after : WorldState) (j : List Entry) (m : NetMap) (words : MapWords)
+    (out : List Piece) (s : SessionState) (host depth tries : ℕ) (after : WorldState) (j : List Entry) (m : NetMap)
+    (words : MapWords)
     → IsFabric n → AllByRecursion (IsCommandOf n) commands → IsRun n commands out s
-    → IsCommandOf n (Map host depth tries) → IsMapped host depth tries s.world after j m words → IsQuiet host s.world after
+    → IsCommandOf n (Map host depth tries) → IsMapped host depth tries s.world after j m words
+    → IsQuiet host s.world after
     → 1 ≤ tries → tries ≤ 8 → enough_depth n host ≤ depth → words ≡ Complete
 
 -- The promise of a run.

@@ -7,3 +7,4 @@ pub mod Output
 pub mod Run
 pub mod Script
 pub mod Session
+pub mod Summary

@@ -1,5 +1,6 @@
 -- The text of each line of a report.
-use Rattle.std.specs.Prelude.{ℕ, zero, suc, ◌+◌, ◌/◌, ◌%◌, ℤ, pos, negsuc, Bool, true, false, List, [], ◌∷◌, ◌++◌, map, length, nat_lt, slice_get, if◌then◌else◌, Option, Some, None, codes, decimal, flat_map}
+use Rattle.std.specs.Prelude.{ℕ, zero, suc, ◌+◌, ◌/◌, ◌%◌, ℤ, pos, negsuc, Bool, true, false, List, [], ◌∷◌, ◌++◌, map}
+use Rattle.std.specs.Prelude.{length, nat_lt, slice_get, if◌then◌else◌, Option, Some, None, codes, decimal, flat_map}
 use Rattle.net_defs.specs.declared.vertex.Vertex.TheVariants.{Host, Switch}
 use Rattle.net_defs.specs.declared.vertex.End.{End}
 use Rattle.net_defs.specs.declared.place.Place.{Place}
@@ -15,24 +16,33 @@ use Rattle.gm_defs.specs.declared.token.TokenPlace.TheVariants.{Queue, Provided,
 use Rattle.fab_text.specs.Fault.{kind_word}
 use Rattle.fab_text.specs.Written.{line_text as line_of}
 use Rattle.world_defs.specs.declared.effect.Cause.{Cause}
-use Rattle.world_defs.specs.declared.effect.Cause.TheVariants.{OutOfRange, NotRoute, NoCable, BadCrc, RouteLeft, UnknownType, Malformed, NotMine}
+use Rattle.world_defs.specs.declared.effect.Cause.TheVariants.{OutOfRange, NotRoute, NoCable, BadCrc, RouteLeft}
+use Rattle.world_defs.specs.declared.effect.Cause.TheVariants.{UnknownType, Malformed, NotMine}
 use Rattle.world_defs.specs.declared.effect.Said.{Said}
-use Rattle.world_defs.specs.declared.effect.Said.TheVariants.{Done, Count, Token, Sent, Received, Nothing, Refused as SaidRefused}
+use Rattle.world_defs.specs.declared.effect.Said.TheVariants.{Done, Count, Token, Sent, Received, Nothing}
+use Rattle.world_defs.specs.declared.effect.Said.TheVariants.{Refused as SaidRefused}
 use Rattle.world_defs.specs.declared.client.ClientCause.{ClientCause}
-use Rattle.world_defs.specs.declared.client.ClientCause.TheVariants.{Already, NotOpen, NoToken, TooLong, NoRoute, Spent, BadSize, Busy, Unread}
+use Rattle.world_defs.specs.declared.client.ClientCause.TheVariants.{Already, NotOpen, NoToken, TooLong, NoRoute, Spent}
+use Rattle.world_defs.specs.declared.client.ClientCause.TheVariants.{BadSize, Busy, Unread}
 use Rattle.world_defs.specs.declared.heard.Heard.{Heard}
-use Rattle.world_defs.specs.declared.heard.Heard.TheVariants.{Probe, Reply, Loop, Routes as HeardRoutes, RoutesAck, Message, Fragment, NotNext, NoToken as NoTokenFits, Ack}
+use Rattle.world_defs.specs.declared.heard.Heard.TheVariants.{Probe, Reply, Loop, Routes as HeardRoutes, RoutesAck}
+use Rattle.world_defs.specs.declared.heard.Heard.TheVariants.{Message, Fragment, NotNext, NoToken as NoTokenFits, Ack}
 use Rattle.run_defs.specs.declared.line.MapWords.{MapWords}
 use Rattle.run_defs.specs.declared.line.MapWords.TheVariants.{Complete, Doubtful, IncompleteDepth, IncompleteNodes}
 use Rattle.run_defs.specs.declared.line.InstallCause.{InstallCause}
-use Rattle.run_defs.specs.declared.line.InstallCause.TheVariants.{NoRoutes, Busy as LinksBusy, Installed as OtherInstalled}
+use Rattle.run_defs.specs.declared.line.InstallCause.TheVariants.{NoRoutes, Busy as LinksBusy}
+use Rattle.run_defs.specs.declared.line.InstallCause.TheVariants.{Installed as OtherInstalled}
 use Rattle.run_defs.specs.declared.line.ClientCall.{ClientCall}
 use Rattle.run_defs.specs.declared.line.ClientCall.TheVariants.{Begin, Close, Provide, Send, Poll, Tokens as TokensCall}
 use Rattle.run_defs.specs.declared.line.StepWords.{StepWords}
-use Rattle.run_defs.specs.declared.line.StepWords.TheVariants.{Idle, Injected, Moved, Blocked, Arrived, Dropped, Lost, Reset, Flipped, Expired, GaveUp, Repeated, Held, Replayed}
+use Rattle.run_defs.specs.declared.line.StepWords.TheVariants.{Idle, Injected, Moved, Blocked, Arrived, Dropped, Lost}
+use Rattle.run_defs.specs.declared.line.StepWords.TheVariants.{Reset, Flipped, Expired, GaveUp, Repeated, Held}
+use Rattle.run_defs.specs.declared.line.StepWords.TheVariants.{Replayed}
 use Rattle.run_defs.specs.declared.line.PlaceEntry.{PlaceEntry}
 use Rattle.run_defs.specs.declared.line.Line.{Line}
-use Rattle.run_defs.specs.declared.line.Line.TheVariants.{Refused, Walk, Map, MapBusy, Routes, Route, Rank, EndRoutes, NoMap, Installed, Table, InstallRefused, Client, Tokens, PlanAt, Step, Settle, Finish}
+use Rattle.run_defs.specs.declared.line.Line.TheVariants.{Refused, Walk, Map, MapBusy, Routes, Route, Rank, EndRoutes}
+use Rattle.run_defs.specs.declared.line.Line.TheVariants.{NoMap, Installed, Table, InstallRefused, Client, Tokens}
+use Rattle.run_defs.specs.declared.line.Line.TheVariants.{PlanAt, Step, Settle, Finish, GenHead, GenMap, GenCount}
 use Rattle.run_defs.specs.Output.{Piece, OneLine, MapLines}
 
 -- a host's name
@@ -110,7 +120,8 @@ said_words n (Count c) = codes "done" ∷ decimal c ∷ []
 said_words n (Token t) = codes "token" ∷ decimal t ∷ []
 said_words n (Sent t) = codes "sent" ∷ codes "token" ∷ decimal t ∷ []
 said_words n (Received t from sport prio body) =
-    codes "received" ∷ codes "token" ∷ decimal t ∷ codes "from" ∷ host_name n from ∷ decimal sport ∷ codes "prio" ∷ decimal prio
+    codes "received" ∷ codes "token" ∷ decimal t ∷ codes "from" ∷ host_name n from ∷ decimal sport ∷ codes "prio"
+    ∷ decimal prio
     ∷ codes "len" ∷ decimal (length body) ∷ codes "bytes" ∷ hex_text body ∷ []
 said_words n Nothing = codes "nothing" ∷ []
 said_words n (SaidRefused cause) = codes "refused" ∷ client_cause cause
@@ -177,7 +188,8 @@ abbrev pub words_in : Network → Line → List (List ℕ)
 words_in n (Refused line kind) = codes "refused" ∷ decimal line ∷ kind_word kind ∷ []
 words_in n (Walk place) = codes "walk" ∷ walk_words n place
 words_in n (Map host words asks packets) =
-    codes "map" ∷ host_name n host ∷ map_words words ++ codes "asks" ∷ decimal asks ∷ codes "packets" ∷ decimal packets ∷ []
+    codes "map" ∷ host_name n host ∷ map_words words
+    ++ codes "asks" ∷ decimal asks ∷ codes "packets" ∷ decimal packets ∷ []
 words_in n (MapBusy host) = codes "map" ∷ host_name n host ∷ codes "refused" ∷ codes "busy" ∷ []
 words_in n (Routes count) = codes "routes" ∷ decimal count ∷ []
 words_in n (Route from to walk) = codes "route" ∷ host_name n from ∷ host_name n to ∷ map turn_text walk
@@ -189,12 +201,21 @@ words_in n (Table host active) = codes "table" ∷ host_name n host ∷ active_w
 words_in n (InstallRefused cause) = codes "install" ∷ codes "refused" ∷ install_cause cause ∷ []
 words_in n (Client call host port said) = call_word call ∷ host_name n host ∷ decimal port ∷ said_words n said
 words_in n (Tokens host port sends recvs) =
-    codes "tokens" ∷ host_name n host ∷ decimal port ∷ codes "send" ∷ map place_text sends ++ codes "recv" ∷ map place_text recvs
+    codes "tokens" ∷ host_name n host ∷ decimal port ∷ codes "send" ∷ map place_text sends
+    ++ codes "recv" ∷ map place_text recvs
 words_in n (PlanAt number) = codes "plan" ∷ codes "at" ∷ decimal number ∷ []
 words_in n (Step words) = codes "step" ∷ step_words n words
 words_in n (Settle rounds resets unacked) =
-    codes "settle" ∷ codes "rounds" ∷ decimal rounds ∷ codes "resets" ∷ decimal resets ∷ codes "unacked" ∷ decimal unacked ∷ []
-words_in n (Finish injected dropped) = codes "end" ∷ codes "injected" ∷ decimal injected ∷ codes "dropped" ∷ decimal dropped ∷ []
+    codes "settle" ∷ codes "rounds" ∷ decimal rounds ∷ codes "resets" ∷ decimal resets ∷ codes "unacked"
+    ∷ decimal unacked ∷ []
+words_in n (Finish injected dropped) = codes "end" ∷ codes "injected" ∷ decimal injected ∷ codes "dropped"
+    ∷ decimal dropped ∷ []
+words_in n (GenHead count seed hosts switches cables) =
+    codes "gen" ∷ decimal count ∷ decimal seed ∷ codes "hosts" ∷ decimal hosts ∷ codes "switches" ∷ decimal switches
+    ∷ codes "cables" ∷ decimal cables ∷ []
+words_in n (GenMap words asks packets) = codes "map" ∷ map_words words
+    ++ codes "asks" ∷ decimal asks ∷ codes "packets" ∷ decimal packets ∷ []
+words_in n (GenCount accepted received) = codes "messages" ∷ decimal accepted ∷ codes "received" ∷ decimal received ∷ []
 
 -- The text of a line.
 abbrev pub line_text : Network → Line → List ℕ
@@ -226,12 +247,14 @@ vertex_numbered n m v = vertex_at n (slice_get m.vertices v)
 
 -- the line of a map's cable: its two ends, the ports of switches counted from where each was first entered
 abbrev pub cable_words : Network → NetMap → MapCable → List (List ℕ)
-cable_words n m c = codes "cable" ∷ vertex_numbered n m c.v ∷ turn_text c.p ∷ vertex_numbered n m c.w ∷ turn_text c.q ∷ []
+cable_words n m c = codes "cable" ∷ vertex_numbered n m c.v ∷ turn_text c.p ∷ vertex_numbered n m c.w ∷ turn_text c.q
+    ∷ []
 
 -- The lines of a map: its vertices, its cables, and the end.
 abbrev pub map_text : Network → NetMap → List ℕ
 map_text n m =
-    vertices_text n m.vertices m.core ++ flat_map (λ c. line_of (cable_words n m c)) m.cables ++ line_of (codes "endmap" ∷ [])
+    vertices_text n m.vertices m.core ++ flat_map (λ c. line_of (cable_words n m c)) m.cables
+    ++ line_of (codes "endmap" ∷ [])
 
 -- the text of a line, or of a map's lines
 abbrev pub piece_text : Network → Piece → List ℕ

@@ -41,10 +41,13 @@ pub data IsCalled (host : ℕ) (j : List Entry) (drowned : ℕ) : MapWords → T
   doubted : ¬ IsEndedAtLimit j → IsClosed host j → 0 < drowned → IsCalled host j drowned (Doubtful drowned)
   right : ¬ IsEndedAtLimit j → IsClosed host j → drowned ≡ 0 → IsCalled host j drowned Complete
 
--- Mapping from a host, to a depth, with so many tries an ask: from one world to another, by a journal, to a map and its words.
-pub record IsMapped (host depth tries : ℕ) (before after : WorldState) (j : List Entry) (m : NetMap) (words : MapWords) : Type 0 where
+-- Mapping from a host, to a depth, with so many tries an ask: from one world to another, by a journal, to a map and
+-- its words.
+pub record IsMapped (host depth tries : ℕ) (before after : WorldState) (j : List Entry) (m : NetMap)
+    (words : MapWords) : Type 0 where
   pub drowned : ℕ
-  pub asked : asked_all host tries (map (λ e. e.walk) j) before ≡ record { entries = j; drowned = drowned; world = after }
+  pub asked : asked_all host tries (map (λ e. e.walk) j) before
+      ≡ record { entries = j; drowned = drowned; world = after }
   pub grown : IsGrown host depth j
   pub unmarked : NetMap
   pub quotient : IsQuotient host j unmarked

@@ -1,5 +1,7 @@
--- What each command does and prints, where that is determined: all commands but a map that is made and routes that are computed.
-use Rattle.std.specs.Prelude.{ℕ, Bool, true, false, not, ◌&&◌, List, [], ◌∷◌, map, length, min, nat_eq, is_some, if◌then◌else◌, Option, Some, None, option_map}
+-- What each command does and prints, where that is determined: all commands but a map that is made and routes that
+-- are computed.
+use Rattle.std.specs.Prelude.{ℕ, Bool, true, false, not, ◌&&◌, List, [], ◌∷◌, map, length, min, nat_eq, is_some}
+use Rattle.std.specs.Prelude.{if◌then◌else◌, Option, Some, None, option_map}
 use Rattle.std.specs.List.{range_with_len}
 use Rattle.net_defs.specs.declared.vertex.End.{End}
 use Rattle.net_defs.specs.declared.route.Route.{Route}
@@ -10,13 +12,17 @@ use Rattle.link_defs.specs.Links.{is_idle}
 use Rattle.gm_defs.specs.declared.token.TokenPlace.{TokenPlace}
 use Rattle.gm_defs.specs.Token.{PortState, place_of_send, place_of_recv}
 use Rattle.world_defs.specs.declared.event.Event.{Event}
-use Rattle.world_defs.specs.declared.event.Event.TheVariants.{Inject, Advance, Lose, Repeat, Hold, Flip, Replay, Reset, Expire, GiveUp, Begin, Close, Provide, Send, Poll}
+use Rattle.world_defs.specs.declared.event.Event.TheVariants.{Inject, Advance, Lose, Repeat, Hold, Flip, Replay, Reset}
+use Rattle.world_defs.specs.declared.event.Event.TheVariants.{Expire, GiveUp, Begin, Close, Provide, Send, Poll}
 use Rattle.world_defs.specs.declared.effect.Effect.{Effect}
-use Rattle.world_defs.specs.declared.effect.Effect.TheVariants.{Idle, Injected, Moved, Blocked, Arrived, Dropped, Lost, Reset as WasReset, Flipped, Expired, GaveUp, Repeated, Held, Replayed, Staged, Said as SaidSo}
+use Rattle.world_defs.specs.declared.effect.Effect.TheVariants.{Idle, Injected, Moved, Blocked, Arrived, Dropped, Lost}
+use Rattle.world_defs.specs.declared.effect.Effect.TheVariants.{Reset as WasReset, Flipped, Expired, GaveUp, Repeated}
+use Rattle.world_defs.specs.declared.effect.Effect.TheVariants.{Held, Replayed, Staged, Said as SaidSo}
 use Rattle.world_defs.specs.declared.effect.Said.TheVariants.{Refused}
 use Rattle.world_defs.specs.declared.client.ClientCause.TheVariants.{NotOpen}
 use Rattle.world_defs.specs.declared.fault.Fault.{Fault}
-use Rattle.world_defs.specs.declared.fault.Fault.TheVariants.{Lose as LoseFault, Repeat as RepeatFault, Hold as HoldFault, Flip as FlipFault}
+use Rattle.world_defs.specs.declared.fault.Fault.TheVariants.{Lose as LoseFault, Repeat as RepeatFault}
+use Rattle.world_defs.specs.declared.fault.Fault.TheVariants.{Hold as HoldFault, Flip as FlipFault}
 use Rattle.world_defs.specs.Table.{Adoption, is_other, active_epoch}
 use Rattle.world_defs.specs.Node.{port_at}
 use Rattle.world_defs.specs.World.{WorldState, fabric_of, node_at, planned, adopted_by, last_count}
@@ -24,18 +30,37 @@ use Rattle.world_defs.specs.Step.{step}
 use Rattle.world_defs.specs.Settle.{Rounds, settle, unacknowledged_in}
 use Rattle.world_defs.specs.Install.{installed}
 use Rattle.run_defs.specs.declared.command.Command.{Command}
-use Rattle.run_defs.specs.declared.command.Command.TheVariants.{Walk, Map, Routes, Install, Begin as BeginCommand, Close as CloseCommand, Poll as PollCommand, Tokens, Provide as ProvideCommand, Send as SendCommand, Plan, Step, Settle, Finish}
+use Rattle.run_defs.specs.declared.command.Command.TheVariants.{Walk, Map, Routes, Install, Begin as BeginCommand}
+use Rattle.run_defs.specs.declared.command.Command.TheVariants.{Close as CloseCommand, Poll as PollCommand, Tokens}
+use Rattle.run_defs.specs.declared.command.Command.TheVariants.{Provide as ProvideCommand, Send as SendCommand, Plan}
+use Rattle.run_defs.specs.declared.command.Command.TheVariants.{Step, Settle, Finish}
 use Rattle.run_defs.specs.declared.command.PlanKind.{PlanKind}
-use Rattle.run_defs.specs.declared.command.PlanKind.TheVariants.{Lose as PlanLose, Repeat as PlanRepeat, Hold as PlanHold, Flip as PlanFlip}
+use Rattle.run_defs.specs.declared.command.PlanKind.TheVariants.{Lose as PlanLose, Repeat as PlanRepeat}
+use Rattle.run_defs.specs.declared.command.PlanKind.TheVariants.{Hold as PlanHold, Flip as PlanFlip}
 use Rattle.run_defs.specs.declared.command.StepLine.{StepLine}
-use Rattle.run_defs.specs.declared.command.StepLine.TheVariants.{Inject as InjectLine, GiveUp as GiveUpLine, Advance as AdvanceLine, Lose as LoseLine, Repeat as RepeatLine, Hold as HoldLine, Reset as ResetLine, Flip as FlipLine, Expire as ExpireLine, Replay as ReplayLine}
+use Rattle.run_defs.specs.declared.command.StepLine.TheVariants.{Inject as InjectLine, GiveUp as GiveUpLine}
+use Rattle.run_defs.specs.declared.command.StepLine.TheVariants.{Advance as AdvanceLine, Lose as LoseLine}
+use Rattle.run_defs.specs.declared.command.StepLine.TheVariants.{Repeat as RepeatLine, Hold as HoldLine}
+use Rattle.run_defs.specs.declared.command.StepLine.TheVariants.{Reset as ResetLine, Flip as FlipLine}
+use Rattle.run_defs.specs.declared.command.StepLine.TheVariants.{Expire as ExpireLine, Replay as ReplayLine}
 use Rattle.run_defs.specs.declared.line.Line.{Line}
-use Rattle.run_defs.specs.declared.line.Line.TheVariants.{Walk as WalkLine, MapBusy, NoMap, Installed, Table, InstallRefused, Client, Tokens as TokensLine, PlanAt, Step as StepOutput, Settle as SettleLine, Finish as FinishLine}
+use Rattle.run_defs.specs.declared.line.Line.TheVariants.{Walk as WalkLine, MapBusy, NoMap, Installed, Table}
+use Rattle.run_defs.specs.declared.line.Line.TheVariants.{InstallRefused, Client, Tokens as TokensLine, PlanAt}
+use Rattle.run_defs.specs.declared.line.Line.TheVariants.{Step as StepOutput, Settle as SettleLine}
+use Rattle.run_defs.specs.declared.line.Line.TheVariants.{Finish as FinishLine}
 use Rattle.run_defs.specs.declared.line.InstallCause.TheVariants.{NoRoutes, Busy, Installed as OtherInstalled}
 use Rattle.run_defs.specs.declared.line.ClientCall.{ClientCall}
-use Rattle.run_defs.specs.declared.line.ClientCall.TheVariants.{Begin as BeginCall, Close as CloseCall, Provide as ProvideCall, Send as SendCall, Poll as PollCall, Tokens as TokensCall}
+use Rattle.run_defs.specs.declared.line.ClientCall.TheVariants.{Begin as BeginCall, Close as CloseCall}
+use Rattle.run_defs.specs.declared.line.ClientCall.TheVariants.{Provide as ProvideCall, Send as SendCall}
+use Rattle.run_defs.specs.declared.line.ClientCall.TheVariants.{Poll as PollCall, Tokens as TokensCall}
 use Rattle.run_defs.specs.declared.line.StepWords.{StepWords}
-use Rattle.run_defs.specs.declared.line.StepWords.TheVariants.{Idle as IdleWords, Injected as InjectedWords, Moved as MovedWords, Blocked as BlockedWords, Arrived as ArrivedWords, Dropped as DroppedWords, Lost as LostWords, Reset as ResetWords, Flipped as FlippedWords, Expired as ExpiredWords, GaveUp as GaveUpWords, Repeated as RepeatedWords, Held as HeldWords, Replayed as ReplayedWords}
+use Rattle.run_defs.specs.declared.line.StepWords.TheVariants.{Idle as IdleWords, Injected as InjectedWords}
+use Rattle.run_defs.specs.declared.line.StepWords.TheVariants.{Moved as MovedWords, Blocked as BlockedWords}
+use Rattle.run_defs.specs.declared.line.StepWords.TheVariants.{Arrived as ArrivedWords, Dropped as DroppedWords}
+use Rattle.run_defs.specs.declared.line.StepWords.TheVariants.{Lost as LostWords, Reset as ResetWords}
+use Rattle.run_defs.specs.declared.line.StepWords.TheVariants.{Flipped as FlippedWords, Expired as ExpiredWords}
+use Rattle.run_defs.specs.declared.line.StepWords.TheVariants.{GaveUp as GaveUpWords, Repeated as RepeatedWords}
+use Rattle.run_defs.specs.declared.line.StepWords.TheVariants.{Held as HeldWords, Replayed as ReplayedWords}
 use Rattle.run_defs.specs.declared.line.PlaceEntry.{PlaceEntry}
 use Rattle.run_defs.specs.Output.{Piece, lines}
 use Rattle.run_defs.specs.Session.{SessionState, LastMap, LastRoutes, complete_map}
@@ -134,9 +159,11 @@ places count place_of = map (λ t. record { number = t; place = place_of t }) (r
 -- the places of a port's tokens, where it is open; else the refusal
 abbrev pub token_lines : ℕ → ℕ → Option PortState → List Line
 token_lines host port None = Client TokensCall host port (Refused NotOpen) ∷ []
-token_lines host port (Some p) = TokensLine host port (places p.sends (place_of_send p)) (places p.recvs (place_of_recv p)) ∷ []
+token_lines host port (Some p) = TokensLine host port (places p.sends (place_of_send p))
+    (places p.recvs (place_of_recv p)) ∷ []
 
--- a settle prints its rounds, its resets and what isn't acknowledged behind it; a count of resets stays at its last value
+-- a settle prints its rounds, its resets and what isn't acknowledged behind it; a count of resets stays at its last
+-- value
 abbrev pub settled : SessionState → Rounds → Outcome
 settled s r = says s (SettleLine r.rounds (min r.resets last_count) (unacknowledged_in r.world) ∷ []) r.world
 
@@ -154,7 +181,8 @@ adoption_of l = record { mapper = l.mapper; epoch = 1; routes = l.routes }
 
 -- the last routes are adopted, and then installed on the hosts of their map
 abbrev pub install_now : SessionState → LastRoutes → ℕ → Outcome
-install_now s l tries = install_done s l.hosts (installed (adoption_of l) l.hosts tries (adopted_by s.world l.mapper l.routes))
+install_now s l tries = install_done s l.hosts
+    (installed (adoption_of l) l.hosts tries (adopted_by s.world l.mapper l.routes))
 
 -- routes are installed where some were computed, the links are idle, and no other set is adopted
 abbrev pub install : SessionState → ℕ → Option LastRoutes → Outcome
@@ -183,8 +211,10 @@ outcome s (BeginCommand h port sends recvs) = Some (called s BeginCall h port (s
 outcome s (CloseCommand h port) = Some (called s CloseCall h port (step s.world (Close h port)))
 outcome s (PollCommand h port) = Some (called s PollCall h port (step s.world (Poll h port)))
 outcome s (Tokens h port) = Some (says_only s (token_lines h port (port_at (node_at s.world h) port)))
-outcome s (ProvideCommand h port size prio) = Some (called s ProvideCall h port (step s.world (Provide h port size prio)))
-outcome s (SendCommand h port dest dport prio len seed) = Some (called s SendCall h port (step s.world (Send h port dest dport prio len seed)))
+outcome s (ProvideCommand h port size prio) =
+    Some (called s ProvideCall h port (step s.world (Provide h port size prio)))
+outcome s (SendCommand h port dest dport prio len seed) =
+    Some (called s SendCall h port (step s.world (Send h port dest dport prio len seed)))
 outcome s (Plan ahead kind) = Some (plan_made s (planned s.world ahead (fault_of kind)))
 outcome s (Step line) = Some (step_or_idle s (event_of s.world line))
 outcome s Settle = Some (settled s (settle s.world))

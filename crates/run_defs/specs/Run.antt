@@ -17,7 +17,8 @@ use Rattle.run_defs.specs.declared.command.Command.TheVariants.{Map, Routes}
 use Rattle.run_defs.specs.declared.line.MapWords.{MapWords}
 use Rattle.run_defs.specs.declared.line.MapWords.TheVariants.{Complete, Doubtful, IncompleteDepth, IncompleteNodes}
 use Rattle.run_defs.specs.declared.line.Line.{Line}
-use Rattle.run_defs.specs.declared.line.Line.TheVariants.{Map as MapLine, Routes as RoutesLine, Route as RouteLine, Rank as RankLine, EndRoutes}
+use Rattle.run_defs.specs.declared.line.Line.TheVariants.{Map as MapLine, Routes as RoutesLine, Route as RouteLine}
+use Rattle.run_defs.specs.declared.line.Line.TheVariants.{Rank as RankLine, EndRoutes}
 use Rattle.run_defs.specs.Mapped.{IsMapped}
 use Rattle.run_defs.specs.Output.{Piece, OneLine, MapLines, lines}
 use Rattle.run_defs.specs.Session.{SessionState, LastMap, new_session, complete_map}
@@ -49,12 +50,15 @@ rank_line m k = RankLine (vertex_in (slice_get m.vertices k.v)) k.p k.rank
 
 -- the lines of computed routes: their number, each route, the rank of each channel, and the end
 abbrev pub routes_lines : NetMap → List Route → List Line
-routes_lines m routes = RoutesLine (length routes) ∷ map route_line routes ++ map (rank_line m) (ranks_of m (order_of m)) ++ EndRoutes ∷ []
+routes_lines m routes = RoutesLine (length routes) ∷ map route_line routes
+    ++ map (rank_line m) (ranks_of m (order_of m)) ++ EndRoutes ∷ []
 
 -- What a command does: it prints pieces, and leaves a session.
 pub data Does (s : SessionState) : Command → List Piece → SessionState → Type 0 where
-  determined : {c : Command} {out : List Piece} {next : SessionState} → outcome s c ≡ Some (record { output = out; after = next }) → Does s c out next
-  maps : {host depth tries : ℕ} {out : List Piece} {next : SessionState} → (after : WorldState) (j : List Entry) (m : NetMap) (words : MapWords)
+  determined : {c : Command} {out : List Piece} {next : SessionState}
+      → outcome s c ≡ Some (record { output = out; after = next }) → Does s c out next
+  maps : {host depth tries : ℕ} {out : List Piece} {next : SessionState}
+      → (after : WorldState) (j : List Entry) (m : NetMap) (words : MapWords)
       → outcome s (Map host depth tries) ≡ None → IsMapped host depth tries s.world after j m words
       → out ≡ OneLine (MapLine host words (length j) (after.injected - s.world.injected)) ∷ map_pieces words m
       → next ≡ record s { world = after; last_map = Some (record { mapper = host; words = words; made = m }) }
@@ -62,7 +66,13 @@ pub data Does (s : SessionState) : Command → List Piece → SessionState → T
   routes : {out : List Piece} {next : SessionState} → (l : LastMap) (found : List Route)
       → complete_map s.last_map ≡ Some l → AreRoutesOf l.made (order_of l.made) found
       → out ≡ lines (routes_lines l.made found)
-      → next ≡ record s { last_routes = Some (record { mapper = l.mapper; hosts = hosts_by_address s.world l.made; routes = found }) }
+      → next ≡ record s {
+        last_routes = Some (record {
+          mapper = l.mapper;
+          hosts = hosts_by_address s.world l.made;
+          routes = found;
+        });
+      }
       → Does s Routes out next
 
 -- What commands in order do.

@@ -1,5 +1,6 @@
 -- The lines of a script: the command that each says, or its first fault.
-use Rattle.std.specs.Prelude.{ℕ, ◌+◌, ℤ, Bool, false, List, [], ◌∷◌, length, nat_eq, nat_lt, if◌then◌else◌, Option, Some, None, Result, Ok, Err, codes, bytes_eq}
+use Rattle.std.specs.Prelude.{ℕ, ◌+◌, ℤ, Bool, false, List, [], ◌∷◌, length, nat_eq, nat_lt, if◌then◌else◌, Option}
+use Rattle.std.specs.Prelude.{Some, None, Result, Ok, Err, codes, bytes_eq}
 use Rattle.std.specs.Option.{option_map_or}
 use Rattle.net_defs.specs.declared.vertex.Vertex.{Vertex}
 use Rattle.net_defs.specs.declared.vertex.Vertex.TheVariants.{Host, Switch}
@@ -12,11 +13,14 @@ use Rattle.fab_text.specs.Word.{name_test, number_within, turn_of}
 use Rattle.fab_text.specs.Line.{TextLine, lines_left, line_count, words_of, one_of}
 use Rattle.fab_text.specs.Fault.{FirstFault, as_kind, at_line, and_then}
 use Rattle.run_defs.specs.declared.command.Command.{Command}
-use Rattle.run_defs.specs.declared.command.Command.TheVariants.{Walk, Map, Routes, Install, Begin, Close, Poll, Tokens, Provide, Send, Plan, Step, Settle, Finish}
+use Rattle.run_defs.specs.declared.command.Command.TheVariants.{Walk, Map, Routes, Install, Begin, Close, Poll, Tokens}
+use Rattle.run_defs.specs.declared.command.Command.TheVariants.{Provide, Send, Plan, Step, Settle, Finish}
 use Rattle.run_defs.specs.declared.command.PlanKind.{PlanKind}
-use Rattle.run_defs.specs.declared.command.PlanKind.TheVariants.{Lose as PlanLose, Repeat as PlanRepeat, Hold as PlanHold, Flip as PlanFlip}
+use Rattle.run_defs.specs.declared.command.PlanKind.TheVariants.{Lose as PlanLose, Repeat as PlanRepeat}
+use Rattle.run_defs.specs.declared.command.PlanKind.TheVariants.{Hold as PlanHold, Flip as PlanFlip}
 use Rattle.run_defs.specs.declared.command.StepLine.{StepLine}
-use Rattle.run_defs.specs.declared.command.StepLine.TheVariants.{Inject, GiveUp, Advance, Lose, Repeat, Hold, Reset, Flip, Expire, Replay}
+use Rattle.run_defs.specs.declared.command.StepLine.TheVariants.{Inject, GiveUp, Advance, Lose, Repeat, Hold, Reset}
+use Rattle.run_defs.specs.declared.command.StepLine.TheVariants.{Flip, Expire, Replay}
 
 -- The form of a word: a name, or a number in a range.
 pub data Form : Type 0 where
@@ -47,7 +51,8 @@ values_of _ _ = Err BadWord
 abbrev pub said_by : List Form → List (List ℕ) → Result (List Value) FaultKind
 said_by forms words = if nat_eq (length forms) (length words) then values_of forms words else Err BadWord
 
--- A kind of line: the word that it begins with, the forms of its further words, and what their values mean over a fabric.
+-- A kind of line: the word that it begins with, the forms of its further words, and what their values mean over a
+-- fabric.
 pub record LineKind : Type 0 where
   pub word : List ℕ
   pub forms : List Form
@@ -56,7 +61,8 @@ pub record LineKind : Type 0 where
 -- the command of a line that begins with this word: that of the first kind with the word
 abbrev pub command_by : Network → List LineKind → List ℕ → List (List ℕ) → Result Command FaultKind
 command_by n [] first args = Err BadWord
-command_by n (k ∷ ks) first args = if bytes_eq first k.word then and_then (said_by k.forms args) (k.meaning n) else command_by n ks first args
+command_by n (k ∷ ks) first args = if bytes_eq first k.word then and_then (said_by k.forms args) (k.meaning n)
+    else command_by n ks first args
 
 -- the address of a host
 abbrev pub address_of : Option Vertex → Result ℕ FaultKind
@@ -198,7 +204,8 @@ line_kinds =
     ∷ kind (codes "poll") (OfName ∷ of_port ∷ []) (at_port_meant Poll)
     ∷ kind (codes "tokens") (OfName ∷ of_port ∷ []) (at_port_meant Tokens)
     ∷ kind (codes "provide") (OfName ∷ of_port ∷ OfNumber 0 31 ∷ of_prio ∷ []) provide_meant
-    ∷ kind (codes "send") (OfName ∷ of_port ∷ OfName ∷ of_port ∷ of_prio ∷ OfNumber 0 1000000 ∷ OfNumber 0 255 ∷ []) send_meant
+    ∷ kind (codes "send") (OfName ∷ of_port ∷ OfName ∷ of_port ∷ of_prio ∷ OfNumber 0 1000000 ∷ OfNumber 0 255
+    ∷ []) send_meant
     ∷ kind (codes "settle") [] (alone_meant Settle)
     ∷ []
 
@@ -244,7 +251,8 @@ walk_said n (name ∷ words) =
     else if name_test name then and_then (turns_of words) (λ turns. at_host n name (λ h. Walk h turns))
     else Err BadWord
 
--- the command of a line by its first word: `walk`, `plan` with its second word, `step` with its second word, or a word of the table
+-- the command of a line by its first word: `walk`, `plan` with its second word, `step` with its second word, or a
+-- word of the table
 abbrev pub command_as : Network → List ℕ → List (List ℕ) → Result Command FaultKind
 command_as n first args =
     if bytes_eq first (codes "walk") then walk_said n args
@@ -252,7 +260,8 @@ command_as n first args =
     else if bytes_eq first (codes "step") then by_second n step_kinds args
     else command_by n line_kinds first args
 
--- The command that a line of these words says over a fabric, or the line's first fault: the first word, the number of words, their forms from left to right, and then the fabric.
+-- The command that a line of these words says over a fabric, or the line's first fault: the first word, the number of
+-- words, their forms from left to right, and then the fabric.
 abbrev pub command_of : Network → List (List ℕ) → Result Command FaultKind
 command_of n [] = Err BadWord
 command_of n (first ∷ args) = command_as n first args
@@ -266,13 +275,16 @@ abbrev pub ended : List TextLine → Result (List Command) FirstFault
 ended [] = Ok (Finish ∷ [])
 ended (l ∷ ls) = Err (record { line = l.number; kind = AfterEnd })
 
--- The commands of a script, line by line, of which the last is `end`. `past` is one more than the number of the last line.
+-- The commands of a script, line by line, of which the last is `end`. `past` is one more than the number of the last
+-- line.
 abbrev pub script_from : ℕ → Network → List TextLine → Result (List Command) FirstFault
 script_from past n [] = Err (record { line = past; kind = NoEnd })
 script_from past n (l ∷ ls) =
     if is_end (words_of l.bytes) then ended ls
-    else and_then (at_line l.number (command_of n (words_of l.bytes))) (λ c. and_then (script_from past n ls) (λ cs. Ok (c ∷ cs)))
+    else and_then (at_line l.number (command_of n (words_of l.bytes))) (λ c.
+    and_then (script_from past n ls) (λ cs. Ok (c ∷ cs)))
 
 -- What a script says that follows so many lines: its commands, or its first fault.
 abbrev pub script_reading : Network → ℕ → List ℕ → Result (List Command) FirstFault
-script_reading n line text = script_from (line + line_count text + 1) n (lines_left (record { number = line + 1; text = text }))
+script_reading n line text = script_from (line + line_count text + 1) n
+    (lines_left (record { number = line + 1; text = text }))

@@ -11,15 +11,19 @@
 //! | `Run` | what commands in order do |
 //! | `LineText` | the text of each line and of a map |
 //! | `Headline` | the promise of a run |
+//! | `Summary` | the figures of a report, and the lines that tell them |
 #![tactic(auto)]
 
 mod command;
 mod examples;
+mod figure;
 mod line;
 
 pub use command::{Command, PlanKind, StepLine};
 pub use examples::{
     closing_a_port, lines_of_scripts, map_of_the_two_hosts, promise_of_no_command, quiet_fabrics,
-    refusals, report_of_single_events, text_of_a_map, texts_of_lines, whole_scripts,
+    refusals, report_of_single_events, summary_of_a_run, text_of_a_map, texts_of_lines,
+    whole_scripts,
 };
+pub use figure::Figure;
 pub use line::{ClientCall, InstallCause, Line, MapWords, PlaceEntry, PlaceList, StepWords};

@@ -160,4 +160,23 @@ pub enum Line {
         injected: u64,
         dropped: u64,
     },
+    /// What was generated: so many hosts from this seed, and the counts of the fabric.
+    GenHead {
+        n: u8,
+        seed: u32,
+        hosts: u16,
+        switches: u16,
+        cables: u16,
+    },
+    /// The map of a generated run, without its mapper.
+    GenMap {
+        words: MapWords,
+        asks: u64,
+        packets: u64,
+    },
+    /// The messages of a generated run: sends that were accepted, and polls that received one.
+    GenCount {
+        accepted: u64,
+        received: u64,
+    },
 }

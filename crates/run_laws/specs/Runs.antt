@@ -12,15 +12,18 @@ use Rattle.run_defs.specs.Run.{Does, Runs}
 
 -- A map has one list of routes along an order of its vertices.
 abbrev pub RoutesAreOne : Type 0
-RoutesAreOne = (m : NetMap) (order : List ℕ) (found others : List Route) → AreRoutesOf m order found → AreRoutesOf m order others → found ≡ others
+RoutesAreOne = (m : NetMap) (order : List ℕ) (found others : List Route) → AreRoutesOf m order found
+    → AreRoutesOf m order others → found ≡ others
 
 -- From one session a command prints one list of pieces and leaves one session.
 abbrev pub DoingIsOne : Type 0
-DoingIsOne = (s a b : SessionState) (c : Command) (out other : List Piece) → Does s c out a → Does s c other b → (out ≡ other) × (a ≡ b)
+DoingIsOne = (s a b : SessionState) (c : Command) (out other : List Piece) → Does s c out a → Does s c other b
+    → (out ≡ other) × (a ≡ b)
 
 -- From one session commands in order print one list of pieces and leave one session.
 abbrev pub RunsAreOne : Type 0
-RunsAreOne = (s a b : SessionState) (commands : List Command) (out other : List Piece) → Runs s commands out a → Runs s commands other b → (out ≡ other) × (a ≡ b)
+RunsAreOne = (s a b : SessionState) (commands : List Command) (out other : List Piece) → Runs s commands out a
+    → Runs s commands other b → (out ≡ other) × (a ≡ b)
 
 -- A run of commands, and a run of more commands from where it ended, are a run of all of them.
 abbrev pub RunsJoin : Type 0
@@ -39,7 +42,8 @@ pub record IsSplit (s last : SessionState) (first more : List Command) (all : Li
 
 -- a run is split behind each of its commands
 abbrev pub RunsSplit : Type 0
-RunsSplit = (k : ℕ) (s last : SessionState) (commands : List Command) (all : List Piece) → Runs s commands all last → IsSplit s last (take k commands) (drop k commands) all
+RunsSplit = (k : ℕ) (s last : SessionState) (commands : List Command) (all : List Piece) → Runs s commands all last
+    → IsSplit s last (take k commands) (drop k commands) all
 
 -- What the first commands print stands at the beginning of what all commands print.
 abbrev pub FirstRunsArePart : Type 0
@@ -49,4 +53,5 @@ FirstRunsArePart =
 
 -- The text of what was printed is that of its pieces in a row.
 abbrev pub TextOfBoth : Type 0
-TextOfBoth = (n : Network) (out rest : List Piece) → output_text n (out ++ rest) ≡ output_text n out ++ output_text n rest
+TextOfBoth = (n : Network) (out rest : List Piece)
+    → output_text n (out ++ rest) ≡ output_text n out ++ output_text n rest

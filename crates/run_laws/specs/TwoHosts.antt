@@ -12,10 +12,12 @@ use Rattle.run_defs.specs.Mapped.{IsMapped}
 use Rattle.run_defs.specs.Headline.{CompleteIsTrue}
 use Rattle.run_defs.specs.Examples.{mapped_world, setup_map}
 
--- Every mapping of the first world from host 0 with one try an ask, to a depth of two cables or more, has one journal, one map and one world behind it, and says complete.
+-- Every mapping of the first world from host 0 with one try an ask, to a depth of two cables or more, has one
+-- journal, one map and one world behind it, and says complete.
 abbrev pub MappingIsComplete : Type 0
 MappingIsComplete =
-    (depth : ℕ) (after : WorldState) (j : List Entry) (m : NetMap) (words : MapWords) → 2 ≤ depth → IsMapped 0 depth 1 (new_world two_hosts) after j m words
+    (depth : ℕ) (after : WorldState) (j : List Entry) (m : NetMap) (words : MapWords) → 2 ≤ depth
+    → IsMapped 0 depth 1 (new_world two_hosts) after j m words
     → (after ≡ mapped_world) × (j ≡ two_hosts_journal) × (m ≡ setup_map) × (words ≡ Complete)
 
 -- whatever map a run of such a script prints under the word complete is the mapper's part of the fabric

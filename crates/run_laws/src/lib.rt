@@ -1,7 +1,7 @@
 //! The laws of runs: a mapping is one and a run is one; runs join and split; a run is acts that may happen.
 //!
-//! It runs nothing, and says nothing of what an installation or a settle prints. Read `specs/Runs.antt` first, and `specs/Acts.antt` for the
-//! acts of a run, by which it leaves no cycle of installed routes.
+//! It runs nothing, and says nothing of what an installation or a settle prints. Read `specs/Runs.antt` first, and
+//! `specs/Acts.antt` for the acts of a run, by which it leaves no cycle of installed routes.
 //!
 //! | file of `specs/` | says |
 //! |---|---|

@@ -1,5 +1,5 @@
--- That an installation of the last routes is told, and so obeyed.
-use Rattle.std.proofs.Common.{◌≡◌, ℕ, ◌∷◌, [], ◌++◌, List, length, map, Bool, true, false, not, Option, Some, None, refl, sym, ◌∙◌, ap, subst, append-nil, if◌then◌else◌}
+-- That an installation of the last routes is p, and so obeyed.
+use Rattle.std.proofs.Common.{◌≡◌, ℕ, ◌∷◌, [], ◌++◌, List, length, map, Bool, true, false, not, Option, Some, None, refl, sym, ◌∙◌, ap, subst, if◌then◌else◌}
 use Rattle.std.specs.Prelude.{flat_map, IfSome}
 use Rattle.net_defs.specs.Network.{Network}
 use Rattle.link_defs.specs.Links.{is_idle}
@@ -12,23 +12,26 @@ use Rattle.run_defs.specs.declared.line.Line.TheVariants.{Installed, InstallRefu
 use Rattle.run_defs.specs.declared.line.InstallCause.{InstallCause}
 use Rattle.run_defs.specs.declared.line.InstallCause.TheVariants.{NoRoutes, Busy, Installed as OtherInstalled}
 use Rattle.run_defs.specs.LineText.{line_text, output_text}
-use Rattle.run_defs.specs.Output.{lines}
+use Rattle.run_defs.specs.Output.{OneLine, lines}
+use Rattle.run_defs.specs.Summary.{figures_in}
 use Rattle.run_defs.specs.Outcome.{Outcome, adoption_of, install, install_done, install_now, says_only, table_line}
 use Rattle.run_defs.specs.Run.{Does}
 use Rattle.run_defs.specs.Session.{SessionState, LastMap, LastRoutes}
+use Rattle.fab_report.specs.Printed.{PrintedState, printed_of}
+use Rattle.fab_report.proofs.Printing.{followed}
 use Rattle.world_commands.specs.Done.{session_of}
 use Rattle.run_session.specs.Obeyed.{IsObeyed}
 use Rattle.run_session.specs.Told.{AreInstalledTold, IsInstallTold}
 
 -- an installation whose outcome says one line alone
-refused : (w : WorldState) (last : Option LastRoutes) (tries : ℕ) (cause : InstallCause) (text : List ℕ) → ((made : Option LastMap) → install (session_of w made last) tries last ≡ says_only (session_of w made last) (InstallRefused cause ∷ [])) → text ≡ line_text (fabric_of w) (InstallRefused cause) → IsInstallTold w last tries w text
-refused w last tries cause text is e = record {
-  printed = λ made. e ∙ sym (append-nil (line_text (fabric_of w) (InstallRefused cause))) ∙ sym (ap (λ (o : Outcome). output_text (fabric_of w) o.output) (is made));
+refused : (w : WorldState) (last : Option LastRoutes) (tries : ℕ) (cause : InstallCause) (p : PrintedState) → ((made : Option LastMap) → install (session_of w made last) tries last ≡ says_only (session_of w made last) (InstallRefused cause ∷ [])) → p ≡ printed_of (fabric_of w) (OneLine (InstallRefused cause) ∷ []) → IsInstallTold w last tries w p
+refused w last tries cause p is e = record {
+  printed = λ made. e ∙ sym (ap (λ (o : Outcome). printed_of (fabric_of w) o.output) (is made));
   left = λ made. ap (λ (o : Outcome). o.after) (is made);
 }
 
-pub none_told : (w : WorldState) (tries : ℕ) (text : List ℕ) → text ≡ line_text (fabric_of w) (InstallRefused NoRoutes) → IsInstallTold w None tries w text
-none_told w tries text e = refused w None tries NoRoutes text (λ made. refl) e
+pub none_told : (w : WorldState) (tries : ℕ) (p : PrintedState) → p ≡ printed_of (fabric_of w) (OneLine (InstallRefused NoRoutes) ∷ []) → IsInstallTold w None tries w p
+none_told w tries p e = refused w None tries NoRoutes p (λ made. refl) e
 
 -- what comes of last routes, by whether a channel holds a packet and another set is adopted
 abbrev choice : SessionState → LastRoutes → ℕ → Bool → Bool → Outcome
@@ -37,19 +40,19 @@ choice s l tries idle other =
     else if other then says_only s (InstallRefused OtherInstalled ∷ [])
     else install_now s l tries
 
-pub busy_told : (w : WorldState) (l : LastRoutes) (tries : ℕ) (text : List ℕ) → is_idle w.links ≡ false → text ≡ line_text (fabric_of w) (InstallRefused Busy) → IsInstallTold w (Some l) tries w text
-busy_told w l tries text busy e = refused w (Some l) tries Busy text (λ made. ap (λ b. choice (session_of w made (Some l)) l tries b (is_other l.routes w.adopted)) busy) e
+pub busy_told : (w : WorldState) (l : LastRoutes) (tries : ℕ) (p : PrintedState) → is_idle w.links ≡ false → p ≡ printed_of (fabric_of w) (OneLine (InstallRefused Busy) ∷ []) → IsInstallTold w (Some l) tries w p
+busy_told w l tries p busy e = refused w (Some l) tries Busy p (λ made. ap (λ b. choice (session_of w made (Some l)) l tries b (is_other l.routes w.adopted)) busy) e
 
-pub other_told : (w after : WorldState) (l : LastRoutes) (tries : ℕ) (text : List ℕ) → is_idle w.links ≡ true → is_other l.routes w.adopted ≡ true → after ≡ w → text ≡ line_text (fabric_of after) (InstallRefused OtherInstalled) → IsInstallTold w (Some l) tries after text
-other_told w after l tries text idle other same e =
-    subst (λ v. IsInstallTold w (Some l) tries v text) (sym same)
-    (refused w (Some l) tries OtherInstalled text
+pub other_told : (w after : WorldState) (l : LastRoutes) (tries : ℕ) (p : PrintedState) → is_idle w.links ≡ true → is_other l.routes w.adopted ≡ true → after ≡ w → p ≡ printed_of (fabric_of after) (OneLine (InstallRefused OtherInstalled) ∷ []) → IsInstallTold w (Some l) tries after p
+other_told w after l tries p idle other same e =
+    subst (λ v. IsInstallTold w (Some l) tries v p) (sym same)
+    (refused w (Some l) tries OtherInstalled p
     (λ made. ap (λ b. choice (session_of w made (Some l)) l tries b (is_other l.routes w.adopted)) idle ∙ ap (choice (session_of w made (Some l)) l tries true) other)
-    (e ∙ ap (λ (v : WorldState). line_text (fabric_of v) (InstallRefused OtherInstalled)) same))
+    (e ∙ ap (λ (v : WorldState). printed_of (fabric_of v) (OneLine (InstallRefused OtherInstalled) ∷ [])) same))
 
-pub installed_told : (w mid after : WorldState) (l : LastRoutes) (tries : ℕ) (text : List ℕ) → is_idle w.links ≡ true → is_other l.routes w.adopted ≡ false → mid ≡ adopted_by w l.mapper l.routes → AreInstalledTold mid l tries after text → IsInstallTold w (Some l) tries after text
-installed_told w mid after l tries text idle other is told = record {
-  printed = λ made. told.printed ∙ ap (λ (v : WorldState). output_text (fabric_of v) (done made).output) is ∙ sym (ap (λ (o : Outcome). output_text (fabric_of w) o.output) (all made));
+pub installed_told : (w mid after : WorldState) (l : LastRoutes) (tries : ℕ) (p : PrintedState) → is_idle w.links ≡ true → is_other l.routes w.adopted ≡ false → mid ≡ adopted_by w l.mapper l.routes → AreInstalledTold mid l tries after p → IsInstallTold w (Some l) tries after p
+installed_told w mid after l tries p idle other is told = record {
+  printed = λ made. told.printed ∙ ap (λ (v : WorldState). printed_of (fabric_of v) (done made).output) is ∙ sym (ap (λ (o : Outcome). printed_of (fabric_of w) o.output) (all made));
   left = λ made. ap (λ (o : Outcome). o.after) (all made);
 }
   where
@@ -70,25 +73,32 @@ tables-text : (n : Network) (w : WorldState) (hosts : List ℕ) → flat_map (λ
 tables-text n w [] = refl
 tables-text n w (h ∷ hosts) = ap (λ t. line_text n (table_line w h) ++ t) (tables-text n w hosts)
 
+tables-none : (w : WorldState) (hosts : List ℕ) → figures_in (lines (map (table_line w) hosts)) ≡ []
+tables-none w [] = refl
+tables-none w (h ∷ hosts) = tables-none w hosts
+
 -- a line, and the tables behind it
-pub tables-told : (n : Network) (w : WorldState) (l : Line) (hosts text after : List ℕ) → text ≡ line_text n l → after ≡ text ++ flat_map (λ h. line_text n (table_line w h)) hosts → after ≡ output_text n (lines (l ∷ map (table_line w) hosts))
-tables-told n w l hosts text after first rest = rest ∙ ap (λ t. t ++ flat_map (λ h. line_text n (table_line w h)) hosts) first ∙ ap (λ t. line_text n l ++ t) (tables-text n w hosts)
+pub tables-told : (n : Network) (w : WorldState) (l : Line) (hosts tables : List ℕ) (before after : PrintedState) → before ≡ printed_of n (OneLine l ∷ [])
+    → tables ≡ flat_map (λ h. line_text n (table_line w h)) hosts → after ≡ record { text = before.text ++ tables; figures = before.figures }
+    → after ≡ printed_of n (lines (l ∷ map (table_line w) hosts))
+tables-told n w l hosts tables before after first rest behind =
+    followed n (OneLine l ∷ []) (lines (map (table_line w) hosts)) before after tables first (rest ∙ tables-text n w hosts) (tables-none w hosts) behind
 
 -- an installation that was counted is told
-pub counted-told : (w after : WorldState) (l : LastRoutes) (tries acked total : ℕ) (hosts text : List ℕ) → w.adopted ≡ Some (adoption_of l) → IfSome w.adopted (λ a. installed a hosts tries w ≡ (acked, after)) → total ≡ length hosts → hosts ≡ l.hosts → fabric_of after ≡ fabric_of w → text ≡ output_text (fabric_of after) (lines (Installed acked total ∷ map (table_line after) hosts)) → AreInstalledTold w l tries after text
-counted-told w after l tries acked total hosts text adopted counted all same net e = record {
+pub counted-told : (w after : WorldState) (l : LastRoutes) (tries acked total : ℕ) (hosts : List ℕ) (p : PrintedState) → w.adopted ≡ Some (adoption_of l) → IfSome w.adopted (λ a. installed a hosts tries w ≡ (acked, after)) → total ≡ length hosts → hosts ≡ l.hosts → fabric_of after ≡ fabric_of w → p ≡ printed_of (fabric_of after) (lines (Installed acked total ∷ map (table_line after) hosts)) → AreInstalledTold w l tries after p
+counted-told w after l tries acked total hosts p adopted counted all same net e = record {
   acked = acked;
   counted = subst (λ (hs : List ℕ). installed (adoption_of l) hs tries w ≡ (acked, after)) same
       (subst (λ (o : Option Adoption). IfSome o (λ a. installed a hosts tries w ≡ (acked, after))) adopted counted);
   printed = e
-      ∙ ap (λ n. output_text n (lines (Installed acked total ∷ map (table_line after) hosts))) net
-      ∙ ap (λ (k : ℕ). output_text (fabric_of w) (lines (Installed acked k ∷ map (table_line after) hosts))) all
-      ∙ ap (λ (hs : List ℕ). output_text (fabric_of w) (lines (Installed acked (length hs) ∷ map (table_line after) hs))) same;
+      ∙ ap (λ n. printed_of n (lines (Installed acked total ∷ map (table_line after) hosts))) net
+      ∙ ap (λ (k : ℕ). printed_of (fabric_of w) (lines (Installed acked k ∷ map (table_line after) hosts))) all
+      ∙ ap (λ (hs : List ℕ). printed_of (fabric_of w) (lines (Installed acked (length hs) ∷ map (table_line after) hs))) same;
 }
 
 -- the command was obeyed
-pub installed_so : (w v : WorldState) (made : Option LastMap) (found : Option LastRoutes) (tries : ℕ) (text : List ℕ) → IsInstallTold w found tries v text → IsObeyed (session_of w made found) (Install tries) (session_of v made found) text
-installed_so w v made found tries text told =
+pub installed_so : (w v : WorldState) (made : Option LastMap) (found : Option LastRoutes) (tries : ℕ) (p : PrintedState) → IsInstallTold w found tries v p → IsObeyed (session_of w made found) (Install tries) (session_of v made found) p
+installed_so w v made found tries p told =
     let done : Outcome = install (session_of w made found) tries found in
     record {
       output = done.output;

@@ -20,6 +20,7 @@ use Rattle.mapping_laws.specs.Laws.{CanMap}
 use Rattle.mapping_laws.proofs.Made.{made_map_is_map, made_map_is_right}
 use Rattle.map_text.specs.Printing.{AreOfFabric}
 use Rattle.map_making.specs.declared.making.MadeMap.{MadeMap}
+use Rattle.fab_report.specs.Printed.{PrintedState}
 use Rattle.fab_world.specs.Held.{IsMoment}
 use Rattle.route_making.specs.Listed.{map_hosts_below}
 use Rattle.world_commands.specs.Done.{session_of}
@@ -82,8 +83,8 @@ kept-routes w l found now kept are mapper hosts = record {
 }
 
 -- they are the last ones
-pub kept_last_routes : (w : WorldState) (l : LastMap) (found : Option LastRoutes) (text : List ℕ) → IsMoment w → IsKeptMap (fabric_of w) l.mapper l.made → AreRoutesTold w l found text → AreLastRoutes (fabric_of w) found
-kept_last_routes w l found text now kept told x e =
+pub kept_last_routes : (w : WorldState) (l : LastMap) (found : Option LastRoutes) (p : PrintedState) → IsMoment w → IsKeptMap (fabric_of w) l.mapper l.made → AreRoutesTold w l found p → AreLastRoutes (fabric_of w) found
+kept_last_routes w l found p now kept told x e =
     let one : record { mapper = l.mapper; hosts = hosts_by_address w l.made; routes = told.routes } ≡ x = some-same (sym told.last ∙ e) in
     subst (AreKeptRoutes (fabric_of w)) one (kept-routes w l (record { mapper = l.mapper; hosts = hosts_by_address w l.made; routes = told.routes }) now kept told.are refl refl)
   where

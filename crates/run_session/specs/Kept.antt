@@ -1,4 +1,5 @@
--- What a session keeps of maps and routes: a last map that says complete is one to compute routes of, and the last routes are those of such a map.
+-- What a session keeps of maps and routes: a last map that says complete is one to compute routes of, and the last
+-- routes are those of such a map.
 use Rattle.std.specs.Prelude.{◌≡◌, ℕ, ◌≤◌, length, Option, Some}
 use Rattle.net_defs.specs.Network.{Network}
 use Rattle.map_defs.specs.NetMap.{NetMap, IsMap, IsConnected, switches_of}
@@ -10,7 +11,8 @@ use Rattle.run_defs.specs.Session.{SessionState, LastMap, LastRoutes, complete_m
 use Rattle.map_text.specs.Printing.{AreOfFabric}
 use Rattle.route_making.specs.Listed.{map_hosts_below}
 
--- A map from a mapper that routes can be computed of: it is the mapper's part of the fabric, connected, and of no more switches than a fabric has.
+-- A map from a mapper that routes can be computed of: it is the mapper's part of the fabric, connected, and of no
+-- more switches than a fabric has.
 pub record IsKeptMap (n : Network) (mapper : ℕ) (m : NetMap) : Type 0 where
   pub rules : IsMap m
   pub right : IsMapOfPart n mapper m

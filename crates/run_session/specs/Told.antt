@@ -1,4 +1,4 @@
--- That a text tells of a map that was made, of routes that were computed, and of an installation.
+-- What is printed of a map that was made, of routes that were computed, and of an installation.
 use Rattle.std.specs.Prelude.{◌≡◌, ℕ, ◌-◌, List, ◌∷◌, map, length, Option, Some}
 use Rattle.net_defs.specs.declared.route.Route.{Route}
 use Rattle.journal_defs.specs.declared.entry.Entry.{Entry}
@@ -9,12 +9,12 @@ use Rattle.world_defs.specs.Install.{installed}
 use Rattle.run_defs.specs.declared.command.Command.{Command}
 use Rattle.run_defs.specs.declared.command.Command.TheVariants.{Map as MapCommand}
 use Rattle.run_defs.specs.declared.line.Line.TheVariants.{Map, Installed}
-use Rattle.run_defs.specs.LineText.{output_text}
 use Rattle.run_defs.specs.Mapped.{IsMapped}
 use Rattle.run_defs.specs.Output.{Piece, OneLine, lines}
 use Rattle.run_defs.specs.Run.{map_pieces, routes_lines, hosts_by_address}
 use Rattle.run_defs.specs.Outcome.{adoption_of, install, table_line}
 use Rattle.run_defs.specs.Session.{LastMap, LastRoutes}
+use Rattle.fab_report.specs.Printed.{PrintedState, printed_of}
 use Rattle.map_making.specs.declared.making.MadeMap.{MadeMap}
 use Rattle.world_commands.specs.Done.{session_of}
 use Rattle.run_session.specs.declared.mapping.MapOrder.{MapOrder}
@@ -35,19 +35,25 @@ abbrev pub map_lines : ℕ → MadeMap → ℕ → List Piece
 map_lines host m packets = OneLine (Map host m.words m.asks packets) ∷ map_pieces m.words m.map
 
 -- Routes were computed of a map and are told: they are the last ones, with the map's mapper and its hosts by address.
-pub record AreRoutesTold (w : WorldState) (l : LastMap) (found : Option LastRoutes) (text : List ℕ) : Type 0 where
+pub record AreRoutesTold (w : WorldState) (l : LastMap) (found : Option LastRoutes) (told : PrintedState) : Type 0 where
   pub routes : List Route
   pub are : AreRoutesOf l.made (order_of l.made) routes
   pub last : found ≡ Some (record { mapper = l.mapper; hosts = hosts_by_address w l.made; routes = routes })
-  pub printed : text ≡ output_text (fabric_of w) (lines (routes_lines l.made routes))
+  pub printed : told ≡ printed_of (fabric_of w) (lines (routes_lines l.made routes))
 
--- Adopted routes were installed over a world and are told: how many of their hosts have acknowledged all parts, of how many, and then each host's table.
-pub record AreInstalledTold (w : WorldState) (l : LastRoutes) (tries : ℕ) (after : WorldState) (text : List ℕ) : Type 0 where
+-- Adopted routes were installed over a world and are told: how many of their hosts have acknowledged all parts, of
+-- how many, and then each host's table.
+pub record AreInstalledTold (w : WorldState) (l : LastRoutes) (tries : ℕ) (after : WorldState)
+    (told : PrintedState) : Type 0 where
   pub acked : ℕ
   pub counted : installed (adoption_of l) l.hosts tries w ≡ (acked, after)
-  pub printed : text ≡ output_text (fabric_of w) (lines (Installed acked (length l.hosts) ∷ map (table_line after) l.hosts))
+  pub printed : told ≡ printed_of (fabric_of w)
+      (lines (Installed acked (length l.hosts) ∷ map (table_line after) l.hosts))
 
--- The last routes, where there are any, were installed over a world or that was refused, and it is told: whatever the last map, which stays as the routes do.
-pub record IsInstallTold (w : WorldState) (last : Option LastRoutes) (tries : ℕ) (after : WorldState) (text : List ℕ) : Type 0 where
-  pub printed : (made : Option LastMap) → text ≡ output_text (fabric_of w) (install (session_of w made last) tries last).output
+-- The last routes, where there are any, were installed over a world or that was refused, and it is told: whatever the
+-- last map, which stays as the routes do.
+pub record IsInstallTold (w : WorldState) (last : Option LastRoutes) (tries : ℕ) (after : WorldState)
+    (told : PrintedState) : Type 0 where
+  pub printed : (made : Option LastMap) → told ≡ printed_of (fabric_of w)
+      (install (session_of w made last) tries last).output
   pub left : (made : Option LastMap) → (install (session_of w made last) tries last).after ≡ session_of after made last

@@ -14,6 +14,7 @@ use crate::last::{LastFound, LastMade};
 use crate::mapping::{busy_text, map, map_ordered};
 use crate::routing::routes;
 use crate::settling::settle_text;
+use fab_report::Printed;
 use fab_world::World;
 use link_model::Links;
 use run_defs::Command;
@@ -22,7 +23,7 @@ use world_commands::{
     PortAt, SendRequest, close, finish, open, plan, poll, provide, send, step, tokens, walk,
 };
 
-/// Does a command over the parts of a session: the world then, and the text of what it printed, unless memory was wanting.
+/// Does a command over the parts of a session: the world then, and what it printed, unless memory was wanting.
 pub(crate) fn obey(
     alloc: Global,
     world: World,
@@ -30,12 +31,12 @@ pub(crate) fn obey(
     last_map: &mut Option<LastMade>,
     last_routes: &mut Option<LastFound>,
     c: &Command,
-) -> (World, Result<Vec<u8>, AllocError>)
+) -> (World, Result<Printed, AllocError>)
     requires command { IsCommandOf (fabric_of world) c.now }
     requires kept { IsKept (session_of world last_map.old last_routes.old) }
     requires links { links.old ≡ empty_links (fabric_of world) }
-    ensures obeyed { IfOk result.1 (λ text. IsObeyed (session_of world last_map.old last_routes.old) c.now
-        (session_of result.0 last_map.new last_routes.new) text.items) }
+    ensures obeyed { IfOk result.1 (λ p. IsObeyed (session_of world last_map.old last_routes.old) c.now
+        (session_of result.0 last_map.new last_routes.new) p) }
     ensures kept { IsKept (session_of result.0 last_map.new last_routes.new) }
     ensures links { links.new ≡ links.old }
     ensures fabric { fabric_of result.0 ≡ fabric_of world }
@@ -61,14 +62,14 @@ fn obey_here(
     last_map: &Option<LastMade>,
     last_routes: &mut Option<LastFound>,
     c: &Command,
-) -> Result<Vec<u8>, AllocError>
+) -> Result<Printed, AllocError>
     requires command { IsCommandOf (fabric_of w.old) c.now }
     requires busy { (host depth tries : ℕ) → c.now ≡ Map host depth tries → is_idle w.old.links ≡ false }
     requires map { IsLastMap (fabric_of w.old) last_map.now }
     requires routes { AreLastRoutes (fabric_of w.old) last_routes.old }
     requires links { links.old ≡ empty_links (fabric_of w.old) }
-    ensures obeyed { IfOk result (λ text. IsObeyed (session_of w.old last_map.now last_routes.old) c.now
-        (session_of w.new last_map.now last_routes.new) text.items) }
+    ensures obeyed { IfOk result (λ p. IsObeyed (session_of w.old last_map.now last_routes.old) c.now
+        (session_of w.new last_map.now last_routes.new) p) }
     ensures routes { AreLastRoutes (fabric_of w.old) last_routes.new }
     ensures links { links.new ≡ links.old }
     ensures fabric { fabric_of w.new ≡ fabric_of w.old }

@@ -1,15 +1,17 @@
-//! An installation of the last routes, and its text.
+//! An installation of the last routes, and what it prints.
 
-ghost use Rattle.std.specs.Prelude.{◌≡◌, ◌≤◌, ◌++◌, ◌∷◌, true, false, not, map, length, flat_map, Some, if◌then◌else◌, IfOk, OnOk, OnErr};
+ghost use Rattle.std.specs.Prelude.{◌≡◌, ◌≤◌, ◌++◌, ◌∷◌, [], true, false, not, map, length, flat_map, Some};
+ghost use Rattle.std.specs.Prelude.{if◌then◌else◌, IfOk, OnOk, OnErr};
 ghost use Rattle.std.specs.List.{AllByRecursion};
 ghost use Rattle.link_defs.specs.Links.{is_idle};
 ghost use Rattle.world_defs.specs.World.{fabric_of, host_count, adopted_by};
-ghost use Rattle.run_defs.specs.LineText.{line_text, output_text};
-ghost use Rattle.run_defs.specs.Output.{lines};
+ghost use Rattle.run_defs.specs.LineText.{line_text};
+ghost use Rattle.run_defs.specs.Output.{OneLine, lines};
 ghost use Rattle.run_defs.specs.Outcome.{adoption_of, table_line};
 ghost use Rattle.world_defs.specs.Table.{is_other};
 ghost use Rattle.run_defs.specs.Session.{LastRoutes};
 ghost use Rattle.run_defs.specs.declared.line.Line.TheVariants.{Installed as InstalledLine, InstallRefused};
+ghost use Rattle.fab_report.specs.Printed.{printed_of};
 ghost use Rattle.fab_world.specs.Events.{IsHostOf};
 ghost use Rattle.run_session.specs.Kept.{AreKeptRoutes};
 ghost use Rattle.run_session.specs.Told.{AreInstalledTold, IsInstallTold};
@@ -17,22 +19,23 @@ ghost use Rattle.run_session.specs.Told.{AreInstalledTold, IsInstallTold};
 use crate::copying::copied_routes;
 use crate::last::LastFound;
 use fab_drive::{Installed, install};
-use fab_report::print_line;
+use fab_report::{Printed, print_line};
 use fab_world::{AdoptRefusal, World};
 use run_defs::{InstallCause, Line};
 use std::alloc::{AllocError, Global};
 
-/// Installs the last routes, unless that is refused: no routes were computed, a channel holds a packet, or other routes are adopted.
+/// Installs the last routes, unless that is refused: no routes were computed, a channel holds a packet, or other
+/// routes are adopted.
 pub(crate) fn install_text(
     alloc: Global,
     w: &mut World,
     last: &Option<LastFound>,
     tries: u8,
-) -> Result<Vec<u8>, AllocError>
+) -> Result<Printed, AllocError>
     requires kept { (l : LastRoutes) → last.now ≡ Some l → AreKeptRoutes (fabric_of w.old) l }
     requires some { 1 ≤ tries }
     requires few { tries ≤ 8 }
-    ensures told { IfOk result (λ text. IsInstallTold w.old last.now tries w.new text.items) }
+    ensures told { IfOk result (λ p. IsInstallTold w.old last.now tries w.new p) }
     ensures fabric { fabric_of w.new ≡ fabric_of w.old }
 {
     match last {
@@ -48,11 +51,11 @@ fn install_last(
     w: &mut World,
     l: &LastFound,
     tries: u8,
-) -> Result<Vec<u8>, AllocError>
+) -> Result<Printed, AllocError>
     requires kept { AreKeptRoutes (fabric_of w.old) l.now }
     requires some { 1 ≤ tries }
     requires few { tries ≤ 8 }
-    ensures told { IfOk result (λ text. IsInstallTold w.old (Some l.now) tries w.new text.items) }
+    ensures told { IfOk result (λ p. IsInstallTold w.old (Some l.now) tries w.new p) }
     ensures fabric { fabric_of w.new ≡ fabric_of w.old }
 {
     if w.links_idle() {
@@ -68,12 +71,12 @@ fn install_idle(
     w: &mut World,
     l: &LastFound,
     tries: u8,
-) -> Result<Vec<u8>, AllocError>
+) -> Result<Printed, AllocError>
     requires idle { is_idle w.old.links ≡ true }
     requires kept { AreKeptRoutes (fabric_of w.old) l.now }
     requires some { 1 ≤ tries }
     requires few { tries ≤ 8 }
-    ensures told { IfOk result (λ text. IsInstallTold w.old (Some l.now) tries w.new text.items) }
+    ensures told { IfOk result (λ p. IsInstallTold w.old (Some l.now) tries w.new p) }
     ensures fabric { fabric_of w.new ≡ fabric_of w.old }
 {
     if adopt_last(alloc, w, l)? {
@@ -84,17 +87,18 @@ fn install_idle(
 }
 
 // The line of a refusal.
-fn refused_text(alloc: Global, w: &World, cause: InstallCause) -> Result<Vec<u8>, AllocError>
-    ensures { IfOk result (λ text. text.items ≡ line_text (fabric_of w.now) (InstallRefused cause)) }
+fn refused_text(alloc: Global, w: &World, cause: InstallCause) -> Result<Printed, AllocError>
+    ensures { IfOk result (λ p. p ≡ printed_of (fabric_of w.now) (OneLine (InstallRefused cause) ∷ [])) }
 {
-    print_line(alloc, &Line::InstallRefused(cause), w.fabric())
+    Printed::line(alloc, &Line::InstallRefused(cause), w.fabric())
 }
 
 // Adopts the last routes by their mapper: whether no others were adopted.
 fn adopt_last(alloc: Global, w: &mut World, l: &LastFound) -> Result<bool, AllocError>
     requires { AreKeptRoutes (fabric_of w.old) l.now }
     ensures other { IfOk result (λ adopted. is_other l.now.routes w.old.adopted ≡ not adopted) }
-    ensures after { IfOk result (λ adopted. w.new ≡ (if adopted then adopted_by w.old l.now.mapper l.now.routes else w.old)) }
+    ensures after { IfOk result (λ adopted. w.new
+        ≡ (if adopted then adopted_by w.old l.now.mapper l.now.routes else w.old)) }
     ensures err { OnErr result (w.new ≡ w.old) }
     ensures fabric { fabric_of w.new ≡ fabric_of w.old }
 {
@@ -113,13 +117,13 @@ fn install_adopted(
     w: &mut World,
     l: &LastFound,
     tries: u8,
-) -> Result<Vec<u8>, AllocError>
+) -> Result<Printed, AllocError>
     requires adopted { w.old.adopted ≡ Some (adoption_of l.now) }
     requires idle { is_idle w.old.links ≡ true }
     requires kept { AreKeptRoutes (fabric_of w.old) l.now }
     requires some { 1 ≤ tries }
     requires few { tries ≤ 8 }
-    ensures told { IfOk result (λ text. AreInstalledTold w.old l.now tries w.new text.items) }
+    ensures told { IfOk result (λ p. AreInstalledTold w.old l.now tries w.new p) }
     ensures fabric { fabric_of w.new ≡ fabric_of w.old }
 {
     w.moment();
@@ -133,17 +137,20 @@ fn installed_text(
     w: &World,
     hosts: &[u16],
     installed: Installed,
-) -> Result<Vec<u8>, AllocError>
+) -> Result<Printed, AllocError>
     requires hosts { AllByRecursion (IsHostOf w.now) hosts.now }
-    ensures { IfOk result (λ text. text.items ≡ output_text (fabric_of w.now) (lines (InstalledLine installed.acked installed.of ∷ map (table_line w.now) hosts.now))) }
+    ensures { IfOk result (λ p. p ≡ printed_of (fabric_of w.now)
+        (lines (InstalledLine installed.acked installed.of ∷ map (table_line w.now) hosts.now))) }
 {
     let line = Line::Installed {
         acked: installed.acked,
         of: installed.of,
     };
-    let mut text = print_line(alloc, &line, w.fabric())?;
-    append_tables(alloc, &mut text, w, hosts)?;
-    Ok(text)
+    let mut printed = Printed::line(alloc, &line, w.fabric())?;
+    let mut tables = Vec::new(alloc);
+    append_tables(alloc, &mut tables, w, hosts)?;
+    printed.follow(&tables)?;
+    Ok(printed)
 }
 
 // A line for each of these hosts: whether its table is active.
@@ -154,7 +161,8 @@ fn append_tables(
     hosts: &[u16],
 ) -> Result<(), AllocError>
     requires { AllByRecursion (IsHostOf w.now) hosts.now }
-    ensures { OnOk result (text.new.items ≡ text.old.items ++ flat_map (λ h. line_text (fabric_of w.now) (table_line w.now h)) hosts.now) }
+    ensures { OnOk result (text.new.items ≡ text.old.items
+        ++ flat_map (λ h. line_text (fabric_of w.now) (table_line w.now h)) hosts.now) }
 {
     for host in hosts {
         append_table(alloc, text, w, *host)?;
@@ -169,6 +177,6 @@ fn append_table(alloc: Global, text: &mut Vec<u8>, w: &World, host: u16) -> Resu
 {
     w.moment();
     let active = w.table(host).is_some();
-    let printed = print_line(alloc, &Line::Table { host, active }, w.fabric())?;
-    text.extend_from_slice(&printed)
+    let line = print_line(alloc, &Line::Table { host, active }, w.fabric())?;
+    text.extend_from_slice(&line)
 }

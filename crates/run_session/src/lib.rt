@@ -1,7 +1,8 @@
 //! A run's session: what is held from command to command, and what each command does.
 //!
-//! It reads no script and prints no report of its own: a command comes in, and the text of what it printed goes out. `specs/Run.antt` of
-//! `run_defs` says what each command does; `specs/Obeyed.antt` here that a text is that of what was done.
+//! It reads no script and prints no report of its own: a command comes in, and what it printed goes out.
+//! `specs/Run.antt` of `run_defs` says what each command does; `specs/Obeyed.antt` here that a text is that of what
+//! was done.
 //!
 //! ```text
 //!   Map, links busy        map a refused busy
@@ -14,8 +15,9 @@
 //!   all others             at most one event of the world --> its line (`world_commands`)
 //! ```
 //!
-//! A session's type keeps what the routes rest on (`specs/Kept.antt`): a last map that says complete is its mapper's part of the fabric.
-//! It keeps too that its own links are empty, of which contracts see nothing. It is taken apart once a command, and put together once.
+//! A session's type keeps what the routes rest on (`specs/Kept.antt`): a last map that says complete is its mapper's
+//! part of the fabric. It keeps too that its own links are empty, of which contracts see nothing. It is taken apart
+//! once a command, and put together once.
 //!
 //! | module | has |
 //! |---|---|
@@ -38,6 +40,7 @@ mod routing;
 mod session;
 mod settling;
 
+pub use fab_report::Printed;
 pub use fab_world::{Fabric, World};
 pub use run_defs::Command;
 pub use session::Session;

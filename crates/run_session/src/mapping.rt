@@ -1,14 +1,16 @@
-//! A map made over a world, and its text.
+//! A map made over a world, and what it prints.
 
-ghost use Rattle.std.specs.Prelude.{◌≡◌, ◌≤◌, ◌<◌, ◌^◌, ℕ, true, false, Option, Some, IfOk, IfSome, IfNone, OnOk, OnErr};
+ghost use Rattle.std.specs.Prelude.{◌≡◌, ◌≤◌, ◌<◌, ◌^◌, ◌∷◌, [], ℕ, true, false, Option, Some, IfOk, IfSome, IfNone};
+ghost use Rattle.std.specs.Prelude.{OnOk, OnErr};
 ghost use Rattle.link_defs.specs.Links.{is_idle};
 ghost use Rattle.world_defs.specs.World.{fabric_of};
 ghost use Rattle.map_text.specs.Printing.{AreOfFabric};
-ghost use Rattle.run_defs.specs.LineText.{line_text, output_text};
+ghost use Rattle.run_defs.specs.Output.{OneLine};
 ghost use Rattle.run_defs.specs.Session.{LastRoutes};
 ghost use Rattle.run_defs.specs.declared.command.Command.TheVariants.{Map};
 ghost use Rattle.run_defs.specs.declared.line.Line.TheVariants.{MapBusy};
 ghost use Rattle.run_defs.specs.declared.line.MapWords.TheVariants.{Complete};
+ghost use Rattle.fab_report.specs.Printed.{printed_of};
 ghost use Rattle.fab_report.specs.There.{IsHost};
 ghost use Rattle.fab_script.specs.Ranges.{IsCommandOf};
 ghost use Rattle.world_commands.specs.Done.{session_of};
@@ -18,7 +20,7 @@ ghost use Rattle.run_session.specs.Told.{IsMadeOver, map_lines, map_of};
 
 use crate::last::LastMade;
 use fab_drive::WorldProber;
-use fab_report::print_line;
+use fab_report::Printed;
 use fab_world::{Fabric, World};
 use map_making::{MadeMap, make_map};
 use map_text::print_map;
@@ -54,25 +56,27 @@ pub(crate) fn map_ordered(w: &World, c: &Command) -> Option<MapOrder>
 }
 
 /// The refusal of a map while a channel holds a packet.
-pub(crate) fn busy_text(alloc: Global, w: &World, host: u16) -> Result<Vec<u8>, AllocError>
+pub(crate) fn busy_text(alloc: Global, w: &World, host: u16) -> Result<Printed, AllocError>
     requires { IsHost (fabric_of w.now) host }
-    ensures { IfOk result (λ text. text.items ≡ line_text (fabric_of w.now) (MapBusy host)) }
+    ensures { IfOk result (λ p. p ≡ printed_of (fabric_of w.now) (OneLine (MapBusy host) ∷ [])) }
 {
-    print_line(alloc, &Line::MapBusy(host), w.fabric())
+    Printed::line(alloc, &Line::MapBusy(host), w.fabric())
 }
 
-/// Maps from a host of an idle world: the world then, and the text, unless memory was wanting. The map is the last one then.
+/// Maps from a host of an idle world: the world then, and the text, unless memory was wanting. The map is the last
+/// one then.
 pub(crate) fn map(
     alloc: Global,
     world: World,
     last_map: &mut Option<LastMade>,
     order: MapOrder,
-) -> (World, Result<Vec<u8>, AllocError>)
+) -> (World, Result<Printed, AllocError>)
     requires idle { is_idle world.links ≡ true }
     requires order { IsCommandOf (fabric_of world) (map_of order) }
     requires kept { IsLastMap (fabric_of world) last_map.old }
-    ensures obeyed { IfOk result.1 (λ text. (found : Option LastRoutes) → IsObeyed (session_of world last_map.old found) (map_of order)
-        (session_of result.0 last_map.new found) text.items) }
+    ensures obeyed { IfOk result.1 (λ p. (found : Option LastRoutes)
+        → IsObeyed (session_of world last_map.old found) (map_of order)
+        (session_of result.0 last_map.new found) p) }
     ensures kept { IsLastMap (fabric_of world) last_map.new }
     ensures fabric { fabric_of result.0 ≡ fabric_of world }
     ensures err { OnErr result.1 (last_map.new ≡ last_map.old) }
@@ -131,13 +135,14 @@ fn keep_map(
     host: u16,
     mapping: Mapping,
     last_map: &mut Option<LastMade>,
-) -> Result<Vec<u8>, AllocError>
+) -> Result<Printed, AllocError>
     requires there { IsHost f.now host }
     requires hosts { AreOfFabric f.now mapping.made.map }
     requires right { mapping.made.words ≡ Complete → IsKeptMap f.now host mapping.made.map }
     requires kept { IsLastMap f.now last_map.old }
-    ensures text { IfOk result (λ text. text.items ≡ output_text f.now (map_lines host mapping.made mapping.packets)) }
-    ensures last { OnOk result (last_map.new ≡ Some (record { mapper = host; words = mapping.made.words; made = mapping.made.map })) }
+    ensures text { IfOk result (λ p. p ≡ printed_of f.now (map_lines host mapping.made mapping.packets)) }
+    ensures last { OnOk result (last_map.new ≡ Some
+        (record { mapper = host; words = mapping.made.words; made = mapping.made.map })) }
     ensures kept { IsLastMap f.now last_map.new }
     ensures err { OnErr result (last_map.new ≡ last_map.old) }
 {
@@ -151,10 +156,11 @@ fn keep_map(
 }
 
 // The line of a map, and the lines of the map itself, unless the tree had too many nodes.
-fn mapping_text(alloc: Global, f: &Fabric, host: u16, m: &Mapping) -> Result<Vec<u8>, AllocError>
+#[tactic(auto, using(crate::proofs::Obeying::map_followed))]
+fn mapping_text(alloc: Global, f: &Fabric, host: u16, m: &Mapping) -> Result<Printed, AllocError>
     requires there { IsHost f.now host }
     requires hosts { AreOfFabric f.now m.now.made.map }
-    ensures { IfOk result (λ text. text.items ≡ output_text f.now (map_lines host m.now.made m.now.packets)) }
+    ensures { IfOk result (λ p. p ≡ printed_of f.now (map_lines host m.now.made m.now.packets)) }
 {
     let line = Line::Map {
         host,
@@ -162,13 +168,13 @@ fn mapping_text(alloc: Global, f: &Fabric, host: u16, m: &Mapping) -> Result<Vec
         asks: m.made.asks,
         packets: m.packets,
     };
-    let mut text = print_line(alloc, &line, f)?;
+    let mut printed = Printed::line(alloc, &line, f)?;
     match m.made.words {
-        MapWords::IncompleteNodes => Ok(text),
+        MapWords::IncompleteNodes => Ok(printed),
         MapWords::Complete | MapWords::Doubtful(_) | MapWords::IncompleteDepth => {
             let lines = print_map(alloc, &m.made.map, f)?;
-            text.extend_from_slice(&lines)?;
-            Ok(text)
+            printed.follow(&lines)?;
+            Ok(printed)
         }
     }
 }

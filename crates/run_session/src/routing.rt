@@ -9,7 +9,7 @@ ghost use Rattle.run_session.specs.Obeyed.{IsObeyed};
 ghost use Rattle.run_session.specs.Told.{AreRoutesTold};
 
 use crate::last::{LastFound, LastMade, complete};
-use fab_report::print_line;
+use fab_report::Printed;
 use fab_world::World;
 use route_making::{hosts_of_map, make_routes};
 use run_defs::Line;
@@ -22,17 +22,17 @@ pub(crate) fn routes(
     w: &World,
     last_map: &Option<LastMade>,
     last_routes: &mut Option<LastFound>,
-) -> Result<Vec<u8>, AllocError>
+) -> Result<Printed, AllocError>
     requires map { IsLastMap (fabric_of w.now) last_map.now }
     requires kept { AreLastRoutes (fabric_of w.now) last_routes.old }
-    ensures obeyed { IfOk result (λ text. IsObeyed (session_of w.now last_map.now last_routes.old) Routes
-        (session_of w.now last_map.now last_routes.new) text.items) }
+    ensures obeyed { IfOk result (λ p. IsObeyed (session_of w.now last_map.now last_routes.old) Routes
+        (session_of w.now last_map.now last_routes.new) p) }
     ensures kept { AreLastRoutes (fabric_of w.now) last_routes.new }
     ensures err { OnErr result (last_routes.new ≡ last_routes.old) }
 {
     match complete(last_map) {
         Some(last) => keep_routes(alloc, w, last, last_routes),
-        None => print_line(alloc, &Line::NoMap, w.fabric()),
+        None => Printed::line(alloc, &Line::NoMap, w.fabric()),
     }
 }
 
@@ -43,10 +43,10 @@ fn keep_routes(
     w: &World,
     last: &LastMade,
     last_routes: &mut Option<LastFound>,
-) -> Result<Vec<u8>, AllocError>
+) -> Result<Printed, AllocError>
     requires right { IsKeptMap (fabric_of w.now) last.now.mapper last.now.made }
     requires kept { AreLastRoutes (fabric_of w.now) last_routes.old }
-    ensures told { IfOk result (λ text. AreRoutesTold w.now last.now last_routes.new text.items) }
+    ensures told { IfOk result (λ p. AreRoutesTold w.now last.now last_routes.new p) }
     ensures kept { AreLastRoutes (fabric_of w.now) last_routes.new }
     ensures err { OnErr result (last_routes.new ≡ last_routes.old) }
 {
@@ -58,5 +58,5 @@ fn keep_routes(
         hosts,
         routes: made.set,
     });
-    Ok(made.text)
+    Ok(made.printed)
 }

@@ -5,10 +5,11 @@ ghost use Rattle.world_defs.specs.World.{fabric_of};
 ghost use Rattle.run_defs.specs.Session.{new_session};
 ghost use Rattle.fab_script.specs.Ranges.{IsCommandOf};
 ghost use Rattle.run_session.specs.Kept.{IsKept};
-ghost use Rattle.run_session.specs.Obeyed.{IsObeyed};
+ghost use Rattle.run_session.specs.Obeyed.{IsObeyed, IsObeyedIn};
 
 use crate::commands::obey;
 use crate::last::{LastFound, LastMade};
+use fab_report::Printed;
 use fab_world::{Fabric, World};
 use link_model::Links;
 use run_defs::Command;
@@ -17,8 +18,8 @@ use std::marker::Model;
 
 /// What a run holds from command to command: its world, the last map and the last routes.
 ///
-/// A walk's packet takes links of its own, which are empty between commands, so that it meets no other packet. It must be spent, by
-/// [`Session::end`].
+/// A walk's packet takes links of its own, which are empty between commands, so that it meets no other packet. It
+/// must be spent, by [`Session::end`].
 pub struct Session {
     world: World,
     links: Links,
@@ -37,7 +38,8 @@ impl Model for Session {
 
     ghost view = { λ s. record { world = s.world; last_map = s.last_map; last_routes = s.last_routes } };
 
-    ghost invariant = { λ s. IsKept (record { world = s.world; last_map = s.last_map; last_routes = s.last_routes }) × (s.links ≡ empty_links (fabric_of s.world)) };
+    ghost invariant = { λ s. IsKept (record { world = s.world; last_map = s.last_map; last_routes = s.last_routes })
+        × (s.links ≡ empty_links (fabric_of s.world)) };
 }
 
 impl Session {
@@ -56,15 +58,36 @@ impl Session {
         })
     }
 
-    /// Does a command over its fabric: the session then, and the text of what it printed. Where memory is wanting, the command was done in
-    /// part or not at all: the last map and the last routes stay, and the session may only be ended.
+    /// Does a command over its fabric: the session then, and the text of what it printed. Where memory is wanting,
+    /// the command was done in part or not at all: the last map and the last routes stay, and the session may only be
+    /// ended.
     pub fn exec(
         self,
         alloc: Global,
         c: &Command,
     ) -> Result<(Session, Vec<u8>), (Session, AllocError)>
         requires command { IsCommandOf (fabric_of self.world) c.now }
-        ensures ok { IfOk result (λ r. IsObeyed self c.now r.0 r.1.items) }
+        ensures ok { IfOk result (λ r. IsObeyedIn self c.now r.0 r.1.items) }
+        ensures fabric { IfOk result (λ r. fabric_of r.0.world ≡ fabric_of self.world) }
+        ensures err { IfErr result (λ r. fabric_of r.0.world ≡ fabric_of self.world) }
+        ensures kept_map { IfErr result (λ r. r.0.last_map ≡ self.last_map) }
+        ensures kept_routes { IfErr result (λ r. r.0.last_routes ≡ self.last_routes) }
+    {
+        match self.perform(alloc, c) {
+            Ok((session, printed)) => Ok((session, printed.into_text())),
+            Err(wanting) => Err(wanting),
+        }
+    }
+
+    /// Does a command as [`Session::exec`] does: the session then, and what it printed, with what a summary tells of
+    /// it.
+    pub fn perform(
+        self,
+        alloc: Global,
+        c: &Command,
+    ) -> Result<(Session, Printed), (Session, AllocError)>
+        requires command { IsCommandOf (fabric_of self.world) c.now }
+        ensures ok { IfOk result (λ r. IsObeyed self c.now r.0 r.1) }
         ensures fabric { IfOk result (λ r. fabric_of r.0.world ≡ fabric_of self.world) }
         ensures err { IfErr result (λ r. fabric_of r.0.world ≡ fabric_of self.world) }
         ensures kept_map { IfErr result (λ r. r.0.last_map ≡ self.last_map) }
@@ -76,15 +99,15 @@ impl Session {
             mut last_map,
             mut last_routes,
         } = self;
-        let (world, text) = obey(alloc, world, &mut links, &mut last_map, &mut last_routes, c);
+        let (world, printed) = obey(alloc, world, &mut links, &mut last_map, &mut last_routes, c);
         let session = Session {
             world,
             links,
             last_map,
             last_routes,
         };
-        match text {
-            Ok(text) => Ok((session, text)),
+        match printed {
+            Ok(printed) => Ok((session, printed)),
             Err(wanting) => Err((session, wanting)),
         }
     }
@@ -96,7 +119,8 @@ impl Session {
         &self.world
     }
 
-    /// What it keeps: a last map that says complete is one to compute routes of, and the last routes are those of such a map.
+    /// What it keeps: a last map that says complete is one to compute routes of, and the last routes are those of
+    /// such a map.
     pub fn kept(&self)
         ensures { IsKept self.now }
     {

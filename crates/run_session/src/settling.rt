@@ -6,15 +6,16 @@ ghost use Rattle.run_defs.specs.declared.command.Command.TheVariants.{Settle};
 ghost use Rattle.world_commands.specs.Done.{IsDone};
 
 use fab_drive::settle;
-use fab_report::print_line;
+use fab_report::Printed;
 use fab_world::World;
 use run_defs::Line;
 use std::alloc::{AllocError, Global};
 
-/// Settles a world: its text is the line of what that came to. Where memory is wanting, the settle was made in part, or isn't told.
+/// Settles a world: its text is the line of what that came to. Where memory is wanting, the settle was made in part,
+/// or isn't told.
 #[tactic(auto, using(crate::proofs::Obeying::settled_so))]
-pub(crate) fn settle_text(alloc: Global, w: &mut World) -> Result<Vec<u8>, AllocError>
-    ensures done { IfOk result (λ text. IsDone Settle w.old w.new text.items) }
+pub(crate) fn settle_text(alloc: Global, w: &mut World) -> Result<Printed, AllocError>
+    ensures done { IfOk result (λ p. IsDone Settle w.old w.new p) }
     ensures fabric { fabric_of w.new ≡ fabric_of w.old }
 {
     let settled = settle(alloc, w)?;
@@ -23,5 +24,5 @@ pub(crate) fn settle_text(alloc: Global, w: &mut World) -> Result<Vec<u8>, Alloc
         resets: settled.resets,
         unacked: settled.unacked,
     };
-    print_line(alloc, &line, w.fabric())
+    Printed::line(alloc, &line, w.fabric())
 }

@@ -22,10 +22,10 @@ use Rattle.world_defs.specs.Node.{NodeState, peer_at, with_peer}
 use Rattle.world_defs.specs.Hearing.{is_host, heard_if, is_part_for, part_heard, hear_mapping, hear_mapping_body, message_of, frame_heard, frame_took, ack_heard, hear_gm, hear_gm_body, hear_body, hear_decoded, hear}
 use Rattle.world_defs.specs.World.{WorldState, host_count, node_at}
 use Rattle.act_defs.specs.Acts.{Act, acted}
-use Rattle.act_defs.proofs.Views.{HostChange}
-use Rattle.act_defs.proofs.Calls.{call_view}
+use Rattle.world_defs.proofs.Views.{HostChange}
+use Rattle.world_defs.proofs.Calls.{call_view}
 use Rattle.act_defs.proofs.Hosts.{NodeChange, nodes_view, each_node}
-use Rattle.act_defs.proofs.Tables.{call-table, sent-table, part_heard-table, all_finished-table, delivered_after-table}
+use Rattle.world_defs.proofs.Tables.{call-table, sent-table, part_heard-table, all_finished-table, delivered_after-table}
 
 -- a host's table is still active, if it was
 abbrev pub Stays : NodeState → NodeState → Type 0

@@ -12,7 +12,7 @@ use Rattle.settle_laws.proofs.Calm.{NodeCalm, node-quiet, node-both, hear-calm, 
 use Rattle.world_defs.specs.Client.{Called}
 use Rattle.world_defs.specs.Step.{step}
 use Rattle.act_defs.specs.Acts.{Happens}
-use Rattle.act_defs.proofs.Views.{HostChange, CallChange, view}
+use Rattle.world_defs.proofs.Views.{HostChange, CallChange, view}
 use Rattle.act_defs.proofs.Hosts.{NodeChange, change-nodes, each_node}
 
 -- each host is calm

@@ -28,7 +28,7 @@ use Rattle.settle_laws.proofs.Views.{InjectOf, unstruck-links}
 use Rattle.settle_laws.proofs.Leading.{LeadsTo, place-leads}
 use Rattle.settle_laws.proofs.Ways.{OnWay, keep-there, new-there, still-way}
 use Rattle.settle_laws.proofs.Staged.{IsOwed, IsDueTo, IsToPeer, to_send-peer, IsBare}
-use Rattle.act_defs.proofs.Strikes.{injection-nodes}
+use Rattle.world_defs.proofs.Strikes.{injection-nodes}
 use Rattle.settle_laws.proofs.Routes.{route-leads}
 use Rattle.settle_laws.proofs.Frames.{head_for, frame-there}
 use Rattle.settle_laws.proofs.Still.{Still}

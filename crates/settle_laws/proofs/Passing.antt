@@ -20,7 +20,7 @@ use Rattle.act_defs.specs.Acts.{IsReached}
 use Rattle.settle_laws.proofs.Views.{advance-is, InjectOf, inject-is}
 use Rattle.settle_laws.proofs.Ways.{OnWay}
 use Rattle.settle_laws.proofs.Staged.{IsBare, given_up-bare, given_up-links, sending-bare}
-use Rattle.act_defs.proofs.Strikes.{injection-nodes}
+use Rattle.world_defs.proofs.Strikes.{injection-nodes}
 use Rattle.settle_laws.proofs.CalmWorlds.{WorldCalm, IsCalm, event-calm, along-calm, replay_each-calm}
 use Rattle.settle_laws.proofs.Plain.{IsPlain, idle-empty, idle-plain, inject-plain}
 use Rattle.settle_laws.proofs.Still.{Still, calm-still}

@@ -20,7 +20,7 @@ use Rattle.table_laws.specs.Set.{IsActive}
 use Rattle.table_laws.proofs.Sets.{RouteFits, routes-fit, entries-all}
 use Rattle.table_laws.proofs.Dependencies.{tables-of_set, adopted-adoptable}
 use Rattle.settle_laws.proofs.ActiveTables.{acted-stay}
-use Rattle.act_defs.proofs.Kept.{step-adopted}
+use Rattle.world_defs.proofs.Kept.{step-adopted}
 
 -- once a set is adopted, it stays
 acted-routes : (w : WorldState) (a : Act) (x : Adoption) → MayAct w a → w.adopted ≡ Some x → adopted_routes (acted w a) ≡ x.routes

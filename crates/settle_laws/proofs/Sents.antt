@@ -1,5 +1,5 @@
 -- After every list of acts: messages were sent from ports to hosts with a route, those that were got name a port and a priority, and provided tokens have priorities.
-use Rattle.std.proofs.Common.{◌≡◌, ◌<◌, ℕ, zero, suc, Bool, true, false, List, [], ◌∷◌, ◌++◌, length, nat_lt, Some, None, is_some, refl, sym, ap, ◌∙◌, subst, arith}
+use Rattle.std.proofs.Common.{◌≡◌, ◌<◌, ℕ, Bool, true, false, List, [], ◌∷◌, length, nat_lt, Some, None, is_some, refl, sym, ap, ◌∙◌, subst, arith}
 use Rattle.std.specs.Prelude.{slice_get}
 use Rattle.std.specs.List.{AllByRecursion}
 use Rattle.std.proofs.lemmas.Bool.Decides.{nat_tests}
@@ -13,12 +13,13 @@ use Rattle.world_defs.specs.Node.{NodeState, peer_at, port_at, new_node, port_co
 use Rattle.world_defs.specs.World.{WorldState, host_count, node_at, new_world}
 use Rattle.world_defs.specs.Traffic.{sent_between, got_between}
 use Rattle.world_laws.specs.Shape.{IsWorld}
-use Rattle.act_defs.specs.Acts.{Act, acted, acted_all, MayAct, MayActAll, IsReached}
+use Rattle.act_defs.specs.Acts.{Act, acted, MayAct, IsReached}
+use Rattle.order_laws.proofs.Frames.{get-front}
 use Rattle.window_laws.proofs.Hosts.{Rules, acted-goes}
 use Rattle.window_laws.proofs.Windows.{numbers_of, reached-windowed}
 use Rattle.window_laws.proofs.Taken.{reached-world}
-use Rattle.act_defs.proofs.Lists.{each-replicate}
-use Rattle.act_defs.proofs.Reaching.{reached-next}
+use Rattle.world_defs.proofs.Lists.{each-replicate}
+use Rattle.act_defs.proofs.Reaching.{reached-next, reached-has}
 use Rattle.settle_laws.proofs.Says.{IsFor, PortFits, SentSo, NodeSays, says-quiet, hear-says, sent-says, expired-says, call-says}
 use Rattle.settle_laws.proofs.Routes.{route-stays}
 
@@ -36,11 +37,6 @@ pub acted-says : (n : Network) (w : WorldState) (a : Act) → IsReached n w → 
 acted-says n w a is h = (acted-goes w (numbers_of w) (λ h. NodeSays) (says-rules w) a (reached-windowed n w is).links).nodes h
 
 -- messages that were sent stay at their places
-pub get-front : {A : Type 0} (xs ys : List A) (i : ℕ) (x : A) → slice_get xs i ≡ Some x → slice_get (xs ++ ys) i ≡ Some x
-get-front [] ys i x e = cc
-get-front (z ∷ xs) ys zero x e = e
-get-front (z ∷ xs) ys (suc i) x e = get-front xs ys i x e
-
 pub sent-place : (n : NodeState) (peer k : ℕ) (old new : List Message) (m : Message) → SentSo n peer old new → slice_get old k ≡ Some m → slice_get new k ≡ Some m
 sent-place n peer k old new m (SentSo.same e) there = ap (λ l. slice_get l k) e ∙ there
 sent-place n peer k old new m (SentSo.more x e low route) there = ap (λ l. slice_get l k) e ∙ get-front old (x ∷ []) k m there
@@ -82,12 +78,6 @@ module _ (n : Network) (w : WorldState) (a : Act) (is : IsReached n w) (may : Ma
     ports = λ h port. (acted-says n w a is h).ports port (said.ports h port);
   }
 
-acts-said : (n : Network) (w : WorldState) (acts : List Act) → MayActAll w acts → IsReached n w → IsSaid w → IsSaid (acted_all w acts)
-acts-said n w [] may is said = said
-acts-said n w (a ∷ acts) may is said =
-    let now : IsReached n (acted w a) = reached-next n w a is may.0 in
-    acts-said n (acted w a) acts may.1 now (acted-said n w a is may.0 now said)
-
 -- the new world
 -- a host before anything happened
 record IsNew (x : NodeState) : Type 0 where
@@ -112,6 +102,4 @@ new-said n = record {
 }
 
 pub reached-said : (n : Network) (w : WorldState) → IsReached n w → IsSaid w
-reached-said n w is =
-    let start : IsReached n (new_world n) = record { fabric = is.fabric; acts = []; may = tt; leads = refl } in
-    subst IsSaid (sym is.leads) (acts-said n (new_world n) is.acts is.may start (new-said n))
+reached-said n w is = reached-has IsSaid n (new-said n) (λ w a r may. acted-said n w a r may (reached-next n w a r may)) w is

@@ -30,7 +30,7 @@ use Rattle.act_defs.specs.Acts.{IsReached}
 use Rattle.order_laws.proofs.Worlds.{reached-ordered}
 use Rattle.window_laws.proofs.Windows.{reached-windowed}
 use Rattle.settle_laws.specs.Settles.{SentHasRoute, SettleEndsSettled}
-use Rattle.act_defs.proofs.Kept.{step-adopted}
+use Rattle.world_defs.proofs.Kept.{step-adopted}
 use Rattle.settle_laws.proofs.Routes.{table-route, has-active, route-leads, route-in, in-route}
 use Rattle.settle_laws.proofs.Still.{Still}
 use Rattle.settle_laws.proofs.Facts.{Facts, IsReadable, at-place, place-below, peer-low}

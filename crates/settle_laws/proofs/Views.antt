@@ -13,8 +13,8 @@ use Rattle.world_defs.specs.Hearing.{hear}
 use Rattle.world_defs.specs.World.{WorldState, fabric_of, host_count, node_at}
 use Rattle.link_defs.specs.Advance.{course}
 use Rattle.world_defs.specs.Step.{planned_strikes, sent_out, step}
-use Rattle.act_defs.proofs.Views.{LinksChange, Change, view}
-use Rattle.act_defs.proofs.Strikes.{Strike, strike_view}
+use Rattle.world_defs.proofs.Views.{LinksChange, Change, view}
+use Rattle.world_defs.proofs.Strikes.{Strike, strike_view}
 
 -- a packet that goes on without its front
 abbrev pub stripped_of : Held → Held
@@ -29,7 +29,7 @@ pub data AdvanceOf (w : WorldState) (c : ℕ) (v : WorldState) : Type 0 where
 
 advance-of : {w : WorldState} {c : ℕ} {r : Effect × WorldState} → Change w (Advance c) r → AdvanceOf w c r.1
 advance-of Change.idle = AdvanceOf.stays refl
-advance-of (Change.blocked next) = AdvanceOf.stays refl
+advance-of (Change.blocked packet next d e) = AdvanceOf.stays refl
 advance-of (Change.links (LinksChange.moves packet next e g free d)) = AdvanceOf.enters packet next e g free d refl
 advance-of (Change.drops packet why e g d) = AdvanceOf.drops packet why e g d refl
 advance-of (Change.arrives packet h e g d k) = AdvanceOf.hears packet h e g d refl

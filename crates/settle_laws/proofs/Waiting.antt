@@ -22,7 +22,8 @@ use Rattle.order_laws.proofs.Worlds.{got-front, got-count}
 use Rattle.window_laws.proofs.Taken.{whole-below}
 use Rattle.settle_laws.proofs.Frames.{head_for, frame-there}
 use Rattle.settle_laws.proofs.Says.{IsFor, PortFits}
-use Rattle.settle_laws.proofs.Sents.{reached-said, get-front}
+use Rattle.order_laws.proofs.Frames.{get-front}
+use Rattle.settle_laws.proofs.Sents.{reached-said}
 use Rattle.settle_laws.proofs.Still.{Still}
 use Rattle.settle_laws.proofs.Facts.{Facts, at-place, place-below, short-of, peer-low, host-low, world-of}
 

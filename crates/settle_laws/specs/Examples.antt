@@ -11,10 +11,12 @@ use Rattle.act_defs.specs.Acts.{Act, Happens, Adopts, acted_all}
 use Rattle.order_laws.specs.Examples.{ten}
 use Rattle.settle_laws.specs.Premises.{CanSettle}
 
--- both hosts have their routes, and their ports are open; a buffer is provided, the message is sent, and its frame is lost
+-- both hosts have their routes, and their ports are open; a buffer is provided, the message is sent, and its frame is
+-- lost
 abbrev pub lost_acts : List Act
 lost_acts =
-    Adopts 0 setup_routes ∷ Adopts 1 setup_routes ∷ Happens (Begin 0 0 1 0) ∷ Happens (Begin 1 1 0 1) ∷ Happens (Provide 1 1 4 0)
+    Adopts 0 setup_routes ∷ Adopts 1 setup_routes ∷ Happens (Begin 0 0 1 0) ∷ Happens (Begin 1 1 0 1)
+    ∷ Happens (Provide 1 1 4 0)
     ∷ Happens (Send 0 0 1 1 0 1 10) ∷ Happens (Inject 0) ∷ Happens (Lose 0) ∷ []
 
 -- the world after them
@@ -28,12 +30,14 @@ LostWorldCanSettle = CanSettle lost_world
 -- one fragment isn't acknowledged before the settle, and none behind it: the message came
 abbrev pub LostFrameIsSentAgain : Type 0
 LostFrameIsSentAgain =
-    (unacknowledged_in lost_world ≡ 1) × (unacknowledged_in (settle lost_world).world ≡ 0) × (got_between (settle lost_world).world 0 1 ≡ ten ∷ [])
+    (unacknowledged_in lost_world ≡ 1) × (unacknowledged_in (settle lost_world).world ≡ 0)
+    × (got_between (settle lost_world).world 0 1 ≡ ten ∷ [])
 
 -- no buffer is provided
 abbrev pub bare_acts : List Act
 bare_acts =
-    Adopts 0 setup_routes ∷ Adopts 1 setup_routes ∷ Happens (Begin 0 0 1 0) ∷ Happens (Begin 1 1 0 1) ∷ Happens (Send 0 0 1 1 0 1 10) ∷ []
+    Adopts 0 setup_routes ∷ Adopts 1 setup_routes ∷ Happens (Begin 0 0 1 0) ∷ Happens (Begin 1 1 0 1)
+    ∷ Happens (Send 0 0 1 1 0 1 10) ∷ []
 
 -- the world after them
 abbrev pub bare_world : WorldState

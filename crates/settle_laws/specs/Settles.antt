@@ -13,8 +13,10 @@ use Rattle.settle_laws.specs.Premises.{CanSettle}
 -- a host that has accepted a message for another has a route there in its active table
 abbrev pub SentHasRoute : Type 0
 SentHasRoute =
-    (n : Network) (w : WorldState) → IsReached n w → (a b : ℕ) → 0 < length (sent_between w a b) → IsSome (table_route (node_at w a).table b)
+    (n : Network) (w : WorldState) → IsReached n w → (a b : ℕ) → 0 < length (sent_between w a b)
+    → IsSome (table_route (node_at w a).table b)
 
 -- a settle ends in a settled world, where the count of injections hasn't reached its last value then
 abbrev pub SettleEndsSettled : Type 0
-SettleEndsSettled = (w : WorldState) (r : Rounds) → CanSettle w → Settles w r → r.world.injected < last_count → IsSettled r.world
+SettleEndsSettled = (w : WorldState) (r : Rounds) → CanSettle w → Settles w r → r.world.injected < last_count
+    → IsSettled r.world

@@ -1,7 +1,8 @@
-//! What a settle ends with: a settled world, in which whatever isn't acknowledged waits for a token, or for its receiver's table.
+//! What a settle ends with: a settled world, in which whatever isn't acknowledged waits for a token, or for its
+//! receiver's table.
 //!
-//! It says nothing of how long a settle takes, apart from the rounds that `world_laws` bounds, and nothing of a settle in which the count of
-//! injections reaches its last value. Read `specs/Settles.antt` first.
+//! It says nothing of how long a settle takes, apart from the rounds that `world_laws` bounds, and nothing of a
+//! settle in which the count of injections reaches its last value. Read `specs/Settles.antt` first.
 //!
 //! | file of `specs/` | says |
 //! |---|---|
@@ -19,8 +20,9 @@
 //!                                           +--> next to take, and no token fits: it waits
 //! ```
 //!
-//! In a round in which no planned fault strikes each step that stands there comes in one of its passes, and the passes end only where no host
-//! has anything to send. So where no base rose in the round, what isn't acknowledged waits.
+//! In a round in which no planned fault strikes each step that stands there comes in one of its passes, and the
+//! passes end only where no host has anything to send. So where no base rose in the round, what isn't acknowledged
+//! waits.
 #![tactic(auto)]
 
 mod settled;

@@ -1,6 +1,7 @@
 //! Two settles, worked out: `specs/Examples.antt` has the statements.
 
-ghost use Rattle.settle_laws.specs.Examples.{LostWorldCanSettle, LostFrameIsSentAgain, BareWorldCanSettle, MessageWaitsForToken};
+ghost use Rattle.settle_laws.specs.Examples.{LostWorldCanSettle, LostFrameIsSentAgain, BareWorldCanSettle};
+ghost use Rattle.settle_laws.specs.Examples.{MessageWaitsForToken};
 
 /// A settle sends a lost frame again, and gets its message across.
 pub fn one_lost_frame()

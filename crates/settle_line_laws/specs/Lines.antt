@@ -16,15 +16,18 @@ use Rattle.run_laws.specs.Acts.{IsActOf}
 use Rattle.lawful_laws.specs.Moments.{settle_clears}
 use Rattle.settle_laws.specs.Premises.{CanSettle}
 
--- behind every run a settle can be made over the run's fabric: acts that may happen lead there, and each route of the adopted set has one back
+-- behind every run a settle can be made over the run's fabric: acts that may happen lead there, and each route of the
+-- adopted set has one back
 abbrev pub RunCanSettle : Type 0
 RunCanSettle =
-    (n : Network) (commands : List Command) (out : List Piece) (s : SessionState) → IsFabric n → AllByRecursion (IsActOf n) commands
+    (n : Network) (commands : List Command) (out : List Piece) (s : SessionState) → IsFabric n
+    → AllByRecursion (IsActOf n) commands
     → IsRun n commands out s → (fabric_of s.world ≡ n) × CanSettle s.world
 
--- What the line `settle rounds R resets N unacked U` says: there were R rounds, at least one and at most one more than the unacknowledged fragments
--- and planned faults before; N is 0 unless the traffic wasn't lawful when some clear of the settle began; U fragments aren't acknowledged behind it;
--- where injections are left then, the world is settled; and where U is 0, each host got all that was sent to it.
+-- What the line `settle rounds R resets N unacked U` says: there were R rounds, at least one and at most one more
+-- than the unacknowledged fragments and planned faults before; N is 0 unless the traffic wasn't lawful when some
+-- clear of the settle began; U fragments aren't acknowledged behind it; where injections are left then, the world is
+-- settled; and where U is 0, each host got all that was sent to it.
 pub record IsSettledLine (s next : SessionState) (rounds resets unacked : ℕ) : Type 0 where
   pub after : next.world ≡ (settle s.world).world
   pub at_least : 1 ≤ rounds
@@ -37,5 +40,7 @@ pub record IsSettledLine (s next : SessionState) (rounds resets unacked : ℕ) :
 -- every such line behind a run says so
 abbrev pub SettledLineIsTrue : Type 0
 SettledLineIsTrue =
-    (n : Network) (commands : List Command) (out rest : List Piece) (s next : SessionState) (rounds resets unacked : ℕ) → IsFabric n → AllByRecursion (IsActOf n) commands
-    → IsRun n commands out s → Does s Settle (OneLine (SettleLine rounds resets unacked) ∷ rest) next → IsSettledLine s next rounds resets unacked
+    (n : Network) (commands : List Command) (out rest : List Piece) (s next : SessionState)
+    (rounds resets unacked : ℕ) → IsFabric n → AllByRecursion (IsActOf n) commands
+    → IsRun n commands out s → Does s Settle (OneLine (SettleLine rounds resets unacked) ∷ rest) next
+    → IsSettledLine s next rounds resets unacked

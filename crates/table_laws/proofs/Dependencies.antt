@@ -11,20 +11,21 @@ use Rattle.mapping_defs.specs.Mapping.{RouteEntry}
 use Rattle.net_defs.specs.Dependencies.{IsNext, IsBefore, HasNoCycle}
 use Rattle.net_defs.proofs.Cycles.{no_cycle-rising}
 use Rattle.world_defs.specs.Table.{Adoption, ActiveTable, entries_from}
-use Rattle.world_defs.specs.World.{WorldState, fabric_of, new_world, node_at, addresses}
+use Rattle.world_defs.specs.World.{WorldState, fabric_of, node_at, addresses}
 use Rattle.world_defs.specs.Sound.{entries_in, channels_from, channels_from_all, installed_channels}
 use Rattle.net_defs.specs.RouteSet.{channels_of_all}
 use Rattle.table_laws.specs.Set.{IsActive, IsActiveOfSet}
 use Rattle.act_defs.specs.Acts.{IsReached}
 use Rattle.table_laws.specs.Acts.{TablesAreOfSet, ActiveIsOfSet, AdoptedIsAdoptable, PartsAreOfSet, InstalledHasNoCycle}
+use Rattle.act_defs.proofs.Reaching.{reached-has}
 use Rattle.table_laws.proofs.Medium.{honest-read}
 use Rattle.table_laws.proofs.Sets.{entries-all}
 use Rattle.table_laws.specs.Bodies.{IsBody}
 use Rattle.table_laws.specs.Packets.{IsHonest}
-use Rattle.table_laws.proofs.Steps.{IsOfSet, IsAdopted, acted_all-of, new-of}
+use Rattle.table_laws.proofs.Steps.{IsOfSet, IsAdopted, acted-of, new-of}
 
 pub reached-of : (n : Network) (w : WorldState) → IsReached n w → IsOfSet n w
-reached-of n w r = subst (IsOfSet n) (sym r.leads) (acted_all-of n (new_world n) r.acts r.fabric r.may (new-of n))
+reached-of n w is = reached-has (IsOfSet n) n (new-of n) (λ w a r may. acted-of n w a r.fabric may) w is
 
 pub tables-of_set : TablesAreOfSet
 tables-of_set n w r h = ((reached-of n w r).hosts h).table

@@ -27,7 +27,7 @@ use Rattle.world_defs.specs.Peer.{PeerState, Ticket, peer_expired, tickets_finis
 use Rattle.world_defs.specs.Node.{NodeState, Staged, StagedReply, StagedAck, StagedProbe, StagedPart, Outgoing, Probe, TablePart, Reply, PartAnswer, FrameAnswer, Fragment, peer_at, with_peer, port_at, with_port, way_back, outgoing_staged, owed_to, due_to, due_frame, either, first_some, peers_of, to_send, packet_for, after_sending, given_up, node_expired}
 use Rattle.world_defs.specs.Hearing.{is_host, heard_if, is_part_for, part_heard, hear_mapping, hear_mapping_body, delivered_after, frame_took, all_finished, hear_gm, hear_gm_body, hear_body, hear_decoded, hear}
 use Rattle.world_defs.specs.Client.{ClientState, Called}
-use Rattle.act_defs.proofs.Calls.{Call}
+use Rattle.world_defs.proofs.Calls.{Call}
 use Rattle.table_laws.specs.Set.{IsPart, IsTable, IsFitPart}
 use Rattle.table_laws.specs.Packets.{Built}
 use Rattle.table_laws.specs.Bodies.{IsBody, IsStaged, IsHostOf}

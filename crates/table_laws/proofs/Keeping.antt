@@ -17,9 +17,9 @@ use Rattle.world_defs.specs.Node.{Outgoing, to_send, packet_for, after_sending}
 use Rattle.world_defs.specs.World.{WorldState, fabric_of, last_count, node_at}
 use Rattle.world_defs.specs.Step.{planned_strikes, sent_out}
 use Rattle.act_defs.specs.Acts.{Act, Happens, Plans, Adopts, acted, IsByteAct}
-use Rattle.act_defs.proofs.Views.{LinksChange, Change, view}
-use Rattle.act_defs.proofs.Strikes.{fault_step, Strike, strike_view, injection-nodes}
-use Rattle.act_defs.proofs.Kept.{planned_one}
+use Rattle.world_defs.proofs.Views.{LinksChange, Change, view}
+use Rattle.world_defs.proofs.Strikes.{fault_step, Strike, strike_view, injection-nodes}
+use Rattle.world_defs.proofs.Kept.{planned_one}
 use Rattle.table_laws.specs.Packets.{Built, IsHonest, IsGoodStep}
 use Rattle.table_laws.proofs.Medium.{Holds, Carries, stepped-holds, honest-read}
 
@@ -30,6 +30,13 @@ holds-read G s c held is e k body d = honest-read G held k body (subst (λ o. If
 -- a packet as it was built
 pub new-honest : (G : Kind → List ℕ → Type 0) (wire : List ℕ) → Built G wire → IsHonest G (record { wire = wire; marked = false })
 new-honest G wire b = record { mark = ap difference b.written ∙ packet_of-difference b.route b.kind b.payload; built = λ e. b }
+
+-- what holds of what is read may be less
+pub honest-more : (G H : Kind → List ℕ → Type 0) (held : Held) → ((k : Kind) (body : List ℕ) → G k body → H k body) → IsHonest G held → IsHonest H held
+honest-more G H held more is = record {
+  mark = is.mark;
+  built = λ m. let b = is.built m in record { route = b.route; kind = b.kind; payload = b.payload; written = b.written; good = more b.kind b.payload b.good };
+}
 
 -- the steps of the links
 links-good : (F : ℕ → Held → Type 0) {w : WorldState} {e : Event} {x : Effect} {s : Step} → LinksChange w e x s → IsByteEvent e → IsGoodStep F s
@@ -74,7 +81,7 @@ module _ (F : ℕ → Held → Type 0) (w : WorldState) (carries : Carries (fabr
 
   change-holds : {e : Event} {r : Effect × WorldState} → Change w e r → IsByteEvent e → HoldsOfNew F w r.1 → Holds F r.1.links
   change-holds Change.idle low new = links
-  change-holds (Change.blocked next) low new = links
+  change-holds (Change.blocked packet next d e) low new = links
   change-holds (Change.links {s = s} k) low new = stepped-holds F w.links s carries (links-good F k low) links
   change-holds (Change.drops {c = c} packet why d e f) low new = stepped-holds F w.links (AdvanceLinks c) carries tt links
   change-holds (Change.arrives {c = c} packet h d e f g) low new = stepped-holds F w.links (AdvanceLinks c) carries tt links

@@ -1,5 +1,5 @@
 -- Every act keeps the tables, the staged parts and the parts on their way parts of the adopted set.
-use Rattle.std.proofs.Common.{◌≡◌, ◌+◌, ℕ, List, [], ◌∷◌, length, Option, Some, None, IfSome, refl, sym, ◌∙◌, subst}
+use Rattle.std.proofs.Common.{◌≡◌, ◌+◌, ℕ, List, length, Option, Some, None, IfSome, refl, sym, ◌∙◌, subst}
 use Rattle.std.specs.List.{AllByRecursion}
 use Rattle.net_defs.specs.declared.route.Route.{Route}
 use Rattle.net_defs.specs.Network.{Network, IsFabric}
@@ -11,21 +11,21 @@ use Rattle.world_defs.specs.declared.effect.Effect.{Effect}
 use Rattle.world_defs.specs.Table.{Adoption, ActiveTable, TableState, entries_from, part_entries, whole_table}
 use Rattle.world_defs.specs.Node.{NodeState, Staged, StagedProbe, StagedPart, packet_for, new_node}
 use Rattle.world_defs.specs.World.{WorldState, fabric_of, host_count, new_world, node_at, adopted_by}
-use Rattle.act_defs.specs.Acts.{Act, Happens, Plans, Adopts, acted, acted_all, AreAdoptable, IsSameSet, MayAct, MayActAll}
+use Rattle.act_defs.specs.Acts.{Act, Happens, Plans, Adopts, acted, AreAdoptable, IsSameSet, MayAct}
 use Rattle.world_defs.specs.EightBits.{IsByteFault, IsByteEvent}
 use Rattle.table_laws.specs.Set.{IsPart, IsPartOfSet, IsActive, IsActiveOfSet, IsCollected, IsTable}
 use Rattle.table_laws.specs.Packets.{IsHonest}
 use Rattle.table_laws.specs.Bodies.{IsBody, IsStaged, IsHostOf}
 use Rattle.table_laws.proofs.Sets.{routes-fit, part_for-fits}
 use Rattle.world_defs.specs.Step.{step}
-use Rattle.act_defs.proofs.Lists.{each-set, each-replicate}
-use Rattle.act_defs.proofs.Views.{HostChange, Change, view}
-use Rattle.act_defs.proofs.Calls.{call_view}
+use Rattle.world_defs.proofs.Lists.{each-set, each-replicate}
+use Rattle.world_defs.proofs.Views.{HostChange, Change, view}
+use Rattle.world_defs.proofs.Calls.{call_view}
 use Rattle.act_defs.proofs.Hosts.{NodeChange, change-nodes, each_node}
-use Rattle.act_defs.proofs.Kept.{change-net, change-adopted, change-plan, with-all}
+use Rattle.world_defs.proofs.Kept.{change-net, change-adopted, change-plan, with-all}
 use Rattle.table_laws.proofs.Hosts.{hear-host, sent-built, after_sending-host, given_up-host, staged-host, node_expired-host, call-host}
 use Rattle.table_laws.proofs.Medium.{Holds, weaker-holds, empty-holds, carries-honest}
-use Rattle.table_laws.proofs.Keeping.{holds-read, new-honest, acted-holds}
+use Rattle.table_laws.proofs.Keeping.{holds-read, new-honest, honest-more, acted-holds}
 
 abbrev pub Good : Option Adoption → ℕ → Held → Type 0
 Good o c held = IsHonest (IsBody o) held
@@ -103,14 +103,6 @@ staged-same o mapper routes None e is = tt
 staged-same o mapper routes (Some (StagedProbe walk looped)) e is = tt
 staged-same o mapper routes (Some (StagedPart p by)) e is = (part-same o mapper routes p.dst p e is.0, is.1)
 
-honest-same : (o : Option Adoption) (mapper : ℕ) (routes : List Route) (held : Held) → IsSameSet routes o → IsHonest (IsBody o) held → IsHonest (IsBody (Some (adoption mapper routes))) held
-honest-same o mapper routes held e is = record {
-  mark = is.mark;
-  built = λ m.
-      let b = is.built m in
-      record { route = b.route; kind = b.kind; payload = b.payload; written = b.written; good = record { part = λ p k d. part-same o mapper routes p.dst p e (b.good.part p k d) } };
-}
-
 adopted-of : (n : Network) (w : WorldState) (mapper : ℕ) (routes : List Route) → AreAdoptable n routes → IsSameSet routes w.adopted → IsOfSet n w → IsOfSet n (adopted_by w mapper routes)
 adopted-of n w mapper routes may same is =
     let o : Option Adoption = Some (adoption mapper routes) in
@@ -118,13 +110,13 @@ adopted-of n w mapper routes may same is =
     let whole : IsHostOf o mapper (record (node_at w mapper) { table = whole_table routes mapper 1 }) = record { staged = (each mapper).staged; table = record { active = record { epoch = refl; entries = refl }; collected = tt } } in
     record {
       net = is.net;
-      links = weaker-holds (Good w.adopted) (Good o) w.links (λ c held. honest-same w.adopted mapper routes held same) is.links;
+      links = weaker-holds (Good w.adopted) (Good o) w.links (λ c held. honest-more (IsBody w.adopted) (IsBody o) held (λ k body b. record { part = λ p m d. part-same w.adopted mapper routes p.dst p same (b.part p m d) })) is.links;
       hosts = λ j. each-set (IsHostOf o) w.nodes mapper j (record (node_at w mapper) { table = whole_table routes mapper 1 }) (new_node 0) whole each;
       adopted = record { epoch = refl; adoptable = may };
       plan = is.plan;
     }
 
-acted-of : (n : Network) (w : WorldState) (a : Act) → IsFabric n → MayAct w a → IsOfSet n w → IsOfSet n (acted w a)
+pub acted-of : (n : Network) (w : WorldState) (a : Act) → IsFabric n → MayAct w a → IsOfSet n w → IsOfSet n (acted w a)
 acted-of n w (Happens e) f may is = step-of n w e f may is
 acted-of n w (Plans ahead fault) f may is = record {
   net = is.net;
@@ -134,10 +126,6 @@ acted-of n w (Plans ahead fault) f may is = record {
   plan = with-all (w.injected + ahead) fault w.plan may.1 is.plan;
 }
 acted-of n w (Adopts mapper routes) f may is = adopted-of n w mapper routes (subst (λ m. AreAdoptable m routes) is.net may.0) may.1 is
-
-pub acted_all-of : (n : Network) (w : WorldState) (acts : List Act) → IsFabric n → MayActAll w acts → IsOfSet n w → IsOfSet n (acted_all w acts)
-acted_all-of n w [] f may is = is
-acted_all-of n w (a ∷ acts) f may is = acted_all-of n (acted w a) acts f may.1 (acted-of n w a f may.0 is)
 
 new-host : (h k : ℕ) → IsHostOf None h (new_node k)
 new-host h k = record { staged = tt; table = record { active = tt; collected = tt } }

@@ -1,6 +1,6 @@
 -- What holds of tables after every list of acts.
 use Rattle.std.specs.Prelude.{◌≡◌, ℕ, pos, List, [], ◌∷◌, Some, Ok}
-use Rattle.net_defs.specs.Network.{Network, IsFabric}
+use Rattle.net_defs.specs.Network.{Network}
 use Rattle.packet_defs.specs.declared.kind.Kind.TheVariants.{Mapping, Gm}
 use Rattle.packet_defs.specs.Packet.{packet_of, difference}
 use Rattle.packet_defs.specs.Burst.{flipped}
@@ -9,12 +9,13 @@ use Rattle.link_defs.specs.Links.{Held, packet_in}
 use Rattle.mapping_defs.specs.Mapping.{RoutePart, Part, decode_mapping}
 use Rattle.net_defs.specs.Dependencies.{IsBefore, HasNoCycle}
 use Rattle.world_defs.specs.Table.{Adoption, ActiveTable}
-use Rattle.world_defs.specs.World.{WorldState, new_world, node_at}
+use Rattle.world_defs.specs.World.{WorldState, node_at}
 use Rattle.world_defs.specs.Sound.{installed_channels}
-use Rattle.act_defs.specs.Acts.{Act, acted_all, AreAdoptable, MayActAll, IsReached}
+use Rattle.act_defs.specs.Acts.{AreAdoptable, IsReached}
 use Rattle.table_laws.specs.Set.{IsPart, IsActive, IsTable}
 
--- Why an act that may happen flips eight bits at most: a burst of nine, with the divisor's own bits, leaves no difference. Here it changes both turns of a packet.
+-- Why an act that may happen flips eight bits at most: a burst of nine, with the divisor's own bits, leaves no
+-- difference. Here it changes both turns of a packet.
 abbrev pub WidePatternIsUnseen : Type 0
 WidePatternIsUnseen =
     (flipped (packet_of (pos 1 ∷ pos 0 ∷ []) Gm (7 ∷ [])) 7 263 ≡ packet_of (pos 3 ∷ pos 14 ∷ []) Gm (7 ∷ []))
@@ -26,16 +27,19 @@ TablesAreOfSet = (n : Network) (w : WorldState) → IsReached n w → (h : ℕ) 
 
 -- what is active is exactly the set's routes from its host, by the set's epoch; without a set nothing is
 abbrev pub ActiveIsOfSet : Type 0
-ActiveIsOfSet = (n : Network) (w : WorldState) (h : ℕ) (t : ActiveTable) → IsReached n w → (node_at w h).table.active ≡ Some t → IsActive w.adopted h t
+ActiveIsOfSet = (n : Network) (w : WorldState) (h : ℕ) (t : ActiveTable) → IsReached n w
+    → (node_at w h).table.active ≡ Some t → IsActive w.adopted h t
 
 -- the adopted set has epoch 1, and may be adopted
 abbrev pub AdoptedIsAdoptable : Type 0
-AdoptedIsAdoptable = (n : Network) (w : WorldState) (a : Adoption) → IsReached n w → w.adopted ≡ Some a → (a.epoch ≡ 1) × AreAdoptable n a.routes
+AdoptedIsAdoptable = (n : Network) (w : WorldState) (a : Adoption) → IsReached n w → w.adopted ≡ Some a
+    → (a.epoch ≡ 1) × AreAdoptable n a.routes
 
 -- whatever a host would read as a part of a packet on its way is a part of the adopted set
 abbrev pub PartsAreOfSet : Type 0
 PartsAreOfSet =
-    (n : Network) (w : WorldState) (c : ℕ) (held : Held) (payload : List ℕ) (p : RoutePart) → IsReached n w → packet_in w.links c ≡ Some held
+    (n : Network) (w : WorldState) (c : ℕ) (held : Held) (payload : List ℕ) (p : RoutePart) → IsReached n w
+    → packet_in w.links c ≡ Some held
     → decode held.wire ≡ Ok (Mapping, payload) → decode_mapping payload ≡ Some (Part p) → IsPart w.adopted p.dst p
 
 -- no channel waits for itself along the installed routes

@@ -20,5 +20,6 @@ AdoptedIsReached = IsReached two_hosts adopted_world
 -- host 0 has its table of one route, and host 1 has none yet
 abbrev pub OneTableIsActive : Type 0
 OneTableIsActive =
-    ((node_at adopted_world 0).table.active ≡ Some (record { epoch = 1; entries = record { to = 1; walk = pos 3 ∷ [] } ∷ [] }))
+    ((node_at adopted_world 0).table.active ≡ Some
+    (record { epoch = 1; entries = record { to = 1; walk = pos 3 ∷ [] } ∷ [] }))
     × ((node_at adopted_world 1).table.active ≡ None)

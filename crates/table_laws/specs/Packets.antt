@@ -1,4 +1,5 @@
--- Where packets come from: what holds of the kind and the payload of every packet that hosts build holds of every packet that a host can read.
+-- Where packets come from: what holds of the kind and the payload of every packet that hosts build holds of every
+-- packet that a host can read.
 use Rattle.std.specs.Prelude.{◌≡◌, ℕ, ◌<◌, ℤ, false, List}
 use Rattle.packet_defs.specs.declared.kind.Kind.{Kind}
 use Rattle.packet_defs.specs.Packet.{packet_of}

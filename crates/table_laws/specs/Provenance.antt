@@ -1,4 +1,5 @@
--- Where each packet comes from: a host built it, of what it had to send first at some moment, and switches took route bytes from its front.
+-- Where each packet comes from: a host built it, of what it had to send first at some moment, and switches took route
+-- bytes from its front.
 use Rattle.std.specs.Prelude.{◌≡◌, ℕ, ◌+◌, ℤ, true, false, List, ◌++◌, Some, Err}
 use Rattle.std.specs.List.{AllByRecursion}
 use Rattle.net_defs.specs.Network.{Network}
@@ -33,7 +34,8 @@ pub record IsLeftOf (n : Network) (acts : List Act) (wire : List ℕ) : Type 0 w
 -- each packet in a channel that no flip has met
 abbrev pub ChannelsHoldWhatWasBuilt : Type 0
 ChannelsHoldWhatWasBuilt =
-    (n : Network) (acts : List Act) (c : ℕ) (held : Held) → AllByRecursion IsByteAct acts → packet_in (moment n acts).links c ≡ Some held
+    (n : Network) (acts : List Act) (c : ℕ) (held : Held) → AllByRecursion IsByteAct acts
+    → packet_in (moment n acts).links c ≡ Some held
     → held.marked ≡ false → IsLeftOf n acts held.wire
 
 -- and each in limbo
@@ -45,5 +47,6 @@ LimboHoldsWhatWasBuilt =
 -- a packet that a flip has met is dropped at every host, for its CRC
 abbrev pub FlippedIsDropped : Type 0
 FlippedIsDropped =
-    (n : Network) (acts : List Act) (c : ℕ) (held : Held) → AllByRecursion IsByteAct acts → packet_in (moment n acts).links c ≡ Some held
+    (n : Network) (acts : List Act) (c : ℕ) (held : Held) → AllByRecursion IsByteAct acts
+    → packet_in (moment n acts).links c ≡ Some held
     → held.marked ≡ true → decode held.wire ≡ Err BadCrc

@@ -6,7 +6,8 @@ use Rattle.net_defs.specs.declared.route.Route.{Route}
 use Rattle.mapping_defs.specs.Mapping.{RouteEntry, RoutePart}
 use Rattle.world_defs.specs.Table.{Adoption, ActiveTable, TableState, entries_from, part_count, part_entries}
 
--- A part is one of the set for its host: whoever adopted the set, it says how many parts there are, and has the entries of its number.
+-- A part is one of the set for its host: whoever adopted the set, it says how many parts there are, and has the
+-- entries of its number.
 pub record IsPartOfSet (routes : List Route) (host : ℕ) (p : RoutePart) : Type 0 where
   pub epoch : p.epoch ≡ 1
   pub parts : p.parts ≡ part_count (length (entries_from routes host))

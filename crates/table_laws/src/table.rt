@@ -1,6 +1,7 @@
 //! The tables of every reached world: `specs/Acts.antt` has the statements.
 
-ghost use Rattle.table_laws.specs.Acts.{TablesAreOfSet, ActiveIsOfSet, AdoptedIsAdoptable, PartsAreOfSet, InstalledHasNoCycle, WidePatternIsUnseen};
+ghost use Rattle.table_laws.specs.Acts.{TablesAreOfSet, ActiveIsOfSet, AdoptedIsAdoptable, PartsAreOfSet};
+ghost use Rattle.table_laws.specs.Acts.{InstalledHasNoCycle, WidePatternIsUnseen};
 
 /// Each table is of the adopted set, whatever happens, and so is each part on its way.
 pub fn tables_of_set()

@@ -24,15 +24,15 @@ use Rattle.world_defs.specs.Client.{ClientState, Called, Wanted, wanted_message,
 use Rattle.world_defs.specs.World.{WorldState, host_count, new_world, node_at}
 use Rattle.world_defs.specs.Sound.{IsFront}
 use Rattle.world_defs.specs.Traffic.{sent_between}
-use Rattle.act_defs.specs.Acts.{Act, acted, acted_all, MayAct, MayActAll, IsReached}
+use Rattle.act_defs.specs.Acts.{Act, acted, IsReached}
 use Rattle.order_laws.specs.Says.{SaysTrue}
 use Rattle.order_laws.proofs.Peers.{front-same, frame-message}
-use Rattle.act_defs.proofs.Lists.{each-set, each-replicate}
+use Rattle.world_defs.proofs.Lists.{each-set, each-replicate}
 use Rattle.owner_laws.proofs.Moves.{found-passes}
 use Rattle.window_laws.proofs.Heard.{IsHeard, quietly, of_frame, of_ack, hear-is}
 use Rattle.window_laws.proofs.Hosts.{Rules, Goes, acted-goes}
 use Rattle.window_laws.proofs.Numbers.{all_finished-peers}
-use Rattle.act_defs.proofs.Reaching.{reached-next}
+use Rattle.act_defs.proofs.Reaching.{reached-has}
 use Rattle.window_laws.proofs.Windows.{reached-windowed}
 use Rattle.token_laws.specs.Untouched.{IsUntouched}
 use Rattle.token_laws.specs.Received.{IsOfMessage, ReceivedEventsAreOfMessages}
@@ -41,7 +41,8 @@ use Rattle.token_laws.proofs.Hosts.{peer-new}
 use Rattle.token_laws.proofs.Events.{AreAll, all-more, PortStill, port-same, called-still, finished-still, delivered-still, event-at, ports-same, ports-set}
 use Rattle.token_laws.proofs.Buffers.{provided-untouched}
 use Rattle.token_laws.proofs.Reaching.{reached-count, reached-known}
-use Rattle.token_laws.proofs.Lists.{get-front, get-last}
+use Rattle.order_laws.proofs.Frames.{get-front}
+use Rattle.token_laws.proofs.Lists.{get-last}
 
 -- an event is of a message that was got
 abbrev IsEventOf : (ℕ → List Message) → ℕ → PortEvent → Type 0
@@ -223,17 +224,12 @@ event-rules n w is = record {
 
 -- the invariant
 record HasMessages (n : Network) (w : WorldState) : Type 0 where
-  reached : IsReached n w
   hosts : (h : ℕ) → h < length n.hosts → AllOf (node_at w h)
 
-acted-messages : (n : Network) (w : WorldState) (a : Act) → MayAct w a → HasMessages n w → HasMessages n (acted w a)
-acted-messages n w a may is =
-    let g : Goes (StillOf n) w (acted w a) = acted-goes w (SaysTrue (sent_between w)) (StillOf n) (event-rules n w is.reached) a (reached-windowed n w is.reached).ordered.links in
-    record { reached = reached-next n w a is.reached may; hosts = λ h low. (g.nodes h).still low (is.hosts h low) }
-
-all-messages : (n : Network) (w : WorldState) (acts : List Act) → MayActAll w acts → HasMessages n w → HasMessages n (acted_all w acts)
-all-messages n w [] may is = is
-all-messages n w (a ∷ acts) may is = all-messages n (acted w a) acts may.1 (acted-messages n w a may.0 is)
+acted-messages : (n : Network) (w : WorldState) (a : Act) → IsReached n w → HasMessages n w → HasMessages n (acted w a)
+acted-messages n w a r is =
+    let g : Goes (StillOf n) w (acted w a) = acted-goes w (SaysTrue (sent_between w)) (StillOf n) (event-rules n w r) a (reached-windowed n w r).ordered.links in
+    record { hosts = λ h low. (g.nodes h).still low (is.hosts h low) }
 
 new-of : (k : ℕ) → AllOf (new_node k)
 new-of k = record { each = λ port. each-replicate (AreOf (got_at (new_node k)) port) port_count port None None tt tt }
@@ -245,10 +241,10 @@ reached-of n w is h = by (nat_lt h (length n.hosts)) refl
     k = length n.hosts
 
     start : HasMessages n (new_world n)
-    start = record { reached = record { fabric = is.fabric; acts = []; may = tt; leads = refl }; hosts = λ j low. each-replicate AllOf k j (new_node k) (new_node 0) (new-of k) (new-of 0) }
+    start = record { hosts = λ j low. each-replicate AllOf k j (new_node k) (new_node 0) (new-of k) (new-of 0) }
 
     all : HasMessages n w
-    all = subst (HasMessages n) (sym is.leads) (all-messages n (new_world n) is.acts is.may start)
+    all = reached-has (HasMessages n) n start (λ w a r may. acted-messages n w a r) w is
 
     by : (b : Bool) → nat_lt h (length n.hosts) ≡ b → AllOf (node_at w h)
     by true e = all.hosts h (grind (arith, nat_tests))

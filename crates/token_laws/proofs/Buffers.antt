@@ -17,14 +17,14 @@ use Rattle.world_defs.specs.Hearing.{message_of, delivered_after, frame_took, al
 use Rattle.world_defs.specs.Client.{ClientState, Called, Wanted, client_bytes, empty_buffer, refused, left, close_open, closed, send_accepted}
 use Rattle.world_defs.specs.World.{WorldState, host_count, new_world, node_at, client_at}
 use Rattle.world_laws.proofs.Lists.{at-set}
-use Rattle.act_defs.specs.Acts.{Act, acted, acted_all, MayAct, MayActAll, IsReached}
+use Rattle.act_defs.specs.Acts.{Act, acted, IsReached}
 use Rattle.window_laws.proofs.Heard.{IsHeard, quietly, of_frame, of_ack, hear-is}
 use Rattle.window_laws.proofs.Hosts.{Rules, Goes, acted-goes}
-use Rattle.act_defs.proofs.Reaching.{reached-next}
+use Rattle.act_defs.proofs.Reaching.{reached-has}
 use Rattle.window_laws.proofs.Windows.{numbers_of, reached-windowed}
 use Rattle.token_laws.specs.Untouched.{IsUntouched, ProvidedBuffersAreUntouched, ClosedBuffersAreUntouched}
 use Rattle.token_laws.proofs.Calls.{PortCalled, stays, opens, closes, provides, polls, IsCall, CallDoes, call-does}
-use Rattle.act_defs.proofs.Lists.{each-replicate}
+use Rattle.world_defs.proofs.Lists.{each-replicate}
 
 -- an open port whose provided buffers are untouched
 abbrev AreUntouched : Option PortState → Type 0
@@ -143,17 +143,12 @@ buffer-rules w = record {
 
 -- the invariant
 record IsUntouchedWorld (n : Network) (w : WorldState) : Type 0 where
-  reached : IsReached n w
   ports : (h port : ℕ) → AreUntouched (port_at (node_at w h) port)
 
-acted-untouched : (n : Network) (w : WorldState) (a : Act) → MayAct w a → IsUntouchedWorld n w → IsUntouchedWorld n (acted w a)
-acted-untouched n w a may is =
-    let g : Goes Still w (acted w a) = acted-goes w (numbers_of w) Still (buffer-rules w) a (reached-windowed n w is.reached).links in
-    record { reached = reached-next n w a is.reached may; ports = λ h port. ((g.nodes h).each port).still (is.ports h port) }
-
-all-untouched : (n : Network) (w : WorldState) (acts : List Act) → MayActAll w acts → IsUntouchedWorld n w → IsUntouchedWorld n (acted_all w acts)
-all-untouched n w [] may is = is
-all-untouched n w (a ∷ acts) may is = all-untouched n (acted w a) acts may.1 (acted-untouched n w a may.0 is)
+acted-untouched : (n : Network) (w : WorldState) (a : Act) → IsReached n w → IsUntouchedWorld n w → IsUntouchedWorld n (acted w a)
+acted-untouched n w a r is =
+    let g : Goes Still w (acted w a) = acted-goes w (numbers_of w) Still (buffer-rules w) a (reached-windowed n w r).links in
+    record { ports = λ h port. ((g.nodes h).each port).still (is.ports h port) }
 
 new-untouched : (n : Network) (h port : ℕ) → AreUntouched (port_at (node_at (new_world n) h) port)
 new-untouched n h port =
@@ -163,8 +158,7 @@ new-untouched n h port =
 
 pub provided-untouched : ProvidedBuffersAreUntouched
 provided-untouched n w is h port p e =
-    let start : IsReached n (new_world n) = record { fabric = is.fabric; acts = []; may = tt; leads = refl } in
-    let all : IsUntouchedWorld n w = subst (IsUntouchedWorld n) (sym is.leads) (all-untouched n (new_world n) is.acts is.may (record { reached = start; ports = new-untouched n })) in
+    let all : IsUntouchedWorld n w = reached-has (IsUntouchedWorld n) n (record { ports = new-untouched n }) (λ w a r may. acted-untouched n w a r) w is in
     subst AreUntouched e (all.ports h port)
 
 -- a close that hands buffers back was of an open port

@@ -6,7 +6,7 @@ use Rattle.gm_defs.specs.Token.{PortState, opened}
 use Rattle.gm_defs.specs.Port.{provided_with, polled, unfinished}
 use Rattle.world_defs.specs.Node.{NodeState, port_at}
 use Rattle.world_defs.specs.Client.{ClientState, Called, Wanted, empty_buffer, send_accepted, send_refusal}
-use Rattle.act_defs.proofs.Calls.{Call}
+use Rattle.world_defs.proofs.Calls.{Call}
 
 -- what a call makes of a port
 pub data PortCalled (o r : Option PortState) : Type 0 where

@@ -7,7 +7,7 @@ use Rattle.gm_defs.specs.declared.frame.FrameHead.{FrameHead}
 use Rattle.gm_defs.specs.Token.{Sending, Provided, PortEvent, Sent, Received, PortState, fitting}
 use Rattle.gm_defs.specs.Port.{send_of, ended_by, finished, filled, taken_by, delivered}
 use Rattle.world_defs.specs.Node.{NodeState, port_at}
-use Rattle.act_defs.proofs.Lists.{each-set}
+use Rattle.world_defs.proofs.Lists.{each-set}
 use Rattle.token_laws.proofs.Calls.{PortCalled, stays, opens, closes, provides, polls}
 
 -- it holds of each event of an open port

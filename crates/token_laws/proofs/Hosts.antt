@@ -9,12 +9,11 @@ use Rattle.gm_defs.specs.declared.frame.FrameHead.{FrameHead}
 use Rattle.gm_defs.specs.declared.token.Took.{Took}
 use Rattle.gm_defs.specs.declared.token.Took.TheVariants.{NotNext, NoToken, Whole}
 use Rattle.gm_defs.specs.Body.{part_in}
-use Rattle.gm_defs.specs.Fragment.{piece_count, whole_below}
-use Rattle.gm_defs.specs.Connection.{SenderState, IsSender, is_spent, is_taken, acknowledged}
+use Rattle.gm_defs.specs.Fragment.{whole_below}
+use Rattle.gm_defs.specs.Connection.{SenderState, IsSender, is_taken, acknowledged}
 use Rattle.gm_defs.specs.Token.{Sending, PortState, sent_tokens}
-use Rattle.gm_defs.specs.Port.{is_too_long, sent_with, delivered}
+use Rattle.gm_defs.specs.Port.{sent_with, delivered}
 use Rattle.gm_defs.proofs.Choices.{both}
-use Rattle.world_defs.specs.declared.client.ClientCause.TheVariants.{TooLong, NoRoute, Spent}
 use Rattle.world_defs.specs.Table.{table_route}
 use Rattle.world_defs.specs.Peer.{PeerState, Ticket, new_peer, with_message, finished_by, peer_acknowledged, tickets_finished, peer_expired, peer_sent_one, peer_answered, peer_after}
 use Rattle.world_defs.specs.Node.{NodeState, Outgoing, Probe, TablePart, Reply, PartAnswer, FrameAnswer, Fragment, peer_at, with_peer, port_at, after_sending, node_expired}
@@ -28,6 +27,7 @@ use Rattle.window_laws.proofs.Taken.{whole-below}
 use Rattle.token_laws.specs.Unfinished.{send_at, tickets_with}
 use Rattle.token_laws.proofs.Matching.{same-or, OneAfter, the_one, another, tickets-long, matched-same, matched-accepted}
 use Rattle.token_laws.proofs.Sendings.{under, tokens, under-none, under-joined, under-new}
+use Rattle.world_defs.proofs.Calls.{not_refused-acceptable}
 use Rattle.token_laws.proofs.Calls.{IsCall, CallDoes}
 use Rattle.token_laws.proofs.Ports.{send_in, delivered-sends, called-sends, set-sends, SameTickets, peers-same, peers-set, left_to, HostMatched, host-same, HasApartSends, AllApart, port-there, same-ticket, at, at-here, at-other, all-finished}
 
@@ -84,11 +84,6 @@ raised s next is = by (is_taken s next) refl
         let b = two.1 in
         record { up = grind (arith, nat_tests); below = grind (arith, nat_tests) }
     by false e = let a = is.base_below in let b = is.cursor_below in record { up = omega arith; below = omega (arith, a, b) }
-
-not_refused : (a b c : Bool) → (if a then Some TooLong else if b then Some NoRoute else if c then Some Spent else None) ≡ None → b ≡ false
-not_refused true b c e = cc
-not_refused false true c e = cc
-not_refused false false c e = refl
 
 module _ (n : NodeState) where
   -- a frame leaves the sends and the tickets
@@ -278,7 +273,7 @@ module _ (n : NodeState) (client : ℕ → Option ClientState) (hosts : ℕ) (kn
 
       there : k < length n.peers
       there =
-          let low = known.routed k (not_refused (is_too_long s.len) (is_none (table_route n.table k)) (is_spent (peer_at n k).sender (piece_count s.len)) none) in
+          let low = known.routed k (not_refused-acceptable n s none).routed in
           let long = known.peers in
           omega (arith, low, long)
 

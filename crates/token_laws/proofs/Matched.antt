@@ -1,15 +1,15 @@
 -- Every act leaves the sends, tickets and messages of each host matched.
-use Rattle.std.proofs.Common.{◌≡◌, ◌<◌, ◌≤◌, ℕ, Bool, true, false, List, [], ◌∷◌, length, drop, nat_lt, None, refl, sym, ap, ◌∙◌, subst, arith}
+use Rattle.std.proofs.Common.{◌≡◌, ◌<◌, ◌≤◌, ℕ, Bool, true, false, [], length, drop, nat_lt, None, refl, sym, ap, ◌∙◌, subst, arith}
 use Rattle.std.proofs.lemmas.Bool.Decides.{nat_tests}
 use Rattle.std.proofs.lemmas.List.{get_or_past}
 use Rattle.net_defs.specs.Network.{Network}
 use Rattle.world_defs.specs.Peer.{Ticket, new_peer}
 use Rattle.world_defs.specs.Node.{NodeState, peer_at, port_at, new_node, port_count}
 use Rattle.world_defs.specs.World.{WorldState, host_count, new_world, node_at, client_at}
-use Rattle.act_defs.specs.Acts.{Act, acted, acted_all, MayAct, MayActAll, IsReached}
+use Rattle.act_defs.specs.Acts.{Act, acted, IsReached}
 use Rattle.window_laws.proofs.Hosts.{Rules, Goes, acted-goes}
 use Rattle.window_laws.proofs.Taken.{whole-below}
-use Rattle.act_defs.proofs.Reaching.{reached-next}
+use Rattle.act_defs.proofs.Reaching.{reached-has}
 use Rattle.window_laws.proofs.Windows.{IsWindowed, numbers_of, reached-windowed}
 use Rattle.token_laws.specs.Tickets.{AreMatched}
 use Rattle.token_laws.specs.Unfinished.{send_at, tickets_with, unfinished_to, QueueIsUnfinished, EachSendHasOneTicket}
@@ -19,7 +19,7 @@ use Rattle.token_laws.proofs.Calls.{call-does}
 use Rattle.token_laws.proofs.Ports.{send_in, left_to, HostMatched}
 use Rattle.token_laws.proofs.Hosts.{sending-same, expired-same, quiet-same, hear-matched, called-matched}
 use Rattle.token_laws.proofs.Reaching.{reached-count, reached-known}
-use Rattle.act_defs.proofs.Lists.{each-replicate}
+use Rattle.world_defs.proofs.Lists.{each-replicate}
 
 -- a change of a host of the fabric leaves its sends, tickets and messages matched
 record MatchedStill (count h : ℕ) (n m : NodeState) : Type 0 where
@@ -39,17 +39,12 @@ matched-rules n w is = record {
 
 -- the invariant
 record IsMatched (n : Network) (w : WorldState) : Type 0 where
-  reached : IsReached n w
   hosts : (h : ℕ) → h < length n.hosts → HostMatched (node_at w h)
 
-acted-matched : (n : Network) (w : WorldState) (a : Act) → MayAct w a → IsMatched n w → IsMatched n (acted w a)
-acted-matched n w a may is =
-    let g : Goes (Still n) w (acted w a) = acted-goes w (numbers_of w) (Still n) (matched-rules n w is.reached) a (reached-windowed n w is.reached).links in
-    record { reached = reached-next n w a is.reached may; hosts = λ h low. (g.nodes h).still low (is.hosts h low) }
-
-all-matched : (n : Network) (w : WorldState) (acts : List Act) → MayActAll w acts → IsMatched n w → IsMatched n (acted_all w acts)
-all-matched n w [] may is = is
-all-matched n w (a ∷ acts) may is = all-matched n (acted w a) acts may.1 (acted-matched n w a may.0 is)
+acted-matched : (n : Network) (w : WorldState) (a : Act) → IsReached n w → IsMatched n w → IsMatched n (acted w a)
+acted-matched n w a r is =
+    let g : Goes (Still n) w (acted w a) = acted-goes w (numbers_of w) (Still n) (matched-rules n w r) a (reached-windowed n w r).links in
+    record { hosts = λ h low. (g.nodes h).still low (is.hosts h low) }
 
 -- a host before anything happened
 none-matched : AreMatched (λ (t : Ticket). None) (λ k. []) (λ k. [])
@@ -62,19 +57,16 @@ new-matched k =
     matched-same (λ (t : Ticket). None) (send_at (new_node k)) (λ j. []) (tickets_with (new_node k)) (λ j. []) (left_to (new_node k)) (λ x. ap (λ o. send_in o x.token) (port x.port)) (λ j. ap (λ p. p.pending) (peer j))
     (λ j. ap (λ p. drop p.sender.base p.sent) (peer j)) none-matched
 
-new-world-matched : (n : Network) (is : IsReached n (new_world n)) → IsMatched n (new_world n)
-new-world-matched n is =
+new-world-matched : (n : Network) → IsMatched n (new_world n)
+new-world-matched n =
     let k : ℕ = length n.hosts in
-    record { reached = is; hosts = λ h low. each-replicate HostMatched k h (new_node k) (new_node 0) (new-matched k) (new-matched 0) }
+    record { hosts = λ h low. each-replicate HostMatched k h (new_node k) (new_node 0) (new-matched k) (new-matched 0) }
 
 pub reached-matched : (n : Network) (w : WorldState) → IsReached n w → (h : ℕ) → HostMatched (node_at w h)
 reached-matched n w is h = by (nat_lt h (length n.hosts)) refl
   where
-    start : IsReached n (new_world n)
-    start = record { fabric = is.fabric; acts = []; may = tt; leads = refl }
-
     all : IsMatched n w
-    all = subst (IsMatched n) (sym is.leads) (all-matched n (new_world n) is.acts is.may (new-world-matched n start))
+    all = reached-has (IsMatched n) n (new-world-matched n) (λ w a r may. acted-matched n w a r) w is
 
     by : (b : Bool) → nat_lt h (length n.hosts) ≡ b → HostMatched (node_at w h)
     by true e = all.hosts h (grind (arith, nat_tests))

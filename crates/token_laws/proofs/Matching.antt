@@ -6,7 +6,8 @@ use Rattle.gm_defs.specs.declared.message.Message.{Message}
 use Rattle.gm_defs.specs.Token.{Sending}
 use Rattle.world_defs.specs.Peer.{Ticket}
 use Rattle.token_laws.specs.Tickets.{IsTicketOf, AreTicketsOf, HasOneTicket, AreMatched}
-use Rattle.token_laws.proofs.Lists.{get-last, get-front}
+use Rattle.order_laws.proofs.Frames.{get-front}
+use Rattle.token_laws.proofs.Lists.{get-last}
 
 pub same-or : (a b : ℕ) → (a ≡ b) ⊎ (a ≢ b)
 same-or a b = by (nat_eq a b) refl

@@ -19,13 +19,13 @@ use Rattle.world_defs.specs.Hearing.{message_of, delivered_after, frame_took, al
 use Rattle.world_defs.specs.Client.{ClientState, Called, Wanted, wanted_message, client_bytes, send_accepted}
 use Rattle.world_defs.specs.World.{WorldState, host_count, new_world, node_at, client_at}
 use Rattle.world_defs.specs.Sound.{IsFront}
-use Rattle.act_defs.specs.Acts.{Act, acted, acted_all, MayAct, MayActAll, IsReached}
+use Rattle.act_defs.specs.Acts.{Act, acted, IsReached}
 use Rattle.order_laws.proofs.Peers.{front-same}
-use Rattle.act_defs.proofs.Lists.{each-set, each-replicate}
+use Rattle.world_defs.proofs.Lists.{each-set, each-replicate}
 use Rattle.window_laws.proofs.Heard.{IsHeard, quietly, of_frame, of_ack, hear-is}
 use Rattle.window_laws.proofs.Hosts.{Rules, Goes, acted-goes}
 use Rattle.window_laws.proofs.Numbers.{all_finished-peers}
-use Rattle.act_defs.proofs.Reaching.{reached-next}
+use Rattle.act_defs.proofs.Reaching.{reached-has}
 use Rattle.window_laws.proofs.Taken.{whole-below}
 use Rattle.window_laws.proofs.Windows.{IsWindowed, numbers_of, reached-windowed}
 use Rattle.token_laws.specs.Tickets.{IsTicketOf, AreTicketsOf, AreMatched}
@@ -37,7 +37,7 @@ use Rattle.token_laws.proofs.Hosts.{IsKnown, peer-new, raised, all-apart, IsFini
 use Rattle.token_laws.proofs.Events.{AreAll, all-more, PortStill, port-same, called-still, finished-still, delivered-still, event-at, ports-same, ports-set}
 use Rattle.token_laws.proofs.Matched.{reached-matched}
 use Rattle.token_laws.proofs.Reaching.{reached-count, reached-known}
-use Rattle.token_laws.proofs.Lists.{get-front}
+use Rattle.order_laws.proofs.Frames.{get-front}
 
 -- a sent event is of an acknowledged message
 abbrev IsReturnOf : (ℕ → List Message) → (ℕ → ℕ) → ℕ → PortEvent → Type 0
@@ -246,17 +246,12 @@ return-rules n w is = record {
 
 -- the invariant
 record HasReturned (n : Network) (w : WorldState) : Type 0 where
-  reached : IsReached n w
   hosts : (h : ℕ) → h < length n.hosts → AllOf (node_at w h)
 
-acted-returned : (n : Network) (w : WorldState) (a : Act) → MayAct w a → HasReturned n w → HasReturned n (acted w a)
-acted-returned n w a may is =
-    let g : Goes (StillOf n) w (acted w a) = acted-goes w (numbers_of w) (StillOf n) (return-rules n w is.reached) a (reached-windowed n w is.reached).links in
-    record { reached = reached-next n w a is.reached may; hosts = λ h low. (g.nodes h).still low (is.hosts h low) }
-
-all-returned : (n : Network) (w : WorldState) (acts : List Act) → MayActAll w acts → HasReturned n w → HasReturned n (acted_all w acts)
-all-returned n w [] may is = is
-all-returned n w (a ∷ acts) may is = all-returned n (acted w a) acts may.1 (acted-returned n w a may.0 is)
+acted-returned : (n : Network) (w : WorldState) (a : Act) → IsReached n w → HasReturned n w → HasReturned n (acted w a)
+acted-returned n w a r is =
+    let g : Goes (StillOf n) w (acted w a) = acted-goes w (numbers_of w) (StillOf n) (return-rules n w r) a (reached-windowed n w r).links in
+    record { hosts = λ h low. (g.nodes h).still low (is.hosts h low) }
 
 new-of : (k : ℕ) → AllOf (new_node k)
 new-of k = record { each = λ port. each-replicate (AreAll (IsOf (new_node k) port)) port_count port None None tt tt }
@@ -268,10 +263,10 @@ reached-of n w is h = by (nat_lt h (length n.hosts)) refl
     k = length n.hosts
 
     start : HasReturned n (new_world n)
-    start = record { reached = record { fabric = is.fabric; acts = []; may = tt; leads = refl }; hosts = λ j low. each-replicate AllOf k j (new_node k) (new_node 0) (new-of k) (new-of 0) }
+    start = record { hosts = λ j low. each-replicate AllOf k j (new_node k) (new_node 0) (new-of k) (new-of 0) }
 
     all : HasReturned n w
-    all = subst (HasReturned n) (sym is.leads) (all-returned n (new_world n) is.acts is.may start)
+    all = reached-has (HasReturned n) n start (λ w a r may. acted-returned n w a r) w is
 
     by : (b : Bool) → nat_lt h (length n.hosts) ≡ b → AllOf (node_at w h)
     by true e = all.hosts h (grind (arith, nat_tests))

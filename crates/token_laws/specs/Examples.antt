@@ -27,10 +27,12 @@ of_port_3 = record { port = 3; token = 0 }
 abbrev pub five_bytes : Message
 five_bytes = record { sport = 3; dport = 2; prio = 0; body = 7 ∷ 8 ∷ 9 ∷ 10 ∷ 11 ∷ [] }
 
--- nothing is acknowledged: the ticket waits with host 1, the message is unfinished, and its send stands in the queue with its bytes
+-- nothing is acknowledged: the ticket waits with host 1, the message is unfinished, and its send stands in the queue
+-- with its bytes
 abbrev pub SendIsUnfinished : Type 0
 SendIsUnfinished =
-    (tickets_with (node_at busy_world 0) 1 ≡ of_port_3 ∷ []) × (unfinished_to (node_at busy_world 0) 1 ≡ five_bytes ∷ [])
+    (tickets_with (node_at busy_world 0) 1 ≡ of_port_3 ∷ [])
+    × (unfinished_to (node_at busy_world 0) 1 ≡ five_bytes ∷ [])
     × (send_at (node_at busy_world 0) of_port_3 ≡ Some (record { token = 0; buffer = five_bytes.body }))
 
 -- the ticket of a send from port 0
@@ -40,14 +42,16 @@ of_port_0 = record { port = 0; token = 0 }
 -- a message that came stands in the queue until its acknowledgement came back too
 abbrev pub SendIsFinished : Type 0
 SendIsFinished =
-    (unfinished_to (node_at message_world 0) 1 ≡ ten ∷ []) × (send_at (node_at message_world 0) of_port_0 ≡ Some (record { token = 0; buffer = ten.body }))
+    (unfinished_to (node_at message_world 0) 1 ≡ ten ∷ [])
+    × (send_at (node_at message_world 0) of_port_0 ≡ Some (record { token = 0; buffer = ten.body }))
     × (unfinished_to (node_at answered_world 0) 1 ≡ []) × (tickets_with (node_at answered_world 0) 1 ≡ [])
     × (send_at (node_at answered_world 0) of_port_0 ≡ None)
 
 -- the buffer that host 0 has provided at port 3 has 56 zero bytes
 abbrev pub BufferIsProvided : Type 0
 BufferIsProvided =
-    option_map (λ p. p.provided) (port_at (node_at busy_world 0) 3) ≡ Some (record { token = 0; size = 6; prio = 0; buffer = empty_buffer 6 } ∷ [])
+    option_map (λ p. p.provided) (port_at (node_at busy_world 0) 3)
+    ≡ Some (record { token = 0; size = 6; prio = 0; buffer = empty_buffer 6 } ∷ [])
 
 -- a world in which host 0 has provided a buffer, and sent nothing
 abbrev pub provided_world : WorldState

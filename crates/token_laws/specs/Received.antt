@@ -10,7 +10,8 @@ use Rattle.world_defs.specs.World.{WorldState, node_at}
 use Rattle.world_defs.specs.Traffic.{got_between}
 use Rattle.act_defs.specs.Acts.{IsReached}
 
--- What a received event says is of a message that was got from there for its port: the message's bytes stand in front, and behind them the zero bytes of the buffer that was provided, which is of the least size that has room.
+-- What a received event says is of a message that was got from there for its port: the message's bytes stand in
+-- front, and behind them the zero bytes of the buffer that was provided, which is of the least size that has room.
 pub record IsOfMessage (got : ℕ → List Message) (port : ℕ) (buffer : List ℕ) (from sport prio len : ℕ) : Type 0 where
   pub place : ℕ
   pub message : Message
@@ -26,6 +27,7 @@ pub record IsOfMessage (got : ℕ → List Message) (port : ℕ) (buffer : List 
 -- each received event that waits at an open port is of a message
 abbrev pub ReceivedEventsAreOfMessages : Type 0
 ReceivedEventsAreOfMessages =
-    (n : Network) (w : WorldState) → IsReached n w → (h port place : ℕ) (p : PortState) (t : ℕ) (buffer : List ℕ) (from sport prio len : ℕ)
+    (n : Network) (w : WorldState) → IsReached n w
+    → (h port place : ℕ) (p : PortState) (t : ℕ) (buffer : List ℕ) (from sport prio len : ℕ)
     → port_at (node_at w h) port ≡ Some p → slice_get p.events place ≡ Some (Received t buffer from sport prio len)
     → IsOfMessage (λ a. got_between w a h) port buffer from sport prio len

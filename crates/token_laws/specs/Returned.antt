@@ -10,7 +10,8 @@ use Rattle.world_defs.specs.Traffic.{sent_between}
 use Rattle.world_defs.specs.Settled.{sender_between}
 use Rattle.act_defs.specs.Acts.{IsReached}
 
--- A buffer that comes back with its send token has the bytes of a message that its port sent, and whose last fragment is acknowledged.
+-- A buffer that comes back with its send token has the bytes of a message that its port sent, and whose last fragment
+-- is acknowledged.
 pub record IsReturned (sent : ℕ → List Message) (whole : ℕ → ℕ) (port : ℕ) (buffer : List ℕ) : Type 0 where
   pub peer : ℕ
   pub place : ℕ

@@ -4,7 +4,8 @@ use Rattle.gm_defs.specs.declared.message.Message.{Message}
 use Rattle.gm_defs.specs.Token.{Sending}
 use Rattle.world_defs.specs.Peer.{Ticket}
 
--- a ticket is of a message: its port sent the message, and under its token stands a send whose buffer is the message's bytes
+-- a ticket is of a message: its port sent the message, and under its token stands a send whose buffer is the
+-- message's bytes
 abbrev pub IsTicketOf : (Ticket → Option Sending) → Ticket → Message → Type 0
 IsTicketOf send t m = (t.port ≡ m.sport) × (send t ≡ Some (record { token = t.token; buffer = m.body }))
 
@@ -21,7 +22,9 @@ pub record HasOneTicket (tickets : ℕ → List Ticket) (t : Ticket) : Type 0 wh
   pub there : slice_get (tickets peer) place ≡ Some t
   pub only : (other there_too : ℕ) → slice_get (tickets other) there_too ≡ Some t → (other ≡ peer) × (there_too ≡ place)
 
--- Sends, tickets and messages are matched: the tickets with each peer are of its messages, and each send has one ticket.
-pub record AreMatched (send : Ticket → Option Sending) (tickets : ℕ → List Ticket) (messages : ℕ → List Message) : Type 0 where
+-- Sends, tickets and messages are matched: the tickets with each peer are of its messages, and each send has one
+-- ticket.
+pub record AreMatched (send : Ticket → Option Sending) (tickets : ℕ → List Ticket) (messages : ℕ
+    → List Message) : Type 0 where
   pub of_messages : (peer : ℕ) → AreTicketsOf send (tickets peer) (messages peer)
   pub one_each : (t : Ticket) (s : Sending) → send t ≡ Some s → HasOneTicket tickets t

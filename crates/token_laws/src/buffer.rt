@@ -2,7 +2,8 @@
 
 ghost use Rattle.token_laws.specs.Untouched.{ProvidedBuffersAreUntouched, ClosedBuffersAreUntouched};
 
-/// A provided buffer stays as the client provided it until a message is written into it, and so it is when its port is closed.
+/// A provided buffer stays as the client provided it until a message is written into it, and so it is when its port
+/// is closed.
 pub fn untouched_buffers()
     ensures provided { ProvidedBuffersAreUntouched }
     ensures closed { ClosedBuffersAreUntouched }

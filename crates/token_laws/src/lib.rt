@@ -1,6 +1,7 @@
 //! What holds of the tokens and buffers of ports, after every list of acts that may happen.
 //!
-//! It holds no port, and leaves out that each token has one owner: that is `owner_laws`. Read `specs/Tickets.antt` first.
+//! It holds no port, and leaves out that each token has one owner: that is `owner_laws`. Read `specs/Tickets.antt`
+//! first.
 //!
 //! | file of `specs/` | says |
 //! |---|---|

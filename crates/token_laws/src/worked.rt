@@ -1,6 +1,7 @@
 //! Reached worlds, worked out: `specs/Examples.antt` has the statements.
 
-ghost use Rattle.token_laws.specs.Examples.{BusyWorldIsReached, SendIsUnfinished, SendIsFinished, BufferIsProvided, CloseHandsBack, MessageIsReceived, BufferIsReturned};
+ghost use Rattle.token_laws.specs.Examples.{BusyWorldIsReached, SendIsUnfinished, SendIsFinished, BufferIsProvided};
+ghost use Rattle.token_laws.specs.Examples.{CloseHandsBack, MessageIsReceived, BufferIsReturned};
 
 /// A send stands in its port's queue until its message is acknowledged.
 pub fn one_send()

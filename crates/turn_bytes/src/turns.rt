@@ -53,7 +53,8 @@ pub fn push_route(bytes: &mut Vec<u8>, turns: &[i8]) -> Result<(), AllocError>
     Ok(())
 }
 
-/// The turns of at most 64 route bytes. `Malformed` exactly where another byte is among them; memory is taken once all are known.
+/// The turns of at most 64 route bytes. `Malformed` exactly where another byte is among them; memory is taken once
+/// all are known.
 pub fn walk_of(alloc: Global, bytes: &[u8]) -> Result<Walk, TurnFault>
     requires { length bytes.now ≤ 64 }
     ensures ok { IfOk result (λ walk. turns_of bytes.now ≡ Some walk) }

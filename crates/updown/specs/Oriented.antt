@@ -1,5 +1,6 @@
 -- An orientation as a list of places and a table of which ports are up.
-use Rattle.std.specs.Prelude.{ℕ, ◌*◌, ◌/◌, ◌%◌, pos, ◌-ℤ◌, Bool, false, List, map, length, slice_index_or, if◌then◌else◌}
+use Rattle.std.specs.Prelude.{ℕ, ◌*◌, ◌/◌, ◌%◌, pos, ◌-ℤ◌, Bool, false, List, map, length, slice_index_or}
+use Rattle.std.specs.Prelude.{if◌then◌else◌}
 use Rattle.net_defs.specs.Turn.{is_turn}
 use Rattle.journal_defs.specs.Counting.{numbers_below}
 use Rattle.map_defs.specs.NetMap.{NetMap, MapPort}

@@ -9,8 +9,8 @@ ghost use Rattle.updown.specs.Lowering.{lowered, lowers, lowered_by, lowers_by, 
 use fabric_map::{FabricMap, MapCable, MapVertex};
 use std::alloc::{AllocError, Global};
 
-/// The level of each vertex. Levels are lowered along the cables, over and over, until nothing changes: as often as the greatest level
-/// at most, and once more.
+/// The level of each vertex. Levels are lowered along the cables, over and over, until nothing changes: as often as
+/// the greatest level at most, and once more.
 pub(crate) fn levels(alloc: Global, m: &FabricMap) -> Result<Vec<u32>, AllocError>
     requires { IsConnected m.now }
     ensures { IfOk result (λ ls. ls.items ≡ levels m.now) }
@@ -23,7 +23,8 @@ pub(crate) fn levels(alloc: Global, m: &FabricMap) -> Result<Vec<u32>, AllocErro
 
 // Level 0 for the root, and one that is high enough for each other vertex.
 fn first_levels(alloc: Global, m: &FabricMap) -> Result<Vec<u32>, AllocError>
-    ensures { IfOk result (λ ls. ls.items ≡ slice_set (replicate (length m.now.vertices) (length m.now.vertices)) (root m.now) 0) }
+    ensures { IfOk result (λ ls. ls.items ≡ slice_set (replicate (length m.now.vertices) (length m.now.vertices))
+        (root m.now) 0) }
 {
     let count = m.vertices().len();
     let mut levels = vec![in alloc; count as u32; count]?;

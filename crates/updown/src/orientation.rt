@@ -1,6 +1,7 @@
 //! The orientation of a map.
 
-ghost use Rattle.std.specs.Prelude.{◌≡◌, ◌<◌, ◌*◌, ◌/◌, pos, ◌-ℤ◌, ◌+ℤ◌, nat_abs, false, length, slice_index_or, IfOk, map};
+ghost use Rattle.std.specs.Prelude.{◌≡◌, ◌<◌, ◌*◌, ◌/◌, pos, ◌-ℤ◌, ◌+ℤ◌, nat_abs, false, length, slice_index_or, IfOk};
+ghost use Rattle.std.specs.Prelude.{map};
 ghost use Rattle.net_defs.specs.Turn.{is_turn, IsTurn};
 ghost use Rattle.map_defs.specs.NetMap.{NetMap, IsMap, IsConnected};
 ghost use Rattle.map_defs.specs.Orientation.{order_of, is_up};
@@ -60,7 +61,8 @@ impl Orientation {
     /// Whether the channel that leaves by a port is up; false where no cable is at the port.
     pub fn is_up(&self, v: u32, p: i8) -> bool
         ensures value { result ≡ up_in self.now record { v = v; p = p } }
-        ensures of_map { (m : NetMap) → IsMap m → self.now ≡ orientation_of m → result ≡ is_up m (order_of m) record { v = v; p = p } }
+        ensures of_map { (m : NetMap) → IsMap m → self.now ≡ orientation_of m
+            → result ≡ is_up m (order_of m) record { v = v; p = p } }
     {
         if is_port(p) {
             up_at(&self.ups, place_of(v, p))
@@ -73,7 +75,8 @@ impl Orientation {
 // The table of all ports.
 fn ups(alloc: Global, m: &FabricMap, order: &[u32]) -> Result<Vec<bool>, AllocError>
     requires { length order.now ≡ length m.now.vertices }
-    ensures { IfOk result (λ ups. ups.items ≡ map (λ k. is_up m.now order.now (port_at k)) (numbers_below (31 * length m.now.vertices))) }
+    ensures { IfOk result (λ ups. ups.items ≡ map (λ k.
+        is_up m.now order.now (port_at k)) (numbers_below (31 * length m.now.vertices))) }
 {
     let _ = m.vertices();
     let mut ups = Vec::new(alloc);

@@ -18,8 +18,8 @@ use Rattle.world_defs.specs.Peer.{PeerState, Ticket, new_peer, with_message, pee
 use Rattle.world_defs.specs.Node.{NodeState, Outgoing, Probe, TablePart, Reply, PartAnswer, FrameAnswer, Fragment, peer_at, with_peer, port_at, with_port, to_send, after_sending, node_expired}
 use Rattle.world_defs.specs.Hearing.{message_of, delivered_after, frame_took, all_finished, hear}
 use Rattle.world_defs.specs.Client.{ClientState, Called, wanted_message}
-use Rattle.act_defs.proofs.Calls.{Call}
-use Rattle.act_defs.proofs.Lists.{each-set}
+use Rattle.world_defs.proofs.Calls.{Call}
+use Rattle.world_defs.proofs.Lists.{each-set}
 use Rattle.window_laws.proofs.Heard.{IsHeard, quietly, of_frame, of_ack, hear-is}
 use Rattle.window_laws.proofs.Sends.{IsOut, to_send-out}
 

@@ -1,5 +1,5 @@
 -- How much of what was sent is got: as much as was taken, since each message is one fragment.
-use Rattle.std.proofs.Common.{◌≡◌, ◌+◌, ◌-◌, ◌≤◌, ◌<◌, ℕ, zero, suc, Bool, true, false, List, [], ◌∷◌, map, length, take, nat_le, nat_lt, refl, sym, ap, ◌∙◌, subst, arith, if◌then◌else◌}
+use Rattle.std.proofs.Common.{◌≡◌, ◌+◌, ◌-◌, ◌≤◌, ◌<◌, ℕ, zero, suc, Bool, true, false, List, [], ◌∷◌, map, length, take, nat_le, nat_lt, refl, sym, ap, ◌∙◌, arith, if◌then◌else◌}
 use Rattle.std.specs.List.{AllByRecursion, range_with_len}
 use Rattle.std.proofs.lemmas.Bool.Decides.{nat_tests}
 use Rattle.std.proofs.lemmas.List.{get_or_past, take_all}
@@ -10,15 +10,16 @@ use Rattle.gm_defs.specs.Body.{piece}
 use Rattle.gm_defs.specs.Fragment.{piece_count, whole_below}
 use Rattle.world_defs.specs.Peer.{new_peer}
 use Rattle.world_defs.specs.Node.{peer_at, new_node, unacknowledged_to}
-use Rattle.world_defs.specs.World.{WorldState, host_count, node_at, sum_of, new_world}
+use Rattle.world_defs.specs.World.{WorldState, host_count, node_at, sum_of}
 use Rattle.world_defs.specs.Sound.{IsFront}
 use Rattle.world_defs.specs.Traffic.{sent_between, got_between, taken_between}
 use Rattle.world_defs.specs.Settle.{unacknowledged_from, unacknowledged_in}
 use Rattle.world_defs.specs.Settled.{sender_between}
 use Rattle.world_laws.specs.Shape.{IsWorld}
 use Rattle.world_laws.proofs.Shapes.{step-kept, new-world, adopted-world, planned-world}
-use Rattle.act_defs.specs.Acts.{Act, Happens, Plans, Adopts, acted, acted_all, IsReached}
+use Rattle.act_defs.specs.Acts.{Act, Happens, Plans, Adopts, acted, IsReached}
 use Rattle.window_laws.specs.Got.{GotIsWholeBelowTaken, AllAcknowledgedIsAllGot, NoneUnacknowledgedIsAllGot}
+use Rattle.act_defs.proofs.Reaching.{reached-has}
 use Rattle.window_laws.proofs.Windows.{IsWindowed, reached-windowed}
 
 one-piece : (len : ℕ) → len ≤ piece → piece_count len ≡ 1
@@ -75,17 +76,13 @@ sum-none f from (suc count) zero j s e low = let t : j ≡ from = omega (arith, 
 sum-none f from (suc count) (suc i) j s e low = sum-none f (from + 1) count i j (omega (arith, s)) (omega (arith, e)) (omega (arith, low))
 
 -- reached worlds are worlds
-acted_all-world : (w : WorldState) (acts : List Act) → IsWorld w → IsWorld (acted_all w acts)
-acted_all-world w [] is = is
-acted_all-world w (a ∷ acts) is = acted_all-world (acted w a) acts (by a)
-  where
-    by : (a : Act) → IsWorld (acted w a)
-    by (Happens e) = (step-kept w e).world is
-    by (Plans ahead fault) = planned-world w ahead fault is
-    by (Adopts mapper routes) = adopted-world w mapper routes is
+acted-world : (w : WorldState) (a : Act) → IsWorld w → IsWorld (acted w a)
+acted-world w (Happens e) is = (step-kept w e).world is
+acted-world w (Plans ahead fault) is = planned-world w ahead fault is
+acted-world w (Adopts mapper routes) is = adopted-world w mapper routes is
 
 pub reached-world : (n : Network) (w : WorldState) → IsReached n w → IsWorld w
-reached-world n w is = subst IsWorld (sym is.leads) (acted_all-world (new_world n) is.acts (new-world n))
+reached-world n w is = reached-has IsWorld n (new-world n) (λ w a r may. acted-world w a) w is
 
 -- a connection of hosts that aren't there has numbers 0
 past-host : (w : WorldState) (a b : ℕ) → host_count w ≤ a → (sender_between w a b).base ≡ (sender_between w a b).next

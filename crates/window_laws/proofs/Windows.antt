@@ -1,5 +1,5 @@
 -- Every act leaves each connection its window, and each packet that says no number beyond it.
-use Rattle.std.proofs.Common.{◌≡◌, ◌+◌, ◌≤◌, ◌<◌, ◌^◌, ℕ, Bool, true, false, pos, List, [], ◌∷◌, ◌++◌, length, max, get_or, set, nat_eq, nat_lt, Ok, Err, inl, inr, refl, sym, ap, ◌∙◌, subst, arith, true≢false, if◌then◌else◌}
+use Rattle.std.proofs.Common.{◌≡◌, ◌+◌, ◌≤◌, ◌<◌, ◌^◌, ℕ, Bool, true, false, pos, List, ◌∷◌, ◌++◌, length, max, get_or, set, nat_eq, nat_lt, Ok, Err, inl, inr, refl, sym, ap, ◌∙◌, subst, arith, true≢false, if◌then◌else◌}
 use Rattle.std.proofs.lemmas.Bool.Decides.{nat_tests}
 use Rattle.std.proofs.lemmas.Nat.{from_be_bytes-to_be_bytes_2, from_be_bytes-to_be_bytes_4}
 use Rattle.std.proofs.lemmas.List.{get_or-set_same, get_or_past}
@@ -23,15 +23,16 @@ use Rattle.world_defs.specs.Traffic.{taken_between}
 use Rattle.world_defs.specs.Settled.{sender_between}
 use Rattle.world_laws.specs.Shape.{HasSenders}
 use Rattle.world_laws.proofs.Shapes.{step-kept, new-senders, adopted-senders, planned-senders}
-use Rattle.act_defs.specs.Acts.{Act, Happens, Plans, Adopts, acted, acted_all, MayAct, MayActAll, IsReached}
+use Rattle.act_defs.specs.Acts.{Act, Happens, Plans, Adopts, acted, MayAct, IsReached}
 use Rattle.table_laws.specs.Packets.{Built, IsHonest}
 use Rattle.table_laws.proofs.Medium.{Holds, weaker-holds, empty-holds, carries-honest}
-use Rattle.order_laws.proofs.Worlds.{IsOrdered, acted_all-ordered, new-ordered}
+use Rattle.order_laws.proofs.Worlds.{IsOrdered, acted-ordered, new-ordered}
 use Rattle.window_laws.specs.Windows.{WindowsHold}
 use Rattle.window_laws.proofs.Sends.{IsOut, to_send-out}
 use Rattle.window_laws.proofs.Hosts.{Rules, Goes, acted-goes}
-use Rattle.table_laws.proofs.Keeping.{new-honest, HoldsOfNew, acted-holds}
-use Rattle.act_defs.proofs.Lists.{each-replicate}
+use Rattle.table_laws.proofs.Keeping.{new-honest, honest-more, HoldsOfNew, acted-holds}
+use Rattle.world_defs.proofs.Lists.{each-replicate}
+use Rattle.act_defs.proofs.Reaching.{reached-has}
 use Rattle.act_defs.proofs.Kept.{may-byte}
 use Rattle.window_laws.proofs.Numbers.{IsWithin, SaysWithin, says-more, due-number, PeerGoes, NodeGoes, node-same, hear-goes, sends-goes, expires-goes, call-goes}
 
@@ -156,12 +157,6 @@ packet-within w v h number (Fragment peer head part by) is more out e =
           (frame-read (top_between v) (taken_between v) (head_of h peer out.number f.0) part fits.0 fits.1 (omega (arith, now, offered, range)) (omega (arith, now, top)));
     }
 
-honest-more : (G H : Kind → List ℕ → Type 0) (held : Held) → ((k : Kind) (body : List ℕ) → G k body → H k body) → IsHonest G held → IsHonest H held
-honest-more G H held more is = record {
-  mark = is.mark;
-  built = λ m. let b = is.built m in record { route = b.route; kind = b.kind; payload = b.payload; written = b.written; good = more b.kind b.payload b.good };
-}
-
 acted-senders : (w : WorldState) (a : Act) → HasSenders w → HasSenders (acted w a)
 acted-senders w (Happens e) is = (step-kept w e).senders is
 acted-senders w (Plans ahead fault) is = planned-senders w ahead fault is
@@ -177,7 +172,7 @@ acted-windowed w a may is =
     let new : HoldsOfNew F w v = λ h c out i. new-honest (numbers_of v) (packet_for h (w.injected + 1) out) (packet-within w v h (w.injected + 1) out is takens (to_send-out h (node_at w h) out i.sends) i.nodes) in
     let still : Holds F w.links = weaker-holds (λ c. IsHonest (numbers_of w)) F w.links (λ c held. honest-more (numbers_of w) (numbers_of v) held (says-more (top_between w) (taken_between w) (top_between v) (taken_between v) tops takens)) is.links in
     record {
-      ordered = acted_all-ordered w (a ∷ []) (may, tt) is.ordered;
+      ordered = acted-ordered w a (may-byte w a may) is.ordered;
       senders = acted-senders w a is.senders;
       links = acted-holds F w (carries-honest (fabric_of w) (numbers_of v)) still is.ordered.plan a (may-byte w a may) new;
       pairs = λ a b.
@@ -196,10 +191,6 @@ acted-windowed w a may is =
           };
     }
 
-pub acted_all-windowed : (w : WorldState) (acts : List Act) → MayActAll w acts → IsWindowed w → IsWindowed (acted_all w acts)
-acted_all-windowed w [] may is = is
-acted_all-windowed w (a ∷ acts) may is = acted_all-windowed (acted w a) acts may.1 (acted-windowed w a may.0 is)
-
 -- the new world
 new-peers : (n : Network) (h p : ℕ) → peer_at (node_at (new_world n) h) p ≡ new_peer
 new-peers n h p =
@@ -217,7 +208,7 @@ new-windowed n f = record {
 }
 
 pub reached-windowed : (n : Network) (w : WorldState) → IsReached n w → IsWindowed w
-reached-windowed n w is = subst IsWindowed (sym is.leads) (acted_all-windowed (new_world n) is.acts is.may (new-windowed n is.fabric))
+reached-windowed n w is = reached-has IsWindowed n (new-windowed n is.fabric) (λ w a r. acted-windowed w a) w is
 
 pub windows-hold : WindowsHold
 windows-hold n w is a b =

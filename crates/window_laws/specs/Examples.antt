@@ -1,4 +1,5 @@
--- A reached world in which a message came and its acknowledgement came back, worked out: host 0 of the two at one switch sends host 1 one byte.
+-- A reached world in which a message came and its acknowledgement came back, worked out: host 0 of the two at one
+-- switch sends host 1 one byte.
 use Rattle.std.specs.Prelude.{◌≡◌, ℕ, List, [], ◌∷◌, ◌++◌, Option, Some, option_map, Result, Ok}
 use Rattle.net_defs.specs.Examples.{two_hosts}
 use Rattle.packet_defs.specs.declared.kind.Kind.{Kind}
@@ -18,7 +19,8 @@ use Rattle.order_laws.specs.Examples.{one_message, message_world, ten}
 
 -- host 1 has the routes too, and answers; its packet goes through the switch to host 0
 abbrev pub answered_acts : List Act
-answered_acts = one_message ++ Adopts 1 setup_routes ∷ Happens (Inject 1) ∷ Happens (Advance 2) ∷ Happens (Advance 1) ∷ []
+answered_acts = one_message ++ Adopts 1 setup_routes ∷ Happens (Inject 1) ∷ Happens (Advance 2) ∷ Happens (Advance 1)
+    ∷ []
 
 -- the world after them
 abbrev pub answered_world : WorldState
@@ -31,7 +33,8 @@ AnsweredWorldIsReached = IsReached two_hosts answered_world
 -- the answer once it is injected, with its whole route before it
 abbrev pub answer_on_its_way : Option (Result (Kind × List ℕ) HostDrop)
 answer_on_its_way =
-    option_map (λ held. body_of (unrouted held.wire)) (packet_in (acted_all message_world (Adopts 1 setup_routes ∷ Happens (Inject 1) ∷ [])).links 2)
+    option_map (λ held. body_of (unrouted held.wire))
+    (packet_in (acted_all message_world (Adopts 1 setup_routes ∷ Happens (Inject 1) ∷ [])).links 2)
 
 -- behind its route it is the acknowledgement of one fragment, as many as host 1 has taken
 abbrev pub AnswerIsHonest : Type 0
@@ -39,10 +42,12 @@ AnswerIsHonest = answer_on_its_way ≡ Some (Ok (Gm, ack_bytes (record { src = 1
 
 -- before the answer one fragment is taken, and none acknowledged
 abbrev pub TakenAheadOfBase : Type 0
-TakenAheadOfBase = (taken_between message_world 0 1 ≡ 1) × (sender_between message_world 0 1 ≡ record { base = 0; cursor = 1; top = 1; next = 1 })
+TakenAheadOfBase = (taken_between message_world 0 1 ≡ 1)
+    × (sender_between message_world 0 1 ≡ record { base = 0; cursor = 1; top = 1; next = 1 })
 
 -- behind it all is acknowledged, and the message is got
 abbrev pub AllIsAcknowledged : Type 0
 AllIsAcknowledged =
-    (sender_between answered_world 0 1 ≡ record { base = 1; cursor = 1; top = 1; next = 1 }) × (unacknowledged_in answered_world ≡ 0)
+    (sender_between answered_world 0 1 ≡ record { base = 1; cursor = 1; top = 1; next = 1 })
+    × (unacknowledged_in answered_world ≡ 0)
     × (got_between answered_world 0 1 ≡ ten ∷ []) × (sent_between answered_world 0 1 ≡ ten ∷ [])

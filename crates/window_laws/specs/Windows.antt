@@ -7,7 +7,8 @@ use Rattle.world_defs.specs.Traffic.{taken_between, IsHonestTraffic}
 use Rattle.world_defs.specs.Settled.{sender_between}
 use Rattle.act_defs.specs.Acts.{IsReached}
 
--- The numbers of a connection: the sender's are in order, what is acknowledged was taken, what was taken was sent, and at most a window of fragments was sent and isn't acknowledged.
+-- The numbers of a connection: the sender's are in order, what is acknowledged was taken, what was taken was sent,
+-- and at most a window of fragments was sent and isn't acknowledged.
 pub record IsWindow (s : SenderState) (taken : ℕ) : Type 0 where
   pub numbers : IsSender s
   pub base_below : s.base ≤ taken
@@ -16,7 +17,8 @@ pub record IsWindow (s : SenderState) (taken : ℕ) : Type 0 where
 
 -- each connection has its window
 abbrev pub WindowsHold : Type 0
-WindowsHold = (n : Network) (w : WorldState) → IsReached n w → (a b : ℕ) → IsWindow (sender_between w a b) (taken_between w a b)
+WindowsHold = (n : Network) (w : WorldState) → IsReached n w → (a b : ℕ)
+    → IsWindow (sender_between w a b) (taken_between w a b)
 
 -- each packet in a channel or in limbo that no flip has met is honest
 abbrev pub TrafficIsHonest : Type 0

@@ -1,6 +1,7 @@
 //! How much of what was sent is got: `specs/Got.antt` has the statements.
 
-ghost use Rattle.window_laws.specs.Got.{GotIsWholeBelowTaken, AllAcknowledgedIsAllGot, NoneUnacknowledgedIsAllGot, SettleGetsAll};
+ghost use Rattle.window_laws.specs.Got.{GotIsWholeBelowTaken, AllAcknowledgedIsAllGot, NoneUnacknowledgedIsAllGot};
+ghost use Rattle.window_laws.specs.Got.{SettleGetsAll};
 
 /// What is got is the messages that lie wholly below the number of fragments that were taken.
 pub fn messages_below_taken()

@@ -1,4 +1,5 @@
-//! What the numbers of every connection say, after every list of acts that may happen: what is acknowledged, what was taken, what was sent.
+//! What the numbers of every connection say, after every list of acts that may happen: what is acknowledged, what was
+//! taken, what was sent.
 //!
 //! It keeps no connection: that is `gm_conn`, and `host_peers` at a host. Read `specs/Windows.antt` first.
 //!

@@ -2,7 +2,8 @@
 
 ghost use Rattle.window_laws.specs.Windows.{WindowsHold, TrafficIsHonest};
 
-/// What is acknowledged was taken, what was taken was sent, and at most a window of fragments is sent and not acknowledged.
+/// What is acknowledged was taken, what was taken was sent, and at most a window of fragments is sent and not
+/// acknowledged.
 pub fn windows_hold()
     ensures windows { WindowsHold }
 {}

@@ -11,15 +11,14 @@ use Rattle.world_defs.specs.declared.effect.Effect.TheVariants.{Said as SaidSo}
 use Rattle.world_defs.specs.declared.effect.Said.{Said}
 use Rattle.world_defs.specs.declared.effect.Said.TheVariants.{Done, Count, Token, Sent, Received, Nothing, Refused}
 use Rattle.world_defs.specs.World.{WorldState, fabric_of, host_count}
-use Rattle.run_defs.specs.LineText.{line_text, output_text}
 use Rattle.run_defs.specs.Outcome.{places, token_lines}
-use Rattle.run_defs.specs.Output.{lines}
+use Rattle.run_defs.specs.Output.{OneLine, lines}
+use Rattle.fab_report.specs.Printed.{PrintedState, printed_of}
 use Rattle.fab_report.specs.There.{IsSaidOf}
 use Rattle.fab_world.specs.Events.{IsHostOf}
 use Rattle.fab_world.specs.Held.{IsMoment, IsOfHosts}
 use Rattle.world_commands.specs.declared.requests.PortAt.{PortAt}
 use Rattle.world_commands.specs.Places.{tokens_line}
-use Rattle.world_commands.proofs.Done.{one_line}
 use Rattle.world_commands.proofs.Naming.{reached-there}
 
 -- the host of a fabric is one of its world
@@ -53,20 +52,20 @@ abbrev minted_of : Option PortState → Option (ℕ × ℕ)
 minted_of o = option_map (λ p. (p.sends, p.recvs)) o
 
 -- the places of tokens are those of an open port
-pub tokens_told : (n : Network) (at : PortAt) (sends recvs : ℕ) (o : Option PortState) (text : List ℕ) → minted_of o ≡ Some (sends, recvs)
-    → text ≡ line_text n (tokens_line at sends recvs o) → text ≡ output_text n (lines (token_lines at.host at.port o))
-tokens_told n at sends recvs None text is e = cc
-tokens_told n at sends recvs (Some p) text is e =
+pub tokens_told : (n : Network) (at : PortAt) (sends recvs : ℕ) (o : Option PortState) (told : PrintedState) → minted_of o ≡ Some (sends, recvs)
+    → told ≡ printed_of n (OneLine (tokens_line at sends recvs o) ∷ []) → told ≡ printed_of n (lines (token_lines at.host at.port o))
+tokens_told n at sends recvs None told is e = cc
+tokens_told n at sends recvs (Some p) told is e =
     let both : ◌≡◌ {A = ℕ × ℕ} (p.sends, p.recvs) (sends, recvs) = cc in
-    one_line n (tokens_line at p.sends p.recvs (Some p)) text
-    (e ∙ ap (λ k. line_text n (tokens_line at k recvs (Some p))) (ap (λ x. x.0) (sym both))
-    ∙ ap (λ k. line_text n (tokens_line at p.sends k (Some p))) (ap (λ x. x.1) (sym both)))
+    e
+    ∙ ap (λ k. printed_of n (OneLine (tokens_line at k recvs (Some p)) ∷ [])) (ap (λ x. x.0) (sym both))
+    ∙ ap (λ k. printed_of n (OneLine (tokens_line at p.sends k (Some p)) ∷ [])) (ap (λ x. x.1) (sym both))
 
 -- a port that isn't open has no tokens
-pub closed_told : (n : Network) (at : PortAt) (o : Option PortState) (text : List ℕ) → minted_of o ≡ None
-    → text ≡ output_text n (lines (token_lines at.host at.port None)) → text ≡ output_text n (lines (token_lines at.host at.port o))
-closed_told n at None text is e = e
-closed_told n at (Some p) text is e = cc
+pub closed_told : (n : Network) (at : PortAt) (o : Option PortState) (told : PrintedState) → minted_of o ≡ None
+    → told ≡ printed_of n (lines (token_lines at.host at.port None)) → told ≡ printed_of n (lines (token_lines at.host at.port o))
+closed_told n at None told is e = e
+closed_told n at (Some p) told is e = cc
 
 -- the place of one token more
 pub one_more : (count : ℕ) (place_of : ℕ → Option TokenPlace) → places (count + 1) place_of ≡ places count place_of ++ record { number = count; place = place_of count } ∷ []

@@ -1,6 +1,5 @@
--- That commands are done over a world, by the texts that they print.
-use Rattle.std.proofs.Common.{◌≡◌, ℕ, ℤ, List, [], ◌∷◌, Option, Some, None, refl, sym, ◌∙◌, ap, append-nil}
-use Rattle.net_defs.specs.Network.{Network}
+-- That commands are done over a world, by what they print.
+use Rattle.std.proofs.Common.{◌≡◌, ℕ, ℤ, List, [], ◌∷◌, Option, Some, None, refl, sym, ◌∙◌, ap}
 use Rattle.net_defs.specs.Route.{place}
 use Rattle.world_defs.specs.declared.event.Event.{Event}
 use Rattle.world_defs.specs.declared.effect.Effect.{Effect}
@@ -15,46 +14,42 @@ use Rattle.run_defs.specs.declared.line.ClientCall.{ClientCall}
 use Rattle.run_defs.specs.declared.line.Line.{Line}
 use Rattle.run_defs.specs.declared.line.Line.TheVariants.{Walk as WalkLine, PlanAt, Step as StepOutput, Finish as FinishLine}
 use Rattle.run_defs.specs.declared.line.StepWords.TheVariants.{Idle}
-use Rattle.run_defs.specs.LineText.{line_text, output_text}
 use Rattle.run_defs.specs.Outcome.{called, client_lines, event_of, fault_of, outcome, step_or_idle, stepped, token_lines, words_of}
 use Rattle.run_defs.specs.Output.{OneLine, lines}
 use Rattle.run_defs.specs.Session.{LastMap, LastRoutes}
+use Rattle.fab_report.specs.Printed.{PrintedState, printed_of}
 use Rattle.world_commands.specs.declared.requests.PortAt.{PortAt}
 use Rattle.world_commands.specs.Done.{IsCall, IsDone, session_of}
 
--- one line alone
-pub one_line : (n : Network) (l : Line) (text : List ℕ) → text ≡ line_text n l → text ≡ output_text n (lines (l ∷ []))
-one_line n l text e = e ∙ sym (append-nil (line_text n l))
-
 -- a command whose outcome is one line
-pub one : (c : Command) (l : Line) (w v : WorldState) (text : List ℕ)
+pub one : (c : Command) (l : Line) (w v : WorldState) (told : PrintedState)
     → ((made : Option LastMap) → (found : Option LastRoutes) → outcome (session_of w made found) c ≡ Some (record { output = OneLine l ∷ []; after = session_of v made found }))
-    → text ≡ line_text (fabric_of w) l → IsDone c w v text
-one c l w v text o e = record { output = OneLine l ∷ []; determined = o; printed = one_line (fabric_of w) l text e }
+    → told ≡ printed_of (fabric_of w) (OneLine l ∷ []) → IsDone c w v told
+one c l w v told o e = record { output = OneLine l ∷ []; determined = o; printed = e }
 
-pub walked : (w : WorldState) (host : ℕ) (walk : List ℤ) (text : List ℕ) → text ≡ line_text (fabric_of w) (WalkLine (place (fabric_of w) host walk)) → IsDone (Walk host walk) w w text
-walked w host walk text e = one (Walk host walk) (WalkLine (place (fabric_of w) host walk)) w w text (λ made found. refl) e
+pub walked : (w : WorldState) (host : ℕ) (walk : List ℤ) (told : PrintedState) → told ≡ printed_of (fabric_of w) (OneLine (WalkLine (place (fabric_of w) host walk)) ∷ []) → IsDone (Walk host walk) w w told
+walked w host walk told e = one (Walk host walk) (WalkLine (place (fabric_of w) host walk)) w w told (λ made found. refl) e
 
-pub finished : (w : WorldState) (text : List ℕ) → text ≡ line_text (fabric_of w) (FinishLine w.injected w.dropped) → IsDone Finish w w text
-finished w text e = one Finish (FinishLine w.injected w.dropped) w w text (λ made found. refl) e
+pub finished : (w : WorldState) (told : PrintedState) → told ≡ printed_of (fabric_of w) (OneLine (FinishLine w.injected w.dropped) ∷ []) → IsDone Finish w w told
+finished w told e = one Finish (FinishLine w.injected w.dropped) w w told (λ made found. refl) e
 
-pub planned_so : (w v : WorldState) (ahead : ℕ) (kind : PlanKind) (text : List ℕ) → v ≡ (planned w ahead (fault_of kind)).1
-    → text ≡ line_text (fabric_of w) (PlanAt (planned w ahead (fault_of kind)).0) → IsDone (Plan ahead kind) w v text
-planned_so w v ahead kind text same e =
+pub planned_so : (w v : WorldState) (ahead : ℕ) (kind : PlanKind) (told : PrintedState) → v ≡ (planned w ahead (fault_of kind)).1
+    → told ≡ printed_of (fabric_of w) (OneLine (PlanAt (planned w ahead (fault_of kind)).0) ∷ []) → IsDone (Plan ahead kind) w v told
+planned_so w v ahead kind told same e =
     let l : Line = PlanAt (planned w ahead (fault_of kind)).0 in
-    one (Plan ahead kind) l w v text (λ made found. ap (λ (u : WorldState). Some (record { output = OneLine l ∷ []; after = session_of u made found })) (sym same)) e
+    one (Plan ahead kind) l w v told (λ made found. ap (λ (u : WorldState). Some (record { output = OneLine l ∷ []; after = session_of u made found })) (sym same)) e
 
-pub tokens_so : (w : WorldState) (host port : ℕ) (text : List ℕ) → text ≡ output_text (fabric_of w) (lines (token_lines host port (port_at (node_at w host) port))) → IsDone (Tokens host port) w w text
-tokens_so w host port text e = record {
+pub tokens_so : (w : WorldState) (host port : ℕ) (told : PrintedState) → told ≡ printed_of (fabric_of w) (lines (token_lines host port (port_at (node_at w host) port))) → IsDone (Tokens host port) w w told
+tokens_so w host port told e = record {
   output = lines (token_lines host port (port_at (node_at w host) port));
   determined = λ made found. refl;
   printed = e;
 }
 
 -- a call of a client
-pub called_so : (c : Command) (call : ClientCall) (at : PortAt) (event : Event) (x : Effect × WorldState) (w v : WorldState) (text : List ℕ) → IsCall c call at event → step w event ≡ x → v ≡ x.1
-    → text ≡ output_text (fabric_of w) (lines (client_lines call at.host at.port x.0)) → IsDone c w v text
-called_so c call at event (effect, u) w v text is happened same e = record {
+pub called_so : (c : Command) (call : ClientCall) (at : PortAt) (event : Event) (x : Effect × WorldState) (w v : WorldState) (told : PrintedState) → IsCall c call at event → step w event ≡ x → v ≡ x.1
+    → told ≡ printed_of (fabric_of w) (lines (client_lines call at.host at.port x.0)) → IsDone c w v told
+called_so c call at event (effect, u) w v told is happened same e = record {
   output = lines (client_lines call at.host at.port effect);
   determined = λ made found.
       is (session_of w made found)
@@ -64,17 +59,17 @@ called_so c call at event (effect, u) w v text is happened same e = record {
 }
 
 -- an event
-stepped-to : (c : Command) (x : Effect × WorldState) (w v : WorldState) (text : List ℕ) → ((made : Option LastMap) → (found : Option LastRoutes) → outcome (session_of w made found) c ≡ Some (stepped (session_of w made found) x))
-    → v ≡ x.1 → text ≡ line_text (fabric_of w) (StepOutput (words_of x.1 x.0)) → IsDone c w v text
-stepped-to c (effect, u) w v text is same e =
+stepped-to : (c : Command) (x : Effect × WorldState) (w v : WorldState) (told : PrintedState) → ((made : Option LastMap) → (found : Option LastRoutes) → outcome (session_of w made found) c ≡ Some (stepped (session_of w made found) x))
+    → v ≡ x.1 → told ≡ printed_of (fabric_of w) (OneLine (StepOutput (words_of x.1 x.0)) ∷ []) → IsDone c w v told
+stepped-to c (effect, u) w v told is same e =
     let l : Line = StepOutput (words_of u effect) in
-    one c l w v text (λ made found. is made found ∙ ap (λ (y : WorldState). Some (record { output = OneLine l ∷ []; after = session_of y made found })) (sym same)) e
+    one c l w v told (λ made found. is made found ∙ ap (λ (y : WorldState). Some (record { output = OneLine l ∷ []; after = session_of y made found })) (sym same)) e
 
 -- a step's line that is an event
-pub stepped_so : (w v : WorldState) (line : StepLine) (event : Event) (text : List ℕ) → event_of w line ≡ Some event → v ≡ (step w event).1
-    → text ≡ line_text (fabric_of w) (StepOutput (words_of (step w event).1 (step w event).0)) → IsDone (Step line) w v text
-stepped_so w v line event text is same e = stepped-to (Step line) (step w event) w v text (λ made found. ap (λ (o : Option Event). Some (step_or_idle (session_of w made found) o)) is) same e
+pub stepped_so : (w v : WorldState) (line : StepLine) (event : Event) (told : PrintedState) → event_of w line ≡ Some event → v ≡ (step w event).1
+    → told ≡ printed_of (fabric_of w) (OneLine (StepOutput (words_of (step w event).1 (step w event).0)) ∷ []) → IsDone (Step line) w v told
+stepped_so w v line event told is same e = stepped-to (Step line) (step w event) w v told (λ made found. ap (λ (o : Option Event). Some (step_or_idle (session_of w made found) o)) is) same e
 
 -- a step on a port without cable
-pub idle_so : (w : WorldState) (line : StepLine) (text : List ℕ) → event_of w line ≡ None → text ≡ line_text (fabric_of w) (StepOutput Idle) → IsDone (Step line) w w text
-idle_so w line text none e = one (Step line) (StepOutput Idle) w w text (λ made found. ap (λ (o : Option Event). Some (step_or_idle (session_of w made found) o)) none) e
+pub idle_so : (w : WorldState) (line : StepLine) (told : PrintedState) → event_of w line ≡ None → told ≡ printed_of (fabric_of w) (OneLine (StepOutput Idle) ∷ []) → IsDone (Step line) w w told
+idle_so w line told none e = one (Step line) (StepOutput Idle) w w told (λ made found. ap (λ (o : Option Event). Some (step_or_idle (session_of w made found) o)) none) e

@@ -1,4 +1,4 @@
--- That a command was done over a world, whatever else a session holds, and its text.
+-- That a command was done over a world, whatever else a session holds, and what it printed.
 use Rattle.std.specs.Prelude.{◌≡◌, ℕ, List, Option, Some}
 use Rattle.world_defs.specs.declared.event.Event.{Event}
 use Rattle.world_defs.specs.Step.{step}
@@ -6,10 +6,10 @@ use Rattle.world_defs.specs.World.{WorldState, fabric_of}
 use Rattle.run_defs.specs.declared.command.Command.{Command}
 use Rattle.run_defs.specs.declared.command.Command.TheVariants.{Send}
 use Rattle.run_defs.specs.declared.line.ClientCall.{ClientCall}
-use Rattle.run_defs.specs.LineText.{output_text}
 use Rattle.run_defs.specs.Outcome.{called, outcome}
 use Rattle.run_defs.specs.Output.{Piece}
 use Rattle.run_defs.specs.Session.{SessionState, LastMap, LastRoutes}
+use Rattle.fab_report.specs.Printed.{PrintedState, printed_of}
 use Rattle.world_commands.specs.declared.requests.PortAt.{PortAt}
 use Rattle.world_commands.specs.declared.requests.SendRequest.{SendRequest}
 
@@ -17,12 +17,14 @@ use Rattle.world_commands.specs.declared.requests.SendRequest.{SendRequest}
 abbrev pub session_of : WorldState → Option LastMap → Option LastRoutes → SessionState
 session_of w made found = record { world = w; last_map = made; last_routes = found }
 
--- A command was done over a world: it leaves each session of that world with the world then and all else as it was, and the text is that of what it printed.
-pub record IsDone (c : Command) (before after : WorldState) (text : List ℕ) : Type 0 where
+-- A command was done over a world: it leaves each session of that world with the world then and all else as it was,
+-- and this is the text of what it printed, with its figures.
+pub record IsDone (c : Command) (before after : WorldState) (told : PrintedState) : Type 0 where
   pub output : List Piece
   pub determined : (made : Option LastMap) → (found : Option LastRoutes)
-      → outcome (session_of before made found) c ≡ Some (record { output = output; after = session_of after made found })
-  pub printed : text ≡ output_text (fabric_of before) output
+      → outcome (session_of before made found) c ≡ Some
+      (record { output = output; after = session_of after made found })
+  pub printed : told ≡ printed_of (fabric_of before) output
 
 -- a command is this call of a client, by its event
 abbrev pub IsCall : Command → ClientCall → PortAt → Event → Type 0

@@ -3,33 +3,34 @@
 ghost use Rattle.std.specs.Prelude.{◌≡◌, length, IfOk};
 ghost use Rattle.world_defs.specs.World.{fabric_of};
 ghost use Rattle.world_defs.specs.declared.effect.Effect.TheVariants.{Said as SaidSo};
-ghost use Rattle.run_defs.specs.LineText.{output_text};
 ghost use Rattle.run_defs.specs.Outcome.{client_lines};
 ghost use Rattle.run_defs.specs.Output.{lines};
 ghost use Rattle.run_defs.specs.declared.command.Command.{Command};
+ghost use Rattle.fab_report.specs.Printed.{printed_of};
 ghost use Rattle.fab_report.specs.There.{IsHost};
 ghost use Rattle.fab_world.specs.Events.{IsGiven};
 ghost use Rattle.fab_world.specs.Held.{IsOfHosts};
 ghost use Rattle.world_commands.specs.Done.{IsCall, IsDone};
 
 use crate::requests::PortAt;
-use fab_report::print_line;
+use fab_report::Printed;
 use fab_world::{Effect, Event, Fabric, World};
 use run_defs::{ClientCall, Line};
 use std::alloc::{AllocError, Global};
 use world_defs::Said;
 
-/// A client's call at a port, by its event: the command that this call is was done. Where memory is wanting, the event may have happened.
+/// A client's call at a port, by its event: the command that this call is was done. Where memory is wanting, the
+/// event may have happened.
 pub(crate) fn call(
     alloc: Global,
     w: &mut World,
     call: ClientCall,
     at: PortAt,
     event: Event,
-) -> Result<Vec<u8>, AllocError>
+) -> Result<Printed, AllocError>
     requires there { IsHost (fabric_of w.old) at.host }
     requires given { IsGiven w.old event }
-    ensures done { (c : Command) → IsCall c call at event → IfOk result (λ text. IsDone c w.old w.new text.items) }
+    ensures done { (c : Command) → IsCall c call at event → IfOk result (λ p. IsDone c w.old w.new p) }
     ensures fabric { fabric_of w.new ≡ fabric_of w.old }
 {
     w.moment();
@@ -44,29 +45,29 @@ fn effect_text(
     call: ClientCall,
     at: PortAt,
     effect: Effect,
-) -> Result<Vec<u8>, AllocError>
+) -> Result<Printed, AllocError>
     requires there { IsHost f.now at.host }
     requires sender { IsOfHosts (length f.now.hosts) effect }
-    ensures { IfOk result (λ text. text.items ≡ output_text f.now (lines (client_lines call at.host at.port effect))) }
+    ensures { IfOk result (λ p. p ≡ printed_of f.now (lines (client_lines call at.host at.port effect))) }
 {
     match effect {
         Effect::Said(said) => answer_text(alloc, f, call, at, said),
-        _ => Ok(Vec::new(alloc)),
+        _ => Ok(Printed::nothing(alloc)),
     }
 }
 
 /// The line of an answer.
-#[tactic(auto, using(crate::proofs::Calls::said_there, crate::proofs::Done::one_line))]
+#[tactic(auto, using(crate::proofs::Calls::said_there))]
 pub(crate) fn answer_text(
     alloc: Global,
     f: &Fabric,
     call: ClientCall,
     at: PortAt,
     said: Said,
-) -> Result<Vec<u8>, AllocError>
+) -> Result<Printed, AllocError>
     requires there { IsHost f.now at.host }
     requires sender { IsOfHosts (length f.now.hosts) (SaidSo said) }
-    ensures { IfOk result (λ text. text.items ≡ output_text f.now (lines (client_lines call at.host at.port (SaidSo said)))) }
+    ensures { IfOk result (λ p. p ≡ printed_of f.now (lines (client_lines call at.host at.port (SaidSo said)))) }
 {
     let line = Line::Client {
         call,
@@ -74,5 +75,5 @@ pub(crate) fn answer_text(
         port: at.port,
         said,
     };
-    print_line(alloc, &line, f)
+    Printed::line(alloc, &line, f)
 }

@@ -8,6 +8,7 @@ ghost use Rattle.world_commands.specs.Done.{IsDone, sending};
 
 use crate::answers::call;
 use crate::requests::{PortAt, SendRequest};
+use fab_report::Printed;
 use fab_world::{Event, World};
 use run_defs::ClientCall;
 use std::alloc::{AllocError, Global};
@@ -20,10 +21,10 @@ pub fn open(
     at: PortAt,
     sends: u16,
     recvs: u16,
-) -> Result<Vec<u8>, AllocError>
+) -> Result<Printed, AllocError>
     requires there { IsHost (fabric_of w.old) at.host }
     requires port { at.port ≤ 7 }
-    ensures done { IfOk result (λ text. IsDone (Begin at.host at.port sends recvs) w.old w.new text.items) }
+    ensures done { IfOk result (λ p. IsDone (Begin at.host at.port sends recvs) w.old w.new p) }
     ensures fabric { fabric_of w.new ≡ fabric_of w.old }
 {
     w.moment();
@@ -38,10 +39,10 @@ pub fn open(
 
 /// Closes a port. Where memory is wanting, it may be closed.
 #[tactic(auto, using(crate::proofs::Calls::port_given))]
-pub fn close(alloc: Global, w: &mut World, at: PortAt) -> Result<Vec<u8>, AllocError>
+pub fn close(alloc: Global, w: &mut World, at: PortAt) -> Result<Printed, AllocError>
     requires there { IsHost (fabric_of w.old) at.host }
     requires port { at.port ≤ 7 }
-    ensures done { IfOk result (λ text. IsDone (Close at.host at.port) w.old w.new text.items) }
+    ensures done { IfOk result (λ p. IsDone (Close at.host at.port) w.old w.new p) }
     ensures fabric { fabric_of w.new ≡ fabric_of w.old }
 {
     w.moment();
@@ -54,10 +55,10 @@ pub fn close(alloc: Global, w: &mut World, at: PortAt) -> Result<Vec<u8>, AllocE
 
 /// Takes the next event of a port. Where memory is wanting, it may be taken.
 #[tactic(auto, using(crate::proofs::Calls::port_given))]
-pub fn poll(alloc: Global, w: &mut World, at: PortAt) -> Result<Vec<u8>, AllocError>
+pub fn poll(alloc: Global, w: &mut World, at: PortAt) -> Result<Printed, AllocError>
     requires there { IsHost (fabric_of w.old) at.host }
     requires port { at.port ≤ 7 }
-    ensures done { IfOk result (λ text. IsDone (Poll at.host at.port) w.old w.new text.items) }
+    ensures done { IfOk result (λ p. IsDone (Poll at.host at.port) w.old w.new p) }
     ensures fabric { fabric_of w.new ≡ fabric_of w.old }
 {
     w.moment();
@@ -76,10 +77,10 @@ pub fn provide(
     at: PortAt,
     size: u8,
     prio: u8,
-) -> Result<Vec<u8>, AllocError>
+) -> Result<Printed, AllocError>
     requires there { IsHost (fabric_of w.old) at.host }
     requires port { at.port ≤ 7 }
-    ensures done { IfOk result (λ text. IsDone (Provide at.host at.port size prio) w.old w.new text.items) }
+    ensures done { IfOk result (λ p. IsDone (Provide at.host at.port size prio) w.old w.new p) }
     ensures fabric { fabric_of w.new ≡ fabric_of w.old }
 {
     w.moment();
@@ -94,13 +95,13 @@ pub fn provide(
 
 /// Sends a message from a port. Where memory is wanting, it may be accepted.
 #[tactic(auto, using(crate::proofs::Calls::message_given))]
-pub fn send(alloc: Global, w: &mut World, at: PortAt, m: SendRequest) -> Result<Vec<u8>, AllocError>
+pub fn send(alloc: Global, w: &mut World, at: PortAt, m: SendRequest) -> Result<Printed, AllocError>
     requires there { IsHost (fabric_of w.old) at.host }
     requires port { at.port ≤ 7 }
     requires dest { IsHost (fabric_of w.old) m.to.host }
     requires dport { m.to.port ≤ 7 }
     requires prio { m.prio ≤ 1 }
-    ensures done { IfOk result (λ text. IsDone (sending at m) w.old w.new text.items) }
+    ensures done { IfOk result (λ p. IsDone (sending at m) w.old w.new p) }
     ensures fabric { fabric_of w.new ≡ fabric_of w.old }
 {
     w.moment();

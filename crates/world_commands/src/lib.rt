@@ -1,7 +1,8 @@
 //! The commands that a world alone is needed for: at most one event each, and the text of what came of it.
 //!
-//! It drives nothing: a map, an installation and a settle are many events, and stand above. `specs/Done.antt` says what it is for a
-//! command to be done over a world; `specs/Outcome.antt` of `run_defs` says what each command prints and leaves.
+//! It drives nothing: a map, an installation and a settle are many events, and stand above. `specs/Done.antt` says
+//! what it is for a command to be done over a world; `specs/Outcome.antt` of `run_defs` says what each command prints
+//! and leaves.
 //!
 //! ```text
 //!   walk                     a packet, alone in links of its own --> where it ends

@@ -1,12 +1,13 @@
 //! Where each token of a port is.
 
-ghost use Rattle.std.specs.Prelude.{◌≡◌, ◌<◌, ◌≤◌, true, false, IfOk};
+ghost use Rattle.std.specs.Prelude.{◌≡◌, ◌<◌, ◌≤◌, ◌∷◌, [], true, false, IfOk};
 ghost use Rattle.world_defs.specs.Node.{port_at};
 ghost use Rattle.world_defs.specs.World.{fabric_of, node_at};
-ghost use Rattle.run_defs.specs.LineText.{line_text};
 ghost use Rattle.run_defs.specs.Outcome.{places};
+ghost use Rattle.run_defs.specs.Output.{OneLine};
 ghost use Rattle.run_defs.specs.declared.command.Command.TheVariants.{Tokens};
 ghost use Rattle.host_ports.specs.Held.{place_at};
+ghost use Rattle.fab_report.specs.Printed.{printed_of};
 ghost use Rattle.fab_report.specs.There.{IsHost};
 ghost use Rattle.fab_world.specs.Events.{IsHostOf};
 ghost use Rattle.world_commands.specs.Done.{IsDone};
@@ -14,17 +15,17 @@ ghost use Rattle.world_commands.specs.Places.{tokens_line};
 
 use crate::answers::answer_text;
 use crate::requests::PortAt;
-use fab_report::print_line;
+use fab_report::Printed;
 use fab_world::World;
 use run_defs::{ClientCall, Line, PlaceEntry, PlaceList};
 use std::alloc::{AllocError, Global};
 use world_defs::{ClientCause, Said};
 
 /// Where each token of a port is, by number; or that the port isn't open.
-pub fn tokens(alloc: Global, w: &World, at: PortAt) -> Result<Vec<u8>, AllocError>
+pub fn tokens(alloc: Global, w: &World, at: PortAt) -> Result<Printed, AllocError>
     requires there { IsHost (fabric_of w.now) at.host }
     requires port { at.port ≤ 7 }
-    ensures { IfOk result (λ text. IsDone (Tokens at.host at.port) w.now w.now text.items) }
+    ensures { IfOk result (λ p. IsDone (Tokens at.host at.port) w.now w.now p) }
 {
     w.moment();
     match w.minted(at.host, at.port) {
@@ -43,12 +44,12 @@ fn places_text(
     at: PortAt,
     sends: u16,
     recvs: u16,
-) -> Result<Vec<u8>, AllocError>
+) -> Result<Printed, AllocError>
     requires there { IsHost (fabric_of w.now) at.host }
     requires among { IsHostOf w.now at.host }
     requires port { at.port < 8 }
-    ensures { IfOk result (λ text. text.items ≡ line_text (fabric_of w.now)
-        (tokens_line at sends recvs (port_at (node_at w.now at.host) at.port))) }
+    ensures { IfOk result (λ p. p ≡ printed_of (fabric_of w.now)
+        (OneLine (tokens_line at sends recvs (port_at (node_at w.now at.host) at.port)) ∷ [])) }
 {
     let line = Line::Tokens {
         host: at.host,
@@ -56,7 +57,7 @@ fn places_text(
         sends: places_of(alloc, w, at, true, sends)?,
         recvs: places_of(alloc, w, at, false, recvs)?,
     };
-    print_line(alloc, &line, w.fabric())
+    Printed::line(alloc, &line, w.fabric())
 }
 
 // The places of so many tokens of one kind.

@@ -1,35 +1,37 @@
 //! A single event, in a report's words.
 
-ghost use Rattle.std.specs.Prelude.{◌≡◌, IfOk, IfSome, IsTrue, OnOk};
+ghost use Rattle.std.specs.Prelude.{◌≡◌, ◌∷◌, [], IfOk, IfSome, IsTrue, OnOk};
 ghost use Rattle.net_defs.specs.Network.{has_vertex};
 ghost use Rattle.world_defs.specs.Step.{step};
 ghost use Rattle.world_defs.specs.World.{fabric_of};
-ghost use Rattle.run_defs.specs.LineText.{line_text};
 ghost use Rattle.run_defs.specs.Outcome.{event_of, named_by_tail, words_of};
+ghost use Rattle.run_defs.specs.Output.{OneLine};
 ghost use Rattle.run_defs.specs.declared.command.Command.TheVariants.{Step as StepCommand};
 ghost use Rattle.run_defs.specs.declared.line.Line.TheVariants.{Step};
+ghost use Rattle.fab_report.specs.Printed.{printed_of};
 ghost use Rattle.fab_report.specs.There.{AreWordsOf};
 ghost use Rattle.fab_script.specs.Ranges.{IsStepOf};
 ghost use Rattle.fab_world.specs.Events.{IsChannelOf, IsGiven};
 ghost use Rattle.world_commands.specs.Done.{IsDone};
 ghost use Rattle.world_commands.specs.Named.{IsNaming};
 
-use fab_report::print_line;
+use fab_report::Printed;
 use fab_world::{Effect, Event, World};
 use net_defs::End;
 use run_defs::{Line, StepLine, StepWords};
 use std::alloc::{AllocError, Global};
 
-/// One event, and what it did; no event where the port that the line names has no cable. Where memory is wanting, the event may have happened.
+/// One event, and what it did; no event where the port that the line names has no cable. Where memory is wanting, the
+/// event may have happened.
 #[tactic(auto, using(crate::proofs::Done::stepped_so, crate::proofs::Done::idle_so))]
-pub fn step(alloc: Global, w: &mut World, line: StepLine) -> Result<Vec<u8>, AllocError>
+pub fn step(alloc: Global, w: &mut World, line: StepLine) -> Result<Printed, AllocError>
     requires { IsStepOf (fabric_of w.old) line }
-    ensures done { IfOk result (λ text. IsDone (StepCommand line) w.old w.new text.items) }
+    ensures done { IfOk result (λ p. IsDone (StepCommand line) w.old w.new p) }
     ensures fabric { fabric_of w.new ≡ fabric_of w.old }
 {
     match event_of(w, line) {
         Some(event) => event_text(alloc, w, event),
-        None => print_line(alloc, &Line::Step(StepWords::Idle), w.fabric()),
+        None => Printed::line(alloc, &Line::Step(StepWords::Idle), w.fabric()),
     }
 }
 
@@ -59,16 +61,17 @@ fn event_of(w: &World, line: StepLine) -> Option<Event>
 }
 
 // An event, and the line of what it did.
-fn event_text(alloc: Global, w: &mut World, event: Event) -> Result<Vec<u8>, AllocError>
+fn event_text(alloc: Global, w: &mut World, event: Event) -> Result<Printed, AllocError>
     requires { IsGiven w.old event }
-    ensures text { IfOk result (λ text. text.items ≡ line_text (fabric_of w.old) (Step (words_of (step w.old event).1 (step w.old event).0))) }
+    ensures text { IfOk result (λ p. p ≡ printed_of (fabric_of w.old)
+        (OneLine (Step (words_of (step w.old event).1 (step w.old event).0)) ∷ [])) }
     ensures after { OnOk result (w.new ≡ (step w.old event).1) }
     ensures fabric { fabric_of w.new ≡ fabric_of w.old }
 {
     w.moment();
     let effect = w.step(alloc, event)?;
     let words = words_of(w, &effect);
-    print_line(alloc, &Line::Step(words), w.fabric())
+    Printed::line(alloc, &Line::Step(words), w.fabric())
 }
 
 // An effect in a report's words.

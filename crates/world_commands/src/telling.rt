@@ -8,7 +8,7 @@ ghost use Rattle.run_defs.specs.Outcome.{fault_of};
 ghost use Rattle.run_defs.specs.declared.command.Command.TheVariants.{Walk, Plan, Finish};
 ghost use Rattle.world_commands.specs.Done.{IsDone};
 
-use fab_report::print_line;
+use fab_report::Printed;
 use fab_world::{Fault, World};
 use link_model::{Links, walk_alone};
 use run_defs::{Line, PlanKind};
@@ -22,26 +22,26 @@ pub fn walk(
     links: &mut Links,
     host: u16,
     turns: &[i8],
-) -> Result<Vec<u8>, AllocError>
+) -> Result<Printed, AllocError>
     requires short { length turns.now ≤ 64 }
     requires turns { All IsTurn turns.now }
     requires empty { links.old ≡ empty_links (fabric_of w.now) }
-    ensures done { IfOk result (λ text. IsDone (Walk host turns.now) w.now w.now text.items) }
+    ensures done { IfOk result (λ p. IsDone (Walk host turns.now) w.now w.now p) }
     ensures links { links.new ≡ links.old }
 {
     let end = walk_alone(alloc, links, host, turns)?;
-    print_line(alloc, &Line::Walk(end), w.fabric())
+    Printed::line(alloc, &Line::Walk(end), w.fabric())
 }
 
 /// Plans a fault for the injection so far ahead. Where memory is wanting, the plan may have been made.
 #[tactic(auto, using(crate::proofs::Done::planned_so))]
-pub fn plan(alloc: Global, w: &mut World, ahead: u64, kind: PlanKind) -> Result<Vec<u8>, AllocError>
+pub fn plan(alloc: Global, w: &mut World, ahead: u64, kind: PlanKind) -> Result<Printed, AllocError>
     requires { 1 ≤ ahead }
-    ensures done { IfOk result (λ text. IsDone (Plan ahead kind) w.old w.new text.items) }
+    ensures done { IfOk result (λ p. IsDone (Plan ahead kind) w.old w.new p) }
     ensures fabric { fabric_of w.new ≡ fabric_of w.old }
 {
     let number = w.plan(ahead, fault_of(kind))?;
-    print_line(alloc, &Line::PlanAt(number), w.fabric())
+    Printed::line(alloc, &Line::PlanAt(number), w.fabric())
 }
 
 // The fault that a line of a plan means.
@@ -58,12 +58,12 @@ fn fault_of(kind: PlanKind) -> Fault
 
 /// The injections and the drops of the whole run.
 #[tactic(auto, using(crate::proofs::Done::finished))]
-pub fn finish(alloc: Global, w: &World) -> Result<Vec<u8>, AllocError>
-    ensures { IfOk result (λ text. IsDone Finish w.now w.now text.items) }
+pub fn finish(alloc: Global, w: &World) -> Result<Printed, AllocError>
+    ensures { IfOk result (λ p. IsDone Finish w.now w.now p) }
 {
     let line = Line::Finish {
         injected: w.injected(),
         dropped: w.dropped(),
     };
-    print_line(alloc, &line, w.fabric())
+    Printed::line(alloc, &line, w.fabric())
 }

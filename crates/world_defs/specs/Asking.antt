@@ -1,5 +1,6 @@
 -- What a mapper's ask is over a world: which events it stands for, what it is answered, and when it drowns.
-use Rattle.std.specs.Prelude.{ℕ, zero, suc, ℤ, Bool, true, false, not, ◌&&◌, ◌||◌, List, [], ◌∷◌, map, nat_eq, nat_lt, nat_le, is_some, if◌then◌else◌, Option, Some, None}
+use Rattle.std.specs.Prelude.{ℕ, zero, suc, ℤ, Bool, true, false, not, ◌&&◌, ◌||◌, List, [], ◌∷◌, map, nat_eq, nat_lt}
+use Rattle.std.specs.Prelude.{nat_le, is_some, if◌then◌else◌, Option, Some, None}
 use Rattle.net_defs.specs.declared.place.Answer.{Answer}
 use Rattle.net_defs.specs.declared.place.Answer.TheVariants.{Host, Switch, Nothing}
 use Rattle.net_defs.specs.Route.{host_port, channel_from}
@@ -20,13 +21,15 @@ probed_host (_ ∷ xs) = probed_host xs
 -- the host whose reply to the probe of a number a mapper heard
 abbrev pub replied_host : ℕ → ℕ → List Effect → Option ℕ
 replied_host mapper number [] = None
-replied_host mapper number (Arrived h (Reply n from) ∷ xs) = if nat_eq h mapper && nat_eq n number then Some from else replied_host mapper number xs
+replied_host mapper number (Arrived h (Reply n from) ∷ xs) =
+    if nat_eq h mapper && nat_eq n number then Some from else replied_host mapper number xs
 replied_host mapper number (_ ∷ xs) = replied_host mapper number xs
 
 -- a mapper heard the loopback probe of a number
 abbrev pub has_returned : ℕ → ℕ → List Effect → Bool
 has_returned mapper number [] = false
-has_returned mapper number (Arrived h (Loop n) ∷ xs) = (nat_eq h mapper && nat_eq n number) || has_returned mapper number xs
+has_returned mapper number (Arrived h (Loop n) ∷ xs) =
+    (nat_eq h mapper && nat_eq n number) || has_returned mapper number xs
 has_returned mapper number (_ ∷ xs) = has_returned mapper number xs
 
 -- a host has a cable, but no injection is left
@@ -44,7 +47,8 @@ abbrev pub number_of : Effect → Option ℕ
 number_of (Injected n) = Some n
 number_of _ = None
 
--- a host's injection, and the drain behind it: whether no injection was left for it, its number, what happened in the drain, and the world then
+-- a host's injection, and the drain behind it: whether no injection was left for it, its number, what happened in the
+-- drain, and the world then
 pub record Sent : Type 0 where
   pub used_up : Bool
   pub number : Option ℕ
@@ -82,7 +86,11 @@ replied before mapper probe reply = record {
 
 -- what a host probe's try comes to: nothing where no host heard the probe, else what its reply comes to
 abbrev pub heard_by : WorldState → ℕ → Sent → Option ℕ → Tried (Option ℕ)
-heard_by before mapper probe None = record { found = None; harmed = is_harmed probe.used_up before probe.world; world = probe.world }
+heard_by before mapper probe None = record {
+  found = None;
+  harmed = is_harmed probe.used_up before probe.world;
+  world = probe.world;
+}
 heard_by before mapper probe (Some h) = replied before mapper probe (sends probe.world h)
 
 -- what a host probe's try comes to once its probe was sent
@@ -142,9 +150,14 @@ abbrev pub loop_answer : Bool → Answer
 loop_answer true = Switch
 loop_answer false = Nothing
 
--- what an ask comes to behind its loopback probes: it drowned where nothing was found, and a fault met every try of one of the two kinds
+-- what an ask comes to behind its loopback probes: it drowned where nothing was found, and a fault met every try of
+-- one of the two kinds
 abbrev pub asked_loops : Bool → Tried Bool → Asked
-asked_loops harmed t = record { answer = loop_answer t.found; drowned = not t.found && (harmed || t.harmed); world = t.world }
+asked_loops harmed t = record {
+  answer = loop_answer t.found;
+  drowned = not t.found && (harmed || t.harmed);
+  world = t.world;
+}
 
 -- what an ask comes to behind its host probes: a host, or what the loopback probes find
 abbrev pub asked_hosts : ℕ → List ℤ → ℕ → Bool → WorldState → Option ℕ → Asked
@@ -159,7 +172,8 @@ asked_by mapper walk tries t = asked_hosts mapper walk tries t.harmed t.world t.
 abbrev pub all_given_up : WorldState → WorldState
 all_given_up w = after_all w (map GiveUp (addresses w))
 
--- An ask of a mapper: every host gives up what it staged; up to so many host probes, to the first reply; without one, up to so many loopback
--- probes, to the first that returns. It drowns where the answer is Nothing and a fault met each host probe's try or each loopback probe's.
+-- An ask of a mapper: every host gives up what it staged; up to so many host probes, to the first reply; without one,
+-- up to so many loopback probes, to the first that returns. It drowns where the answer is Nothing and a fault met
+-- each host probe's try or each loopback probe's.
 unfoldable pub ask : ℕ → ℕ → List ℤ → WorldState → Asked
 ask mapper tries walk w = asked_by mapper walk tries (host_tries mapper walk tries (all_given_up w))

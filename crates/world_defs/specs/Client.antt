@@ -1,15 +1,19 @@
 -- The client of a host's port: the tokens that it holds, and its calls.
-use Rattle.std.specs.Prelude.{ℕ, ◌+◌, ◌%◌, List, [], ◌∷◌, ◌++◌, map, length, take, replicate, is_none, nat_eq, if◌then◌else◌, Option, Some, None}
+use Rattle.std.specs.Prelude.{ℕ, ◌+◌, ◌%◌, List, [], ◌∷◌, ◌++◌, map, length, take, replicate, is_none, nat_eq}
+use Rattle.std.specs.Prelude.{if◌then◌else◌, Option, Some, None}
 use Rattle.std.specs.List.{range_with_len}
 use Rattle.gm_defs.specs.declared.message.Message.{Message}
 use Rattle.gm_defs.specs.Fragment.{piece_count}
 use Rattle.gm_defs.specs.Connection.{is_spent}
 use Rattle.gm_defs.specs.Token.{PortState, PortEvent, Sent, Received, opened, room}
-use Rattle.gm_defs.specs.Port.{is_too_long, is_bad_size, sent_with, provided_with, next_event, polled, unfinished, unread}
+use Rattle.gm_defs.specs.Port.{is_too_long, is_bad_size, sent_with, provided_with, next_event, polled, unfinished}
+use Rattle.gm_defs.specs.Port.{unread}
 use Rattle.world_defs.specs.declared.client.ClientCause.{ClientCause}
-use Rattle.world_defs.specs.declared.client.ClientCause.TheVariants.{Already, NotOpen, NoToken, TooLong, NoRoute, Spent, BadSize, Busy, Unread}
+use Rattle.world_defs.specs.declared.client.ClientCause.TheVariants.{Already, NotOpen, NoToken, TooLong, NoRoute, Spent}
+use Rattle.world_defs.specs.declared.client.ClientCause.TheVariants.{BadSize, Busy, Unread}
 use Rattle.world_defs.specs.declared.effect.Said.{Said}
-use Rattle.world_defs.specs.declared.effect.Said.TheVariants.{Done, Count, Token, Sent as SaidSent, Received as SaidReceived, Nothing, Refused}
+use Rattle.world_defs.specs.declared.effect.Said.TheVariants.{Done, Count, Token, Sent as SaidSent}
+use Rattle.world_defs.specs.declared.effect.Said.TheVariants.{Received as SaidReceived, Nothing, Refused}
 use Rattle.world_defs.specs.Table.{table_route}
 use Rattle.world_defs.specs.Peer.{with_message}
 use Rattle.world_defs.specs.Node.{NodeState, peer_at, with_peer, port_at, with_port}
@@ -50,7 +54,8 @@ begun n port sends recvs c = begin_at n port sends recvs c (port_at n port)
 abbrev pub close_at : NodeState → ℕ → Option ClientState → PortState → Called
 close_at n port c p =
     if nat_eq (unfinished p) 0
-    then if nat_eq (unread p) 0 then left n port None None (Count (length p.provided)) else refused n c (Unread (unread p))
+    then if nat_eq (unread p) 0 then left n port None None (Count (length p.provided))
+    else refused n c (Unread (unread p))
     else refused n c (Busy (unfinished p))
 
 -- a port that isn't open isn't closed
@@ -58,7 +63,8 @@ abbrev pub close_open : NodeState → ℕ → Option ClientState → Option Port
 close_open n port c None = refused n c NotOpen
 close_open n port c (Some p) = close_at n port c p
 
--- an open port is closed, where no send is unfinished and no event waits: its provided tokens come back, and all tokens end
+-- an open port is closed, where no send is unfinished and no event waits: its provided tokens come back, and all
+-- tokens end
 unfoldable pub closed : NodeState → ℕ → Option ClientState → Called
 closed n port c = close_open n port c (port_at n port)
 
@@ -71,7 +77,12 @@ abbrev pub provide_with : NodeState → ℕ → ℕ → ℕ → PortState → Cl
 provide_with n port size prio p c [] = refused n (Some c) NoToken
 provide_with n port size prio p c (t ∷ ts) =
     if is_bad_size size prio then refused n (Some c) BadSize
-    else left n port (Some (provided_with p (record { token = t; size = size; prio = prio; buffer = empty_buffer size }))) (Some (record c { recvs = ts })) (Token t)
+    else left n port (Some (provided_with p (record {
+      token = t;
+      size = size;
+      prio = prio;
+      buffer = empty_buffer size;
+    }))) (Some (record c { recvs = ts })) (Token t)
 
 -- a port that isn't open is provided with nothing
 abbrev pub provide_open : NodeState → ℕ → ℕ → ℕ → Option ClientState → Option PortState → Called
@@ -86,7 +97,8 @@ provided_by n port size prio c = provide_open n port size prio c (port_at n port
 abbrev pub client_bytes : ℕ → ℕ → List ℕ
 client_bytes len seed = map (λ i. (seed + i) % 256) (range_with_len 0 len)
 
--- What a client wants to send: from which port, to which host and port there, with which priority, how many bytes, and the first of them.
+-- What a client wants to send: from which port, to which host and port there, with which priority, how many bytes,
+-- and the first of them.
 pub record Wanted : Type 0 where
   pub port : ℕ
   pub dest : ℕ
@@ -102,7 +114,8 @@ wanted_message s = record { sport = s.port; dport = s.dport; prio = s.prio; body
 -- an accepted message: its bytes are the buffer of its token
 abbrev pub send_accepted : NodeState → Wanted → PortState → ClientState → ℕ → List ℕ → Called
 send_accepted n s p c t ts =
-    left (with_peer n s.dest (with_message (peer_at n s.dest) (wanted_message s) (record { port = s.port; token = t }))) s.port
+    left (with_peer n s.dest (with_message (peer_at n s.dest) (wanted_message s)
+    (record { port = s.port; token = t }))) s.port
     (Some (sent_with p t (client_bytes s.len s.seed))) (Some (record c { sends = ts })) (Token t)
 
 -- why a message isn't accepted, apart from the port and the token
@@ -135,9 +148,11 @@ sent_by n s c = send_open n s c (port_at n s.port)
 -- an event gives its token back to the client, behind those it holds, and its buffer
 abbrev pub handed_out : NodeState → ℕ → PortState → ClientState → Option PortEvent → Called
 handed_out n port p c None = record { said = Nothing; node = n; client = Some c }
-handed_out n port p c (Some (Sent t buffer)) = left n port (Some (polled p)) (Some (record c { sends = c.sends ++ t ∷ [] })) (SaidSent t)
+handed_out n port p c (Some (Sent t buffer)) =
+    left n port (Some (polled p)) (Some (record c { sends = c.sends ++ t ∷ [] })) (SaidSent t)
 handed_out n port p c (Some (Received t buffer from sport prio len)) =
-    left n port (Some (polled p)) (Some (record c { recvs = c.recvs ++ t ∷ [] })) (SaidReceived t from sport prio (take len buffer))
+    left n port (Some (polled p)) (Some (record c { recvs = c.recvs ++ t ∷ [] }))
+    (SaidReceived t from sport prio (take len buffer))
 
 -- a port that isn't open has no events
 abbrev pub poll_open : NodeState → ℕ → Option ClientState → Option PortState → Called

@@ -8,7 +8,8 @@ use Rattle.link_defs.specs.Links.{Held}
 use Rattle.gm_defs.specs.Body.{frame_bytes}
 use Rattle.gm_defs.specs.Examples.{message, abc}
 use Rattle.world_defs.specs.declared.event.Event.{Event}
-use Rattle.world_defs.specs.declared.event.Event.TheVariants.{Inject, Advance, Lose as LoseEvent, Flip as FlipEvent, Begin, Provide, Send, Poll}
+use Rattle.world_defs.specs.declared.event.Event.TheVariants.{Inject, Advance, Lose as LoseEvent, Flip as FlipEvent}
+use Rattle.world_defs.specs.declared.event.Event.TheVariants.{Begin, Provide, Send, Poll}
 use Rattle.world_defs.specs.declared.effect.Effect.{Effect}
 use Rattle.world_defs.specs.declared.effect.Effect.TheVariants.{Said}
 use Rattle.world_defs.specs.declared.effect.Said.TheVariants.{Received}
@@ -25,7 +26,8 @@ use Rattle.world_defs.specs.Settle.{Rounds, settle}
 
 -- the turns from -15 to 15 other than 0
 abbrev pub onward : List ℤ
-onward = map (λ k. negsuc k) (14 ∷ 13 ∷ 12 ∷ 11 ∷ 10 ∷ 9 ∷ 8 ∷ 7 ∷ 6 ∷ 5 ∷ 4 ∷ 3 ∷ 2 ∷ 1 ∷ 0 ∷ []) ++ map pos (range_with_len 1 15)
+onward = map (λ k. negsuc k) (14 ∷ 13 ∷ 12 ∷ 11 ∷ 10 ∷ 9 ∷ 8 ∷ 7 ∷ 6 ∷ 5 ∷ 4 ∷ 3 ∷ 2 ∷ 1 ∷ 0 ∷ [])
+    ++ map pos (range_with_len 1 15)
 
 -- the empty walk, and one turn from where it ends
 abbrev pub walks_of_setup : List (List ℤ)
@@ -83,7 +85,10 @@ poll_sender = Poll 0 0
 -- faults for injections so far ahead
 abbrev pub planned_all : WorldState → List (ℕ × Fault) → List ℕ × WorldState
 planned_all w [] = ([], w)
-planned_all w (f ∷ fs) = ((planned w f.0 f.1).0 ∷ (planned_all (planned w f.0 f.1).1 fs).0, (planned_all (planned w f.0 f.1).1 fs).1)
+planned_all w (f ∷ fs) = (
+  (planned w f.0 f.1).0 ∷ (planned_all (planned w f.0 f.1).1 fs).0,
+  (planned_all (planned w f.0 f.1).1 fs).1,
+)
 
 -- a message of these bytes came into the buffer of a token
 abbrev pub received : ℕ → List ℕ → Effect

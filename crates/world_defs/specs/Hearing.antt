@@ -1,5 +1,6 @@
 -- What a host makes of a packet that reaches it.
-use Rattle.std.specs.Prelude.{ℕ, Bool, true, false, ◌&&◌, List, [], ◌∷◌, nat_eq, nat_lt, Option, Some, None, option_map, Result, Ok, Err}
+use Rattle.std.specs.Prelude.{ℕ, Bool, true, false, ◌&&◌, List, [], ◌∷◌, nat_eq, nat_lt, Option, Some, None, option_map}
+use Rattle.std.specs.Prelude.{Result, Ok, Err}
 use Rattle.std.specs.List.{list_all}
 use Rattle.packet_defs.specs.declared.kind.Kind.{Kind}
 use Rattle.packet_defs.specs.declared.kind.Kind.TheVariants.{Mapping, Gm}
@@ -23,7 +24,9 @@ use Rattle.gm_defs.specs.Port.{delivered, finished}
 use Rattle.world_defs.specs.declared.applied.Applied.{Applied}
 use Rattle.world_defs.specs.declared.applied.Applied.TheVariants.{Part as OnePart, Active, Old}
 use Rattle.world_defs.specs.declared.heard.Heard.{Heard}
-use Rattle.world_defs.specs.declared.heard.Heard.TheVariants.{Probe, Reply, Loop, Routes, RoutesAck, Message as WholeMessage, NotNext, NoToken, Ack as AckHeard}
+use Rattle.world_defs.specs.declared.heard.Heard.TheVariants.{Probe, Reply, Loop, Routes, RoutesAck}
+use Rattle.world_defs.specs.declared.heard.Heard.TheVariants.{Message as WholeMessage, NotNext, NoToken}
+use Rattle.world_defs.specs.declared.heard.Heard.TheVariants.{Ack as AckHeard}
 use Rattle.world_defs.specs.declared.arrival.Arrival.{Arrival}
 use Rattle.world_defs.specs.declared.arrival.Arrival.TheVariants.{Heard as Hears, Dropped, NotMine}
 use Rattle.world_defs.specs.Table.{TableState, applied}
@@ -41,15 +44,22 @@ heard_if false n (heard, after) = (NotMine, n)
 
 -- a part that was taken is acknowledged by its own way back, in the place of an earlier acknowledgement
 abbrev pub part_heard : NodeState → RoutePart → Applied × TableState → NodeState
-part_heard n p (OnePart, t) = record n { table = t; part_ack = Some (record { epoch = p.epoch; part = p.part; back = p.back }) }
-part_heard n p (Active, t) = record n { table = t; part_ack = Some (record { epoch = p.epoch; part = p.part; back = p.back }) }
+part_heard n p (OnePart, t) = record n {
+  table = t;
+  part_ack = Some (record { epoch = p.epoch; part = p.part; back = p.back });
+}
+part_heard n p (Active, t) = record n {
+  table = t;
+  part_ack = Some (record { epoch = p.epoch; part = p.part; back = p.back });
+}
 part_heard n p (Old, t) = record n { table = t }
 
 -- all addresses of a part are hosts, and the part is for this one
 abbrev pub is_part_for : ℕ → ℕ → RoutePart → Bool
 is_part_for host hosts p = nat_eq p.dst host && is_host hosts p.mapper && list_all (λ e. is_host hosts e.to) p.entries
 
--- What a host makes of a body of the mapper's protocol. A probe stages a reply; a loopback probe is heard by its mapper alone; replies and acknowledgements are heard by any host, and change nothing.
+-- What a host makes of a body of the mapper's protocol. A probe stages a reply; a loopback probe is heard by its
+-- mapper alone; replies and acknowledgements are heard by any host, and change nothing.
 abbrev pub hear_mapping : ℕ → ℕ → NodeState → MappingBody → Arrival × NodeState
 hear_mapping host hosts n (HostProbe number mapper back) =
     heard_if (is_host hosts mapper) n (Probe, record n { reply = Some (record { number = number; back = back }) })
@@ -101,13 +111,15 @@ all_finished n (t ∷ ts) = all_finished (with_port n t.port (option_map (λ p. 
 -- an acknowledgement finishes sends
 abbrev pub ack_heard : NodeState → Ack → NodeState
 ack_heard n a =
-    all_finished (with_peer n a.src (peer_acknowledged (peer_at n a.src) a.next)) (tickets_finished (peer_at n a.src) a.next)
+    all_finished (with_peer n a.src (peer_acknowledged (peer_at n a.src) a.next))
+    (tickets_finished (peer_at n a.src) a.next)
 
 -- What a host makes of a frame or of an acknowledgement, which must name it and a host that sent it.
 abbrev pub hear_gm : ℕ → ℕ → NodeState → List ℕ → GmBody → Arrival × NodeState
 hear_gm host hosts n body (Frame h) =
     heard_if (nat_eq h.dst host && is_host hosts h.src) n (frame_heard n h (part_in body) (frame_took n h))
-hear_gm host hosts n body (Acknowledges a) = heard_if (nat_eq a.dst host && is_host hosts a.src) n (AckHeard, ack_heard n a)
+hear_gm host hosts n body (Acknowledges a) = heard_if (nat_eq a.dst host && is_host hosts a.src) n
+    (AckHeard, ack_heard n a)
 
 -- a body that is neither a frame nor an acknowledgement is dropped
 abbrev pub hear_gm_body : ℕ → ℕ → NodeState → List ℕ → Result GmBody NoBody → Arrival × NodeState

@@ -1,5 +1,6 @@
 -- How routes are distributed over a world: the tries of each part, host by host.
-use Rattle.std.specs.Prelude.{ℕ, ◌+◌, Bool, true, false, ◌&&◌, ◌||◌, List, [], ◌∷◌, length, nat_eq, is_some, if◌then◌else◌}
+use Rattle.std.specs.Prelude.{ℕ, ◌+◌, Bool, true, false, ◌&&◌, ◌||◌, List, [], ◌∷◌, length, nat_eq, is_some}
+use Rattle.std.specs.Prelude.{if◌then◌else◌}
 use Rattle.std.specs.List.{range_with_len}
 use Rattle.world_defs.specs.declared.event.Event.TheVariants.{Part}
 use Rattle.world_defs.specs.declared.effect.Effect.{Effect}
@@ -56,7 +57,8 @@ or_given_up t rest = if t.found then rest t.world else (false, t.world)
 -- the parts of a host, up to the first that isn't acknowledged: whether all are
 abbrev pub parts_installed : ℕ → ℕ → ℕ → List ℕ → WorldState → Bool × WorldState
 parts_installed mapper dst tries [] w = (true, w)
-parts_installed mapper dst tries (p ∷ ps) w = or_given_up (part_tries mapper dst tries p w) (parts_installed mapper dst tries ps)
+parts_installed mapper dst tries (p ∷ ps) w =
+    or_given_up (part_tries mapper dst tries p w) (parts_installed mapper dst tries ps)
 
 -- the numbers of a host's parts: the mapper has none
 abbrev pub parts_of : Adoption → ℕ → List ℕ
@@ -70,8 +72,10 @@ host_counted (false, w) rest = rest w
 -- these hosts, in order: how many of them have all parts acknowledged, the mapper among them
 abbrev pub hosts_installed : Adoption → ℕ → List ℕ → WorldState → ℕ × WorldState
 hosts_installed a tries [] w = (0, w)
-hosts_installed a tries (h ∷ hs) w = host_counted (parts_installed a.mapper h tries (parts_of a h) w) (hosts_installed a tries hs)
+hosts_installed a tries (h ∷ hs) w = host_counted (parts_installed a.mapper h tries (parts_of a h) w)
+    (hosts_installed a tries hs)
 
--- An installation of adopted routes on these hosts: every host gives up what it staged; then each host is sent its parts, each up to so many times. A part that isn't acknowledged ends the work for its host.
+-- An installation of adopted routes on these hosts: every host gives up what it staged; then each host is sent its
+-- parts, each up to so many times. A part that isn't acknowledged ends the work for its host.
 unfoldable pub installed : Adoption → List ℕ → ℕ → WorldState → ℕ × WorldState
 installed a hosts tries w = hosts_installed a tries hosts (all_given_up w)

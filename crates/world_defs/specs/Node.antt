@@ -1,5 +1,7 @@
 -- One host: what it has staged, its table, its connections and its ports; and what it sends first.
-use Rattle.std.specs.Prelude.{ℕ, ℤ, pos, neg_ℤ, Bool, true, false, ◌||◌, List, [], ◌∷◌, ◌++◌, map, reverse, length, replicate, slice_index_or, slice_set, is_some, if◌then◌else◌, Option, Some, None, option_map, option_and_then}
+use Rattle.std.specs.Prelude.{ℕ, ℤ, pos, neg_ℤ, Bool, true, false, ◌||◌, List, [], ◌∷◌, ◌++◌, map, reverse, length}
+use Rattle.std.specs.Prelude.{replicate, slice_index_or, slice_set, is_some, if◌then◌else◌, Option, Some, None}
+use Rattle.std.specs.Prelude.{option_map, option_and_then}
 use Rattle.std.specs.List.{range_with_len}
 use Rattle.packet_defs.specs.declared.kind.Kind.TheVariants.{Mapping, Gm}
 use Rattle.packet_defs.specs.Packet.{packet_of}
@@ -29,7 +31,8 @@ pub record StagedAck : Type 0 where
   pub part : ℕ
   pub back : List ℤ
 
--- One host: the staged probe or part, the reply to a probe, the acknowledgement of a part, its table, its connections by the peers' addresses, and its ports by number, where they are open.
+-- One host: the staged probe or part, the reply to a probe, the acknowledgement of a part, its table, its connections
+-- by the peers' addresses, and its ports by number, where they are open.
 pub record NodeState : Type 0 where
   pub staged : Option Staged
   pub reply : Option StagedReply
@@ -73,7 +76,8 @@ with_port n port p = record n { ports = slice_set n.ports port p }
 abbrev pub way_back : List ℤ → List ℤ
 way_back walk = map neg_ℤ (reverse walk)
 
--- What a host sends: a probe, a part, a reply, the acknowledgement of a part, one of frames to a peer, or a fragment to a peer; the last two with the route there.
+-- What a host sends: a probe, a part, a reply, the acknowledgement of a part, one of frames to a peer, or a fragment
+-- to a peer; the last two with the route there.
 pub data Outgoing : Type 0 where
   Probe : (walk : List ℤ) → (looped : Bool) → Outgoing
   TablePart : (part : RoutePart) → (by : List ℤ) → Outgoing
@@ -89,16 +93,19 @@ outgoing_staged (StagedPart part by) = TablePart part by
 
 -- an acknowledgement that is owed to a peer, where the active table has a route there
 abbrev pub owed_to : NodeState → ℕ → Option Outgoing
-owed_to n peer = if (peer_at n peer).owes then option_map (λ by. FrameAnswer peer (peer_at n peer).taken by) (table_route n.table peer) else None
+owed_to n peer = if (peer_at n peer).owes then option_map (λ by.
+    FrameAnswer peer (peer_at n peer).taken by) (table_route n.table peer) else None
 
 -- the frame of the number that is due to a peer
 abbrev pub due_frame : ℕ → NodeState → ℕ → Option (FrameHead × List ℕ)
-due_frame host n peer = option_and_then (λ seq. frame_of host peer (peer_at n peer).sent seq) (due (peer_at n peer).sender)
+due_frame host n peer = option_and_then (λ seq.
+    frame_of host peer (peer_at n peer).sent seq) (due (peer_at n peer).sender)
 
 -- the fragment that is due to a peer, where the active table has a route there
 abbrev pub due_to : ℕ → NodeState → ℕ → Option Outgoing
 due_to host n peer =
-    option_and_then (λ f. option_map (λ by. Fragment peer f.0 f.1 by) (table_route n.table peer)) (due_frame host n peer)
+    option_and_then (λ f. option_map (λ by. Fragment peer f.0 f.1 by) (table_route n.table peer))
+    (due_frame host n peer)
 
 -- the first, if there is one, else the second
 abbrev pub either : {A : Type 0} → Option A → Option A → Option A
@@ -114,7 +121,8 @@ first_some f (x ∷ xs) = either (f x) (first_some f xs)
 abbrev pub peers_of : NodeState → List ℕ
 peers_of n = range_with_len 0 (length n.peers)
 
--- What a host sends first: a staged probe or part; a probe reply; a part acknowledgement; an acknowledgement that is owed to the peer of least address; a fragment that is due to the peer of least address.
+-- What a host sends first: a staged probe or part; a probe reply; a part acknowledgement; an acknowledgement that is
+-- owed to the peer of least address; a fragment that is due to the peer of least address.
 unfoldable pub to_send : ℕ → NodeState → Option Outgoing
 to_send host n =
     either (option_map outgoing_staged n.staged)
@@ -124,7 +132,8 @@ to_send host n =
 
 -- the body of a probe: it carries the number of its own injection
 abbrev pub probe_packet : ℕ → ℕ → List ℤ → Bool → List ℕ
-probe_packet host number walk true = packet_of (walk ++ pos 0 ∷ way_back walk) Mapping (mapping_bytes (Loopback number host))
+probe_packet host number walk true = packet_of (walk ++ pos 0 ∷ way_back walk) Mapping
+    (mapping_bytes (Loopback number host))
 probe_packet host number walk false = packet_of walk Mapping (mapping_bytes (HostProbe number host (way_back walk)))
 
 -- the packet of what a host sends, injected under a number
@@ -133,7 +142,8 @@ packet_for host number (Probe walk looped) = probe_packet host number walk loope
 packet_for host number (TablePart part by) = packet_of by Mapping (mapping_bytes (Part part))
 packet_for host number (Reply r) = packet_of r.back Mapping (mapping_bytes (HostReply r.number host))
 packet_for host number (PartAnswer a) = packet_of a.back Mapping (mapping_bytes (PartAck a.epoch host a.part))
-packet_for host number (FrameAnswer peer next by) = packet_of by Gm (ack_bytes (record { src = host; dst = peer; next = next }))
+packet_for host number (FrameAnswer peer next by) =
+    packet_of by Gm (ack_bytes (record { src = host; dst = peer; next = next }))
 packet_for host number (Fragment peer head part by) = packet_of by Gm (frame_bytes head part)
 
 -- the host once that counts as sent

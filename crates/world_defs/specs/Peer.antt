@@ -11,8 +11,8 @@ pub record Ticket : Type 0 where
   pub port : ℕ
   pub token : ℕ
 
--- The numbers of the sender, the messages accepted for the peer, those of them that aren't finished, in order; the messages taken from the
--- peer, how many of its fragments were taken, and whether it is owed an acknowledgement.
+-- The numbers of the sender, the messages accepted for the peer, those of them that aren't finished, in order; the
+-- messages taken from the peer, how many of its fragments were taken, and whether it is owed an acknowledgement.
 pub record PeerState : Type 0 where
   pub sender : SenderState
   pub sent : List Message
@@ -39,7 +39,10 @@ finished_by p next = whole_below p.sent (acknowledged p.sender next).base - whol
 
 -- an acknowledgement came: the numbers go on, and what is finished waits no more
 abbrev pub peer_acknowledged : PeerState → ℕ → PeerState
-peer_acknowledged p next = record p { sender = acknowledged p.sender next; pending = drop (finished_by p next) p.pending }
+peer_acknowledged p next = record p {
+  sender = acknowledged p.sender next;
+  pending = drop (finished_by p next) p.pending;
+}
 
 -- the sends that it finished
 abbrev pub tickets_finished : PeerState → ℕ → List Ticket

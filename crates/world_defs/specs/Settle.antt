@@ -1,5 +1,6 @@
 -- A settle: rounds of expiries and of passes over all hosts, until nothing is unacknowledged or nothing helps.
-use Rattle.std.specs.Prelude.{ℕ, zero, suc, ◌+◌, ◌*◌, ◌-◌, Bool, not, ◌&&◌, ◌||◌, List, [], ◌∷◌, ◌++◌, map, length, nat_eq, nat_lt, is_none, if◌then◌else◌}
+use Rattle.std.specs.Prelude.{ℕ, zero, suc, ◌+◌, ◌*◌, ◌-◌, Bool, not, ◌&&◌, ◌||◌, List, [], ◌∷◌, ◌++◌, map, length}
+use Rattle.std.specs.Prelude.{nat_eq, nat_lt, is_none, if◌then◌else◌}
 use Rattle.std.specs.List.{list_any, list_all, filter}
 use Rattle.world_defs.specs.declared.event.Event.{Event}
 use Rattle.world_defs.specs.declared.event.Event.TheVariants.{Inject, Replay, Expire, GiveUp}
@@ -30,7 +31,8 @@ expiries_of_all w (h ∷ hs) = expiries_of w h ++ expiries_of_all w hs
 abbrev pub expiries : WorldState → List Event
 expiries w = expiries_of_all w (addresses w)
 
--- What a stretch of events did: how many injections and replays weren't idle, how many channels were reset, and the world then.
+-- What a stretch of events did: how many injections and replays weren't idle, how many channels were reset, and the
+-- world then.
 pub record Stretch : Type 0 where
   pub moves : ℕ
   pub resets : ℕ
@@ -38,7 +40,10 @@ pub record Stretch : Type 0 where
 
 -- a stretch, and what follows in the world then
 abbrev pub going_on : Stretch → (WorldState → Stretch) → Stretch
-going_on s rest = record (rest s.world) { moves = s.moves + (rest s.world).moves; resets = s.resets + (rest s.world).resets }
+going_on s rest = record (rest s.world) {
+  moves = s.moves + (rest s.world).moves;
+  resets = s.resets + (rest s.world).resets;
+}
 
 -- a clear behind so many moves
 abbrev pub cleared : ℕ → ℕ × WorldState → Stretch
@@ -57,10 +62,12 @@ replay_each (s ∷ ss) w = going_on (then_clear (steps w (Replay s ∷ []))) (re
 abbrev pub serials : WorldState → List ℕ
 serials w = map (λ e. e.0) w.links.limbo
 
--- A pass: every host gives up what it staged; every host injects, by rising address; a clear; then each packet in limbo is replayed, with a clear behind it.
+-- A pass: every host gives up what it staged; every host injects, by rising address; a clear; then each packet in
+-- limbo is replayed, with a clear behind it.
 unfoldable pub round_pass : WorldState → Stretch
 round_pass w =
-    going_on (then_clear (steps (after_all w (map GiveUp (addresses w))) (map Inject (addresses w)))) (λ next. replay_each (serials next) next)
+    going_on (then_clear (steps (after_all w (map GiveUp (addresses w))) (map Inject (addresses w)))) (λ next.
+    replay_each (serials next) next)
 
 -- nothing is in limbo, and no host has anything to send
 abbrev pub is_quiet : WorldState → Bool
@@ -93,7 +100,8 @@ base_of w h peer = (peer_at (node_at w h) peer).sender.base
 
 -- some connection's base rose
 abbrev pub base_rose : WorldState → WorldState → Bool
-base_rose before w = list_any (λ h. list_any (λ p. nat_lt (base_of before h p) (base_of w h p)) (addresses w)) (addresses w)
+base_rose before w = list_any (λ h. list_any (λ p. nat_lt (base_of before h p) (base_of w h p)) (addresses w))
+    (addresses w)
 
 -- a round helped: a base rose, or a planned fault struck
 abbrev pub has_helped : WorldState → WorldState → Bool

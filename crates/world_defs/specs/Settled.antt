@@ -13,7 +13,8 @@ use Rattle.world_defs.specs.Traffic.{sent_between, got_between}
 abbrev pub sender_between : WorldState → ℕ → ℕ → SenderState
 sender_between w a b = (peer_at (node_at w a) b).sender
 
--- The message that holds the first fragment that isn't acknowledged waits: it wasn't taken, and no provided token of an open port fits it.
+-- The message that holds the first fragment that isn't acknowledged waits: it wasn't taken, and no provided token of
+-- an open port fits it.
 pub record IsWaiting (w : WorldState) (a b : ℕ) : Type 0 where
   pub place : ℕ
   pub message : Message
@@ -22,7 +23,8 @@ pub record IsWaiting (w : WorldState) (a b : ℕ) : Type 0 where
   pub not_taken : length (got_between w a b) ≤ place
   pub no_token : port_takes (port_at (node_at w b) message.dport) (length message.body) message.prio ≡ false
 
--- a connection is settled where all is acknowledged, where the receiver has no active table, or where a message waits for a token
+-- a connection is settled where all is acknowledged, where the receiver has no active table, or where a message waits
+-- for a token
 pub data IsSettledPair (w : WorldState) (a b : ℕ) : Type 0 where
   all_acknowledged : (sender_between w a b).base ≡ (sender_between w a b).next → IsSettledPair w a b
   no_table : active_epoch (node_at w b).table ≡ None → IsSettledPair w a b

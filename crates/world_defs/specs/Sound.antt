@@ -1,4 +1,5 @@
--- What holds at every moment of a run: no cycle among the installed routes, each receiver's messages a front part of those sent, one owner for each token.
+-- What holds at every moment of a run: no cycle among the installed routes, each receiver's messages a front part of
+-- those sent, one owner for each token.
 use Rattle.std.specs.Prelude.{◌≡◌, ℕ, ◌<◌, List, [], ◌∷◌, ◌++◌, map, length, Option, Some, None}
 use Rattle.std.specs.List.{AllByRecursion}
 use Rattle.net_defs.specs.Network.{Apart}
@@ -41,7 +42,8 @@ pub record IsEachOnce (count : ℕ) (tokens : List ℕ) : Type 0 where
   pub below : AllByRecursion (λ t. t < count) tokens
   pub all : length tokens ≡ count
 
--- Each token of an open port stands in one place: with the client, with a send, with a buffer that was provided, or in an event.
+-- Each token of an open port stands in one place: with the client, with a send, with a buffer that was provided, or
+-- in an event.
 pub record HasOwners (p : PortState) (c : ClientState) : Type 0 where
   pub sends : IsEachOnce p.sends (c.sends ++ sends_out p)
   pub recvs : IsEachOnce p.recvs (c.recvs ++ recvs_out p)

@@ -1,13 +1,18 @@
 -- One event, and what it does to the world.
-use Rattle.std.specs.Prelude.{ℕ, ◌+◌, ℤ, Bool, true, false, ◌||◌, List, [], ◌∷◌, nat_eq, nat_lt, nat_le, is_some, slice_set, if◌then◌else◌, Option, Some, None}
+use Rattle.std.specs.Prelude.{ℕ, ◌+◌, ℤ, Bool, true, false, ◌||◌, List, [], ◌∷◌, nat_eq, nat_lt, nat_le, is_some}
+use Rattle.std.specs.Prelude.{slice_set, if◌then◌else◌, Option, Some, None}
 use Rattle.std.specs.Map.{lookup}
 use Rattle.net_defs.specs.Route.{host_port, channel_from}
 use Rattle.packet_defs.specs.declared.host_drop.HostDrop.{HostDrop}
-use Rattle.packet_defs.specs.declared.host_drop.HostDrop.TheVariants.{BadCrc as HostBadCrc, RouteLeft as HostRouteLeft, UnknownType as HostUnknownType, Malformed as HostMalformed}
+use Rattle.packet_defs.specs.declared.host_drop.HostDrop.TheVariants.{BadCrc as HostBadCrc, RouteLeft as HostRouteLeft}
+use Rattle.packet_defs.specs.declared.host_drop.HostDrop.TheVariants.{UnknownType as HostUnknownType}
+use Rattle.packet_defs.specs.declared.host_drop.HostDrop.TheVariants.{Malformed as HostMalformed}
 use Rattle.link_defs.specs.declared.moved.Why.{Why}
-use Rattle.link_defs.specs.declared.moved.Why.TheVariants.{OutOfRange as AwayOutOfRange, NotRoute as AwayNotRoute, NoCable as AwayNoCable}
+use Rattle.link_defs.specs.declared.moved.Why.TheVariants.{OutOfRange as AwayOutOfRange, NotRoute as AwayNotRoute}
+use Rattle.link_defs.specs.declared.moved.Why.TheVariants.{NoCable as AwayNoCable}
 use Rattle.link_defs.specs.declared.moved.Moved.{Moved}
-use Rattle.link_defs.specs.declared.moved.Moved.TheVariants.{To, AtHost, Dropped as MovedDropped, Blocked as MovedBlocked, Empty}
+use Rattle.link_defs.specs.declared.moved.Moved.TheVariants.{To, AtHost, Dropped as MovedDropped}
+use Rattle.link_defs.specs.declared.moved.Moved.TheVariants.{Blocked as MovedBlocked, Empty}
 use Rattle.link_defs.specs.declared.replayed.Replayed.{Replayed}
 use Rattle.link_defs.specs.declared.replayed.Replayed.TheVariants.{Back, Busy, Unknown}
 use Rattle.link_defs.specs.Links.{LinkState, packet_in, put}
@@ -15,20 +20,30 @@ use Rattle.link_defs.specs.Advance.{advance}
 use Rattle.link_defs.specs.Fault.{lose, reset, repeat, hold, flip, replay}
 use Rattle.mapping_defs.specs.Mapping.{RoutePart}
 use Rattle.world_defs.specs.declared.event.Event.{Event}
-use Rattle.world_defs.specs.declared.event.Event.TheVariants.{Ask, Part, Inject, Advance, Lose, Repeat, Hold, Flip, Replay, Reset, Expire, GiveUp, Begin, Close, Provide, Send, Poll}
+use Rattle.world_defs.specs.declared.event.Event.TheVariants.{Ask, Part, Inject, Advance, Lose, Repeat, Hold, Flip}
+use Rattle.world_defs.specs.declared.event.Event.TheVariants.{Replay, Reset, Expire, GiveUp, Begin, Close, Provide}
+use Rattle.world_defs.specs.declared.event.Event.TheVariants.{Send, Poll}
 use Rattle.world_defs.specs.declared.effect.Effect.{Effect}
-use Rattle.world_defs.specs.declared.effect.Effect.TheVariants.{Idle, Injected, Moved as MovedTo, Blocked, Arrived, Dropped, Lost, Reset as WasReset, Flipped, Expired, GaveUp, Repeated, Held, Replayed as ReplayedTo, Staged, Said}
+use Rattle.world_defs.specs.declared.effect.Effect.TheVariants.{Idle, Injected, Moved as MovedTo, Blocked, Arrived}
+use Rattle.world_defs.specs.declared.effect.Effect.TheVariants.{Dropped, Lost, Reset as WasReset, Flipped, Expired}
+use Rattle.world_defs.specs.declared.effect.Effect.TheVariants.{GaveUp, Repeated, Held, Replayed as ReplayedTo, Staged}
+use Rattle.world_defs.specs.declared.effect.Effect.TheVariants.{Said}
 use Rattle.world_defs.specs.declared.effect.Cause.{Cause}
-use Rattle.world_defs.specs.declared.effect.Cause.TheVariants.{OutOfRange, NotRoute, NoCable, BadCrc, RouteLeft, UnknownType, Malformed, NotMine}
+use Rattle.world_defs.specs.declared.effect.Cause.TheVariants.{OutOfRange, NotRoute, NoCable, BadCrc, RouteLeft}
+use Rattle.world_defs.specs.declared.effect.Cause.TheVariants.{UnknownType, Malformed, NotMine}
 use Rattle.world_defs.specs.declared.fault.Fault.{Fault}
-use Rattle.world_defs.specs.declared.fault.Fault.TheVariants.{Lose as LoseFault, Repeat as RepeatFault, Hold as HoldFault, Flip as FlipFault}
+use Rattle.world_defs.specs.declared.fault.Fault.TheVariants.{Lose as LoseFault, Repeat as RepeatFault}
+use Rattle.world_defs.specs.declared.fault.Fault.TheVariants.{Hold as HoldFault, Flip as FlipFault}
 use Rattle.world_defs.specs.declared.arrival.Arrival.{Arrival}
-use Rattle.world_defs.specs.declared.arrival.Arrival.TheVariants.{Heard as Hears, Dropped as HostDropped, NotMine as ArrivalNotMine}
+use Rattle.world_defs.specs.declared.arrival.Arrival.TheVariants.{Heard as Hears, Dropped as HostDropped}
+use Rattle.world_defs.specs.declared.arrival.Arrival.TheVariants.{NotMine as ArrivalNotMine}
 use Rattle.world_defs.specs.Table.{Adoption, part_for, route_of}
-use Rattle.world_defs.specs.Node.{NodeState, StagedProbe, StagedPart, Outgoing, to_send, packet_for, after_sending, has_staged, given_up, node_expired, unacknowledged_to}
+use Rattle.world_defs.specs.Node.{NodeState, StagedProbe, StagedPart, Outgoing, to_send, packet_for, after_sending}
+use Rattle.world_defs.specs.Node.{has_staged, given_up, node_expired, unacknowledged_to}
 use Rattle.world_defs.specs.Hearing.{hear}
 use Rattle.world_defs.specs.Client.{Called, Wanted, begun, closed, provided_by, sent_by, polled_by}
-use Rattle.world_defs.specs.World.{WorldState, fabric_of, host_count, last_count, node_at, with_node, with_links, client_at, with_client, with_drop, without_fault}
+use Rattle.world_defs.specs.World.{WorldState, fabric_of, host_count, last_count, node_at, with_node, with_links}
+use Rattle.world_defs.specs.World.{client_at, with_client, with_drop, without_fault}
 
 -- an event that may change the links alone: idle where it isn't possible
 abbrev pub of_links : WorldState → Effect → Bool × LinkState → Effect × WorldState
@@ -76,7 +91,10 @@ asked w h walk looped = (Staged, with_node w h (record (node_at w h) { staged = 
 
 -- a part is staged at its adopter, with the set's route to the host that it is for
 abbrev pub stage_at : WorldState → ℕ → Option RoutePart → Option (List ℤ) → Effect × WorldState
-stage_at w mapper (Some p) (Some by) = (Staged, with_node w mapper (record (node_at w mapper) { staged = Some (StagedPart p by) }))
+stage_at w mapper (Some p) (Some by) = (
+  Staged,
+  with_node w mapper (record (node_at w mapper) { staged = Some (StagedPart p by) }),
+)
 stage_at w mapper _ _ = (Idle, w)
 
 -- no part is staged where no routes are adopted
@@ -104,7 +122,11 @@ is_harm (FlipFault bit pattern) = true
 
 -- a fault that was possible struck; one that wasn't changes nothing
 abbrev pub struck_by : WorldState → Fault → Bool × LinkState → WorldState
-struck_by w f (true, l) = record w { links = l; struck = w.struck + 1; harmed = if is_harm f then w.harmed + 1 else w.harmed }
+struck_by w f (true, l) = record w {
+  links = l;
+  struck = w.struck + 1;
+  harmed = if is_harm f then w.harmed + 1 else w.harmed;
+}
 struck_by w f (false, l) = w
 
 -- the fault that was planned for the last injection strikes the packet in this channel, and is planned no more
@@ -124,7 +146,8 @@ sent_out w h c out = record w {
   injected = w.injected + 1;
 }
 
--- an injection into a channel: idle where there is nothing to send, where the channel is full, or where no injection is left
+-- an injection into a channel: idle where there is nothing to send, where the channel is full, or where no injection
+-- is left
 abbrev pub inject_one : WorldState → ℕ → ℕ → Option Outgoing → Effect × WorldState
 inject_one w h c None = (Idle, w)
 inject_one w h c (Some out) =
@@ -136,7 +159,8 @@ abbrev pub inject_into : WorldState → ℕ → Option ℕ → Effect × WorldSt
 inject_into w h None = (Idle, w)
 inject_into w h (Some c) = inject_one w h c (to_send h (node_at w h))
 
--- A host puts what it has to send first into its channel, where it has a cable and that channel is empty; then the planned fault strikes.
+-- A host puts what it has to send first into its channel, where it has a cable and that channel is empty; then the
+-- planned fault strikes.
 unfoldable pub injected : WorldState → ℕ → Effect × WorldState
 injected w h = inject_into w h (channel_from (fabric_of w) (host_port h))
 
@@ -159,7 +183,8 @@ arrived w h (Hears heard, n) = (Arrived h heard, with_node w h n)
 arrived w h (HostDropped drop, n) = (Dropped (cause_at_host drop), with_drop (with_node w h n))
 arrived w h (ArrivalNotMine, n) = (Dropped NotMine, with_drop (with_node w h n))
 
--- what an advance of the links is in the world: a packet that reaches a host is heard, and one that is dropped is counted
+-- what an advance of the links is in the world: a packet that reaches a host is heard, and one that is dropped is
+-- counted
 abbrev pub advanced_by : WorldState → Moved (List ℕ) × LinkState → Effect × WorldState
 advanced_by w (To next, l) = (MovedTo next, with_links w l)
 advanced_by w (AtHost h wire, l) = arrived (with_links w l) h (hear h (host_count w) (node_at w h) wire)
@@ -174,7 +199,8 @@ advanced w c = advanced_by w (advance w.links c)
 -- a sender's time is up, where something isn't acknowledged
 unfoldable pub expired : WorldState → ℕ → ℕ → Effect × WorldState
 expired w h peer =
-    if nat_lt 0 (unacknowledged_to (node_at w h) peer) then (Expired, with_node w h (node_expired (node_at w h) peer)) else (Idle, w)
+    if nat_lt 0 (unacknowledged_to (node_at w h) peer) then (Expired, with_node w h (node_expired (node_at w h) peer))
+    else (Idle, w)
 
 -- a host drops its staged items, where it has one
 unfoldable pub gave_up : WorldState → ℕ → Effect × WorldState
@@ -186,7 +212,14 @@ of_call w h port call = (Said call.said, with_client (with_node w h call.node) h
 
 -- what a client wants to send, by its parts
 abbrev pub wanted : ℕ → ℕ → ℕ → ℕ → ℕ → ℕ → Wanted
-wanted port dest dport prio len seed = record { port = port; dest = dest; dport = dport; prio = prio; len = len; seed = seed }
+wanted port dest dport prio len seed = record {
+  port = port;
+  dest = dest;
+  dport = dport;
+  prio = prio;
+  len = len;
+  seed = seed;
+}
 
 -- What one event does: its effect, and the world after it.
 abbrev pub step : WorldState → Event → Effect × WorldState

@@ -1,5 +1,7 @@
 -- Route distribution: the parts into which a set of routes is cut, and what a host makes of them.
-use Rattle.std.specs.Prelude.{ℕ, zero, suc, ◌+◌, ◌-◌, ◌*◌, ◌/◌, ℤ, Bool, false, not, ◌&&◌, List, [], ◌∷◌, ◌++◌, map, length, take, drop, find, nat_eq, nat_lt, if◌then◌else◌, Option, Some, None, option_map, option_and_then}
+use Rattle.std.specs.Prelude.{ℕ, zero, suc, ◌+◌, ◌-◌, ◌*◌, ◌/◌, ℤ, Bool, false, not, ◌&&◌, List, [], ◌∷◌, ◌++◌, map}
+use Rattle.std.specs.Prelude.{length, take, drop, find, nat_eq, nat_lt, if◌then◌else◌, Option, Some, None, option_map}
+use Rattle.std.specs.Prelude.{option_and_then}
 use Rattle.std.specs.List.{filter}
 use Rattle.std.specs.Map.{lookup}
 use Rattle.net_defs.specs.declared.route.Route.{Route}
@@ -52,7 +54,8 @@ part_with a dst part entries (Some back) = Some (record {
   entries = part_entries entries part;
 })
 
--- A part of a host's table: at most eight entries by rising destination, and the set's route back to the mapper. The mapper itself has none.
+-- A part of a host's table: at most eight entries by rising destination, and the set's route back to the mapper. The
+-- mapper itself has none.
 abbrev pub part_for : Adoption → ℕ → ℕ → Option RoutePart
 part_for a dst part =
     if nat_eq dst a.mapper then None
@@ -65,7 +68,8 @@ pub record ActiveTable : Type 0 where
   pub epoch : ℕ
   pub entries : List RouteEntry
 
--- A host's table: the latest epoch that it has seen, the parts of that epoch so far, by rising number, and what is active.
+-- A host's table: the latest epoch that it has seen, the parts of that epoch so far, by rising number, and what is
+-- active.
 pub record TableState : Type 0 where
   pub epoch : ℕ
   pub collected : List (ℕ × List RouteEntry)
@@ -77,7 +81,11 @@ new_table = record { epoch = 0; collected = []; active = None }
 
 -- the active table of a set's routes from a host
 abbrev pub whole_table : List Route → ℕ → ℕ → TableState
-whole_table routes host epoch = record { epoch = epoch; collected = []; active = Some (record { epoch = epoch; entries = entries_from routes host }) }
+whole_table routes host epoch = record {
+  epoch = epoch;
+  collected = [];
+  active = Some (record { epoch = epoch; entries = entries_from routes host });
+}
 
 -- the epoch of the active table
 abbrev pub active_epoch : TableState → Option ℕ
@@ -98,7 +106,8 @@ with_part number entries (p ∷ ps) =
 -- the entries of the parts below a number, end to end, where all of them stand
 abbrev pub joined_below : ℕ → List (ℕ × List RouteEntry) → Option (List RouteEntry)
 joined_below zero ps = Some []
-joined_below (suc n) ps = option_and_then (λ front. option_map (λ entries. front ++ entries) (lookup (nat_eq n) ps)) (joined_below n ps)
+joined_below (suc n) ps = option_and_then (λ front.
+    option_map (λ entries. front ++ entries) (lookup (nat_eq n) ps)) (joined_below n ps)
 
 -- an active table is of this epoch
 abbrev pub is_epoch : ℕ → Option ℕ → Bool
@@ -112,7 +121,8 @@ of_epoch t epoch = if nat_eq t.epoch epoch then t else record t { epoch = epoch;
 -- with all parts there the table is active, and nothing is collected any more
 abbrev pub joined_or : TableState → Option (List RouteEntry) → Applied × TableState
 joined_or t None = (Part, t)
-joined_or t (Some entries) = (Active, record t { collected = []; active = Some (record { epoch = t.epoch; entries = entries }) })
+joined_or t (Some entries) =
+    (Active, record t { collected = []; active = Some (record { epoch = t.epoch; entries = entries }) })
 
 -- the table that has collected a part more
 abbrev pub collected_with : TableState → RoutePart → TableState
@@ -122,7 +132,8 @@ collected_with t p = record t { collected = with_part p.part p.entries t.collect
 abbrev pub joined : ℕ → TableState → Applied × TableState
 joined parts t = joined_or t (joined_below parts t.collected)
 
--- What a host makes of a part: old, where it has seen a later epoch; active, where all parts of its epoch stand now; else one part more.
+-- What a host makes of a part: old, where it has seen a later epoch; active, where all parts of its epoch stand now;
+-- else one part more.
 unfoldable pub applied : TableState → RoutePart → Applied × TableState
 applied t p =
     if nat_lt p.epoch t.epoch then (Old, t)

@@ -71,12 +71,16 @@ taken_between w a b = (peer_at (node_at w b) a).taken
 abbrev pub unrouted : List ℕ → List ℕ
 unrouted wire = drop (prefix_len is_route_byte (head wire)) (head wire)
 
--- A packet is honest where it carries a frame that is the fragment of its number, or an acknowledgement that says no more than was taken, or neither; a flip may have made anything of it.
+-- A packet is honest where it carries a frame that is the fragment of its number, or an acknowledgement that says no
+-- more than was taken, or neither; a flip may have made anything of it.
 pub record IsHonest (w : WorldState) (held : Held) : Type 0 where
-  pub frames : (h : FrameHead) (body : List ℕ) → held.marked ≡ false → body_of (unrouted held.wire) ≡ Ok (Gm, body) → decode body ≡ Ok (Frame h) → IsHonestFrame h.src h.dst (sent_between w h.src h.dst) h (part_in body)
-  pub acks : (a : Ack) (body : List ℕ) → held.marked ≡ false → body_of (unrouted held.wire) ≡ Ok (Gm, body) → decode body ≡ Ok (Acknowledges a) → IsHonestAck (taken_between w a.dst a.src) a
+  pub frames : (h : FrameHead) (body : List ℕ) → held.marked ≡ false → body_of (unrouted held.wire) ≡ Ok (Gm, body)
+      → decode body ≡ Ok (Frame h) → IsHonestFrame h.src h.dst (sent_between w h.src h.dst) h (part_in body)
+  pub acks : (a : Ack) (body : List ℕ) → held.marked ≡ false → body_of (unrouted held.wire) ≡ Ok (Gm, body)
+      → decode body ≡ Ok (Acknowledges a) → IsHonestAck (taken_between w a.dst a.src) a
 
 -- every packet in a channel or in limbo is honest
 pub record IsHonestTraffic (w : WorldState) : Type 0 where
   pub in_channels : (c : ℕ) (held : Held) → packet_in w.links c ≡ Some held → IsHonest w held
-  pub in_limbo : (place : ℕ) (serial : ℕ) (caught : Caught) → slice_get w.links.limbo place ≡ Some (serial, caught) → IsHonest w caught.held
+  pub in_limbo : (place : ℕ) (serial : ℕ) (caught : Caught) → slice_get w.links.limbo place ≡ Some (serial, caught)
+      → IsHonest w caught.held

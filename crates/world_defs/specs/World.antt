@@ -1,5 +1,6 @@
 -- The world: the links of a fabric, its hosts and their clients, the adopted routes, the plan of faults, and counts.
-use Rattle.std.specs.Prelude.{ℕ, ◌+◌, ◌-◌, ◌^◌, List, [], ◌∷◌, length, min, replicate, slice_index_or, slice_set, nat_eq, Option, Some, None}
+use Rattle.std.specs.Prelude.{ℕ, ◌+◌, ◌-◌, ◌^◌, List, [], ◌∷◌, length, min, replicate, slice_index_or, slice_set}
+use Rattle.std.specs.Prelude.{nat_eq, Option, Some, None}
 use Rattle.std.specs.List.{range_with_len}
 use Rattle.std.specs.Map.{remove_entry}
 use Rattle.std.specs.BTreeMap.{insert_entry}
@@ -12,7 +13,9 @@ use Rattle.world_defs.specs.Table.{Adoption, whole_table}
 use Rattle.world_defs.specs.Node.{NodeState, new_node, port_count}
 use Rattle.world_defs.specs.Client.{ClientState}
 
--- The links with their fabric; the hosts by address; the clients by host and port, where it is open; the adopted routes; the planned faults by injection; how many injections there were, how many packets were dropped, and how many planned faults struck, and of these how many lost, held or flipped their packet.
+-- The links with their fabric; the hosts by address; the clients by host and port, where it is open; the adopted
+-- routes; the planned faults by injection; how many injections there were, how many packets were dropped, and how
+-- many planned faults struck, and of these how many lost, held or flipped their packet.
 pub record WorldState : Type 0 where
   pub links : LinkState
   pub nodes : List NodeState
@@ -93,7 +96,10 @@ planned w ahead fault = (w.injected + ahead, record w { plan = with_fault (w.inj
 -- a set of routes is adopted by a mapper, whose table is whole at once
 abbrev pub adopted_by : WorldState → ℕ → List Route → WorldState
 adopted_by w mapper routes =
-    record (with_node w mapper (record (node_at w mapper) { table = whole_table routes mapper 1 })) { adopted = Some (record { mapper = mapper; epoch = 1; routes = routes }) }
+    record (with_node w mapper (record (node_at w mapper) { table = whole_table routes mapper 1 })) {
+      adopted = Some
+          (record { mapper = mapper; epoch = 1; routes = routes });
+    }
 
 -- the numbers of the peers
 abbrev pub addresses : WorldState → List ℕ

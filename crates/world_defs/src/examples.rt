@@ -15,12 +15,17 @@ ghost use Rattle.world_defs.specs.Settle.{unacknowledged_in};
 ghost use Rattle.world_defs.specs.Traffic.{IsLawful, IsLawfulTraffic, IsHonest, IsHonestTraffic};
 ghost use Rattle.world_defs.specs.Sound.{IsSound};
 ghost use Rattle.world_defs.specs.Settled.{IsSettled};
-ghost use Rattle.world_defs.specs.Examples.{on_its_way, abc_frame, further_on, abc_further_on, spoiled, forged, unserved, setup_map, setup_install, received, three_calls, three_plans, three_settled, three_polls, abc_injected, abc_settled, abc_polls, waiting, provided_late, served, served_poll, stepwise, stepwise_settled, stepwise_polls};
+ghost use Rattle.world_defs.specs.Examples.{on_its_way, abc_frame, further_on, abc_further_on, spoiled, forged};
+ghost use Rattle.world_defs.specs.Examples.{unserved, setup_map, setup_install, received, three_calls, three_plans};
+ghost use Rattle.world_defs.specs.Examples.{three_settled, three_polls, abc_injected, abc_settled, abc_polls, waiting};
+ghost use Rattle.world_defs.specs.Examples.{provided_late, served, served_poll, stepwise, stepwise_settled};
+ghost use Rattle.world_defs.specs.Examples.{stepwise_polls};
 
 /// A mapper asks 31 walks over the two hosts at one switch: 62 packets, of which three aren't dropped.
 #[tactic(auto, using(crate::proofs::Rows::asks_of_the_map_answers, crate::proofs::Rows::asks_of_the_map_injections, crate::proofs::Rows::asks_of_the_map_drops))]
 pub fn asks_of_the_map()
-    ensures answers { setup_map.0 ≡ Answer.Switch ∷ replicate 17 Answer.Nothing ++ Answer.Host 1 ∷ replicate 12 Answer.Nothing }
+    ensures answers { setup_map.0 ≡ Answer.Switch ∷ replicate 17 Answer.Nothing
+        ++ Answer.Host 1 ∷ replicate 12 Answer.Nothing }
     ensures injections { setup_map.1.injected ≡ 62 }
     ensures drops { setup_map.1.dropped ≡ 59 }
 {}
@@ -33,10 +38,12 @@ pub fn installation()
     ensures drops { setup_install.1.dropped ≡ 59 }
 {}
 
-/// Three messages come once each and in order, though the first frame is copied, the second lost and an acknowledgement held.
+/// Three messages come once each and in order, though the first frame is copied, the second lost and an
+/// acknowledgement held.
 #[tactic(auto, using(crate::proofs::Rows::three_messages_calls, crate::proofs::Rows::three_messages_plans, crate::proofs::Rows::three_messages_rounds, crate::proofs::Rows::three_messages_resets, crate::proofs::Rows::three_messages_acknowledged, crate::proofs::Rows::three_messages_messages, crate::proofs::Rows::three_messages_injections, crate::proofs::Rows::three_messages_drops))]
 pub fn three_messages()
-    ensures calls { three_calls.0 ≡ Effect.Said Said.Done ∷ Effect.Said Said.Done ∷ map (λ t. Effect.Said (Said.Token t)) (0 ∷ 1 ∷ 2 ∷ 0 ∷ 1 ∷ 2 ∷ []) }
+    ensures calls { three_calls.0 ≡ Effect.Said Said.Done ∷ Effect.Said Said.Done
+        ∷ map (λ t. Effect.Said (Said.Token t)) (0 ∷ 1 ∷ 2 ∷ 0 ∷ 1 ∷ 2 ∷ []) }
     ensures plans { three_plans.0 ≡ 65 ∷ 66 ∷ 68 ∷ [] }
     ensures rounds { three_settled.rounds ≡ 2 }
     ensures resets { three_settled.resets ≡ 0 }
@@ -49,7 +56,12 @@ pub fn three_messages()
 /// A frame whose route byte and type are flipped comes back to its sender, which drops it; the next one arrives.
 #[tactic(auto, using(crate::proofs::Rows::flipped_route_byte_frame, crate::proofs::Rows::flipped_route_byte_rounds, crate::proofs::Rows::flipped_route_byte_resets, crate::proofs::Rows::flipped_route_byte_acknowledged, crate::proofs::Rows::flipped_route_byte_polls, crate::proofs::Rows::flipped_route_byte_injections, crate::proofs::Rows::flipped_route_byte_drops))]
 pub fn flipped_route_byte()
-    ensures frame { packet_in abc_injected.links 0 ≡ Some (record { wire = 131 ∷ 0 ∷ 8 ∷ 1 ∷ 1 ∷ 0 ∷ 0 ∷ 0 ∷ 1 ∷ 0 ∷ 1 ∷ 0 ∷ replicate 4 0 ++ 0 ∷ 0 ∷ 0 ∷ 3 ∷ replicate 4 0 ++ 0 ∷ 3 ∷ 65 ∷ 66 ∷ 67 ∷ 131 ∷ []; marked = false }) }
+    ensures frame { packet_in abc_injected.links 0
+        ≡ Some (record {
+          wire = 131 ∷ 0 ∷ 8 ∷ 1 ∷ 1 ∷ 0 ∷ 0 ∷ 0 ∷ 1 ∷ 0 ∷ 1 ∷ 0 ∷ replicate 4 0
+              ++ 0 ∷ 0 ∷ 0 ∷ 3 ∷ replicate 4 0 ++ 0 ∷ 3 ∷ 65 ∷ 66 ∷ 67 ∷ 131 ∷ [];
+          marked = false;
+        }) }
     ensures rounds { abc_settled.rounds ≡ 2 }
     ensures resets { abc_settled.resets ≡ 0 }
     ensures acknowledged { unacknowledged_in abc_settled.world ≡ 0 }
@@ -72,10 +84,12 @@ pub fn message_waits_for_a_token()
     ensures drops { served_poll.1.dropped ≡ 59 }
 {}
 
-/// Two frames step by step: a host's channel that is full takes no packet, a packet waits for another, and a lost one is sent again.
+/// Two frames step by step: a host's channel that is full takes no packet, a packet waits for another, and a lost one
+/// is sent again.
 #[tactic(auto, using(crate::proofs::Rows::step_by_step_effects, crate::proofs::Rows::step_by_step_rounds, crate::proofs::Rows::step_by_step_resets, crate::proofs::Rows::step_by_step_acknowledged, crate::proofs::Rows::step_by_step_messages, crate::proofs::Rows::step_by_step_injections, crate::proofs::Rows::step_by_step_drops))]
 pub fn step_by_step()
-    ensures effects { stepwise.0 ≡ Effect.Injected 65 ∷ Effect.Moved 3 ∷ Effect.Injected 66 ∷ Effect.Idle ∷ Effect.Blocked 3 ∷ Effect.Arrived 1 Heard.Message ∷ Effect.Moved 3 ∷ Effect.Lost ∷ [] }
+    ensures effects { stepwise.0 ≡ Effect.Injected 65 ∷ Effect.Moved 3 ∷ Effect.Injected 66 ∷ Effect.Idle
+        ∷ Effect.Blocked 3 ∷ Effect.Arrived 1 Heard.Message ∷ Effect.Moved 3 ∷ Effect.Lost ∷ [] }
     ensures rounds { stepwise_settled.rounds ≡ 1 }
     ensures resets { stepwise_settled.resets ≡ 0 }
     ensures acknowledged { unacknowledged_in stepwise_settled.world ≡ 0 }
@@ -88,7 +102,8 @@ pub fn step_by_step()
 pub fn plans_for_one_injection()
     ensures number { (planned (new_world two_hosts) 3 Fault.Lose).0 ≡ 3 }
     ensures last { (planned (planned (new_world two_hosts) 3 Fault.Lose).1 3 Fault.Hold).1.plan ≡ (3, Fault.Hold) ∷ [] }
-    ensures others_stay { (planned (planned (new_world two_hosts) 3 Fault.Lose).1 1 Fault.Hold).1.plan ≡ (1, Fault.Hold) ∷ (3, Fault.Lose) ∷ [] }
+    ensures others_stay { (planned (planned (new_world two_hosts) 3 Fault.Lose).1 1 Fault.Hold).1.plan
+        ≡ (1, Fault.Hold) ∷ (3, Fault.Lose) ∷ [] }
 {}
 
 /// Before anything happened a world is sound, and with a frame on its way; not where a host has got what nobody sent.
@@ -99,8 +114,8 @@ pub fn soundness_of_moments()
     ensures forged { ¬ IsSound forged }
 {}
 
-/// A frame goes by an adopted route and is the fragment of its number. One that was flipped isn't lawful, one of a message that wasn't sent
-/// isn't honest.
+/// A frame goes by an adopted route and is the fragment of its number. One that was flipped isn't lawful, one of a
+/// message that wasn't sent isn't honest.
 #[tactic(auto, using(crate::proofs::Moments::frame_is_there, crate::proofs::Moments::way_is_lawful, crate::proofs::Moments::way_is_honest, crate::proofs::Moments::frame_is_further_on, crate::proofs::Moments::further_is_lawful, crate::proofs::Moments::spoiled_is_not_lawful, crate::proofs::Moments::unsent_is_not_honest))]
 pub fn traffic_of_one_frame()
     ensures frame { packet_in on_its_way.links 0 ≡ Some abc_frame }
@@ -112,7 +127,8 @@ pub fn traffic_of_one_frame()
     ensures not_sent { ¬ IsHonest (new_world two_hosts) abc_frame }
 {}
 
-/// A world is settled before anything happened, and where a message waits for a token; not while a frame is on its way to one that fits.
+/// A world is settled before anything happened, and where a message waits for a token; not while a frame is on its
+/// way to one that fits.
 #[tactic(auto, using(crate::proofs::Moments::first_is_settled, crate::proofs::Moments::unserved_is_settled, crate::proofs::Moments::way_is_not_settled))]
 pub fn settled_worlds()
     ensures first { IsSettled (new_world two_hosts) }

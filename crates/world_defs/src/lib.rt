@@ -1,4 +1,5 @@
-//! What the world is: all hosts and links of a fabric with their clients, what each event does to them, and what holds at every moment.
+//! What the world is: all hosts and links of a fabric with their clients, what each event does to them, and what
+//! holds at every moment.
 //!
 //! This crate holds definitions, the types of events and effects, and worked examples. It runs no world.
 //!

@@ -1,12 +1,20 @@
 -- Hosts give up, one after another.
-use Rattle.std.proofs.Common.{◌≡◌, ◌<◌, ◌≤◌, ℕ, suc, ◌+◌, ◌-◌, map, refl, sym, ◌∙◌, ap, arith}
+use Rattle.std.proofs.Common.{◌≡◌, ◌<◌, ◌≤◌, ℕ, suc, ◌+◌, ◌-◌, false, map, refl, sym, ◌∙◌, ap, arith, if◌then◌else◌}
 use Rattle.std.specs.List.{range_with_len}
 use Rattle.world_defs.specs.declared.event.Event.TheVariants.{GiveUp}
-use Rattle.world_defs.specs.World.{WorldState, fabric_of, host_count, addresses}
-use Rattle.world_defs.specs.Step.{step, after_all}
+use Rattle.world_defs.specs.declared.effect.Effect.{Effect}
+use Rattle.world_defs.specs.declared.effect.Effect.TheVariants.{Idle, GaveUp}
+use Rattle.world_defs.specs.Node.{has_staged, given_up}
+use Rattle.world_defs.specs.World.{WorldState, fabric_of, host_count, addresses, node_at, with_node}
+use Rattle.world_defs.specs.Step.{step, gave_up, after_all}
 use Rattle.world_defs.specs.Asking.{all_given_up}
 use Rattle.fab_world.specs.Held.{IsLater}
 use Rattle.world_drain.proofs.Later.{later-same, later-both, later-step}
+
+-- a host that has nothing staged gives nothing up
+pub give_up-idle : (w : WorldState) (h : ℕ) → has_staged (node_at w h) ≡ false → w ≡ (step w (GiveUp h)).1
+unfolding gave_up
+give_up-idle w h none = ap (λ b. (if b then (let r : Effect × WorldState = (GaveUp, with_node w h (given_up (node_at w h))) in r) else (Idle, w)).1) (sym none)
 
 -- those from an address on have yet to give up
 pub record GivingUp (first now : WorldState) (host : ℕ) : Type 0 where

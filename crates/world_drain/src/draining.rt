@@ -12,7 +12,8 @@ use crate::seen::{Seen, Watch};
 use fab_world::{Event, World};
 use std::alloc::{AllocError, Global};
 
-/// Advances packets until none moves any more: how many advances changed something. Want of memory leaves a world that some events lead to.
+/// Advances packets until none moves any more: how many advances changed something. Want of memory leaves a world
+/// that some events lead to.
 pub fn drain(alloc: Global, w: &mut World) -> Result<u64, AllocError>
     ensures ok { IfOk result (λ n. n ≡ changes (drain w.old).0) }
     ensures after { OnOk result (w.new ≡ (drain w.old).1) }

@@ -2,7 +2,10 @@
 
 ghost use Rattle.std.specs.Prelude.{◌≡◌, OnOk, OnErr};
 ghost use Rattle.world_defs.specs.World.{fabric_of, host_count};
+ghost use Rattle.world_defs.specs.declared.event.Event.TheVariants.{GiveUp};
+ghost use Rattle.world_defs.specs.Step.{step};
 ghost use Rattle.world_defs.specs.Asking.{all_given_up};
+ghost use Rattle.fab_world.specs.Events.{IsHostOf};
 ghost use Rattle.fab_world.specs.Held.{IsLater};
 
 use crate::happening::happen;
@@ -17,7 +20,23 @@ pub fn give_up_all(alloc: Global, w: &mut World) -> Result<(), AllocError>
     ensures hosts { host_count w.new ≡ host_count w.old }
 {
     for host in 0..w.hosts() {
-        happen(alloc, w, Event::GiveUp(host))?;
+        give_up(alloc, w, host)?;
     }
     Ok(())
+}
+
+// A host gives up what it staged. Of the many hosts few have staged anything, and where nothing stands the event
+// would be idle.
+fn give_up(alloc: Global, w: &mut World, host: u16) -> Result<(), AllocError>
+    requires { IsHostOf w.old host }
+    ensures after { OnOk result (w.new ≡ (step w.old (GiveUp host)).1) }
+    ensures err { OnErr result (IsLater w.old w.new) }
+    ensures fabric { fabric_of w.new ≡ fabric_of w.old }
+    ensures hosts { host_count w.new ≡ host_count w.old }
+{
+    if w.has_staged(host) {
+        happen(alloc, w, Event::GiveUp(host))
+    } else {
+        Ok(())
+    }
 }

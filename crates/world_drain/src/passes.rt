@@ -18,8 +18,8 @@ use crate::replaying::{Told, replay_all};
 use fab_world::{Event, World};
 use std::alloc::{AllocError, Global};
 
-/// Passes, at least one, up to one that leaves limbo empty and no host with anything to send, or in which each injection and each replay was idle:
-/// how many channels were reset. That count stays at its last value once there.
+/// Passes, at least one, up to one that leaves limbo empty and no host with anything to send, or in which each
+/// injection and each replay was idle: how many channels were reset. That count stays at its last value once there.
 pub(crate) fn passes(alloc: Global, w: &mut World) -> Result<u64, AllocError>
     ensures ok { IfOk result (λ resets. ArePasses w.old w.new resets) }
     ensures err { OnErr result (IsLater w.old w.new) }
@@ -60,8 +60,8 @@ fn none_sends(w: &World) -> bool
     true
 }
 
-// A pass: every host gives up what it staged; every host injects, by rising address; a clear; and each packet in limbo is replayed, with a clear
-// behind it.
+// A pass: every host gives up what it staged; every host injects, by rising address; a clear; and each packet in
+// limbo is replayed, with a clear behind it.
 #[tactic(auto, unfolding(world_defs::specs::Settle::round_pass))]
 fn pass(alloc: Global, w: &mut World) -> Result<Told, AllocError>
     ensures moved { IfOk result (λ t. t.moved ≡ nat_lt 0 (round_pass w.old).moves) }

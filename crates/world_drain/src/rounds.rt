@@ -28,8 +28,9 @@ pub struct Settled {
     pub unacked: u64,
 }
 
-/// Settles a world: a clear, and then rounds, at least one, up to one that leaves nothing unacknowledged or that helps nothing. It answers no more
-/// rounds than one and those that fragments and planned faults allow. Want of memory leaves a world that some events lead to.
+/// Settles a world: a clear, and then rounds, at least one, up to one that leaves nothing unacknowledged or that
+/// helps nothing. It answers no more rounds than one and those that fragments and planned faults allow. Want of
+/// memory leaves a world that some events lead to.
 pub fn settle(alloc: Global, w: &mut World) -> Result<Settled, AllocError>
     ensures after { OnOk result (w.new ≡ (settle w.old).world) }
     ensures rounds { IfOk result (λ s. s.rounds ≡ (settle w.old).rounds) }
@@ -99,10 +100,11 @@ fn progress_of(w: &World) -> Progress
     }
 }
 
-// Whether a round that led so far was the last: nothing is left, or it didn't help. Nothing is offered meanwhile, so that what isn't acknowledged
-// gets less exactly where a base rises.
+// Whether a round that led so far was the last: nothing is left, or it didn't help. Nothing is offered meanwhile, so
+// that what isn't acknowledged gets less exactly where a base rises.
 fn is_last(before: Progress, now: Progress) -> bool
-    ensures { result ≡ (nat_eq now.unacked 0 || not (nat_lt now.unacked before.unacked || nat_lt before.struck now.struck)) }
+    ensures { result ≡ (nat_eq now.unacked 0 || not
+        (nat_lt now.unacked before.unacked || nat_lt before.struck now.struck)) }
 {
     now.unacked == 0 || !has_helped(before, now)
 }

@@ -16,7 +16,8 @@ pub struct AwaitedPart {
     pub part: u8,
 }
 
-/// What a mapper looks for: replies to its probe of a number and the probe's return, where that was injected, and what becomes of a part that it awaits.
+/// What a mapper looks for: replies to its probe of a number and the probe's return, where that was injected, and
+/// what becomes of a part that it awaits.
 #[derive(Clone, Copy, Debug)]
 pub struct Watch {
     /// The address of the mapper.
@@ -118,7 +119,14 @@ impl Watch {
 
 // So many changes, and nothing that is looked for.
 fn seen_nothing(changes: u64) -> Seen
-    ensures { result ≡ record { changes = changes; probed = None; replied = None; returned = false; came = false; acknowledged = false } }
+    ensures { result ≡ record {
+      changes = changes;
+      probed = None;
+      replied = None;
+      returned = false;
+      came = false;
+      acknowledged = false;
+    } }
 {
     Seen {
         changes,

@@ -1,33 +1,27 @@
 -- The passes of a round end: each injection uses up a number and adds at most one packet to limbo, and each replay takes one out.
-use Rattle.std.proofs.Common.{◌≡◌, ◌≢◌, ◌<◌, ◌≤◌, ◌+◌, ◌-◌, ◌*◌, ℕ, zero, suc, Bool, true, false, ◌||◌, List, [], ◌∷◌, map, length, nat_eq, nat_lt, nat_le, Option, Some, None, is_some, cond, refl, sym, ◌∙◌, ap, arith, true≢false, if◌then◌else◌}
+use Rattle.std.proofs.Common.{◌≡◌, ◌≢◌, ◌<◌, ◌≤◌, ◌+◌, ◌-◌, ◌*◌, ℕ, zero, suc, Bool, true, false, ◌||◌, List, [], ◌∷◌, map, length, nat_eq, nat_le, Option, Some, None, is_some, cond, refl, sym, ◌∙◌, ap, arith, true≢false, if◌then◌else◌}
 use Rattle.std.specs.Map.{lookup, remove_entry}
 use Rattle.std.proofs.lemmas.Bool.Decides.{nat_tests}
 use Rattle.net_defs.specs.Route.{host_port, channel_from}
-use Rattle.link_defs.specs.declared.moved.Course.{Course}
-use Rattle.link_defs.specs.declared.moved.Course.TheVariants.{Arrives, Enters, Drops}
-use Rattle.link_defs.specs.declared.moved.Moved.{Moved}
-use Rattle.link_defs.specs.declared.moved.Moved.TheVariants.{To, AtHost, Dropped as MovedDropped, Blocked as MovedBlocked, Empty}
 use Rattle.link_defs.specs.declared.replayed.Replayed.{Replayed}
 use Rattle.link_defs.specs.declared.replayed.Replayed.TheVariants.{Back, Busy}
-use Rattle.link_defs.specs.Links.{Held, Caught, LinkState, packet_in, with_packet, emptied}
-use Rattle.link_defs.specs.Advance.{course, entered, gone_on, advance_of, advance}
-use Rattle.link_defs.specs.Fault.{reset, caught_as, released, replay_of}
+use Rattle.link_defs.specs.Links.{Caught, LinkState, packet_in, with_packet}
+use Rattle.link_defs.specs.Fault.{caught_as, released, replay_of}
 use Rattle.world_defs.specs.declared.event.Event.{Event}
-use Rattle.world_defs.specs.declared.event.Event.TheVariants.{Ask, Part, Inject, Advance, Lose, Repeat, Hold, Flip, Replay, Reset, Expire, GiveUp, Begin, Close, Provide, Send, Poll}
+use Rattle.world_defs.specs.declared.event.Event.TheVariants.{Inject, Advance, Replay, Reset, Expire, GiveUp}
 use Rattle.world_defs.specs.declared.effect.Effect.{Effect}
-use Rattle.world_defs.specs.declared.effect.Effect.TheVariants.{Idle, Injected, Expired, GaveUp, Reset as WasReset}
-use Rattle.world_defs.specs.declared.arrival.Arrival.{Arrival}
-use Rattle.world_defs.specs.declared.arrival.Arrival.TheVariants.{Heard as Hears, Dropped as HostDropped, NotMine as ArrivalNotMine}
-use Rattle.world_defs.specs.Node.{NodeState, Outgoing, to_send, packet_for, has_staged, given_up, node_expired, unacknowledged_to}
-use Rattle.world_defs.specs.Hearing.{hear}
-use Rattle.world_defs.specs.World.{WorldState, fabric_of, host_count, last_count, node_at, with_node, with_links, addresses}
-use Rattle.world_defs.specs.Step.{of_links, of_replay, was_reset, replayed, planned_strikes, sent_out, inject_one, inject_into, injected, arrived, advanced_by, advanced, expired, gave_up, step, steps, after_all}
+use Rattle.world_defs.specs.declared.effect.Effect.TheVariants.{Idle, Injected}
+use Rattle.world_defs.specs.Node.{Outgoing, to_send, packet_for}
+use Rattle.world_defs.specs.World.{WorldState, fabric_of, last_count, node_at, addresses}
+use Rattle.world_defs.specs.Step.{of_replay, replayed, planned_strikes, sent_out, inject_one, inject_into, injected, step, steps, after_all}
 use Rattle.world_defs.specs.Drain.{changed, changes, clear}
 use Rattle.world_defs.specs.Settle.{Stretch, replay_each, serials, round_pass, is_quiet, is_last_pass, round_passes, pass_bound, round, expiries}
 use Rattle.world_laws.specs.Settling.{joined_stretch, RoundPasses, IsRound}
 use Rattle.world_laws.proofs.Strikes.{planned_strikes-kept}
 use Rattle.world_laws.proofs.Draining.{one_if, changes-push}
 use Rattle.world_laws.proofs.Along.{Along, Clears, after_all-along, clear-along, expiries-along, all-map}
+use Rattle.link_defs.specs.Step.{Step, stepped}
+use Rattle.world_defs.proofs.Views.{LinksChange, Change, view}
 
 -- an event that neither injects nor changes limbo
 record Calm (w v : WorldState) : Type 0 where
@@ -45,63 +39,27 @@ IsCalm _ = ⊥
 calm_same : (w : WorldState) → Calm w w
 calm_same w = record { injected = refl; limbo = refl; plan = refl }
 
-arrived-calm : (w u : WorldState) (h : ℕ) (o : Arrival × NodeState) → Calm w u → Calm w (arrived u h o).1
-arrived-calm w u h (Hears heard, n) k = record { injected = k.injected; limbo = k.limbo; plan = k.plan }
-arrived-calm w u h (HostDropped drop, n) k = record { injected = k.injected; limbo = k.limbo; plan = k.plan }
-arrived-calm w u h (ArrivalNotMine, n) k = record { injected = k.injected; limbo = k.limbo; plan = k.plan }
+links-calm : {w : WorldState} {e : Event} {x : Effect} {s : Step} → LinksChange w e x s → IsCalm e → (stepped w.links s).limbo ≡ w.links.limbo
+links-calm (LinksChange.moves packet next d e f g) q = ap (λ l. l.limbo) g
+links-calm (LinksChange.loses k) q = refl
+links-calm (LinksChange.resets k) q = refl
+links-calm (LinksChange.repeats k) q = absurd q
+links-calm (LinksChange.holds k) q = absurd q
+links-calm (LinksChange.flips k) q = absurd q
+links-calm (LinksChange.replays k) q = absurd q
 
-advanced_by-calm : (w : WorldState) (o : Moved (List ℕ) × LinkState) → o.1.limbo ≡ w.links.limbo → Calm w (advanced_by w o).1
-advanced_by-calm w (To next, l) e = record { injected = refl; limbo = e; plan = refl }
-advanced_by-calm w (AtHost h wire, l) e =
-    arrived-calm w (with_links w l) h (hear h (host_count w) (node_at w h) wire) (record { injected = refl; limbo = e; plan = refl })
-advanced_by-calm w (MovedDropped why, l) e = record { injected = refl; limbo = e; plan = refl }
-advanced_by-calm w (MovedBlocked next, l) e = calm_same w
-advanced_by-calm w (Empty, l) e = calm_same w
-
-entered-limbo : (s : LinkState) (c : ℕ) (held : Held) (next : ℕ) (o : Option Held) → (entered s c held next o).1.limbo ≡ s.limbo
-entered-limbo s c held next None = refl
-entered-limbo s c held next (Some other) = refl
-
-gone_on-limbo : (s : LinkState) (c : ℕ) (held : Held) (to : Course) → (gone_on s c held to).1.limbo ≡ s.limbo
-gone_on-limbo s c held (Arrives h) = refl
-gone_on-limbo s c held (Enters next) = entered-limbo s c held next (packet_in (emptied s c) next)
-gone_on-limbo s c held (Drops why) = refl
-
-advance_of-limbo : (s : LinkState) (c : ℕ) (o : Option Held) → (advance_of s c o).1.limbo ≡ s.limbo
-advance_of-limbo s c None = refl
-advance_of-limbo s c (Some held) = gone_on-limbo s c held (course s.net c held.wire)
-
-reset-calm : (w : WorldState) (o : Bool × LinkState) → o.1.limbo ≡ w.links.limbo → Calm w (of_links w WasReset o).1
-reset-calm w (true, l) e = record { injected = refl; limbo = e; plan = refl }
-reset-calm w (false, l) e = calm_same w
-
-expired-calm : (w : WorldState) (h peer : ℕ) (b : Bool) → Calm w (if b then (let r : Effect × WorldState = (Expired, with_node w h (node_expired (node_at w h) peer)) in r) else (Idle, w)).1
-expired-calm w h peer true = record { injected = refl; limbo = refl; plan = refl }
-expired-calm w h peer false = calm_same w
-
-gave_up-calm : (w : WorldState) (h : ℕ) (b : Bool) → Calm w (if b then (let r : Effect × WorldState = (GaveUp, with_node w h (given_up (node_at w h))) in r) else (Idle, w)).1
-gave_up-calm w h true = record { injected = refl; limbo = refl; plan = refl }
-gave_up-calm w h false = calm_same w
+change-calm : {w : WorldState} {e : Event} {r : Effect × WorldState} → Change w e r → IsCalm e → Calm w r.1
+change-calm {w = w} Change.idle q = calm_same w
+change-calm {w = w} (Change.blocked packet next d e) q = calm_same w
+change-calm (Change.links k) q = record { injected = refl; limbo = links-calm k q; plan = refl }
+change-calm (Change.drops packet why d e f) q = record { injected = refl; limbo = ap (λ l. l.limbo) f; plan = refl }
+change-calm (Change.arrives packet h d e f k) q = record { injected = refl; limbo = ap (λ l. l.limbo) f; plan = refl }
+change-calm (Change.host k) q = record { injected = refl; limbo = refl; plan = refl }
+change-calm (Change.injects c out d e f g) q = absurd q
+change-calm (Change.calls k) q = record { injected = refl; limbo = refl; plan = refl }
 
 event-calm : (w : WorldState) (e : Event) → IsCalm e → Calm w (step w e).1
-unfolding advanced was_reset expired gave_up
-event-calm w (Advance c) q = advanced_by-calm w (advance w.links c) (advance_of-limbo w.links c (packet_in w.links c))
-event-calm w (Reset c) q = reset-calm w (reset w.links c) refl
-event-calm w (Expire h peer) q = expired-calm w h peer (nat_lt 0 (unacknowledged_to (node_at w h) peer))
-event-calm w (GiveUp h) q = gave_up-calm w h (has_staged (node_at w h))
-event-calm w (Ask h walk looped) q = absurd q
-event-calm w (Part dst part) q = absurd q
-event-calm w (Inject h) q = absurd q
-event-calm w (Lose c) q = absurd q
-event-calm w (Repeat c) q = absurd q
-event-calm w (Hold c) q = absurd q
-event-calm w (Flip c bit pattern) q = absurd q
-event-calm w (Replay serial) q = absurd q
-event-calm w (Begin h port sends recvs) q = absurd q
-event-calm w (Close h port) q = absurd q
-event-calm w (Provide h port size prio) q = absurd q
-event-calm w (Send h port dest dport prio len seed) q = absurd q
-event-calm w (Poll h port) q = absurd q
+event-calm w e q = change-calm (view w e) q
 
 along-calm : Along Calm IsCalm
 along-calm = record {

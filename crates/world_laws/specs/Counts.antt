@@ -20,7 +20,8 @@ drops_after before _ = before
 
 -- an injection has the next number
 abbrev pub InjectionsAreNumbered : Type 0
-InjectionsAreNumbered = (w : WorldState) (e : Event) (number : ℕ) → (step w e).0 ≡ Injected number → number ≡ w.injected + 1
+InjectionsAreNumbered = (w : WorldState) (e : Event) (number : ℕ) → (step w e).0 ≡ Injected number
+    → number ≡ w.injected + 1
 
 -- the injections go up by one where a packet was injected, and else stay
 abbrev pub InjectionsAreCounted : Type 0
@@ -45,4 +46,5 @@ StrikesAreOfInjections = (w : WorldState) (e : Event) → IsStruck w (step w e).
 -- no event of a settle raises the fragments that aren't acknowledged, or the faults that are planned
 abbrev pub SettleEventRaisesNothing : Type 0
 SettleEventRaisesNothing =
-    (w : WorldState) (e : Event) → IsOfSettle e → (unacknowledged_in (step w e).1 ≤ unacknowledged_in w) × (length (step w e).1.plan ≤ length w.plan)
+    (w : WorldState) (e : Event) → IsOfSettle e → (unacknowledged_in (step w e).1 ≤ unacknowledged_in w)
+    × (length (step w e).1.plan ≤ length w.plan)

@@ -57,7 +57,8 @@ SettlesIsEvents = (w : WorldState) (r : Rounds) → Settles w r → IsReachedBy 
 -- where no world that events of a settle reach is stuck, a settle has no resets
 abbrev pub NeverStuckHasNoResets : Type 0
 NeverStuckHasNoResets =
-    (w : WorldState) (r : Rounds) → Settles w r → ((v : WorldState) → IsReachedBy IsOfSettle w v → is_stuck v.links ≡ false) → r.resets ≡ 0
+    (w : WorldState) (r : Rounds) → Settles w r → ((v : WorldState) → IsReachedBy IsOfSettle w v
+    → is_stuck v.links ≡ false) → r.resets ≡ 0
 
 -- What events keep: the fabric, a world, and the numbers of each connection in order.
 pub record IsKept (w v : WorldState) : Type 0 where

@@ -7,7 +7,8 @@ use Rattle.gm_defs.specs.Connection.{IsSender}
 use Rattle.world_defs.specs.declared.event.Event.{Event}
 use Rattle.world_defs.specs.declared.fault.Fault.{Fault}
 use Rattle.world_defs.specs.Node.{NodeState, peer_at, port_at, port_count}
-use Rattle.world_defs.specs.World.{WorldState, fabric_of, host_count, new_world, node_at, client_at, adopted_by, planned}
+use Rattle.world_defs.specs.World.{WorldState, fabric_of, host_count, new_world, node_at, client_at, adopted_by}
+use Rattle.world_defs.specs.World.{planned}
 use Rattle.world_defs.specs.Step.{step, after_all}
 
 -- A host among so many: it has the connections with each of them, and its eight ports.
@@ -15,8 +16,9 @@ pub record IsNode (hosts : ℕ) (n : NodeState) : Type 0 where
   pub peers : length n.peers ≡ hosts
   pub ports : length n.ports ≡ port_count
 
--- A world of a fabric: its links are links, each host of the fabric is there with its client, a port has a client exactly where it is open,
--- the counts of injections and of drops are of 64 bits, and of the injections some were struck, and of these some harmed.
+-- A world of a fabric: its links are links, each host of the fabric is there with its client, a port has a client
+-- exactly where it is open, the counts of injections and of drops are of 64 bits, and of the injections some were
+-- struck, and of these some harmed.
 pub record IsWorld (w : WorldState) : Type 0 where
   pub links : IsLinks w.links
   pub hosts : length w.nodes ≡ length (fabric_of w).hosts
@@ -67,7 +69,8 @@ EventsKeepSenders = (w : WorldState) (es : List Event) → HasSenders w → HasS
 
 -- the adoption of routes leaves a world
 abbrev pub AdoptionLeavesWorld : Type 0
-AdoptionLeavesWorld = (w : WorldState) (mapper : ℕ) (routes : List Route) → IsWorld w → IsWorld (adopted_by w mapper routes)
+AdoptionLeavesWorld = (w : WorldState) (mapper : ℕ) (routes : List Route) → IsWorld w
+    → IsWorld (adopted_by w mapper routes)
 
 -- so does the plan of a fault
 abbrev pub PlanLeavesWorld : Type 0
@@ -75,7 +78,8 @@ PlanLeavesWorld = (w : WorldState) (ahead : ℕ) (fault : Fault) → IsWorld w �
 
 -- an adoption keeps the numbers of each connection in order
 abbrev pub AdoptionKeepsSenders : Type 0
-AdoptionKeepsSenders = (w : WorldState) (mapper : ℕ) (routes : List Route) → HasSenders w → HasSenders (adopted_by w mapper routes)
+AdoptionKeepsSenders = (w : WorldState) (mapper : ℕ) (routes : List Route) → HasSenders w
+    → HasSenders (adopted_by w mapper routes)
 
 -- so does a plan
 abbrev pub PlanKeepsSenders : Type 0

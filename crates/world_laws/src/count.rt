@@ -1,6 +1,7 @@
 //! What an event does to the counts: `specs/Counts.antt` has the statements.
 
-ghost use Rattle.world_laws.specs.Counts.{InjectionsAreNumbered, InjectionsAreCounted, DropsAreCounted, StrikesAreOfInjections, SettleEventRaisesNothing};
+ghost use Rattle.world_laws.specs.Counts.{InjectionsAreNumbered, InjectionsAreCounted, DropsAreCounted};
+ghost use Rattle.world_laws.specs.Counts.{StrikesAreOfInjections, SettleEventRaisesNothing};
 
 /// Injections, drops and strikes are counted where they happen, and nowhere else.
 pub fn counts_of_events()

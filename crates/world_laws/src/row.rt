@@ -1,6 +1,7 @@
 //! A drain, a clear and a settle are events in a row: `specs/Reached.antt` has the statements.
 
-ghost use Rattle.world_laws.specs.Reached.{DrainIsEvents, ClearIsEvents, SettleIsEvents, SettlesIsEvents, NeverStuckHasNoResets, DrainKeeps, ClearKeeps, SettleKeeps};
+ghost use Rattle.world_laws.specs.Reached.{DrainIsEvents, ClearIsEvents, SettleIsEvents, SettlesIsEvents};
+ghost use Rattle.world_laws.specs.Reached.{NeverStuckHasNoResets, DrainKeeps, ClearKeeps, SettleKeeps};
 
 /// A drain, a clear and a settle are events of their kinds, in a row.
 pub fn rows_of_events()

@@ -1,8 +1,10 @@
 //! What a settle is, and that it ends: `specs/Settling.antt` has the statements.
 
-ghost use Rattle.world_laws.specs.Settling.{RoundIsRound, RoundsAreOne, PassesAreBounded, SettleSettles, SettlesAreOne, RoundsAreBounded, ClearRaisesNothing, SettledIsIdle};
+ghost use Rattle.world_laws.specs.Settling.{RoundIsRound, RoundsAreOne, PassesAreBounded, SettleSettles, SettlesAreOne};
+ghost use Rattle.world_laws.specs.Settling.{RoundsAreBounded, ClearRaisesNothing, SettledIsIdle};
 
-/// A round is all expiries and then passes up to the last, with no more of them than injections and packets in limbo allow.
+/// A round is all expiries and then passes up to the last, with no more of them than injections and packets in limbo
+/// allow.
 pub fn rounds_of_passes()
     ensures round { RoundIsRound }
     ensures one { RoundsAreOne }

@@ -1,6 +1,8 @@
 //! Every event leaves a world of the same fabric: `specs/Shape.antt` has the statements.
 
-ghost use Rattle.world_laws.specs.Shape.{NewIsWorld, EventLeavesWorld, EventsLeaveWorld, EventKeepsFabric, EventsKeepFabric, NewHasSenders, EventKeepsSenders, EventsKeepSenders, AdoptionLeavesWorld, PlanLeavesWorld, AdoptionKeepsSenders, PlanKeepsSenders};
+ghost use Rattle.world_laws.specs.Shape.{NewIsWorld, EventLeavesWorld, EventsLeaveWorld, EventKeepsFabric};
+ghost use Rattle.world_laws.specs.Shape.{EventsKeepFabric, NewHasSenders, EventKeepsSenders, EventsKeepSenders};
+ghost use Rattle.world_laws.specs.Shape.{AdoptionLeavesWorld, PlanLeavesWorld, AdoptionKeepsSenders, PlanKeepsSenders};
 
 /// A fabric's world stays one, and its fabric stays as it is.
 pub fn kept_worlds()

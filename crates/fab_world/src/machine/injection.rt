@@ -34,7 +34,8 @@ impl Machine {
     fn inject_into(&mut self, alloc: Global, host: u16, c: u16) -> Result<Effect, AllocError>
         requires there { IsHostOf self.old host }
         requires channel { IsChannelOf self.old c }
-        ensures ok { IfOk result (λ x. inject_one self.old host c (to_send host (node_at self.old host)) ≡ (x, self.new)) }
+        ensures ok { IfOk result (λ x. inject_one self.old host c (to_send host (node_at self.old host))
+            ≡ (x, self.new)) }
         ensures err { OnErr result (self.new ≡ self.old) }
     {
         if !self.links.can_inject(c) {
@@ -58,8 +59,10 @@ impl Machine {
         requires there { IsHostOf self.old host }
         requires channel { IsChannelOf self.old c }
         requires free { can_inject (of_world self.old) c ≡ true }
-        requires first { Some packet ≡ option_map (packet_for host (self.old.injected + 1)) (to_send host (node_at self.old host)) }
-        ensures ok { IfOk result (λ x. inject_one self.old host c (to_send host (node_at self.old host)) ≡ (x, self.new)) }
+        requires first { Some packet ≡ option_map (packet_for host (self.old.injected + 1))
+            (to_send host (node_at self.old host)) }
+        ensures ok { IfOk result (λ x. inject_one self.old host c (to_send host (node_at self.old host))
+            ≡ (x, self.new)) }
         ensures err { OnErr result (self.new ≡ self.old) }
     {
         match self.links.inject(alloc, c, packet) {

@@ -12,15 +12,16 @@ use myri_packet::Packet;
 use net_defs::{End, Vertex};
 use world_defs::{Cause, Effect};
 
-// A port to read: the answer, whatever it is, shows that the links are those of a fabric, whose cables end at hosts that it has.
+// A port to read: the answer, whatever it is, shows that the links are those of a fabric, whose cables end at hosts
+// that it has.
 const FIRST_PORT: End = End {
     v: Vertex::Host(0),
     p: 0,
 };
 
 impl FaultyLinks {
-    /// A channel's packet goes on: through a switch, which may drop it and then counts it as dropped, or to a host, to which it is handed.
-    /// Blocked where the next channel holds another packet; idle where this one holds none.
+    /// A channel's packet goes on: through a switch, which may drop it and then counts it as dropped, or to a host,
+    /// to which it is handed. Blocked where the next channel holds another packet; idle where this one holds none.
     pub fn advance(&mut self, c: u16) -> Gone<Packet>
         requires { c < length self.old.links.channels }
         ensures gone { (w : WorldState) → advanced (with_part w self.old) c ≡ heard_of (with_part w self.new) result }

@@ -38,7 +38,8 @@ impl FaultyLinks {
     /// A copy of a channel's packet comes into limbo: idle exactly where there is no packet, or no serial for it.
     pub fn repeat(&mut self, alloc: Global, c: u16) -> Result<Effect, AllocError>
         requires { c < length self.old.links.channels }
-        ensures ok { IfOk result (λ e. (w : WorldState) → repeated (with_part w self.old) c ≡ (e, with_part w self.new)) }
+        ensures ok { IfOk result (λ e. (w : WorldState)
+            → repeated (with_part w self.old) c ≡ (e, with_part w self.new)) }
         ensures err { OnErr result (self.new ≡ self.old) }
     {
         let Some(serial) = self.links.repeat(alloc, c)? else {
@@ -59,11 +60,12 @@ impl FaultyLinks {
         Ok(Effect::Held(serial))
     }
 
-    /// A burst flips bits of a channel's packet: idle exactly where there is no packet, a flip has met it before, the pattern is 0, or its
-    /// last bit lies past the packet's end.
+    /// A burst flips bits of a channel's packet: idle exactly where there is no packet, a flip has met it before, the
+    /// pattern is 0, or its last bit lies past the packet's end.
     pub fn flip(&mut self, c: u16, bit: u32, pattern: u8) -> Result<Effect, AllocError>
         requires { c < length self.old.links.channels }
-        ensures ok { IfOk result (λ e. (w : WorldState) → flipped (with_part w self.old) c bit pattern ≡ (e, with_part w self.new)) }
+        ensures ok { IfOk result (λ e. (w : WorldState)
+            → flipped (with_part w self.old) c bit pattern ≡ (e, with_part w self.new)) }
         ensures err { OnErr result (self.new ≡ self.old) }
     {
         if !self.links.flip(c, bit, pattern)? {
@@ -72,7 +74,8 @@ impl FaultyLinks {
         Ok(Effect::Flipped)
     }
 
-    /// The packet of a serial comes back from limbo: idle exactly where its channel is full, or nothing stands under the serial.
+    /// The packet of a serial comes back from limbo: idle exactly where its channel is full, or nothing stands under
+    /// the serial.
     pub fn replay(&mut self, serial: u64) -> Effect
         ensures { (w : WorldState) → replayed (with_part w self.old) serial ≡ (result, with_part w self.new) }
     {

@@ -13,10 +13,12 @@ use std::alloc::{AllocError, Global};
 use world_defs::{Effect, Fault};
 
 impl FaultyLinks {
-    /// Plans a fault for the injection so far ahead, in the place of an earlier one, and answers that injection's number.
+    /// Plans a fault for the injection so far ahead, in the place of an earlier one, and answers that injection's
+    /// number.
     pub fn plan(&mut self, ahead: u64, fault: Fault) -> Result<u128, AllocError>
         requires { 1 ≤ ahead }
-        ensures ok { IfOk result (λ number. (w : WorldState) → planned (with_part w self.old) ahead fault ≡ (number, with_part w self.new)) }
+        ensures ok { IfOk result (λ number. (w : WorldState)
+            → planned (with_part w self.old) ahead fault ≡ (number, with_part w self.new)) }
         ensures err { OnErr result (self.new ≡ self.old) }
     {
         let number = u128::from(self.counts.injected()) + u128::from(ahead);
@@ -24,8 +26,8 @@ impl FaultyLinks {
         Ok(number)
     }
 
-    /// Puts a packet into an empty channel under the next number; the fault that is planned for this injection strikes at once. Where
-    /// memory is wanting it hands the packet back, and nothing has changed.
+    /// Puts a packet into an empty channel under the next number; the fault that is planned for this injection
+    /// strikes at once. Where memory is wanting it hands the packet back, and nothing has changed.
     pub fn inject(
         &mut self,
         alloc: Global,
@@ -35,7 +37,8 @@ impl FaultyLinks {
         requires there { c < length self.old.links.channels }
         requires free { can_inject self.old c ≡ true }
         ensures number { IfOk result (λ e. e ≡ Effect.Injected (self.old.injected + 1)) }
-        ensures strikes { OnOk result ((w : WorldState) → planned_strikes (put_under_next (with_part w self.old) c p) c ≡ with_part w self.new) }
+        ensures strikes { OnOk result ((w : WorldState)
+            → planned_strikes (put_under_next (with_part w self.old) c p) c ≡ with_part w self.new) }
         ensures err { OnErr result (self.new ≡ self.old) }
         ensures back { IfErr result (λ e. e.0 ≡ p) }
     {
@@ -52,7 +55,8 @@ impl FaultyLinks {
     }
 }
 
-// Puts a packet into an empty channel, where a fault strikes it: whether it did. It keeps a copy, to hand it back where memory is wanting.
+// Puts a packet into an empty channel, where a fault strikes it: whether it did. It keeps a copy, to hand it back
+// where memory is wanting.
 fn put_under(
     links: &mut Links,
     alloc: Global,

@@ -11,8 +11,8 @@ use link_defs::{Course, Moved};
 use myri_packet::Packet;
 
 impl Links {
-    /// One step of a channel: its packet goes on through a switch, to its host, or nowhere. `Blocked` where the next channel holds another
-    /// packet; the next channel may be the channel itself. It takes no memory.
+    /// One step of a channel: its packet goes on through a switch, to its host, or nowhere. `Blocked` where the next
+    /// channel holds another packet; the next channel may be the channel itself. It takes no memory.
     pub fn advance(&mut self, c: u16) -> Moved<Packet>
         requires { c < length self.old.channels }
         ensures moved { result ≡ (advance self.old c).0 }
@@ -55,7 +55,8 @@ impl Links {
     // A channel's packet enters the next channel, if that is empty or the channel itself.
     fn enter(&mut self, c: u16, next: u16) -> Moved<Packet>
         requires there { c < length self.old.channels }
-        requires course { option_map (λ held. course self.old.net c held.wire) (packet_in self.old c) ≡ Some (Course.Enters next) }
+        requires course { option_map (λ held. course self.old.net c held.wire) (packet_in self.old c)
+            ≡ Some (Course.Enters next) }
         ensures moved { result ≡ (advance self.old c).0 }
         ensures links { self.new ≡ (advance self.old c).1 }
     {

@@ -28,8 +28,8 @@ impl Links {
         self.lose(c)
     }
 
-    /// Copies a channel's packet into limbo, with its mark, and answers its serial: none exactly where the channel is empty or the
-    /// serials are used up.
+    /// Copies a channel's packet into limbo, with its mark, and answers its serial: none exactly where the channel is
+    /// empty or the serials are used up.
     pub fn repeat(&mut self, alloc: Global, c: u16) -> Result<Option<u64>, AllocError>
         requires { c < length self.old.channels }
         ensures serial { IfOk result (λ serial. serial ≡ (repeat self.old c).0) }
@@ -49,7 +49,8 @@ impl Links {
         }
     }
 
-    /// Moves a channel's packet into limbo, and answers its serial: none exactly where the channel is empty or the serials are used up.
+    /// Moves a channel's packet into limbo, and answers its serial: none exactly where the channel is empty or the
+    /// serials are used up.
     pub fn hold(&mut self, c: u16) -> Result<Option<u64>, AllocError>
         requires { c < length self.old.channels }
         ensures serial { IfOk result (λ serial. serial ≡ (hold self.old c).0) }
@@ -71,8 +72,8 @@ impl Links {
         }
     }
 
-    /// Flips bits of a channel's packet: false exactly where the channel is empty, a flip has met the packet before, the pattern is 0, or
-    /// its last bit lies past the packet's end.
+    /// Flips bits of a channel's packet: false exactly where the channel is empty, a flip has met the packet before,
+    /// the pattern is 0, or its last bit lies past the packet's end.
     pub fn flip(&mut self, c: u16, bit: u32, pattern: u8) -> Result<bool, AllocError>
         requires { c < length self.old.channels }
         ensures flipped { IfOk result (λ flipped. flipped ≡ (flip self.old c bit pattern).0) }

@@ -2,7 +2,8 @@
 
 ghost use Rattle.std.specs.Prelude.{◌≡◌, length, None, IfOk, IfErr, OnOk, OnErr};
 ghost use Rattle.net_defs.specs.Refusal.{Refuses};
-ghost use Rattle.net_defs.specs.Building.{host_refusal, switch_refusal, cable_refusal, with_host, with_switch, with_cable, taken, is_used};
+ghost use Rattle.net_defs.specs.Building.{host_refusal, switch_refusal, cable_refusal, with_host, with_switch};
+ghost use Rattle.net_defs.specs.Building.{with_cable, taken, is_used};
 ghost use Rattle.net_defs.specs.Network.{has_port, has_vertex, is_port_count as port_count_test};
 
 use super::Fabric;
@@ -27,8 +28,8 @@ impl Fabric {
         }
     }
 
-    /// Adds a switch, and answers its number. Refused in this order: `PortRange` where it has not 4, 8 or 16 ports, `NameTaken`,
-    /// `Full` at 64 switches.
+    /// Adds a switch, and answers its number. Refused in this order: `PortRange` where it has not 4, 8 or 16 ports,
+    /// `NameTaken`, `Full` at 64 switches.
     pub fn add_switch(&mut self, alloc: Global, name: &[u8], ports: u8) -> Result<u16, GraphFault>
         ensures number { IfOk result (λ s. s ≡ length self.old.switches) }
         ensures added { OnOk result (self.new ≡ with_switch self.old name.now ports) }
@@ -41,8 +42,8 @@ impl Fabric {
         }
     }
 
-    /// Joins two ports, and answers the cable's number. Refused in this order: `NoVertex` of a, of b, `PortRange` of a, of b,
-    /// `PortUsed` where one has a cable or both are one port.
+    /// Joins two ports, and answers the cable's number. Refused in this order: `NoVertex` of a, of b, `PortRange` of
+    /// a, of b, `PortUsed` where one has a cable or both are one port.
     pub fn add_cable(&mut self, a: End, b: End) -> Result<u16, GraphFault>
         ensures number { IfOk result (λ k. k ≡ length self.old.cables) }
         ensures added { OnOk result (self.new ≡ with_cable self.old a b) }

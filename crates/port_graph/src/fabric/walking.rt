@@ -7,8 +7,9 @@ use super::Fabric;
 use net_defs::{End, Place, Vertex};
 
 impl Fabric {
-    /// The place of a walk from a host: it starts at the far end of the host's cable, and a switch that is entered by port e is
-    /// left by port e + turn. `Nothing` where the walk is stuck, also where the fabric lacks the host. It takes no memory.
+    /// The place of a walk from a host: it starts at the far end of the host's cable, and a switch that is entered by
+    /// port e is left by port e + turn. `Nothing` where the walk is stuck, also where the fabric lacks the host. It
+    /// takes no memory.
     pub fn walk(&self, host: u16, turns: &[i8]) -> Place
         ensures place { result ≡ place self.now host turns.now }
         ensures there { IsPlaceOf self.now result }

@@ -3,7 +3,9 @@ use Rattle.fab_outer.specs.Whole.{TakesPrefix}
 use Rattle.std.specs.Io.KnownBytes.{Appends}
 use Rattle.world_defs.specs.World.{fabric_of}
 use Rattle.run_defs.specs.declared.command.Command.{Command}
+use Rattle.fab_report.specs.Printed.{PrintedState}
 use Rattle.net_defs.specs.Network.{Network}
+use Rattle.run_session.specs.Obeyed.{IsObeyedIn}
 use Rattle.fabric_run.specs.Ends.{HaveRun}
 use Rattle.fabric_run.specs.declared.status.Status.TheVariants.{WriteFault, NoMemory}
 use Rattle.fabric_run.proofs.Endings.{report-so}
@@ -29,14 +31,16 @@ pub returns-then-is_err-clause-ends : goal.returns-then-is_err-clause-ends
 returns-then-is_err-clause-ends g c =
     let n : Network = fabric_of c.args.session.world in
     let cs : List Command = c.args.commands.now in
-    let text : List ℕ = c.in-Ok.text.items in
-    let part : TakesPrefix (g.K.Sink.taken c.loop-command.out) (g.K.Sink.taken c.write_all.new.sink) text =
-    subst (TakesPrefix (g.K.Sink.taken c.loop-command.out) (g.K.Sink.taken c.write_all.new.sink)) c.deref.ensures.value c.write_all.ensures.part in
+    let obeyed : IsObeyedIn c.loop-command.session c.command-item.result c.in-Ok.next c.in-Ok.text.items = c.in-Ok.ensures.ok in
+    let p : PrintedState = obeyed.0 in
+    let same : c.deref.result.now ≡ p.text = c.deref.ensures.value ∙ obeyed.2 in
+    let part : TakesPrefix (g.K.Sink.taken c.loop-command.out) (g.K.Sink.taken c.write_all.new.sink) p.text =
+    subst (TakesPrefix (g.K.Sink.taken c.loop-command.out) (g.K.Sink.taken c.write_all.new.sink)) same c.write_all.ensures.part in
     report-so (record { network = n; commands = cs }) _ _ _ _ WriteFault c.with_session-then-is_err.result.status (Some c.in-Ok.next) c.with_session-then-is_err.result.session
     c.with_session-then-is_err.ensures.status c.with_session-then-is_err.ensures.some (
       rose-earlier _ _ _ c.loop-command.invariant.later (on_err c.write_all.result _ c.if-is_err.ensures.value c.write_all.ensures.cause.failed),
-      cut-ran n cs c.loop-command.command-index _ _ _ c.loop-command.session c.in-Ok.next c.command-item.result text
-          c.loop-command-test.true c.command-item.is c.loop-command.invariant.ran c.loop-command.invariant.fabric c.in-Ok.ensures.ok part,
+      cut-ran n cs c.loop-command.command-index _ _ _ c.loop-command.session c.in-Ok.next c.command-item.result p
+          c.loop-command-test.true c.command-item.is c.loop-command.invariant.ran c.loop-command.invariant.fabric obeyed.1 part,
     )
 
 pub loop-command-preserved : goal.loop-command-preserved
@@ -44,15 +48,17 @@ loop-command-preserved g c =
     let n : Network = fabric_of c.args.session.world in
     let cs : List Command = c.args.commands.now in
     let i : ℕ = c.loop-command.command-index in
-    let text : List ℕ = c.in-Ok.text.items in
-    let all : Appends (g.K.Sink.taken c.loop-command.out) (g.K.Sink.taken c.write_all.new.sink) text =
-    subst (Appends (g.K.Sink.taken c.loop-command.out) (g.K.Sink.taken c.write_all.new.sink)) c.deref.ensures.value
+    let obeyed : IsObeyedIn c.loop-command.session c.command-item.result c.in-Ok.next c.in-Ok.text.items = c.in-Ok.ensures.ok in
+    let p : PrintedState = obeyed.0 in
+    let same : c.deref.result.now ≡ p.text = c.deref.ensures.value ∙ obeyed.2 in
+    let all : Appends (g.K.Sink.taken c.loop-command.out) (g.K.Sink.taken c.write_all.new.sink) p.text =
+    subst (Appends (g.K.Sink.taken c.loop-command.out) (g.K.Sink.taken c.write_all.new.sink)) same
     (on_ok c.write_all.result _ c.if-is_err.ensures.value c.write_all.ensures.all) in
     let next : suc i ≡ i + 1 = omega arith in
     record {
       ran = subst (λ k. HaveRun n (take k cs) (g.K.Sink.taken c.args.out.now) (g.K.Sink.taken c.write_all.new.sink) c.in-Ok.next) next
-          (more-ran n cs i _ _ _ c.loop-command.session c.in-Ok.next c.command-item.result text
-          c.loop-command-test.true c.command-item.is c.loop-command.invariant.ran c.loop-command.invariant.fabric c.in-Ok.ensures.ok all);
+          (more-ran n cs i _ _ _ c.loop-command.session c.in-Ok.next c.command-item.result p
+          c.loop-command-test.true c.command-item.is c.loop-command.invariant.ran c.loop-command.invariant.fabric obeyed.1 all);
       fabric = c.in-Ok.ensures.fabric ∙ c.loop-command.invariant.fabric;
       later = omega (arith, c.loop-command.invariant.later, c.write_all.ensures.cause.later);
     }

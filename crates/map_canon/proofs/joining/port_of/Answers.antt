@@ -2,7 +2,7 @@ use Rattle.std.proofs.Common.{◌≡◌, ℕ, ◌+ℤ◌, ap, sym, ◌∙◌, su
 use Rattle.std.proofs.lemmas.Int.{ints, to_z-of_z}
 use Rattle.std.proofs.lemmas.Option.{get_or_from_slice_get}
 use Rattle.port_align.specs.declared.frame.ClassFrame.{ClassFrame}
-use Rattle.replicate_merge.specs.Ways.{frame_at}
+use Rattle.class_joins.specs.Ways.{frame_at}
 use Rattle.map_canon.specs.Numbering.{IsVertexOf}
 use Rattle.map_canon.specs.Joining.{vertex_at}
 use Rattle.map_canon.proofs.joining.port_of.Goals as goal

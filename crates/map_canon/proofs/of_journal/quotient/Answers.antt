@@ -2,7 +2,7 @@ use Rattle.std.proofs.Common.{ℕ, List, Option, length, ap, sym, ◌∙◌, sub
 use Rattle.net_defs.specs.Network.{Apart}
 use Rattle.journal_defs.specs.Tree.{Node}
 use Rattle.fabric_map.specs.Growing.{IsFabricMap}
-use Rattle.replicate_merge.proofs.Nodes.{nodes-apart}
+use Rattle.class_joins.proofs.Nodes.{nodes-apart}
 use Rattle.map_canon.specs.Naming.{bare_map, vertices_of}
 use Rattle.map_canon.specs.Joining.{HaveVertices, JoinsBelow}
 use Rattle.map_canon.proofs.Standing.{AreOf}

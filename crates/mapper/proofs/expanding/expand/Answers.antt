@@ -4,9 +4,9 @@ use Rattle.journal_defs.specs.Growth.{node_limit}
 use Rattle.net_defs.specs.Route.{answer}
 use Rattle.growth_laws.proofs.Asks.{push-length}
 use Rattle.mapper.specs.Turns.{turn_at}
-use Rattle.mapper.specs.Growths.{IsAsk, IsLostAsk}
+use Rattle.mapper.specs.Growths.{IsAsk, IsLostAsk, IsToldOf}
 use Rattle.mapper.proofs.Midway.{midway-start}
-use Rattle.mapper.proofs.Adding.{walk-turn, grown-none, as-asked, on-err, IsMidst, midst-next, midst-grown, midst-full, midst-whole, midst-stops, midst-lost}
+use Rattle.mapper.proofs.Adding.{walk-turn, grown-none, as-asked, on-err, as-next, IsMidst, midst-walk, midst-next, midst-grown, midst-full, midst-whole, midst-stops, midst-lost}
 use Rattle.mapper.proofs.expanding.expand.Goals as goal
 
 pub loop-step-init : goal.loop-step-init
@@ -34,6 +34,19 @@ ask-requires-clause-short g c =
     let near = c.requires.chosen.near in
     let shallow = c.requires.shallow in
     omega arith
+
+pub ask-requires-clause-next : goal.ask-requires-clause-next
+ask-requires-clause-next g c =
+    let p = g.P.Prober in
+    let t = c.args.tree.now in
+    let i = c.loop-step.invariant in
+    let n = p.fabric c.args.p.now in
+    let w : List ℤ = c.args.front.now ++ turn_at c.loop-step.step ∷ [] in
+    let walk : c.in_ok-walk.walk ≡ w = walk-turn c.args.front.now c.in_ok-walk.walk c.turn_at.result (turn_at c.loop-step.step) c.turn_at.ensures.in_range c.in_ok-walk.ensures c.turn_at.ensures.value in
+    let host : p.mapper c.loop-step.p ≡ c.loop-step.tree.journal.host = i.same_mapper ∙ sym c.requires.mapper ∙ sym i.midst.grown.host in
+    let told : IsToldOf n t.journal.host t.journal.entries = subst (λ h. IsToldOf n h t.journal.entries) (sym c.requires.mapper) c.requires.told in
+    as-next (p.fabric c.loop-step.p) n (p.mapper c.loop-step.p) c.loop-step.tree.journal.host c.loop-step.tree c.in_ok-walk.walk w i.same_fabric host walk
+    (midst-walk p.State p.asked n t (p.state c.args.p.now) (p.lost c.args.p.now) c.args.front.now c.loop-step.step c.loop-step.tree (p.state c.loop-step.p) (p.lost c.loop-step.p) c.loop-step-test.true i.midst told)
 
 pub ask-requires-clause-few : goal.ask-requires-clause-few
 ask-requires-clause-few g c = c.loop-step.invariant.midst.under_way.kept

@@ -1,8 +1,7 @@
 use Rattle.std.proofs.Common.{◌≡◌, ◌<◌, sym, ◌∙◌, subst, arith}
 use Rattle.std.specs.Prelude.{Ok}
-use Rattle.journal_defs.specs.Truth.{IsTrueWhereFound}
 use Rattle.journal_defs.specs.Growth.{IsGrown}
-use Rattle.mapper.specs.Growths.{HasGrown, IsSettled, IsWhole}
+use Rattle.mapper.specs.Growths.{HasGrown, IsToldOf, IsSettled, IsWhole}
 use Rattle.mapper.proofs.Adding.{on-err}
 use Rattle.mapper.proofs.Sweeping.{short-settled}
 use Rattle.mapper.proofs.Starting.{grows-on, stops-on, limit-told}
@@ -38,15 +37,12 @@ expand_next-requires-clause-shallow g c = let d = c.growing.invariant.depth in l
 pub expand_next-requires-clause-settled : goal.expand_next-requires-clause-settled
 expand_next-requires-clause-settled g c = c.growing.invariant.settled
 
-pub expand_next-requires-clause-true_of_one : goal.expand_next-requires-clause-true_of_one
-expand_next-requires-clause-true_of_one g c =
+pub expand_next-requires-clause-told : goal.expand_next-requires-clause-told
+expand_next-requires-clause-told g c =
     let p = g.P.Prober in
     let i = c.growing.invariant in
-    record {
-      fabric = p.fabric c.args.p.now;
-      is_fabric = i.one_fabric;
-      told = subst (λ h. IsTrueWhereFound (p.fabric c.args.p.now) h c.growing.tree.journal.entries) (sym i.host) i.grown.found;
-    }
+    let j = c.growing.tree.journal.entries in
+    subst (λ h. IsToldOf (p.fabric c.growing.p) h j) (sym i.same_mapper) (subst (λ n. IsToldOf n (p.mapper c.args.p.now) j) (sym i.same_fabric) (record { is_fabric = i.one_fabric; told = i.grown.found }))
 
 pub returns-in_err-expand_next-clause-stopped : goal.returns-in_err-expand_next-clause-stopped
 returns-in_err-expand_next-clause-stopped g c =
@@ -132,6 +128,11 @@ returns-clause-grown g c =
     let host : new.journal.host ≡ p.mapper c.args.p.now = k.grown.host ∙ i.host in
     let depth : new.depth ≡ c.args.depth = k.grown.depth ∙ i.depth in
     subst (λ d. IsGrown (p.mapper c.args.p.now) d new.journal.entries) depth (subst (λ h. IsGrown h new.depth new.journal.entries) host whole.grown)
+
+pub returns-clause-stands : goal.returns-clause-stands
+returns-clause-stands g c =
+    let whole : IsWhole c.expand_next.new.tree = c.in_ok-expand_next.ensures.ends (λ i. Ok (c.if-branch.false i)) in
+    whole.stands
 
 pub returns-clause-at_limit : goal.returns-clause-at_limit
 returns-clause-at_limit g c = limit-told c.expand_next.new.tree (c.in_ok-expand_next.ensures.ends (λ i. Ok (c.if-branch.false i)))

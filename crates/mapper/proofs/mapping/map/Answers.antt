@@ -26,6 +26,9 @@ map_of-requires-clause-true_of_one g c =
       told = subst (λ h. IsTrueWhereFound (p.fabric c.args.p.now) h c.in_ok-grown.grown.journal.entries) (sym k.host) k.found;
     }
 
+pub map_of-requires-clause-stands : goal.map_of-requires-clause-stands
+map_of-requires-clause-stands g c = c.in_ok-grown.ensures.stands
+
 pub map_of-requires-clause-few : goal.map_of-requires-clause-few
 map_of-requires-clause-few g c = short-grown (g.P.Prober.mapper c.args.p.now) c.args.depth c.in_ok-grown.grown.journal.entries c.in_ok-grown.ensures.grown
 

@@ -1,8 +1,8 @@
 use Rattle.std.proofs.Common.{◌≡◌, ◌++◌, ◌+◌, ap, sym, ◌∙◌, rules, refl, SFits, to_z, of_z, w8}
 use Rattle.std.proofs.lemmas.Int.{to_z-of_z}
 use Rattle.std.proofs.lemmas.Result.{on_ok_weaker}
-use Rattle.replicate_merge.specs.Nodes.{both_ways}
-use Rattle.replicate_merge.specs.Nodes.AddsCables.{from_node, from_none}
+use Rattle.replicate_merge.specs.Cables.{both_ways}
+use Rattle.replicate_merge.specs.Cables.AddsCables.{from_node, from_none}
 use Rattle.replicate_merge.proofs.ways.push_cables.Goals as goal
 
 pub returns-in-Some-find : goal.returns-in-Some-find

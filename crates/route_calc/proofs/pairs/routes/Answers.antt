@@ -23,10 +23,10 @@ add_routes-requires-clause-from c =
     all-member (AreWaysOf m (order_of m)) at ws all.each (get-member ws c.loop-from.from-index at there)
 
 pub add_routes-requires-clause-to : goal.add_routes-requires-clause-to
-add_routes-requires-clause-to c = subst (AllByRecursion (AreWaysOf c.args.m.now (order_of c.args.m.now))) (sym c.deref.ensures.value) c.in_ok-ways.ensures.each
+add_routes-requires-clause-to c = subst (AllByRecursion (AreWaysOf c.args.m.now (order_of c.args.m.now))) (sym c.deref-in-loop-from-2.ensures.value) c.in_ok-ways.ensures.each
 
 pub add_routes-requires-clause-rising : goal.add_routes-requires-clause-rising
-add_routes-requires-clause-rising c = subst AreRisingHosts (sym c.deref.ensures.value) c.in_ok-ways.ensures.rising
+add_routes-requires-clause-rising c = subst AreRisingHosts (sym c.deref-in-loop-from-2.ensures.value) c.in_ok-ways.ensures.rising
 
 pub add_routes-requires-clause-before : goal.add_routes-requires-clause-before
 add_routes-requires-clause-before c =
@@ -45,7 +45,7 @@ loop-from-preserved c =
     let new = c.add_routes.new.set in
     let all = subst (AreAllWays m (order_of m)) (sym c.deref-from-items.ensures.value) c.in_ok-ways.ensures in
     let there : slice_get ws k ≡ Some at = slice_get-get_or ws k at c.loop-from-test.true ∙ ap Some (sym c.from-item.is) in
-    let same : c.deref.result.now ≡ ws = c.deref.ensures.value ∙ sym c.deref-from-items.ensures.value in
+    let same : c.deref-in-loop-from-2.result.now ≡ ws = c.deref-in-loop-from-2.ensures.value ∙ sym c.deref-from-items.ensures.value in
     let adds = subst (λ (ts : List HostWays). AddsRoutes m (order_of m) at.host ts (length ts) old new) same c.in_ok-add_routes.ensures in
     made-more m (order_of m) ws k old new at c.loop-from.invariant all.rising there adds
 

@@ -4,7 +4,7 @@ use Rattle.map_defs.specs.Orientation.{order_of}
 use Rattle.map_defs.specs.Ranks.{ranks_of}
 use Rattle.route_making.specs.Listed.{AreBetweenHosts}
 use Rattle.route_making.proofs.Few.{few-routes}
-use Rattle.route_making.proofs.Lines.{parts-text, whole-text}
+use Rattle.route_making.proofs.Lines.{parts-printed, whole-printed}
 use Rattle.route_making.proofs.Naming.{between-hosts}
 use Rattle.route_making.proofs.making.make_routes.Goals as goal
 
@@ -30,4 +30,4 @@ returns-clause-text c =
     let m = c.args.m.now in
     let set : c.list.result.now ≡ c.in_ok-set.set = c.list.ensures.value in
     let ranks : c.list-2.result.now ≡ ranks_of m (order_of m) = c.list-2.ensures ∙ c.in_ok-set.ensures.ranks in
-    c.in_ok-text.ensures ∙ (λ i. parts-text f m (set i) (ranks i)) ∙ whole-text f m c.in_ok-set.set
+    c.in_ok-printed.ensures ∙ (λ i. parts-printed f m (set i) (ranks i)) ∙ whole-printed f m c.in_ok-set.set

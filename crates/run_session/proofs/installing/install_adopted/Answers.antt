@@ -3,10 +3,10 @@ use Rattle.std.specs.Prelude.{ℕ, List}
 use Rattle.std.specs.List.{AllByRecursion}
 use Rattle.world_defs.specs.World.{fabric_of}
 use Rattle.run_defs.specs.declared.line.Line.TheVariants.{Installed}
-use Rattle.run_defs.specs.LineText.{output_text}
 use Rattle.run_defs.specs.Output.{lines}
 use Rattle.run_defs.specs.Outcome.{table_line}
 use Rattle.fab_world.specs.Events.{IsHostOf}
+use Rattle.fab_report.specs.Printed.{printed_of}
 use Rattle.run_session.specs.Told.{AreInstalledTold}
 use Rattle.world_commands.proofs.Answered.{if-ok}
 use Rattle.run_session.proofs.Installable.{kept-installable, hosts-there}
@@ -36,9 +36,9 @@ returns-clause-told c =
     let hosts : c.l.inside.hosts.items ≡ c.args.l.now.hosts = cc in
     let one : c.deref.result.now ≡ c.deref-2.result.now = c.deref.ensures.value ∙ sym c.deref-2.ensures.value in
     if-ok c.installed_text.result
-    (λ text. text.items ≡ output_text (fabric_of after) (lines (Installed x.acked x.of ∷ map (table_line after) c.deref-2.result.now)))
-    (λ text. AreInstalledTold w c.args.l.now c.args.tries after text.items)
-    (λ text e. counted-told w after c.args.l.now c.args.tries x.acked x.of c.deref.result.now text.items c.requires.adopted c.in_ok-installed.ensures.acked c.in_ok-installed.ensures.of
+    (λ p. p ≡ printed_of (fabric_of after) (lines (Installed x.acked x.of ∷ map (table_line after) c.deref-2.result.now)))
+    (λ p. AreInstalledTold w c.args.l.now c.args.tries after p)
+    (λ p e. counted-told w after c.args.l.now c.args.tries x.acked x.of c.deref.result.now p c.requires.adopted c.in_ok-installed.ensures.acked c.in_ok-installed.ensures.of
     (c.deref.ensures.value ∙ hosts) c.in_ok-installed.ensures.fabric
-    (subst (λ (hs : List ℕ). text.items ≡ output_text (fabric_of after) (lines (Installed x.acked x.of ∷ map (table_line after) hs))) (sym one) e))
+    (subst (λ (hs : List ℕ). p ≡ printed_of (fabric_of after) (lines (Installed x.acked x.of ∷ map (table_line after) hs))) (sym one) e))
     c.installed_text.ensures

@@ -1,9 +1,9 @@
 use Rattle.std.proofs.Common.{◌≡◌, ◌∙◌, sym, ap, subst}
 use Rattle.std.specs.Prelude.{Option}
 use Rattle.net_defs.specs.Network.{Network}
-use Rattle.run_defs.specs.LineText.{output_text}
 use Rattle.run_defs.specs.Session.{LastRoutes}
 use Rattle.world_defs.specs.World.{fabric_of}
+use Rattle.fab_report.specs.Printed.{printed_of}
 use Rattle.world_commands.specs.Done.{session_of}
 use Rattle.run_session.proofs.Answered.{if-ok-on}
 use Rattle.run_session.specs.Kept.{IsKeptMap, IsLastMap}
@@ -33,11 +33,11 @@ returns-in-Ok-clause-obeyed c =
     let over = rw c.in-Ok.is at c.map_world-world.ensures.mapped in
     let told = map_lines c.args.order.host made packets in
     if-ok-on c.keep_map-text.result
-    (λ text. text.items ≡ output_text c.fabric.result.now told)
+    (λ p. p ≡ printed_of c.fabric.result.now told)
     _
-    (λ text. (found : Option LastRoutes) → IsObeyed (session_of before c.args.last_map.now found) (map_of c.args.order) (session_of after c.keep_map-text.new.last_map found) text.items)
-    (λ text e now. mapped_so before after c.args.order made packets c.args.last_map.now c.keep_map-text.new.last_map text.items c.requires.idle over now
-    (e ∙ ap (λ n. output_text n told) (c.fabric.ensures ∙ c.map_world-world.ensures.fabric)))
+    (λ p. (found : Option LastRoutes) → IsObeyed (session_of before c.args.last_map.now found) (map_of c.args.order) (session_of after c.keep_map-text.new.last_map found) p)
+    (λ p e now. mapped_so before after c.args.order made packets c.args.last_map.now c.keep_map-text.new.last_map p c.requires.idle over now
+    (e ∙ ap (λ n. printed_of n told) (c.fabric.ensures ∙ c.map_world-world.ensures.fabric)))
     c.keep_map-text.ensures.text c.keep_map-text.ensures.last
 
 pub keep_map-text-requires-clause-kept : goal.keep_map-text-requires-clause-kept

@@ -1,8 +1,8 @@
 use Rattle.std.proofs.Common.{◌≡◌, ◌∙◌, refl, ap}
 use Rattle.world_defs.specs.World.{WorldState}
-use Rattle.run_defs.specs.LineText.{output_text}
 use Rattle.run_defs.specs.Outcome.{client_lines}
 use Rattle.run_defs.specs.Output.{lines}
+use Rattle.fab_report.specs.Printed.{printed_of}
 use Rattle.world_commands.specs.Done.{IsDone}
 use Rattle.world_commands.proofs.Answered.{if-ok}
 use Rattle.world_commands.proofs.Done.{called_so}
@@ -15,7 +15,7 @@ returns-clause-done c = λ command is.
     let at = c.args.at in
     let said = lines (client_lines c.args.call at.host at.port c.in_ok-effect.effect) in
     if-ok c.effect_text.result
-    (λ text. text.items ≡ output_text c.fabric.result.now said)
-    (λ text. IsDone command w v text.items)
-    (λ text e. called_so command c.args.call at c.args.event (c.in_ok-effect.effect, v) w v text.items is c.in_ok-effect.ensures.ok refl (e ∙ ap (λ n. output_text n said) (c.fabric.ensures ∙ c.step.ensures.fabric)))
+    (λ told. told ≡ printed_of c.fabric.result.now said)
+    (λ told. IsDone command w v told)
+    (λ told e. called_so command c.args.call at c.args.event (c.in_ok-effect.effect, v) w v told is c.in_ok-effect.ensures.ok refl (e ∙ ap (λ n. printed_of n said) (c.fabric.ensures ∙ c.step.ensures.fabric)))
     c.effect_text.ensures

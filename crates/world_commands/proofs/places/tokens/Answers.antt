@@ -1,10 +1,10 @@
-use Rattle.std.proofs.Common.{◌≡◌, ◌∙◌, None, ap, sym}
+use Rattle.std.proofs.Common.{◌≡◌, ◌∙◌, ◌∷◌, [], None, ap, sym}
 use Rattle.world_defs.specs.Node.{port_at}
 use Rattle.world_defs.specs.World.{WorldState, fabric_of, node_at}
 use Rattle.run_defs.specs.declared.command.Command.TheVariants.{Tokens}
-use Rattle.run_defs.specs.LineText.{line_text, output_text}
 use Rattle.run_defs.specs.Outcome.{token_lines}
-use Rattle.run_defs.specs.Output.{lines}
+use Rattle.run_defs.specs.Output.{OneLine, lines}
+use Rattle.fab_report.specs.Printed.{printed_of}
 use Rattle.world_commands.specs.Done.{IsDone}
 use Rattle.world_commands.specs.Places.{tokens_line}
 use Rattle.world_commands.proofs.Answered.{if-ok}
@@ -19,9 +19,9 @@ returns-in-Some c =
     let port = port_at (node_at w at.host) at.port in
     let counts = c.in-Some.counts in
     if-ok c.places_text.result
-    (λ text. text.items ≡ line_text (fabric_of w) (tokens_line at counts.0 counts.1 port))
-    (λ text. IsDone (Tokens at.host at.port) w w text.items)
-    (λ text e. tokens_so w at.host at.port text.items (tokens_told (fabric_of w) at counts.0 counts.1 port text.items (sym c.in-Some.ensures) e))
+    (λ told. told ≡ printed_of (fabric_of w) (OneLine (tokens_line at counts.0 counts.1 port) ∷ []))
+    (λ told. IsDone (Tokens at.host at.port) w w told)
+    (λ told e. tokens_so w at.host at.port told (tokens_told (fabric_of w) at counts.0 counts.1 port told (sym c.in-Some.ensures) e))
     c.places_text.ensures
 
 pub returns-in-None : goal.returns-in-None
@@ -30,8 +30,8 @@ returns-in-None c =
     let at = c.args.at in
     let port = port_at (node_at w at.host) at.port in
     if-ok c.answer_text.result
-    (λ text. text.items ≡ output_text c.fabric.result.now (lines (token_lines at.host at.port None)))
-    (λ text. IsDone (Tokens at.host at.port) w w text.items)
-    (λ text e. tokens_so w at.host at.port text.items
-    (closed_told (fabric_of w) at port text.items (sym c.in-None.ensures) (e ∙ ap (λ n. output_text n (lines (token_lines at.host at.port None))) c.fabric.ensures)))
+    (λ told. told ≡ printed_of c.fabric.result.now (lines (token_lines at.host at.port None)))
+    (λ told. IsDone (Tokens at.host at.port) w w told)
+    (λ told e. tokens_so w at.host at.port told
+    (closed_told (fabric_of w) at port told (sym c.in-None.ensures) (e ∙ ap (λ n. printed_of n (lines (token_lines at.host at.port None))) c.fabric.ensures)))
     c.answer_text.ensures

@@ -1,0 +1,5 @@
+pub mod Finding
+pub mod Inward
+pub mod Keeping
+pub mod Turnwise
+pub mod Without

@@ -1,0 +1,93 @@
+//! The circuit map.
+
+ghost use Rattle.std.specs.Prelude.{◌≡◌, ◌<◌, ◌≤◌, true, length, IfOk};
+ghost use Rattle.class_joins.specs.Table.{IsTrueOfOne};
+ghost use Rattle.circ_map.specs.declared.mapping.CircEnd.{CircEnd};
+ghost use Rattle.circ_map.specs.Mapping.{HasInside, IsCoreWhereDeep, IsMappedBy, IsTreeMapped};
+
+use crate::growth::{grow, started};
+use crate::inside::without_outside;
+use crate::prober::CircProber;
+use crate::tree::Tree;
+use core_map::mark_core;
+use fabric_map::FabricMap;
+use map_canon::quotient;
+use probe::Journal;
+use replicate_merge::Classes;
+use std::alloc::{AllocError, Global};
+
+/// How the asking of the whole tree ended.
+#[derive(Clone, Copy, Debug, PartialEq, Eq)]
+pub enum CircEnd {
+    /// Every walk of the tree was asked.
+    Whole,
+    /// The tree held 65,536 nodes, and one more ask found a host or a switch.
+    Nodes,
+}
+
+/// A circuit map, how many asks it took, and how they ended. With `Nodes` the map has no vertices.
+#[derive(Drop)]
+pub struct CircMapped {
+    /// The map of the whole tree, without what is outside.
+    pub map: FabricMap,
+    /// How many walks were asked.
+    pub asks: u64,
+    /// How the asking ended.
+    pub end: CircEnd,
+}
+
+/// Asks the whole tree to a depth of so many cables in walk order, and maps it without what is outside.
+///
+/// Where the depth is at least the most cables in a return walk of a path list, a map that ends `Whole` is the core
+/// of the host's part of the fabric, up to each switch's offset. No map over circuit links certifies itself.
+pub fn map_circuit<P: CircProber>(
+    alloc: Global,
+    p: &mut P,
+    depth: u8,
+) -> Result<CircMapped, AllocError>
+    requires shallow { depth ≤ 32 }
+    ensures mapped { IfOk result (λ m. IsMappedBy (P.fabric p.old) (P.mapper p.old) depth m.map m.asks m.end) }
+    ensures core { IfOk result (λ m. m.end ≡ CircEnd.Whole
+        → IsCoreWhereDeep (P.fabric p.old) (P.mapper p.old) depth m.map) }
+    ensures same_fabric { P.fabric p.new ≡ P.fabric p.old }
+    ensures same_mapper { P.mapper p.new ≡ P.mapper p.old }
+{
+    let _host = p.host();
+    let mut tree = started(alloc, p, depth)?;
+    let whole = grow(alloc, p, &mut tree, depth)?;
+    mapped(alloc, &tree, whole)
+}
+
+// The map of a tree that is whole, and how often was asked; no vertices where it isn't.
+fn mapped(alloc: Global, tree: &Tree, whole: bool) -> Result<CircMapped, AllocError>
+    requires true_of_one { whole ≡ true → IsTrueOfOne tree.now.found.host tree.now.found.entries }
+    requires few { whole ≡ true → length tree.now.found.entries < 4294967295 }
+    ensures { IfOk result (λ m.
+        IsTreeMapped tree.now.found.host tree.now.found.entries tree.now.asks whole m.map m.asks m.end) }
+{
+    if whole {
+        Ok(CircMapped {
+            map: inside_of(alloc, &tree.found)?,
+            asks: tree.asks,
+            end: CircEnd::Whole,
+        })
+    } else {
+        Ok(CircMapped {
+            map: FabricMap::new(alloc),
+            asks: tree.asks,
+            end: CircEnd::Nodes,
+        })
+    }
+}
+
+// The map of what was found, without what is outside.
+fn inside_of(alloc: Global, found: &Journal) -> Result<FabricMap, AllocError>
+    requires true_of_one { IsTrueOfOne found.now.host found.now.entries }
+    requires few { length found.now.entries < 4294967295 }
+    ensures { IfOk result (λ k. HasInside found.now.host found.now.entries k) }
+{
+    let classes = Classes::from_journal(alloc, found)?;
+    let mut map = quotient(alloc, found, &classes)?;
+    mark_core(alloc, &mut map)?;
+    without_outside(alloc, &map)
+}

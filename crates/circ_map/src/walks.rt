@@ -1,0 +1,47 @@
+//! Walks that go on by a turn.
+
+ghost use Rattle.std.specs.Prelude.{◌≡◌, ◌≤◌, ◌<◌, ◌++◌, ◌∷◌, [], length, All, IfOk};
+ghost use Rattle.net_defs.specs.Turn.{IsTurn};
+ghost use Rattle.mapper.specs.Turns.{turn_at};
+
+use net_defs::Walk;
+use std::alloc::{AllocError, Global};
+
+/// How many turns a node has.
+pub(crate) const TURNS: u8 = 30;
+
+/// The turn that is asked as number `step`, from 0: the turns rise from -15 to 15, without 0.
+pub(crate) fn turn_at(step: u8) -> i8
+    requires { step < 30 }
+    ensures value { result ≡ turn_at step }
+    ensures in_range { IsTurn result }
+{
+    if step < 15 {
+        step as i8 - 15
+    } else {
+        step as i8 - 14
+    }
+}
+
+/// The walk without turns.
+pub(crate) fn empty_walk(alloc: Global) -> Result<Walk, AllocError>
+    ensures { IfOk result (λ walk. walk ≡ []) }
+{
+    match Walk::new(alloc, &[]) {
+        Ok(walk) => Ok(walk),
+        Err(_) => Err(AllocError),
+    }
+}
+
+/// A walk with a turn more.
+pub(crate) fn onward(alloc: Global, front: &[i8], turn: i8) -> Result<Walk, AllocError>
+    ensures { IfOk result (λ walk. walk ≡ front.now ++ turn ∷ []) }
+{
+    let mut turns = Vec::with_capacity(alloc, front.len() + 1)?;
+    turns.extend_from_slice(front)?;
+    turns.push(turn)?;
+    match Walk::new(alloc, &turns) {
+        Ok(walk) => Ok(walk),
+        Err(_) => Err(AllocError),
+    }
+}

@@ -1,0 +1,11 @@
+use Rattle.std.proofs.Common.{◌≡◌, ◌≤◌, ◌+◌, length, vec_len, vec_capacity}
+use Rattle.class_joins.specs.Ends.{known_ends, MovesBelow}
+use Rattle.class_joins.proofs.ends.move_ends.Given as goal
+
+abbrev pub invariant-loop-place : goal.invariant-loop-place
+invariant-loop-place l = record {
+  moved : MovesBelow l.place l.from l.to l.by (known_ends l.initial.ends.items) (known_ends l.ends.items) l.initial.todo.items l.todo.items;
+  same : length l.ends.items ≡ length l.initial.ends.items;
+  few : vec_len l.todo ≤ vec_len l.initial.todo + l.place;
+  capacity : vec_capacity l.todo ≡ vec_capacity l.initial.todo;
+}

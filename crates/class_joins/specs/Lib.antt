@@ -1,0 +1,17 @@
+pub mod Adding
+pub mod Asked
+pub mod Ends
+pub mod Growing
+pub mod HeadSteps
+pub mod Heads
+pub mod Kept
+pub mod Longer
+pub mod Nodes
+pub mod Places
+pub mod Rounds
+pub mod Spots
+pub mod Steps
+pub mod Table
+pub mod Truth
+pub mod Ways
+pub mod Work

@@ -1,0 +1,33 @@
+//! Classes of replicates, joined pair by pair of ports until no pair is open.
+//!
+//! It knows no journal: it is told of nodes and of the ways between their ports. `specs/Rounds.antt` says what it keeps while pairs are
+//! open, and `specs/Table.antt` what classes are and when they stand for a journal.
+//!
+//! Pairs of ports that are one are joined one after another: the ports of the one class become ports of the other, and where both have
+//! a far end at one port, these two ends are the next pair. So each way costs what it changes.
+//!
+//! | module | has |
+//! |---|---|
+//! | `way` | ways between ports |
+//! | `settling` | classes joined until no pair is open |
+//! | `adding` | ways learnt, or put onto the work list |
+//! | `ends` | far ends by class and port |
+//! | `heads` | numbers, least nodes and marks of classes |
+//! | `meeting` | pairs of ports that are one |
+//! | `merging` | frames of a class moved to another |
+//! | `order` | the order of walks |
+#![tactic(auto)]
+
+mod adding;
+mod ends;
+mod heads;
+mod meeting;
+mod merging;
+mod order;
+mod settling;
+mod way;
+
+pub use heads::{Head, Heads};
+pub use meeting::{HostNode, Meeting, NodePort};
+pub use settling::Joined;
+pub use way::{Spot, Way};

@@ -1,0 +1,60 @@
+//! Ways between ports of nodes, and where they begin and end.
+
+ghost use Rattle.std.specs.Prelude.{◌≡◌, ◌<◌, length};
+ghost use Rattle.class_joins.specs.Ways.{begins_at, class_port, IsInside};
+
+use port_align::ClassFrame;
+
+/// Where a way begins.
+#[derive(Clone, Copy, Debug, PartialEq, Eq, Hash)]
+pub enum Spot {
+    /// At the host of an address.
+    Address(u16),
+    /// At a port of a class.
+    Port(u32, i16),
+}
+
+/// What leads to a port of a node: nodes are given by number.
+#[derive(Clone, Copy, Debug)]
+pub enum Way {
+    /// A host's address leads to port 0 of a node that is this host.
+    Host {
+        address: u16,
+        node: u32,
+    },
+    /// A port of a node leads to a port of another.
+    Cable {
+        from: u32,
+        port: i8,
+        to: u32,
+        entry: i8,
+    },
+}
+
+/// Where a way begins.
+pub fn begins_at(frames: &[ClassFrame], way: &Way) -> Spot
+    requires { IsInside (length frames.now) way.now }
+    ensures { result ≡ begins_at frames.now way.now }
+{
+    match way {
+        Way::Host { address, node: _ } => Spot::Address(*address),
+        Way::Cable {
+            from,
+            port,
+            to: _,
+            entry: _,
+        } => {
+            let (class, port) = class_port(frames, *from, *port);
+            Spot::Port(class, port)
+        }
+    }
+}
+
+// A port of a node as one of its class.
+fn class_port(frames: &[ClassFrame], node: u32, port: i8) -> (u32, i16)
+    requires { node < length frames.now }
+    ensures { result ≡ class_port frames.now node port }
+{
+    let frame = frames[node as usize];
+    (frame.class, i16::from(port) + i16::from(frame.offset))
+}

@@ -1,0 +1,7 @@
+use Rattle.std.proofs.Common.{length, ap, sym, ◌∙◌}
+use Rattle.map_defs.specs.Core.{hostless_side}
+use Rattle.core_map.proofs.Marking.{long-marks}
+use Rattle.core_map.proofs.bridges.add_side.Goals as goal
+
+pub add_marks-requires : goal.add_marks-requires
+add_marks-requires c = c.requires.long ∙ sym (long-marks c.args.m.now (hostless_side c.args.m.now c.args.k c.args.v)) ∙ ap length (sym (c.deref.ensures.value ∙ c.in_ok-cut.ensures))

@@ -1,0 +1,191 @@
+//! The summary of a run, from the figures of its report.
+
+ghost use Rattle.std.specs.Prelude.{◌≡◌, ◌++◌, length, flat_map, count_by, IfOk, OnOk};
+ghost use Rattle.run_defs.specs.LineText.{line_text, output_text};
+ghost use Rattle.run_defs.specs.Output.{lines};
+ghost use Rattle.run_defs.specs.Summary.{count_line, is_accepted, is_received, mapping_lines, settle_lines, summary};
+ghost use Rattle.run_defs.specs.declared.line.Line.TheVariants.{GenHead};
+ghost use Rattle.fab_report.specs.There.{AreThere};
+
+use crate::line::print_line;
+use port_graph::Fabric;
+use run_defs::{Figure, Line};
+use std::alloc::{AllocError, Global};
+
+/// The text of the summary of a generated run over its fabric, from the figures of its report: `n` hosts from this
+/// seed were generated.
+pub fn print_summary(
+    alloc: Global,
+    n: u8,
+    seed: u32,
+    f: &Fabric,
+    figures: &[Figure],
+) -> Result<Vec<u8>, AllocError>
+    ensures { IfOk result (λ text. text.items ≡ output_text f.now (lines (summary n seed f.now figures.now))) }
+{
+    let mut text = head_text(alloc, n, seed, f)?;
+    append_mappings(alloc, &mut text, f, figures)?;
+    append_counts(alloc, &mut text, f, figures)?;
+    append_settles(alloc, &mut text, f, figures)?;
+    Ok(text)
+}
+
+// The line of what was generated.
+fn head_text(alloc: Global, n: u8, seed: u32, f: &Fabric) -> Result<Vec<u8>, AllocError>
+    ensures { IfOk result (λ text. text.items ≡ line_text f.now
+        (GenHead n seed (length f.now.hosts) (length f.now.switches) (length f.now.cables))) }
+{
+    let line = Line::GenHead {
+        n,
+        seed,
+        hosts: f.hosts(),
+        switches: f.switches(),
+        cables: f.cables(),
+    };
+    print_line(alloc, &line, f)
+}
+
+// The lines of maps, routes and installations.
+fn append_mappings(
+    alloc: Global,
+    text: &mut Vec<u8>,
+    f: &Fabric,
+    figures: &[Figure],
+) -> Result<(), AllocError>
+    ensures { OnOk result (text.new.items ≡ text.old.items
+        ++ flat_map (λ k. output_text f.now (lines (mapping_lines k))) figures.now) }
+{
+    for figure in figures {
+        append_mapping(alloc, text, f, *figure)?;
+    }
+    Ok(())
+}
+
+// The line of a map, of routes or of an installation.
+fn append_mapping(
+    alloc: Global,
+    text: &mut Vec<u8>,
+    f: &Fabric,
+    figure: Figure,
+) -> Result<(), AllocError>
+    ensures { OnOk result (text.new.items ≡ text.old.items ++ output_text f.now (lines (mapping_lines figure))) }
+{
+    match figure {
+        Figure::Mapped {
+            words,
+            asks,
+            packets,
+        } => append_line(
+            alloc,
+            text,
+            f,
+            &Line::GenMap {
+                words,
+                asks,
+                packets,
+            },
+        ),
+        Figure::Routed(count) => append_line(alloc, text, f, &Line::Routes(count)),
+        Figure::Installed { acked, of } => {
+            append_line(alloc, text, f, &Line::Installed { acked, of })
+        }
+        Figure::Accepted | Figure::Received | Figure::Settled { .. } => Ok(()),
+    }
+}
+
+// The line that counts messages.
+fn append_counts(
+    alloc: Global,
+    text: &mut Vec<u8>,
+    f: &Fabric,
+    figures: &[Figure],
+) -> Result<(), AllocError>
+    ensures { OnOk result (text.new.items ≡ text.old.items ++ line_text f.now (count_line figures.now)) }
+{
+    let line = Line::GenCount {
+        accepted: accepted(figures),
+        received: received(figures),
+    };
+    append_line(alloc, text, f, &line)
+}
+
+// How many sends were accepted.
+fn accepted(figures: &[Figure]) -> u64
+    ensures { result ≡ count_by is_accepted figures.now }
+{
+    figures.iter().filter(|k| is_accepted(**k)).count() as u64
+}
+
+// Whether a send was accepted.
+fn is_accepted(figure: Figure) -> bool
+    ensures { result ≡ is_accepted figure }
+{
+    matches!(figure, Figure::Accepted)
+}
+
+// How many polls received a message.
+fn received(figures: &[Figure]) -> u64
+    ensures { result ≡ count_by is_received figures.now }
+{
+    figures.iter().filter(|k| is_received(**k)).count() as u64
+}
+
+// Whether a message was received.
+fn is_received(figure: Figure) -> bool
+    ensures { result ≡ is_received figure }
+{
+    matches!(figure, Figure::Received)
+}
+
+// The lines of settles.
+fn append_settles(
+    alloc: Global,
+    text: &mut Vec<u8>,
+    f: &Fabric,
+    figures: &[Figure],
+) -> Result<(), AllocError>
+    ensures { OnOk result (text.new.items ≡ text.old.items
+        ++ flat_map (λ k. output_text f.now (lines (settle_lines k))) figures.now) }
+{
+    for figure in figures {
+        append_settle(alloc, text, f, *figure)?;
+    }
+    Ok(())
+}
+
+// The line of a settle.
+fn append_settle(
+    alloc: Global,
+    text: &mut Vec<u8>,
+    f: &Fabric,
+    figure: Figure,
+) -> Result<(), AllocError>
+    ensures { OnOk result (text.new.items ≡ text.old.items ++ output_text f.now (lines (settle_lines figure))) }
+{
+    match figure {
+        Figure::Settled {
+            rounds,
+            resets,
+            unacked,
+        } => append_line(
+            alloc,
+            text,
+            f,
+            &Line::Settle {
+                rounds,
+                resets,
+                unacked,
+            },
+        ),
+        _ => Ok(()),
+    }
+}
+
+// A line behind a text.
+fn append_line(alloc: Global, text: &mut Vec<u8>, f: &Fabric, l: &Line) -> Result<(), AllocError>
+    requires { AreThere f.now l.now }
+    ensures { OnOk result (text.new.items ≡ text.old.items ++ line_text f.now l.now) }
+{
+    let printed = print_line(alloc, l, f)?;
+    text.extend_from_slice(&printed)
+}

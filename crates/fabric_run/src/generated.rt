@@ -1,0 +1,149 @@
+//! The run of a generated text, and its summary.
+
+ghost use Rattle.std.specs.Prelude.{◌≡◌, ◌≤◌, ◌++◌, IfOk, OnOk};
+ghost use Rattle.std.specs.List.{AllByRecursion};
+ghost use Rattle.world_defs.specs.World.{fabric_of};
+ghost use Rattle.run_defs.specs.Session.{new_session};
+ghost use Rattle.fab_report.specs.Printed.{listed};
+ghost use Rattle.fab_script.specs.Ranges.{IsCommandOf};
+ghost use Rattle.fabric_run.specs.Generated.{IsCounted, HaveCounted, IsGenerated, IsRunOf, SummaryEnds, GenEnds};
+
+use crate::ran::Ran;
+use crate::reading::{Accepted, read_text};
+use crate::status::Status;
+use fab_outer::{Sink, write_all};
+use fab_report::{Figure, print_summary};
+use fab_text::TextFault;
+use fabric_gen::gen_text;
+use run_session::{Command, Session};
+use std::alloc::{AllocError, Global};
+
+/// Runs the text of so many hosts and a seed, and writes the summary of its run once all its commands ran.
+pub(crate) fn run_generated<K: Sink>(alloc: Global, n: u8, seed: u32, out: &mut K) -> Ran
+    requires some { 2 ≤ n }
+    requires few { n ≤ 24 }
+    requires seed { seed ≤ 1000000 }
+    ensures ends { GenEnds n seed (K.taken out.old) (K.taken out.new) (K.faults out.old)
+        (K.faults out.new) result.status result.session }
+    ensures later { K.faults out.old ≤ K.faults out.new }
+{
+    match run_text(alloc, n, seed) {
+        Ok((session, summary)) => write_summary(session, &summary, out),
+        Err(_) => Ran::without_session(Status::NoMemory),
+    }
+}
+
+// The session behind all commands of the text, and the summary of what they printed.
+fn run_text(alloc: Global, n: u8, seed: u32) -> Result<(Session, Vec<u8>), AllocError>
+    requires some { 2 ≤ n }
+    requires few { n ≤ 24 }
+    requires seed { seed ≤ 1000000 }
+    ensures { IfOk result (λ r. IsGenerated n seed r.1.items r.0) }
+{
+    let text = gen_text(alloc, n, seed)?;
+    match read_text(alloc, &text) {
+        Ok(accepted) => run_accepted(alloc, n, seed, accepted),
+        Err(TextFault::NoMemory) => Err(AllocError),
+        Err(TextFault::At { .. }) => unreachable!(),
+    }
+}
+
+// The same of what the text says.
+fn run_accepted(
+    alloc: Global,
+    n: u8,
+    seed: u32,
+    accepted: Accepted,
+) -> Result<(Session, Vec<u8>), AllocError>
+    requires over { AllByRecursion (IsCommandOf accepted.network) accepted.commands }
+    ensures { IfOk result (λ r. IsRunOf accepted n seed r.1.items r.0) }
+{
+    let Accepted { fabric, script } = accepted;
+    let session = Session::new(alloc, fabric)?;
+    let (session, figures) = run_commands(alloc, session, script.list())?;
+    match print_summary(alloc, n, seed, session.world().fabric(), &figures) {
+        Ok(summary) => Ok((session, summary)),
+        Err(wanting) => {
+            session.end();
+            Err(wanting)
+        }
+    }
+}
+
+// Lets a new session do commands: the session then, and the figures of what they printed.
+fn run_commands(
+    alloc: Global,
+    mut session: Session,
+    commands: &[Command],
+) -> Result<(Session, Vec<Figure>), AllocError>
+    requires fresh { session ≡ new_session (fabric_of session.world) }
+    requires over { AllByRecursion (IsCommandOf (fabric_of session.world)) commands.now }
+    ensures counted { IfOk result (λ r. HaveCounted (fabric_of session.world) commands.now r.1.items r.0) }
+    ensures fabric { IfOk result (λ r. fabric_of r.0.world ≡ fabric_of session.world) }
+{
+    let mut figures = Vec::new(alloc);
+    for command in commands {
+        session = run_command(alloc, session, command, &mut figures)?;
+    }
+    Ok((session, figures))
+}
+
+// Lets a session do a command, and puts the figure of what it printed, if there is one, behind the others.
+fn run_command(
+    alloc: Global,
+    session: Session,
+    command: &Command,
+    figures: &mut Vec<Figure>,
+) -> Result<Session, AllocError>
+    requires command { IsCommandOf (fabric_of session.world) command.now }
+    ensures counted { IfOk result (λ next. IsCounted session command.now next figures.old.items figures.new.items) }
+    ensures fabric { IfOk result (λ next. fabric_of next.world ≡ fabric_of session.world) }
+{
+    match session.perform(alloc, command) {
+        Ok((next, printed)) => keep_figure(next, printed.figure(), figures),
+        Err((wanting, error)) => {
+            wanting.end();
+            Err(error)
+        }
+    }
+}
+
+// Puts a figure, if there is one, behind others.
+fn keep_figure(
+    session: Session,
+    figure: Option<Figure>,
+    figures: &mut Vec<Figure>,
+) -> Result<Session, AllocError>
+    ensures same { IfOk result (λ next. next ≡ session) }
+    ensures kept { OnOk result (figures.new.items ≡ figures.old.items ++ listed figure) }
+{
+    match push_figure(figure, figures) {
+        Ok(()) => Ok(session),
+        Err(wanting) => {
+            session.end();
+            Err(wanting)
+        }
+    }
+}
+
+// The same of the figures alone.
+fn push_figure(figure: Option<Figure>, figures: &mut Vec<Figure>) -> Result<(), AllocError>
+    ensures { OnOk result (figures.new.items ≡ figures.old.items ++ listed figure) }
+{
+    if let Some(figure) = figure {
+        figures.push(figure)?;
+    }
+    Ok(())
+}
+
+// Writes a summary.
+fn write_summary<K: Sink>(session: Session, summary: &[u8], out: &mut K) -> Ran
+    ensures ends { SummaryEnds summary.now session (K.taken out.old) (K.taken out.new) (K.faults out.old)
+        (K.faults out.new) result.status result.session }
+    ensures later { K.faults out.old ≤ K.faults out.new }
+{
+    match write_all(out, summary) {
+        Ok(_) => Ran::with_session(Status::Done, session),
+        Err(_) => Ran::with_session(Status::WriteFault, session),
+    }
+}

@@ -1,0 +1,83 @@
+//! Texts whose reads and writes fail, one after another.
+//!
+//! A read that fails is answered as a read fault, and nothing is written. A write that fails is answered as a write
+//! fault, and the sink has taken what went before it: with one byte a write, so many bytes of the report as there
+//! were writes.
+
+use crate::difference::{Difference, Wanted};
+use crate::row::Row;
+use crate::tally::Tally;
+use crate::trial::{PIECE, TopCall, try_run};
+use fab_outer::{MemSink, MemSource};
+use std::alloc::{AllocError, Global};
+use std::io;
+
+// The exit statuses of a run whose read failed, and of one whose write failed.
+const READ_FAULT: u8 = 4;
+
+const WRITE_FAULT: u8 = 5;
+
+// A text that is refused, one of walks, and one of clients' calls.
+const TEXTS: [&str; 3] = [
+    "refused-line-after-end",
+    "walk-four-times",
+    "client-refusals",
+];
+
+/// Runs a few texts over and over, so that each read and each write of them fails once.
+pub fn try_ends<T: TopCall>(rt: &HostRuntime, tally: &mut Tally) -> io::Result<()> {
+    for name in TEXTS {
+        try_text::<T>(rt, name, tally)?;
+    }
+    Ok(())
+}
+
+// Lets each read and each write of one text fail.
+fn try_text<T: TopCall>(rt: &HostRuntime, name: &str, tally: &mut Tally) -> io::Result<()> {
+    let Some(row) = Row::read(rt, name)? else {
+        return tally.fail(rt, name, &"it has no report");
+    };
+    let reads = format!(in rt.alloc(); "{name}, each read failing")?;
+    tally.tell(rt, &reads, &try_reads::<T>(rt.alloc(), &row)?)?;
+    let writes = format!(in rt.alloc(); "{name}, each write failing")?;
+    tally.tell(rt, &writes, &try_writes::<T>(rt.alloc(), &row)?)
+}
+
+// Lets each read fail, and also the one that would find the end.
+fn try_reads<T: TopCall>(alloc: Global, row: &Row) -> Result<Option<Difference>, AllocError> {
+    let wanted = Wanted {
+        status: READ_FAULT,
+        report: b"",
+    };
+    for call in 1..=number(row.text.len().div_ceil(PIECE)).saturating_add(1) {
+        let source = MemSource::new(row.text.to_vec(alloc)?, PIECE, vec![in alloc; call]?);
+        let sink = MemSink::new(alloc, PIECE, Vec::new(alloc));
+        let found = try_run::<T>(alloc, &row.words, source, sink, wanted)?;
+        if found.is_some() {
+            return Ok(found);
+        }
+    }
+    Ok(None)
+}
+
+// Lets each write fail, of one byte each.
+fn try_writes<T: TopCall>(alloc: Global, row: &Row) -> Result<Option<Difference>, AllocError> {
+    for taken in 0..row.report.len() {
+        let source = MemSource::new(row.text.to_vec(alloc)?, row.text.len(), Vec::new(alloc));
+        let sink = MemSink::new(alloc, 1, vec![in alloc; number(taken).saturating_add(1)]?);
+        let wanted = Wanted {
+            status: WRITE_FAULT,
+            report: &row.report[..taken],
+        };
+        let found = try_run::<T>(alloc, &row.words, source, sink, wanted)?;
+        if found.is_some() {
+            return Ok(found);
+        }
+    }
+    Ok(None)
+}
+
+// A count of bytes as the number of a call.
+fn number(count: usize) -> u32 {
+    u32::try_from(count).unwrap_or(u32::MAX)
+}

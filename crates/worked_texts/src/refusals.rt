@@ -1,0 +1,54 @@
+//! Tables of lines that are refused.
+
+use crate::difference::Difference;
+use crate::row::{Row, run_word};
+use crate::tally::Tally;
+use crate::trial::{TopCall, try_row};
+use std::alloc::{AllocError, Global};
+use std::{fs, io};
+
+/// Runs the front lines of a table with each of its lines behind them, which is told to be the text's first fault.
+pub(crate) fn try_table<T: TopCall>(
+    rt: &HostRuntime,
+    name: &str,
+    tally: &mut Tally,
+) -> io::Result<()> {
+    let front = fs::read(rt, format!(in rt.alloc(); "{name}.front")?.as_str())?;
+    let table = fs::read_to_string(rt, format!(in rt.alloc(); "{name}.refused")?.as_str())?;
+    for entry in table.lines() {
+        let told = format!(in rt.alloc(); "{name}: {entry}")?;
+        match entry.split_once(' ') {
+            Some((kind, line)) => {
+                let found = try_line::<T>(rt.alloc(), &front, kind, line)?;
+                tally.tell(rt, &told, &found)?;
+            }
+            None => tally.fail(rt, &told, &"it has no line")?,
+        }
+    }
+    Ok(())
+}
+
+// Runs the front lines with one line behind them.
+fn try_line<T: TopCall>(
+    alloc: Global,
+    front: &[u8],
+    kind: &str,
+    line: &str,
+) -> Result<Option<Difference>, AllocError> {
+    let mut text = front.to_vec(alloc)?;
+    text.extend_from_slice(line.as_bytes())?;
+    text.push(b'\n')?;
+    let before = front.iter().filter(|byte| **byte == b'\n').count();
+    let number = before.saturating_add(1);
+    let report = format!(in alloc; "refused {number} {kind}\n")?.into_bytes();
+    let words = run_word(alloc)?;
+    try_row::<T>(
+        alloc,
+        &Row {
+            words,
+            text,
+            report,
+            status: 3,
+        },
+    )
+}
