@@ -27,7 +27,7 @@ use Rattle.circ_ear_laws.proofs.Short.{path_lists_are_short}
 use Rattle.circ_ear_laws.proofs.Returns.{paths_have_returns}
 
 -- no cable of the core is left at a vertex of these
-abbrev NoneLeft : Network → ℕ → List ℕ → ℕ → Type 0
+abbrev pub NoneLeft : Network → ℕ → List ℕ → ℕ → Type 0
 NoneLeft n host old m = (k : ℕ) (d e : End) → k < m → Joins n k d e → IsCore n host d.v → IsCore n host e.v → IsTouched n old d.v → ¬ IsOneOf k old → ⊥
 
 record Left (n : Network) (host : ℕ) (old : List ℕ) : Type 0 where
@@ -80,7 +80,7 @@ passed-both : (n : Network) (host : ℕ) (ss : List Step) → ArePassed (λ v. I
 passed-both n host [] a b = tt
 passed-both n host (s ∷ ss) a b = (record { in_part = a.0; kept = b.0 }, record { in_part = a.1; kept = b.1 }, passed-both n host ss a.2 b.2)
 
-all-taken : (n : Network) (host : ℕ) (old : List ℕ) (k : ℕ) → IsFabric n → NoneLeft n host old (length n.cables) → IsTouched n old (Host host) → IsCoreCable n host k → IsOneOf k old
+pub all-taken : (n : Network) (host : ℕ) (old : List ℕ) (k : ℕ) → IsFabric n → NoneLeft n host old (length n.cables) → IsTouched n old (Host host) → IsCoreCable n host k → IsOneOf k old
 all-taken n host old k f none t c = by (is-one k old)
   where
     there : IsTouched n old c.from.v
@@ -94,7 +94,7 @@ all-taken n host old k f none t c = by (is-one k old)
     by (inr m) = absurd (none k c.from c.to (joins-low n k c.from c.to c.joins) c.joins c.first c.second there m)
 
 -- paths of the core so far
-record Made (n : Network) (host : ℕ) : Type 0 where
+pub record Made (n : Network) (host : ℕ) : Type 0 where
   pub paths : List (List Step)
   pub are : ArePaths n host paths
   pub core : (l : ℕ) → IsOneOf l (cables_in paths) → IsCoreCable n host l
@@ -126,7 +126,7 @@ one-more n host m f l = by m.paths m.are m.core m.apart m.touched l
         which k r (inl i) = r.core k i
         which k r (inr i) = core k i
 
-cables-few : (n : Network) (host : ℕ) (m : Made n host) → length (cables_in m.paths) ≤ length n.cables
+pub cables-few : (n : Network) (host : ℕ) (m : Made n host) → length (cables_in m.paths) ≤ length n.cables
 cables-few n host m =
     let l = few (cables_in m.paths) (numbers_below (length n.cables)) m.apart (all (cables_in m.paths) m.core) in
     let e = length-numbers (length n.cables) in
@@ -144,9 +144,9 @@ finish n host (suc fuel) m f tell l = by (search n host (cables_in m.paths) (len
     by (inl r) rest = let w = one-more n host m f r in let g = w.1 in rest w.0 (omega arith)
     by (inr r) rest = record { made = m; all = λ k c. all-taken n host (cables_in m.paths) k f r m.touched c }
 
-first-made : (n : Network) (host k : ℕ) (e : End) → IsFabric n → Joins n k (host_port host) e → Made n host
+abbrev pub first-made : (n : Network) (host k : ℕ) (e : End) → IsFabric n → Joins n k (host_port host) e → Made n host
 first-made n host k e f joins = record {
-  paths = (own ∷ []) ∷ [];
+  paths = (record { cable = k; out = host_port host; into = e } ∷ []) ∷ [];
   are = record { cable = k; into = e; joins = joins; is = refl };
   core = λ l m. at l m;
   apart = refl;
@@ -165,7 +165,7 @@ first-made n host k e f joins = record {
     at l (inr m) = absurd m
 
 -- nothing is cabled to a host without a cable
-no-way : (n : Network) (host : ℕ) (d e : End) → IsFabric n → far n (host_port host) ≡ None → d.v ≡ Host host → far n d ≡ Some e → ⊥
+pub no-way : (n : Network) (host : ℕ) (d e : End) → IsFabric n → far n (host_port host) ≡ None → d.v ≡ Host host → far n d ≡ Some e → ⊥
 no-way n host d e f none v c =
     let port : has_port n (record { v = Host host; p = d.p }) ≡ true = subst (λ y. has_port n (record { v = y; p = d.p }) ≡ true) v (port-there n d e f c) in
     let own : d ≡ host_port host = ends-one d (host_port host) v (host-port n host d.p port) in
@@ -173,13 +173,13 @@ no-way n host d e f none v c =
     cc
 
 -- so it is its whole part
-lone-part : (n : Network) (host m : ℕ) (x : Vertex) → IsFabric n → far n (host_port host) ≡ None → Path n (Host host) m x → x ≡ Host host
+pub lone-part : (n : Network) (host m : ℕ) (x : Vertex) → IsFabric n → far n (host_port host) ≡ None → Path n (Host host) m x → x ≡ Host host
 lone-part n host m x f none (here) = refl
 lone-part n host m x f none (by_cable {m = i} {v = v} {w = w} path p q c) =
     absurd (no-way n host (record { v = v; p = p }) (record { v = w; p = q }) f none (lone-part n host i v f none path) c)
 
 -- and its path list is empty
-lone-list : (n : Network) (host : ℕ) → IsFabric n → far n (host_port host) ≡ None → HasPathList n host
+abbrev pub lone-list : (n : Network) (host : ℕ) → IsFabric n → far n (host_port host) ≡ None → HasPathList n host
 lone-list n host f none = record {
   ears = [];
   paths = record { list = none; all = all; only = λ k i. absurd i };

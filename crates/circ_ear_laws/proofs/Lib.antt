@@ -1,5 +1,6 @@
 pub mod Existing
 pub mod Inner
+pub mod Once
 pub mod Onward
 pub mod Returns
 pub mod Short

@@ -20,7 +20,7 @@ use Rattle.circ_defs.specs.Cores.{IsCore, IsCoreCable, IsCutOff}
 use Rattle.circ_defs.specs.Ways.{IsOneOf, IsPath, IsStep, IsTouched, IsWay, Joins, Step, cables_on}
 use Rattle.circ_defs.specs.Circuit.{are_apart}
 use Rattle.circ_defs.specs.Ways.Joins.{forth, back}
-use Rattle.circ_defs.proofs.Ways.{ArePassed, apart-later, append-step, back-one, backwards, one-of-either, way-back, way-join, way-push}
+use Rattle.circ_defs.proofs.Ways.{ArePassed, apart-later, append-step, back-one, backwards, new-way, one-of-either, way-back, way-join, way-push}
 use Rattle.circ_defs.proofs.Cables.{SameCable, ends-one, joins-back, joins-far, one-cable, same-cable}
 use Rattle.circ_defs.proofs.Numbers.{none-from, apart-from, is-one}
 use Rattle.circ_defs.proofs.Sides.{host-kept, passed-part, stays-off}
@@ -200,11 +200,11 @@ touched-or-not n (k ∷ old) x = by (ends-at n k x) (touched-or-not n old x)
     by (inr p) (inr q) = inr (neither p q)
 
 -- where a path may end
-abbrev Stops : Network → List ℕ → Vertex → Type 0
+abbrev pub Stops : Network → List ℕ → Vertex → Type 0
 Stops n old z = IsTouched n old z ⊎ ((h : ℕ) × (z ≡ Host h))
 
 -- the vertices that a way leaves
-abbrev outs : List Step → List Vertex
+abbrev pub outs : List Step → List Vertex
 outs [] = []
 outs (s ∷ ss) = s.out.v ∷ outs ss
 
@@ -346,56 +346,62 @@ not-end : (n : Network) (old : List ℕ) (z : Vertex) (vs : List Vertex) → Sto
 not-end n old z [] s a = tt
 not-end n old z (v ∷ vs) s a = ((λ e. a.0 (subst (Stops n old) (sym e) s)), not-end n old z vs s a.1)
 
+-- a first step from an old cable, and a way from it to the first place where a path may end, no vertex twice, are a path
+pub short-path : (n : Network) (old : List ℕ) (own : Step) (end : Vertex) (steps : List Step) → IsStep n own → ¬ IsOneOf own.cable old → IsTouched n old own.out.v → IsWay n own.into.v steps end → Stops n old end → AllByRecursion (λ v. ¬ Stops n old v) (outs steps) → Apart (outs steps) → ¬ IsOneOf own.cable (cables_on steps) → IsPath n old (own ∷ steps)
+short-path n old own end steps joins new t way stops goes_on once beside = record {
+  start = own.out.v;
+  end = end;
+  across = inner-new n old own.out.v (own ∷ steps) end whole (λ p. cc) t (subst (AreFresh n old) (sym inside) (fresh-outs n old (outs steps) goes_on)) (subst Apart (sym inside) once);
+  starts = t;
+  ends = stops;
+  is_new = (new, none-from (cables_on steps) old others);
+  apart = apart-from own.cable (cables_on steps) beside (short-apart n own.into.v end steps way once (not-end n old end (outs steps) stops goes_on));
+}
+  where
+    whole : IsWay n own.out.v (own ∷ steps) end
+    whole = (joins, refl, way)
+
+    inside : inner (own ∷ steps) ≡ outs steps
+    inside = inner-outs n own end steps way
+
+    others : (l : ℕ) → IsOneOf l (cables_on steps) → IsOneOf l old → ⊥
+    others l m i = (leaves-of n own.into.v end l steps way m).out (λ v. ¬ Stops n old v) goes_on (inl (at (leaves-of n own.into.v end l steps way m)))
+      where
+        at : (g : Leaves n end l steps) → IsTouched n old g.step.out.v
+        at g = record { cable = l; from = g.step.out; to = g.step.into; one_of = i; joins = subst (λ c. Joins n c g.step.out g.step.into) g.cable g.is_step; there = refl }
+
+-- what a cable of the core touches is of the core
+pub touched-core : (n : Network) (host : ℕ) (old : List ℕ) (z : Vertex) → ((l : ℕ) → IsOneOf l old → IsCoreCable n host l) → IsTouched n old z → IsCore n host z
+touched-core n host old z cores i = at (cores i.cable i.one_of)
+  where
+    at : IsCoreCable n host i.cable → IsCore n host z
+    at c = ends (same-cable n i.cable i.from i.to c.from c.to i.joins c.joins)
+      where
+        ends : SameCable i.from i.to c.from c.to → IsCore n host z
+        ends (one_way p q) = subst (λ y. IsCore n host y) (sym (ap (λ (x : End). x.v) p) ∙ i.there) c.first
+        ends (other_way p q) = subst (λ y. IsCore n host y) (sym (ap (λ (x : End). x.v) p) ∙ i.there) c.second
+
+stops-kept : (n : Network) (host : ℕ) (old : List ℕ) (z : Vertex) → ((l : ℕ) → IsOneOf l old → IsCoreCable n host l) → Stops n old z → ¬ IsCutOff n z
+stops-kept n host old z cores (inr h) = subst (λ y. ¬ IsCutOff n y) (sym h.1) (host-kept n h.0)
+stops-kept n host old z cores (inl i) = (touched-core n host old z cores i).kept
+
+-- the cables of a path are of the core
+pub path-core : (n : Network) (host : ℕ) (old : List ℕ) (p : List Step) → IsFabric n → ((l : ℕ) → IsOneOf l old → IsCoreCable n host l) → IsPath n old p → (l : ℕ) → IsOneOf l (cables_on p) → IsCoreCable n host l
+path-core n host old p f cores e l m =
+    let way = new-way n old e.start p e.end e.across in
+    let c = touched-core n host old e.start cores e.starts in
+    core-cables n host e.start e.end p l way (passed-part n host e.start e.end p f c.in_part way) (all-between n e.start e.start e.end [] p refl way e.apart c.kept (stops-kept n host old e.end cores e.ends)) m
+
 pub next_path : (n : Network) (host : ℕ) (old : List ℕ) (k : ℕ) (d e : End) → IsFabric n → ((l : ℕ) → IsOneOf l old → IsCoreCable n host l) → Joins n k d e → IsCore n host d.v → IsCore n host e.v → IsTouched n old d.v → ¬ IsOneOf k old → NextPath n host old k
 next_path n host old k d e f cores joins cd ce t new = by (home-way n old k d e f joins new t ce.kept)
   where
     own : Step
     own = record { cable = k; out = d; into = e }
 
-    touched-kept : (z : Vertex) → Stops n old z → ¬ IsCutOff n z
-    touched-kept z (inr h) = subst (λ y. ¬ IsCutOff n y) (sym h.1) (host-kept n h.0)
-    touched-kept z (inl i) = at (cores i.cable i.one_of)
-      where
-        at : IsCoreCable n host i.cable → ¬ IsCutOff n z
-        at c = ends (same-cable n i.cable i.from i.to c.from c.to i.joins c.joins)
-          where
-            ends : SameCable i.from i.to c.from c.to → ¬ IsCutOff n z
-            ends (one_way p q) = subst (λ y. ¬ IsCutOff n y) (sym (ap (λ (x : End). x.v) p) ∙ i.there) c.first.kept
-            ends (other_way p q) = subst (λ y. ¬ IsCutOff n y) (sym (ap (λ (x : End). x.v) p) ∙ i.there) c.second.kept
-
     by : (h : ℕ) × Beside n k e.v (Host h) → NextPath n host old k
     by w = found (shorten n old e.v w.0 w.1.steps w.1.way)
       where
         found : Short n old e.v w.1.steps → NextPath n host old k
-        found r = record {
-          path = own ∷ r.steps;
-          is_path = record {
-            start = d.v;
-            end = r.end;
-            across = inner-new n old d.v (own ∷ r.steps) r.end whole (λ p. cc) t (subst (AreFresh n old) (sym inside) (fresh-outs n old (outs r.steps) r.goes_on)) (subst Apart (sym inside) r.once);
-            starts = t;
-            ends = r.stops;
-            is_new = (new, none-from (cables_on r.steps) old others);
-            apart = apart-from k (cables_on r.steps) beside apart;
-          };
-          begins = inl refl;
-          core = λ l m. core-cables n host d.v r.end (own ∷ r.steps) l whole (passed-part n host d.v r.end (own ∷ r.steps) f cd.in_part whole) (cd.kept, ce.kept, all-between n e.v e.v r.end [] r.steps refl r.way apart ce.kept (touched-kept r.end r.stops)) m;
-        }
-          where
-            whole : IsWay n d.v (own ∷ r.steps) r.end
-            whole = (joins, refl, r.way)
-
-            inside : inner (own ∷ r.steps) ≡ outs r.steps
-            inside = inner-outs n own r.end r.steps r.way
-
-            beside : ¬ IsOneOf k (cables_on r.steps)
-            beside m = w.1.beside (r.among k m)
-
-            apart : are_apart (cables_on r.steps) ≡ true
-            apart = short-apart n e.v r.end r.steps r.way r.once (not-end n old r.end (outs r.steps) r.stops r.goes_on)
-
-            others : (l : ℕ) → IsOneOf l (cables_on r.steps) → IsOneOf l old → ⊥
-            others l m i = (leaves-of n e.v r.end l r.steps r.way m).out (λ v. ¬ Stops n old v) r.goes_on (inl (at (leaves-of n e.v r.end l r.steps r.way m)))
-              where
-                at : (g : Leaves n r.end l r.steps) → IsTouched n old g.step.out.v
-                at g = record { cable = l; from = g.step.out; to = g.step.into; one_of = i; joins = subst (λ c. Joins n c g.step.out g.step.into) g.cable g.is_step; there = refl }
+        found r =
+            let path = short-path n old own r.end r.steps joins new t r.way r.stops r.goes_on r.once (λ m. w.1.beside (r.among k m)) in
+            record { path = own ∷ r.steps; is_path = path; begins = inl refl; core = path-core n host old (own ∷ r.steps) f cores path }

@@ -67,7 +67,7 @@ own-old n host (p ∷ q ∷ ps) paths = let r = own-old n host (q ∷ ps) paths.
     right (s ∷ ss) k ls m = inr (right ss k ls m)
 
 -- a step out of the mapper's host, or into it, is over its own cable
-out-own : (n : Network) (host : ℕ) (old : List ℕ) (s : Step) → IsFabric n → (o : HasOwn n host old) → IsStep n s → s.out.v ≡ Host host → s.cable ≡ o.cable
+pub out-own : (n : Network) (host : ℕ) (old : List ℕ) (s : Step) → IsFabric n → (o : HasOwn n host old) → IsStep n s → s.out.v ≡ Host host → s.cable ≡ o.cable
 out-own n host old s f o step e =
     let zero_port : s.out.p ≡ 0 = host-port n host s.out.p (subst (λ y. has_port n (record { v = y; p = s.out.p }) ≡ true) e (port-there n s.out s.into f (joins-far n s.cable s.out s.into f step))) in
     let own : s.out ≡ host_port host = ends-one s.out (host_port host) e zero_port in
@@ -77,7 +77,7 @@ some-path : (n : Network) (old : List ℕ) (x : Vertex) (ss : List Step) (z : Ve
 some-path n old x [] z way = absurd way
 some-path n old x (s ∷ ss) z way = (s, (ss, refl))
 
-append-none : (ss ts : List Step) (t : Step) → ss ++ (t ∷ ts) ≢ []
+pub append-none : (ss ts : List Step) (t : Step) → ss ++ (t ∷ ts) ≢ []
 append-none [] ts t e = cc
 append-none (s ∷ ss) ts t e = cc
 
@@ -226,7 +226,12 @@ back-has k (s ∷ ss) m = subst (IsOneOf k) (sym (cables-join (backwards ss) (tu
     by (inl e) rest = right-in k (cables_on (backwards ss)) (s.cable ∷ []) (inl e)
     by (inr i) rest = left-in k (cables_on (backwards ss)) (s.cable ∷ []) (rest i)
 
-add-ear : (n : Network) (host : ℕ) (p q : List Step) (ps : List (List Step)) → HasOwn n host (cables_in (q ∷ ps)) → EarOf n host (cables_in (q ∷ ps)) p → (r : HasReturns n host (q ∷ ps)) → HasReturns n host (p ∷ q ∷ ps)
+-- a path list with one path more
+pub record HasOneMore (n : Network) (host : ℕ) (ps : List (List Step)) (ear : Ear) (old : List Ear) : Type 0 where
+  pub returns : HasReturns n host ps
+  pub is : returns.ears ≡ ear ∷ old
+
+pub add-ear : (n : Network) (host : ℕ) (p q : List Step) (ps : List (List Step)) → HasOwn n host (cables_in (q ∷ ps)) → (e : EarOf n host (cables_in (q ∷ ps)) p) → (r : HasReturns n host (q ∷ ps)) → HasOneMore n host (p ∷ q ∷ ps) e.ear r.ears
 add-ear n host p q ps o e r = by r.ears r.list r.some r.only
   where
     to-path : (k : ℕ) → (e.ear.path ≡ p) ⊎ (e.ear.path ≡ backwards p) → IsOneOf k (cables_on e.ear.path) → IsOneOf k (cables_on p)
@@ -237,13 +242,16 @@ add-ear n host p q ps o e r = by r.ears r.list r.some r.only
     from-path k (inl i) m = subst (λ (l : List Step). IsOneOf k (cables_on l)) (sym i) m
     from-path k (inr i) m = subst (λ (l : List Step). IsOneOf k (cables_on l)) (sym i) (back-has k p m)
 
-    by : (es : List Ear) → IsPathList n host es → ((k : ℕ) → IsOneOf k (cables_in (q ∷ ps)) → IsOneOf k (cables_of es)) → ((k : ℕ) → IsOneOf k (cables_of es) → IsOneOf k (cables_in (q ∷ ps))) → HasReturns n host (p ∷ q ∷ ps)
+    by : (es : List Ear) → IsPathList n host es → ((k : ℕ) → IsOneOf k (cables_in (q ∷ ps)) → IsOneOf k (cables_of es)) → ((k : ℕ) → IsOneOf k (cables_of es) → IsOneOf k (cables_in (q ∷ ps))) → HasOneMore n host (p ∷ q ∷ ps) e.ear es
     by [] list some only = absurd (some o.cable o.there)
     by (g ∷ es) list some only = record {
-      ears = e.ear ∷ g ∷ es;
-      list = (ear-same n host (cables_in (q ∷ ps)) (cables_of (g ∷ es)) e.ear some only e.is_ear, list);
-      some = λ k m. to k (either-in k (cables_on p) (cables_in (q ∷ ps)) m);
-      only = λ k m. back k (either-in k (cables_on e.ear.path) (cables_of (g ∷ es)) m);
+      returns = record {
+        ears = e.ear ∷ g ∷ es;
+        list = (ear-same n host (cables_in (q ∷ ps)) (cables_of (g ∷ es)) e.ear some only e.is_ear, list);
+        some = λ k m. to k (either-in k (cables_on p) (cables_in (q ∷ ps)) m);
+        only = λ k m. back k (either-in k (cables_on e.ear.path) (cables_of (g ∷ es)) m);
+      };
+      is = refl;
     }
       where
         to : (k : ℕ) → IsOneOf k (cables_on p) ⊎ IsOneOf k (cables_in (q ∷ ps)) → IsOneOf k (cables_of (e.ear ∷ g ∷ es))
@@ -263,4 +271,4 @@ paths_have_returns n host (p ∷ []) f paths = record {
   only = λ k m. m;
 }
 paths_have_returns n host (p ∷ q ∷ ps) f paths =
-    add-ear n host p q ps (own-old n host (q ∷ ps) paths.1) (path-ear n host (cables_in (q ∷ ps)) p f (own-old n host (q ∷ ps) paths.1) paths.0 (λ x y s t. paths_have_two_walks n host (q ∷ ps) x y paths.1 s t)) (paths_have_returns n host (q ∷ ps) f paths.1)
+    (add-ear n host p q ps (own-old n host (q ∷ ps) paths.1) (path-ear n host (cables_in (q ∷ ps)) p f (own-old n host (q ∷ ps) paths.1) paths.0 (λ x y s t. paths_have_two_walks n host (q ∷ ps) x y paths.1 s t)) (paths_have_returns n host (q ∷ ps) f paths.1)).returns

@@ -16,7 +16,7 @@ use Rattle.circ_ear_laws.specs.TwoWalks.{HasTwo, PathsHaveTwoWalks}
 
 module _ (n : Network) (host : ℕ) (old : List ℕ) where
   -- The first walk goes on over new cables.
-  on-there : (gs : List ℕ) (x y z : Vertex) (a : List Step) → HasTwo n host old x y → IsWay n x a z → are_apart (cables_on a) ≡ true → AreNone (cables_on a) old → ((k : ℕ) → IsOneOf k old → IsOneOf k gs) → AreAmong (cables_on a) gs → HasTwo n host gs z y
+  abbrev pub on-there : (gs : List ℕ) (x y z : Vertex) (a : List Step) → HasTwo n host old x y → IsWay n x a z → are_apart (cables_on a) ≡ true → AreNone (cables_on a) old → ((k : ℕ) → IsOneOf k old → IsOneOf k gs) → AreAmong (cables_on a) gs → HasTwo n host gs z y
   on-there gs x y z a t way apart new some among = record {
     there = t.there ++ a;
     body = t.body;
@@ -44,7 +44,7 @@ module _ (n : Network) (host : ℕ) (old : List ℕ) where
       two k m (inr i) = none-to k (cables_on a) old new i (body_old k m)
 
   -- The second walk comes over new cables first.
-  before-home : (gs : List ℕ) (x y z : Vertex) (b : List Step) → HasTwo n host old x y → IsWay n z b y → are_apart (cables_on b) ≡ true → AreNone (cables_on b) old → ((k : ℕ) → IsOneOf k old → IsOneOf k gs) → AreAmong (cables_on b) gs → HasTwo n host gs x z
+  abbrev pub before-home : (gs : List ℕ) (x y z : Vertex) (b : List Step) → HasTwo n host old x y → IsWay n z b y → are_apart (cables_on b) ≡ true → AreNone (cables_on b) old → ((k : ℕ) → IsOneOf k old → IsOneOf k gs) → AreAmong (cables_on b) gs → HasTwo n host gs x z
   before-home gs x y z b t way apart new some among = record {
     there = t.there;
     body = b ++ t.body;
@@ -72,7 +72,7 @@ module _ (n : Network) (host : ℕ) (old : List ℕ) where
       two k (inr m) i = none-to k (cables_on t.body) (cables_on t.there) t.disjoint m i
 
 -- both walks go on over new cables
-go-both : (n : Network) (host : ℕ) (old gs : List ℕ) (x y z w : Vertex) (a b : List Step) → HasTwo n host old x y → IsWay n x a z → IsWay n w b y → are_apart (cables_on a) ≡ true → are_apart (cables_on b) ≡ true → AreNone (cables_on a) old → AreNone (cables_on b) old → ((k : ℕ) → IsOneOf k (cables_on a) → IsOneOf k (cables_on b) → ⊥) → ((k : ℕ) → IsOneOf k old → IsOneOf k gs) → AreAmong (cables_on a) gs → AreAmong (cables_on b) gs → HasTwo n host gs z w
+abbrev pub go-both : (n : Network) (host : ℕ) (old gs : List ℕ) (x y z w : Vertex) (a b : List Step) → HasTwo n host old x y → IsWay n x a z → IsWay n w b y → are_apart (cables_on a) ≡ true → are_apart (cables_on b) ≡ true → AreNone (cables_on a) old → AreNone (cables_on b) old → ((k : ℕ) → IsOneOf k (cables_on a) → IsOneOf k (cables_on b) → ⊥) → ((k : ℕ) → IsOneOf k old → IsOneOf k gs) → AreAmong (cables_on a) gs → AreAmong (cables_on b) gs → HasTwo n host gs z w
 go-both n host old gs x y z w a b t wa wb pa pb na nb none some ga gb =
     let first = before-home n host old (cables_on b ++ old) x y w b t wb pb nb (λ k m. right-in k (cables_on b) old m) (itself-among (cables_on b) old) in
     on-there n host (cables_on b ++ old) gs x w z a first wa pa (none-from (cables_on a) (cables_on b ++ old) (λ k m i. by k m (either-in k (cables_on b) old i))) (λ k m. one k (either-in k (cables_on b) old m)) ga
@@ -85,12 +85,41 @@ go-both n host old gs x y z w a b t wa wb pa pb na nb none some ga gb =
     one k (inl m) = among-to k (cables_on b) gs gb m
     one k (inr m) = some k m
 
+-- the first walk goes on over new cables, and others lead to a host
+abbrev pub to-host : (n : Network) (host : ℕ) (old gs : List ℕ) (x y z w : Vertex) (a d : List Step) (h : ℕ) → HasTwo n host old x y → IsWay n x a z → IsWay n w d (Host h) → are_apart (cables_on a) ≡ true → are_apart (cables_on d) ≡ true → AreNone (cables_on a) old → AreNone (cables_on d) old → ((k : ℕ) → IsOneOf k (cables_on a) → IsOneOf k (cables_on d) → ⊥) → ((k : ℕ) → IsOneOf k old → IsOneOf k gs) → AreAmong (cables_on a) gs → AreAmong (cables_on d) gs → HasTwo n host gs z w
+to-host n host old gs x y z w a d h t wa wd pa pd na nd none some ga gd = record {
+  there = t.there ++ a;
+  body = d;
+  tail = [];
+  h = h;
+  way_there = way-join n (Host host) x z t.there a t.way_there wa;
+  way_home = way-join n w (Host h) (Host h) d [] wd refl;
+  there_among = among-from (cables_on (t.there ++ a)) gs (λ k m. one k (one-of-either k t.there a m));
+  home_among = among-from (cables_on (d ++ [])) gs (λ k m. two k (one-of-either k d [] m));
+  there_apart = apart-join t.there a t.there_apart pa (λ k m i. none-to k (cables_on a) old na i (among-to k (cables_on t.there) old t.there_among m));
+  body_apart = pd;
+  disjoint = none-from (cables_on d) (cables_on (t.there ++ a)) (λ k m i. three k m (one-of-either k t.there a i));
+  homeward = tt;
+}
+  where
+    one : (k : ℕ) → IsOneOf k (cables_on t.there) ⊎ IsOneOf k (cables_on a) → IsOneOf k gs
+    one k (inl m) = some k (among-to k (cables_on t.there) old t.there_among m)
+    one k (inr m) = among-to k (cables_on a) gs ga m
+
+    two : (k : ℕ) → IsOneOf k (cables_on d) ⊎ IsOneOf k [] → IsOneOf k gs
+    two k (inl m) = among-to k (cables_on d) gs gd m
+    two k (inr m) = absurd m
+
+    three : (k : ℕ) → IsOneOf k (cables_on d) → IsOneOf k (cables_on t.there) ⊎ IsOneOf k (cables_on a) → ⊥
+    three k m (inl i) = none-to k (cables_on d) old nd m (among-to k (cables_on t.there) old t.there_among i)
+    three k m (inr i) = none k i m
+
 -- two cuts of one list
-data Cuts (a b c d : List Step) : Type 0 where
+pub data Cuts (a b c d : List Step) : Type 0 where
   first_before : (e : List Step) → c ≡ a ++ e → b ≡ e ++ d → Cuts a b c d
   second_before : (e : List Step) → a ≡ c ++ e → d ≡ e ++ b → Cuts a b c d
 
-two-cuts : (a b c d : List Step) → a ++ b ≡ c ++ d → Cuts a b c d
+pub two-cuts : (a b c d : List Step) → a ++ b ≡ c ++ d → Cuts a b c d
 two-cuts [] b c d e = first_before c refl e
 two-cuts (s ∷ a) b [] d e = second_before (s ∷ a) refl (sym e)
 two-cuts (s ∷ a) b (t ∷ c) d e =
@@ -103,7 +132,7 @@ two-cuts (s ∷ a) b (t ∷ c) d e =
     by h (second_before u p q) = second_before u (ap (λ l. s ∷ l) p ∙ ap (λ x. x ∷ (c ++ u)) h) q
 
 -- where the ends of the mapper's cable are
-own-end : (n : Network) (host k : ℕ) (into : End) (x : Vertex) → Joins n k (host_port host) into → IsTouched n (k ∷ []) x → (x ≡ Host host) ⊎ (x ≡ into.v)
+pub own-end : (n : Network) (host k : ℕ) (into : End) (x : Vertex) → Joins n k (host_port host) into → IsTouched n (k ∷ []) x → (x ≡ Host host) ⊎ (x ≡ into.v)
 own-end n host k into x joins t = by t.one_of
   where
     ends : SameCable t.from t.to (host_port host) into → (x ≡ Host host) ⊎ (x ≡ into.v)
@@ -114,7 +143,7 @@ own-end n host k into x joins t = by t.one_of
     by (inl e) = ends (same-cable n k t.from t.to (host_port host) into (subst (λ i. Joins n i t.from t.to) e t.joins) joins)
     by (inr i) = absurd i
 
-own-two : (n : Network) (host k : ℕ) (into : End) (x y : Vertex) → Joins n k (host_port host) into → (x ≡ Host host) ⊎ (x ≡ into.v) → (y ≡ Host host) ⊎ (y ≡ into.v) → HasTwo n host (k ∷ []) x y
+abbrev pub own-two : (n : Network) (host k : ℕ) (into : End) (x y : Vertex) → Joins n k (host_port host) into → (x ≡ Host host) ⊎ (x ≡ into.v) → (y ≡ Host host) ⊎ (y ≡ into.v) → HasTwo n host (k ∷ []) x y
 own-two n host k into x y joins (inl p) (inl q) = record { there = []; body = []; tail = []; h = host; way_there = sym p; way_home = q; there_among = tt; home_among = tt; there_apart = refl; body_apart = refl; disjoint = tt; homeward = tt }
 own-two n host k into x y joins (inl p) (inr q) = record { there = []; body = []; tail = record { cable = k; out = into; into = host_port host } ∷ []; h = host; way_there = sym p; way_home = (joins-back n k (host_port host) into joins, sym q, refl); there_among = tt; home_among = (inl refl, tt); there_apart = refl; body_apart = refl; disjoint = tt; homeward = (refl, refl) }
 own-two n host k into x y joins (inr p) (inl q) = record { there = record { cable = k; out = host_port host; into = into } ∷ []; body = []; tail = []; h = host; way_there = (joins, refl, sym p); way_home = q; there_among = (inl refl, tt); home_among = tt; there_apart = refl; body_apart = refl; disjoint = tt; homeward = tt }
@@ -139,7 +168,7 @@ swap : (n : Network) (host : ℕ) (gs : List ℕ) (x y : Vertex) → Either n ho
 swap n host gs x y (inl t) = inr t
 swap n host gs x y (inr t) = inl t
 
-none-part : (ss ts : List Step) (old : List ℕ) → AreNone (cables_on (ss ++ ts)) old → AreNone (cables_on ss) old × AreNone (cables_on ts) old
+pub none-part : (ss ts : List Step) (old : List ℕ) → AreNone (cables_on (ss ++ ts)) old → AreNone (cables_on ss) old × AreNone (cables_on ts) old
 none-part ss ts old a = (
   none-from (cables_on ss) old (λ k m i. none-to k (cables_on (ss ++ ts)) old a (subst (IsOneOf k) (sym (cables-join ss ts)) (left-in k (cables_on ss) (cables_on ts) m)) i),
   none-from (cables_on ts) old (λ k m i. none-to k (cables_on (ss ++ ts)) old a (subst (IsOneOf k) (sym (cables-join ss ts)) (right-in k (cables_on ss) (cables_on ts) m)) i),
@@ -156,12 +185,12 @@ module _ (n : Network) (host : ℕ) (old : List ℕ) (path : List Step) (e : IsP
   some k m = right-in k (cables_on path) old m
 
   -- a part of the path
-  record Part (a : List Step) : Type 0 where
+  pub record Part (a : List Step) : Type 0 where
     pub apart : are_apart (cables_on a) ≡ true
     pub new : AreNone (cables_on a) old
     pub among : AreAmong (cables_on a) (cables_on path ++ old)
 
-  parts : (a b : List Step) → a ++ b ≡ path → Part a × Part b × ((k : ℕ) → IsOneOf k (cables_on a) → IsOneOf k (cables_on b) → ⊥)
+  pub parts : (a b : List Step) → a ++ b ≡ path → Part a × Part b × ((k : ℕ) → IsOneOf k (cables_on a) → IsOneOf k (cables_on b) → ⊥)
   parts a b whole =
       let cut = apart-split a b (ap (λ (l : List Step). are_apart (cables_on l)) whole ∙ e.apart) in
       let new = none-part a b old (subst (λ (l : List Step). AreNone (cables_on l) old) (sym whole) e.is_new) in (
@@ -171,7 +200,7 @@ module _ (n : Network) (host : ℕ) (old : List ℕ) (path : List Step) (e : IsP
       )
 
   -- read backwards
-  back-part : (a : List Step) → Part a → Part (backwards a)
+  pub back-part : (a : List Step) → Part a → Part (backwards a)
   back-part a p = record {
     apart = back-apart a p.apart;
     new = none-from (cables_on (backwards a)) old (λ k m i. none-to k (cables_on a) old p.new (back-one k a m) i);
@@ -206,32 +235,7 @@ module _ (n : Network) (host : ℕ) (old : List ℕ) (path : List Step) (e : IsP
       old_end (inr t) = inr (go-both n host old (cables_on path ++ old) e.end e.start y x (backwards d) (backwards a) t (way-back n y e.end d wd) (way-back n e.start x a wa) qd.apart qa.apart qd.new qa.new (λ k m i. none k (back-one k a i) (back-one k d m)) some qd.among qa.among)
 
       new_end : (h : ℕ) → e.end ≡ Host h → HasTwo n host old e.start e.start → HasTwo n host (cables_on path ++ old) x y
-      new_end h p t = record {
-        there = t.there ++ a;
-        body = d;
-        tail = [];
-        h = h;
-        way_there = way-join n (Host host) e.start x t.there a t.way_there wa;
-        way_home = subst (IsWay n y (d ++ [])) p (way-join n y e.end e.end d [] wd refl);
-        there_among = among-from (cables_on (t.there ++ a)) (cables_on path ++ old) (λ k m. one k (one-of-either k t.there a m));
-        home_among = among-from (cables_on (d ++ [])) (cables_on path ++ old) (λ k m. two k (one-of-either k d [] m));
-        there_apart = apart-join t.there a t.there_apart pa.apart (λ k m i. none-to k (cables_on a) old pa.new i (among-to k (cables_on t.there) old t.there_among m));
-        body_apart = pd.apart;
-        disjoint = none-from (cables_on d) (cables_on (t.there ++ a)) (λ k m i. three k m (one-of-either k t.there a i));
-        homeward = tt;
-      }
-        where
-          one : (k : ℕ) → IsOneOf k (cables_on t.there) ⊎ IsOneOf k (cables_on a) → IsOneOf k (cables_on path ++ old)
-          one k (inl m) = some k (among-to k (cables_on t.there) old t.there_among m)
-          one k (inr m) = among-to k (cables_on a) (cables_on path ++ old) pa.among m
-
-          two : (k : ℕ) → IsOneOf k (cables_on d) ⊎ IsOneOf k [] → IsOneOf k (cables_on path ++ old)
-          two k (inl m) = among-to k (cables_on d) (cables_on path ++ old) pd.among m
-          two k (inr m) = absurd m
-
-          three : (k : ℕ) → IsOneOf k (cables_on d) → IsOneOf k (cables_on t.there) ⊎ IsOneOf k (cables_on a) → ⊥
-          three k m (inl i) = none-to k (cables_on d) old pd.new m (among-to k (cables_on t.there) old t.there_among i)
-          three k m (inr i) = none k i m
+      new_end h p t = to-host n host old (cables_on path ++ old) e.start e.start x y a d h t wa (subst (IsWay n y d) p wd) pa.apart pd.apart pa.new pd.new none some pa.among pd.among
 
       host_end : (h : ℕ) → e.end ≡ Host h → Either n host old e.start e.start → Either n host (cables_on path ++ old) x y
       host_end h p (inl t) = inl (new_end h p t)

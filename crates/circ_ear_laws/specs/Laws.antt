@@ -3,7 +3,7 @@ use Rattle.std.specs.Prelude.{ℕ, suc, ◌≤◌, List, length}
 use Rattle.net_defs.specs.Network.{Network, IsFabric}
 use Rattle.circ_defs.specs.Ways.{Step, IsOneOf, cables_in, ArePaths}
 use Rattle.circ_defs.specs.PathList.{Ear, IsPathList, cables_of, most_back}
-use Rattle.circ_defs.specs.Cores.{ArePathsOfCore}
+use Rattle.circ_defs.specs.Cores.{ArePathsOfCore, IsCoreCable}
 
 -- a path list over the cables of paths
 pub record HasReturns (n : Network) (host : ℕ) (ps : List (List Step)) : Type 0 where
@@ -21,6 +21,11 @@ PathsHaveReturns = (n : Network) (host : ℕ) (ps : List (List Step)) → IsFabr
 abbrev pub PathListsAreShort : Type 0
 PathListsAreShort = (n : Network) (host : ℕ) (es : List Ear) → IsPathList n host es
     → most_back es ≤ suc (length (cables_of es))
+
+-- A return walk of a path list of the core crosses at most one cable more than any list that has the core's cables.
+abbrev pub CorePathListsAreShort : Type 0
+CorePathListsAreShort = (n : Network) (host : ℕ) (es : List Ear) (ks : List ℕ) → IsFabric n → ArePathsOfCore n host es
+    → ((k : ℕ) → IsCoreCable n host k → IsOneOf k ks) → most_back es ≤ suc (length ks)
 
 -- a path list of the core, whose return walks cross at most one cable more than the core has
 pub record HasPathList (n : Network) (host : ℕ) : Type 0 where

@@ -1,6 +1,6 @@
 //! The laws of path lists: each has short return walks, and every host of a fabric has one.
 //!
-//! This crate holds laws and their proofs. It finds no path: that is `circ_map`, which follows the proofs here.
+//! This crate holds laws and their proofs. It finds no path.
 //!
 //! | file of `specs/` | says |
 //! |---|---|
@@ -8,10 +8,12 @@
 //! | `Laws` | return walks exist and are short, and so do path lists |
 //!
 //! ```text
-//!   host a --->-- x ==path== y --->-- host b       A path from x to y has its return walk where one walk comes from the mapper's host
-//!                                                  to x and another leads from y to some host, with no cable in common; or the other
-//!                                                  way round. A path that is new at y and ends there at a host needs the first alone.
+//!   host a --->-- x ==path== y --->-- host b
 //! ```
+//!
+//! A path from x to y has its return walk where one walk comes from the mapper's host to x and another leads from y to
+//! some host, with no cable in common; or the other way round. A path that ends at a host of its own needs the first
+//! alone.
 //!
 //! The proof, in the order of its files in `proofs/`: `TwoWalks`, `Inner` (paths read backwards), `Returns`, `Short`,
 //! `Onward` (where a cable of the core is left, there is a next path), `Telltale` (what is of the core can be told),

@@ -1,8 +1,8 @@
 //! Texts whose reads and writes fail, one after another.
 //!
-//! A read that fails is answered as a read fault, and nothing is written. A write that fails is answered as a write
-//! fault, and the sink has taken what went before it: with one byte a write, so many bytes of the report as there
-//! were writes.
+//! Each read and each write moves one byte. A read that fails is answered as a read fault, and nothing is written. A
+//! write that fails is answered as a write fault, and the sink has taken what went before it: so many bytes of the
+//! report as there were writes.
 
 use crate::difference::{Difference, Wanted};
 use crate::row::Row;
@@ -17,8 +17,9 @@ const READ_FAULT: u8 = 4;
 
 const WRITE_FAULT: u8 = 5;
 
-// A text that is refused, one of walks, and one of clients' calls.
-const TEXTS: [&str; 3] = [
+// The first text, one that is refused, one of walks, and one of clients' calls.
+const TEXTS: [&str; 4] = [
+    "first-walk",
     "refused-line-after-end",
     "walk-four-times",
     "client-refusals",
@@ -37,20 +38,26 @@ fn try_text<T: TopCall>(rt: &HostRuntime, name: &str, tally: &mut Tally) -> io::
     let Some(row) = Row::read(rt, name)? else {
         return tally.fail(rt, name, &"it has no report");
     };
-    let reads = format!(in rt.alloc(); "{name}, each read failing")?;
-    tally.tell(rt, &reads, &try_reads::<T>(rt.alloc(), &row)?)?;
-    let writes = format!(in rt.alloc(); "{name}, each write failing")?;
-    tally.tell(rt, &writes, &try_writes::<T>(rt.alloc(), &row)?)
+    let reads = number(row.text.len()).saturating_add(1);
+    let told = format!(in rt.alloc(); "{name}, each of {reads} reads failing")?;
+    tally.tell(rt, &told, &try_reads::<T>(rt.alloc(), &row, reads)?)?;
+    let writes = row.report.len();
+    let told = format!(in rt.alloc(); "{name}, each of {writes} writes failing")?;
+    tally.tell(rt, &told, &try_writes::<T>(rt.alloc(), &row)?)
 }
 
-// Lets each read fail, and also the one that would find the end.
-fn try_reads<T: TopCall>(alloc: Global, row: &Row) -> Result<Option<Difference>, AllocError> {
+// Lets each read fail, of one byte each, and also the one that would find the end.
+fn try_reads<T: TopCall>(
+    alloc: Global,
+    row: &Row,
+    reads: u32,
+) -> Result<Option<Difference>, AllocError> {
     let wanted = Wanted {
         status: READ_FAULT,
         report: b"",
     };
-    for call in 1..=number(row.text.len().div_ceil(PIECE)).saturating_add(1) {
-        let source = MemSource::new(row.text.to_vec(alloc)?, PIECE, vec![in alloc; call]?);
+    for call in 1..=reads {
+        let source = MemSource::new(row.text.to_vec(alloc)?, 1, vec![in alloc; call]?);
         let sink = MemSink::new(alloc, PIECE, Vec::new(alloc));
         let found = try_run::<T>(alloc, &row.words, source, sink, wanted)?;
         if found.is_some() {

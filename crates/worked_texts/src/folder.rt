@@ -1,5 +1,6 @@
 //! The files of the folder.
 
+use crate::cuts::try_cuts;
 use crate::refusals::try_table;
 use crate::row::Row;
 use crate::tally::Tally;
@@ -14,6 +15,7 @@ pub fn try_files<T: TopCall>(rt: &HostRuntime, tally: &mut Tally) -> io::Result<
     for file in &files {
         match file.rsplit_once('.') {
             Some((name, kind)) if kind == "in" => try_text::<T>(rt, name, tally)?,
+            Some((name, kind)) if kind == "cuts" => try_cuts::<T>(rt, name, tally)?,
             Some((name, kind)) if kind == "refused" => try_table::<T>(rt, name, tally)?,
             Some((name, kind)) if has_first(rt, &files, name, kind)? => {}
             Some(_) => tally.fail(rt, file, &"it belongs to no text")?,

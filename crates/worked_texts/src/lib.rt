@@ -12,12 +12,16 @@
 //! | `NAME.words` | the words of the command line, one a line; where there is no such file, the word `run` |
 //! | `NAME.status` | the exit status in which the run must end; where there is no such file, 0 |
 //!
+//! `NAME.cuts`, where there is such a file, has a line for each place at which the text is cut, from its first byte to
+//! behind its last, with what must come of it: the line of a refusal, or `done`, where the report is the whole text's.
+//!
 //! A table of refused lines has two files. `NAME.front` has the first lines of a text. Each line of `NAME.refused`
 //! has a kind of fault, a space, and the line that has this fault behind the front lines.
 //!
 //! | module | has |
 //! |---|---|
 //! | `folder` | the files of the folder |
+//! | `cuts` | a text that is cut at each place |
 //! | `refusals` | tables of lines that are refused |
 //! | `ends` | texts whose reads and writes fail, one after another |
 //! | `limit` | the longest input, and one that is longer |
@@ -28,6 +32,7 @@
 //! | `tally` | the lines that are printed, and their count |
 #![tactic(auto)]
 
+mod cuts;
 mod difference;
 mod ends;
 mod folder;

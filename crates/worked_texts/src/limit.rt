@@ -3,7 +3,7 @@
 use crate::difference::Wanted;
 use crate::row::run_word;
 use crate::tally::Tally;
-use crate::trial::{TopCall, try_run};
+use crate::trial::{REFUSED, TopCall, try_run};
 use fab_outer::{MemSink, MemSource};
 use std::io;
 
@@ -19,7 +19,7 @@ pub fn try_limit<T: TopCall>(rt: &HostRuntime, tally: &mut Tally) -> io::Result<
         tally,
         "spaces-of-the-longest-input",
         LONGEST,
-        3,
+        REFUSED,
         b"refused 2 noend\n",
     )?;
     try_spaces::<T>(

@@ -1,9 +1,9 @@
 //! Tables of lines that are refused.
 
-use crate::difference::Difference;
-use crate::row::{Row, run_word};
+use crate::difference::{Difference, Wanted};
+use crate::row::run_word;
 use crate::tally::Tally;
-use crate::trial::{TopCall, try_row};
+use crate::trial::{REFUSED, TopCall, try_text};
 use std::alloc::{AllocError, Global};
 use std::{fs, io};
 
@@ -41,14 +41,9 @@ fn try_line<T: TopCall>(
     let before = front.iter().filter(|byte| **byte == b'\n').count();
     let number = before.saturating_add(1);
     let report = format!(in alloc; "refused {number} {kind}\n")?.into_bytes();
-    let words = run_word(alloc)?;
-    try_row::<T>(
-        alloc,
-        &Row {
-            words,
-            text,
-            report,
-            status: 3,
-        },
-    )
+    let wanted = Wanted {
+        status: REFUSED,
+        report: &report,
+    };
+    try_text::<T>(alloc, &run_word(alloc)?, &text, wanted)
 }
