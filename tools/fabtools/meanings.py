@@ -54,6 +54,8 @@ def of_line(words):
         at = words.index("refused")
         cause = words[at + 1]
         return REFUSED_COMMAND.get((words[0], cause)) or REFUSED_CALL.get(cause)
+    if words[0] == "circuit" and words[2] == "nodes":
+        return "the tree of circuit answers got too large (65,536), so no map follows"
     if words[0] == "settle" and words[-1] != "0":
         return "messages wait: for a token that fits (its SIZE exactly, its priority), a port that is open, or a receiver with a table"
     if words[0] == "settle" and words[4] != "0":

@@ -1,11 +1,11 @@
 """A report, read line by line: its maps, routes, installations, settles and all other lines, each with its number."""
 
 
-class Map:
-    """A map of a report: its mapper, its words, and its vertices and cables by the names that the map gives them."""
+class Shown:
+    """What a map of a report shows: its mapper, and its vertices and cables by the names that the map gives them."""
 
-    def __init__(self, line, host, words, asks, packets):
-        self.line, self.host, self.words, self.asks, self.packets = line, host, words, asks, packets
+    def __init__(self, line, host, asks):
+        self.line, self.host, self.asks = line, host, asks
         self.vertices, self.core, self.cables, self.far_ends = [], {}, [], {}
 
     def add(self, words):
@@ -24,6 +24,22 @@ class Map:
         return [it for it in self.vertices if not it.startswith("#")]
 
 
+class Map(Shown):
+    """A map by packets, with its words."""
+
+    def __init__(self, line, host, words, asks, packets):
+        super().__init__(line, host, asks)
+        self.words, self.packets = words, packets
+
+
+class CircuitMap(Shown):
+    """A map of circuit links, with its depth. What is outside isn't shown."""
+
+    def __init__(self, line, host, depth, asks):
+        super().__init__(line, host, asks)
+        self.depth = depth
+
+
 class Routes:
     """Routes of a report as (from, to, turns), and ranks by the map's ports."""
 
@@ -38,7 +54,7 @@ class Routes:
 
 
 class Report:
-    """The items of a report in order: Map, Routes, or (line, words) for any other line."""
+    """The items of a report in order: Map, CircuitMap, Routes, or (line, words) for any other line."""
 
     def __init__(self, text):
         self.items, open_item = [], None
@@ -56,6 +72,9 @@ class Report:
             item = Map(line, words[1], " ".join(words[2:at]), int(words[at + 1]), int(words[at + 3]))
             self.items.append(item)
             return None if item.words == "incomplete nodes" else item
+        if words[0] == "circuit" and words[2] == "depth":
+            self.items.append(CircuitMap(line, words[1], int(words[3]), int(words[5])))
+            return self.items[-1]
         if words[0] == "routes" and words[1] != "refused":
             self.items.append(Routes(line))
             return self.items[-1]

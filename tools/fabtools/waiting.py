@@ -1,6 +1,6 @@
 """What waits behind a settle, and for what: the script's calls and the report's answers, followed side by side."""
 
-from fabtools.report import Map, Routes
+from fabtools.report import Routes, Shown
 
 
 def least_size(length):
@@ -80,7 +80,7 @@ def behind_settles(script, items):
         if not items:
             break
         item = items.pop(0)
-        if isinstance(item, (Map, Routes)):
+        if isinstance(item, (Shown, Routes)):
             continue
         at, answer = item
         calls.call(line, words, answer)

@@ -69,7 +69,7 @@ impl Adopted {
         ensures { IfOk result (λ walk. walk ≡ route_of self.now.routes self.now.mapper dst) }
     {
         match self.set.route(self.mapper, dst) {
-            Some(walk) => Ok(Some(copy(alloc, walk)?)),
+            Some(walk) => Ok(Some(walk.copied(alloc)?)),
             None => Ok(None),
         }
     }
@@ -84,15 +84,5 @@ impl Adopted {
         } else {
             parts_of(&self.set, dst)
         }
-    }
-}
-
-// Another walk of the same turns.
-fn copy(alloc: Global, walk: &Walk) -> Result<Walk, AllocError>
-    ensures { IfOk result (λ copied. copied ≡ walk.now) }
-{
-    match Walk::new(alloc, walk.turns()) {
-        Ok(copied) => Ok(copied),
-        Err(_) => Err(AllocError),
     }
 }

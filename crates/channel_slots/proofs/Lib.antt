@@ -1,3 +1,4 @@
 pub mod Counting
 pub mod Fullness
 pub mod Marking
+pub mod Passing

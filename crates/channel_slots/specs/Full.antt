@@ -1,6 +1,6 @@
 -- Which channels are full, and the marks of the full ones.
 use Rattle.std.specs.Prelude.{◌≡◌, ℕ, ◌+◌, ◌-◌, ◌*◌, ◌^◌, ◌≤◌, List, [], ◌∷◌, length, slice_index_or, find, Option}
-use Rattle.std.specs.Prelude.{Some, None, true, is_some}
+use Rattle.std.specs.Prelude.{Some, None, is_some}
 use Rattle.std.specs.List.{range_with_len}
 use Rattle.link_defs.specs.Links.{Held}
 use Rattle.channel_slots.specs.Marks.{mark_at}

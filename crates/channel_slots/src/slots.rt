@@ -8,6 +8,7 @@ ghost use Rattle.packet_defs.specs.Packet.{front_turn, stripped};
 ghost use Rattle.packet_defs.specs.Burst.{flipped, may_flip};
 ghost use Rattle.link_defs.specs.Links.{Held};
 ghost use Rattle.channel_slots.specs.Full.{full_from};
+ghost use Rattle.channel_slots.specs.Passing.{HasTurn, stripped_slot, passed_on};
 
 use crate::marks::{bare, mark, next_marked, unmark};
 use myri_packet::Packet;
@@ -186,6 +187,32 @@ impl Slots {
         let _ = replace_at(&mut self.slots, c, Some(slot));
         self.full += 1;
         mark(&mut self.marks, c);
+    }
+
+    /// Moves the packet of a channel on into an empty one, or into the channel itself, without the route byte in
+    /// front. The packet's place alone is written: nothing else of it moves.
+    pub fn pass_on(&mut self, c: usize, next: usize)
+        requires there { c < length self.old }
+        requires next { next < length self.old }
+        requires turn { HasTurn (slice_index_or self.old c None) }
+        requires empty { slice_index_or (slice_set self.old c None) next None ≡ None }
+        ensures { self.new ≡ passed_on self.old c next }
+    {
+        self.slots.swap(c, next);
+        strip_at(&mut self.slots, next);
+        unmark(&mut self.marks, c);
+        mark(&mut self.marks, next);
+    }
+}
+
+// Strips the packet at a place.
+fn strip_at(slots: &mut Vec<Option<Slot>>, c: usize)
+    requires there { c < length slots.old.items }
+    requires turn { HasTurn (slice_index_or slots.old.items c None) }
+    ensures { slots.new.items ≡ slice_set slots.old.items c (stripped_slot (slice_index_or slots.old.items c None)) }
+{
+    if let Some(slot) = &mut slots[c] {
+        slot.strip();
     }
 }
 

@@ -1,5 +1,5 @@
 -- A walk's exits meet where its channels do.
-use Rattle.std.proofs.Common.{◌≡◌, ◌≢◌, ℕ, List, [], ◌∷◌, ◌++◌, Bool, true, false, not, ◌&&◌, ◌||◌, nat_eq, if◌then◌else◌, Option, Some, None, IfSome, sym, ◌∙◌, subst, ap, refl, ◌⊎◌, inl, inr}
+use Rattle.std.proofs.Common.{◌≡◌, ℕ, List, [], ◌∷◌, ◌++◌, Bool, true, false, not, ◌&&◌, ◌||◌, nat_eq, if◌then◌else◌, Option, Some, None, IfSome, sym, ◌∙◌, subst, ap, refl, ◌⊎◌, inl, inr}
 use Rattle.std.specs.Prelude.{ℤ, map, option_and_then, option_to_list}
 use Rattle.std.specs.List.{list_any}
 use Rattle.std.proofs.lemmas.Bool.{true≢false}
@@ -16,10 +16,10 @@ use Rattle.net_defs.proofs.Places.{place_at-there}
 use Rattle.map_laws.proofs.Channels.{channel-one_port}
 use Rattle.circ_defs.specs.Circuit.{are_apart, cable_of, circuit_place, held_place}
 use Rattle.circ_defs.specs.Ways.{Joins}
-use Rattle.circ_defs.proofs.Cables.{SameCable, HasCable, HasChannel, far-joins, far-next, joins-back, joins-channel, joins-far, same-cable}
+use Rattle.circ_defs.proofs.Cables.{SameCable, far-joins, far-next, joins-back, joins-channel, same-cable}
 use Rattle.circ_defs.proofs.Cables.SameCable.{one_way, other_way}
-use Rattle.circ_link.specs.Exits.{are_free, back_of, exits_after, exits_of, held_at, held_by_exits, is_end, meets}
-use Rattle.circ_link.proofs.Following.{entered_after-none, entered_after-stuck}
+use Rattle.circ_link.specs.Exits.{are_free, exits_after, exits_of, held_at, held_by_exits, is_end, meets}
+use Rattle.circ_link.proofs.Following.{entered_after-stuck}
 
 -- an exit with a cable, and its channel
 pub record IsExit (n : Network) (e : End) (c : ℕ) : Type 0 where
@@ -66,20 +66,20 @@ walk-exits n e (t ∷ ts) d f p = by (far n e) refl (next_exit n (Some e) t) ref
     by (Some g) q None r rest = absurd (stuck r)
     by (Some g) q (Some x) r rest = with-exit n e g (exits_after n (next_exit n (Some e) t) ts) (channels_after n (next_exit n (Some e) t) ts) f q (on x r rest)
 
-same-test : (a b : Bool) → (a ≡ true → b ≡ true) → (b ≡ true → a ≡ true) → a ≡ b
+pub same-test : (a b : Bool) → (a ≡ true → b ≡ true) → (b ≡ true → a ≡ true) → a ≡ b
 same-test true b f g = sym (f refl)
 same-test false true f g = g refl
 same-test false false f g = refl
 
-or-first : (a b : Bool) → a ≡ true → (a || b) ≡ true
+pub or-first : (a b : Bool) → a ≡ true → (a || b) ≡ true
 or-first true b e = refl
 or-first false b e = absurd (true≢false (sym e))
 
-or-second : (a b : Bool) → b ≡ true → (a || b) ≡ true
+pub or-second : (a b : Bool) → b ≡ true → (a || b) ≡ true
 or-second true b e = refl
 or-second false b e = e
 
-or-either : (a b : Bool) → (a || b) ≡ true → (a ≡ true) ⊎ (b ≡ true)
+pub or-either : (a b : Bool) → (a || b) ≡ true → (a ≡ true) ⊎ (b ≡ true)
 or-either true b e = inl refl
 or-either false b e = inr e
 

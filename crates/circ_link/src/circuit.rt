@@ -3,16 +3,16 @@
 ghost use Rattle.std.specs.Prelude.{◌≡◌, ◌+◌, ◌<◌, ◌≤◌, ◌||◌, length, take, Some, IfSome};
 ghost use Rattle.std.specs.List.{list_any};
 ghost use Rattle.net_defs.specs.Network.{far, same_end, IsFabric};
-ghost use Rattle.net_defs.specs.Route.{entered_after, host_port, leaving_port, next_exit, exit_at, IsPlaceOf};
+ghost use Rattle.net_defs.specs.Route.{entered_after, host_port, next_exit, exit_at, IsPlaceOf};
 ghost use Rattle.net_defs.specs.Route.{IsEntered};
 ghost use Rattle.circ_defs.specs.Circuit.{circuit_place};
 ghost use Rattle.circ_link.specs.Exits.{exits_of, is_end, back_of, are_free, held_at, held_by_exits};
 
-use net_defs::{End, Place, Vertex};
+use net_defs::{End, Place, Vertex, leaving_port};
 use port_graph::Fabric;
 
-// The most exits of a walk: its host's, and one for each of 64 turns.
-const MAX_EXITS: usize = 65;
+/// The most exits of a walk: its host's, and one for each of 64 turns.
+pub(crate) const MAX_EXITS: usize = 65;
 
 /// The circuit place of a walk from a host: its place, but `Nothing` where it meets itself. A walk to a host does so
 /// where it crosses a channel twice, a walk to a switch where it crosses a cable twice, in whatever direction. It
@@ -28,8 +28,8 @@ pub fn circ_place(f: &Fabric, host: u16, turns: &[i8]) -> Place
     held(f, &exits[..turns.len() + 1], entered)
 }
 
-// The end that a walk enters last, none where it is stuck; it writes down the ends by which it leaves.
-fn follow(f: &Fabric, host: u16, turns: &[i8], exits: &mut [End]) -> Option<End>
+/// The end that a walk enters last, none where it is stuck; it writes down the ends by which it leaves.
+pub(crate) fn follow(f: &Fabric, host: u16, turns: &[i8], exits: &mut [End]) -> Option<End>
     requires room { length turns.now < length exits.old }
     ensures entered { result ≡ entered_after f.now (far f.now (host_port host)) turns.now }
     ensures there { IsEntered f.now result }
@@ -47,8 +47,8 @@ fn follow(f: &Fabric, host: u16, turns: &[i8], exits: &mut [End]) -> Option<End>
     f.far(exit.v, exit.p)
 }
 
-// The port of a host.
-fn host_end(host: u16) -> End
+/// The port of a host.
+pub(crate) fn host_end(host: u16) -> End
     ensures { result ≡ host_port host }
 {
     End {
@@ -67,8 +67,8 @@ fn next_exit(f: &Fabric, exit: End, turn: i8) -> Option<End>
     }
 }
 
-// The end by which a turn leaves.
-fn exit_at(f: &Fabric, entered: End, turn: i8) -> Option<End>
+/// The end by which a turn leaves.
+pub(crate) fn exit_at(f: &Fabric, entered: End, turn: i8) -> Option<End>
     ensures { result ≡ exit_at f.now entered.v entered.p turn }
 {
     match entered.v {
@@ -77,18 +77,6 @@ fn exit_at(f: &Fabric, entered: End, turn: i8) -> Option<End>
             Some(p) => Some(End { v: entered.v, p }),
             None => None,
         },
-    }
-}
-
-// The port that a turn leaves by, at a switch of so many ports that was entered by a port.
-fn leaving_port(ports: u8, entry: u8, turn: i8) -> Option<u8>
-    ensures { result ≡ leaving_port ports entry turn }
-{
-    let port = i16::from(entry) + i16::from(turn);
-    if 0 <= port && port < i16::from(ports) {
-        Some(port as u8)
-    } else {
-        None
     }
 }
 
@@ -124,8 +112,8 @@ fn held_at(f: &Fabric, exits: &[End], end: End) -> Place
     }
 }
 
-// Whether no exit is left twice; with `both` also no cable crossed back.
-fn are_free(f: &Fabric, exits: &[End], both: bool) -> bool
+/// Whether no exit is left twice; with `both` also no cable crossed back.
+pub(crate) fn are_free(f: &Fabric, exits: &[End], both: bool) -> bool
     ensures { result ≡ are_free f.now both exits.now }
 {
     for at in 0..exits.len() {
@@ -144,8 +132,8 @@ fn back_of(f: &Fabric, exit: End, both: bool) -> Option<End>
     if both { f.far(exit.v, exit.p) } else { None }
 }
 
-// Whether one of these exits is this exit or the other end of its cable.
-fn is_met(exits: &[End], exit: End, back: Option<End>) -> bool
+/// Whether one of these exits is this exit or the other end of its cable.
+pub(crate) fn is_met(exits: &[End], exit: End, back: Option<End>) -> bool
     ensures { result ≡ list_any (λ d. same_end d exit || is_end back d) exits.now }
 {
     exits.iter().any(|d| *d == exit || Some(*d) == back)

@@ -11,8 +11,15 @@
 //!                    |                    |       |
 //!                  host b                 +-------+
 //! ```
+//!
+//! | module | has |
+//! |---|---|
+//! | `circuit` | the circuit place of one walk |
+//! | `places` | the circuit places of walks that go on from one walk |
 #![tactic(auto)]
 
 mod circuit;
+mod places;
 
 pub use circuit::circ_place;
+pub use places::CircPlaces;

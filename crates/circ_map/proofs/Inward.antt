@@ -3,7 +3,7 @@ use Rattle.std.proofs.Common.{Result, Ok, Err, IfOk, ◌≡◌, ◌<◌, ℕ, su
 use Rattle.std.specs.Prelude.{ℤ, slice_get, Some}
 use Rattle.net_defs.specs.Network.{Network, IsFabric}
 use Rattle.journal_defs.specs.declared.entry.Entry.{Entry}
-use Rattle.journal_defs.specs.Tree.{is_found, nodes}
+use Rattle.journal_defs.specs.Tree.{IsJournal, is_found, nodes}
 use Rattle.map_defs.specs.NetMap.{NetMap, MapPort, IsCabled}
 use Rattle.map_defs.specs.Quotient.{IsQuotient}
 use Rattle.map_defs.specs.Core.{core_of}
@@ -23,6 +23,7 @@ use Rattle.circ_map.specs.declared.mapping.CircEnd.{CircEnd}
 use Rattle.circ_map.specs.declared.mapping.CircEnd.TheVariants.{Whole}
 use Rattle.circ_map.specs.Mapping.{HasInside, IsCoreWhereDeep, IsMappedBy, IsMappedWhole, IsTreeMapped}
 use Rattle.circ_map.proofs.Finding.{nodes-length}
+use Rattle.circ_map.proofs.Refusing.{found-once}
 use Rattle.circ_map.proofs.Without.{inside-without}
 
 found-circuit : (n : Network) (host : ℕ) (j : List Entry) → IsCircuitJournal n host j → IsCircuitJournal n host (found_of j)
@@ -40,6 +41,10 @@ whole-true n host depth found asks f w = record {
   is_fabric = f;
   told = circuit-true n host found (subst (IsCircuitJournal n host) (sym w.found_is) (found-circuit n host w.journal (growing-circuit n host depth w.journal w.growing)));
 }
+
+-- and no walk stands twice in it
+pub whole-once : (n : Network) (host depth : ℕ) (found : List Entry) (asks : ℕ) → IsWhole n host depth found asks → IsJournal found
+whole-once n host depth found asks w = subst IsJournal (sym w.found_is) (found-once w.journal (growing-once n host depth w.journal w.growing))
 
 pub whole-few : (n : Network) (host depth : ℕ) (found : List Entry) (asks : ℕ) → IsWhole n host depth found asks → length found < 4294967295
 whole-few n host depth found asks w =

@@ -15,7 +15,7 @@ use Rattle.map_defs.specs.Core.{core_of, is_outside}
 use Rattle.core_map.proofs.Sides.{long-numbers, map-at}
 use Rattle.circ_defs.specs.CircuitMap.{HasNumber, IsKeptCable, IsWithoutOutside}
 use Rattle.circ_map_laws.proofs.Ends.{CabledBy, cabled-number, number-cabled}
-use Rattle.circ_map.specs.Inside.{cables_in, inside, marked_below, number_in, renumbered}
+use Rattle.circ_map.specs.Inside.{IsRising, cables_in, inside, marked_below, number_in, renumbered}
 use Rattle.circ_map.proofs.Finding.{IsOldOrLast, get-old, get-push}
 use Rattle.circ_map.proofs.Finding.IsOldOrLast.{old, last}
 
@@ -57,7 +57,7 @@ marked-covers marks (suc n) u l e = by (cases_order u n) (λ m. marked-covers ma
     by (inr (inl m)) rest = grown (slice_index_or marks n false) (rest m)
     by (inr (inr m)) rest = absurd (omega arith)
 
-marked-rising : (marks : List Bool) (n v w u x : ℕ) → v < w → slice_get (marked_below marks n) v ≡ Some u → slice_get (marked_below marks n) w ≡ Some x → u < x
+pub marked-rising : (marks : List Bool) (n v w u x : ℕ) → v < w → slice_get (marked_below marks n) v ≡ Some u → slice_get (marked_below marks n) w ≡ Some x → u < x
 marked-rising marks zero v w u x l a b = cc
 marked-rising marks (suc n) v w u x l a b = by (slice_index_or marks n false) a b (λ p q. marked-rising marks n v w u x l p q)
   where
@@ -77,14 +77,10 @@ marked-rising marks (suc n) v w u x l a b = by (slice_index_or marks n false) a 
     by false p q rest = rest (off (marked_below marks n) v u p) (off (marked_below marks n) w x q)
 
 -- the number of a vertex is where it stands
-number-there : (kept : List ℕ) (u v : ℕ) → number_in kept u ≡ Some v → slice_get kept v ≡ Some u
+pub number-there : (kept : List ℕ) (u v : ℕ) → number_in kept u ≡ Some v → slice_get kept v ≡ Some u
 number-there kept u v e =
     let p = position-Some (λ y. nat_eq y u) kept v 0 e in
     slice_get-get_or kept v 0 p.0 ∙ ap Some ((Decides-eqb (get_or kept v 0) u).0 p.1)
-
--- numbers that rise
-abbrev IsRising : List ℕ → Type 0
-IsRising kept = (v w u x : ℕ) → v < w → slice_get kept v ≡ Some u → slice_get kept w ≡ Some x → u < x
 
 one-place : (kept : List ℕ) (v w u : ℕ) → IsRising kept → slice_get kept v ≡ Some u → slice_get kept w ≡ Some u → v ≡ w
 one-place kept v w u rise a b = by (cases_order v w)
@@ -99,7 +95,7 @@ any-at test [] v u e t = cc
 any-at test (x ∷ xs) zero u e t = let one : x ≡ u = cc in or-left (test x) (list_any test xs) (ap test one ∙ t)
 any-at test (x ∷ xs) (suc v) u e t = or-right (test x) (list_any test xs) (any-at test xs v u e t)
 
-number-is : (kept : List ℕ) (u v : ℕ) → IsRising kept → slice_get kept v ≡ Some u → number_in kept u ≡ Some v
+pub number-is : (kept : List ℕ) (u v : ℕ) → IsRising kept → slice_get kept v ≡ Some u → number_in kept u ≡ Some v
 number-is kept u v rise e = by (number_in kept u) refl
   where
     none : number_in kept u ≡ None → ⊥

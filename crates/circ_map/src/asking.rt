@@ -8,21 +8,16 @@ use crate::prober::CircProber;
 use crate::tree::{NODE_LIMIT, Tree};
 use net_defs::{Answer, Walk};
 use probe::Entry;
-use std::alloc::{AllocError, Global};
+use std::alloc::AllocError;
 
 /// Asks a walk, and keeps what it finds; answers whether one more node may be found.
-pub(crate) fn ask<P: CircProber>(
-    alloc: Global,
-    p: &mut P,
-    tree: &mut Tree,
-    walk: Walk,
-) -> Result<bool, AllocError>
+pub(crate) fn ask<P: CircProber>(p: &mut P, tree: &mut Tree, walk: Walk) -> Result<bool, AllocError>
     requires few { tree.old.asks < 2 ^ 32 }
-    ensures goes_on { IfOk result (λ more. more ≡ goes_on tree.old.found.entries
+    ensures goes_on { IfOk result (λ more. more ≡ goes_on tree.old.found.items
         (told (P.fabric p.old) (P.mapper p.old) walk)) }
-    ensures found { OnOk result (tree.new.found.entries
-        ≡ kept_after tree.old.found.entries (told (P.fabric p.old) (P.mapper p.old) walk)) }
-    ensures host { OnOk result (tree.new.found.host ≡ tree.old.found.host) }
+    ensures found { OnOk result (tree.new.found.items
+        ≡ kept_after tree.old.found.items (told (P.fabric p.old) (P.mapper p.old) walk)) }
+    ensures host { OnOk result (tree.new.host ≡ tree.old.host) }
     ensures counted { OnOk result (tree.new.asks ≡ tree.old.asks + 1) }
     ensures same_fabric { P.fabric p.new ≡ P.fabric p.old }
     ensures same_mapper { P.mapper p.new ≡ P.mapper p.old }
@@ -32,24 +27,22 @@ pub(crate) fn ask<P: CircProber>(
     if !is_found(answer) {
         return Ok(true);
     }
-    keep(alloc, tree, Entry { walk, answer })
+    keep(tree, Entry { walk, answer })
 }
 
 // Keeps what was found, unless as many nodes as are kept were found before it: then it answers so.
-fn keep(alloc: Global, tree: &mut Tree, e: Entry) -> Result<bool, AllocError>
+fn keep(tree: &mut Tree, e: Entry) -> Result<bool, AllocError>
     requires { is_found e.answer ≡ true }
-    ensures goes_on { IfOk result (λ more. more ≡ goes_on tree.old.found.entries e) }
-    ensures found { OnOk result (tree.new.found.entries ≡ kept_after tree.old.found.entries e) }
-    ensures host { OnOk result (tree.new.found.host ≡ tree.old.found.host) }
+    ensures goes_on { IfOk result (λ more. more ≡ goes_on tree.old.found.items e) }
+    ensures found { OnOk result (tree.new.found.items ≡ kept_after tree.old.found.items e) }
+    ensures host { OnOk result (tree.new.host ≡ tree.old.host) }
     ensures counted { OnOk result (tree.new.asks ≡ tree.old.asks) }
 {
-    if tree.found.entries().len() > NODE_LIMIT - 2 {
+    if tree.found.len() > NODE_LIMIT - 2 {
         return Ok(false);
     }
-    match tree.found.push(alloc, e) {
-        Ok(()) => Ok(true),
-        Err(_) => Err(AllocError),
-    }
+    tree.found.push(e)?;
+    Ok(true)
 }
 
 // Whether a host or a switch was found.

@@ -6,17 +6,17 @@ ghost use Rattle.net_defs.specs.Route.{answer_at};
 ghost use Rattle.circ_defs.specs.Circuit.{circuit_answer};
 
 use crate::prober::CircProber;
-use circ_link::circ_place;
+use circ_link::CircPlaces;
 use net_defs::{Answer, Place, Walk};
 use port_graph::Fabric;
 use std::alloc::AllocError;
 use std::marker::Model;
 
-/// Answers by the circuit places of a fabric in memory. It takes no memory, and never changes.
+/// Answers by the circuit places of a fabric in memory. It takes no memory, and its answers never change: what it keeps
+/// of the last ask only spares steps.
 #[derive(Drop)]
 pub struct CircFabric<'f> {
-    fabric: &'f Fabric,
-    host: u16,
+    places: CircPlaces<'f>,
 }
 
 impl<'f> Model for CircFabric<'f> {
@@ -26,9 +26,9 @@ impl<'f> Model for CircFabric<'f> {
 
     ghost Value = { OverFabric };
 
-    ghost view = { λ p. record { fabric = p.fabric.now; host = p.host } };
+    ghost view = { λ p. record { fabric = p.places.fabric; host = p.places.host } };
 
-    ghost invariant = { λ p. IsFabric p.fabric.now × (p.host < length p.fabric.now.hosts) };
+    ghost invariant = { λ p. IsFabric p.places.fabric × (p.places.host < length p.places.fabric.hosts) };
 }
 
 impl<'f> CircFabric<'f> {
@@ -38,7 +38,9 @@ impl<'f> CircFabric<'f> {
         ensures { result ≡ record { fabric = fabric.now; host = host } }
     {
         let _count = fabric.hosts();
-        CircFabric { fabric, host }
+        CircFabric {
+            places: CircPlaces::new(fabric, host),
+        }
     }
 }
 
@@ -48,7 +50,7 @@ impl CircProber for CircFabric<'_> {
     ghost mapper = { λ p. p.host };
 
     fn host(&self) -> u16 {
-        self.host
+        self.places.host()
     }
 
     fn ask(&mut self, w: &Walk) -> Result<Answer, AllocError>
@@ -58,7 +60,7 @@ impl CircProber for CircFabric<'_> {
         ensures exactly { result ≡ Ok (circuit_answer self.old.fabric self.old.host w.now) }
         ensures unchanged { self.new ≡ self.old }
     {
-        Ok(told(circ_place(self.fabric, self.host, w.turns())))
+        Ok(told(self.places.place_of(w.turns())))
     }
 }
 

@@ -5,14 +5,15 @@ ghost use Rattle.std.specs.Prelude.{IfOk, IfSome, OnOk, IsTrue, ◌↔◌};
 ghost use Rattle.net_defs.specs.declared.place.Answer.{Answer};
 ghost use Rattle.journal_defs.specs.declared.entry.Entry.{Entry};
 ghost use Rattle.journal_defs.specs.Growth.{crossed};
-ghost use Rattle.circ_map.specs.Growing.{IsAsking, IsOpen, IsPassed, IsShut};
+ghost use Rattle.circ_map.specs.Growing.{IsAsking, IsFront, IsOpen, IsPassed, IsShut};
 
 use crate::asking::ask;
 use crate::prober::CircProber;
 use crate::tree::Tree;
-use crate::walks::{TURNS, onward, turn_at};
+use crate::walks::{onward, with_room};
+use mapper::{TURNS, turn_at};
 use net_defs::{Answer, Walk};
-use probe::Journal;
+use probe::Entry;
 use std::alloc::{AllocError, Global};
 
 /// Asks the turns of the entry at a place, if it is a switch that is near enough; answers whether one more node may
@@ -25,17 +26,17 @@ pub(crate) fn expand<P: CircProber>(
     at: usize,
 ) -> Result<bool, AllocError>
     requires shallow { depth ≤ 32 }
-    requires there { at < length tree.old.found.entries }
-    requires asking { IsAsking (P.fabric p.old) (P.mapper p.old) depth tree.old.found.entries tree.old.asks at 0 }
+    requires there { at < length tree.old.found.items }
+    requires asking { IsAsking (P.fabric p.old) (P.mapper p.old) depth tree.old.found.items tree.old.asks at 0 }
     ensures goes_on { result ≡ Ok true → IsAsking (P.fabric p.old)
-        (P.mapper p.old) depth tree.new.found.entries tree.new.asks (at + 1) 0 }
+        (P.mapper p.old) depth tree.new.found.items tree.new.asks (at + 1) 0 }
     ensures passed { result ≡ Ok false → IsPassed (P.fabric p.old) (P.mapper p.old) depth tree.new.asks }
-    ensures host { OnOk result (tree.new.found.host ≡ tree.old.found.host) }
+    ensures host { OnOk result (tree.new.host ≡ tree.old.host) }
     ensures same_fabric { P.fabric p.new ≡ P.fabric p.old }
     ensures same_mapper { P.mapper p.new ≡ P.mapper p.old }
 {
     match open_walk(alloc, &tree.found, depth, at)? {
-        Some(front) => expand_walk(alloc, p, tree, depth, at, &front),
+        Some(mut front) => expand_walk(alloc, p, tree, depth, at, &mut front),
         None => Ok(true),
     }
 }
@@ -47,21 +48,22 @@ fn expand_walk<P: CircProber>(
     tree: &mut Tree,
     depth: u8,
     at: usize,
-    front: &[i8],
+    front: &mut Vec<i8>,
 ) -> Result<bool, AllocError>
     requires shallow { depth ≤ 32 }
-    requires open { IsOpen depth tree.old.found.entries at front.now }
-    requires asking { IsAsking (P.fabric p.old) (P.mapper p.old) depth tree.old.found.entries tree.old.asks at 0 }
+    requires open { IsOpen depth tree.old.found.items at front.old.items }
+    requires walk { IsFront front.old.items }
+    requires asking { IsAsking (P.fabric p.old) (P.mapper p.old) depth tree.old.found.items tree.old.asks at 0 }
     ensures goes_on { result ≡ Ok true → IsAsking (P.fabric p.old)
-        (P.mapper p.old) depth tree.new.found.entries tree.new.asks (at + 1) 0 }
+        (P.mapper p.old) depth tree.new.found.items tree.new.asks (at + 1) 0 }
     ensures passed { result ≡ Ok false → IsPassed (P.fabric p.old) (P.mapper p.old) depth tree.new.asks }
-    ensures host { OnOk result (tree.new.found.host ≡ tree.old.found.host) }
+    ensures host { OnOk result (tree.new.host ≡ tree.old.host) }
     ensures same_fabric { P.fabric p.new ≡ P.fabric p.old }
     ensures same_mapper { P.mapper p.new ≡ P.mapper p.old }
 {
     for step in 0..TURNS {
         let walk = onward(alloc, front, turn_at(step))?;
-        if !ask(alloc, p, tree, walk)? {
+        if !ask(p, tree, walk)? {
             return Ok(false);
         }
     }
@@ -71,18 +73,20 @@ fn expand_walk<P: CircProber>(
 // The turns of the entry at a place, if it is a switch that is near enough.
 fn open_walk(
     alloc: Global,
-    found: &Journal,
+    found: &[Entry],
     depth: u8,
     at: usize,
 ) -> Result<Option<Vec<i8>>, AllocError>
-    requires { at < length found.now.entries }
-    ensures open { IfOk result (λ front. IfSome front (λ w. IsOpen depth found.now.entries at w.items)) }
-    ensures shut { result ≡ Ok None → IsShut depth found.now.entries at }
+    requires shallow { depth ≤ 32 }
+    requires there { at < length found.now }
+    ensures open { IfOk result (λ front. IfSome front (λ w. IsOpen depth found.now at w.items)) }
+    ensures walk { IfOk result (λ front. IfSome front (λ w. IsFront w.items)) }
+    ensures shut { result ≡ Ok None → IsShut depth found.now at }
 {
-    let e = &found.entries()[at];
+    let e = &found[at];
     let turns = e.walk.turns();
     if is_switch(e.answer) && turns.len() + 1 < usize::from(depth) {
-        Ok(Some(turns.to_vec(alloc)?))
+        Ok(Some(with_room(alloc, turns)?))
     } else {
         Ok(None)
     }

@@ -1,14 +1,16 @@
 //! A map without the vertices that are outside.
 
 ghost use Rattle.std.specs.Prelude.{◌≡◌, ◌++◌, ◌∷◌, [], ◌<◌, ◌≤◌, ◌^◌, length, slice_get, slice_index_or};
-ghost use Rattle.std.specs.Prelude.{if◌then◌else◌, false, Some, IfSome, IfOk, OnOk};
+ghost use Rattle.std.specs.Prelude.{if◌then◌else◌, false, None, Some, IfSome, IfOk, OnOk};
 ghost use Rattle.map_defs.specs.Core.{core_of};
 ghost use Rattle.map_defs.specs.NetMap.{host_of_vertex};
 ghost use Rattle.map_canon.specs.Naming.{with_vertex};
 ghost use Rattle.circ_defs.specs.CircuitMap.{IsWithoutOutside};
-ghost use Rattle.circ_map.specs.Inside.{marked_below, number_in, renumbered, bare, inside};
+ghost use Rattle.circ_map.specs.Inside.{IsRising, marked_below, number_in, renumbered, bare, inside};
+ghost use Rattle.circ_map.specs.Inside.{vertex_refusal};
+ghost use Rattle.fabric_map.specs.Growing.{cable_refusal};
 
-use fabric_map::{FabricMap, MapCable, MapVertex};
+use fabric_map::{FabricMap, MapCable, MapFault, MapVertex};
 use std::alloc::{AllocError, Global};
 
 /// The vertices of the core, in their order, and the cables between them. The map's core is marked.
@@ -47,8 +49,11 @@ fn push_if(numbers: &mut Vec<u32>, is_one: bool, number: u32) -> Result<(), Allo
 
 // The map of these vertices, without cables.
 fn bare(alloc: Global, m: &FabricMap, kept: &[u32]) -> Result<FabricMap, AllocError>
+    requires rising { IsRising kept.now }
+    requires few { length kept.now ≤ length m.now.vertices }
     ensures { IfOk result (λ k. k ≡ bare m.now kept.now) }
 {
+    let _ = m.vertices();
     let mut map = FabricMap::new(alloc);
     for v in kept {
         add_vertex(&mut map, address_of(m, *v))?;
@@ -66,8 +71,9 @@ fn address_of(m: &FabricMap, v: u32) -> Option<u16>
     }
 }
 
-// Adds a host of this address, or a switch.
+// Adds a host of this address, or a switch, that isn't refused.
 fn add_vertex(map: &mut FabricMap, address: Option<u16>) -> Result<(), AllocError>
+    requires { vertex_refusal map.old address ≡ None }
     ensures { OnOk result (map.new ≡ with_vertex map.old address) }
 {
     let added = match address {
@@ -76,13 +82,15 @@ fn add_vertex(map: &mut FabricMap, address: Option<u16>) -> Result<(), AllocErro
     };
     match added {
         Ok(_) => Ok(()),
-        Err(_) => Err(AllocError),
+        Err(MapFault::NoMemory) => Err(AllocError),
+        Err(_) => unreachable!(),
     }
 }
 
 // Adds the cables of a map between vertices that are kept.
 fn join_kept(map: &mut FabricMap, m: &FabricMap, kept: &[u32]) -> Result<(), AllocError>
     requires few { length kept.now < 2 ^ 32 }
+    requires rising { IsRising kept.now }
     requires bare { map.old ≡ bare m.now kept.now }
     ensures { OnOk result (map.new ≡ inside m.now kept.now) }
 {
@@ -103,7 +111,8 @@ fn cable_at(m: &FabricMap, k: usize) -> MapCable
 
 // The number that a vertex has among those that are kept.
 fn number_in(kept: &[u32], v: u32) -> Option<u32>
-    requires { length kept.now < 2 ^ 32 }
+    requires few { length kept.now < 2 ^ 32 }
+    requires rising { IsRising kept.now }
     ensures { result ≡ number_in kept.now v }
 {
     match place_in(kept, v) {
@@ -112,16 +121,22 @@ fn number_in(kept: &[u32], v: u32) -> Option<u32>
     }
 }
 
-// The place of a vertex among those that are kept.
+// The place of a vertex among those that are kept, found by halves: there may be thousands of vertices and cables.
 fn place_in(kept: &[u32], v: u32) -> Option<usize>
+    requires { IsRising kept.now }
     ensures place { result ≡ number_in kept.now v }
     ensures low { IfSome result (λ at. at < length kept.now) }
 {
-    kept.iter().position(|u| *u == v)
+    match kept.binary_search(&v) {
+        Ok(at) => Some(at),
+        Err(_) => None,
+    }
 }
 
-// Adds a cable between two vertices that are kept.
+// Adds a cable between two vertices that are kept, where it isn't refused.
 fn join(map: &mut FabricMap, c: MapCable, v: Option<u32>, w: Option<u32>) -> Result<(), AllocError>
+    requires { IfSome v (λ i. IfSome w (λ j.
+        cable_refusal map.old (record { v = i; p = c.p; w = j; q = c.q }) ≡ None)) }
     ensures vertices { OnOk result (map.new.vertices ≡ map.old.vertices) }
     ensures cables { OnOk result (map.new.cables ≡ map.old.cables ++ renumbered c v w) }
     ensures core { OnOk result (map.new.core ≡ map.old.core) }
@@ -136,6 +151,7 @@ fn join(map: &mut FabricMap, c: MapCable, v: Option<u32>, w: Option<u32>) -> Res
         q: c.q,
     }) {
         Ok(_) => Ok(()),
-        Err(_) => Err(AllocError),
+        Err(MapFault::NoMemory) => Err(AllocError),
+        Err(_) => unreachable!(),
     }
 }

@@ -33,6 +33,7 @@ mod prober;
 mod tree;
 mod walks;
 
+pub use circ_ears::{EarList, ears};
 pub use circ_fabric::CircFabric;
 pub use fabric_map::FabricMap;
 pub use mapping::{CircEnd, CircMapped, map_circuit};

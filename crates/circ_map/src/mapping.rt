@@ -1,6 +1,8 @@
 //! The circuit map.
 
-ghost use Rattle.std.specs.Prelude.{◌≡◌, ◌<◌, ◌≤◌, true, length, IfOk};
+ghost use Rattle.std.specs.Prelude.{◌≡◌, ◌<◌, ◌≤◌, true, false, length, slice_get, Some, IfOk, OnOk};
+ghost use Rattle.journal_defs.specs.Tree.{IsJournal, is_asked};
+ghost use Rattle.probe.specs.Keeping.{with_entry};
 ghost use Rattle.class_joins.specs.Table.{IsTrueOfOne};
 ghost use Rattle.circ_map.specs.declared.mapping.CircEnd.{CircEnd};
 ghost use Rattle.circ_map.specs.Mapping.{HasInside, IsCoreWhereDeep, IsMappedBy, IsTreeMapped};
@@ -12,7 +14,7 @@ use crate::tree::Tree;
 use core_map::mark_core;
 use fabric_map::FabricMap;
 use map_canon::quotient;
-use probe::Journal;
+use probe::{Entry, Journal, JournalPush};
 use replicate_merge::Classes;
 use std::alloc::{AllocError, Global};
 
@@ -58,16 +60,19 @@ pub fn map_circuit<P: CircProber>(
     mapped(alloc, &tree, whole)
 }
 
-// The map of a tree that is whole, and how often was asked; no vertices where it isn't.
+// The map of a tree that is whole, and how often was asked; no vertices where it isn't, and then nothing is made of
+// what was found.
 fn mapped(alloc: Global, tree: &Tree, whole: bool) -> Result<CircMapped, AllocError>
-    requires true_of_one { whole ≡ true → IsTrueOfOne tree.now.found.host tree.now.found.entries }
-    requires few { whole ≡ true → length tree.now.found.entries < 4294967295 }
+    requires once { whole ≡ true → IsJournal tree.now.found.items }
+    requires true_of_one { whole ≡ true → IsTrueOfOne tree.now.host tree.now.found.items }
+    requires few { whole ≡ true → length tree.now.found.items < 4294967295 }
     ensures { IfOk result (λ m.
-        IsTreeMapped tree.now.found.host tree.now.found.entries tree.now.asks whole m.map m.asks m.end) }
+        IsTreeMapped tree.now.host tree.now.found.items tree.now.asks whole m.map m.asks m.end) }
 {
     if whole {
+        let found = journal_of(alloc, tree.host, &tree.found)?;
         Ok(CircMapped {
-            map: inside_of(alloc, &tree.found)?,
+            map: inside_of(alloc, &found)?,
             asks: tree.asks,
             end: CircEnd::Whole,
         })
@@ -77,6 +82,43 @@ fn mapped(alloc: Global, tree: &Tree, whole: bool) -> Result<CircMapped, AllocEr
             asks: tree.asks,
             end: CircEnd::Nodes,
         })
+    }
+}
+
+// The journal of what was found, which has its walks at hand.
+fn journal_of(alloc: Global, host: u16, found: &[Entry]) -> Result<Journal, AllocError>
+    requires { IsJournal found.now }
+    ensures { IfOk result (λ j. j ≡ record { host = host; entries = found.now }) }
+{
+    let mut journal = Journal::new(alloc, host);
+    for at in 0..found.len() {
+        let e = copied_at(alloc, found, at)?;
+        put(alloc, &mut journal, e)?;
+    }
+    Ok(journal)
+}
+
+// Another entry like the one at a place.
+fn copied_at(alloc: Global, found: &[Entry], at: usize) -> Result<Entry, AllocError>
+    requires { at < length found.now }
+    ensures { IfOk result (λ e. slice_get found.now at ≡ Some e) }
+{
+    let e = &found[at];
+    Ok(Entry {
+        walk: e.walk.copied(alloc)?,
+        answer: e.answer,
+    })
+}
+
+// Adds an entry whose walk isn't in the journal.
+fn put(alloc: Global, journal: &mut Journal, e: Entry) -> Result<(), AllocError>
+    requires { is_asked journal.old.entries e.walk ≡ false }
+    ensures { OnOk result (journal.new ≡ with_entry journal.old e) }
+{
+    match journal.push(alloc, e) {
+        Ok(()) => Ok(()),
+        Err((_, JournalPush::NoMemory)) => Err(AllocError),
+        Err((_, JournalPush::Known)) => unreachable!(),
     }
 }
 

@@ -1,47 +1,43 @@
 //! Walks that go on by a turn.
 
-ghost use Rattle.std.specs.Prelude.{◌≡◌, ◌≤◌, ◌<◌, ◌++◌, ◌∷◌, [], length, All, IfOk};
-ghost use Rattle.net_defs.specs.Turn.{IsTurn};
-ghost use Rattle.mapper.specs.Turns.{turn_at};
+ghost use Rattle.std.specs.Prelude.{◌≡◌, ◌<◌, ◌++◌, ◌∷◌, [], length, All, None, IfOk, OnOk};
+ghost use Rattle.net_defs.specs.Turn.{IsTurn, walk_refusal};
 
-use net_defs::Walk;
+use net_defs::{Walk, WalkFault};
 use std::alloc::{AllocError, Global};
 
-/// How many turns a node has.
-pub(crate) const TURNS: u8 = 30;
-
-/// The turn that is asked as number `step`, from 0: the turns rise from -15 to 15, without 0.
-pub(crate) fn turn_at(step: u8) -> i8
-    requires { step < 30 }
-    ensures value { result ≡ turn_at step }
-    ensures in_range { IsTurn result }
+/// The turns of a walk, with room for one more.
+pub(crate) fn with_room(alloc: Global, walk: &[i8]) -> Result<Vec<i8>, AllocError>
+    ensures { IfOk result (λ front. front.items ≡ walk.now) }
 {
-    if step < 15 {
-        step as i8 - 15
-    } else {
-        step as i8 - 14
-    }
+    let mut front = Vec::with_capacity(alloc, walk.len() + 1)?;
+    front.extend_from_slice(walk)?;
+    Ok(front)
 }
 
-/// The walk without turns.
-pub(crate) fn empty_walk(alloc: Global) -> Result<Walk, AllocError>
-    ensures { IfOk result (λ walk. walk ≡ []) }
+/// A walk with a turn more. The turns in front of it stay as they were.
+pub(crate) fn onward(alloc: Global, front: &mut Vec<i8>, turn: i8) -> Result<Walk, AllocError>
+    requires short { length front.old.items < 64 }
+    requires front { All IsTurn front.old.items }
+    requires turn { IsTurn turn }
+    ensures onward { IfOk result (λ walk. walk ≡ front.old.items ++ turn ∷ []) }
+    ensures same { OnOk result (front.new.items ≡ front.old.items) }
 {
-    match Walk::new(alloc, &[]) {
-        Ok(walk) => Ok(walk),
-        Err(_) => Err(AllocError),
-    }
+    front.push(turn)?;
+    let walk = walk_of(alloc, front)?;
+    let _turn = front.pop();
+    Ok(walk)
 }
 
-/// A walk with a turn more.
-pub(crate) fn onward(alloc: Global, front: &[i8], turn: i8) -> Result<Walk, AllocError>
-    ensures { IfOk result (λ walk. walk ≡ front.now ++ turn ∷ []) }
+// The walk of turns that are one.
+fn walk_of(alloc: Global, turns: &[i8]) -> Result<Walk, AllocError>
+    requires { walk_refusal turns.now ≡ None }
+    ensures { IfOk result (λ walk. walk ≡ turns.now) }
 {
-    let mut turns = Vec::with_capacity(alloc, front.len() + 1)?;
-    turns.extend_from_slice(front)?;
-    turns.push(turn)?;
-    match Walk::new(alloc, &turns) {
+    match Walk::new(alloc, turns) {
         Ok(walk) => Ok(walk),
-        Err(_) => Err(AllocError),
+        Err(WalkFault::NoMemory) => Err(AllocError),
+        Err(WalkFault::TooLong) => unreachable!(),
+        Err(WalkFault::TurnRange) => unreachable!(),
     }
 }

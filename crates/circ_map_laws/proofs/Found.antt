@@ -1,13 +1,12 @@
 -- What a journal found is enough for its map.
-use Rattle.std.proofs.Common.{◌≡◌, ◌≢◌, ℕ, List, [], ◌∷◌, ◌++◌, map, Bool, true, false, Option, Some, None, sym, ◌∙◌, subst, ap, refl, ◌⊎◌, inl, inr, if◌then◌else◌}
-use Rattle.std.specs.Prelude.{ℤ, pos, neg_ℤ, ◌+ℤ◌, ◌-ℤ◌}
+use Rattle.std.proofs.Common.{◌≡◌, ◌≢◌, ℕ, List, [], ◌∷◌, map, Bool, true, false, Option, Some, None, sym, ◌∙◌, subst, ap, refl, if◌then◌else◌}
+use Rattle.std.specs.Prelude.{ℤ, ◌+ℤ◌}
 use Rattle.std.specs.List.{AllByRecursion}
 use Rattle.std.proofs.lemmas.Bool.{false≢true}
 use Rattle.net_defs.specs.declared.place.Answer.{Answer}
 use Rattle.net_defs.specs.declared.place.Answer.TheVariants.{Host, Switch, Nothing}
 use Rattle.net_defs.specs.Turn.{same_turns}
 use Rattle.net_defs.proofs.Turns.{same_turns-true, same_turns-false}
-use Rattle.net_defs.proofs.Distinct.{all-weaker}
 use Rattle.journal_defs.specs.declared.entry.Entry.{Entry}
 use Rattle.journal_defs.specs.Tree.{Node, IsJournal, IsNode, Leads, answered, has_found, host_in, host_of, is_found, is_node}
 use Rattle.journal_defs.specs.Tree.Node.{Mapper, Reached}
@@ -15,7 +14,7 @@ use Rattle.journal_defs.specs.Tree.Leads.{onward, back as go_back, out, home}
 use Rattle.journal_defs.specs.Replicates.{Replicates}
 use Rattle.journal_defs.specs.Replicates.Replicates.{same, turned, along, one_host, behind}
 use Rattle.map_defs.specs.NetMap.{MapPort}
-use Rattle.map_defs.specs.Quotient.{IsQuotient, IsLeastNode, IsOfVertex, HasVertex, IsLed, named}
+use Rattle.map_defs.specs.Quotient.{IsOfVertex, IsLed, named}
 use Rattle.circ_defs.specs.Asking.{found_of}
 use Rattle.circ_map_laws.specs.Laws.{FoundIsEnough}
 

@@ -3,6 +3,9 @@ pub mod Ends
 pub mod Found
 pub mod Inside
 pub mod Numbering
+pub mod OneCircuit
+pub mod OneTree
 pub mod Outside
+pub mod Ruled
 pub mod Sides
 pub mod TwoHosts

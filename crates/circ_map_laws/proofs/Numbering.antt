@@ -36,7 +36,7 @@ module _ (m k : NetMap) (s : IsWithoutOutside m k) where
   image : ℕ → ℕ
   image v = number_at (slice_get s.kept v)
 
-  count : length k.vertices ≡ length s.kept
+  pub count : length k.vertices ≡ length s.kept
   count = ap length s.vertices ∙ named-length 0 (map (host_of_vertex m) s.kept) ∙ length-map s.kept (host_of_vertex m)
 
   image-is : (v u : ℕ) → slice_get s.kept v ≡ Some u → number_at (slice_get s.kept v) ≡ u
@@ -48,7 +48,7 @@ module _ (m k : NetMap) (s : IsWithoutOutside m k) where
       let u = below-get s.kept v (omega arith) in
       u.1 ∙ ap (λ o. Some (number_at o)) (sym u.1)
 
-  one-place : (v w u : ℕ) → slice_get s.kept v ≡ Some u → slice_get s.kept w ≡ Some u → v ≡ w
+  pub one-place : (v w u : ℕ) → slice_get s.kept v ≡ Some u → slice_get s.kept w ≡ Some u → v ≡ w
   one-place v w u a b = by (cases_order v w)
     where
       by : (v ≡ w) ⊎ ((v < w) ⊎ (w < v)) → v ≡ w
@@ -56,7 +56,7 @@ module _ (m k : NetMap) (s : IsWithoutOutside m k) where
       by (inr (inl l)) = let x = s.in_order v w u u l a b in absurd (omega arith)
       by (inr (inr l)) = let x = s.in_order w v u u l b a in absurd (omega arith)
 
-  host-is : (v u : ℕ) → slice_get s.kept v ≡ Some u → host_of_vertex k v ≡ host_of_vertex m u
+  pub host-is : (v u : ℕ) → slice_get s.kept v ≡ Some u → host_of_vertex k v ≡ host_of_vertex m u
   host-is v u e = ap (λ vs. host_at (slice_get vs v)) s.vertices ∙ named-host 0 (map (host_of_vertex m) s.kept) v (host_of_vertex m u) (get-map (host_of_vertex m) s.kept v u e)
 
   on : (v w : ℕ) (p q : ℤ) → v < length k.vertices → w < length k.vertices → IsCabled k (record { v = v; p = p }) (record { v = w; p = q }) → IsCabled m (record { v = number_at (slice_get s.kept v); p = p +ℤ pos 0 }) (record { v = number_at (slice_get s.kept w); p = q +ℤ pos 0 })

@@ -1,13 +1,15 @@
--- The circuit map is the core of the mapper's part, where the tree is as deep as a path list asks.
-use Rattle.std.specs.Prelude.{ℕ, ◌≤◌, List}
+-- The circuit map is the core of the mapper's part, where the tree is as deep as a path list asks. It is one, and keeps
+-- the rules of maps.
+use Rattle.std.specs.Prelude.{◌≡◌, ◌⊎◌, ℕ, ◌≤◌, List}
 use Rattle.net_defs.specs.Network.{Network, IsFabric}
 use Rattle.journal_defs.specs.declared.entry.Entry.{Entry}
 use Rattle.journal_defs.specs.Tree.{IsJournal}
-use Rattle.map_defs.specs.NetMap.{NetMap}
+use Rattle.journal_defs.specs.Growth.{IsEndedAtLimit}
+use Rattle.map_defs.specs.NetMap.{NetMap, IsMap}
 use Rattle.map_defs.specs.Quotient.{IsQuotient}
 use Rattle.map_defs.specs.Sameness.{IsSame}
 use Rattle.circ_defs.specs.Circuit.{IsWholeTree}
-use Rattle.circ_defs.specs.Asking.{found_of}
+use Rattle.circ_defs.specs.Asking.{IsTreeGrowing, IsTreeEnded, found_of}
 use Rattle.circ_defs.specs.PathList.{Ear, most_back}
 use Rattle.circ_defs.specs.Cores.{ArePathsOfCore}
 use Rattle.circ_defs.specs.CircuitMap.{graph_of_inside, graph_of_core, IsCircuitMap, IsMapOfCore}
@@ -28,3 +30,22 @@ CircuitMapIsCore = (n : Network) (host depth : ℕ) (j : List Entry) (es : List 
 abbrev pub FoundIsEnough : Type 0
 FoundIsEnough = (host : ℕ) (j : List Entry) (m : NetMap) → IsJournal j → IsQuotient host (found_of j) m
     → IsQuotient host j m
+
+-- the asking of a tree ends: each walk of it is asked, or the limit of nodes is passed
+abbrev pub IsTreeStopped : ℕ → List Entry → Type 0
+IsTreeStopped depth j = IsTreeEnded depth j ⊎ IsEndedAtLimit j
+
+-- The tree is asked in one way: two journals that were asked in order until the asking ended are one.
+abbrev pub TreeIsOne : Type 0
+TreeIsOne = (n : Network) (host depth : ℕ) (j l : List Entry) → IsTreeGrowing n host depth j
+    → IsTreeGrowing n host depth l → IsTreeStopped depth j → IsTreeStopped depth l → j ≡ l
+
+-- A tree has one circuit map.
+abbrev pub CircuitMapIsOne : Type 0
+CircuitMapIsOne = (n : Network) (host depth : ℕ) (j : List Entry) (k l : NetMap) → IsCircuitMap n host depth j k
+    → IsCircuitMap n host depth j l → k ≡ l
+
+-- The circuit map keeps the rules of maps, whatever the depth.
+abbrev pub CircuitMapIsMap : Type 0
+CircuitMapIsMap = (n : Network) (host depth : ℕ) (j : List Entry) (k : NetMap) → IsFabric n
+    → IsCircuitMap n host depth j k → IsMap k

@@ -13,11 +13,14 @@
 //! The proof, in the order of its files in `proofs/`: `Sides` (what outside means in a map), `Ends` (cables of the
 //! map and cables of the fabric), `Outside` (what is cut off is outside), `Inside` (the core is not), `Assembly`
 //! (what is inside is the core), `Numbering` (and so is the map that is numbered anew); and
-//! `Found` (what a journal found is enough for its map).
+//! `Found` (what a journal found is enough for its map). Whatever the depth, a fabric has one tree (`OneTree`) and one
+//! circuit map of it (`OneCircuit`), which keeps the rules of maps (`Ruled`).
 #![tactic(auto)]
 
 mod examples;
 mod laws;
 
 pub use examples::circuit_map_of_two_hosts;
-pub use laws::{circuit_map_is_the_core, found_entries_are_enough};
+pub use laws::{
+    circuit_map_is_the_core, circuit_maps_are_maps, circuit_maps_are_one, found_entries_are_enough,
+};

@@ -1,9 +1,10 @@
 -- What a join of two classes asks of the tables of any journal, and that the tables stay a journal's.
-use Rattle.std.proofs.Common.{◌≡◌, ◌≢◌, ◌<◌, ◌≤◌, ℕ, ◌*◌, List, [], ◌∷◌, ◌++◌, length, None, sym, ◌∙◌, subst, arith}
+use Rattle.std.proofs.Common.{◌≡◌, ◌≢◌, ◌<◌, ◌≤◌, ℕ, ◌*◌, List, [], ◌∷◌, ◌++◌, length, None, ap, sym, ◌∙◌, subst, arith}
 use Rattle.std.specs.Prelude.{ℤ, ◌+ℤ◌, slice_get, Some}
 use Rattle.net_defs.specs.Turn.{IsTurn}
 use Rattle.journal_defs.specs.declared.entry.Entry.{Entry}
 use Rattle.journal_defs.specs.Tree.{Node}
+use Rattle.port_align.specs.declared.frame.ClassFrame.{ClassFrame}
 use Rattle.class_joins.specs.declared.meeting.HostNode.{HostNode}
 use Rattle.class_joins.specs.declared.meeting.Meeting.{Meeting}
 use Rattle.class_joins.specs.declared.settling.Joined.{Joined}
@@ -22,6 +23,8 @@ use Rattle.class_joins.proofs.Steps.{CanPair, can-pair, pair-range, pair-small, 
 pub record AsksOfJoin (ns : List Node) (t : Joined) (from to : ℕ) (by : ℤ) : Type 0 where
   pub is_from : from < length t.frames.items
   pub is_to : to < length t.frames.items
+  pub names_from : (frame_at t.frames.items from).class ≡ from
+  pub names_to : (frame_at t.frames.items to).class ≡ to
   pub table : 31 * length t.frames.items ≤ length t.ends.items
   pub headed : length t.heads.heads.items ≡ length t.frames.items
   pub walked : length t.frames.items ≡ length ns
@@ -71,6 +74,8 @@ module _ (ns : List Node) (t : Joined) (rest : List Meeting) (m : Meeting) where
         record {
           is_from = (let l = c.is_from in omega arith);
           is_to = (let l = c.is_to in omega arith);
+          names_from = ap (λ (f : ClassFrame). f.class) c.from_root;
+          names_to = ap (λ (f : ClassFrame). f.class) c.to_root;
           table = (let l = s.table in omega arith);
           headed = headed ∙ sym framed;
           walked = framed;

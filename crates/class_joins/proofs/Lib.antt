@@ -13,6 +13,7 @@ pub mod Nodes
 pub mod Numbers
 pub mod Pairs
 pub mod Ranges
+pub mod Rings
 pub mod Rounds
 pub mod Shapes
 pub mod Steps

@@ -8,6 +8,7 @@ pub mod Kept
 pub mod Longer
 pub mod Nodes
 pub mod Places
+pub mod Rings
 pub mod Rounds
 pub mod Spots
 pub mod Steps

@@ -8,11 +8,12 @@ use Rattle.class_joins.specs.declared.way.Way.{Way}
 use Rattle.class_joins.specs.Ways.{Has, IsWay, frame_at, own_frame}
 use Rattle.class_joins.specs.Heads.{head_at, own_head}
 use Rattle.class_joins.specs.Places.{AddsPlaces}
+use Rattle.class_joins.specs.Rings.{HasFrameRoom}
 use Rattle.class_joins.specs.Rounds.{IsSettlingIn}
 
 -- There is room for one node more.
 pub record HasRoomForNode (t : Joined) : Type 0 where
-  pub frames : vec_len t.frames < vec_capacity t.frames
+  pub frames : HasFrameRoom t.frames
   pub ends : vec_len t.ends + 31 ≤ vec_capacity t.ends
   pub heads : vec_len t.heads.heads < vec_capacity t.heads.heads
   pub names : vec_len t.heads.names < vec_capacity t.heads.names

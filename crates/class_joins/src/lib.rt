@@ -12,14 +12,16 @@
 //! | `settling` | classes joined until no pair is open |
 //! | `adding` | ways learnt, or put onto the work list |
 //! | `ends` | far ends by class and port |
+//! | `frames` | frames of nodes, and the nodes of each class in a ring |
 //! | `heads` | numbers, least nodes and marks of classes |
 //! | `meeting` | pairs of ports that are one |
-//! | `merging` | frames of a class moved to another |
+//! | `merging` | the order of nodes |
 //! | `order` | the order of walks |
 #![tactic(auto)]
 
 mod adding;
 mod ends;
+mod frames;
 mod heads;
 mod meeting;
 mod merging;
@@ -27,6 +29,7 @@ mod order;
 mod settling;
 mod way;
 
+pub use frames::Frames;
 pub use heads::{Head, Heads};
 pub use meeting::{HostNode, Meeting, NodePort};
 pub use settling::Joined;

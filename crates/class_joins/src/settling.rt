@@ -17,9 +17,9 @@ ghost use Rattle.class_joins.specs.Adding.{AddsEnd, IsTurnSpot, known_at};
 
 use crate::adding::{add_end, add_host, far_end};
 use crate::ends::{PLACES, add_places, move_ends};
+use crate::frames::Frames;
 use crate::heads::{Head, Heads};
 use crate::meeting::{HostNode, Meeting, NodePort};
-use crate::merging::join;
 use crate::way::{Spot, Way, begins_at};
 use port_align::ClassFrame;
 use probe::WalkIndex;
@@ -29,7 +29,7 @@ use std::alloc::{AllocError, Global};
 #[derive(Drop)]
 pub struct Joined {
     /// The frame of each node: its class, by the node that names it, and its offset there.
-    pub frames: Vec<ClassFrame>,
+    pub frames: Frames,
     /// The far end that is known of each port of a class, 31 ports a node that may name one.
     pub ends: Vec<Option<NodePort>>,
     /// The node that is known of each host's address.
@@ -46,7 +46,7 @@ impl Joined {
         ensures { HasNoNodes result }
     {
         Joined {
-            frames: Vec::new(alloc),
+            frames: Frames::new(alloc),
             ends: Vec::new(alloc),
             hosts: Vec::new(alloc),
             todo: Vec::new(alloc),
@@ -69,7 +69,7 @@ impl Joined {
             vec_capacity self.new.todo) }
     {
         let classes = self.heads.names.len();
-        self.frames.reserve(1)?;
+        self.frames.reserve()?;
         self.ends.reserve(PLACES)?;
         self.hosts.reserve(ways)?;
         self.heads.heads.reserve(1)?;
@@ -86,11 +86,7 @@ impl Joined {
         requires few_names { length self.old.heads.names.items < 2 ^ 32 }
         ensures { AddsNode marked self.old self.new }
     {
-        let node = self.frames.len() as u32;
-        self.frames.push_reserved(ClassFrame {
-            class: node,
-            offset: 0,
-        });
+        self.frames.add();
         add_places(&mut self.ends);
         self.heads.add(marked);
     }
@@ -117,7 +113,7 @@ impl Joined {
         ensures host_capacity { vec_capacity self.new.hosts ≡ vec_capacity self.old.hosts }
     {
         let end = far_end(way);
-        match begins_at(&self.frames, way) {
+        match begins_at(self.frames.items(), way) {
             Spot::Address(address) => add_host(&mut self.hosts, &mut self.todo, address, end.node),
             Spot::Port(class, port) => add_end(&mut self.ends, &mut self.todo, class, port, end),
         }
@@ -164,7 +160,7 @@ impl Joined {
             length self.old.heads.marks.items }
         ensures { MarksNode node self.old self.new }
     {
-        self.heads.mark(self.frames[node as usize].class);
+        self.heads.mark(self.frames.at(node).class);
     }
 
     /// The class of a node by its number, and where the node's ports lie among those of the class's least node.
@@ -174,7 +170,7 @@ impl Joined {
         requires turn { IsTurn (seen_frame self.now.heads.heads.items (frame_at self.now.frames.items node)).offset }
         ensures { result ≡ seen_frame self.now.heads.heads.items (frame_at self.now.frames.items node) }
     {
-        let frame = self.frames[node as usize];
+        let frame = self.frames.at(node);
         let head = self.heads.heads[frame.class as usize];
         ClassFrame {
             class: head.number,
@@ -217,6 +213,8 @@ impl Joined {
         requires two { from ≢ to }
         requires is_from { from < length self.old.frames.items }
         requires is_to { to < length self.old.frames.items }
+        requires names_from { (frame_at self.old.frames.items from).class ≡ from }
+        requires names_to { (frame_at self.old.frames.items to).class ≡ to }
         requires table { 31 * length self.old.frames.items ≤ length self.old.ends.items }
         requires headed { length self.old.heads.heads.items ≡ length self.old.frames.items }
         requires walked { length self.old.frames.items ≡ length walks.now + 1 }
@@ -250,7 +248,7 @@ impl Joined {
     {
         self.heads.join(walks, from, to, by);
         move_ends(&mut self.ends, &mut self.todo, from, to, by);
-        join(&mut self.frames, from, to, i32::from(by));
+        self.frames.join(from, to, i32::from(by));
     }
 }
 
@@ -264,7 +262,7 @@ pub(crate) struct Joining {
 
 // Which class of two ports that are one is joined to the other: the one with fewer nodes. None where the two are
 // one class.
-fn oriented(frames: &Vec<ClassFrame>, heads: &Vec<Head>, meeting: Meeting) -> Option<Joining>
+fn oriented(frames: &Frames, heads: &Vec<Head>, meeting: Meeting) -> Option<Joining>
     requires first { meeting.first.node < length frames.now.items }
     requires second { meeting.second.node < length frames.now.items }
     requires placed { (n : ℕ) → n < length frames.now.items → (frame_at frames.now.items n).class <
@@ -272,8 +270,8 @@ fn oriented(frames: &Vec<ClassFrame>, heads: &Vec<Head>, meeting: Meeting) -> Op
     ensures none { result ≡ None → class_at frames.now.items meeting.first ≡ class_at frames.now.items meeting.second }
     ensures some { IfSome result (λ way. IsOriented frames.now.items meeting way.from way.to way.by) }
 {
-    let first = frame_of(frames, meeting.first.node);
-    let second = frame_of(frames, meeting.second.node);
+    let first = frames.at(meeting.first.node);
+    let second = frames.at(meeting.second.node);
     if first.class == second.class {
         return None;
     }
@@ -289,14 +287,6 @@ fn oriented(frames: &Vec<ClassFrame>, heads: &Vec<Head>, meeting: Meeting) -> Op
         to: first.class,
         by: apart(first, meeting.first.port, second, meeting.second.port),
     })
-}
-
-// The frame of a node.
-fn frame_of(frames: &Vec<ClassFrame>, node: u32) -> ClassFrame
-    requires { node < length frames.now.items }
-    ensures { result ≡ frame_at frames.now.items node }
-{
-    frames[node as usize]
 }
 
 // How far a port of one class lies from a port of another, with the ports as those of two nodes.

@@ -10,12 +10,12 @@
 #![tactic(auto)]
 
 ghost use Rattle.std.specs.Prelude.{◌≡◌, ◌<◌, ◌≤◌};
-ghost use Rattle.net_defs.specs.Route.{leaving_port};
 ghost use Rattle.packet_defs.specs.Packet.{difference};
 ghost use Rattle.link_defs.specs.Switch.{aim, aim_of, after_aim};
 
 pub use link_defs::Turned;
 use myri_packet::Packet;
+use net_defs::leaving_port;
 
 /// Where a switch of P ports sends a packet that entered by a port: by the turn in front of its head. P is 4, 8 or 16.
 pub fn aim<const P: usize>(entry: u8, p: &Packet) -> Turned
@@ -50,21 +50,8 @@ fn aim_by<const P: usize>(entry: u8, turn: i8) -> Turned
     requires few { P ≤ 16 }
     ensures { result ≡ aim_of P entry (Some turn) }
 {
-    match leaving_port::<P>(entry, turn) {
+    match leaving_port(P as u8, entry, turn) {
         Some(port) => Turned::Out(port),
         None => Turned::OutOfRange,
-    }
-}
-
-// The port that a turn leaves by.
-fn leaving_port<const P: usize>(entry: u8, turn: i8) -> Option<u8>
-    requires few { P ≤ 16 }
-    ensures { result ≡ leaving_port P entry turn }
-{
-    let port = i16::from(entry) + i16::from(turn);
-    if 0 <= port && port < P as i16 {
-        Some(port as u8)
-    } else {
-        None
     }
 }

@@ -181,10 +181,7 @@ fn stage(
     ensures fabric { fabric_of w.new ≡ fabric_of w.old }
     ensures hosts { host_count w.new ≡ host_count w.old }
 {
-    let walk = match Walk::new(alloc, walk.turns()) {
-        Ok(walk) => walk,
-        Err(_) => return Err(AllocError),
-    };
+    let walk = walk.copied(alloc)?;
     happen(alloc, w, Event::Ask { host, walk, looped })
 }
 

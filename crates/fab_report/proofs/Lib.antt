@@ -1,3 +1,4 @@
+mod Hexadecimal
 pub mod Printing
 pub mod Summaries
 pub mod Writing

@@ -10,7 +10,8 @@ use Rattle.world_defs.specs.declared.effect.Said.TheVariants.{Received}
 use Rattle.run_defs.specs.declared.line.StepWords.{StepWords}
 use Rattle.run_defs.specs.declared.line.StepWords.TheVariants.{Moved, Blocked, Arrived, Replayed}
 use Rattle.run_defs.specs.declared.line.Line.{Line}
-use Rattle.run_defs.specs.declared.line.Line.TheVariants.{Walk, Map, MapBusy, Route, Rank, Table, Client, Tokens, Step}
+use Rattle.run_defs.specs.declared.line.Line.TheVariants.{Walk, Map, MapBusy, Circuit, CircuitNodes, Route, Rank}
+use Rattle.run_defs.specs.declared.line.Line.TheVariants.{Table, Client, Tokens, Step}
 
 -- a host of the fabric
 abbrev pub IsHost : Network → ℕ → Type 0
@@ -39,6 +40,8 @@ abbrev pub AreThere : Network → Line → Type 0
 AreThere n (Walk place) = IsPlaceOf n place
 AreThere n (Map host words asks packets) = IsHost n host
 AreThere n (MapBusy host) = IsHost n host
+AreThere n (Circuit host depth asks) = IsHost n host
+AreThere n (CircuitNodes host asks) = IsHost n host
 AreThere n (Route from to walk) = IsHost n from × IsHost n to
 AreThere n (Rank v p rank) = IsVertexOf n v
 AreThere n (Table host active) = IsHost n host

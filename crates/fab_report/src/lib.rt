@@ -12,16 +12,17 @@
 //! |---|---|
 //! | `line` | the call, and the lines of a few words |
 //! | `mapping` | the lines of maps, routes and ranks |
+//! | `circuit` | the lines of a map of circuit links |
 //! | `client` | what a client's call was answered |
 //! | `step` | what one event did |
 //! | `places` | where tokens are |
 //! | `generated` | the lines that a generated run alone has |
 //! | `printed` | what a command printed: a text, and its figure for a summary |
 //! | `summary` | the summary of a run |
-//! | `append` | parts of a text, one after another |
+//! | `words` | the words of turns, vertices and bytes |
 #![tactic(auto)]
 
-mod append;
+mod circuit;
 mod client;
 mod generated;
 mod line;
@@ -30,8 +31,9 @@ mod places;
 mod printed;
 mod step;
 mod summary;
+mod words;
 
-pub use line::print_line;
+pub use line::{print_line, print_line_onto, print_route_onto};
 pub use printed::Printed;
 pub use run_defs::{
     ClientCall, Figure, InstallCause, Line, MapWords, PlaceEntry, PlaceList, StepWords,

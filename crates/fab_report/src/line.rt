@@ -5,16 +5,21 @@ ghost use Rattle.net_defs.specs.Route.{IsPlaceOf};
 ghost use Rattle.fab_text.specs.Written.{spaced};
 ghost use Rattle.fab_text.specs.Fault.{kind_word};
 ghost use Rattle.run_defs.specs.LineText.{install_cause, line_text, words_in};
+ghost use Rattle.run_defs.specs.Run.{route_line};
 ghost use Rattle.run_defs.specs.declared.line.Line.TheVariants.{Walk, Table};
 ghost use Rattle.fab_report.specs.There.{AreThere, IsHost};
 
-use crate::append::append;
+use crate::circuit::{circuit_line, circuit_nodes_line};
 use crate::client::client_line;
 use crate::generated::{FabricSize, gen_count_line, gen_line, gen_map_line};
 use crate::mapping::{busy_line, map_line, rank_line, route_line, routes_line};
 use crate::places::tokens_line;
 use crate::step::step_line;
 use fab_text::FaultKind;
+use itoa::Buffer;
+use line_writing::Word::{Number, Text};
+use line_writing::append_words;
+use net_defs::Route;
 use port_graph::{Fabric, Place, Vertex};
 use run_defs::{InstallCause, Line};
 use std::alloc::{AllocError, Global};
@@ -26,54 +31,76 @@ pub fn print_line(alloc: Global, l: &Line, f: &Fabric) -> Result<Vec<u8>, AllocE
     ensures text { IfOk result (λ text. text.items ≡ line_text f.now l.now) }
 {
     let mut text = Vec::new(alloc);
-    append_line(alloc, &mut text, l, f)?;
-    text.push(b'\n')?;
+    print_line_onto(&mut text, l, f)?;
     Ok(text)
 }
 
+/// The same behind a text. Where memory is wanting, a part of the line may stand there.
+pub fn print_line_onto(text: &mut Vec<u8>, l: &Line, f: &Fabric) -> Result<(), AllocError>
+    requires there { AreThere f.now l.now }
+    ensures text { OnOk result (text.new.items ≡ text.old.items ++ line_text f.now l.now) }
+{
+    append_line(text, l, f)?;
+    text.push(b'\n')?;
+    Ok(())
+}
+
+/// The line of a route behind a text, without a copy of its walk. Where memory is wanting, a part of the line may
+/// stand there.
+pub fn print_route_onto(text: &mut Vec<u8>, r: &Route, f: &Fabric) -> Result<(), AllocError>
+    requires there { AreThere f.now (route_line r.now) }
+    ensures text { OnOk result (text.new.items ≡ text.old.items ++ line_text f.now (route_line r.now)) }
+{
+    route_line(text, f, r.from, r.to, r.walk.turns())?;
+    text.push(b'\n')?;
+    Ok(())
+}
+
 // The words of a line, by its kind.
-fn append_line(alloc: Global, text: &mut Vec<u8>, l: &Line, f: &Fabric) -> Result<(), AllocError>
+fn append_line(text: &mut Vec<u8>, l: &Line, f: &Fabric) -> Result<(), AllocError>
     requires there { AreThere f.now l.now }
     ensures { OnOk result (text.new.items ≡ text.old.items ++ spaced (words_in f.now l.now)) }
 {
     match l {
-        Line::Refused { line, kind } => refused_line(alloc, text, *line, *kind),
-        Line::Walk(place) => walk_line(alloc, text, f, *place),
+        Line::Refused { line, kind } => refused_line(text, *line, *kind),
+        Line::Walk(place) => walk_line(text, f, *place),
         Line::Map {
             host,
             words,
             asks,
             packets,
-        } => map_line(alloc, text, f, *host, *words, *asks, *packets),
+        } => map_line(text, f, *host, *words, *asks, *packets),
         Line::MapBusy(host) => busy_line(text, f, *host),
-        Line::Routes(count) => routes_line(alloc, text, *count),
-        Line::Route { from, to, walk } => route_line(alloc, text, f, *from, *to, walk.turns()),
-        Line::Rank { v, p, rank } => rank_line(alloc, text, f, *v, *p, *rank),
-        Line::EndRoutes => append(text, &[b"endroutes"]),
-        Line::NoMap => append(text, &[b"routes refused nomap"]),
-        Line::Installed { acked, of } => installed_line(alloc, text, *acked, *of),
+        Line::Circuit { host, depth, asks } => circuit_line(text, f, *host, *depth, *asks),
+        Line::CircuitNodes { host, asks } => circuit_nodes_line(text, f, *host, *asks),
+        Line::Routes(count) => routes_line(text, *count),
+        Line::Route { from, to, walk } => route_line(text, f, *from, *to, walk.turns()),
+        Line::Rank { v, p, rank } => rank_line(text, f, *v, *p, *rank),
+        Line::EndRoutes => append_words(text, &[Text(b"endroutes")]),
+        Line::NoMap => append_words(text, &[Text(b"routes"), Text(b"refused"), Text(b"nomap")]),
+        Line::Installed { acked, of } => installed_line(text, *acked, *of),
         Line::Table { host, active } => table_line(text, f, *host, *active),
-        Line::InstallRefused(cause) => append(text, &[b"install refused ", install_word(*cause)]),
+        Line::InstallRefused(cause) => install_refused_line(text, *cause),
         Line::Client {
             call,
             host,
             port,
             said,
-        } => client_line(alloc, text, f, *call, *host, *port, said),
+        } => client_line(text, f, *call, *host, *port, said),
         Line::Tokens {
             host,
             port,
             sends,
             recvs,
-        } => tokens_line(alloc, text, f, *host, *port, sends.list(), recvs.list()),
-        Line::PlanAt(number) => plan_line(alloc, text, *number),
-        Line::Step(words) => step_line(alloc, text, f, *words),
+        } => tokens_line(text, f, *host, *port, sends.list(), recvs.list()),
+        Line::PlanAt(number) => plan_line(text, *number),
+        Line::Step(words) => step_line(text, f, *words),
         Line::Settle {
             rounds,
             resets,
             unacked,
-        } => settle_line(alloc, text, *rounds, *resets, *unacked),
-        Line::Finish { injected, dropped } => end_line(alloc, text, *injected, *dropped),
+        } => settle_line(text, *rounds, *resets, *unacked),
+        Line::Finish { injected, dropped } => end_line(text, *injected, *dropped),
         Line::GenHead {
             n,
             seed,
@@ -81,7 +108,6 @@ fn append_line(alloc: Global, text: &mut Vec<u8>, l: &Line, f: &Fabric) -> Resul
             switches,
             cables,
         } => gen_line(
-            alloc,
             text,
             *n,
             *seed,
@@ -95,52 +121,48 @@ fn append_line(alloc: Global, text: &mut Vec<u8>, l: &Line, f: &Fabric) -> Resul
             words,
             asks,
             packets,
-        } => gen_map_line(alloc, text, *words, *asks, *packets),
-        Line::GenCount { accepted, received } => gen_count_line(alloc, text, *accepted, *received),
+        } => gen_map_line(text, *words, *asks, *packets),
+        Line::GenCount { accepted, received } => gen_count_line(text, *accepted, *received),
     }
 }
 
 // `refused LINE KIND`
-fn refused_line(
-    alloc: Global,
-    text: &mut Vec<u8>,
-    line: u32,
-    kind: FaultKind,
-) -> Result<(), AllocError>
+fn refused_line(text: &mut Vec<u8>, line: u32, kind: FaultKind) -> Result<(), AllocError>
     ensures { OnOk result (text.new.items ≡ text.old.items
         ++ spaced (codes "refused" ∷ decimal line ∷ kind_word kind ∷ [])) }
 {
-    let line = line.to_string(alloc)?;
-    append(text, &[b"refused ", line.as_bytes(), b" ", kind.word()])
+    let line = Number(u64::from(line));
+    append_words(text, &[Text(b"refused"), line, Text(kind.word())])
 }
 
 // `walk host NAME`, `walk switch NAME port P`, `walk nothing`
-fn walk_line(alloc: Global, text: &mut Vec<u8>, f: &Fabric, place: Place) -> Result<(), AllocError>
+fn walk_line(text: &mut Vec<u8>, f: &Fabric, place: Place) -> Result<(), AllocError>
     requires { IsPlaceOf f.now place }
     ensures { OnOk result (text.new.items ≡ text.old.items ++ spaced (words_in f.now (Walk place))) }
 {
+    let walk = Text(b"walk");
     match place {
-        Place::Host(h) => append(text, &[b"walk host ", f.name_of(Vertex::Host(h))]),
-        Place::Switch(s, p) => {
-            let port = p.to_string(alloc)?;
-            let name = f.name_of(Vertex::Switch(s));
-            append(text, &[b"walk switch ", name, b" port ", port.as_bytes()])
+        Place::Host(h) => {
+            let name = Text(f.name_of(Vertex::Host(h)));
+            append_words(text, &[walk, Text(b"host"), name])
         }
-        Place::Nothing => append(text, &[b"walk nothing"]),
+        Place::Switch(s, p) => {
+            let name = Text(f.name_of(Vertex::Switch(s)));
+            let port = Number(u64::from(p));
+            append_words(text, &[walk, Text(b"switch"), name, Text(b"port"), port])
+        }
+        Place::Nothing => append_words(text, &[walk, Text(b"nothing")]),
     }
 }
 
 // `installed K of N`
-fn installed_line(alloc: Global, text: &mut Vec<u8>, acked: u16, of: u16) -> Result<(), AllocError>
+fn installed_line(text: &mut Vec<u8>, acked: u16, of: u16) -> Result<(), AllocError>
     ensures { OnOk result (text.new.items ≡ text.old.items
         ++ spaced (codes "installed" ∷ decimal acked ∷ codes "of" ∷ decimal of ∷ [])) }
 {
-    let acked = acked.to_string(alloc)?;
-    let of = of.to_string(alloc)?;
-    append(
-        text,
-        &[b"installed ", acked.as_bytes(), b" of ", of.as_bytes()],
-    )
+    let acked = Number(u64::from(acked));
+    let of = Number(u64::from(of));
+    append_words(text, &[Text(b"installed"), acked, Text(b"of"), of])
 }
 
 // `table H active`, `table H none`
@@ -148,12 +170,21 @@ fn table_line(text: &mut Vec<u8>, f: &Fabric, host: u16, active: bool) -> Result
     requires { IsHost f.now host }
     ensures { OnOk result (text.new.items ≡ text.old.items ++ spaced (words_in f.now (Table host active))) }
 {
-    let name = f.name_of(Vertex::Host(host));
+    let name = Text(f.name_of(Vertex::Host(host)));
     if active {
-        append(text, &[b"table ", name, b" active"])
+        append_words(text, &[Text(b"table"), name, Text(b"active")])
     } else {
-        append(text, &[b"table ", name, b" none"])
+        append_words(text, &[Text(b"table"), name, Text(b"none")])
     }
+}
+
+// `install refused CAUSE`
+fn install_refused_line(text: &mut Vec<u8>, cause: InstallCause) -> Result<(), AllocError>
+    ensures { OnOk result (text.new.items ≡ text.old.items
+        ++ spaced (codes "install" ∷ codes "refused" ∷ install_cause cause ∷ [])) }
+{
+    let cause = Text(install_word(cause));
+    append_words(text, &[Text(b"install"), Text(b"refused"), cause])
 }
 
 // Why routes aren't installed.
@@ -168,61 +199,48 @@ fn install_word(cause: InstallCause) -> &'static [u8]
 }
 
 // `plan at N`
-fn plan_line(alloc: Global, text: &mut Vec<u8>, number: u128) -> Result<(), AllocError>
+fn plan_line(text: &mut Vec<u8>, number: u128) -> Result<(), AllocError>
     ensures { OnOk result (text.new.items ≡ text.old.items
         ++ spaced (codes "plan" ∷ codes "at" ∷ decimal number ∷ [])) }
 {
-    let number = number.to_string(alloc)?;
-    append(text, &[b"plan at ", number.as_bytes()])
+    let mut buffer = Buffer::new();
+    let number = Text(buffer.format(number).as_bytes());
+    append_words(text, &[Text(b"plan"), Text(b"at"), number])
 }
 
 // `settle rounds R resets N unacked U`
-fn settle_line(
-    alloc: Global,
-    text: &mut Vec<u8>,
-    rounds: u64,
-    resets: u64,
-    unacked: u64,
-) -> Result<(), AllocError>
+fn settle_line(text: &mut Vec<u8>, rounds: u64, resets: u64, unacked: u64) -> Result<(), AllocError>
     ensures { OnOk result (text.new.items ≡ text.old.items
         ++ spaced (codes "settle" ∷ codes "rounds" ∷ decimal rounds ∷ codes "resets" ∷ decimal resets
         ∷ codes "unacked" ∷ decimal unacked ∷ [])) }
 {
-    let rounds = rounds.to_string(alloc)?;
-    let resets = resets.to_string(alloc)?;
-    let unacked = unacked.to_string(alloc)?;
-    append(
+    append_words(
         text,
         &[
-            b"settle rounds ",
-            rounds.as_bytes(),
-            b" resets ",
-            resets.as_bytes(),
-            b" unacked ",
-            unacked.as_bytes(),
+            Text(b"settle"),
+            Text(b"rounds"),
+            Number(rounds),
+            Text(b"resets"),
+            Number(resets),
+            Text(b"unacked"),
+            Number(unacked),
         ],
     )
 }
 
 // `end injected N dropped M`
-fn end_line(
-    alloc: Global,
-    text: &mut Vec<u8>,
-    injected: u64,
-    dropped: u64,
-) -> Result<(), AllocError>
+fn end_line(text: &mut Vec<u8>, injected: u64, dropped: u64) -> Result<(), AllocError>
     ensures { OnOk result (text.new.items ≡ text.old.items
         ++ spaced (codes "end" ∷ codes "injected" ∷ decimal injected ∷ codes "dropped" ∷ decimal dropped ∷ [])) }
 {
-    let injected = injected.to_string(alloc)?;
-    let dropped = dropped.to_string(alloc)?;
-    append(
+    append_words(
         text,
         &[
-            b"end injected ",
-            injected.as_bytes(),
-            b" dropped ",
-            dropped.as_bytes(),
+            Text(b"end"),
+            Text(b"injected"),
+            Number(injected),
+            Text(b"dropped"),
+            Number(dropped),
         ],
     )
 }

@@ -5,16 +5,17 @@ ghost use Rattle.fab_text.specs.Written.{spaced};
 ghost use Rattle.run_defs.specs.LineText.{place_text, place_word, words_in};
 ghost use Rattle.run_defs.specs.declared.line.Line.TheVariants.{Tokens};
 ghost use Rattle.fab_report.specs.There.{IsHost};
+ghost use Rattle.fab_report.specs.Words.{behind};
 
-use crate::append::append;
 use gm_defs::TokenPlace;
+use line_writing::Word::{Entry, Number, Text};
+use line_writing::{append_behind, append_words};
 use port_graph::{Fabric, Vertex};
 use run_defs::PlaceEntry;
-use std::alloc::{AllocError, Global};
+use std::alloc::AllocError;
 
 /// `tokens H P send T=PLACE .. recv T=PLACE ..`
 pub(crate) fn tokens_line(
-    alloc: Global,
     text: &mut Vec<u8>,
     f: &Fabric,
     host: u16,
@@ -26,46 +27,42 @@ pub(crate) fn tokens_line(
     ensures { OnOk result (text.new.items ≡ text.old.items
         ++ spaced (words_in f.now (Tokens host port sends.now recvs.now))) }
 {
-    let port = port.to_string(alloc)?;
-    let name = f.name_of(Vertex::Host(host));
-    append_tokens(alloc, text, name, port.as_bytes(), sends, recvs)
+    let name = Text(f.name_of(Vertex::Host(host)));
+    let port = Number(u64::from(port));
+    append_words(text, &[Text(b"tokens"), name, port, Text(b"send")])?;
+    append_both(text, sends, recvs)
 }
 
-// The words of the line by the host's name and the port in digits.
-fn append_tokens(
-    alloc: Global,
+// The tokens to send with and those to receive with, behind other words.
+fn append_both(
     text: &mut Vec<u8>,
-    name: &[u8],
-    port: &[u8],
     sends: &[PlaceEntry],
     recvs: &[PlaceEntry],
 ) -> Result<(), AllocError>
     ensures { OnOk result (text.new.items ≡ text.old.items
-        ++ spaced (codes "tokens" ∷ name.now ∷ port.now ∷ codes "send"
-        ∷ (map place_text sends.now ++ codes "recv" ∷ map place_text recvs.now))) }
+        ++ behind (map place_text sends.now ++ codes "recv" ∷ map place_text recvs.now)) }
 {
-    append(text, &[b"tokens ", name, b" ", port, b" send"])?;
-    append_places(alloc, text, sends)?;
-    append(text, &[b" recv"])?;
-    append_places(alloc, text, recvs)
+    append_places(text, sends)?;
+    append_behind(text, &[Text(b"recv")])?;
+    append_places(text, recvs)
 }
 
 // Tokens with their places, by number.
-fn append_places(alloc: Global, text: &mut Vec<u8>, places: &[PlaceEntry]) -> Result<(), AllocError>
+fn append_places(text: &mut Vec<u8>, places: &[PlaceEntry]) -> Result<(), AllocError>
     ensures { OnOk result (text.new.items ≡ text.old.items ++ flat_map (λ p. 32 ∷ place_text p) places.now) }
 {
     for entry in places {
-        append_place(alloc, text, *entry)?;
+        append_place(text, *entry)?;
     }
     Ok(())
 }
 
 // ` T=PLACE`
-fn append_place(alloc: Global, text: &mut Vec<u8>, entry: PlaceEntry) -> Result<(), AllocError>
+fn append_place(text: &mut Vec<u8>, entry: PlaceEntry) -> Result<(), AllocError>
     ensures { OnOk result (text.new.items ≡ text.old.items ++ 32 ∷ place_text entry) }
 {
-    let number = entry.number.to_string(alloc)?;
-    append(text, &[b" ", number.as_bytes(), b"=", word_of(entry.place)])
+    let place = word_of(entry.place);
+    append_behind(text, &[Entry(u64::from(entry.number), place)])
 }
 
 // The word of a place; `client` where its client has the token.

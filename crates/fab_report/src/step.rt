@@ -1,80 +1,85 @@
 //! What one event did.
 
-ghost use Rattle.std.specs.Prelude.{◌≡◌, ◌++◌, OnOk};
+ghost use Rattle.std.specs.Prelude.{◌≡◌, ◌++◌, ◌∷◌, [], OnOk, IsTrue, codes, decimal};
+ghost use Rattle.net_defs.specs.Network.{has_vertex};
 ghost use Rattle.fab_text.specs.Written.{spaced};
-ghost use Rattle.run_defs.specs.LineText.{cause_word, heard_word, step_words, words_in};
+ghost use Rattle.run_defs.specs.LineText.{cause_word, end_words, heard_word, words_in};
 ghost use Rattle.run_defs.specs.declared.line.Line.TheVariants.{Step};
-ghost use Rattle.fab_report.specs.There.{AreWordsOf};
-ghost use Rattle.fab_report.specs.Words.{behind};
+ghost use Rattle.run_defs.specs.declared.line.StepWords.TheVariants.{Arrived};
+ghost use Rattle.fab_report.specs.There.{AreWordsOf, IsHost};
 
-use crate::append::{append, append_end};
-use port_graph::{Fabric, Vertex};
+use line_writing::Word::{Number, Text};
+use line_writing::append_words;
+use port_graph::{End, Fabric, Vertex};
 use run_defs::StepWords;
-use std::alloc::{AllocError, Global};
+use std::alloc::AllocError;
 use world_defs::{Cause, Heard};
 
 /// `step EFFECT`
-#[tactic(auto, using(crate::proofs::Writing::spaced_behind))]
-pub(crate) fn step_line(
-    alloc: Global,
-    text: &mut Vec<u8>,
-    f: &Fabric,
-    words: StepWords,
-) -> Result<(), AllocError>
+pub(crate) fn step_line(text: &mut Vec<u8>, f: &Fabric, words: StepWords) -> Result<(), AllocError>
     requires { AreWordsOf f.now words }
     ensures { OnOk result (text.new.items ≡ text.old.items ++ spaced (words_in f.now (Step words))) }
 {
-    append(text, &[b"step"])?;
-    append_words(alloc, text, f, words)
+    match words {
+        StepWords::Idle => alone_line(text, b"idle"),
+        StepWords::Injected(number) => number_line(text, b"injected", number),
+        StepWords::Moved(e) => end_line(text, f, b"moved", e),
+        StepWords::Blocked(e) => end_line(text, f, b"blocked", e),
+        StepWords::Arrived(host, heard) => arrived_line(text, f, host, heard),
+        StepWords::Dropped(cause) => dropped_line(text, cause),
+        StepWords::Lost => alone_line(text, b"lost"),
+        StepWords::Reset => alone_line(text, b"reset"),
+        StepWords::Flipped => alone_line(text, b"flipped"),
+        StepWords::Expired => alone_line(text, b"expired"),
+        StepWords::GaveUp => alone_line(text, b"gaveup"),
+        StepWords::Repeated(serial) => number_line(text, b"repeated", serial),
+        StepWords::Held(serial) => number_line(text, b"held", serial),
+        StepWords::Replayed(e) => end_line(text, f, b"replayed", e),
+    }
 }
 
-// What the event did.
-fn append_words(
-    alloc: Global,
-    text: &mut Vec<u8>,
-    f: &Fabric,
-    words: StepWords,
-) -> Result<(), AllocError>
-    requires { AreWordsOf f.now words }
-    ensures { OnOk result (text.new.items ≡ text.old.items ++ behind (step_words f.now words)) }
+// `step WORD`
+fn alone_line(text: &mut Vec<u8>, word: &[u8]) -> Result<(), AllocError>
+    ensures { OnOk result (text.new.items ≡ text.old.items ++ spaced (codes "step" ∷ word.now ∷ [])) }
 {
-    match words {
-        StepWords::Idle => append(text, &[b" idle"]),
-        StepWords::Injected(number) => {
-            let number = number.to_string(alloc)?;
-            append(text, &[b" injected ", number.as_bytes()])
-        }
-        StepWords::Moved(e) => {
-            append(text, &[b" moved"])?;
-            append_end(alloc, text, f, e)
-        }
-        StepWords::Blocked(e) => {
-            append(text, &[b" blocked"])?;
-            append_end(alloc, text, f, e)
-        }
-        StepWords::Arrived(host, heard) => {
-            append(text, &[b" arrived ", f.name_of(Vertex::Host(host))])?;
-            append(text, &[b" ", word_of(heard)])
-        }
-        StepWords::Dropped(cause) => append(text, &[b" dropped ", cause_of(cause)]),
-        StepWords::Lost => append(text, &[b" lost"]),
-        StepWords::Reset => append(text, &[b" reset"]),
-        StepWords::Flipped => append(text, &[b" flipped"]),
-        StepWords::Expired => append(text, &[b" expired"]),
-        StepWords::GaveUp => append(text, &[b" gaveup"]),
-        StepWords::Repeated(serial) => {
-            let serial = serial.to_string(alloc)?;
-            append(text, &[b" repeated ", serial.as_bytes()])
-        }
-        StepWords::Held(serial) => {
-            let serial = serial.to_string(alloc)?;
-            append(text, &[b" held ", serial.as_bytes()])
-        }
-        StepWords::Replayed(e) => {
-            append(text, &[b" replayed"])?;
-            append_end(alloc, text, f, e)
-        }
-    }
+    append_words(text, &[Text(b"step"), Text(word)])
+}
+
+// `step WORD NUMBER`
+fn number_line(text: &mut Vec<u8>, word: &[u8], number: u64) -> Result<(), AllocError>
+    ensures { OnOk result (text.new.items ≡ text.old.items ++ spaced (codes "step" ∷ word.now ∷ decimal number ∷ [])) }
+{
+    append_words(text, &[Text(b"step"), Text(word), Number(number)])
+}
+
+// `step WORD NAME PORT`
+fn end_line(text: &mut Vec<u8>, f: &Fabric, word: &'static [u8], e: End) -> Result<(), AllocError>
+    requires { IsTrue (has_vertex f.now e.v) }
+    ensures { OnOk result (text.new.items ≡ text.old.items ++ spaced (codes "step" ∷ word.now ∷ end_words f.now e)) }
+{
+    let name = Text(f.name_of(e.v));
+    let port = Number(u64::from(e.p));
+    append_words(text, &[Text(b"step"), Text(word), name, port])
+}
+
+// `step arrived NAME HEARD`
+fn arrived_line(text: &mut Vec<u8>, f: &Fabric, host: u16, heard: Heard) -> Result<(), AllocError>
+    requires { IsHost f.now host }
+    ensures { OnOk result (text.new.items ≡ text.old.items
+        ++ spaced (words_in f.now (Step (Arrived host heard)))) }
+{
+    let name = Text(f.name_of(Vertex::Host(host)));
+    let heard = Text(word_of(heard));
+    append_words(text, &[Text(b"step"), Text(b"arrived"), name, heard])
+}
+
+// `step dropped CAUSE`
+fn dropped_line(text: &mut Vec<u8>, cause: Cause) -> Result<(), AllocError>
+    ensures { OnOk result (text.new.items ≡ text.old.items
+        ++ spaced (codes "step" ∷ codes "dropped" ∷ cause_word cause ∷ [])) }
+{
+    let cause = Text(cause_of(cause));
+    append_words(text, &[Text(b"step"), Text(b"dropped"), cause])
 }
 
 // What a host heard, in one word.

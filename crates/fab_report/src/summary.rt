@@ -5,9 +5,8 @@ ghost use Rattle.run_defs.specs.LineText.{line_text, output_text};
 ghost use Rattle.run_defs.specs.Output.{lines};
 ghost use Rattle.run_defs.specs.Summary.{count_line, is_accepted, is_received, mapping_lines, settle_lines, summary};
 ghost use Rattle.run_defs.specs.declared.line.Line.TheVariants.{GenHead};
-ghost use Rattle.fab_report.specs.There.{AreThere};
 
-use crate::line::print_line;
+use crate::line::{print_line, print_line_onto};
 use port_graph::Fabric;
 use run_defs::{Figure, Line};
 use std::alloc::{AllocError, Global};
@@ -24,9 +23,9 @@ pub fn print_summary(
     ensures { IfOk result (λ text. text.items ≡ output_text f.now (lines (summary n seed f.now figures.now))) }
 {
     let mut text = head_text(alloc, n, seed, f)?;
-    append_mappings(alloc, &mut text, f, figures)?;
-    append_counts(alloc, &mut text, f, figures)?;
-    append_settles(alloc, &mut text, f, figures)?;
+    append_mappings(&mut text, f, figures)?;
+    append_counts(&mut text, f, figures)?;
+    append_settles(&mut text, f, figures)?;
     Ok(text)
 }
 
@@ -46,28 +45,18 @@ fn head_text(alloc: Global, n: u8, seed: u32, f: &Fabric) -> Result<Vec<u8>, All
 }
 
 // The lines of maps, routes and installations.
-fn append_mappings(
-    alloc: Global,
-    text: &mut Vec<u8>,
-    f: &Fabric,
-    figures: &[Figure],
-) -> Result<(), AllocError>
+fn append_mappings(text: &mut Vec<u8>, f: &Fabric, figures: &[Figure]) -> Result<(), AllocError>
     ensures { OnOk result (text.new.items ≡ text.old.items
         ++ flat_map (λ k. output_text f.now (lines (mapping_lines k))) figures.now) }
 {
     for figure in figures {
-        append_mapping(alloc, text, f, *figure)?;
+        append_mapping(text, f, *figure)?;
     }
     Ok(())
 }
 
 // The line of a map, of routes or of an installation.
-fn append_mapping(
-    alloc: Global,
-    text: &mut Vec<u8>,
-    f: &Fabric,
-    figure: Figure,
-) -> Result<(), AllocError>
+fn append_mapping(text: &mut Vec<u8>, f: &Fabric, figure: Figure) -> Result<(), AllocError>
     ensures { OnOk result (text.new.items ≡ text.old.items ++ output_text f.now (lines (mapping_lines figure))) }
 {
     match figure {
@@ -75,38 +64,32 @@ fn append_mapping(
             words,
             asks,
             packets,
-        } => append_line(
-            alloc,
+        } => print_line_onto(
             text,
-            f,
             &Line::GenMap {
                 words,
                 asks,
                 packets,
             },
+            f,
         ),
-        Figure::Routed(count) => append_line(alloc, text, f, &Line::Routes(count)),
+        Figure::Routed(count) => print_line_onto(text, &Line::Routes(count), f),
         Figure::Installed { acked, of } => {
-            append_line(alloc, text, f, &Line::Installed { acked, of })
+            print_line_onto(text, &Line::Installed { acked, of }, f)
         }
         Figure::Accepted | Figure::Received | Figure::Settled { .. } => Ok(()),
     }
 }
 
 // The line that counts messages.
-fn append_counts(
-    alloc: Global,
-    text: &mut Vec<u8>,
-    f: &Fabric,
-    figures: &[Figure],
-) -> Result<(), AllocError>
+fn append_counts(text: &mut Vec<u8>, f: &Fabric, figures: &[Figure]) -> Result<(), AllocError>
     ensures { OnOk result (text.new.items ≡ text.old.items ++ line_text f.now (count_line figures.now)) }
 {
     let line = Line::GenCount {
         accepted: accepted(figures),
         received: received(figures),
     };
-    append_line(alloc, text, f, &line)
+    print_line_onto(text, &line, f)
 }
 
 // How many sends were accepted.
@@ -138,28 +121,18 @@ fn is_received(figure: Figure) -> bool
 }
 
 // The lines of settles.
-fn append_settles(
-    alloc: Global,
-    text: &mut Vec<u8>,
-    f: &Fabric,
-    figures: &[Figure],
-) -> Result<(), AllocError>
+fn append_settles(text: &mut Vec<u8>, f: &Fabric, figures: &[Figure]) -> Result<(), AllocError>
     ensures { OnOk result (text.new.items ≡ text.old.items
         ++ flat_map (λ k. output_text f.now (lines (settle_lines k))) figures.now) }
 {
     for figure in figures {
-        append_settle(alloc, text, f, *figure)?;
+        append_settle(text, f, *figure)?;
     }
     Ok(())
 }
 
 // The line of a settle.
-fn append_settle(
-    alloc: Global,
-    text: &mut Vec<u8>,
-    f: &Fabric,
-    figure: Figure,
-) -> Result<(), AllocError>
+fn append_settle(text: &mut Vec<u8>, f: &Fabric, figure: Figure) -> Result<(), AllocError>
     ensures { OnOk result (text.new.items ≡ text.old.items ++ output_text f.now (lines (settle_lines figure))) }
 {
     match figure {
@@ -167,25 +140,15 @@ fn append_settle(
             rounds,
             resets,
             unacked,
-        } => append_line(
-            alloc,
+        } => print_line_onto(
             text,
-            f,
             &Line::Settle {
                 rounds,
                 resets,
                 unacked,
             },
+            f,
         ),
         _ => Ok(()),
     }
-}
-
-// A line behind a text.
-fn append_line(alloc: Global, text: &mut Vec<u8>, f: &Fabric, l: &Line) -> Result<(), AllocError>
-    requires { AreThere f.now l.now }
-    ensures { OnOk result (text.new.items ≡ text.old.items ++ line_text f.now l.now) }
-{
-    let printed = print_line(alloc, l, f)?;
-    text.extend_from_slice(&printed)
 }

@@ -18,12 +18,12 @@ use Rattle.fab_text.specs.Word.{name_test, number_within}
 use Rattle.fab_text.specs.Line.{TextLine, lines_left, line_count, words_of}
 use Rattle.fab_text.specs.Fault.{FirstFault, TextGives, as_kind, at_line, and_then}
 use Rattle.run_defs.specs.declared.command.Command.{Command}
-use Rattle.run_defs.specs.declared.command.Command.TheVariants.{Walk, Map, Routes, Install, Begin, Close, Poll, Tokens, Provide, Send, Plan, Step, Settle}
+use Rattle.run_defs.specs.declared.command.Command.TheVariants.{Walk, Map, Circuit, Routes, Install, Begin, Close, Poll, Tokens, Provide, Send, Plan, Step, Settle}
 use Rattle.run_defs.specs.declared.command.PlanKind.{PlanKind}
 use Rattle.run_defs.specs.declared.command.PlanKind.TheVariants.{Lose as PlanLose, Repeat as PlanRepeat, Hold as PlanHold, Flip as PlanFlip}
 use Rattle.run_defs.specs.declared.command.StepLine.{StepLine}
 use Rattle.run_defs.specs.declared.command.StepLine.TheVariants.{Inject, GiveUp, Advance, Lose, Repeat, Hold, Reset, Flip, Expire, Replay}
-use Rattle.run_defs.specs.Script.{Form, OfName, OfNumber, Value, Name, Number, value_of, values_of, said_by, from_least, LineKind, command_by, address_of, at_host, at_hosts, end_at, at_end, of_port, of_switch_port, of_count, of_prio, of_tries, of_ahead, of_bit, of_pattern, map_meant, alone_meant, install_meant, open_meant, at_port_meant, provide_meant, send_meant, plan_meant, plan_flip_meant, host_step_meant, end_step_meant, flip_step_meant, expire_meant, replay_meant, line_kinds, plan_kinds, step_kinds, by_second, turns_of, walk_said, command_as, command_of, is_end, ended, script_from, script_reading}
+use Rattle.run_defs.specs.Script.{Form, OfName, OfNumber, Value, Name, Number, value_of, values_of, said_by, from_least, LineKind, command_by, address_of, at_host, at_hosts, end_at, at_end, of_port, of_switch_port, of_count, of_prio, of_tries, of_ahead, of_bit, of_pattern, map_meant, circuit_meant, alone_meant, install_meant, open_meant, at_port_meant, provide_meant, send_meant, plan_meant, plan_flip_meant, host_step_meant, end_step_meant, flip_step_meant, expire_meant, replay_meant, line_kinds, plan_kinds, step_kinds, by_second, turns_of, walk_said, command_as, command_of, is_end, ended, script_from, script_reading}
 use Rattle.fab_script.specs.Ranges.{IsHost, IsEnd, IsWithin, IsPlanned, IsStepOf, IsCommandOf}
 use Rattle.fab_script.proofs.Scripts.{within, turns-walk}
 
@@ -174,7 +174,10 @@ line_kinds-ranged n = (
                       (λ a p ip b q iq r ir l il s is c e. hosts-of n a b (λ h dest. Send h p dest q r l s) c e (λ h dest there too. (there, too, ip, iq, ir, il, is))),
                   (
                     each-of [] (λ vs. (c : Command) → alone_meant Settle n vs ≡ Ok c → IsCommandOf n c) (λ c e. alone n Settle c tt e),
-                    tt,
+                    (
+                      each-of (OfName ∷ OfNumber 1 32 ∷ []) (λ vs. (c : Command) → circuit_meant n vs ≡ Ok c → IsCommandOf n c) (λ a d id c e. host-of n a (λ h. Circuit h d) c e (λ h there. (there, id))),
+                      tt,
+                    ),
                   ),
                 ),
               ),

@@ -5,8 +5,8 @@ use Rattle.net_defs.specs.declared.vertex.End.{End}
 use Rattle.net_defs.specs.Network.{Network, has_vertex, has_port}
 use Rattle.net_defs.specs.Turn.{walk_refusal}
 use Rattle.run_defs.specs.declared.command.Command.{Command}
-use Rattle.run_defs.specs.declared.command.Command.TheVariants.{Walk, Map, Routes, Install, Begin, Close, Poll, Tokens}
-use Rattle.run_defs.specs.declared.command.Command.TheVariants.{Provide, Send, Plan, Step, Settle, Finish}
+use Rattle.run_defs.specs.declared.command.Command.TheVariants.{Walk, Map, Circuit, Routes, Install, Begin, Close}
+use Rattle.run_defs.specs.declared.command.Command.TheVariants.{Poll, Tokens, Provide, Send, Plan, Step, Settle, Finish}
 use Rattle.run_defs.specs.declared.command.PlanKind.{PlanKind}
 use Rattle.run_defs.specs.declared.command.PlanKind.TheVariants.{Lose as PlanLose, Repeat as PlanRepeat}
 use Rattle.run_defs.specs.declared.command.PlanKind.TheVariants.{Hold as PlanHold, Flip as PlanFlip}
@@ -54,6 +54,7 @@ IsStepOf n (Replay serial) = IsWithin 0 4294967295 serial
 abbrev pub IsCommandOf : Network → Command → Type 0
 IsCommandOf n (Walk h turns) = IsHost n h × (walk_refusal turns ≡ None)
 IsCommandOf n (Map h depth tries) = IsHost n h × IsWithin 1 32 depth × IsWithin 1 8 tries
+IsCommandOf n (Circuit h depth) = IsHost n h × IsWithin 1 32 depth
 IsCommandOf n Routes = Unit {0}
 IsCommandOf n (Install tries) = IsWithin 1 8 tries
 IsCommandOf n (Begin h port sends recvs) = IsHost n h × IsWithin 0 7 port × IsWithin 0 64 sends × IsWithin 0 64 recvs

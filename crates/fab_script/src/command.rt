@@ -6,7 +6,7 @@ ghost use Rattle.fab_text.specs.Fault.{LineGives};
 ghost use Rattle.run_defs.specs.Script.{command_as, command_by, command_of, line_kinds};
 ghost use Rattle.fab_script.specs.Values.{command_but_walk};
 
-use crate::map_lines::{install, map, routes, settle};
+use crate::map_lines::{circuit, install, map, routes, settle};
 use crate::plan_lines::plan;
 use crate::port_lines::{PortCall, at_port, open, provide, send};
 use crate::step_lines::step;
@@ -81,6 +81,8 @@ fn read_by_one_word(fabric: &Fabric, first: &[u8], args: Words) -> Result<Comman
         send(fabric, args)
     } else if first == b"settle".as_slice() {
         settle(fabric, args)
+    } else if first == b"circuit".as_slice() {
+        circuit(fabric, args)
     } else {
         Err(FaultKind::BadWord)
     }

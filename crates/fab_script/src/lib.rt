@@ -16,7 +16,7 @@
 //! | `script` | all lines, up to `end` |
 //! | `command` | one line, by its first word |
 //! | `walk_line` | `walk`, which alone takes memory |
-//! | `map_lines` | `map`, `routes`, `install`, `settle` |
+//! | `map_lines` | `map`, `circuit`, `routes`, `install`, `settle` |
 //! | `port_lines` | `open`, `close`, `poll`, `tokens`, `provide`, `send` |
 //! | `plan_lines`, `step_lines` | `plan` and `step`, by their second word |
 //! | `counted`, `values` | exactly so many words; what one word says |

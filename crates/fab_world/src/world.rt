@@ -18,10 +18,12 @@ ghost use Rattle.host_ports.specs.Held.{place_at};
 ghost use Rattle.adopted_routes.specs.Adopting.{IsAdoptable, adopt_refusal, part_count_for};
 ghost use Rattle.fab_world.specs.Events.{IsHostOf, IsChannelOf, IsGiven};
 ghost use Rattle.fab_world.specs.Held.{IsMoment, IsLater, IsOfHosts};
+ghost use Rattle.fab_world.specs.Hop.{IsHopIn};
 
 use crate::machine::Machine;
 use adopted_routes::AdoptRefusal;
 use client_host::{Message, TokenPlace};
+use faulty_links::Hop;
 use net_defs::End;
 use port_graph::{Fabric, RouteSet};
 use std::alloc::{AllocError, Global};
@@ -71,6 +73,18 @@ impl World {
         ensures adopted { self.new.adopted ≡ self.old.adopted }
     {
         self.machine.step(alloc, e)
+    }
+
+    /// An advance of a channel into the next one, or one that is blocked. Anything else is left to the event itself,
+    /// which does the same more slowly, since it may hand out any effect.
+    pub fn hop(&mut self, c: u16) -> Hop
+        requires { IsChannelOf self.old c }
+        ensures hop { IsHopIn self.old c result self.new }
+        ensures fabric { fabric_of self.new ≡ fabric_of self.old }
+        ensures hosts { host_count self.new ≡ host_count self.old }
+        ensures channels { length self.new.links.channels ≡ length self.old.links.channels }
+    {
+        self.machine.hop(c)
     }
 
     /// Adopts routes: a host is their adopter from now on, and its table is theirs at once. The same routes may be

@@ -1,12 +1,14 @@
 //! The text of a fabric.
 
-ghost use Rattle.std.specs.Prelude.{◌≡◌, ◌++◌, flat_map, IfOk, OnOk, IsTrue};
+ghost use Rattle.std.specs.Prelude.{◌≡◌, ◌++◌, IfOk, OnOk, IsTrue};
 ghost use Rattle.net_defs.specs.Network.{has_vertex, IsFabric};
 ghost use Rattle.fabric_file.specs.Reading.{AreNamed};
 ghost use Rattle.fab_text.specs.Written.{line_text};
 ghost use Rattle.fabric_file.specs.Printing.{cable_words, cables_text, fabric_text, host_words, hosts_text};
 ghost use Rattle.fabric_file.specs.Printing.{switch_words, switches_text, IsReadBack};
 
+use line_writing::Word::{Number, Text};
+use line_writing::append_line;
 use port_graph::{Cable, Fabric, Vertex};
 use std::alloc::{AllocError, Global};
 
@@ -22,8 +24,8 @@ pub fn print_fabric(alloc: Global, f: &Fabric) -> Result<Vec<u8>, AllocError>
 {
     let mut text = Vec::new(alloc);
     print_hosts(f, &mut text)?;
-    print_switches(alloc, f, &mut text)?;
-    print_cables(alloc, f, &mut text)?;
+    print_switches(f, &mut text)?;
+    print_cables(f, &mut text)?;
     Ok(text)
 }
 
@@ -38,23 +40,23 @@ fn print_hosts(f: &Fabric, text: &mut Vec<u8>) -> Result<(), AllocError>
 }
 
 // A line for each switch.
-fn print_switches(alloc: Global, f: &Fabric, text: &mut Vec<u8>) -> Result<(), AllocError>
+fn print_switches(f: &Fabric, text: &mut Vec<u8>) -> Result<(), AllocError>
     ensures { OnOk result (text.new.items ≡ text.old.items ++ switches_text f.now) }
 {
     for switch in 0..f.switches() {
         let v = Vertex::Switch(switch);
-        switch_line(alloc, text, f.name_of(v), f.ports(v))?;
+        switch_line(text, f.name_of(v), f.ports(v))?;
     }
     Ok(())
 }
 
 // A line for each cable.
-fn print_cables(alloc: Global, f: &Fabric, text: &mut Vec<u8>) -> Result<(), AllocError>
+fn print_cables(f: &Fabric, text: &mut Vec<u8>) -> Result<(), AllocError>
     requires { IsFabric f.now }
     ensures { OnOk result (text.new.items ≡ text.old.items ++ cables_text f.now) }
 {
     for k in 0..f.cables() {
-        cable_line(alloc, text, f, f.cable(k))?;
+        cable_line(text, f, f.cable(k))?;
     }
     Ok(())
 }
@@ -63,48 +65,27 @@ fn print_cables(alloc: Global, f: &Fabric, text: &mut Vec<u8>) -> Result<(), All
 fn host_line(text: &mut Vec<u8>, name: &[u8]) -> Result<(), AllocError>
     ensures { OnOk result (text.new.items ≡ text.old.items ++ line_text (host_words name.now)) }
 {
-    append(text, &[b"host ", name, b"\n"])
+    append_line(text, &[Text(b"host"), Text(name)])
 }
 
 // `switch NAME PORTS`
-fn switch_line(alloc: Global, text: &mut Vec<u8>, name: &[u8], ports: u8) -> Result<(), AllocError>
+fn switch_line(text: &mut Vec<u8>, name: &[u8], ports: u8) -> Result<(), AllocError>
     ensures { OnOk result (text.new.items ≡ text.old.items
         ++ line_text (switch_words record { name = name.now; ports = ports })) }
 {
-    let ports = ports.to_string(alloc)?;
-    append(text, &[b"switch ", name, b" ", ports.as_bytes(), b"\n"])
+    let ports = Number(u64::from(ports));
+    append_line(text, &[Text(b"switch"), Text(name), ports])
 }
 
 // `cable V P W Q`
-fn cable_line(alloc: Global, text: &mut Vec<u8>, f: &Fabric, c: Cable) -> Result<(), AllocError>
+fn cable_line(text: &mut Vec<u8>, f: &Fabric, c: Cable) -> Result<(), AllocError>
     requires a { IsTrue (has_vertex f.now c.a.v) }
     requires b { IsTrue (has_vertex f.now c.b.v) }
     ensures { OnOk result (text.new.items ≡ text.old.items ++ line_text (cable_words f.now c)) }
 {
-    let p = c.a.p.to_string(alloc)?;
-    let q = c.b.p.to_string(alloc)?;
-    append(
-        text,
-        &[
-            b"cable ",
-            f.name_of(c.a.v),
-            b" ",
-            p.as_bytes(),
-            b" ",
-            f.name_of(c.b.v),
-            b" ",
-            q.as_bytes(),
-            b"\n",
-        ],
-    )
-}
-
-// Parts, one after another, behind a text.
-fn append(text: &mut Vec<u8>, parts: &[&[u8]]) -> Result<(), AllocError>
-    ensures { OnOk result (text.new.items ≡ text.old.items ++ flat_map (λ part. part.now) parts.now) }
-{
-    for part in parts {
-        text.extend_from_slice(part)?;
-    }
-    Ok(())
+    let a = Text(f.name_of(c.a.v));
+    let p = Number(u64::from(c.a.p));
+    let b = Text(f.name_of(c.b.v));
+    let q = Number(u64::from(c.b.p));
+    append_line(text, &[Text(b"cable"), a, p, b, q])
 }

@@ -13,7 +13,7 @@ use Rattle.run_defs.specs.declared.line.Line.TheVariants.{Map as MapLine, MapBus
 use Rattle.run_defs.specs.Mapped.{IsMapped}
 use Rattle.run_defs.specs.Outcome.{Outcome, outcome, says_only}
 use Rattle.run_defs.specs.Run.{Does, map_pieces}
-use Rattle.run_defs.specs.Run.Does.{determined, maps, routes}
+use Rattle.run_defs.specs.Run.Does.{determined, maps, circuits, routes}
 use Rattle.fabric_file.specs.declared.reading.FabricText.{FabricText}
 use Rattle.fabric_file.specs.Reading.{fabric_reading, AreNamed}
 use Rattle.fabric_file.proofs.Readings.{reading-fabric, reading-named}
@@ -30,7 +30,8 @@ use Rattle.run_laws.specs.Acts.{IsActOf}
 use Rattle.run_laws.proofs.Reaching.{run_has_no_cycle}
 use Rattle.install_laws.proofs.Lines.{line-true}
 use Rattle.settle_line_laws.proofs.Lines.{line-true as settled-true}
-use Rattle.print_laws.proofs.Pieces.{complete_maps_read_back}
+use Rattle.mapping_laws.proofs.Printed.{circuit_maps_are_true, deep_circuit_maps_are_cores}
+use Rattle.print_laws.proofs.Pieces.{complete_maps_read_back, circuit_maps_read_back}
 use Rattle.promise_laws.proofs.Said.{said-command, said-act}
 use Rattle.promise_laws.proofs.Sound.{always_promised}
 use Rattle.fabric_run.specs.Reading.{AcceptedText, reading_from, reading}
@@ -96,6 +97,7 @@ does-print {s = s} {next = next} {out = out} host depth tries same idle says (ma
         there = printed ∙ ap (λ k. OneLine (MapLine k words (length j) packets) ∷ map_pieces words m) at ∙ ap (λ x. OneLine (MapLine host x (length j) packets) ∷ map_pieces x m) word;
       },
     )
+does-print {s = s} host depth tries same idle says (circuits told left) = cc
 does-print {s = s} host depth tries same idle says (routes l found complete are printed left) = cc
 
 -- every accepted text keeps its promise
@@ -121,6 +123,11 @@ text_promised text a e =
           let is : IsSaid n (Map host depth tries) = all-nth (IsSaid n) cs k (Map host depth tries) o.said at in
           let of_n : IsCommandOf n (Map host depth tries) = said-command n (Map host depth tries) is in
           does-print host depth tries refl quiet.idle (λ j m words made. deep k out s host depth tries next.world j m words r of_n.0 of_n.1 made quiet is.2.0 is.2.1 enough) does;
+      circuits = λ k out last host depth asks m r p. record {
+        told = circuit_maps_are_true n (take k cs) out last host depth asks m o.fabric (commands k) r p;
+        core = λ es paths enough. deep_circuit_maps_are_cores n (take k cs) out last host depth asks m es o.fabric (commands k) r p paths enough;
+        read_back = (circuit_maps_read_back n (take k cs) out last host depth asks m o.fabric o.named (commands k) r p).read;
+      };
       installed = installed;
       unharmed = λ k out rest s next tries acked total r at does left same.
           let is : IsSaid n (Install tries) = all-nth (IsSaid n) cs k (Install tries) o.said at in

@@ -1,5 +1,5 @@
 -- What every accepted text promises, behind each of its commands.
-use Rattle.std.specs.Prelude.{◌≡◌, ℕ, ◌<◌, ◌≤◌, List, ◌∷◌, length, take, Some, Ok, slice_get}
+use Rattle.std.specs.Prelude.{◌≡◌, ℕ, ◌<◌, ◌≤◌, List, [], ◌∷◌, length, take, Some, Ok, slice_get}
 use Rattle.net_defs.specs.Network.{Network}
 use Rattle.journal_defs.specs.declared.entry.Entry.{Entry}
 use Rattle.journal_defs.specs.Depth.{enough_depth}
@@ -8,18 +8,23 @@ use Rattle.map_defs.specs.Sameness.{IsMapOfPart}
 use Rattle.net_defs.specs.Dependencies.{IsBefore, HasNoCycle}
 use Rattle.world_defs.specs.World.{WorldState, last_count}
 use Rattle.world_defs.specs.Sound.{installed_channels}
+use Rattle.circ_defs.specs.PathList.{Ear, most_back}
+use Rattle.circ_defs.specs.Cores.{ArePathsOfCore}
+use Rattle.circ_defs.specs.CircuitMap.{IsMapOfCore}
 use Rattle.run_defs.specs.declared.command.Command.TheVariants.{Map, Install, Settle}
-use Rattle.run_defs.specs.declared.line.Line.TheVariants.{Installed, Settle as SettleLine}
+use Rattle.run_defs.specs.declared.line.Line.TheVariants.{Circuit as CircuitLine, Installed, Settle as SettleLine}
 use Rattle.run_defs.specs.declared.line.MapWords.{MapWords}
 use Rattle.run_defs.specs.declared.line.MapWords.TheVariants.{Complete}
 use Rattle.run_defs.specs.Mapped.{IsMapped}
+use Rattle.run_defs.specs.Circuit.{IsCircuitTold}
 use Rattle.run_defs.specs.LineText.{map_text}
-use Rattle.run_defs.specs.Output.{Piece, OneLine}
+use Rattle.run_defs.specs.Output.{Piece, OneLine, MapLines}
 use Rattle.run_defs.specs.Session.{SessionState}
 use Rattle.run_defs.specs.Run.{Does, IsRun}
 use Rattle.run_defs.specs.Headline.{HasPrinted, IsQuiet}
 use Rattle.act_defs.specs.Acts.{AlwaysSound}
 use Rattle.map_text.specs.Reading.{map_reading}
+use Rattle.mapping_laws.specs.Circuits.{HasPrintedCircuit}
 use Rattle.install_laws.specs.Runs.{IsInstalledLine}
 use Rattle.settle_line_laws.specs.Lines.{IsSettledLine}
 use Rattle.fabric_run.specs.Reading.{AcceptedText}
@@ -84,13 +89,29 @@ SettledLinesAreTrue a =
     → Does s Settle (OneLine (SettleLine rounds resets unacked) ∷ rest) next
     → IsSettledLine s next rounds resets unacked
 
--- The promise of an accepted text: its maps under the word complete are true, deep maps of a quiet fabric say so,
--- each count of installed hosts has its cause, each settle ends settled, every moment is sound, and the installed
--- routes have no cycle.
+-- A map of circuit links is the circuit map of the fabric to its depth, after so many asks. It is the core, up to each
+-- switch's offset, where the depth is at least the most cables in a return walk of some path list of the core; and its
+-- lines are read as that map.
+pub record IsCircuitRight (n : Network) (host depth asks : ℕ) (m : NetMap) : Type 0 where
+  pub told : IsCircuitTold n host depth (OneLine (CircuitLine host depth asks) ∷ MapLines m ∷ [])
+  pub core : (es : List Ear) → ArePathsOfCore n host es → most_back es ≤ depth → IsMapOfCore n host m
+  pub read_back : map_reading n (map_text n m) ≡ Ok m
+
+-- every map of circuit links that a run of first commands of a text prints is right so
+abbrev pub CircuitMapsAreTrue : AcceptedText → Type 0
+CircuitMapsAreTrue a =
+    (count : ℕ) (out : List Piece) (last : SessionState) (host depth asks : ℕ) (m : NetMap)
+    → IsRun a.network (take count a.commands) out last → HasPrintedCircuit out host depth asks m
+    → IsCircuitRight a.network host depth asks m
+
+-- The promise of an accepted text: its maps under the word complete are true, deep maps of a quiet fabric say so, its
+-- maps of circuit links are true, each count of installed hosts has its cause, each settle ends settled, every moment
+-- is sound, and the installed routes have no cycle.
 pub record IsPromised (a : AcceptedText) : Type 0 where
   pub complete : CompleteMapsAreTrue a
   pub deep : DeepMapsAreComplete a
   pub printed : DeepMapsArePrinted a
+  pub circuits : CircuitMapsAreTrue a
   pub installed : InstalledLinesAreTrue a
   pub unharmed : UnharmedInstallationsCountAll a
   pub settled : SettledLinesAreTrue a

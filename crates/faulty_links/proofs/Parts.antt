@@ -22,10 +22,13 @@ use Rattle.world_defs.specs.Node.{Outgoing, packet_for, after_sending}
 use Rattle.world_defs.specs.World.{WorldState, last_count, counted, node_at, with_node, without_fault}
 use Rattle.world_defs.specs.Step.{of_links, of_limbo, of_replay, lost, was_reset, repeated, held, flipped, replayed, advanced, advanced_by, cause_at_switch, fault_on, is_harm, struck_by, fault_strikes, planned_strikes, sent_out}
 use Rattle.world_defs.specs.declared.fault.Fault.TheVariants.{Lose as LoseFault, Repeat as RepeatFault, Hold as HoldFault, Flip as FlipFault}
+use Rattle.link_model.specs.Hop.{IsHop}
+use Rattle.link_model.specs.declared.hop.Hop.{Hop}
+use Rattle.link_model.specs.declared.hop.Hop.TheVariants.{Moved as Hopped, Blocked as Waits, Untried}
 use Rattle.faulty_links.proofs.Arrivals.{taken_there}
 use Rattle.faulty_links.specs.declared.gone.Gone.{Gone}
 use Rattle.faulty_links.specs.declared.gone.Gone.TheVariants.{Done, AtHost}
-use Rattle.faulty_links.specs.Held.{LinksAndPlan, with_part, heard_of, put_under_next, WorldHasItsPart, PartOfWorldWithPart, InjectionIsPut, InjectionIsIdle}
+use Rattle.faulty_links.specs.Held.{LinksAndPlan, with_part, heard_of, put_under_next, IsHopOf, WorldHasItsPart, PartOfWorldWithPart, InjectionIsPut, InjectionIsIdle}
 
 -- this part with other links
 abbrev pub linked : LinksAndPlan → LinkState → LinksAndPlan
@@ -128,6 +131,12 @@ goes old p q c m l same moved links after w =
     ∙ ap (λ n. heard_of (with_part w (went p (n, (advance p.links c).1))) (gone_by n)) (sym moved)
     ∙ ap (λ k. heard_of (with_part w (went p (m, k))) (gone_by m)) (sym links)
     ∙ ap (λ r. heard_of (with_part w r) (gone_by m)) (sym after)
+
+-- a hop, with what is known of the part after it
+pub hops : (old p q : LinksAndPlan) (c : ℕ) (h : Hop) (l : LinkState) → p ≡ old → IsHop p.links c h l → q ≡ linked p l → IsHopOf old c h q
+hops old p q c (Hopped next) l same is after = goes old p q c (To next) l same (sym (ap (λ x. x.0) is)) (sym (ap (λ x. x.1) is)) after
+hops old p q c (Waits next) l same is after = goes old p q c (MovedBlocked next) l same (sym (ap (λ x. x.0) is)) (sym (ap (λ x. x.1) is)) after
+hops old p q c Untried l same is after = after ∙ ap (linked p) is ∙ same
 
 -- a part behind a fault that may have struck
 abbrev pub struck : LinksAndPlan → Fault → Bool × LinkState → LinksAndPlan

@@ -4,12 +4,14 @@ use Rattle.std.specs.Prelude.{if◌then◌else◌}
 use Rattle.net_defs.specs.Network.{Network}
 use Rattle.link_defs.specs.Links.{LinkState, packet_in, put}
 use Rattle.world_defs.specs.declared.effect.Effect.{Effect}
-use Rattle.world_defs.specs.declared.effect.Effect.TheVariants.{Idle, Injected, Lost}
+use Rattle.world_defs.specs.declared.effect.Effect.TheVariants.{Idle, Injected, Lost, Moved as MovedTo, Blocked}
 use Rattle.world_defs.specs.declared.fault.Fault.{Fault}
 use Rattle.world_defs.specs.Node.{Outgoing, packet_for, after_sending}
 use Rattle.world_defs.specs.Hearing.{hear}
 use Rattle.world_defs.specs.World.{WorldState, host_count, last_count, node_at, with_node}
-use Rattle.world_defs.specs.Step.{lost, arrived, inject_one, planned_strikes}
+use Rattle.world_defs.specs.Step.{lost, advanced, arrived, inject_one, planned_strikes}
+use Rattle.link_model.specs.declared.hop.Hop.{Hop}
+use Rattle.link_model.specs.declared.hop.Hop.TheVariants.{Moved as Hopped, Blocked as Waits, Untried}
 use Rattle.faulty_links.specs.declared.gone.Gone.{Gone}
 use Rattle.faulty_links.specs.declared.gone.Gone.TheVariants.{Done, AtHost}
 
@@ -85,6 +87,13 @@ put_under_next w c wire = record w { links = (put w.links c wire).1; injected = 
 abbrev pub heard_of : WorldState → Gone (List ℕ) → Effect × WorldState
 heard_of w (Done effect) = (effect, w)
 heard_of w (AtHost h wire) = arrived w h (hear h (host_count w) (node_at w h) wire)
+
+-- a hop that moved its packet, or found it blocked, is the advance in every world with these links; else nothing has
+-- changed
+abbrev pub IsHopOf : LinksAndPlan → ℕ → Hop → LinksAndPlan → Type 0
+IsHopOf old c (Hopped next) new = (w : WorldState) → advanced (with_part w old) c ≡ (MovedTo next, with_part w new)
+IsHopOf old c (Waits next) new = (w : WorldState) → advanced (with_part w old) c ≡ (Blocked next, with_part w new)
+IsHopOf old c Untried new = new ≡ old
 
 -- a packet that reached a host reached one that the fabric has
 abbrev pub IsToHostOf : Network → Gone (List ℕ) → Type 0

@@ -31,4 +31,5 @@ mod reach;
 pub use faulty::FaultyLinks;
 pub use gone::Gone;
 pub use laws::{injections_of_hosts, parts_of_worlds};
+pub use link_model::Hop;
 pub use world_defs::{Cause, Effect, Fault};

@@ -17,7 +17,7 @@ use Rattle.world_defs.specs.World.{WorldState, last_count, addresses, adopted_by
 use Rattle.world_defs.specs.Step.{step}
 use Rattle.world_defs.specs.Install.{installed}
 use Rattle.run_defs.specs.declared.command.Command.{Command}
-use Rattle.run_defs.specs.declared.command.Command.TheVariants.{Walk, Map, Routes, Install, Begin as BeginCommand, Close as CloseCommand, Poll as PollCommand, Tokens, Provide as ProvideCommand, Send as SendCommand, Plan, Step, Settle, Finish}
+use Rattle.run_defs.specs.declared.command.Command.TheVariants.{Walk, Map, Circuit, Routes, Install, Begin as BeginCommand, Close as CloseCommand, Poll as PollCommand, Tokens, Provide as ProvideCommand, Send as SendCommand, Plan, Step, Settle, Finish}
 use Rattle.run_defs.specs.declared.line.Line.TheVariants.{MapBusy, Installed, InstallRefused}
 use Rattle.run_defs.specs.declared.line.InstallCause.{InstallCause}
 use Rattle.run_defs.specs.declared.line.InstallCause.TheVariants.{NoRoutes, Busy, Installed as OtherInstalled}
@@ -26,7 +26,7 @@ use Rattle.run_defs.specs.Session.{SessionState, LastMap, LastRoutes, new_sessio
 use Rattle.run_defs.specs.Outcome.{Outcome, says_only, event_of, stepped, step_or_idle, table_line, adoption_of, install_done, install_now, install, map_refused, routes_refused, outcome}
 use Rattle.world_defs.specs.Table.{is_other}
 use Rattle.run_defs.specs.Run.{Does, Runs}
-use Rattle.run_defs.specs.Run.Does.{determined, maps, routes}
+use Rattle.run_defs.specs.Run.Does.{determined, maps, circuits, routes}
 use Rattle.run_defs.specs.Run.Runs.{ended, goes_on}
 use Rattle.run_defs.specs.Headline.{IsCommandOf}
 use Rattle.act_defs.specs.Acts.{AreAdoptable, IsReached}
@@ -88,6 +88,7 @@ busy-last s host = by (is_idle s.world.links)
 
 outcome-last : (s : SessionState) (c : Command) → LastIn s (outcome s c)
 outcome-last s (Map host depth tries) = busy-last s host
+outcome-last s (Circuit host depth) = tt
 outcome-last s Routes = refused-last s (complete_map s.last_map)
 outcome-last s (Install tries) = install-last s tries s.last_routes
 outcome-last s (Step line) = step-last s (event_of s.world line)
@@ -142,6 +143,7 @@ does-last {s = s} {next = next} {c = c} n of_n led (determined e) = let k = subs
 does-last {s = s} {next = next} n of_n led (maps {host = host} {depth = depth} {tries = tries} after j m words none made printed left) =
     let r : LastMap = record { mapper = host; words = words; made = m } in
     subst (IsLast n) (sym left) (record { mapper = λ l e. subst (λ (x : LastMap). x.mapper < length n.hosts) (same-map r l e) of_n.0; set = led.set })
+does-last {s = s} {next = next} n of_n led (circuits told left) = last-same n s next led (ap (λ (x : SessionState). x.last_map) left) (ap (λ (x : SessionState). x.last_routes) left)
 does-last {s = s} {next = next} n of_n led (routes l found complete are printed left) =
     let k = led.holds.complete l complete in
     let hosts : List ℕ = filter (λ h. list_any (nat_eq h) (hosts_of l.made.vertices)) (addresses s.world) in
@@ -158,6 +160,7 @@ does-last {s = s} {next = next} n of_n led (routes l found complete are printed 
 
 command-of : (n : Network) (c : Command) → IsActOf n c → IsCommandOf n c
 command-of n (Map host depth tries) is = is
+command-of n (Circuit host depth) is = is
 command-of n (Plan ahead kind) is = is.1
 command-of n c is = tt
 

@@ -1,3 +1,4 @@
 pub mod Alone
 pub mod Full
+pub mod Hop
 pub mod State

@@ -7,16 +7,19 @@
 //! | module | has |
 //! |---|---|
 //! | `course` | where a channel's packet goes |
+//! | `hop` | what a hop came to |
 //! | `limbo` | the packets that a cable keeps back |
 //! | `links` | the links: reading them, filling them, an advance, the faults |
 //! | `walking` | a packet alone in the links, to the end of its walk |
 #![tactic(auto)]
 
 mod course;
+mod hop;
 mod limbo;
 mod links;
 mod walking;
 
+pub use hop::Hop;
 pub use link_defs::{Moved, Replayed, Turned, Why};
 pub use links::{Links, Occupied};
 pub use walking::walk_alone;

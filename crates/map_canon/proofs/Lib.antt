@@ -5,5 +5,6 @@ pub mod Ordered
 pub mod Places
 pub mod Sorting
 pub mod Standing
+pub mod Taken
 pub mod Told
 pub mod Whole

@@ -20,7 +20,7 @@ use Rattle.map_canon.proofs.Places.{place-member}
 use Rattle.map_canon.specs.InOrder.{port_of_place, rising_cable, cable_from, cables_below, in_order}
 
 -- places in order are ports in order
-place-below : (i k : ℕ) → i < k → port_below (port_of_place i) (port_of_place k) ≡ true
+pub place-below : (i k : ℕ) → i < k → port_below (port_of_place i) (port_of_place k) ≡ true
 place-below i k l = by (cases_order (i / 31) (k / 31))
   where
     ports : (a b : ℕ) → a < b → int_lt (pos a -ℤ pos 15) (pos b -ℤ pos 15) ≡ true
@@ -49,7 +49,7 @@ place-inside : (d : MapPort) (n : ℕ) → IsTurn d.p → d.v < n → place_of_p
 place-inside d n t l = let low = (shift d.p t).0 in omega arith
 
 -- what is known of a cable from a port
-record IsRising (m : NetMap) (d : MapPort) (c : MapCable) : Type 0 where
+pub record IsRising (m : NetMap) (d : MapPort) (c : MapCable) : Type 0 where
   pub first : first_end c ≡ d
   pub far : map_far m d ≡ Some (second_end c)
   pub rises : port_below (first_end c) (second_end c) ≡ true
@@ -62,14 +62,14 @@ rising-from m d (Some e) c f is = by (port_below d e) refl is
     by true p q = let one : record { v = d.v; p = d.p; w = e.v; q = e.p } ≡ c = cc in subst (IsRising m d) one (record { first = refl; far = f; rises = p })
     by false p q = cc
 
-cable-rises : (m : NetMap) (d : MapPort) (c : MapCable) → cable_from m d ≡ Some c → IsRising m d c
+pub cable-rises : (m : NetMap) (d : MapPort) (c : MapCable) → cable_from m d ≡ Some c → IsRising m d c
 cable-rises m d c e = rising-from m d (map_far m d) c refl e
 
 rising-cable : (m : NetMap) (d e : MapPort) → map_far m d ≡ Some e → port_below d e ≡ true → cable_from m d ≡ Some (record { v = d.v; p = d.p; w = e.v; q = e.p })
 rising-cable m d e f b = ap (rising_cable d) f ∙ ap (λ t. if t then Some (record { v = d.v; p = d.p; w = e.v; q = e.p }) else None) b
 
 -- a cable of the first places stands at one of them
-record IsBelow (m : NetMap) (k : ℕ) (c : MapCable) : Type 0 where
+pub record IsBelow (m : NetMap) (k : ℕ) (c : MapCable) : Type 0 where
   pub place : ℕ
   pub below : place < k
   pub from : cable_from m (port_of_place place) ≡ Some c
@@ -88,7 +88,7 @@ append-member (x ∷ xs) ys c (inr i) = by (append-member xs ys c i)
     by (inl a) = inl (inr a)
     by (inr b) = inr b
 
-below-member : (m : NetMap) (k : ℕ) (c : MapCable) → IsMember c (cables_below m k) → IsBelow m k c
+pub below-member : (m : NetMap) (k : ℕ) (c : MapCable) → IsMember c (cables_below m k) → IsBelow m k c
 below-member m zero c i = absurd i
 below-member m (suc k) c i = by (append-member (cables_below m k) (option_to_list (cable_from m (port_of_place k))) c i) (below-member m k c)
   where
@@ -155,7 +155,7 @@ port-total d e differ b = by (cases_order d.v e.v)
     by (inr (inr l)) = or-left (nat_lt e.v d.v) _ (lt-ltb e.v d.v l)
 
 -- the two ends of a cable are two ports
-ends-differ : (cs : List MapCable) (k : ℕ) (c : MapCable) → Apart (map_ends cs) → slice_get cs k ≡ Some c → first_end c ≢ second_end c
+pub ends-differ : (cs : List MapCable) (k : ℕ) (c : MapCable) → Apart (map_ends cs) → slice_get cs k ≡ Some c → first_end c ≢ second_end c
 ends-differ [] k c apart e = cc
 ends-differ (x ∷ cs) zero c apart e = let one : x ≡ c = cc in subst (λ y. first_end y ≢ second_end y) one apart.0.0
 ends-differ (x ∷ cs) (suc k) c apart e = ends-differ cs k c apart.1.1 e

@@ -1,11 +1,11 @@
 //! The cables of a map in the order of a report: each at its lesser end, by vertex, then by port.
 
-ghost use Rattle.std.specs.Prelude.{◌≡◌, ◌*◌, ◌<◌, ◌^◌, [], length, Some, OnOk, IfOk};
+ghost use Rattle.std.specs.Prelude.{◌≡◌, ◌*◌, ◌<◌, ◌^◌, [], length, None, Some, OnOk, IfOk};
 ghost use Rattle.map_defs.specs.NetMap.{NetMap};
-ghost use Rattle.fabric_map.specs.Growing.{with_cable};
+ghost use Rattle.fabric_map.specs.Growing.{cable_refusal, with_cable};
 ghost use Rattle.map_canon.specs.InOrder.{cable_from, in_order, port_of_place};
 
-use fabric_map::{FabricMap, MapCable};
+use fabric_map::{FabricMap, MapCable, MapFault};
 use std::alloc::AllocError;
 
 // The ports of one vertex.
@@ -40,12 +40,14 @@ fn cable_from(loose: &FabricMap, place: usize) -> Option<MapCable>
     }
 }
 
-// Adds a cable.
+// Adds a cable that the map takes.
 fn add(map: &mut FabricMap, cable: MapCable) -> Result<(), AllocError>
+    requires { cable_refusal map.old cable ≡ None }
     ensures { OnOk result (map.new ≡ with_cable map.old cable) }
 {
     match map.add_cable(cable) {
         Ok(_) => Ok(()),
-        Err(_) => Err(AllocError),
+        Err(MapFault::NoMemory) => Err(AllocError),
+        Err(_) => unreachable!(),
     }
 }

@@ -1,3 +1,4 @@
+pub mod CircuitLinks
 pub mod Words
 pub mod Hosts
 pub mod Marks

@@ -7,12 +7,15 @@
 //! | `classes` | the classes of two small journals |
 //! | `closure` | the classes of grown journals, compared with a plain closure, `plain` |
 //! | `certificates` | what the check of a certificate answers |
+//! | `circuits` | a walk over circuit links, and the paths of a core |
 //! | `texts` | a fabric and a map, read and printed; the bridges of a map |
 //! | `fabrics` | the fabrics that these speak of |
 #![tactic(auto)]
 
 #[cfg(test)]
 mod certificates;
+#[cfg(test)]
+mod circuits;
 #[cfg(test)]
 mod classes;
 #[cfg(test)]

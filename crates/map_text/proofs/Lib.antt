@@ -1,5 +1,6 @@
 pub mod Indexed
 pub mod Lines
+pub mod OfFabric
 pub mod Words
 pub mod Free
 pub mod ReadBack

@@ -1,7 +1,6 @@
 -- A map that is printed line by line.
-use Rattle.std.proofs.Common.{◌≡◌, ℕ, zero, suc, ◌+◌, List, [], ◌∷◌, ◌++◌, Bool, take, Some, Result, Ok, Err, OnOk, refl, ap, sym, subst, ◌∙◌, append_assoc, arith, w8, to_z, of_z, FitsSigned}
-use Rattle.std.specs.Prelude.{flat_map, slice_get, codes, decimal, unsigned_abs, ℤ, pos, negsuc}
-use Rattle.std.specs.Fmt.{digits}
+use Rattle.std.proofs.Common.{◌≡◌, ℕ, zero, suc, ◌+◌, List, [], ◌∷◌, ◌++◌, Bool, take, Some, ap, sym, subst, ◌∙◌, append_assoc, arith, w8, to_z, of_z, FitsSigned}
+use Rattle.std.specs.Prelude.{flat_map, slice_get, codes, ℤ}
 use Rattle.std.specs.List.{AllByRecursion}
 use Rattle.std.proofs.lemmas.List.{append-nil}
 use Rattle.std.proofs.lemmas.Int.{ints, to_z-of_z}
@@ -13,8 +12,7 @@ use Rattle.map_defs.specs.declared.vertex.MapCable.{MapCable}
 use Rattle.map_defs.specs.NetMap.{NetMap, map_ends}
 use Rattle.fab_text.specs.Written.{line_text}
 use Rattle.fabric_file.proofs.Cutting.{printed-more}
-use Rattle.run_defs.specs.LineText.{map_text, vertices_text, vertex_words, cable_words, turn_text}
-use Rattle.map_text.specs.Printing.{sign_text}
+use Rattle.run_defs.specs.LineText.{map_text, vertices_text, vertex_words, cable_words}
 
 -- one vertex more
 pub vertices-more : (f : Network) (vs : List MapVertex) (cs : List Bool) (i : ℕ) (v : MapVertex) (c : Bool) → slice_get vs i ≡ Some v → slice_get cs i ≡ Some c
@@ -43,35 +41,11 @@ printed-cable f m k c text loop new at so_far more =
     let line : MapCable → List ℕ = λ x. line_text (cable_words f m x) in
     more ∙ ap (λ l. l ++ line c) so_far ∙ append_assoc text (flat_map line (take k m.cables)) (line c) ∙ ap (λ l. text ++ l) (sym (printed-more line m.cables k c at))
 
--- the words of a cable, one after another
-pub cable-words : (text v p w q a b c d e g h i j : List ℕ)
-    → a ≡ text ++ codes "cable " → b ≡ a ++ v → c ≡ b ++ codes " " → d ≡ c ++ p → e ≡ d ++ codes " " → g ≡ e ++ w → h ≡ g ++ codes " " → i ≡ h ++ q → j ≡ i ++ codes "\n"
-    → j ≡ text ++ line_text (codes "cable" ∷ v ∷ p ∷ w ∷ q ∷ [])
-cable-words text v p w q a b c d e g h i j ea eb ec ed ee eg eh ei ej = rw (ej, ei, eh, eg, ee, ed, ec, eb, ea) (simp append_assoc)
-
 -- the three parts
 pub printed-whole : (f : Network) (m : NetMap) (none vertices cables whole : List ℕ) → none ≡ [] → vertices ≡ none ++ vertices_text f m.vertices m.core
     → cables ≡ vertices ++ flat_map (λ c. line_text (cable_words f m c)) m.cables → whole ≡ cables ++ line_text (codes "endmap" ∷ []) → whole ≡ map_text f m
 printed-whole f m none vertices cables whole a b c d =
     d ∙ ap (λ l. l ++ line_text (codes "endmap" ∷ [])) (c ∙ ap (λ l. l ++ flat_map (λ c. line_text (cable_words f m c)) m.cables) (b ∙ ap (λ l. l ++ vertices_text f m.vertices m.core) a))
-
--- what a call that didn't fail shows
-pub on_ok-then : {T E : Type 0} (r : Result T E) (P Q : Type 0) → (P → Q) → OnOk r P → OnOk r Q
-on_ok-then (Ok x) P Q f h = f h
-on_ok-then (Err e) P Q f h = h
-
-decimal-none : decimal 0 ≡ codes "0"
-unfolding digits
-decimal-none = refl
-
--- a port is its sign and its size
-pub turn-parts : (p : ℤ) (sign size : List ℕ) → sign ≡ sign_text p → size ≡ decimal (unsigned_abs p) → sign ++ (size ++ []) ≡ turn_text p
-turn-parts p sign size d e = (λ i. d i ++ (e i ++ [])) ∙ by p
-  where
-    by : (p : ℤ) → sign_text p ++ (decimal (unsigned_abs p) ++ []) ≡ turn_text p
-    by (pos zero) = ap (λ l. l ++ []) decimal-none
-    by (pos (suc k)) = ap (λ l. codes "+" ++ l) (append-nil (decimal (suc k)))
-    by (negsuc k) = ap (λ l. codes "-" ++ l) (append-nil (decimal (suc k)))
 
 -- the ports of a cable
 pub cable-turns : (cs : List MapCable) (k : ℕ) (c : MapCable) → AllByRecursion (λ d. IsTurn d.p) (map_ends cs) → slice_get cs k ≡ Some c → IsTurn c.p × IsTurn c.q

@@ -1,5 +1,5 @@
 -- When a map can be printed, and that its text is read back.
-use Rattle.std.specs.Prelude.{◌≡◌, ℕ, zero, suc, ◌<◌, ℤ, pos, negsuc, List, [], length, codes, Ok}
+use Rattle.std.specs.Prelude.{◌≡◌, ℕ, ◌<◌, List, length, Ok}
 use Rattle.std.specs.List.{AllByRecursion}
 use Rattle.net_defs.specs.Network.{Network, IsFabric}
 use Rattle.map_defs.specs.declared.vertex.MapVertex.{MapVertex}
@@ -16,12 +16,6 @@ IsOfFabric f (Switch s) = Unit {0}
 -- the hosts of a map are hosts of the fabric
 abbrev pub AreOfFabric : Network → NetMap → Type 0
 AreOfFabric f m = AllByRecursion (IsOfFabric f) m.vertices
-
--- the sign of a turn or port: none for 0
-abbrev pub sign_text : ℤ → List ℕ
-sign_text (pos zero) = []
-sign_text (pos (suc k)) = codes "+"
-sign_text (negsuc k) = codes "-"
 
 -- With names of the text's form a text is read as the map.
 abbrev pub IsReadBack : Network → NetMap → List ℕ → Type 0

@@ -1,13 +1,16 @@
 //! The lines of a map.
 
-ghost use Rattle.std.specs.Prelude.{◌≡◌, ◌++◌, ◌∷◌, [], codes, decimal, flat_map, IfOk, OnOk};
+ghost use Rattle.std.specs.Prelude.{◌≡◌, ◌++◌, flat_map, IfOk, OnOk};
 ghost use Rattle.fab_text.specs.Written.{line_text};
+ghost use Rattle.line_writing.specs.Words.{word_text};
 ghost use Rattle.net_defs.specs.Turn.{IsTurn};
 ghost use Rattle.run_defs.specs.LineText.{map_text, vertices_text, vertex_words, vertex_text, vertex_numbered};
 ghost use Rattle.run_defs.specs.LineText.{cable_words, core_word, turn_text};
-ghost use Rattle.map_text.specs.Printing.{AreOfFabric, IsOfFabric, IsReadBack, sign_text};
+ghost use Rattle.map_text.specs.Printing.{AreOfFabric, IsOfFabric, IsReadBack};
 
 use fabric_map::{FabricMap, MapCable, MapVertex};
+use line_writing::Word::{Marked, Text};
+use line_writing::{Word, append_line};
 use port_graph::{Fabric, Vertex};
 use std::alloc::{AllocError, Global};
 
@@ -23,73 +26,50 @@ pub fn print_map(alloc: Global, m: &FabricMap, f: &Fabric) -> Result<Vec<u8>, Al
 {
     let _ = m.vertices();
     let mut text = Vec::new(alloc);
-    print_vertices(alloc, m, f, &mut text)?;
-    print_cables(alloc, m, f, &mut text)?;
-    append(&mut text, &[b"endmap\n"])?;
+    print_vertices(m, f, &mut text)?;
+    print_cables(m, f, &mut text)?;
+    append_line(&mut text, &[Text(b"endmap")])?;
     Ok(text)
 }
 
 // A line for each vertex.
-fn print_vertices(
-    alloc: Global,
-    m: &FabricMap,
-    f: &Fabric,
-    text: &mut Vec<u8>,
-) -> Result<(), AllocError>
+fn print_vertices(m: &FabricMap, f: &Fabric, text: &mut Vec<u8>) -> Result<(), AllocError>
     requires { AreOfFabric f.now m.now }
     ensures { OnOk result (text.new.items ≡ text.old.items ++ vertices_text f.now m.now.vertices m.now.core) }
 {
     let core = m.core();
     for (v, vertex) in m.vertices().iter().enumerate() {
-        vertex_line(alloc, text, f, *vertex, core[v])?;
+        vertex_line(text, f, *vertex, core[v])?;
     }
     Ok(())
 }
 
 // A line for each cable.
-fn print_cables(
-    alloc: Global,
-    m: &FabricMap,
-    f: &Fabric,
-    text: &mut Vec<u8>,
-) -> Result<(), AllocError>
+fn print_cables(m: &FabricMap, f: &Fabric, text: &mut Vec<u8>) -> Result<(), AllocError>
     requires { AreOfFabric f.now m.now }
     ensures { OnOk result (text.new.items ≡ text.old.items
         ++ flat_map (λ c. line_text (cable_words f.now m.now c)) m.now.cables) }
 {
     for c in m.cables() {
-        cable_line(alloc, text, m, f, *c)?;
+        cable_line(text, m, f, *c)?;
     }
     Ok(())
 }
 
 // `host NAME`, or `switch #K` with its mark
-fn vertex_line(
-    alloc: Global,
-    text: &mut Vec<u8>,
-    f: &Fabric,
-    v: MapVertex,
-    core: bool,
-) -> Result<(), AllocError>
+fn vertex_line(text: &mut Vec<u8>, f: &Fabric, v: MapVertex, core: bool) -> Result<(), AllocError>
     requires { IsOfFabric f.now v }
     ensures { OnOk result (text.new.items ≡ text.old.items ++ line_text (vertex_words f.now v core)) }
 {
     match v {
-        MapVertex::Host(h) => append(text, &[b"host ", f.name_of(Vertex::Host(h)), b"\n"]),
-        MapVertex::Switch(s) => switch_line(alloc, text, s, core),
+        MapVertex::Host(h) => {
+            append_line(text, &[Text(b"host"), Text(f.name_of(Vertex::Host(h)))])
+        }
+        MapVertex::Switch(s) => {
+            let number = Marked(b'#', u64::from(s));
+            append_line(text, &[Text(b"switch"), number, Text(core_word(core))])
+        }
     }
-}
-
-// `switch #K` with its mark
-fn switch_line(alloc: Global, text: &mut Vec<u8>, s: u32, core: bool) -> Result<(), AllocError>
-    ensures { OnOk result (text.new.items ≡ text.old.items
-        ++ line_text (codes "switch" ∷ (codes "#" ++ decimal s) ∷ core_word core ∷ [])) }
-{
-    let number = s.to_string(alloc)?;
-    append(
-        text,
-        &[b"switch #", number.as_bytes(), b" ", core_word(core), b"\n"],
-    )
 }
 
 // `core` or `outside`
@@ -100,87 +80,51 @@ fn core_word(core: bool) -> &'static [u8]
 }
 
 // `cable V P W Q`
-fn cable_line(
-    alloc: Global,
-    text: &mut Vec<u8>,
-    m: &FabricMap,
-    f: &Fabric,
-    c: MapCable,
-) -> Result<(), AllocError>
+fn cable_line(text: &mut Vec<u8>, m: &FabricMap, f: &Fabric, c: MapCable) -> Result<(), AllocError>
     requires hosts { AreOfFabric f.now m.now }
     requires port_p { IsTurn c.p }
     requires port_q { IsTurn c.q }
     ensures { OnOk result (text.new.items ≡ text.old.items ++ line_text (cable_words f.now m.now c)) }
 {
-    append(text, &[b"cable "])?;
-    push_vertex(alloc, text, m, f, c.v)?;
-    append(text, &[b" "])?;
-    push_port(alloc, text, c.p)?;
-    append(text, &[b" "])?;
-    push_vertex(alloc, text, m, f, c.w)?;
-    append(text, &[b" "])?;
-    push_port(alloc, text, c.q)?;
-    append(text, &[b"\n"])
+    let v = vertex_word(m, f, c.v);
+    let p = port_word(c.p);
+    let w = vertex_word(m, f, c.w);
+    let q = port_word(c.q);
+    append_line(text, &[Text(b"cable"), v, p, w, q])
 }
 
-// Adds the name of a vertex, if it is there.
-fn push_vertex(
-    alloc: Global,
-    text: &mut Vec<u8>,
-    m: &FabricMap,
-    f: &Fabric,
-    v: u32,
-) -> Result<(), AllocError>
+// The name of a vertex, if it is there.
+fn vertex_word<'a>(m: &FabricMap, f: &'a Fabric, v: u32) -> Word<'a>
     requires { AreOfFabric f.now m.now }
-    ensures { OnOk result (text.new.items ≡ text.old.items ++ vertex_numbered f.now m.now v) }
+    ensures { word_text result ≡ vertex_numbered f.now m.now v }
 {
     match m.vertices().get(v as usize) {
-        Some(vertex) => push_name(alloc, text, f, *vertex),
-        None => Ok(()),
+        Some(vertex) => name_word(f, *vertex),
+        None => Text(b""),
     }
 }
 
-// Adds a host's name, or `#K`.
-fn push_name(alloc: Global, text: &mut Vec<u8>, f: &Fabric, v: MapVertex) -> Result<(), AllocError>
+// A host's name, or `#K`.
+fn name_word(f: &Fabric, v: MapVertex) -> Word<'_>
     requires { IsOfFabric f.now v }
-    ensures { OnOk result (text.new.items ≡ text.old.items ++ vertex_text f.now v) }
+    ensures { word_text result ≡ vertex_text f.now v }
 {
     match v {
-        MapVertex::Host(h) => append(text, &[f.name_of(Vertex::Host(h))]),
-        MapVertex::Switch(s) => {
-            let number = s.to_string(alloc)?;
-            append(text, &[b"#", number.as_bytes()])
-        }
+        MapVertex::Host(h) => Text(f.name_of(Vertex::Host(h))),
+        MapVertex::Switch(s) => Marked(b'#', u64::from(s)),
     }
 }
 
-// Adds a port: `0`, `+3` or `-3`.
-fn push_port(alloc: Global, text: &mut Vec<u8>, p: i8) -> Result<(), AllocError>
-    ensures { OnOk result (text.new.items ≡ text.old.items ++ turn_text p) }
+// A port: `0`, `+3` or `-3`.
+fn port_word(p: i8) -> Word<'static>
+    ensures { word_text result ≡ turn_text p }
 {
-    let size = p.unsigned_abs().to_string(alloc)?;
-    append(text, &[sign(p), size.as_bytes()])
-}
-
-// The sign of a port: none for 0.
-fn sign(p: i8) -> &'static [u8]
-    ensures { result.now ≡ sign_text p }
-{
+    let size = u64::from(p.unsigned_abs());
     if p > 0 {
-        b"+"
+        Marked(b'+', size)
     } else if p < 0 {
-        b"-"
+        Marked(b'-', size)
     } else {
-        b""
+        Text(b"0")
     }
-}
-
-// Parts, one after another, behind a text.
-fn append(text: &mut Vec<u8>, parts: &[&[u8]]) -> Result<(), AllocError>
-    ensures { OnOk result (text.new.items ≡ text.old.items ++ flat_map (λ part. part.now) parts.now) }
-{
-    for part in parts {
-        text.extend_from_slice(part)?;
-    }
-    Ok(())
 }

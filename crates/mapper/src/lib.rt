@@ -33,3 +33,4 @@ mod walks;
 pub use growth::{Grown, grow};
 pub use map_canon::FabricMap;
 pub use mapping::{MapEnd, Mapped, map};
+pub use walks::{TURNS, empty_walk, turn_at};

@@ -8,10 +8,10 @@ use net_defs::Walk;
 use std::alloc::{AllocError, Global};
 
 /// How many turns a node has.
-pub(crate) const TURNS: u8 = 30;
+pub const TURNS: u8 = 30;
 
 /// The turn that is asked as number `step`, from 0: the turns rise from -15 to 15, without 0.
-pub(crate) fn turn_at(step: u8) -> i8
+pub fn turn_at(step: u8) -> i8
     requires { step < 30 }
     ensures value { result ≡ turn_at step }
     ensures in_range { IsTurn result }
@@ -24,7 +24,7 @@ pub(crate) fn turn_at(step: u8) -> i8
 }
 
 /// The walk without turns.
-pub(crate) fn empty_walk(alloc: Global) -> Result<Walk, AllocError>
+pub fn empty_walk(alloc: Global) -> Result<Walk, AllocError>
     ensures { IfOk result (λ walk. walk ≡ []) }
 {
     match Walk::new(alloc, &[]) {

@@ -17,7 +17,7 @@ use Rattle.world_defs.specs.Step.{step}
 use Rattle.world_defs.specs.Install.{installed}
 use Rattle.world_defs.specs.Settle.{settle}
 use Rattle.run_defs.specs.declared.command.Command.{Command}
-use Rattle.run_defs.specs.declared.command.Command.TheVariants.{Walk, Map, Routes, Install, Begin as BeginCommand, Close as CloseCommand, Poll as PollCommand, Tokens, Provide as ProvideCommand, Send as SendCommand, Plan, Step, Settle, Finish}
+use Rattle.run_defs.specs.declared.command.Command.TheVariants.{Walk, Map, Circuit, Routes, Install, Begin as BeginCommand, Close as CloseCommand, Poll as PollCommand, Tokens, Provide as ProvideCommand, Send as SendCommand, Plan, Step, Settle, Finish}
 use Rattle.run_defs.specs.declared.line.Line.TheVariants.{MapBusy, InstallRefused}
 use Rattle.run_defs.specs.declared.line.InstallCause.TheVariants.{Busy, Installed as OtherInstalled}
 use Rattle.run_defs.specs.declared.line.MapWords.{MapWords}
@@ -27,7 +27,7 @@ use Rattle.run_defs.specs.Output.{Piece}
 use Rattle.run_defs.specs.Session.{SessionState, LastMap, LastRoutes, new_session, is_complete, complete_map}
 use Rattle.run_defs.specs.Outcome.{Outcome, says_only, event_of, stepped, step_or_idle, adoption_of, install_done, install_now, install, map_refused, routes_refused, outcome}
 use Rattle.run_defs.specs.Run.{Does, Runs}
-use Rattle.run_defs.specs.Run.Does.{determined, maps, routes}
+use Rattle.run_defs.specs.Run.Does.{determined, maps, circuits, routes}
 use Rattle.run_defs.specs.Run.Runs.{ended, goes_on}
 use Rattle.run_defs.specs.Headline.{IsCommandOf}
 use Rattle.mapping_laws.specs.Runs.{IsSessionOf}
@@ -90,6 +90,7 @@ busy-held s host = by (is_idle s.world.links)
 outcome-held : (s : SessionState) (c : Command) → HeldIn s (outcome s c)
 outcome-held s (Walk host walk) = held-world s s.world refl
 outcome-held s (Map host depth tries) = busy-held s host
+outcome-held s (Circuit host depth) = tt
 outcome-held s Routes = refused-held s (complete_map s.last_map)
 outcome-held s (Install tries) = install-held s tries s.last_routes refl
 outcome-held s (BeginCommand h port sends recvs) = held-world s (step s.world (Begin h port sends recvs)).1 (event-set s.world (Begin h port sends recvs))
@@ -145,6 +146,7 @@ does-hold {s = s} {next = next} n f of_n is h (maps {host = host} {depth = depth
       routes = h.routes;
       adopted = λ a e. h.adopted a (sym set ∙ e);
     })
+does-hold {s = s} {next = next} n f of_n is h (circuits told left) = subst (HoldsRight n) (sym left) h
 does-hold {s = s} {next = next} n f of_n is h (routes l found complete are printed left) =
     let k = h.complete l complete in
     let right = routes_of_a_right_map_are_right n l.mapper l.made (order_of l.made) found f k.rules k.right (places_are_an_order l.made) are in

@@ -11,7 +11,7 @@ use Rattle.world_defs.specs.Step.{step}
 use Rattle.world_defs.specs.Install.{installed}
 use Rattle.world_laws.proofs.Shapes.{new-world}
 use Rattle.run_defs.specs.declared.command.Command.{Command}
-use Rattle.run_defs.specs.declared.command.Command.TheVariants.{Walk, Map, Routes, Install, Begin as BeginCommand, Close as CloseCommand, Poll as PollCommand, Tokens, Provide as ProvideCommand, Send as SendCommand, Plan, Step, Settle, Finish}
+use Rattle.run_defs.specs.declared.command.Command.TheVariants.{Walk, Map, Circuit, Routes, Install, Begin as BeginCommand, Close as CloseCommand, Poll as PollCommand, Tokens, Provide as ProvideCommand, Send as SendCommand, Plan, Step, Settle, Finish}
 use Rattle.run_defs.specs.declared.line.ClientCall.{ClientCall}
 use Rattle.run_defs.specs.declared.line.Line.TheVariants.{MapBusy, InstallRefused}
 use Rattle.run_defs.specs.declared.line.InstallCause.TheVariants.{Busy, Installed as OtherInstalled}
@@ -20,7 +20,7 @@ use Rattle.run_defs.specs.Session.{SessionState, LastMap, LastRoutes, new_sessio
 use Rattle.run_defs.specs.Outcome.{Outcome, says_only, called, event_of, stepped, step_or_idle, fault_of, adoption_of, install_done, install_now, install, map_refused, routes_refused, outcome}
 use Rattle.world_defs.specs.Table.{is_other}
 use Rattle.run_defs.specs.Run.{Does, Runs}
-use Rattle.run_defs.specs.Run.Does.{determined, maps, routes}
+use Rattle.run_defs.specs.Run.Does.{determined, maps, circuits, routes}
 use Rattle.run_defs.specs.Run.Runs.{ended, goes_on}
 use Rattle.mapping_laws.specs.Laws.{CanMap}
 use Rattle.run_defs.specs.Headline.{IsCommandOf}
@@ -75,6 +75,7 @@ map-stays s host = by (is_idle s.world.links)
 outcome-stays : (n : Network) (s : SessionState) (c : Command) → IsCommandOf n c → StaysIn s (outcome s c)
 outcome-stays n s (Walk host walk) of_n = stays-same s.world
 outcome-stays n s (Map host depth tries) of_n = map-stays s host
+outcome-stays n s (Circuit host depth) of_n = tt
 outcome-stays n s Routes of_n = routes-stay s (complete_map s.last_map)
 outcome-stays n s (Install tries) of_n = install-stays s tries s.last_routes
 outcome-stays n s (BeginCommand h port sends recvs) of_n = stays-event s.world (Begin h port sends recvs)
@@ -118,6 +119,7 @@ does-stays {s = s} {next = next} {c = c} n f of_n is (determined e) = session-st
 does-stays {s = s} {next = next} n f of_n is (maps {host = host} {depth = depth} {tries = tries} after j m words none made printed left) =
     let keeps = mapping_keeps host depth tries s.world after j m words (can-map-now n s host depth tries f of_n is none) made in
     subst (IsSessionOf n) (sym left) (record { fabric = keeps.0.fabric ∙ is.fabric; world = keeps.1.world; byte_flips = keeps.1.byte_flips })
+does-stays {s = s} {next = next} n f of_n is (circuits told left) = subst (IsSessionOf n) (sym left) is
 does-stays {s = s} {next = next} n f of_n is (routes l found complete are printed left) =
     subst (IsSessionOf n) (sym left) (record { fabric = is.fabric; world = is.world; byte_flips = is.byte_flips })
 

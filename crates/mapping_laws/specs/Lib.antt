@@ -1,3 +1,4 @@
+pub mod Circuits
 pub mod Held
 pub mod Laws
 pub mod Runs

@@ -18,6 +18,7 @@ mod examples;
 mod fault;
 mod place;
 mod route;
+mod turn;
 mod vertex;
 mod walk;
 
@@ -25,5 +26,6 @@ pub use examples::{places_of_the_self_cabled_switch, places_of_two_hosts};
 pub use fault::GraphFault;
 pub use place::{Answer, Place};
 pub use route::Route;
+pub use turn::leaving_port;
 pub use vertex::{Cable, End, Vertex};
 pub use walk::{Walk, WalkFault};

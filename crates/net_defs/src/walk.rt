@@ -5,7 +5,7 @@ ghost use Rattle.net_defs.specs.Refusal.{Refuses};
 ghost use Rattle.std.specs.List.{list_all};
 ghost use Rattle.net_defs.specs.Turn.{is_turn, IsTurn, walk_refusal};
 
-use std::alloc::Global;
+use std::alloc::{AllocError, Global};
 use std::marker::Model;
 use thiserror::Error;
 
@@ -70,6 +70,14 @@ impl Walk {
         ensures in_range { All IsTurn result.now }
     {
         &self.turns
+    }
+
+    /// Another walk of the same turns.
+    pub fn copied(&self, alloc: Global) -> Result<Walk, AllocError>
+        ensures { IfOk result (λ walk. walk ≡ self.now) }
+    {
+        let turns = self.turns.to_vec(alloc)?;
+        Ok(Walk { turns })
     }
 }
 

@@ -112,7 +112,7 @@ impl NicNode {
         ensures hosts { self.new.hosts ≡ self.old.hosts }
         ensures unchanged { OnErr result (self.new ≡ self.old) }
     {
-        let back = copy(alloc, &part.back)?;
+        let back = part.back.copied(alloc)?;
         let epoch = part.epoch;
         let number = part.part;
         let applied = self.table.apply(part)?;
@@ -176,14 +176,4 @@ fn are_to_hosts(entries: &[TableEntry], hosts: u16) -> bool
     ensures { result ≡ list_all (λ e. is_host hosts e.to) entries.now }
 {
     entries.iter().all(|entry| entry.to < hosts)
-}
-
-// Another walk of the same turns.
-fn copy(alloc: Global, walk: &Walk) -> Result<Walk, AllocError>
-    ensures { IfOk result (λ copied. copied ≡ walk.now) }
-{
-    match Walk::new(alloc, walk.turns()) {
-        Ok(copied) => Ok(copied),
-        Err(_) => Err(AllocError),
-    }
 }

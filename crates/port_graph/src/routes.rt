@@ -1,11 +1,12 @@
 //! Routes of many pairs of hosts, in the order of their addresses.
 
-ghost use Rattle.std.specs.Prelude.{◌≡◌, ◌-◌, ◌++◌, ◌∷◌, [], length, slice_get, Some, OnOk, OnErr, option_copied};
+ghost use Rattle.std.specs.Prelude.{◌≡◌, ◌-◌, ◌++◌, ◌∷◌, [], length, slice_get, Some, IfOk};
+ghost use Rattle.std.specs.Prelude.{OnOk, OnErr, option_copied};
 ghost use Rattle.net_defs.specs.RouteSet.{route_below, AreRising};
 ghost use Rattle.port_graph.specs.Routes.{is_above, push_refusal, walk_of, walk_at, HandsBack};
 
 use net_defs::{Route, Walk};
-use std::alloc::Global;
+use std::alloc::{AllocError, Global};
 use std::marker::Model;
 use thiserror::Error;
 
@@ -61,6 +62,17 @@ impl RouteSet {
             Ok(()) => Ok(()),
             Err(failed) => Err((failed.value, RoutePush::NoMemory)),
         }
+    }
+
+    /// Another set of the same routes.
+    pub fn copied(&self, alloc: Global) -> Result<RouteSet, AllocError>
+        ensures { IfOk result (λ set. set ≡ self.now) }
+    {
+        let mut routes = Vec::new(alloc);
+        for r in self.list() {
+            routes.push(r.copied(alloc)?)?;
+        }
+        Ok(RouteSet { routes })
     }
 
     /// The routes, rising.

@@ -1,5 +1,5 @@
 -- Each map among the pieces that commands print is read again.
-use Rattle.std.proofs.Common.{ℕ, Bool, true, false, not, List, [], ◌∷◌, ◌++◌, map, length, Option, Some, None, sym, ◌∙◌, subst, append_assoc, if◌then◌else◌}
+use Rattle.std.proofs.Common.{◌<◌, ℕ, Bool, true, false, not, List, [], ◌∷◌, ◌++◌, map, length, Option, Some, None, sym, ◌∙◌, subst, append_assoc, if◌then◌else◌}
 use Rattle.std.specs.Prelude.{◌-◌}
 use Rattle.std.specs.List.{AllByRecursion}
 use Rattle.net_defs.specs.Network.{Network, IsFabric}
@@ -15,26 +15,28 @@ use Rattle.world_defs.specs.World.{WorldState, node_at, planned, adopted_by}
 use Rattle.world_defs.specs.Step.{step}
 use Rattle.world_defs.specs.Install.{installed}
 use Rattle.run_defs.specs.declared.command.Command.{Command}
-use Rattle.run_defs.specs.declared.command.Command.TheVariants.{Walk, Map, Routes, Install, Begin as BeginCommand, Close as CloseCommand, Poll as PollCommand, Tokens, Provide as ProvideCommand, Send as SendCommand, Plan, Step, Settle, Finish}
+use Rattle.run_defs.specs.declared.command.Command.TheVariants.{Walk, Map, Circuit, Routes, Install, Begin as BeginCommand, Close as CloseCommand, Poll as PollCommand, Tokens, Provide as ProvideCommand, Send as SendCommand, Plan, Step, Settle, Finish}
 use Rattle.run_defs.specs.declared.line.ClientCall.{ClientCall}
 use Rattle.run_defs.specs.declared.line.ClientCall.TheVariants.{Begin as BeginCall, Close as CloseCall, Provide as ProvideCall, Send as SendCall, Poll as PollCall}
 use Rattle.run_defs.specs.declared.line.Line.{Line}
-use Rattle.run_defs.specs.declared.line.Line.TheVariants.{Map as MapLine, MapBusy, InstallRefused}
+use Rattle.run_defs.specs.declared.line.Line.TheVariants.{Map as MapLine, MapBusy, Circuit as CircuitLine, InstallRefused}
 use Rattle.run_defs.specs.declared.line.InstallCause.TheVariants.{Busy, Installed as OtherInstalled}
 use Rattle.run_defs.specs.declared.line.MapWords.{MapWords}
 use Rattle.run_defs.specs.declared.line.MapWords.TheVariants.{Complete, Doubtful, IncompleteDepth, IncompleteNodes}
+use Rattle.run_defs.specs.Circuit.{IsCircuitTold}
+use Rattle.run_defs.specs.Circuit.IsCircuitTold.{whole, too_many_nodes}
 use Rattle.run_defs.specs.Output.{Piece, OneLine, MapLines, lines}
 use Rattle.run_defs.specs.Session.{SessionState, LastMap, LastRoutes, complete_map}
 use Rattle.run_defs.specs.Outcome.{Outcome, says_only, called, client_lines, event_of, stepped, step_or_idle, plan_made, fault_of, token_lines, adoption_of, install_done, install_now, install, table_line, map_refused, routes_refused, outcome}
 use Rattle.world_defs.specs.Table.{is_other}
 use Rattle.run_defs.specs.Run.{Does, Runs, map_pieces, routes_lines}
-use Rattle.run_defs.specs.Run.Does.{determined, maps, routes}
+use Rattle.run_defs.specs.Run.Does.{determined, maps, circuits, routes}
 use Rattle.run_defs.specs.Run.Runs.{ended, goes_on}
 use Rattle.run_defs.specs.Headline.{IsCommandOf}
 use Rattle.mapping_laws.specs.Runs.{IsSessionOf}
 use Rattle.mapping_laws.proofs.Sessions.{can-map-now, does-stays, new-session}
-use Rattle.print_laws.specs.Printed.{IsPrintable, IsReadAgain, MapsOfRunsReadBack, CompleteMapsReadBack}
-use Rattle.print_laws.proofs.ReadAgain.{made_map_is_printable, printable_is_read_again}
+use Rattle.print_laws.specs.Printed.{IsPrintable, IsReadAgain, MapsOfRunsReadBack, CompleteMapsReadBack, CircuitMapsReadBack}
+use Rattle.print_laws.proofs.ReadAgain.{made_map_is_printable, circuit_map_is_printable, printable_is_read_again}
 
 -- a map among pieces is read again
 abbrev IsReadPiece : Network → Piece → Type 0
@@ -92,6 +94,7 @@ map-refused-read n s host = by (is_idle s.world.links)
 outcome-read : (n : Network) (s : SessionState) (c : Command) → ReadIn n (outcome s c)
 outcome-read n s (Walk host walk) = (tt, tt)
 outcome-read n s (Map host depth tries) = map-refused-read n s host
+outcome-read n s (Circuit host depth) = tt
 outcome-read n s Routes = routes-refused-read n s (complete_map s.last_map)
 outcome-read n s (Install tries) = install-read n s tries s.last_routes
 outcome-read n s (BeginCommand h port sends recvs) = called-read n s BeginCall h port (step s.world (Begin h port sends recvs))
@@ -111,6 +114,11 @@ map-read n l m (Doubtful drowned) is = (tt, (is, tt))
 map-read n l m IncompleteDepth is = (tt, (is, tt))
 map-read n l m IncompleteNodes is = (tt, tt)
 
+circuit-read : (n : Network) (host depth : ℕ) (out : List Piece) → IsFabric n → AreNamed n → host < length n.hosts → IsCircuitTold n host depth out → AreRead n out
+circuit-read n host depth out f named there (whole j m growing kept is printed) =
+    subst (AreRead n) (sym printed) (tt, (printable_is_read_again n m f named (circuit_map_is_printable n host depth j m f there kept is), tt))
+circuit-read n host depth out f named there (too_many_nodes j growing passed printed) = subst (AreRead n) (sym printed) (tt, tt)
+
 does-read : {s next : SessionState} {c : Command} {out : List Piece} → (n : Network) → IsFabric n → AreNamed n → IsCommandOf n c → IsSessionOf n s → Does s c out next → AreRead n out
 does-read {s = s} {c = c} n f named of_n is (determined e) = subst (ReadIn n) e (outcome-read n s c)
 does-read {s = s} n f named of_n is (maps {host = host} {depth = depth} {tries = tries} after j m words none made printed left) =
@@ -118,6 +126,7 @@ does-read {s = s} n f named of_n is (maps {host = host} {depth = depth} {tries =
     let printable = made_map_is_printable host depth tries s.world after j m words can made in
     let read = printable_is_read_again n m f named (subst (λ k. IsPrintable k m) is.fabric printable) in
     subst (AreRead n) (sym printed) (map-read n (MapLine host words (length j) (after.injected - s.world.injected)) m words read)
+does-read {s = s} {out = out} n f named of_n is (circuits {host = host} {depth = depth} told left) = circuit-read n host depth out f named of_n (subst (λ k. IsCircuitTold k host depth out) is.fabric told)
 does-read {s = s} n f named of_n is (routes l found complete are printed left) = subst (AreRead n) (sym printed) (lines-read n (routes_lines l.made found))
 
 runs-read : {s last : SessionState} {cs : List Command} {out : List Piece} → (n : Network) → IsFabric n → AreNamed n → AllByRecursion (IsCommandOf n) cs → IsSessionOf n s → Runs s cs out last → AreRead n out
@@ -136,4 +145,9 @@ maps_of_runs_read_back n commands out last before behind m f named all r e = sta
 pub complete_maps_read_back : CompleteMapsReadBack
 complete_maps_read_back n commands out last mapper m f named all r p =
     let line = OneLine (MapLine mapper Complete p.asks p.packets) in
+    maps_of_runs_read_back n commands out last (p.before ++ line ∷ []) p.behind m f named all r (p.there ∙ sym (append_assoc p.before (line ∷ []) (MapLines m ∷ p.behind)))
+
+pub circuit_maps_read_back : CircuitMapsReadBack
+circuit_maps_read_back n commands out last host depth asks m f named all r p =
+    let line = OneLine (CircuitLine host depth asks) in
     maps_of_runs_read_back n commands out last (p.before ++ line ∷ []) p.behind m f named all r (p.there ∙ sym (append_assoc p.before (line ∷ []) (MapLines m ∷ p.behind)))

@@ -3,12 +3,15 @@ use Rattle.std.proofs.Common.{◌≡◌, ◌<◌, length, sym, ap, subst, arith}
 use Rattle.net_defs.specs.Network.{Network}
 use Rattle.map_defs.specs.NetMap.{NetMap}
 use Rattle.map_text.specs.Printing.{AreOfFabric}
+use Rattle.map_text.proofs.OfFabric.{each-of_fabric}
 use Rattle.map_text.proofs.ReadBack.{map-read-back}
 use Rattle.world_defs.specs.World.{fabric_of}
 use Rattle.mapping_laws.proofs.Made.{found_is_there, made_map_is_map}
-use Rattle.print_laws.specs.Printed.{MadeMapIsPrintable, PrintableIsReadAgain}
+use Rattle.circ_class_laws.proofs.Telling.{circuit-true}
+use Rattle.circ_map_laws.proofs.Ruled.{circuit_map_is_map, few-kept, kept-host}
+use Rattle.print_laws.specs.Printed.{MadeMapIsPrintable, CircuitMapIsPrintable, PrintableIsReadAgain}
 use Rattle.print_laws.proofs.Fewness.{few-vertices, few-nodes, few-cables}
-use Rattle.print_laws.proofs.Hosts.{hosts-of_fabric}
+use Rattle.print_laws.proofs.Hosts.{host-there, hosts-of_fabric}
 use Rattle.print_laws.proofs.Lengths.{text-short}
 
 pub made_map_is_printable : MadeMapIsPrintable
@@ -26,6 +29,21 @@ made_map_is_printable host depth tries before after j m words can made =
       hosts = subst (AreOfFabric n) (sym made.marked) (hosts-of_fabric n host j k can.fabric there found made.quotient);
       few_vertices = omega arith;
       few_cables = few-cables m rules;
+    }
+
+pub circuit_map_is_printable : CircuitMapIsPrintable
+circuit_map_is_printable n host depth j k fabric there ended is =
+    let m : NetMap = is.with_outside in
+    let rules = circuit_map_is_map n host depth j k fabric is in
+    let found = circuit-true n host j is.tree.circuit in
+    let vertices = few-vertices host j m is.quotient in
+    let kept = few-kept m k is.without_outside in
+    let nodes = ended.kept in
+    record {
+      rules = rules;
+      hosts = each-of_fabric n k.vertices (λ v h e. let u = kept-host m k is.without_outside v h e in host-there n host j m fabric there found is.quotient u.0 h u.1);
+      few_vertices = omega arith;
+      few_cables = few-cables k rules;
     }
 
 pub printable_is_read_again : PrintableIsReadAgain

@@ -1,10 +1,12 @@
 -- Every map that a run prints is read back from its lines.
-use Rattle.std.specs.Prelude.{◌≡◌, ℕ, ◌+◌, ◌*◌, ◌≤◌, List, ◌∷◌, ◌++◌, length, Ok}
+use Rattle.std.specs.Prelude.{◌≡◌, ℕ, ◌+◌, ◌*◌, ◌<◌, ◌≤◌, List, ◌∷◌, ◌++◌, length, Ok}
 use Rattle.std.specs.List.{AllByRecursion}
 use Rattle.net_defs.specs.Network.{Network, IsFabric}
 use Rattle.journal_defs.specs.declared.entry.Entry.{Entry}
 use Rattle.journal_defs.specs.Growth.{node_limit}
 use Rattle.map_defs.specs.NetMap.{NetMap, IsMap}
+use Rattle.circ_defs.specs.Asking.{IsTreeEnded}
+use Rattle.circ_defs.specs.CircuitMap.{IsCircuitMap}
 use Rattle.world_defs.specs.World.{WorldState, fabric_of}
 use Rattle.run_defs.specs.declared.command.Command.{Command}
 use Rattle.run_defs.specs.declared.line.MapWords.{MapWords}
@@ -17,6 +19,7 @@ use Rattle.run_defs.specs.Headline.{IsCommandOf, HasPrinted}
 use Rattle.fabric_file.specs.Reading.{AreNamed}
 use Rattle.map_text.specs.Printing.{AreOfFabric}
 use Rattle.map_text.specs.Reading.{map_reading}
+use Rattle.mapping_laws.specs.Circuits.{HasPrintedCircuit}
 use Rattle.mapping_laws.specs.Laws.{CanMap}
 
 -- What a map has that can be printed and read: the rules of maps, hosts of the fabric, no more vertices than nodes of
@@ -38,6 +41,11 @@ MadeMapIsPrintable =
     (host depth tries : ℕ) (before after : WorldState) (j : List Entry) (m : NetMap) (words : MapWords)
     → CanMap host depth before → IsMapped host depth tries before after j m words → IsPrintable (fabric_of before) m
 
+-- So can every circuit map of a tree that keeps the limit of nodes.
+abbrev pub CircuitMapIsPrintable : Type 0
+CircuitMapIsPrintable = (n : Network) (host depth : ℕ) (j : List Entry) (m : NetMap) → IsFabric n
+    → host < length n.hosts → IsTreeEnded depth j → IsCircuitMap n host depth j m → IsPrintable n m
+
 -- Over a fabric whose names have the form of the text, such a map is read again.
 abbrev pub PrintableIsReadAgain : Type 0
 PrintableIsReadAgain = (n : Network) (m : NetMap) → IsFabric n → AreNamed n → IsPrintable n m → IsReadAgain n m
@@ -56,3 +64,10 @@ CompleteMapsReadBack =
     (n : Network) (commands : List Command) (out : List Piece) (last : SessionState) (mapper : ℕ) (m : NetMap)
     → IsFabric n → AreNamed n → AllByRecursion (IsCommandOf n) commands → IsRun n commands out last
     → HasPrinted out mapper m → IsReadAgain n m
+
+-- So is each that it prints of circuit links.
+abbrev pub CircuitMapsReadBack : Type 0
+CircuitMapsReadBack =
+    (n : Network) (commands : List Command) (out : List Piece) (last : SessionState) (host depth asks : ℕ) (m : NetMap)
+    → IsFabric n → AreNamed n → AllByRecursion (IsCommandOf n) commands → IsRun n commands out last
+    → HasPrintedCircuit out host depth asks m → IsReadAgain n m

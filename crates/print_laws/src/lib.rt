@@ -4,12 +4,13 @@
 //! `specs/Printed.antt`.
 #![tactic(auto)]
 
-ghost use Rattle.print_laws.specs.Printed.{MadeMapIsPrintable, PrintableIsReadAgain, MapsOfRunsReadBack};
-ghost use Rattle.print_laws.specs.Printed.{CompleteMapsReadBack};
+ghost use Rattle.print_laws.specs.Printed.{MadeMapIsPrintable, CircuitMapIsPrintable, PrintableIsReadAgain};
+ghost use Rattle.print_laws.specs.Printed.{MapsOfRunsReadBack, CompleteMapsReadBack, CircuitMapsReadBack};
 
 /// A map that was made can be printed, and its lines are read as that map.
 pub fn printable_maps()
     ensures made { MadeMapIsPrintable }
+    ensures circuit { CircuitMapIsPrintable }
     ensures read { PrintableIsReadAgain }
 {}
 
@@ -17,4 +18,5 @@ pub fn printable_maps()
 pub fn printed_maps()
     ensures any { MapsOfRunsReadBack }
     ensures complete { CompleteMapsReadBack }
+    ensures circuit { CircuitMapsReadBack }
 {}

@@ -6,7 +6,7 @@ use Rattle.net_defs.specs.declared.vertex.Vertex.TheVariants.{Host}
 use Rattle.net_defs.specs.Network.{Network, has_vertex}
 use Rattle.net_defs.proofs.Distinct.{all-weaker}
 use Rattle.run_defs.specs.declared.command.Command.{Command}
-use Rattle.run_defs.specs.declared.command.Command.TheVariants.{Walk, Map, Routes, Install, Begin, Close, Poll, Tokens, Provide, Send, Plan, Step, Settle, Finish}
+use Rattle.run_defs.specs.declared.command.Command.TheVariants.{Walk, Map, Circuit, Routes, Install, Begin, Close, Poll, Tokens, Provide, Send, Plan, Step, Settle, Finish}
 use Rattle.run_defs.specs.declared.command.PlanKind.TheVariants.{Lose, Repeat, Hold, Flip}
 use Rattle.run_defs.specs.declared.command.StepLine.{StepLine}
 use Rattle.run_defs.specs.declared.command.StepLine.TheVariants.{Flip as FlipStep}
@@ -25,6 +25,7 @@ host-below n h there = grind (arith, nat_tests)
 pub said-command : (n : Network) (c : Command) → IsSaid n c → IsCommandOf n c
 said-command n (Walk h turns) is = tt
 said-command n (Map h depth tries) is = (host-below n h is.0, (let low = is.1.1 in omega (arith, low)))
+said-command n (Circuit h depth) is = host-below n h is.0
 said-command n Routes is = tt
 said-command n (Install tries) is = tt
 said-command n (Begin h port sends recvs) is = tt
@@ -58,6 +59,7 @@ said-step n line is = tt
 
 pub said-act : (n : Network) (c : Command) → IsSaid n c → IsActOf n c
 said-act n (Map h depth tries) is = said-command n (Map h depth tries) is
+said-act n (Circuit h depth) is = said-command n (Circuit h depth) is
 said-act n (Plan ahead kind) is = (is.0.0, said-command n (Plan ahead kind) is)
 said-act n (Step line) is = said-step n line is
 said-act n c is = tt

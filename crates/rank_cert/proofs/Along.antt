@@ -12,7 +12,7 @@ use Rattle.net_defs.specs.Dependencies.{IsNext}
 use Rattle.map_defs.specs.Ranks.{Rises, rank_of}
 use Rattle.net_defs.specs.Dependencies.IsNext.{here, later}
 use Rattle.rank_cert.specs.declared.fault.CheckFault.TheVariants.{BadRank}
-use Rattle.rank_cert.specs.Checking.{Ranked, fault_at, fault_along, ranked, ranked_at}
+use Rattle.rank_cert.specs.Checking.{Ranked, fault_at, fault_along, fault_by, rank_after, ranked, ranked_at, ranked_by}
 use Rattle.rank_cert.specs.Following.{next_after, channels_after}
 
 pub first-none : {X : Type 0} (o : Option X) → first_of_two o None ≡ o
@@ -39,6 +39,19 @@ fault-step m ks before (Some d) t ts = by (map_far m d)
     by : (o : Option MapPort) → fault_along ks before (option_to_list (option_map (λ e. d) o) ++ channels_on m (option_and_then (λ e. turned_to m e t) o) ts) ≡ first_of_two (fault_along ks before (option_to_list (option_map (λ e. d) o))) (fault_along ks (ranked d (rank_of ks d)) (channels_on m (option_and_then (λ e. turned_to m e t) o) ts))
     by None = refl
     by (Some e) = ap (λ o. first_of_two o (fault_along ks (ranked d (rank_of ks d)) (channels_on m (turned_to m e t) ts))) (sym (first-none (fault_at before d (rank_of ks d))))
+
+-- the fault of a port's own channel, by its rank
+pub fault-there : (m : NetMap) (ks : List RankEntry) (before : Option Ranked) (at : Option MapPort) → fault_by before (channels_after m at) (rank_after ks at) ≡ fault_along ks before (channels_after m at)
+fault-there m ks before None = refl
+fault-there m ks before (Some d) = by (map_far m d)
+  where
+    by : (o : Option MapPort) → fault_by before (option_to_list (option_map (λ e. d) o)) (rank_of ks d) ≡ fault_along ks before (option_to_list (option_map (λ e. d) o))
+    by None = refl
+    by (Some e) = sym (first-none (fault_at before d (rank_of ks d)))
+
+pub ranked-there : (ks : List RankEntry) (at : Option MapPort) → ranked_by at (rank_after ks at) ≡ ranked_at ks at
+ranked-there ks None = refl
+ranked-there ks (Some d) = refl
 
 pub fault-end : (m : NetMap) (ks : List RankEntry) (before : Option Ranked) (at : Option MapPort) → fault_along ks before (channels_on m at []) ≡ fault_along ks before (channels_after m at)
 fault-end m ks before None = refl

@@ -44,6 +44,21 @@ abbrev pub ranked_at : List RankEntry → Option MapPort → Option Ranked
 ranked_at ks None = None
 ranked_at ks (Some d) = ranked d (rank_of ks d)
 
+-- the rank of the channel of a port, where there is one
+abbrev pub rank_after : List RankEntry → Option MapPort → Option ℕ
+rank_after ks None = None
+rank_after ks (Some d) = rank_of ks d
+
+-- the channel of a port, where there is one, with this rank
+abbrev pub ranked_by : Option MapPort → Option ℕ → Option Ranked
+ranked_by None rank = None
+ranked_by (Some d) rank = ranked d rank
+
+-- the fault of the first of these channels, which has this rank, after the channel before it
+abbrev pub fault_by : Option Ranked → List MapPort → Option ℕ → Option CheckFault
+fault_by before [] rank = None
+fault_by before (d ∷ ds) rank = fault_at before d rank
+
 -- the first fault along channels
 abbrev pub fault_along : List RankEntry → Option Ranked → List MapPort → Option CheckFault
 fault_along ks before [] = None

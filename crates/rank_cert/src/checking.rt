@@ -6,8 +6,8 @@ ghost use Rattle.net_defs.specs.Turn.{IsTurn};
 ghost use Rattle.map_defs.specs.Routing.{LeadsTo, channels_on};
 ghost use Rattle.net_defs.specs.Dependencies.{IsBefore, HasNoCycle};
 ghost use Rattle.map_defs.specs.Ranks.{IsCertificate, channels_of_routes};
-ghost use Rattle.rank_cert.specs.Checking.{first_fault, route_fault, fault_along, fault_at, leads, ranked_at, Tells};
-ghost use Rattle.rank_cert.specs.Checking.{AreOfOneOrder};
+ghost use Rattle.rank_cert.specs.Checking.{first_fault, route_fault, fault_along, fault_at, fault_by, leads};
+ghost use Rattle.rank_cert.specs.Checking.{rank_after, ranked_by, Tells, AreOfOneOrder};
 ghost use Rattle.rank_cert.specs.Following.{unpair, channels_after, port_of_pair};
 
 use crate::fault::CheckFault;
@@ -88,30 +88,41 @@ fn fault_along(
     let mut at = start;
     let mut before = None;
     for turn in turns {
-        let fault = fault_at(m, before, at, k);
+        let rank = rank_at(at, k);
+        let fault = fault_at(m, before, at, rank);
         if fault.is_some() {
             return fault;
         }
-        before = ranked(at, k);
+        before = ranked(at, rank);
         at = next_port(m, at, *turn);
     }
-    fault_at(m, before, at, k)
+    fault_at(m, before, at, rank_at(at, k))
 }
 
-// The fault of the channel that leaves by a port, if one does, after the channel before it.
+// The rank of the channel that leaves by a port.
+fn rank_at(at: Option<(u32, i8)>, k: &Ranks) -> Option<u64>
+    ensures { result ≡ rank_after k.now (unpair at) }
+{
+    match at {
+        None => None,
+        Some((v, p)) => k.rank_of(v, p),
+    }
+}
+
+// The fault of the channel that leaves by a port, if one does, with its rank, after the channel before it.
 fn fault_at(
     m: &FabricMap,
     before: Option<((u32, i8), u64)>,
     at: Option<(u32, i8)>,
-    k: &Ranks,
+    rank: Option<u64>,
 ) -> Option<CheckFault>
-    ensures { result ≡ fault_along k.now before (channels_after m.now (unpair at)) }
+    ensures { result ≡ fault_by before (channels_after m.now (unpair at)) rank }
 {
     match at {
         None => None,
         Some((v, p)) => match m.map_far(v, p) {
             None => None,
-            Some(_) => fault_of(before, (v, p), k.rank_of(v, p)),
+            Some(_) => fault_of(before, (v, p), rank),
         },
     }
 }
@@ -140,13 +151,13 @@ fn fault_of(before: Option<((u32, i8), u64)>, d: (u32, i8), rank: Option<u64>) -
     }
 }
 
-// A channel with its rank, if it has one.
-fn ranked(at: Option<(u32, i8)>, k: &Ranks) -> Option<((u32, i8), u64)>
-    ensures { result ≡ ranked_at k.now (unpair at) }
+// The channel of a port with its rank, if it has one.
+fn ranked(at: Option<(u32, i8)>, rank: Option<u64>) -> Option<((u32, i8), u64)>
+    ensures { result ≡ ranked_by (unpair at) rank }
 {
     match at {
         None => None,
-        Some((v, p)) => match k.rank_of(v, p) {
+        Some((v, p)) => match rank {
             None => None,
             Some(rank) => Some(((v, p), rank)),
         },

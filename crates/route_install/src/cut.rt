@@ -124,8 +124,7 @@ fn copied(alloc: Global, walk: &Walk) -> Result<Walk, AllocError>
     ensures value { IfOk result (λ w. w ≡ walk.now) }
     ensures route { IfOk result (λ w. is_route w ≡ true) }
 {
-    match Walk::new(alloc, walk.turns()) {
-        Ok(copy) => Ok(copy),
-        Err(_) => Err(AllocError),
-    }
+    let _turns = walk.turns();
+    let copy = walk.copied(alloc)?;
+    Ok(copy)
 }

@@ -9,10 +9,10 @@ ghost use Rattle.run_defs.specs.declared.figure.Figure.TheVariants.{Routed};
 ghost use Rattle.fab_report.specs.There.{AreThere};
 ghost use Rattle.route_making.specs.Listed.{AreBetweenHosts};
 
-use fab_report::{Figure, Printed, print_line};
+use fab_report::{Figure, Printed, print_line_onto, print_route_onto};
 use fabric_map::{FabricMap, MapVertex};
 use map_defs::RankEntry;
-use net_defs::{Route, Walk};
+use net_defs::Route;
 use port_graph::Fabric;
 use run_defs::Line;
 use std::alloc::{AllocError, Global};
@@ -36,33 +36,27 @@ pub(crate) fn routes_text(
 {
     let count = routes.len() as u32;
     let mut text = Vec::new(alloc);
-    append_line(alloc, &mut text, &Line::Routes(count), f)?;
-    append_routes(alloc, &mut text, f, routes)?;
-    append_ranks(alloc, &mut text, m, f, ranks)?;
-    append_line(alloc, &mut text, &Line::EndRoutes, f)?;
+    print_line_onto(&mut text, &Line::Routes(count), f)?;
+    append_routes(&mut text, f, routes)?;
+    append_ranks(&mut text, m, f, ranks)?;
+    print_line_onto(&mut text, &Line::EndRoutes, f)?;
     Ok(Printed::with(text, Figure::Routed(count)))
 }
 
 // A line for each route.
-fn append_routes(
-    alloc: Global,
-    text: &mut Vec<u8>,
-    f: &Fabric,
-    routes: &[Route],
-) -> Result<(), AllocError>
+fn append_routes(text: &mut Vec<u8>, f: &Fabric, routes: &[Route]) -> Result<(), AllocError>
     requires { AreBetweenHosts f.now routes.now }
     ensures { OnOk result (text.new.items ≡ text.old.items
         ++ flat_map (λ r. line_text f.now (route_line r)) routes.now) }
 {
     for r in routes {
-        append_route(alloc, text, f, r)?;
+        print_route_onto(text, r, f)?;
     }
     Ok(())
 }
 
 // A line for each rank.
 fn append_ranks(
-    alloc: Global,
     text: &mut Vec<u8>,
     m: &FabricMap,
     f: &Fabric,
@@ -73,27 +67,13 @@ fn append_ranks(
         ++ flat_map (λ k. line_text f.now (rank_line m.now k)) ranks.now) }
 {
     for k in ranks {
-        append_rank(alloc, text, m, f, *k)?;
+        append_rank(text, m, f, *k)?;
     }
     Ok(())
 }
 
-// The line of a route.
-fn append_route(alloc: Global, text: &mut Vec<u8>, f: &Fabric, r: &Route) -> Result<(), AllocError>
-    requires { AreThere f.now (route_line r.now) }
-    ensures { OnOk result (text.new.items ≡ text.old.items ++ line_text f.now (route_line r.now)) }
-{
-    let line = Line::Route {
-        from: r.from,
-        to: r.to,
-        walk: copied(alloc, &r.walk)?,
-    };
-    append_line(alloc, text, &line, f)
-}
-
 // The line of a rank.
 fn append_rank(
-    alloc: Global,
     text: &mut Vec<u8>,
     m: &FabricMap,
     f: &Fabric,
@@ -102,7 +82,7 @@ fn append_rank(
     requires { AreThere f.now (rank_line m.now k) }
     ensures { OnOk result (text.new.items ≡ text.old.items ++ line_text f.now (rank_line m.now k)) }
 {
-    append_line(alloc, text, &rank_line(m, k), f)
+    print_line_onto(text, &rank_line(m, k), f)
 }
 
 // A rank by the vertex of its channel.
@@ -124,23 +104,4 @@ fn vertex_at(m: &FabricMap, v: u32) -> MapVertex
         Some(vertex) => *vertex,
         None => MapVertex::Switch(0),
     }
-}
-
-// A walk of the same turns.
-fn copied(alloc: Global, walk: &Walk) -> Result<Walk, AllocError>
-    ensures { IfOk result (λ copy. copy ≡ walk.now) }
-{
-    match Walk::new(alloc, walk.turns()) {
-        Ok(copy) => Ok(copy),
-        Err(_) => Err(AllocError),
-    }
-}
-
-// The text of a line behind a text.
-fn append_line(alloc: Global, text: &mut Vec<u8>, l: &Line, f: &Fabric) -> Result<(), AllocError>
-    requires { AreThere f.now l.now }
-    ensures { OnOk result (text.new.items ≡ text.old.items ++ line_text f.now l.now) }
-{
-    let printed = print_line(alloc, l, f)?;
-    text.extend_from_slice(&printed)
 }

@@ -42,6 +42,14 @@ pub line_doubtful : line_text two_hosts (Line.Map 0 (MapWords.Doubtful 1) 31 123
 unfolding digits
 line_doubtful = refl
 
+pub line_circuit : line_text two_hosts (Line.Circuit 0 5 31) ≡ text_of (codes "circuit a depth 5 asks 31" ∷ [])
+unfolding digits
+line_circuit = refl
+
+pub line_circuit_nodes : line_text two_hosts (Line.CircuitNodes 1 406042) ≡ text_of (codes "circuit b nodes asks 406042" ∷ [])
+unfolding digits
+line_circuit_nodes = refl
+
 pub line_route : line_text two_hosts (Line.Route 0 1 (pos 3 ∷ pos 0 ∷ negsuc 14 ∷ [])) ≡ text_of (codes "route a b +3 0 -15" ∷ [])
 unfolding digits
 line_route = refl

@@ -1,6 +1,6 @@
 -- What a run promises: a map that says complete is the mapper's part of the fabric; on a quiet fabric, probed deeply
 -- enough, it says so; every moment is sound.
-use Rattle.std.specs.Prelude.{◌≡◌, ◌⊎◌, ℕ, ◌<◌, ◌≤◌, ◌^◌, true, List, [], ◌∷◌, ◌++◌, length, Option, Some, None}
+use Rattle.std.specs.Prelude.{◌≡◌, ◌⊎◌, ℕ, ◌<◌, ◌≤◌, ◌^◌, true, List, ◌∷◌, ◌++◌, length}
 use Rattle.std.specs.List.{AllByRecursion}
 use Rattle.net_defs.specs.Network.{Network, IsFabric}
 use Rattle.link_defs.specs.Links.{is_idle}
@@ -12,7 +12,7 @@ use Rattle.world_defs.specs.World.{WorldState, fabric_of}
 use Rattle.world_defs.specs.EightBits.{IsByteFault}
 use Rattle.act_defs.specs.Acts.{AlwaysSound}
 use Rattle.run_defs.specs.declared.command.Command.{Command}
-use Rattle.run_defs.specs.declared.command.Command.TheVariants.{Map, Plan}
+use Rattle.run_defs.specs.declared.command.Command.TheVariants.{Map, Circuit, Plan}
 use Rattle.run_defs.specs.declared.line.MapWords.{MapWords}
 use Rattle.run_defs.specs.declared.line.MapWords.TheVariants.{Complete}
 use Rattle.run_defs.specs.declared.line.Line.TheVariants.{Map as MapLine}
@@ -30,9 +30,11 @@ pub record HasPrinted (out : List Piece) (mapper : ℕ) (m : NetMap) : Type 0 wh
   pub packets : ℕ
   pub there : out ≡ before ++ OneLine (MapLine mapper Complete asks packets) ∷ MapLines m ∷ behind
 
--- a command over a fabric: it maps from a host of the fabric to at most 65 cables, and plans flips of eight bits
+-- a command over a fabric: it maps from a host of the fabric to at most 65 cables, maps its circuit links from a host
+-- of it, and plans flips of eight bits
 abbrev pub IsCommandOf : Network → Command → Type 0
 IsCommandOf n (Map host depth tries) = (host < length n.hosts) × (depth ≤ 65)
+IsCommandOf n (Circuit host depth) = host < length n.hosts
 IsCommandOf n (Plan ahead kind) = IsByteFault (fault_of kind)
 IsCommandOf n _ = Unit {0}
 

@@ -1,3 +1,4 @@
+pub mod Circuit
 pub mod Examples
 pub mod Headline
 pub mod LineText

@@ -40,7 +40,8 @@ use Rattle.run_defs.specs.declared.line.StepWords.TheVariants.{Reset, Flipped, E
 use Rattle.run_defs.specs.declared.line.StepWords.TheVariants.{Replayed}
 use Rattle.run_defs.specs.declared.line.PlaceEntry.{PlaceEntry}
 use Rattle.run_defs.specs.declared.line.Line.{Line}
-use Rattle.run_defs.specs.declared.line.Line.TheVariants.{Refused, Walk, Map, MapBusy, Routes, Route, Rank, EndRoutes}
+use Rattle.run_defs.specs.declared.line.Line.TheVariants.{Refused, Walk, Map, MapBusy, Circuit, CircuitNodes, Routes}
+use Rattle.run_defs.specs.declared.line.Line.TheVariants.{Route, Rank, EndRoutes}
 use Rattle.run_defs.specs.declared.line.Line.TheVariants.{NoMap, Installed, Table, InstallRefused, Client, Tokens}
 use Rattle.run_defs.specs.declared.line.Line.TheVariants.{PlanAt, Step, Settle, Finish, GenHead, GenMap, GenCount}
 use Rattle.run_defs.specs.Output.{Piece, OneLine, MapLines}
@@ -191,6 +192,10 @@ words_in n (Map host words asks packets) =
     codes "map" ∷ host_name n host ∷ map_words words
     ++ codes "asks" ∷ decimal asks ∷ codes "packets" ∷ decimal packets ∷ []
 words_in n (MapBusy host) = codes "map" ∷ host_name n host ∷ codes "refused" ∷ codes "busy" ∷ []
+words_in n (Circuit host depth asks) =
+    codes "circuit" ∷ host_name n host ∷ codes "depth" ∷ decimal depth ∷ codes "asks" ∷ decimal asks ∷ []
+words_in n (CircuitNodes host asks) =
+    codes "circuit" ∷ host_name n host ∷ codes "nodes" ∷ codes "asks" ∷ decimal asks ∷ []
 words_in n (Routes count) = codes "routes" ∷ decimal count ∷ []
 words_in n (Route from to walk) = codes "route" ∷ host_name n from ∷ host_name n to ∷ map turn_text walk
 words_in n (Rank v p rank) = codes "rank" ∷ vertex_text n v ∷ turn_text p ∷ decimal rank ∷ []

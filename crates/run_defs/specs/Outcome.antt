@@ -1,10 +1,9 @@
--- What each command does and prints, where that is determined: all commands but a map that is made and routes that
--- are computed.
-use Rattle.std.specs.Prelude.{ℕ, Bool, true, false, not, ◌&&◌, List, [], ◌∷◌, map, length, min, nat_eq, is_some}
+-- What each command does and prints, where that is determined: all commands but a map that is made, a map of circuit
+-- links, and routes that are computed.
+use Rattle.std.specs.Prelude.{ℕ, not, List, [], ◌∷◌, map, length, min, is_some}
 use Rattle.std.specs.Prelude.{if◌then◌else◌, Option, Some, None, option_map}
 use Rattle.std.specs.List.{range_with_len}
 use Rattle.net_defs.specs.declared.vertex.End.{End}
-use Rattle.net_defs.specs.declared.route.Route.{Route}
 use Rattle.net_defs.specs.Route.{place, channel_from}
 use Rattle.net_defs.specs.Examples.{host_end}
 use Rattle.link_defs.specs.Channel.{channel_tail}
@@ -30,7 +29,8 @@ use Rattle.world_defs.specs.Step.{step}
 use Rattle.world_defs.specs.Settle.{Rounds, settle, unacknowledged_in}
 use Rattle.world_defs.specs.Install.{installed}
 use Rattle.run_defs.specs.declared.command.Command.{Command}
-use Rattle.run_defs.specs.declared.command.Command.TheVariants.{Walk, Map, Routes, Install, Begin as BeginCommand}
+use Rattle.run_defs.specs.declared.command.Command.TheVariants.{Walk, Map, Circuit, Routes, Install}
+use Rattle.run_defs.specs.declared.command.Command.TheVariants.{Begin as BeginCommand}
 use Rattle.run_defs.specs.declared.command.Command.TheVariants.{Close as CloseCommand, Poll as PollCommand, Tokens}
 use Rattle.run_defs.specs.declared.command.Command.TheVariants.{Provide as ProvideCommand, Send as SendCommand, Plan}
 use Rattle.run_defs.specs.declared.command.Command.TheVariants.{Step, Settle, Finish}
@@ -205,6 +205,7 @@ routes_refused s None = Some (says_only s (NoMap ∷ []))
 abbrev pub outcome : SessionState → Command → Option Outcome
 outcome s (Walk host walk) = Some (says_only s (WalkLine (place (fabric_of s.world) host walk) ∷ []))
 outcome s (Map host depth tries) = map_refused s host
+outcome s (Circuit host depth) = None
 outcome s Routes = routes_refused s (complete_map s.last_map)
 outcome s (Install tries) = Some (install s tries s.last_routes)
 outcome s (BeginCommand h port sends recvs) = Some (called s BeginCall h port (step s.world (Begin h port sends recvs)))

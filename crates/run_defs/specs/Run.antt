@@ -11,15 +11,16 @@ use Rattle.map_defs.specs.NetMap.{NetMap, hosts_of}
 use Rattle.map_defs.specs.Orientation.{order_of}
 use Rattle.map_defs.specs.Routing.{AreRoutesOf}
 use Rattle.map_defs.specs.Ranks.{ranks_of}
-use Rattle.world_defs.specs.World.{WorldState, addresses}
+use Rattle.world_defs.specs.World.{WorldState, fabric_of, addresses}
 use Rattle.run_defs.specs.declared.command.Command.{Command}
-use Rattle.run_defs.specs.declared.command.Command.TheVariants.{Map, Routes}
+use Rattle.run_defs.specs.declared.command.Command.TheVariants.{Map, Circuit, Routes}
 use Rattle.run_defs.specs.declared.line.MapWords.{MapWords}
 use Rattle.run_defs.specs.declared.line.MapWords.TheVariants.{Complete, Doubtful, IncompleteDepth, IncompleteNodes}
 use Rattle.run_defs.specs.declared.line.Line.{Line}
 use Rattle.run_defs.specs.declared.line.Line.TheVariants.{Map as MapLine, Routes as RoutesLine, Route as RouteLine}
 use Rattle.run_defs.specs.declared.line.Line.TheVariants.{Rank as RankLine, EndRoutes}
 use Rattle.run_defs.specs.Mapped.{IsMapped}
+use Rattle.run_defs.specs.Circuit.{IsCircuitTold}
 use Rattle.run_defs.specs.Output.{Piece, OneLine, MapLines, lines}
 use Rattle.run_defs.specs.Session.{SessionState, LastMap, new_session, complete_map}
 use Rattle.run_defs.specs.Outcome.{outcome}
@@ -63,6 +64,8 @@ pub data Does (s : SessionState) : Command → List Piece → SessionState → T
       → out ≡ OneLine (MapLine host words (length j) (after.injected - s.world.injected)) ∷ map_pieces words m
       → next ≡ record s { world = after; last_map = Some (record { mapper = host; words = words; made = m }) }
       → Does s (Map host depth tries) out next
+  circuits : {host depth : ℕ} {out : List Piece} {next : SessionState}
+      → IsCircuitTold (fabric_of s.world) host depth out → next ≡ s → Does s (Circuit host depth) out next
   routes : {out : List Piece} {next : SessionState} → (l : LastMap) (found : List Route)
       → complete_map s.last_map ≡ Some l → AreRoutesOf l.made (order_of l.made) found
       → out ≡ lines (routes_lines l.made found)

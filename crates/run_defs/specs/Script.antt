@@ -13,8 +13,8 @@ use Rattle.fab_text.specs.Word.{name_test, number_within, turn_of}
 use Rattle.fab_text.specs.Line.{TextLine, lines_left, line_count, words_of, one_of}
 use Rattle.fab_text.specs.Fault.{FirstFault, as_kind, at_line, and_then}
 use Rattle.run_defs.specs.declared.command.Command.{Command}
-use Rattle.run_defs.specs.declared.command.Command.TheVariants.{Walk, Map, Routes, Install, Begin, Close, Poll, Tokens}
-use Rattle.run_defs.specs.declared.command.Command.TheVariants.{Provide, Send, Plan, Step, Settle, Finish}
+use Rattle.run_defs.specs.declared.command.Command.TheVariants.{Walk, Map, Circuit, Routes, Install, Begin, Close}
+use Rattle.run_defs.specs.declared.command.Command.TheVariants.{Poll, Tokens, Provide, Send, Plan, Step, Settle, Finish}
 use Rattle.run_defs.specs.declared.command.PlanKind.{PlanKind}
 use Rattle.run_defs.specs.declared.command.PlanKind.TheVariants.{Lose as PlanLose, Repeat as PlanRepeat}
 use Rattle.run_defs.specs.declared.command.PlanKind.TheVariants.{Hold as PlanHold, Flip as PlanFlip}
@@ -124,6 +124,11 @@ abbrev pub map_meant : Network → List Value → Result Command FaultKind
 map_meant n (Name h ∷ Number depth ∷ Number tries ∷ []) = at_host n h (λ a. Map a depth tries)
 map_meant n _ = Err BadWord
 
+-- `circuit H DEPTH`
+abbrev pub circuit_meant : Network → List Value → Result Command FaultKind
+circuit_meant n (Name h ∷ Number depth ∷ []) = at_host n h (λ a. Circuit a depth)
+circuit_meant n _ = Err BadWord
+
 -- a line of one word, or of two: always this command
 abbrev pub alone_meant : Command → Network → List Value → Result Command FaultKind
 alone_meant command n values = Ok command
@@ -207,6 +212,7 @@ line_kinds =
     ∷ kind (codes "send") (OfName ∷ of_port ∷ OfName ∷ of_port ∷ of_prio ∷ OfNumber 0 1000000 ∷ OfNumber 0 255
     ∷ []) send_meant
     ∷ kind (codes "settle") [] (alone_meant Settle)
+    ∷ kind (codes "circuit") (OfName ∷ OfNumber 1 32 ∷ []) circuit_meant
     ∷ []
 
 -- the lines that begin with `plan` and one word more

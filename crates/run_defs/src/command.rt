@@ -40,6 +40,11 @@ pub enum Command {
         depth: u8,
         tries: u8,
     },
+    /// Maps the circuit links from a host, to a depth of cables. Nothing is injected, and no map is kept.
+    Circuit {
+        host: u16,
+        depth: u8,
+    },
     /// Computes the routes of the last map, with their ranks.
     Routes,
     /// Distributes the last routes.

@@ -27,12 +27,16 @@ ghost use Rattle.run_defs.specs.Examples.{text_of, printed, fresh, installed_ses
 ghost use Rattle.run_defs.specs.Examples.{closing, single_events, message_output};
 
 /// The texts of some lines.
-#[tactic(auto, using(crate::proofs::Reports::line_at_a_switch, crate::proofs::Reports::line_doubtful, crate::proofs::Reports::line_route, crate::proofs::Reports::line_empty_message, crate::proofs::Reports::line_message))]
+#[tactic(auto, using(crate::proofs::Reports::line_at_a_switch, crate::proofs::Reports::line_doubtful, crate::proofs::Reports::line_circuit, crate::proofs::Reports::line_circuit_nodes, crate::proofs::Reports::line_route, crate::proofs::Reports::line_empty_message, crate::proofs::Reports::line_message))]
 pub fn texts_of_lines()
     ensures at_a_switch { line_text two_hosts (Line.Walk (Place.Switch 0 2))
         ≡ text_of (codes "walk switch s port 2" ∷ []) }
     ensures doubtful { line_text two_hosts (Line.Map 0 (MapWords.Doubtful 1) 31 123)
         ≡ text_of (codes "map a doubtful 1 asks 31 packets 123" ∷ []) }
+    ensures circuit { line_text two_hosts (Line.Circuit 0 5 31)
+        ≡ text_of (codes "circuit a depth 5 asks 31" ∷ []) }
+    ensures circuit_nodes { line_text two_hosts (Line.CircuitNodes 1 406042)
+        ≡ text_of (codes "circuit b nodes asks 406042" ∷ []) }
     ensures route { line_text two_hosts (Line.Route 0 1 (pos 3 ∷ pos 0 ∷ negsuc 14 ∷ []))
         ≡ text_of (codes "route a b +3 0 -15" ∷ []) }
     ensures empty_message { line_text two_hosts (Line.Client ClientCall.Poll 1 1 (Said.Received 0 0 0 1 []))
@@ -98,6 +102,9 @@ pub fn report_of_single_events()
 pub fn lines_of_scripts()
     ensures map { command_of two_hosts (codes "map" ∷ codes "a" ∷ codes "04" ∷ codes "1" ∷ [])
         ≡ Ok (Command.Map 0 4 1) }
+    ensures circuit { command_of two_hosts (codes "circuit" ∷ codes "b" ∷ codes "32" ∷ []) ≡ Ok (Command.Circuit 1 32) }
+    ensures circuit_without_depth { command_of two_hosts (codes "circuit" ∷ codes "b" ∷ codes "0" ∷ [])
+        ≡ Err FaultKind.TooLarge }
     ensures walk { command_of two_hosts (codes "walk" ∷ codes "b" ∷ codes "-3" ∷ [])
         ≡ Ok (Command.Walk 1 (negsuc 2 ∷ [])) }
     ensures send { command_of two_hosts (codes "send" ∷ codes "a" ∷ codes "0" ∷ codes "b" ∷ codes "1" ∷ codes "0"

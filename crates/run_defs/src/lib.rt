@@ -8,6 +8,7 @@
 //! | `Session` | what a run holds from command to command |
 //! | `Outcome` | what a command does and prints, where that is determined |
 //! | `Mapped` | what the command `map` does: the asks of a journal that grows, its map, and how far it is known to be right |
+//! | `Circuit` | what the command `circuit` prints: the map of a whole tree of circuit answers |
 //! | `Run` | what commands in order do |
 //! | `LineText` | the text of each line and of a map |
 //! | `Headline` | the promise of a run |

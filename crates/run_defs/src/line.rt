@@ -113,6 +113,17 @@ pub enum Line {
         packets: u64,
     },
     MapBusy(u16),
+    /// The whole tree of circuit answers was asked to a depth of cables, by so many asks. Its map follows.
+    Circuit {
+        host: u16,
+        depth: u8,
+        asks: u64,
+    },
+    /// The tree of circuit answers had too many nodes: so many walks were asked, and there is no map.
+    CircuitNodes {
+        host: u16,
+        asks: u64,
+    },
     Routes(u32),
     Route {
         from: u16,

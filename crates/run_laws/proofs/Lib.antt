@@ -1,4 +1,5 @@
 pub mod Leads
+pub mod OneCircuit
 pub mod OneMapping
 pub mod OneRoutes
 pub mod OneRun

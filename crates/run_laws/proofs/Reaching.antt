@@ -13,7 +13,7 @@ use Rattle.world_defs.specs.Step.{step}
 use Rattle.world_defs.specs.Install.{installed}
 use Rattle.world_defs.specs.EightBits.{IsByteEvent}
 use Rattle.run_defs.specs.declared.command.Command.{Command}
-use Rattle.run_defs.specs.declared.command.Command.TheVariants.{Walk, Map, Routes, Install, Begin as BeginCommand, Close as CloseCommand, Poll as PollCommand, Tokens, Provide as ProvideCommand, Send as SendCommand, Plan, Step, Settle, Finish}
+use Rattle.run_defs.specs.declared.command.Command.TheVariants.{Walk, Map, Circuit, Routes, Install, Begin as BeginCommand, Close as CloseCommand, Poll as PollCommand, Tokens, Provide as ProvideCommand, Send as SendCommand, Plan, Step, Settle, Finish}
 use Rattle.run_defs.specs.declared.command.StepLine.{StepLine}
 use Rattle.run_defs.specs.declared.command.StepLine.TheVariants.{Inject, GiveUp, Advance, Lose, Repeat, Hold, Reset, Flip, Expire, Replay}
 use Rattle.run_defs.specs.declared.line.Line.TheVariants.{MapBusy, InstallRefused}
@@ -24,7 +24,7 @@ use Rattle.run_defs.specs.Session.{SessionState, LastMap, LastRoutes, new_sessio
 use Rattle.run_defs.specs.Outcome.{Outcome, says_only, on_channel, event_of, stepped, step_or_idle, fault_of, adoption_of, install_done, install_now, install, map_refused, routes_refused, outcome}
 use Rattle.world_defs.specs.Table.{is_other}
 use Rattle.run_defs.specs.Run.{Does, Runs}
-use Rattle.run_defs.specs.Run.Does.{determined, maps, routes}
+use Rattle.run_defs.specs.Run.Does.{determined, maps, circuits, routes}
 use Rattle.run_defs.specs.Run.Runs.{ended, goes_on}
 use Rattle.act_defs.specs.Acts.{AreAdoptable}
 use Rattle.table_laws.proofs.Dependencies.{installed-no_cycle}
@@ -42,6 +42,7 @@ use Rattle.act_defs.proofs.Routes.{not-other}
 -- such a command is one over the fabric
 command-of : (n : Network) (c : Command) → IsActOf n c → IsCommandOf n c
 command-of n (Map host depth tries) is = is
+command-of n (Circuit host depth) is = is
 command-of n (Plan ahead kind) is = is.1
 command-of n c is = tt
 
@@ -112,6 +113,7 @@ busy-leads s host = by (is_idle s.world.links)
 outcome-leads : (n : Network) (s : SessionState) (c : Command) → IsActOf n c → fabric_of s.world ≡ n → LastAdoptable n s → LeadsIn s (outcome s c)
 outcome-leads n s (Walk host walk) of_n net may = (leads-same s.world, refl)
 outcome-leads n s (Map host depth tries) of_n net may = busy-leads s host
+outcome-leads n s (Circuit host depth) of_n net may = tt
 outcome-leads n s Routes of_n net may = refused-leads s (complete_map s.last_map)
 outcome-leads n s (Install tries) of_n net may = install-leads n s tries s.last_routes net may
 outcome-leads n s (BeginCommand h port sends recvs) of_n net may = (leads-event s.world (Begin h port sends recvs) tt, refl)
@@ -146,6 +148,8 @@ does-lead {s = s} {next = next} n f of_n led (maps {host = host} {depth = depth}
     let asks = leads-asks host tries (map (λ e. e.walk) j) s.world in
     let there : Leads s.world after = subst (Leads s.world) (ap (λ (a : AskedAll). a.world) made.asked) asks in
     (subst (λ (x : SessionState). Leads s.world x.world) (sym left) there, subst (LastAdoptable n) (sym left) led.adoptable)
+does-lead {s = s} {next = next} n f of_n led (circuits told left) =
+    (subst (λ (x : SessionState). Leads s.world x.world) (sym left) (leads-same s.world), subst (LastAdoptable n) (sym left) led.adoptable)
 does-lead {s = s} {next = next} n f of_n led (routes l found complete are printed left) =
     let k = led.holds.complete l complete in
     let may = right_routes_are_adoptable n l.mapper l.made found f k.rules k.right are in

@@ -7,7 +7,7 @@ use Rattle.journal_defs.specs.declared.entry.Entry.{Entry}
 use Rattle.map_defs.specs.NetMap.{NetMap}
 use Rattle.map_defs.specs.Orientation.{order_of}
 use Rattle.map_defs.specs.Routing.{AreRoutesOf}
-use Rattle.world_defs.specs.World.{WorldState}
+use Rattle.world_defs.specs.World.{WorldState, fabric_of}
 use Rattle.run_defs.specs.declared.command.Command.{Command}
 use Rattle.run_defs.specs.declared.command.Command.TheVariants.{Routes}
 use Rattle.run_defs.specs.declared.line.Line.TheVariants.{Map as MapLine}
@@ -18,9 +18,10 @@ use Rattle.run_defs.specs.Session.{SessionState, LastMap, complete_map}
 use Rattle.run_defs.specs.Outcome.{Outcome, routes_refused, outcome}
 use Rattle.run_defs.specs.Mapped.{IsMapped}
 use Rattle.run_defs.specs.Run.{Does, Runs, map_pieces, routes_lines, hosts_by_address}
-use Rattle.run_defs.specs.Run.Does.{determined, maps, routes}
+use Rattle.run_defs.specs.Run.Does.{determined, maps, circuits, routes}
 use Rattle.run_defs.specs.Run.Runs.{ended, goes_on}
 use Rattle.run_laws.specs.Runs.{DoingIsOne, RunsAreOne, RunsJoin, IsSplit, RunsSplit, FirstRunsArePart, TextOfBoth}
+use Rattle.run_laws.proofs.OneCircuit.{told-one}
 use Rattle.run_laws.proofs.OneMapping.{mapping_is_one}
 use Rattle.run_laws.proofs.OneRoutes.{routes_are_one}
 
@@ -78,10 +79,13 @@ determined-one s a b c out other e f =
 pub does-one : {s a b : SessionState} {c : Command} {out other : List Piece} → Does s c out a → Does s c other b → (out ≡ other) × (a ≡ b)
 does-one {s = s} {a = a} {b = b} {c = c} {out = out} {other = other} (determined e) (determined f) = determined-one s a b c out other e f
 does-one {s = s} {a = a} {c = c} {out = out} (determined e) (maps after j m words none made printed left) = absurd (some-none (outcome s c) (record { output = out; after = a }) e none)
+does-one {s = s} {a = a} {c = c} {out = out} (determined e) (circuits told left) = absurd (some-none (outcome s c) (record { output = out; after = a }) e refl)
 does-one {s = s} {a = a} {c = c} {out = out} (determined e) (routes l found there are printed left) = absurd (some-none (outcome s c) (record { output = out; after = a }) e (not-refused s l there))
 does-one {s = s} {b = b} {c = c} {other = other} (maps after j m words none made printed left) (determined e) = absurd (some-none (outcome s c) (record { output = other; after = b }) e none)
 does-one {s = s} {a = a} {b = b} {out = out} {other = other} (maps {host = host} {depth = depth} {tries = tries} v j m x none made printed left) (maps w l k y free again reprinted left_too) =
     mapped-one s a b host depth tries out other v w j l m k x y made again printed reprinted left left_too
+does-one {s = s} {b = b} {c = c} {other = other} (circuits told left) (determined e) = absurd (some-none (outcome s c) (record { output = other; after = b }) e refl)
+does-one {s = s} {out = out} {other = other} (circuits {host = host} {depth = depth} told left) (circuits again left_too) = (told-one (fabric_of s.world) host depth out other told again, left ∙ sym left_too)
 does-one {s = s} {b = b} {c = c} {other = other} (routes l found there are printed left) (determined e) = absurd (some-none (outcome s c) (record { output = other; after = b }) e (not-refused s l there))
 does-one {s = s} {a = a} {b = b} {out = out} {other = other} (routes l found there are printed left) (routes k others again found_too reprinted left_too) =
     routed-one s a b out other l k found others there again are found_too printed reprinted left left_too

@@ -12,7 +12,7 @@ use Rattle.net_defs.specs.Dependencies.{IsBefore, HasNoCycle}
 use Rattle.world_defs.specs.EightBits.{IsByteFault}
 use Rattle.world_defs.specs.Sound.{installed_channels}
 use Rattle.run_defs.specs.declared.command.Command.{Command}
-use Rattle.run_defs.specs.declared.command.Command.TheVariants.{Map, Plan, Step}
+use Rattle.run_defs.specs.declared.command.Command.TheVariants.{Map, Circuit, Plan, Step}
 use Rattle.run_defs.specs.declared.command.StepLine.{StepLine}
 use Rattle.run_defs.specs.declared.command.StepLine.TheVariants.{Flip}
 use Rattle.run_defs.specs.Output.{Piece}
@@ -26,10 +26,11 @@ abbrev pub IsByteStep : StepLine → Type 0
 IsByteStep (Flip e bit pattern) = pattern < 256
 IsByteStep _ = Unit {0}
 
--- a command over a fabric: it maps from a host of the fabric to at most 65 cables, plans a fault for an injection to
--- come, and flips eight bits at most
+-- a command over a fabric: it maps from a host of the fabric to at most 65 cables, maps its circuit links from a host
+-- of it, plans a fault for an injection to come, and flips eight bits at most
 abbrev pub IsActOf : Network → Command → Type 0
 IsActOf n (Map host depth tries) = (host < length n.hosts) × (depth ≤ 65)
+IsActOf n (Circuit host depth) = host < length n.hosts
 IsActOf n (Plan ahead kind) = (1 ≤ ahead) × IsByteFault (fault_of kind)
 IsActOf n (Step line) = IsByteStep line
 IsActOf n _ = Unit {0}

@@ -8,7 +8,7 @@ use Rattle.map_defs.specs.Routing.{AreRoutesOf}
 use Rattle.world_defs.specs.World.{WorldState, fabric_of, last_count}
 use Rattle.world_defs.specs.Settle.{settle, unacknowledged_in}
 use Rattle.run_defs.specs.declared.command.Command.{Command}
-use Rattle.run_defs.specs.declared.command.Command.TheVariants.{Map, Routes, Settle}
+use Rattle.run_defs.specs.declared.command.Command.TheVariants.{Map, Circuit, Routes, Settle}
 use Rattle.run_defs.specs.declared.line.Line.{Line}
 use Rattle.run_defs.specs.declared.line.Line.TheVariants.{Map as MapLine, MapBusy, NoMap, Settle as SettleLine}
 use Rattle.run_defs.specs.Output.{OneLine, MapLines, lines}
@@ -19,6 +19,7 @@ use Rattle.run_defs.specs.LineText.{map_text}
 use Rattle.fab_report.specs.Printed.{PrintedState, printed_of}
 use Rattle.fab_report.proofs.Printing.{followed}
 use Rattle.map_making.specs.declared.making.MadeMap.{MadeMap}
+use Rattle.map_making.specs.Circuit.{IsCircuitPrinted}
 use Rattle.world_commands.specs.Done.{IsDone, session_of}
 use Rattle.world_commands.proofs.Done.{one}
 use Rattle.run_session.specs.declared.mapping.MapOrder.{MapOrder}
@@ -68,6 +69,11 @@ mapped_so w v order m packets last now p idle over is e = λ found.
           (ap (λ (o : Option LastMap). session_of v o found) is);
       printed = e;
     }
+
+-- circuit links: the session stays
+pub circuit_so : (w : WorldState) (made : Option LastMap) (found : Option LastRoutes) (host depth : ℕ) (p : PrintedState) → IsCircuitPrinted (fabric_of w) host depth p
+    → IsObeyed (session_of w made found) (Circuit host depth) (session_of w made found) p
+circuit_so w made found host depth p is = record { output = is.output; does = Does.circuits is.is_told refl; printed = is.printed }
 
 -- routes where the last map isn't complete
 pub no_map_so : (w : WorldState) (made : Option LastMap) (found : Option LastRoutes) (p : PrintedState) → complete_map made ≡ None → p ≡ printed_of (fabric_of w) (OneLine NoMap ∷ [])

@@ -9,6 +9,7 @@ ghost use Rattle.world_commands.specs.Done.{session_of};
 ghost use Rattle.run_session.specs.Kept.{IsKept, IsLastMap, AreLastRoutes};
 ghost use Rattle.run_session.specs.Obeyed.{IsObeyed};
 
+use crate::circuit_links::circuit;
 use crate::installing::install_text;
 use crate::last::{LastFound, LastMade};
 use crate::mapping::{busy_text, map, map_ordered};
@@ -54,7 +55,7 @@ pub(crate) fn obey(
 }
 
 // Does a command that makes no map: `map` only where that is refused.
-#[tactic(auto, using(crate::proofs::Obeying::done_so, crate::proofs::Obeying::busy_so, crate::proofs::Installs::installed_so))]
+#[tactic(auto, using(crate::proofs::Obeying::done_so, crate::proofs::Obeying::busy_so, crate::proofs::Obeying::circuit_so, crate::proofs::Installs::installed_so))]
 fn obey_here(
     alloc: Global,
     w: &mut World,
@@ -78,6 +79,7 @@ fn obey_here(
     match c {
         Command::Walk { host, walk: taken } => walk(alloc, w, links, *host, taken.turns()),
         Command::Map { host, .. } => busy_text(alloc, w, *host),
+        Command::Circuit { host, depth } => circuit(alloc, w, *host, *depth),
         Command::Routes => routes(alloc, w, last_map, last_routes),
         Command::Install { tries } => install_text(alloc, w, last_routes, *tries),
         Command::Begin {

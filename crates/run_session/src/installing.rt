@@ -16,7 +16,6 @@ ghost use Rattle.fab_world.specs.Events.{IsHostOf};
 ghost use Rattle.run_session.specs.Kept.{AreKeptRoutes};
 ghost use Rattle.run_session.specs.Told.{AreInstalledTold, IsInstallTold};
 
-use crate::copying::copied_routes;
 use crate::last::LastFound;
 use fab_drive::{Installed, install};
 use fab_report::{Printed, print_line};
@@ -103,7 +102,7 @@ fn adopt_last(alloc: Global, w: &mut World, l: &LastFound) -> Result<bool, Alloc
     ensures fabric { fabric_of w.new ≡ fabric_of w.old }
 {
     w.moment();
-    let set = copied_routes(alloc, &l.routes)?;
+    let set = l.routes.copied(alloc)?;
     match w.adopt(alloc, l.mapper, set) {
         Ok(()) => Ok(true),
         Err((_, AdoptRefusal::Another)) => Ok(false),

@@ -7,6 +7,7 @@
 //! ```text
 //!   Map, links busy        map a refused busy
 //!   Map, links idle        world --> prober --> map --> its line, then the lines of the map; the map is kept
+//!   Circuit                the fabric, which is only read --> its line, then the lines of the map; nothing is kept
 //!   Routes, no such map    routes refused nomap
 //!   Routes                 the last map, which says complete --> routes --> their lines; the routes are kept
 //!   Install, refused       install refused noroutes, busy or installed
@@ -25,14 +26,14 @@
 //! | `last` | the last map and the last routes |
 //! | `commands` | every command, over the parts of a session |
 //! | `mapping` | a map made over a world, with its text |
+//! | `circuit_links` | a map of its circuit links, with its text |
 //! | `routing` | the routes of a map, with their text |
 //! | `installing` | an installation of the last routes, with its text |
-//! | `copying` | another set of the same routes |
 //! | `settling` | a settle, and its text |
 #![tactic(auto)]
 
+mod circuit_links;
 mod commands;
-mod copying;
 mod installing;
 mod last;
 mod mapping;

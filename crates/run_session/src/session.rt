@@ -60,7 +60,7 @@ impl Session {
 
     /// Does a command over its fabric: the session then, and the text of what it printed. Where memory is wanting,
     /// the command was done in part or not at all: the last map and the last routes stay, and the session may only be
-    /// ended.
+    /// ended. A command `circuit` leaves the session as it is.
     pub fn exec(
         self,
         alloc: Global,

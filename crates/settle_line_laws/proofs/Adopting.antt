@@ -21,7 +21,7 @@ use Rattle.world_defs.specs.EightBits.{IsByteEvent}
 use Rattle.world_laws.proofs.Along.{Along}
 use Rattle.ask_laws.proofs.Along.{ask-of}
 use Rattle.run_defs.specs.declared.command.Command.{Command}
-use Rattle.run_defs.specs.declared.command.Command.TheVariants.{Walk, Map, Routes, Install, Begin as BeginCommand, Close as CloseCommand, Poll as PollCommand, Tokens, Provide as ProvideCommand, Send as SendCommand, Plan, Step, Settle, Finish}
+use Rattle.run_defs.specs.declared.command.Command.TheVariants.{Walk, Map, Circuit, Routes, Install, Begin as BeginCommand, Close as CloseCommand, Poll as PollCommand, Tokens, Provide as ProvideCommand, Send as SendCommand, Plan, Step, Settle, Finish}
 use Rattle.run_defs.specs.declared.line.Line.TheVariants.{MapBusy, InstallRefused}
 use Rattle.run_defs.specs.declared.line.InstallCause.TheVariants.{Busy, Installed as OtherInstalled}
 use Rattle.run_defs.specs.Mapped.{AskedAll, asked_all}
@@ -29,7 +29,7 @@ use Rattle.run_defs.specs.Output.{Piece}
 use Rattle.run_defs.specs.Session.{SessionState, LastMap, LastRoutes, new_session, complete_map}
 use Rattle.run_defs.specs.Outcome.{Outcome, says_only, event_of, stepped, step_or_idle, adoption_of, install_done, install_now, install, map_refused, routes_refused, outcome}
 use Rattle.run_defs.specs.Run.{Does, Runs}
-use Rattle.run_defs.specs.Run.Does.{determined, maps, routes}
+use Rattle.run_defs.specs.Run.Does.{determined, maps, circuits, routes}
 use Rattle.run_defs.specs.Run.Runs.{ended, goes_on}
 use Rattle.mapping_laws.proofs.Worlds.{SameSet, event-set, asks-of, settle-set, installed-set}
 
@@ -96,6 +96,7 @@ event-of s e is = world-of s (step s.world e).1 is (event-set s.world e)
 outcome-of : (s : SessionState) (c : Command) → IsOfMaps s → OfMapsIn (outcome s c)
 outcome-of s (Walk host walk) is = is
 outcome-of s (Map host depth tries) is = busy-of s host is
+outcome-of s (Circuit host depth) is = tt
 outcome-of s Routes is = refused-of s (complete_map s.last_map) is
 outcome-of s (Install tries) is = install-of s tries s.last_routes is refl
 outcome-of s (BeginCommand h port sends recvs) is = event-of s (Begin h port sends recvs) is
@@ -126,6 +127,7 @@ does-of {s = s} {next = next} {c = c} is (determined e) = subst OfMapsIn e (outc
 does-of {s = s} {next = next} is (maps {host = host} {depth = depth} {tries = tries} after j m words none made printed left) =
     let same : SameSet s.world after = subst (SameSet s.world) (ap (λ (a : AskedAll). a.world) made.asked) (asks-set host tries (map (λ e. e.walk) j) s.world) in
     subst IsOfMaps (sym left) (record { last = is.last; adopted = λ a e. is.adopted a (sym same ∙ e) })
+does-of {s = s} {next = next} is (circuits told left) = subst IsOfMaps (sym left) is
 does-of {s = s} {next = next} is (routes l found complete are printed left) =
     subst IsOfMaps (sym left) (record { last = λ x e. found-of _ x (record { made = l.made; are = are }) e; adopted = is.adopted })
 

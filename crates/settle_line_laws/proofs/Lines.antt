@@ -19,7 +19,7 @@ use Rattle.act_defs.specs.Acts.{IsReached}
 use Rattle.window_laws.proofs.Windows.{windows-hold}
 use Rattle.window_laws.proofs.Reaching.{settle-got}
 use Rattle.run_defs.specs.declared.command.Command.{Command}
-use Rattle.run_defs.specs.declared.command.Command.TheVariants.{Map, Plan, Settle}
+use Rattle.run_defs.specs.declared.command.Command.TheVariants.{Map, Circuit, Plan, Settle}
 use Rattle.run_defs.specs.declared.line.Line.TheVariants.{Settle as SettleLine}
 use Rattle.run_defs.specs.Output.{Piece, OneLine}
 use Rattle.run_defs.specs.Session.{SessionState}
@@ -39,6 +39,7 @@ use Rattle.settle_line_laws.proofs.Adopting.{AreOfMap, adopted-of}
 -- such a command is one over the fabric
 command-of : (n : Network) (c : Command) → IsActOf n c → IsCommandOf n c
 command-of n (Map host depth tries) is = is
+command-of n (Circuit host depth) is = is
 command-of n (Plan ahead kind) is = is.1
 command-of n c is = tt
 

@@ -1,11 +1,8 @@
 //! A text that is cut at each place.
 
-use crate::difference::{Difference, Wanted};
-use crate::row::Row;
-use crate::tally::Tally;
-use crate::trial::{REFUSED, TopCall, try_text};
 use std::alloc::{AllocError, Global};
 use std::{fs, io};
+use text_trials::{Difference, REFUSED, Row, Tally, TopCall, Wanted, try_text};
 
 // What the table says of a cut behind which the text is still accepted: the report is the whole text's.
 const DONE: &str = "done";

@@ -2,11 +2,9 @@
 
 use crate::cuts::try_cuts;
 use crate::refusals::try_table;
-use crate::row::Row;
-use crate::tally::Tally;
-use crate::trial::{TopCall, try_row};
 use std::alloc::AllocError;
 use std::{fs, io};
+use text_trials::{Row, Tally, TopCall, try_row};
 
 /// Runs the text of each file `NAME.in` and the table of each file `NAME.refused`, by name. A file that belongs to
 /// neither fails, but for one without an ending.

@@ -1,10 +1,8 @@
 //! A generated text, whose run is one of the folder.
 
-use crate::difference::{Wanted, compare};
-use crate::row::Row;
-use crate::tally::Tally;
 use fabric_gen::gen_text;
 use std::io;
+use text_trials::{Row, Tally, Wanted, compare};
 
 const NAME: &str = "generated-two-hosts";
 

@@ -1,16 +1,7 @@
-//! Worked texts: their files, and what differs where they are run through a top call over memory.
+//! Worked texts: all those of a folder, run through a top call over memory.
 //!
-//! It runs nothing of its own: the call is a [`TopCall`], which `rows` makes of the program's. What is told of a
-//! difference stands in no clause but one: `compare` finds none exactly where report and status are as wanted.
-//!
-//! A text is made of files with one name, in the folder that the program is started in:
-//!
-//! | file | has |
-//! |---|---|
-//! | `NAME.in` | what is read, byte for byte |
-//! | `NAME.out` | the report that must be written, byte for byte |
-//! | `NAME.words` | the words of the command line, one a line; where there is no such file, the word `run` |
-//! | `NAME.status` | the exit status in which the run must end; where there is no such file, 0 |
+//! It compares nothing itself, and no clause says what it runs: what one run is, and which files a text has, is in
+//! `text_trials`.
 //!
 //! `NAME.cuts`, where there is such a file, has a line for each place at which the text is cut, from its first byte to
 //! behind its last, with what must come of it: the line of a refusal, or `done`, where the report is the whole text's.
@@ -26,28 +17,17 @@
 //! | `ends` | texts whose reads and writes fail, one after another |
 //! | `limit` | the longest input, and one that is longer |
 //! | `generated` | a generated text, compared |
-//! | `trial` | one run over memory, compared; the call that is tried |
-//! | `row` | one text with its words, and what is wanted of it |
-//! | `difference` | the first difference from what is wanted |
-//! | `tally` | the lines that are printed, and their count |
 #![tactic(auto)]
 
 mod cuts;
-mod difference;
 mod ends;
 mod folder;
 mod generated;
 mod limit;
 mod refusals;
-mod row;
-mod tally;
-mod trial;
 
-pub use difference::{Difference, Wanted, compare};
 pub use ends::try_ends;
 pub use folder::try_files;
 pub use generated::try_generated;
 pub use limit::try_limit;
-pub use row::Row;
-pub use tally::Tally;
-pub use trial::TopCall;
+pub use text_trials::{Tally, TopCall};

@@ -1,11 +1,8 @@
 //! Tables of lines that are refused.
 
-use crate::difference::{Difference, Wanted};
-use crate::row::run_word;
-use crate::tally::Tally;
-use crate::trial::{REFUSED, TopCall, try_text};
 use std::alloc::{AllocError, Global};
 use std::{fs, io};
+use text_trials::{Difference, REFUSED, Tally, TopCall, Wanted, run_word, try_text};
 
 /// Runs the front lines of a table with each of its lines behind them, which is told to be the text's first fault.
 pub(crate) fn try_table<T: TopCall>(

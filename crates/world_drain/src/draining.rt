@@ -9,7 +9,7 @@ ghost use Rattle.fab_world.specs.Held.{IsLater};
 ghost use Rattle.world_drain.specs.Watch.{seen_in};
 
 use crate::seen::{Seen, Watch};
-use fab_world::{Event, World};
+use fab_world::{Event, Hop, World};
 use std::alloc::{AllocError, Global};
 
 /// Advances packets until none moves any more: how many advances changed something. Want of memory leaves a world
@@ -69,8 +69,27 @@ fn pass(alloc: Global, w: &mut World, watch: &Watch) -> Result<Seen, AllocError>
     Ok(seen)
 }
 
-// An advance of one channel, with what is seen of it.
+// An advance of one channel, with what is seen of it. Most packets go on into another channel, which shows nothing.
 fn advance(alloc: Global, w: &mut World, watch: &Watch, c: u16) -> Result<Seen, AllocError>
+    requires there { c < length w.old.links.channels }
+    ensures seen { IfOk result (λ s. s ≡ seen_in watch.now ((step w.old (Advance c)).0 ∷ [])) }
+    ensures few { IfOk result (λ s. s.changes ≤ 1) }
+    ensures heard { IfOk result (λ s. IfSome s.probed (λ h. h < host_count w.old)) }
+    ensures after { OnOk result (w.new ≡ (step w.old (Advance c)).1) }
+    ensures err { OnErr result (IsLater w.old w.new) }
+    ensures fabric { fabric_of w.new ≡ fabric_of w.old }
+    ensures hosts { host_count w.new ≡ host_count w.old }
+    ensures channels { length w.new.links.channels ≡ length w.old.links.channels }
+{
+    match w.hop(c) {
+        Hop::Moved(_) => Ok(watch.one_change()),
+        Hop::Blocked(_) => Ok(watch.nothing()),
+        Hop::Untried => advance_whole(alloc, w, watch, c),
+    }
+}
+
+// The same by the whole event.
+fn advance_whole(alloc: Global, w: &mut World, watch: &Watch, c: u16) -> Result<Seen, AllocError>
     requires there { c < length w.old.links.channels }
     ensures seen { IfOk result (λ s. s ≡ seen_in watch.now ((step w.old (Advance c)).0 ∷ [])) }
     ensures few { IfOk result (λ s. s.changes ≤ 1) }

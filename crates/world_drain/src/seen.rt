@@ -1,8 +1,8 @@
 //! What a mapper looks for in what happens.
 
-ghost use Rattle.std.specs.Prelude.{◌≡◌, ◌≤◌, ◌+◌, ◌^◌, ◌<◌, ◌&&◌, ◌∷◌, [], nat_eq, false, Option, Some, None};
+ghost use Rattle.std.specs.Prelude.{◌≡◌, ◌≤◌, ◌+◌, ◌^◌, ◌<◌, ◌&&◌, ◌∷◌, [], ℕ, nat_eq, false, Option, Some, None};
 ghost use Rattle.world_defs.specs.Asking.{reply_in, returned_in};
-ghost use Rattle.world_defs.specs.declared.effect.Effect.TheVariants.{Arrived};
+ghost use Rattle.world_defs.specs.declared.effect.Effect.TheVariants.{Arrived, Moved};
 ghost use Rattle.world_drain.specs.Watch.{seen_in, seen_then, is_own, is_awaited_host, is_own_ack};
 
 use world_defs::{Effect, Heard};
@@ -51,6 +51,13 @@ impl Watch {
         ensures { result ≡ seen_in self.now [] }
     {
         seen_nothing(0)
+    }
+
+    /// A packet went on into another channel.
+    pub(crate) fn one_change(&self) -> Seen
+        ensures { (next : ℕ) → result ≡ seen_in self.now (Moved next ∷ []) }
+    {
+        seen_nothing(1)
     }
 
     /// What is seen of one event.

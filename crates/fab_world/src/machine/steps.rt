@@ -8,10 +8,11 @@ ghost use Rattle.world_defs.specs.Step.{advanced, cause_at_host, step};
 ghost use Rattle.world_defs.specs.World.{fabric_of, host_count};
 ghost use Rattle.fab_world.specs.Events.{IsHostOf, IsChannelOf};
 ghost use Rattle.fab_world.specs.Held.{IsToldOf, CountsDrop};
+ghost use Rattle.fab_world.specs.Hop.{IsHopIn};
 
 use super::Machine;
 use client_host::Packet;
-use faulty_links::{FaultyLinks, Gone};
+use faulty_links::{FaultyLinks, Gone, Hop};
 use packet_defs::HostDrop;
 use std::alloc::{AllocError, Global};
 use world_defs::{Arrival, Cause, Effect};
@@ -29,6 +30,14 @@ impl Machine {
             Gone::Done(effect) => Ok(effect),
             Gone::AtHost(host, packet) => self.hear(alloc, host, &packet),
         }
+    }
+
+    /// An advance into the next channel, or one that is blocked; anything else is left to [`Machine::advance`].
+    pub(crate) fn hop(&mut self, c: u16) -> Hop
+        requires { IsChannelOf self.old c }
+        ensures { IsHopIn self.old c result self.new }
+    {
+        self.links.hop(c)
     }
 
     // A packet reached a host.

@@ -3,11 +3,12 @@
 ghost use Rattle.std.specs.Prelude.{◌≡◌, ◌<◌, length};
 ghost use Rattle.world_defs.specs.World.{WorldState, with_drop};
 ghost use Rattle.world_defs.specs.Step.{advanced, cause_at_switch};
-ghost use Rattle.faulty_links.specs.Held.{with_part, heard_of, IsToHostOf, IsTaken};
+ghost use Rattle.faulty_links.specs.Held.{with_part, heard_of, IsHopOf, IsToHostOf, IsTaken};
 
 use super::FaultyLinks;
 use crate::gone::Gone;
 use link_defs::{Moved, Why};
+use link_model::Hop;
 use myri_packet::Packet;
 use net_defs::{End, Vertex};
 use world_defs::{Cause, Effect};
@@ -41,6 +42,15 @@ impl FaultyLinks {
             Moved::Blocked(next) => Gone::Done(Effect::Blocked(next)),
             Moved::Empty => Gone::Done(Effect::Idle),
         }
+    }
+
+    /// An advance that hands no packet out and drops none: one into the next channel, or one that is blocked. Anything
+    /// else is left to [`FaultyLinks::advance`].
+    pub fn hop(&mut self, c: u16) -> Hop
+        requires { c < length self.old.links.channels }
+        ensures { IsHopOf self.old c result self.new }
+    {
+        self.links.hop(c)
     }
 
     /// A host dropped a packet: it is counted.

@@ -1,11 +1,13 @@
 //! One step of a channel.
 
-ghost use Rattle.std.specs.Prelude.{◌≡◌, ◌<◌, length, Some, IsSome, option_map};
+ghost use Rattle.std.specs.Prelude.{◌≡◌, ◌<◌, length, Some, IsSome, option_map, if◌then◌else◌};
 ghost use Rattle.link_defs.specs.Links.{packet_in, emptied};
 ghost use Rattle.link_defs.specs.Advance.{advance, course};
+ghost use Rattle.link_model.specs.Hop.{IsHop};
 
 use super::Links;
 use crate::course::course;
+use crate::hop::Hop;
 use channel_slots::Slot;
 use link_defs::{Course, Moved};
 use myri_packet::Packet;
@@ -21,6 +23,24 @@ impl Links {
         match self.course_of(c) {
             Some(course) => self.go(c, course),
             None => Moved::Empty,
+        }
+    }
+
+    /// An advance that hands no packet out: one into the next channel, or one that is blocked. Anything else is left
+    /// to [`Links::advance`].
+    pub fn hop(&mut self, c: u16) -> Hop
+        requires { c < length self.old.channels }
+        ensures { IsHop self.old c result self.new }
+    {
+        match self.course_of(c) {
+            Some(Course::Enters(next)) => {
+                if self.enter(c, next) {
+                    Hop::Moved(next)
+                } else {
+                    Hop::Blocked(next)
+                }
+            }
+            _ => Hop::Untried,
         }
     }
 
@@ -43,7 +63,13 @@ impl Links {
         ensures links { self.new ≡ (advance self.old c).1 }
     {
         match to {
-            Course::Enters(next) => self.enter(c, next),
+            Course::Enters(next) => {
+                if self.enter(c, next) {
+                    Moved::To(next)
+                } else {
+                    Moved::Blocked(next)
+                }
+            }
             Course::Arrives(h) => Moved::AtHost(h, self.taken(c).into_packet()),
             Course::Drops(why) => {
                 let _ = self.taken(c);
@@ -52,21 +78,18 @@ impl Links {
         }
     }
 
-    // A channel's packet enters the next channel, if that is empty or the channel itself.
-    fn enter(&mut self, c: u16, next: u16) -> Moved<Packet>
+    // A channel's packet enters the next channel, if that is empty or the channel itself: whether it did.
+    fn enter(&mut self, c: u16, next: u16) -> bool
         requires there { c < length self.old.channels }
         requires course { option_map (λ held. course self.old.net c held.wire) (packet_in self.old c)
             ≡ Some (Course.Enters next) }
-        ensures moved { result ≡ (advance self.old c).0 }
-        ensures links { self.new ≡ (advance self.old c).1 }
+        ensures { advance self.old c ≡ (if result then Moved.To next else Moved.Blocked next, self.new) }
     {
         if next != c && self.slots.is_full(usize::from(next)) {
-            return Moved::Blocked(next);
+            return false;
         }
-        let mut slot = self.taken(c);
-        slot.strip();
-        self.slots.put(usize::from(next), slot);
-        Moved::To(next)
+        self.slots.pass_on(usize::from(c), usize::from(next));
+        true
     }
 
     // Takes the packet of a full channel.

@@ -1,10 +1,10 @@
 //! Walking over a fabric.
 
 ghost use Rattle.std.specs.Prelude.{◌≡◌};
-ghost use Rattle.net_defs.specs.Route.{leaving_port, turned, place, place_at, IsEntered, IsPlaceOf};
+ghost use Rattle.net_defs.specs.Route.{turned, place, place_at, IsEntered, IsPlaceOf};
 
 use super::Fabric;
-use net_defs::{End, Place, Vertex};
+use net_defs::{End, Place, Vertex, leaving_port};
 
 impl Fabric {
     /// The place of a walk from a host: it starts at the far end of the host's cable, and a switch that is entered by
@@ -45,18 +45,6 @@ impl Fabric {
             Some(p) => self.far(e.v, p),
             None => None,
         }
-    }
-}
-
-// The port that a turn leaves by, at a switch of so many ports that was entered by a port.
-fn leaving_port(ports: u8, entry: u8, turn: i8) -> Option<u8>
-    ensures { result ≡ leaving_port ports entry turn }
-{
-    let port = i16::from(entry) + i16::from(turn);
-    if 0 <= port && port < i16::from(ports) {
-        Some(port as u8)
-    } else {
-        None
     }
 }
 

@@ -14,8 +14,8 @@ pub returns-then-index-clause-some : goal.returns-then-index-clause-some
 returns-then-index-clause-some c =
     let fs = c.args.frames.now.items in
     let m = c.args.meeting in
-    let one : c.frame_of-first.result ≡ frame_at fs m.first.node = c.frame_of-first.ensures in
-    let two : c.frame_of-second.result ≡ frame_at fs m.second.node = c.frame_of-second.ensures in
+    let one : c.at-first.result ≡ frame_at fs m.first.node = c.at-first.ensures in
+    let two : c.at-second.result ≡ frame_at fs m.second.node = c.at-second.ensures in
     let fits : SFits w16 c.apart.result = search rules in
     let same : to_z w16 (of_z w16 c.apart.result) ≡ c.apart.result = to_z-of_z w16 c.apart.result fits in
     let fits1 : SFits w8 m.first.port = search rules in

@@ -1,10 +1,17 @@
-use Rattle.std.proofs.Common.{◌≡◌, ◌*◌, length, ap, sym, ◌∙◌, arith}
+use Rattle.std.proofs.Common.{◌≡◌, ◌*◌, None, length, ap, sym, subst, ◌∙◌, arith}
+use Rattle.fabric_map.specs.Growing.{cable_refusal}
 use Rattle.map_canon.proofs.Ordered.{ordered_to, ordered-next, ordered-skip}
+use Rattle.map_canon.proofs.Taken.{next-taken}
 use Rattle.map_canon.proofs.cables.add_in_order.Goals.{in-Some+in_ok-add, in_default}
 use Rattle.map_canon.proofs.cables.add_in_order.Goals as goal
 
 pub loop-place-init : goal.loop-place-init
 loop-place-init c = c.requires
+
+pub add-requires : goal.add-requires
+add-requires c =
+    subst (λ m. cable_refusal m c.in-Some.cable ≡ None) (sym c.loop-place.invariant)
+    (next-taken c.args.loose.now c.loop-place.place c.in-Some.cable c.vertices.ensures.is_map (sym c.cable_from.ensures ∙ c.in-Some.is))
 
 pub loop-place-preserved : goal.loop-place-preserved
 loop-place-preserved c =

@@ -6,12 +6,12 @@ use Rattle.map_text.proofs.printing.print_map.Goals as goal
 
 pub returns-clause-text : goal.returns-clause-text
 returns-clause-text c =
-    printed-whole c.args.f.now c.args.m.now c.new-text.result.items c.print_vertices.new.text.items c.print_cables.new.text.items c.append.new.text.items
-    c.new-text.ensures.items c.in_ok-print_vertices.ensures c.in_ok-print_cables.ensures c.in_ok-append.ensures
+    printed-whole c.args.f.now c.args.m.now c.new-text.result.items c.print_vertices.new.text.items c.print_cables.new.text.items c.append_line.new.text.items
+    c.new-text.ensures.items c.in_ok-print_vertices.ensures c.in_ok-print_cables.ensures c.in_ok-append_line.ensures
 
 pub returns-clause-read_back : goal.returns-clause-read_back
 returns-clause-read_back c =
     subst (IsReadBack c.args.f.now c.args.m.now)
-    (sym (printed-whole c.args.f.now c.args.m.now c.new-text.result.items c.print_vertices.new.text.items c.print_cables.new.text.items c.append.new.text.items
-    c.new-text.ensures.items c.in_ok-print_vertices.ensures c.in_ok-print_cables.ensures c.in_ok-append.ensures))
+    (sym (printed-whole c.args.f.now c.args.m.now c.new-text.result.items c.print_vertices.new.text.items c.print_cables.new.text.items c.append_line.new.text.items
+    c.new-text.ensures.items c.in_ok-print_vertices.ensures c.in_ok-print_cables.ensures c.in_ok-append_line.ensures))
     (map-read-back c.args.f.now c.args.m.now c.vertices.ensures.is_map c.requires)

@@ -4,9 +4,9 @@ use Rattle.std.proofs.lemmas.List.{at_drop_more}
 use Rattle.net_defs.specs.Building.{first_of_two}
 use Rattle.map_defs.specs.Routing.{channels_on}
 use Rattle.fabric_map.specs.Table.{far_pair}
-use Rattle.rank_cert.specs.Checking.{fault_along, ranked_at}
+use Rattle.rank_cert.specs.Checking.{fault_along, fault_by, ranked_at, ranked_by}
 use Rattle.rank_cert.specs.Following.{unpair, next_after, channels_after}
-use Rattle.rank_cert.proofs.Along.{fault-step, first-no}
+use Rattle.rank_cert.proofs.Along.{fault-step, fault-there, first-no, ranked-there}
 use Rattle.rank_cert.proofs.Pairs.{unpair-pair, turn-fits}
 use Rattle.rank_cert.proofs.checking.fault_along.Goals as goal
 
@@ -24,8 +24,8 @@ loop-turn-preserved c =
     let next : c.next_port-at.result ≡ far_pair (next_after m (unpair at) t) = c.next_port-at.ensures ∙ ap (λ z. far_pair (next_after m (unpair at) z)) same in
     let step : fault_along ks before (channels_on m (unpair at) (drop i ts)) ≡ first_of_two (fault_along ks before (channels_after m (unpair at))) (fault_along ks (ranked_at ks (unpair at)) (channels_on m (next_after m (unpair at) t) (drop (i + 1) ts))) =
     at_drop_more (λ l. fault_along ks before (channels_on m (unpair at) l)) ts i (pos 0) lt ∙ fault-step m ks before (unpair at) t (drop (i + 1) ts) in
-    let none : is_some (fault_along ks before (channels_after m (unpair at))) ≡ false = ap is_some (sym c.fault_at-fault.ensures) ∙ sym c.if-is_some.ensures in
-    ap (λ b. fault_along ks b (channels_on m (unpair c.next_port-at.result) (drop (i + 1) ts))) c.ranked-before.ensures
+    let none : is_some (fault_along ks before (channels_after m (unpair at))) ≡ false = ap is_some (sym (c.fault_at-fault.ensures ∙ ap (fault_by before (channels_after m (unpair at))) c.rank_at-rank.ensures ∙ fault-there m ks before (unpair at))) ∙ sym c.if-is_some.ensures in
+    ap (λ b. fault_along ks b (channels_on m (unpair c.next_port-at.result) (drop (i + 1) ts))) (c.ranked-before.ensures ∙ ap (ranked_by (unpair at)) c.rank_at-rank.ensures ∙ ranked-there ks (unpair at))
     ∙ ap (λ o. fault_along ks (ranked_at ks (unpair at)) (channels_on m o (drop (i + 1) ts))) (ap unpair next ∙ unpair-pair (next_after m (unpair at) t))
     ∙ sym (first-no (fault_along ks before (channels_after m (unpair at))) (fault_along ks (ranked_at ks (unpair at)) (channels_on m (next_after m (unpair at) t) (drop (i + 1) ts))) none)
     ∙ sym step

@@ -38,6 +38,12 @@ join-requires-clause-least_first c = (join-asks (nodes_of c.args.walks.now) c.ar
 pub join-requires-clause-least_second : goal.join-requires-clause-least_second
 join-requires-clause-least_second c = (join-asks (nodes_of c.args.walks.now) c.args.self.now c.args.self.now.todo.items c.args.meeting c.in-Some.way.from c.in-Some.way.to c.in-Some.way.by c.in-Some.ensures.some c.requires.some).least_second
 
+pub join-requires-clause-names_from : goal.join-requires-clause-names_from
+join-requires-clause-names_from c = (join-asks (nodes_of c.args.walks.now) c.args.self.now c.args.self.now.todo.items c.args.meeting c.in-Some.way.from c.in-Some.way.to c.in-Some.way.by c.in-Some.ensures.some c.requires.some).names_from
+
+pub join-requires-clause-names_to : goal.join-requires-clause-names_to
+join-requires-clause-names_to c = (join-asks (nodes_of c.args.walks.now) c.args.self.now c.args.self.now.todo.items c.args.meeting c.in-Some.way.from c.in-Some.way.to c.in-Some.way.by c.in-Some.ensures.some c.requires.some).names_to
+
 pub join-requires-clause-small : goal.join-requires-clause-small
 join-requires-clause-small c =
     let by = c.in-Some.way.by in

@@ -15,17 +15,17 @@ is_full-requires c =
     let number = c.from.ensures in
     omega (arith, low, same, view, number)
 
-pub put-requires-clause-there : goal.put-requires-clause-there
-put-requires-clause-there c =
+pub pass_on-requires-clause-next : goal.pass_on-requires-clause-next
+pass_on-requires-clause-next c =
     let low = entering c.args.self.now c.args.c c.args.next c.requires.course in
     let links : IsLinks c.args.self.now = subst IsLinks c.self.view_is c.self.invariant in
     let same = links.slots in
-    let view = ap (λ s. length s.channels) (c.self-2.view_is ∙ c.taken-slot.ensures.links) in
-    let long = length-set {A = Option Held} c.args.self.now.channels c.args.c None in
-    let number = c.from-2.ensures in
-    omega (arith, low, same, view, long, number)
+    let view = ap (λ s. length s.channels) c.self.view_is in
+    let number = c.from-3.ensures in
+    omega (arith, low, same, view, number)
 
 pub invariant_of-self : goal.invariant_of-self
 invariant_of-self c =
-    let s = state c.self-2.inside.wiring c.self-2.inside.slots c.self-2.inside.limbo c.self-2.inside.next_serial in
-    written-links s c.put.new.self (ap length c.put.ensures ∙ length-set {A = Option Held} c.self-2.inside.slots c.from-2.result _) c.self-2.invariant
+    let s = state c.self.inside.wiring c.self.inside.slots c.self.inside.limbo c.self.inside.next_serial in
+    written-links s c.pass_on.new.self
+    (ap length c.pass_on.ensures ∙ length-set {A = Option Held} _ c.from-3.result _ ∙ length-set {A = Option Held} c.self.inside.slots c.from-2.result None) c.self.invariant

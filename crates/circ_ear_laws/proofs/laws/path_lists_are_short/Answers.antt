@@ -1,9 +1,0 @@
-use Rattle.circ_ear_laws.proofs.Once.{core_path_lists_are_short}
-use Rattle.circ_ear_laws.proofs.Short as short
-use Rattle.circ_ear_laws.proofs.laws.path_lists_are_short.Goals as goal
-
-pub returns-clause-list : goal.returns-clause-list
-returns-clause-list c = short.path_lists_are_short
-
-pub returns-clause-core : goal.returns-clause-core
-returns-clause-core c = core_path_lists_are_short

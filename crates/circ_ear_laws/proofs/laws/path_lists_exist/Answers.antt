@@ -1,5 +1,0 @@
-use Rattle.circ_ear_laws.proofs.Existing as existing
-use Rattle.circ_ear_laws.proofs.laws.path_lists_exist.Goals as goal
-
-pub returns : goal.returns
-returns c = existing.path_lists_exist

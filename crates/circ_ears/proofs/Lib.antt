@@ -1,0 +1,13 @@
+pub mod Existing
+pub mod Finding
+pub mod Inner
+pub mod Once
+pub mod Onward
+pub mod Returning
+pub mod Returns
+pub mod Searching
+pub mod Short
+pub mod Taken
+pub mod Telltale
+pub mod Touched
+pub mod TwoWalks

@@ -1,0 +1,13 @@
+use Rattle.std.proofs.Common.{[], ◌∷◌, ◌++◌, ◌∙◌, decimal}
+use Rattle.std.proofs.lemmas.Result.{on_ok_weaker}
+use Rattle.fab_text.specs.Written.{spaced}
+use Rattle.run_defs.specs.LineText.{call_word, host_name, said_words}
+use Rattle.fab_report.proofs.Writing.{continued}
+use Rattle.fab_report.proofs.client.client_line.Goals as goal
+
+pub returns : goal.returns
+returns c =
+    on_ok_weaker c.append_said.result
+    (continued c.args.text.now.items (call_word c.args.call) (host_name c.args.f.now c.args.host ∷ decimal c.args.port ∷ []) (said_words c.args.f.now c.args.said.now)
+    (c.in_ok-append_words.ensures ∙ (λ i. c.args.text.now.items ++ spaced (c.call_of.ensures i ∷ c.name_of.ensures i ∷ decimal (c.from.ensures i) ∷ []))))
+    c.append_said.ensures

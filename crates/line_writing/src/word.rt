@@ -1,0 +1,69 @@
+//! A word, as it is written.
+
+ghost use Rattle.std.specs.Prelude.{◌≡◌, ◌++◌, ◌∷◌, OnOk, codes, decimal};
+ghost use Rattle.hex.specs.Hex.{encode_lower};
+ghost use Rattle.line_writing.specs.Words.{word_text};
+
+use itoa::Buffer;
+use std::alloc::AllocError;
+
+/// A word of a line.
+#[derive(Clone, Copy, Debug)]
+pub enum Word<'a> {
+    /// These bytes.
+    Text(&'a [u8]),
+    /// A number in decimal.
+    Number(u64),
+    /// A mark with a number behind it: `#3`, `+3`.
+    Marked(u8, u64),
+    /// A number with what stands for it: `3=event`.
+    Entry(u64, &'a [u8]),
+    /// Two hexadecimal digits for each of these bytes, in lower case.
+    Hex(&'a [u8]),
+}
+
+/// Puts a word behind a text.
+pub(crate) fn append_word(text: &mut Vec<u8>, word: Word) -> Result<(), AllocError>
+    ensures { OnOk result (text.new.items ≡ text.old.items ++ word_text word.entry) }
+{
+    match word {
+        Word::Text(bytes) => text.extend_from_slice(bytes),
+        Word::Number(number) => append_number(text, number),
+        Word::Marked(mark, number) => append_marked(text, mark, number),
+        Word::Entry(number, value) => append_entry(text, number, value),
+        Word::Hex(bytes) => append_hex(text, bytes),
+    }
+}
+
+// A number in decimal.
+fn append_number(text: &mut Vec<u8>, number: u64) -> Result<(), AllocError>
+    ensures { OnOk result (text.new.items ≡ text.old.items ++ decimal number) }
+{
+    let mut buffer = Buffer::new();
+    text.extend_from_slice(buffer.format(number).as_bytes())
+}
+
+// A mark, and a number behind it.
+fn append_marked(text: &mut Vec<u8>, mark: u8, number: u64) -> Result<(), AllocError>
+    ensures { OnOk result (text.new.items ≡ text.old.items ++ mark ∷ decimal number) }
+{
+    text.push(mark)?;
+    append_number(text, number)
+}
+
+// A number with what stands for it.
+fn append_entry(text: &mut Vec<u8>, number: u64, value: &[u8]) -> Result<(), AllocError>
+    ensures { OnOk result (text.new.items ≡ text.old.items ++ (decimal number ++ codes "=" ++ value.now)) }
+{
+    append_number(text, number)?;
+    text.push(b'=')?;
+    text.extend_from_slice(value)
+}
+
+// Two hexadecimal digits for each byte.
+fn append_hex(text: &mut Vec<u8>, bytes: &[u8]) -> Result<(), AllocError>
+    ensures { OnOk result (text.new.items ≡ text.old.items ++ encode_lower bytes.now) }
+{
+    let digits = hex::encode(*text.allocator(), bytes)?;
+    text.extend_from_slice(digits.as_bytes())
+}

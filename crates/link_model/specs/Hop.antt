@@ -1,0 +1,13 @@
+-- A hop: an advance of a packet that another channel takes, or that waits for one.
+use Rattle.std.specs.Prelude.{◌≡◌, ℕ}
+use Rattle.link_defs.specs.declared.moved.Moved.TheVariants.{To, Blocked as StaysFor}
+use Rattle.link_defs.specs.Links.{LinkState}
+use Rattle.link_defs.specs.Advance.{advance}
+use Rattle.link_model.specs.declared.hop.Hop.{Hop}
+use Rattle.link_model.specs.declared.hop.Hop.TheVariants.{Moved, Blocked, Untried}
+
+-- a hop that moved its packet, or found it blocked, is the advance; else nothing has changed
+abbrev pub IsHop : LinkState → ℕ → Hop → LinkState → Type 0
+IsHop old c (Moved next) new = advance old c ≡ (To next, new)
+IsHop old c (Blocked next) new = advance old c ≡ (StaysFor next, new)
+IsHop old c Untried new = new ≡ old

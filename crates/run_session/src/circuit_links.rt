@@ -1,0 +1,20 @@
+//! The circuit links of a world's fabric, and their text.
+
+ghost use Rattle.std.specs.Prelude.{◌≤◌, IfOk};
+ghost use Rattle.world_defs.specs.World.{fabric_of};
+ghost use Rattle.fab_report.specs.There.{IsHost};
+ghost use Rattle.map_making.specs.Circuit.{IsCircuitPrinted};
+
+use fab_report::Printed;
+use fab_world::World;
+use map_making::print_circuit;
+use std::alloc::{AllocError, Global};
+
+/// Maps the circuit links of the fabric as it stands: nothing is injected, and the world is only read.
+pub(crate) fn circuit(alloc: Global, w: &World, host: u16, depth: u8) -> Result<Printed, AllocError>
+    requires there { IsHost (fabric_of w.now) host }
+    requires shallow { depth ≤ 32 }
+    ensures { IfOk result (λ p. IsCircuitPrinted (fabric_of w.now) host depth p) }
+{
+    print_circuit(alloc, w.fabric(), host, depth)
+}

@@ -1,0 +1,1 @@
+explain ../../examples/circuit-links.in < ../../examples/circuit-links.out
