@@ -31,7 +31,7 @@ class Calls:
             self.provided.setdefault(at, []).append((int(words[3]), int(words[4])))
         elif words[0] == "send":
             message = (line, (words[3], words[4]), int(words[5]), int(words[6]))
-            self.sent.setdefault((words[1], words[3]), []).append(message)
+            self.sent.setdefault((words[1], words[3], message[2]), []).append(message)
         elif words[0] == "step":
             self.is_known = False
 
@@ -40,23 +40,23 @@ class Calls:
         goes_on = True
         while goes_on:
             goes_on = False
-            for pair in self.sent:
-                while self.take_first(pair):
+            for lane in self.sent:
+                while self.take_first(lane):
                     goes_on = True
 
-    def take_first(self, pair):
-        if not self.sent[pair] or self.cause(pair):
+    def take_first(self, lane):
+        if not self.sent[lane] or self.cause(lane):
             return False
-        _, port, prio, length = self.sent[pair].pop(0)
+        _, port, prio, length = self.sent[lane].pop(0)
         self.provided[port].remove((least_size(length), prio))
         return True
 
-    def cause(self, pair):
-        """Why the first message of a pair can't be taken and acknowledged, or None."""
-        _, port, prio, length = self.sent[pair][0]
+    def cause(self, lane):
+        """Why the first message of a pair of hosts and a priority can't be taken and acknowledged, or None."""
+        _, port, prio, length = self.sent[lane][0]
         size = least_size(length)
-        if self.tables.get(pair[1]) != "active":
-            return f"{pair[1]} has no routes, so it can't acknowledge: 'install' again"
+        if self.tables.get(lane[1]) != "active":
+            return f"{lane[1]} has no routes, so it can't acknowledge: 'install' again"
         if port not in self.open:
             return f"port {port[1]} of {port[0]} isn't open"
         if (size, prio) not in self.provided.get(port, []):
@@ -64,13 +64,13 @@ class Calls:
         return None
 
     def waiting(self):
-        """For each pair of hosts with messages that wait: the first one, how many more, and what it waits for."""
-        for pair, messages in self.sent.items():
+        """For each pair of hosts and priority with messages that wait: the first one, how many more, and what it waits for."""
+        for lane, messages in self.sent.items():
             if messages:
                 line, port, prio, length = messages[0]
                 behind = f", and {len(messages) - 1} more behind it" if len(messages) > 1 else ""
-                first = f"{pair[0]} to {pair[1]}: the message of line {line} ({length} bytes, priority {prio}) waits{behind}"
-                yield f"{first}: {self.cause(pair)}"
+                first = f"{lane[0]} to {lane[1]}: the message of line {line} ({length} bytes, priority {prio}) waits{behind}"
+                yield f"{first}: {self.cause(lane)}"
 
 
 def behind_settles(script, items):

@@ -2,9 +2,10 @@
 
 ghost use Rattle.std.specs.Prelude.{◌≡◌, [], ◌∷◌, codes};
 ghost use Rattle.net_defs.specs.Examples.{two_hosts};
+ghost use Rattle.gm_defs.specs.Connection.{connection};
 ghost use Rattle.gm_defs.specs.Examples.{message};
 ghost use Rattle.world_defs.specs.World.{new_world};
-ghost use Rattle.world_defs.specs.Traffic.{got_between};
+ghost use Rattle.world_defs.specs.Traffic.{got_on};
 ghost use Rattle.world_defs.specs.Sound.{IsSound};
 ghost use Rattle.act_defs.specs.Acts.{MayActAll};
 ghost use Rattle.act_defs.specs.Examples.{adopting, planned_flip, flip_now, delivering, delivered_world};
@@ -28,6 +29,6 @@ pub fn flips_that_may_happen()
 #[tactic(auto, using(crate::proofs::Moments::delivering_may_happen, crate::proofs::Moments::delivered_got, crate::proofs::Moments::delivered_is_sound))]
 pub fn sound_moment_of_acts()
     ensures may { MayActAll (new_world two_hosts) delivering }
-    ensures got { got_between delivered_world 0 1 ≡ message (codes "ABC") ∷ [] }
+    ensures got { got_on delivered_world (connection 0 1 0) ≡ message (codes "ABC") ∷ [] }
     ensures sound { IsSound delivered_world }
 {}

@@ -126,7 +126,7 @@ heard-so n mapper walk number w probe p fits d =
     let heard : hears_in base g (HostProbe number mapper (way_back walk)) ≡ (Arrived g HeardProbe, with_node base g m) = probe-heard base g number mapper (way_back walk) own in
     let is : probe.world ≡ with_node base g m = d.world ∙ ap (λ x. x.1) heard in
     let found : probed_host probe.effects ≡ Some g = one_probe probe.effects g (d.heard ∙ ap (λ x. told (x.0 ∷ [])) heard) in
-    let after = heeded n mapper w base g m d.ready d.unstaged d.kept d.harmed (d.unstaged g) (record { table = refl; peers = refl; ports = refl }) in
+    let after = heeded n mapper w base g m d.ready d.unstaged d.kept d.harmed (d.unstaged g) (record { table = refl; lanes = refl; ports = refl }) in
     let now : Heeded n mapper w probe.world = subst (Heeded n mapper w) (sym is) after in
     let replies : (node_at probe.world g).reply ≡ Some r = ap (λ v. (node_at v g).reply) is ∙ ap (λ (x : NodeState). x.reply) (get_or-set_same base.nodes g m (new_node 0) low) in
     let first = reply-first g (node_at probe.world g) r (now.unstaged g) replies in

@@ -23,18 +23,18 @@ use Rattle.ask_laws.proofs.Parcels.{SendKeeps}
 -- what an ask leaves of a host
 pub record SameNode (n m : NodeState) : Type 0 where
   pub table : m.table ≡ n.table
-  pub peers : m.peers ≡ n.peers
+  pub lanes : m.lanes ≡ n.lanes
   pub ports : m.ports ≡ n.ports
 
 pub same-node : (n : NodeState) → SameNode n n
-same-node n = record { table = refl; peers = refl; ports = refl }
+same-node n = record { table = refl; lanes = refl; ports = refl }
 
 pub kept-same : (w : WorldState) → IsAskKept w w
 kept-same w = record {
   fabric = refl;
   hosts = refl;
   table = λ h. refl;
-  peers = λ h. refl;
+  lanes = λ h. refl;
   ports = λ h. refl;
   clients = refl;
   adopted = refl;
@@ -57,7 +57,7 @@ kept-both u v w a b =
       fabric = b.fabric ∙ a.fabric;
       hosts = b.hosts ∙ a.hosts;
       table = λ h. b.table h ∙ a.table h;
-      peers = λ h. b.peers h ∙ a.peers h;
+      lanes = λ h. b.lanes h ∙ a.lanes h;
       ports = λ h. b.ports h ∙ a.ports h;
       clients = b.clients ∙ a.clients;
       adopted = b.adopted ∙ a.adopted;
@@ -79,7 +79,7 @@ kept-node w h n k =
       fabric = refl;
       hosts = length-set w.nodes h n;
       table = λ g. (each g).table;
-      peers = λ g. (each g).peers;
+      lanes = λ g. (each g).lanes;
       ports = λ g. (each g).ports;
       clients = refl;
       adopted = refl;
@@ -98,8 +98,8 @@ IsOfMapper _ = ⊥
 
 sent-node : (n : NodeState) (out : Outgoing) → IsOfMapper out → SameNode n (after_sending n out)
 unfolding after_sending
-sent-node n (Probe walk looped) is = record { table = refl; peers = refl; ports = refl }
-sent-node n (Reply r) is = record { table = refl; peers = refl; ports = refl }
+sent-node n (Probe walk looped) is = record { table = refl; lanes = refl; ports = refl }
+sent-node n (Reply r) is = record { table = refl; lanes = refl; ports = refl }
 sent-node n _ is = absurd is
 
 nodes-at : (w t : WorldState) (h g : ℕ) (n : NodeState) → t.nodes ≡ set w.nodes h n → node_at t g ≡ get_or (set w.nodes h n) g (new_node 0)
@@ -115,7 +115,7 @@ kept-sent w h out t is k =
       fabric = k.net;
       hosts = ap length k.nodes ∙ length-set w.nodes h n;
       table = λ g. ap (λ (x : NodeState). x.table) (at g) ∙ (each g).table;
-      peers = λ g. ap (λ (x : NodeState). x.peers) (at g) ∙ (each g).peers;
+      lanes = λ g. ap (λ (x : NodeState). x.lanes) (at g) ∙ (each g).lanes;
       ports = λ g. ap (λ (x : NodeState). x.ports) (at g) ∙ (each g).ports;
       clients = k.clients;
       adopted = k.adopted;
@@ -151,7 +151,7 @@ ready-staged n mapper w walk looped r = record {
 
 pub kept-staged : (w : WorldState) (h : ℕ) (walk : List ℤ) (looped : Bool) → IsAskKept w (step w (Ask h walk looped)).1
 unfolding asked
-kept-staged w h walk looped = kept-node w h (record (node_at w h) { staged = Some (StagedProbe walk looped) }) (record { table = refl; peers = refl; ports = refl })
+kept-staged w h walk looped = kept-node w h (record (node_at w h) { staged = Some (StagedProbe walk looped) }) (record { table = refl; lanes = refl; ports = refl })
 
 pub counts-staged : (w : WorldState) (h : ℕ) (walk : List ℤ) (looped : Bool) → ((step w (Ask h walk looped)).1.injected ≡ w.injected) × ((step w (Ask h walk looped)).1.harmed ≡ w.harmed) × ((step w (Ask h walk looped)).1.plan ≡ w.plan)
 unfolding asked
@@ -213,7 +213,7 @@ unstaged-reply w h r t k none g =
 
 -- every host gives up
 gave_up-node : (w : WorldState) (h : ℕ) (b : Bool) → IsAskKept w (if b then (let r : Effect × WorldState = (Effect.GaveUp, with_node w h (given_up (node_at w h))) in r) else (Effect.Idle, w)).1
-gave_up-node w h true = kept-node w h (given_up (node_at w h)) (record { table = refl; peers = refl; ports = refl })
+gave_up-node w h true = kept-node w h (given_up (node_at w h)) (record { table = refl; lanes = refl; ports = refl })
 gave_up-node w h false = kept-same w
 
 kept-given_up : (w : WorldState) (h : ℕ) → IsAskKept w (step w (GiveUp h)).1

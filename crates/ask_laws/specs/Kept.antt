@@ -12,7 +12,7 @@ pub record IsAskKept (w v : WorldState) : Type 0 where
   pub fabric : fabric_of v ≡ fabric_of w
   pub hosts : host_count v ≡ host_count w
   pub table : (h : ℕ) → (node_at v h).table ≡ (node_at w h).table
-  pub peers : (h : ℕ) → (node_at v h).peers ≡ (node_at w h).peers
+  pub lanes : (h : ℕ) → (node_at v h).lanes ≡ (node_at w h).lanes
   pub ports : (h : ℕ) → (node_at v h).ports ≡ (node_at w h).ports
   pub clients : v.clients ≡ w.clients
   pub adopted : v.adopted ≡ w.adopted

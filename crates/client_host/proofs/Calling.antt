@@ -11,9 +11,9 @@ use Rattle.world_defs.specs.declared.client.ClientCause.{ClientCause}
 use Rattle.world_defs.specs.declared.client.ClientCause.TheVariants.{NotOpen, NoToken, BadSize}
 use Rattle.world_defs.specs.declared.effect.Said.{Said}
 use Rattle.world_defs.specs.declared.effect.Said.TheVariants.{Token, Nothing}
-use Rattle.world_defs.specs.Peer.{with_message}
-use Rattle.world_defs.specs.Node.{NodeState, peer_at, with_peer, port_at, with_port}
-use Rattle.world_defs.specs.Client.{ClientState, Called, Wanted, client_bytes, wanted_message, empty_buffer, refused, left, provide_with, provide_open, provided_by, send_refusal, send_accepted, send_unless, send_with, send_open, sent_by, handed_out, poll_open, polled_by}
+use Rattle.world_defs.specs.Lane.{with_message}
+use Rattle.world_defs.specs.Node.{NodeState, lane_at, with_lane, port_at, with_port}
+use Rattle.world_defs.specs.Client.{ClientState, Called, Wanted, client_bytes, wanted_message, wanted_lane, empty_buffer, refused, left, provide_with, provide_open, provided_by, send_refusal, send_accepted, send_unless, send_with, send_open, sent_by, handed_out, poll_open, polled_by}
 use Rattle.port_client.specs.Held.{OpenClient, with_sends, with_recvs}
 use Rattle.nic_node.specs.Held.{HostNode, in_state}
 use Rattle.client_host.specs.Back.{with_event, event_said}
@@ -69,7 +69,7 @@ providing-some host hosts n port size prio c t tied e =
 -- a message is sent
 abbrev pub sent_call : NodeState → Wanted → ClientState → ℕ → Called
 sent_call n s c t =
-    left (with_peer n s.dest (with_message (peer_at n s.dest) (wanted_message s) (record { port = s.port; token = t }))) s.port
+    left (with_lane n (wanted_lane s) (with_message (lane_at n (wanted_lane s)) (wanted_message s) (record { port = s.port; token = t }))) s.port
     (option_map (λ p. sent_with p t (client_bytes s.len s.seed)) (port_at n s.port)) (Some (record c { sends = drop 1 c.sends })) (Token t)
 
 send-none : (n : NodeState) (s : Wanted) (p : PortState) (c : ClientState) (ts : List ℕ) → slice_get ts 0 ≡ None → send_with n s p c ts ≡ refused n (Some c) NoToken
@@ -100,7 +100,7 @@ sending-some host hosts n s c t tied e =
     let o = open-is host hosts s.port (port_at n s.port) c tied in
     ap (send_open n s (Some c.held)) o.is
     ∙ send-some n s o.state c.held c.held.sends t e
-    ∙ ap (λ x. unless n c.held (send_refusal n s) (left (with_peer n s.dest (with_message (peer_at n s.dest) (wanted_message s) (record { port = s.port; token = t }))) s.port
+    ∙ ap (λ x. unless n c.held (send_refusal n s) (left (with_lane n (wanted_lane s) (with_message (lane_at n (wanted_lane s)) (wanted_message s) (record { port = s.port; token = t }))) s.port
     (option_map (λ p. sent_with p t (client_bytes s.len s.seed)) x) (Some (record c.held { sends = drop 1 c.held.sends })) (Token t))) (sym o.is)
 
 -- an event is polled

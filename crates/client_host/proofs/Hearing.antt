@@ -22,9 +22,9 @@ use Rattle.world_defs.specs.declared.applied.Applied.{Applied}
 use Rattle.world_defs.specs.declared.applied.Applied.TheVariants.{Part as OnePart, Active, Old}
 use Rattle.world_defs.specs.declared.heard.Heard.{Heard}
 use Rattle.world_defs.specs.Table.{TableState, applied}
-use Rattle.world_defs.specs.Peer.{Ticket, peer_acknowledged, tickets_finished, peer_after}
-use Rattle.world_defs.specs.Node.{NodeState, Outgoing, Probe, TablePart, Reply, PartAnswer, FrameAnswer, Fragment, peer_at, with_peer, port_at, with_port, after_sending}
-use Rattle.world_defs.specs.Hearing.{is_host, heard_if, is_part_for, part_heard, hear_mapping, hear_mapping_body, message_of, delivered_after, frame_heard, frame_took, all_finished, ack_heard, hear_gm, hear_gm_body, hear_body, hear_decoded, hear}
+use Rattle.world_defs.specs.Lane.{Ticket, lane_acknowledged, tickets_finished, lane_after}
+use Rattle.world_defs.specs.Node.{NodeState, Outgoing, Probe, TablePart, Reply, PartAnswer, FrameAnswer, Fragment, lane_at, with_lane, port_at, with_port, after_sending}
+use Rattle.world_defs.specs.Hearing.{frame_lane, ack_lane, is_host, heard_if, is_part_for, part_heard, hear_mapping, hear_mapping_body, message_of, delivered_after, frame_heard, frame_took, all_finished, ack_heard, hear_gm, hear_gm_body, hear_body, hear_decoded, hear}
 use Rattle.world_laws.proofs.Lists.{at-set}
 use Rattle.owner_laws.proofs.Moves.{owned-finished, owned-delivered}
 use Rattle.port_client.specs.Held.{OpenClient}
@@ -132,7 +132,7 @@ delivered_after-tied hosts n h part Whole among =
 
 frame_heard-tied : (hosts : ℕ) (n : NodeState) (h : FrameHead) (part : List ℕ) (t : Took) → h.src < hosts → NodeTied hosts n (frame_heard n h part t).1
 frame_heard-tied hosts n h part t among =
-    let m : NodeState = with_peer n h.src (peer_after (peer_at n h.src) t (message_of h part)) in
+    let m : NodeState = with_lane n (frame_lane h) (lane_after (lane_at n (frame_lane h)) t (message_of h part)) in
     node-after hosts n m (frame_heard n h part t).1 (node-same hosts n m refl) (delivered_after-tied hosts m h part t among)
 
 all_finished-tied : (hosts : ℕ) (n : NodeState) (ts : List Ticket) → NodeTied hosts n (all_finished n ts)
@@ -150,9 +150,9 @@ hear_gm-tied : (host hosts : ℕ) (n : NodeState) (body : List ℕ) (b : GmBody)
 hear_gm-tied host hosts n body (Frame h) =
     heard_if-tied hosts (nat_eq h.dst host && is_host hosts h.src) n _ (λ e. frame_heard-tied hosts n h (part_in body) (frame_took n h) (among hosts h.src (nat_eq h.dst host) e))
 hear_gm-tied host hosts n body (Acknowledges a) =
-    let m : NodeState = with_peer n a.src (peer_acknowledged (peer_at n a.src) a.next) in
+    let m : NodeState = with_lane n (ack_lane a) (lane_acknowledged (lane_at n (ack_lane a)) a.next) in
     heard_if-tied hosts (nat_eq a.dst host && is_host hosts a.src) n _
-    (λ e. node-after hosts n m (ack_heard n a) (node-same hosts n m refl) (all_finished-tied hosts m (tickets_finished (peer_at n a.src) a.next)))
+    (λ e. node-after hosts n m (ack_heard n a) (node-same hosts n m refl) (all_finished-tied hosts m (tickets_finished (lane_at n (ack_lane a)) a.next)))
 
 hear_gm_body-tied : (host hosts : ℕ) (n : NodeState) (body : List ℕ) (r : Result GmBody NoBody) → NodeTied hosts n (hear_gm_body host hosts n body r).1
 hear_gm_body-tied host hosts n body (Err e) = node-same hosts n n refl
@@ -177,8 +177,8 @@ after_sending-tied hosts n (Probe walk looped) = node-same hosts n _ refl
 after_sending-tied hosts n (TablePart part by) = node-same hosts n _ refl
 after_sending-tied hosts n (Reply r) = node-same hosts n _ refl
 after_sending-tied hosts n (PartAnswer a) = node-same hosts n _ refl
-after_sending-tied hosts n (FrameAnswer peer next by) = node-same hosts n _ refl
-after_sending-tied hosts n (Fragment peer head part by) = node-same hosts n _ refl
+after_sending-tied hosts n (FrameAnswer lane next by) = node-same hosts n _ refl
+after_sending-tied hosts n (Fragment lane head part by) = node-same hosts n _ refl
 
 pub once_sent-tied : (hosts : ℕ) (n : NodeState) (o : Option Outgoing) → NodeTied hosts n (once_sent n o)
 once_sent-tied hosts n None = node-same hosts n n refl

@@ -2,10 +2,11 @@
 
 ghost use Rattle.std.specs.Prelude.{◌≡◌, ◌<◌, ◌≤◌, ℕ, nat_lt, length, replicate, true, is_some, if◌then◌else◌, Some};
 ghost use Rattle.std.specs.Prelude.{None, option_map, IfOk, OnOk, OnErr};
+ghost use Rattle.gm_defs.specs.Body.{is_prio};
 ghost use Rattle.mapping_defs.specs.Mapping.{is_part};
 ghost use Rattle.world_defs.specs.Table.{active_epoch};
 ghost use Rattle.world_defs.specs.Node.{StagedProbe, StagedPart, port_count, to_send, packet_for, has_staged, given_up};
-ghost use Rattle.world_defs.specs.Node.{node_expired, unacknowledged_to, peer_at};
+ghost use Rattle.world_defs.specs.Node.{node_expired, unacknowledged_to, lane_count, lane_of, lane_at};
 ghost use Rattle.world_defs.specs.Hearing.{hear};
 ghost use Rattle.nic_node.specs.Sending.{once_sent};
 ghost use Rattle.client_host.specs.Held.{unused_host, in_state};
@@ -67,7 +68,7 @@ impl ClientHost {
     /// How many hosts there are.
     pub fn hosts(&self) -> u16
         ensures hosts { result ≡ self.now.hosts }
-        ensures peers { result ≡ length self.now.state.peers }
+        ensures lanes { length self.now.state.lanes ≡ lane_count result }
     {
         self.node.hosts()
     }
@@ -131,8 +132,8 @@ impl ClientHost {
         self.node.has_part_ack()
     }
 
-    /// What a peer didn't acknowledge is sent again. False exactly where nothing is unacknowledged, and then nothing
-    /// changes.
+    /// What a peer didn't acknowledge is sent again, of both priorities. False exactly where nothing is unacknowledged,
+    /// and then nothing changes.
     pub fn expire(&mut self, peer: u16) -> bool
         requires { peer < self.old.hosts }
         ensures told { result ≡ nat_lt 0 (unacknowledged_to self.old.state peer) }
@@ -149,26 +150,29 @@ impl ClientHost {
         self.node.active()
     }
 
-    /// The messages that were accepted for a peer, in order.
-    pub fn sent(&self, peer: u16) -> &[Message]
-        requires { peer < self.now.hosts }
-        ensures { result.now ≡ (peer_at self.now.state peer).sent }
+    /// The messages of a priority that were accepted for a peer, in order.
+    pub fn sent(&self, peer: u16, prio: u8) -> &[Message]
+        requires peer { peer < self.now.hosts }
+        requires prio { is_prio prio ≡ true }
+        ensures { result.now ≡ (lane_at self.now.state (lane_of peer prio)).sent }
     {
-        self.node.sent(peer)
+        self.node.sent(peer, prio)
     }
 
-    /// The messages that were taken from a peer, in order.
-    pub fn got(&self, peer: u16) -> &[Message]
-        requires { peer < self.now.hosts }
-        ensures { result.now ≡ (peer_at self.now.state peer).got }
+    /// The messages of a priority that were taken from a peer, in order.
+    pub fn got(&self, peer: u16, prio: u8) -> &[Message]
+        requires peer { peer < self.now.hosts }
+        requires prio { is_prio prio ≡ true }
+        ensures { result.now ≡ (lane_at self.now.state (lane_of peer prio)).got }
     {
-        self.node.got(peer)
+        self.node.got(peer, prio)
     }
 
-    /// How many fragments to a peer aren't acknowledged, sent or not.
-    pub fn unacked(&self, peer: u16) -> u32
+    /// How many fragments to a peer aren't acknowledged, sent or not, of both priorities.
+    pub fn unacked(&self, peer: u16) -> u64
         requires { peer < self.now.hosts }
-        ensures { result ≡ unacknowledged_to self.now.state peer }
+        ensures sum { result ≡ unacknowledged_to self.now.state peer }
+        ensures few { result ≤ 8589934590 }
     {
         self.node.unacked(peer)
     }

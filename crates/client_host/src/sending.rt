@@ -7,8 +7,8 @@ ghost use Rattle.gm_defs.specs.Body.{message_limit};
 ghost use Rattle.gm_defs.specs.Token.{place_of_send};
 ghost use Rattle.gm_defs.specs.Port.{sent_with};
 ghost use Rattle.gm_tokens.specs.Token.{token_at};
-ghost use Rattle.world_defs.specs.Peer.{with_message};
-ghost use Rattle.world_defs.specs.Node.{peer_at, with_peer, port_at, with_port};
+ghost use Rattle.world_defs.specs.Lane.{with_message};
+ghost use Rattle.world_defs.specs.Node.{lane_of, lane_at, with_lane, port_at, with_port};
 ghost use Rattle.world_defs.specs.Client.{client_bytes, wanted_message, send_refusal, sent_by};
 ghost use Rattle.world_defs.specs.Step.{wanted};
 ghost use Rattle.nic_node.specs.Held.{in_state};
@@ -112,7 +112,8 @@ fn send_token(
         (e.1 ≡ send_refusal node.old.state (wanted port a.dest a.dport a.prio a.len seed)) ⊎ (e.1 ≡ None)) }
     ensures number { IfOk result (λ n. n ≡ token.number) }
     ensures sent { OnOk result (node.new ≡ in_state node.old
-        (with_port (with_peer node.old.state a.dest (with_message (peer_at node.old.state a.dest)
+        (with_port (with_lane node.old.state (lane_of a.dest a.prio) (with_message
+        (lane_at node.old.state (lane_of a.dest a.prio))
         (wanted_message (wanted port a.dest a.dport a.prio a.len seed))
         (record { port = port; token = token.number }))) port
         (option_map (λ p. sent_with p token.number (client_bytes a.len seed)) (port_at node.old.state port)))) }

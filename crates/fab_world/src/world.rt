@@ -1,7 +1,7 @@
 //! The world.
 
-ghost use Rattle.std.specs.Prelude.{◌≡◌, ◌≤◌, ◌<◌, ◌^◌, ℕ, length, is_some, option_map, Some, None, IfOk, IfSome};
-ghost use Rattle.std.specs.Prelude.{IfNone, OnOk, OnErr};
+ghost use Rattle.std.specs.Prelude.{◌≡◌, ◌≤◌, ◌<◌, ◌^◌, ℕ, length, true, is_some, option_map, Some, None, IfOk};
+ghost use Rattle.std.specs.Prelude.{IfSome, IfNone, OnOk, OnErr};
 ghost use Rattle.net_defs.specs.Route.{channel_from};
 ghost use Rattle.link_defs.specs.Channel.{channel_count, channel_tail, channel_head};
 ghost use Rattle.link_defs.specs.Hops.{total_hops};
@@ -9,7 +9,10 @@ ghost use Rattle.link_defs.specs.Links.{packet_in, is_idle};
 ghost use Rattle.link_defs.specs.Fault.{next_limbo};
 ghost use Rattle.link_model.specs.Full.{IsNextFull};
 ghost use Rattle.port_graph.specs.Routes.{HandsBack};
-ghost use Rattle.world_defs.specs.Node.{has_staged, to_send, peer_at, port_at, unacknowledged_to};
+ghost use Rattle.gm_defs.specs.Body.{is_prio};
+ghost use Rattle.gm_defs.specs.Connection.{connection};
+ghost use Rattle.world_defs.specs.Node.{has_staged, to_send, port_at, unacknowledged_to};
+ghost use Rattle.world_defs.specs.Traffic.{sent_on, got_on};
 ghost use Rattle.world_defs.specs.Table.{active_epoch};
 ghost use Rattle.world_defs.specs.World.{fabric_of, host_count, new_world, node_at, planned, adopted_by};
 ghost use Rattle.world_defs.specs.EightBits.{IsByteFault};
@@ -250,11 +253,12 @@ impl World {
         self.machine.links.planned()
     }
 
-    /// How many fragments of a host to a peer aren't acknowledged, sent or not.
-    pub fn unacked_to(&self, host: u16, peer: u16) -> u32
+    /// How many fragments of a host to a peer aren't acknowledged, sent or not, of both priorities.
+    pub fn unacked_to(&self, host: u16, peer: u16) -> u64
         requires there { IsHostOf self.now host }
         requires peer { IsHostOf self.now peer }
-        ensures { result ≡ unacknowledged_to (node_at self.now host) peer }
+        ensures sum { result ≡ unacknowledged_to (node_at self.now host) peer }
+        ensures few { result ≤ 8589934590 }
     {
         self.machine.at(host).unacked(peer)
     }
@@ -291,22 +295,24 @@ impl World {
         self.machine.at(host).active()
     }
 
-    /// The messages of a host that were accepted for a peer, in order.
-    pub fn sent(&self, host: u16, peer: u16) -> &[Message]
+    /// The messages of a priority that a host accepted for a peer, in order.
+    pub fn sent(&self, host: u16, peer: u16, prio: u8) -> &[Message]
         requires there { IsHostOf self.now host }
         requires peer { IsHostOf self.now peer }
-        ensures { result.now ≡ (peer_at (node_at self.now host) peer).sent }
+        requires prio { is_prio prio ≡ true }
+        ensures { result.now ≡ sent_on self.now (connection host peer prio) }
     {
-        self.machine.at(host).sent(peer)
+        self.machine.at(host).sent(peer, prio)
     }
 
-    /// The messages that a host took from a peer, in order.
-    pub fn got(&self, host: u16, peer: u16) -> &[Message]
+    /// The messages of a priority that a peer took from a host, in order.
+    pub fn got(&self, host: u16, peer: u16, prio: u8) -> &[Message]
         requires there { IsHostOf self.now host }
         requires peer { IsHostOf self.now peer }
-        ensures { result.now ≡ (peer_at (node_at self.now host) peer).got }
+        requires prio { is_prio prio ≡ true }
+        ensures { result.now ≡ got_on self.now (connection host peer prio) }
     {
-        self.machine.at(host).got(peer)
+        self.machine.at(peer).got(host, prio)
     }
 
     /// How many send tokens and how many receive tokens a port of a host was opened with. None exactly where it isn't

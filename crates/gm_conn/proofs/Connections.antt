@@ -8,17 +8,17 @@ use Rattle.net_defs.proofs.Distinct.{all-push}
 use Rattle.gm_defs.specs.declared.message.Message.{Message}
 use Rattle.gm_defs.specs.declared.frame.FrameHead.{FrameHead}
 use Rattle.gm_defs.specs.declared.frame.Ack.{Ack}
+use Rattle.gm_defs.specs.declared.frame.ConnectionKey.{ConnectionKey}
 use Rattle.gm_defs.specs.declared.token.Took.TheVariants.{NotNext, NoToken, Whole}
 use Rattle.gm_defs.specs.Body.{piece, number_limit}
-use Rattle.gm_defs.specs.Fragment.{pieces, fragments, piece_count, whole_below, head_of, frame_of, IsHonestFrame, IsHonestAck}
+use Rattle.gm_defs.specs.Fragment.{pieces, fragments, piece_count, whole_below, head_of, frame_of}
 use Rattle.gm_defs.specs.Connection.{SenderState, IsSender, window, due, sent_one, is_taken, acknowledged, expired, is_spent, offered, took, taken_after}
 use Rattle.gm_defs.proofs.Choices.{both, if-some, map-some}
 use Rattle.gm_conn.proofs.Messages.{IsShort, all-at, within, take-next, whole_of, length-fragments, whole_below-short, fragment-short, one_piece}
 
--- A connection: its hosts, its sender's numbers, how many fragments its receiver has taken, and the messages that were sent.
+-- A connection: its key, its sender's numbers, how many fragments its receiver has taken, and the messages that were sent.
 pub record Conn : Type 0 where
-  pub src : ℕ
-  pub dst : ℕ
+  pub key : ConnectionKey
   pub numbers : SenderState
   pub received : ℕ
   pub sent : List Message
@@ -33,8 +33,7 @@ pub record IsSound (c : Conn) : Type 0 where
 
 -- The same connection later.
 pub record Grows (c d : Conn) : Type 0 where
-  pub src : d.src ≡ c.src
-  pub dst : d.dst ≡ c.dst
+  pub key : d.key ≡ c.key
   pub more : List Message
   pub sent : d.sent ≡ c.sent ++ more
   pub top : c.numbers.top ≤ d.numbers.top
@@ -47,7 +46,7 @@ pub record Kept (c d : Conn) : Type 0 where
 
 -- A frame that was emitted: it is honest, and its number was sent.
 pub record IsSentFrame (c : Conn) (h : FrameHead) (part : List ℕ) : Type 0 where
-  pub honest : IsHonestFrame c.src c.dst c.sent h part
+  pub honest : frame_of c.key c.sent h.seq ≡ Some (h, part)
   pub sent : h.seq < c.numbers.top
 
 -- ---- what was honest stays so
@@ -62,28 +61,28 @@ get-append (y ∷ xs) ys zero x e = e
 get-append (y ∷ xs) ys (suc k) x e = get-append xs ys k x e
 
 -- a frame of what was sent is one of what is sent later
-pub honest-longer : (src dst : ℕ) (sent more : List Message) (h : FrameHead) (part : List ℕ) → IsHonestFrame src dst sent h part → IsHonestFrame src dst (sent ++ more) h part
-honest-longer src dst sent more h part e =
-    let m = map-some (λ f. (head_of src dst h.seq f, f.part)) (slice_get (fragments sent) h.seq) (h, part) e in
+pub honest-longer : (k : ConnectionKey) (sent more : List Message) (h : FrameHead) (part : List ℕ) → frame_of k sent h.seq ≡ Some (h, part) → frame_of k (sent ++ more) h.seq ≡ Some (h, part)
+honest-longer k sent more h part e =
+    let m = map-some (λ f. (head_of k h.seq f, f.part)) (slice_get (fragments sent) h.seq) (h, part) e in
     let there : slice_get (fragments (sent ++ more)) h.seq ≡ Some m.0 =
     ap (λ l. slice_get l h.seq) (fragments-append sent more) ∙ get-append (fragments sent) (fragments more) h.seq m.0 m.1.0 in
-    ap (option_map (λ f. (head_of src dst h.seq f, f.part))) there ∙ ap (λ x. Some x) m.1.1
+    ap (option_map (λ f. (head_of k h.seq f, f.part))) there ∙ ap (λ x. Some x) m.1.1
 
 pub frame-grows : (c d : Conn) (h : FrameHead) (part : List ℕ) → Grows c d → IsSentFrame c h part → IsSentFrame d h part
 frame-grows c d h part g f = record {
   honest =
-      let longer : IsHonestFrame c.src c.dst (c.sent ++ g.more) h part = honest-longer c.src c.dst c.sent g.more h part f.honest in
-      (λ i. frame_of (g.src i) (g.dst i) (g.sent i) h.seq) ∙ longer;
+      let longer : frame_of c.key (c.sent ++ g.more) h.seq ≡ Some (h, part) = honest-longer c.key c.sent g.more h part f.honest in
+      (λ i. frame_of (g.key i) (g.sent i) h.seq) ∙ longer;
   sent = let a = f.sent in let b = g.top in omega arith;
 }
 
-pub ack-grows : (c d : Conn) (a : Ack) → Grows c d → IsHonestAck c.received a → IsHonestAck d.received a
+pub ack-grows : (c d : Conn) (a : Ack) → Grows c d → a.next ≤ c.received → a.next ≤ d.received
 ack-grows c d a g h = let b = g.received in omega arith
 
 -- ---- the events
 
 pub grows-same : (c : Conn) (numbers : SenderState) (received : ℕ) → c.numbers.top ≤ numbers.top → c.received ≤ received → Grows c (record c { numbers = numbers; received = received })
-grows-same c numbers received t r = record { src = refl; dst = refl; more = []; sent = sym (append-nil c.sent); top = t; received = r }
+grows-same c numbers received t r = record { key = refl; more = []; sent = sym (append-nil c.sent); top = t; received = r }
 
 -- a message is offered
 pub offer-keeps : (c : Conn) (m : Message) → IsSound c → length m.body ≤ piece → is_spent c.numbers (piece_count (length m.body)) ≡ false
@@ -104,7 +103,7 @@ offer-keeps c m s h e =
         counted = let k = s.counted in omega (arith, k, one, many, before, longer);
         short = short;
       };
-      grows = record { src = refl; dst = refl; more = m ∷ []; sent = refl; top = omega arith; received = omega arith };
+      grows = record { key = refl; more = m ∷ []; sent = refl; top = omega arith; received = omega arith };
     }
 
 -- what is due, by its two tests
@@ -148,7 +147,7 @@ send-keeps c n s e =
 pub record IsFrameOf (c : Conn) (n : ℕ) (m : Message) : Type 0 where
   pub message : slice_get c.sent n ≡ Some m
   pub short : length m.body ≤ piece
-  pub frame : frame_of c.src c.dst c.sent n ≡ Some (head_of c.src c.dst n (whole_of m), m.body)
+  pub frame : frame_of c.key c.sent n ≡ Some (head_of c.key n (whole_of m), m.body)
 
 pub frame-at : (c : Conn) (n : ℕ) → IsSound c → n < c.numbers.next → (m : Message) × IsFrameOf c n m
 frame-at c n s h =
@@ -160,12 +159,12 @@ frame-at c n s h =
       record {
         message = w.1;
         short = all-at (λ m. length m.body ≤ piece) c.sent n w.0 s.short w.1;
-        frame = ap (option_map (λ f. (head_of c.src c.dst n f, f.part))) f;
+        frame = ap (option_map (λ f. (head_of c.key n f, f.part))) f;
       },
     )
 
 pub due-sent : (c : Conn) (n : ℕ) (m : Message) → IsSound c → due c.numbers ≡ Some n → IsFrameOf c n m
-    → IsSentFrame (record c { numbers = sent_one c.numbers }) (head_of c.src c.dst n (whole_of m)) m.body
+    → IsSentFrame (record c { numbers = sent_one c.numbers }) (head_of c.key n (whole_of m)) m.body
 due-sent c n m s e f = record { honest = f.frame; sent = let d = (due-some c.numbers n e).number in omega (arith, d) }
 
 -- an honest acknowledgement arrives
@@ -229,12 +228,12 @@ take-keeps c h part fits s f = by (nat_eq h.seq c.received) refl fits
     by false e fits = same
 
 -- the message of an honest frame
-pub frame-message : (c : Conn) (h : FrameHead) (part : List ℕ) → IsSound c → IsSentFrame c h part → (m : Message) × (IsFrameOf c h.seq m × (h ≡ head_of c.src c.dst h.seq (whole_of m)) × (part ≡ m.body))
+pub frame-message : (c : Conn) (h : FrameHead) (part : List ℕ) → IsSound c → IsSentFrame c h part → (m : Message) × (IsFrameOf c h.seq m × (h ≡ head_of c.key h.seq (whole_of m)) × (part ≡ m.body))
 frame-message c h part s f =
     let o = s.sender in
     let t = f.sent in
     let w = frame-at c h.seq s (let a = o.top_below in omega arith) in
-    let same : (h, part) ≡ (head_of c.src c.dst h.seq (whole_of w.0), w.0.body) = same_Some (h, part) (head_of c.src c.dst h.seq (whole_of w.0), w.0.body) (sym f.honest ∙ w.1.frame) in
+    let same : (h, part) ≡ (head_of c.key h.seq (whole_of w.0), w.0.body) = same_Some (h, part) (head_of c.key h.seq (whole_of w.0), w.0.body) (sym f.honest ∙ w.1.frame) in
     (w.0, (w.1, ap (λ x. x.0) same, ap (λ x. x.1) same))
 
 -- where it is taken, the messages taken are one more

@@ -1,5 +1,5 @@
 -- A pair is sound after every event, so its messages arrive in order.
-use Rattle.std.proofs.Common.{◌≡◌, ◌≤◌, ◌<◌, ◌+◌, ℕ, Bool, true, false, nat_eq, nat_lt, nat_le, List, [], ◌∷◌, ◌++◌, length, replicate, take, drop, Option, Some, None, option_map, refl, sym, ap, ◌∙◌, subst, arith, if◌then◌else◌}
+use Rattle.std.proofs.Common.{◌≡◌, ◌≤◌, ◌+◌, ℕ, Bool, true, false, ◌&&◌, nat_eq, nat_le, List, [], ◌∷◌, ◌++◌, length, replicate, take, drop, Option, Some, None, option_map, refl, sym, ap, ◌∙◌, subst, arith, if◌then◌else◌}
 use Rattle.std.specs.Prelude.{slice_get}
 use Rattle.std.specs.List.{AllByRecursion}
 use Rattle.std.proofs.lemmas.Bool.Decides.{nat_tests}
@@ -8,12 +8,13 @@ use Rattle.std.proofs.lemmas.Option.{slice_get-map}
 use Rattle.net_defs.proofs.Distinct.{all-push, all-weaker}
 use Rattle.gm_defs.specs.declared.message.Message.{Message}
 use Rattle.gm_defs.specs.declared.frame.FrameHead.{FrameHead}
+use Rattle.gm_defs.specs.declared.frame.ConnectionKey.{ConnectionKey}
 use Rattle.gm_defs.specs.declared.frame.GmBody.{GmBody}
 use Rattle.gm_defs.specs.declared.frame.GmBody.TheVariants.{Frame, Ack as Acknowledges}
 use Rattle.gm_defs.specs.declared.token.Took.TheVariants.{NotNext, NoToken, Whole}
-use Rattle.gm_defs.specs.Body.{message_limit, is_head}
-use Rattle.gm_defs.specs.Fragment.{piece_count, head_of, frame_of, IsHonestAck}
-use Rattle.gm_defs.specs.Connection.{SenderState, due, sent_one, acknowledged, expired, unacknowledged, is_spent, offered, took, taken_after}
+use Rattle.gm_defs.specs.Body.{message_limit, is_prio, is_head}
+use Rattle.gm_defs.specs.Fragment.{piece_count, head_of, frame_of}
+use Rattle.gm_defs.specs.Connection.{SenderState, ack_on, due, sent_one, acknowledged, expired, unacknowledged, is_spent, offered, took, taken_after}
 use Rattle.gm_defs.proofs.Choices.{map-some}
 use Rattle.gm_conn.specs.declared.event.PairMsg.{PairMsg}
 use Rattle.gm_conn.specs.declared.event.PairEvent.{PairEvent}
@@ -27,41 +28,42 @@ use Rattle.gm_conn.proofs.Connections.{Conn, IsSound, Grows, Kept, IsSentFrame, 
 
 -- the connection of a pair
 abbrev pub conn_of : PairState → Conn
-conn_of p = record { src = p.src; dst = p.dst; numbers = p.numbers; received = p.received; sent = messages_of p.offered }
+conn_of p = record { key = p.key; numbers = p.numbers; received = p.received; sent = messages_of p.key p.offered }
 
 -- a packet that was emitted on a connection
 abbrev pub IsCarried : Conn → GmBody → Type 0
 IsCarried c (Frame h) = (part : List ℕ) × IsSentFrame c h part
-IsCarried c (Acknowledges a) = IsHonestAck c.received a
+IsCarried c (Acknowledges a) = a.next ≤ c.received
 
 carried-grows : (c d : Conn) (b : GmBody) → Grows c d → IsCarried c b → IsCarried d b
 carried-grows c d (Frame h) g k = (k.0, frame-grows c d h k.0 g k.1)
 carried-grows c d (Acknowledges a) g k = ack-grows c d a g k
 
-abbrev pub AreByRules : List PairMsg → Type 0
-AreByRules ms = AllByRecursion (λ m. is_desc (desc_of m) ≡ true) ms
+abbrev pub AreByRules : ConnectionKey → List PairMsg → Type 0
+AreByRules c ms = AllByRecursion (λ m. is_desc c (desc_of c m) ≡ true) ms
 
 -- What each event keeps.
 pub record IsSoundPair (p : PairState) : Type 0 where
   pub conn : IsSound (conn_of p)
-  pub by_rules : AreByRules p.offered
+  pub prio : is_prio p.key.prio ≡ true
+  pub by_rules : AreByRules p.key p.offered
   pub carried : AllByRecursion (IsCarried (conn_of p)) p.packets
   pub taken : p.taken ≡ take p.received p.offered
 
 carried-later : (c d : Conn) (bs : List GmBody) → Grows c d → AllByRecursion (IsCarried c) bs → AllByRecursion (IsCarried d) bs
 carried-later c d bs g all = all-weaker (IsCarried c) (IsCarried d) bs (λ b k. carried-grows c d b g k) all
 
-fair-desc : (m : PairMsg) → m.total ≤ message_limit → m.prio < 2 → is_desc (desc_of m) ≡ true
-fair-desc m t q =
-    let prio : nat_lt m.prio 2 ≡ true = grind (arith, nat_tests) in
+pub fair-desc : (c : ConnectionKey) (m : PairMsg) → m.total ≤ message_limit → is_prio c.prio ≡ true → is_desc c (desc_of c m) ≡ true
+fair-desc c m t q =
+    let same : nat_eq c.prio c.prio ≡ true = grind (arith, nat_tests) in
     let total : nat_le m.total message_limit ≡ true = grind (arith, nat_tests) in
-    grind (arith, nat_tests)
+    λ i. q i && same i && total i
 
-length-messages : (ms : List PairMsg) → length (messages_of ms) ≡ length ms
-length-messages ms = length-map ms (λ m. message_of (desc_of m))
+length-messages : (c : ConnectionKey) (ms : List PairMsg) → length (messages_of c ms) ≡ length ms
+length-messages c ms = length-map ms (λ m. message_of (desc_of c m))
 
-new-sound : (src dst : ℕ) → IsSoundPair (new_pair src dst)
-new-sound src dst = record {
+new-sound : (c : ConnectionKey) → is_prio c.prio ≡ true → IsSoundPair (new_pair c)
+new-sound c prio = record {
   conn = record {
     sender = record { base_below = omega arith; cursor_below = omega arith; top_below = omega arith; in_range = omega arith };
     base_below = omega arith;
@@ -69,6 +71,7 @@ new-sound src dst = record {
     counted = refl;
     short = tt;
   };
+  prio = prio;
   by_rules = tt;
   carried = tt;
   taken = refl;
@@ -81,29 +84,30 @@ with_message p m = record p { numbers = offered p.numbers (piece_count m.total);
 message-kept : (p : PairState) (m : PairMsg) → IsSoundPair p → m.total ≤ message_limit → is_spent p.numbers (piece_count m.total) ≡ false → Kept (conn_of p) (conn_of (with_message p m))
 message-kept p m s t e =
     let c : Conn = conn_of p in
-    let message : Message = message_of (desc_of m) in
+    let message : Message = message_of (desc_of p.key m) in
     let long : length message.body ≡ m.total = length-replicate {A = ℕ} m.total 0 in
     let kept : Kept c (record c { numbers = offered c.numbers (piece_count (length message.body)); sent = c.sent ++ message ∷ [] }) =
     offer-keeps c message s.conn (omega (arith, long)) (ap (λ n. is_spent p.numbers (piece_count n)) long ∙ e) in
-    let sent : c.sent ++ message ∷ [] ≡ messages_of (p.offered ++ m ∷ []) = sym (map-append (λ x. message_of (desc_of x)) p.offered (m ∷ [])) in
+    let sent : c.sent ++ message ∷ [] ≡ messages_of p.key (p.offered ++ m ∷ []) = sym (map-append (λ x. message_of (desc_of p.key x)) p.offered (m ∷ [])) in
     let P : SenderState × List Message → Type 0 = λ x. Kept c (record c { numbers = x.0; sent = x.1 }) in
     subst P (λ i. (offered c.numbers (piece_count (long i)), sent i)) kept
 
 received-within : (p : PairState) → IsSoundPair p → p.received ≤ length p.offered
 received-within p s =
-    let all = length-fragments (messages_of p.offered) s.conn.short in
-    let many = length-messages p.offered in
+    let all = length-fragments (messages_of p.key p.offered) s.conn.short in
+    let many = length-messages p.key p.offered in
     let k = s.conn.counted in
     let r = s.conn.received_below in
     let t = s.conn.sender.top_below in
     omega (arith, all, many, k)
 
-message-sound : (p : PairState) (m : PairMsg) → IsSoundPair p → m.total ≤ message_limit → m.prio < 2 → is_spent p.numbers (piece_count m.total) ≡ false → IsSoundPair (with_message p m)
-message-sound p m s t q e =
+message-sound : (p : PairState) (m : PairMsg) → IsSoundPair p → m.total ≤ message_limit → is_spent p.numbers (piece_count m.total) ≡ false → IsSoundPair (with_message p m)
+message-sound p m s t e =
     let kept = message-kept p m s t e in
     record {
       conn = kept.sound;
-      by_rules = all-push (λ x. is_desc (desc_of x) ≡ true) p.offered m s.by_rules (fair-desc m t q);
+      prio = s.prio;
+      by_rules = all-push (λ x. is_desc p.key (desc_of p.key x) ≡ true) p.offered m s.by_rules (fair-desc p.key m t s.prio);
       carried = carried-later (conn_of p) (conn_of (with_message p m)) p.packets kept.grows s.carried;
       taken = s.taken ∙ sym (take-append-le p.received p.offered (m ∷ []) (received-within p s));
     }
@@ -112,12 +116,12 @@ message-sound p m s t q e =
 abbrev outcome : Bool → Bool × PairState → Bool × PairState → Bool × PairState
 outcome b x y = if b then x else y
 
-offer-sound : (p : PairState) (m : PairMsg) → IsSoundPair p → m.total ≤ message_limit → m.prio < 2 → IsSoundPair (offer p m).1
-offer-sound p m s t q = by (is_spent p.numbers (piece_count m.total)) refl
+offer-sound : (p : PairState) (m : PairMsg) → IsSoundPair p → m.total ≤ message_limit → IsSoundPair (offer p m).1
+offer-sound p m s t = by (is_spent p.numbers (piece_count m.total)) refl
   where
     by : (b : Bool) → is_spent p.numbers (piece_count m.total) ≡ b → IsSoundPair (outcome b (false, p) (true, with_message p m)).1
     by true e = s
-    by false e = message-sound p m s t q e
+    by false e = message-sound p m s t e
 
 -- the due frame is emitted
 emit-sound : (p : PairState) (n : ℕ) → IsSoundPair p → due p.numbers ≡ Some n → IsSoundPair (emit p (Some n)).1
@@ -129,12 +133,13 @@ emit-sound p n s e =
     let at = after.number in
     let more = after.offered_already in
     let f = frame-at c n s.conn (omega (arith, at, more)) in
-    let packet : frame_packet (frame_of p.src p.dst (messages_of p.offered) n) ≡ Frame (head_of p.src p.dst n (whole_of f.0)) ∷ [] = ap frame_packet f.1.frame in
-    let here : IsCarried d (Frame (head_of p.src p.dst n (whole_of f.0))) = (f.0.body, due-sent c n f.0 s.conn e f.1) in
-    let all : AllByRecursion (IsCarried d) (p.packets ++ Frame (head_of p.src p.dst n (whole_of f.0)) ∷ []) =
-    all-push (IsCarried d) p.packets (Frame (head_of p.src p.dst n (whole_of f.0))) (carried-later c d p.packets kept.grows s.carried) here in
+    let packet : frame_packet (frame_of p.key (messages_of p.key p.offered) n) ≡ Frame (head_of p.key n (whole_of f.0)) ∷ [] = ap frame_packet f.1.frame in
+    let here : IsCarried d (Frame (head_of p.key n (whole_of f.0))) = (f.0.body, due-sent c n f.0 s.conn e f.1) in
+    let all : AllByRecursion (IsCarried d) (p.packets ++ Frame (head_of p.key n (whole_of f.0)) ∷ []) =
+    all-push (IsCarried d) p.packets (Frame (head_of p.key n (whole_of f.0))) (carried-later c d p.packets kept.grows s.carried) here in
     record {
       conn = kept.sound;
+      prio = s.prio;
       by_rules = s.by_rules;
       carried = subst (λ l. AllByRecursion (IsCarried d) (p.packets ++ l)) (sym packet) all;
       taken = s.taken;
@@ -151,21 +156,22 @@ due-sound p s = by (due p.numbers) refl
 ack-sound : (p : PairState) → IsSoundPair p → IsSoundPair (emit_ack p)
 ack-sound p s = record {
   conn = s.conn;
+  prio = s.prio;
   by_rules = s.by_rules;
-  carried = all-push (IsCarried (conn_of p)) p.packets (Acknowledges (record { src = p.dst; dst = p.src; next = p.received })) s.carried (let r : p.received ≤ p.received = omega arith in r);
+  carried = all-push (IsCarried (conn_of p)) p.packets (Acknowledges (ack_on p.key p.received)) s.carried (let r : p.received ≤ p.received = omega arith in r);
   taken = s.taken;
 }
 
 -- the message of a frame that is taken
 frame-taken : (p : PairState) (h : FrameHead) (part : List ℕ) → IsSoundPair p → IsSentFrame (conn_of p) h part
-    → (m : PairMsg) × ((slice_get p.offered h.seq ≡ Some m) × (h ≡ head_for p.src p.dst h.seq (desc_of m)))
+    → (m : PairMsg) × ((slice_get p.offered h.seq ≡ Some m) × (h ≡ head_for p.key h.seq (desc_of p.key m)))
 frame-taken p h part s f =
     let w = frame-message (conn_of p) h part s.conn f in
-    let there : option_map (λ m. message_of (desc_of m)) (slice_get p.offered h.seq) ≡ Some w.0 = sym (slice_get-map (λ m. message_of (desc_of m)) p.offered h.seq) ∙ w.1.0.message in
-    let m = map-some (λ m. message_of (desc_of m)) (slice_get p.offered h.seq) w.0 there in
+    let there : option_map (λ m. message_of (desc_of p.key m)) (slice_get p.offered h.seq) ≡ Some w.0 = sym (slice_get-map (λ m. message_of (desc_of p.key m)) p.offered h.seq) ∙ w.1.0.message in
+    let m = map-some (λ m. message_of (desc_of p.key m)) (slice_get p.offered h.seq) w.0 there in
     let long : length (replicate m.0.total 0) ≡ m.0.total = length-replicate {A = ℕ} m.0.total 0 in
-    let head : h ≡ head_of p.src p.dst h.seq (whole_of (message_of (desc_of m.0))) = w.1.1 ∙ ap (λ x. head_of p.src p.dst h.seq (whole_of x)) (sym m.1.1) in
-    (m.0, (m.1.0, head ∙ ap (λ l. record (head_for p.src p.dst h.seq (desc_of m.0)) { total = l; len = l }) long))
+    let head : h ≡ head_of p.key h.seq (whole_of (message_of (desc_of p.key m.0))) = w.1.1 ∙ ap (λ x. head_of p.key h.seq (whole_of x)) (sym m.1.1) in
+    (m.0, (m.1.0, head ∙ ap (λ l. record (head_for p.key h.seq (desc_of p.key m.0)) { total = l; len = l }) long))
 
 -- a frame arrives
 hear-sound : (p : PairState) (h : FrameHead) (part : List ℕ) (fits : Bool) → IsSoundPair p → IsSentFrame (conn_of p) h part → IsSoundPair (hear_frame p h (took p.received h.seq fits))
@@ -178,15 +184,16 @@ hear-sound p h part fits s f = by (nat_eq h.seq p.received) refl fits (take-keep
         let m = frame-taken p h part s f in
         let here : h.seq ≡ p.received = grind (arith, nat_tests) in
         let there : slice_get p.offered p.received ≡ Some m.0 = ap (slice_get p.offered) (sym here) ∙ m.1.0 in
-        let whole : record { total = h.total; prio = h.prio } ≡ m.0 = ap (λ x. record { total = x.total; prio = x.prio }) m.1.1 in
+        let whole : record { total = h.total } ≡ m.0 = ap (λ x. record { total = x.total }) m.1.1 in
         record {
           conn = kept.sound;
+          prio = s.prio;
           by_rules = s.by_rules;
           carried = carried-later (conn_of p) (record (conn_of p) { received = p.received + 1 }) p.packets kept.grows s.carried;
           taken = (λ i. s.taken i ++ whole i ∷ []) ∙ sym (take-next p.offered p.received m.0 there);
         }
-    by true e false kept = record { conn = s.conn; by_rules = s.by_rules; carried = s.carried; taken = append-nil p.taken ∙ s.taken }
-    by false e fits kept = record { conn = s.conn; by_rules = s.by_rules; carried = s.carried; taken = append-nil p.taken ∙ s.taken }
+    by true e false kept = record { conn = s.conn; prio = s.prio; by_rules = s.by_rules; carried = s.carried; taken = append-nil p.taken ∙ s.taken }
+    by false e fits kept = record { conn = s.conn; prio = s.prio; by_rules = s.by_rules; carried = s.carried; taken = append-nil p.taken ∙ s.taken }
 
 deliver-sound : (p : PairState) (packet : ℕ) (fits : Bool) → IsSoundPair p → IsSoundPair (deliver p fits (slice_get p.packets packet)).1
 deliver-sound p packet fits s = by (slice_get p.packets packet) refl
@@ -202,6 +209,7 @@ deliver-sound p packet fits s = by (slice_get p.packets packet) refl
         let kept = hear-keeps c a.next s.conn k in
         record {
           conn = kept.sound;
+          prio = s.prio;
           by_rules = s.by_rules;
           carried = carried-later c (record c { numbers = acknowledged c.numbers a.next }) p.packets kept.grows s.carried;
           taken = s.taken;
@@ -216,13 +224,14 @@ expire-sound p s = by (nat_eq (unacknowledged p.numbers) 0)
         let kept = expire-keeps (conn_of p) s.conn in
         record {
           conn = kept.sound;
+          prio = s.prio;
           by_rules = s.by_rules;
           carried = carried-later (conn_of p) (record (conn_of p) { numbers = expired p.numbers }) p.packets kept.grows s.carried;
           taken = s.taken;
         }
 
 pub step-sound : (p : PairState) (e : PairEvent) → IsSoundPair p → IsFair e → IsSoundPair (step p e).1
-step-sound p (Offer total prio) s f = offer-sound p (record { total = total; prio = prio }) s f.0 f.1
+step-sound p (Offer total) s f = offer-sound p (record { total = total }) s f
 step-sound p Emit s f = due-sound p s
 step-sound p EmitAck s f = ack-sound p s
 step-sound p (Deliver packet fits) s f = deliver-sound p packet fits s
@@ -233,7 +242,7 @@ after_all-sound p [] s f = s
 after_all-sound p (e ∷ es) s f = after_all-sound (step p e).1 es (step-sound p e s f.0) f.1
 
 pub reached-sound : (p : PairState) → IsReached p → IsSoundPair p
-reached-sound p r = subst IsSoundPair (sym r.leads) (after_all-sound (new_pair r.src r.dst) r.events (new-sound r.src r.dst) r.fair)
+reached-sound p r = subst IsSoundPair (sym r.leads) (after_all-sound (new_pair r.key) r.events (new-sound r.key r.prio) r.fair)
 
 pub sound-in_order : (p : PairState) → IsSoundPair p → IsInOrder p
 sound-in_order p s =
@@ -249,19 +258,19 @@ sound-in_order p s =
     }
 
 pub pair-in_order : PairInOrder
-pair-in_order src dst events fair = sound-in_order (after_all (new_pair src dst) events) (after_all-sound (new_pair src dst) events (new-sound src dst) fair)
+pair-in_order c events prio fair = sound-in_order (after_all (new_pair c) events) (after_all-sound (new_pair c) events (new-sound c prio) fair)
 
 -- the head of a packet is by the rules
 pub packet-by_rules : (p : PairState) (packet : ℕ) (h : FrameHead) → IsSoundPair p → slice_get p.packets packet ≡ Some (Frame h) → is_head h ≡ true
 packet-by_rules p packet h s e =
     let k : IsCarried (conn_of p) (Frame h) = all-at (IsCarried (conn_of p)) p.packets packet (Frame h) s.carried e in
     let m = frame-taken p h k.0 s k.1 in
-    let rules : is_desc (desc_of m.0) ≡ true = all-at (λ x. is_desc (desc_of x) ≡ true) p.offered h.seq m.0 s.by_rules m.1.0 in
+    let rules : is_desc p.key (desc_of p.key m.0) ≡ true = all-at (λ x. is_desc p.key (desc_of p.key x) ≡ true) p.offered h.seq m.0 s.by_rules m.1.0 in
     let sent = k.1.sent in
     let o = s.conn.sender in
     let t = o.top_below in
     let r = o.in_range in
-    subst (λ x. is_head x ≡ true) (sym m.1.1) (head-by_rules p.src p.dst h.seq (desc_of m.0) rules (omega arith))
+    subst (λ x. is_head x ≡ true) (sym m.1.1) (head-by_rules p.key h.seq (desc_of p.key m.0) rules (omega arith))
 
 -- one event more
 after_all-push : (p : PairState) (events : List PairEvent) (e : PairEvent) → after_all p (events ++ e ∷ []) ≡ (step (after_all p events) e).1
@@ -270,9 +279,9 @@ after_all-push p (d ∷ es) e = after_all-push (step p d).1 es e
 
 pub reached-step : (p : PairState) (e : PairEvent) → IsReached p → IsFair e → IsReached (step p e).1
 reached-step p e r f = record {
-  src = r.src;
-  dst = r.dst;
+  key = r.key;
+  prio = r.prio;
   events = r.events ++ e ∷ [];
   fair = all-push IsFair r.events e r.fair f;
-  leads = ap (λ q. (step q e).1) r.leads ∙ sym (after_all-push (new_pair r.src r.dst) r.events e);
+  leads = ap (λ q. (step q e).1) r.leads ∙ sym (after_all-push (new_pair r.key) r.events e);
 }

@@ -3,6 +3,7 @@ use Rattle.std.proofs.Common.{◌≡◌, ◌<◌, ◌+◌, ◌-◌, ℕ, zero, s
 use Rattle.std.specs.Prelude.{slice_get, option_and_then}
 use Rattle.std.proofs.lemmas.Option.{same_Some, none-some, slice_get_within}
 use Rattle.gm_defs.specs.declared.message.Message.{Message}
+use Rattle.gm_defs.specs.declared.frame.ConnectionKey.{ConnectionKey}
 use Rattle.gm_defs.specs.Fragment.{head_of}
 use Rattle.gm_conn.specs.declared.desc.Desc.{Desc}
 use Rattle.gm_conn.specs.Halves.{due_at, due_frame, head_for, Describes, AreOf}
@@ -35,9 +36,9 @@ of-at (d ∷ ds) (n ∷ ms) zero m all e =
 of-at (d ∷ ds) (n ∷ ms) (suc k) m all e = of-at ds ms k m all.1 e
 
 -- its head is that of the message
-pub head-of-message : (src dst n : ℕ) (d : Desc) (m : Message) → Describes d m → head_for src dst n d ≡ head_of src dst n (whole_of m)
-head-of-message src dst n d m h =
-    λ i. record { src = src; dst = dst; sport = h.sport i; dport = h.dport i; prio = h.prio i; seq = n; total = h.total i; offset = 0; len = h.total i }
+pub head-of-message : (c : ConnectionKey) (n : ℕ) (d : Desc) (m : Message) → Describes d m → head_for c n d ≡ head_of c n (whole_of m)
+head-of-message c n d m h =
+    λ i. record { src = c.src; dst = c.dst; sport = h.sport i; dport = h.dport i; prio = h.prio i; seq = n; total = h.total i; offset = 0; len = h.total i }
 
 get-drop : {X : Type 0} (f k : ℕ) (xs : List X) → slice_get (drop f xs) k ≡ slice_get xs (f + k)
 get-drop zero k xs = let e : 0 + k ≡ k = omega arith in ap (slice_get xs) (sym e)
@@ -55,7 +56,7 @@ due-of-message w sent n m kept all e there =
     let message : slice_get (drop f sent) (n - f) ≡ Some m = get-drop f (n - f) sent ∙ ap (slice_get sent) above ∙ there in
     let d = of-at w.waiting (drop f sent) (n - f) m all message in
     let within : n - f < length w.waiting = slice_get_within w.waiting (n - f) d.0 d.1.0 in
-    let at : due_at w n ≡ Some (record { head = head_for w.src w.dst n d.0; ticket = d.0.ticket }) = due-is w n d.0 kept d.1.0 within in
-    let head : head_for w.src w.dst n d.0 ≡ head_of w.src w.dst n (whole_of m) = head-of-message w.src w.dst n d.0 m d.1.1 in
+    let at : due_at w n ≡ Some (record { head = head_for w.key n d.0; ticket = d.0.ticket }) = due-is w n d.0 kept d.1.0 within in
+    let head : head_for w.key n d.0 ≡ head_of w.key n (whole_of m) = head-of-message w.key n d.0 m d.1.1 in
     let step : due_frame w ≡ due_at w n = ap (option_and_then (due_at w)) e in
     (d.0.ticket, step ∙ at ∙ ap (λ h. Some (record { head = h; ticket = d.0.ticket })) head)

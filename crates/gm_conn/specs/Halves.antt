@@ -1,14 +1,15 @@
 -- The two halves of a connection, as their contracts see them. Their numbers and their rules are those of `gm_defs`.
-use Rattle.std.specs.Prelude.{◌≡◌, ℕ, ◌+◌, ◌-◌, ◌≤◌, Bool, true, ◌&&◌, nat_lt, nat_le, List, [], ◌∷◌, ◌++◌, map, length}
-use Rattle.std.specs.Prelude.{replicate, slice_get, drop, if◌then◌else◌, Option, Some, None, option_map}
+use Rattle.std.specs.Prelude.{◌≡◌, ℕ, ◌+◌, ◌-◌, ◌≤◌, Bool, true, ◌&&◌, nat_eq, nat_lt, nat_le, List, [], ◌∷◌, ◌++◌, map}
+use Rattle.std.specs.Prelude.{length, replicate, slice_get, drop, if◌then◌else◌, Option, Some, None, option_map}
 use Rattle.std.specs.Prelude.{option_and_then}
 use Rattle.std.specs.List.{AllByRecursion}
 use Rattle.gm_defs.specs.declared.message.Message.{Message}
 use Rattle.gm_defs.specs.declared.frame.Ack.{Ack}
 use Rattle.gm_defs.specs.declared.frame.FrameHead.{FrameHead}
-use Rattle.gm_defs.specs.Body.{message_limit}
+use Rattle.gm_defs.specs.declared.frame.ConnectionKey.{ConnectionKey}
+use Rattle.gm_defs.specs.Body.{message_limit, is_prio}
 use Rattle.gm_defs.specs.Fragment.{fragments, piece_count, whole_below, head_of}
-use Rattle.gm_defs.specs.Connection.{SenderState, IsSender, due, acknowledged, is_spent, offered}
+use Rattle.gm_defs.specs.Connection.{SenderState, IsSender, ack_on, due, acknowledged, is_spent, offered}
 use Rattle.gm_conn.specs.declared.desc.Desc.{Desc}
 use Rattle.gm_conn.specs.declared.desc.Due.{Due}
 use Rattle.gm_conn.specs.declared.refusal.OfferRefusal.{OfferRefusal}
@@ -17,31 +18,24 @@ use Rattle.gm_conn.specs.declared.refusal.OfferRefusal.TheVariants.{Spent}
 -- A sender: its connection, its numbers, the descriptors that were offered and not taken out again, oldest first, and
 -- the room that was made for more.
 pub record Outgoing : Type 0 where
-  pub src : ℕ
-  pub dst : ℕ
+  pub key : ConnectionKey
   pub numbers : SenderState
   pub waiting : List Desc
   pub spare : ℕ
 
 -- A receiver: its connection, and how many fragments it has taken.
 pub record Incoming : Type 0 where
-  pub src : ℕ
-  pub dst : ℕ
+  pub key : ConnectionKey
   pub taken : ℕ
 
 -- a sender by its fields
-abbrev pub outgoing : ℕ → ℕ → SenderState → List Desc → ℕ → Outgoing
-outgoing src dst numbers waiting spare = record {
-  src = src;
-  dst = dst;
-  numbers = numbers;
-  waiting = waiting;
-  spare = spare;
-}
+abbrev pub outgoing : ConnectionKey → SenderState → List Desc → ℕ → Outgoing
+outgoing key numbers waiting spare = record { key = key; numbers = numbers; waiting = waiting; spare = spare }
 
--- a descriptor of a message by the rules
-abbrev pub is_desc : Desc → Bool
-is_desc d = nat_lt d.sport 8 && nat_lt d.dport 8 && nat_lt d.prio 2 && nat_le d.total message_limit
+-- a descriptor of a message by the rules, of the connection's priority
+abbrev pub is_desc : ConnectionKey → Desc → Bool
+is_desc c d = nat_lt d.sport 8 && nat_lt d.dport 8 && is_prio d.prio && nat_eq d.prio c.prio
+    && nat_le d.total message_limit
 
 -- the message that a descriptor stands for: its bytes are elsewhere, and count as zeros here
 abbrev pub message_of : Desc → Message
@@ -59,7 +53,7 @@ first w = w.numbers.next - length (fragments (messages w))
 abbrev pub due_at : Outgoing → ℕ → Option Due
 due_at w n =
     option_and_then
-    (λ f. option_map (λ d. record { head = head_of w.src w.dst n f; ticket = d.ticket })
+    (λ f. option_map (λ d. record { head = head_of w.key n f; ticket = d.ticket })
     (slice_get w.waiting (whole_below (messages w) (n - first w))))
     (slice_get (fragments (messages w)) (n - first w))
 
@@ -92,10 +86,10 @@ with_offer w d = record w {
 }
 
 -- the head of a message's only frame
-abbrev pub head_for : ℕ → ℕ → ℕ → Desc → FrameHead
-head_for src dst seq d = record {
-  src = src;
-  dst = dst;
+abbrev pub head_for : ConnectionKey → ℕ → Desc → FrameHead
+head_for c seq d = record {
+  src = c.src;
+  dst = c.dst;
   sport = d.sport;
   dport = d.dport;
   prio = d.prio;
@@ -114,11 +108,11 @@ pub record IsOutgoing (w : Outgoing) : Type 0 where
   pub sender : IsSender w.numbers
   pub counted : length w.waiting ≤ w.numbers.next
   pub waits : w.numbers.next - length w.waiting ≤ w.numbers.base
-  pub by_rules : AllByRecursion (λ d. is_desc d ≡ true) w.waiting
+  pub by_rules : AllByRecursion (λ d. is_desc w.key d ≡ true) w.waiting
 
 -- the acknowledgement that a receiver owes: of the next number, back to the sender
 abbrev pub ack_of : Incoming → Ack
-ack_of r = record { src = r.dst; dst = r.src; next = r.taken }
+ack_of r = ack_on r.key r.taken
 
 -- A descriptor is of a message.
 pub record Describes (d : Desc) (m : Message) : Type 0 where

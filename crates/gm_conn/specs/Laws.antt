@@ -1,7 +1,9 @@
 -- What holds of every sender, and of every pair after every list of events.
-use Rattle.std.specs.Prelude.{◌≡◌, ℕ, List, slice_get, Some}
+use Rattle.std.specs.Prelude.{◌≡◌, ℕ, true, List, slice_get, Some}
 use Rattle.std.specs.List.{AllByRecursion}
 use Rattle.gm_defs.specs.declared.message.Message.{Message}
+use Rattle.gm_defs.specs.declared.frame.ConnectionKey.{ConnectionKey}
+use Rattle.gm_defs.specs.Body.{is_prio}
 use Rattle.gm_defs.specs.Fragment.{head_of}
 use Rattle.gm_defs.specs.Connection.{due}
 use Rattle.gm_conn.specs.declared.event.PairEvent.{PairEvent}
@@ -10,8 +12,8 @@ use Rattle.gm_conn.specs.Pair.{new_pair, after_all, IsFair, IsInOrder}
 
 -- whatever is lost, repeated and delayed, what was taken is a prefix of what was offered
 abbrev pub PairInOrder : Type 0
-PairInOrder = (src dst : ℕ) (events : List PairEvent) → AllByRecursion IsFair events
-    → IsInOrder (after_all (new_pair src dst) events)
+PairInOrder = (c : ConnectionKey) (events : List PairEvent) → is_prio c.prio ≡ true → AllByRecursion IsFair events
+    → IsInOrder (after_all (new_pair c) events)
 
 -- a sender whose descriptors are of the messages that were sent has due the frame of the message of that number
 abbrev pub DueIsOfMessage : Type 0
@@ -19,7 +21,4 @@ DueIsOfMessage =
     (w : Outgoing) (sent : List Message) (n : ℕ) (m : Message) → IsOutgoing w → WaitsFor w sent
     → due w.numbers ≡ Some n → slice_get sent n ≡ Some m
     → (ticket : ℕ) × (due_frame w
-    ≡ Some (record {
-      head = head_of w.src w.dst n (record { message = m; offset = 0; part = m.body });
-      ticket = ticket;
-    }))
+    ≡ Some (record { head = head_of w.key n (record { message = m; offset = 0; part = m.body }); ticket = ticket }))

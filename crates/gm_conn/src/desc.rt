@@ -11,7 +11,7 @@ pub struct Desc {
     pub sport: u8,
     /// The receiving port.
     pub dport: u8,
-    /// 0 or 1.
+    /// The priority of its connection, 0 or 1.
     pub prio: u8,
     /// How many bytes it has.
     pub total: u32,

@@ -1,25 +1,29 @@
 //! What happens to a pair.
 
-/// A message of a pair: its length and its priority.
+/// A message of a pair: its length.
 #[derive(Clone, Copy, Debug, PartialEq, Eq)]
 pub struct PairMsg {
     /// How many bytes it has.
     pub total: u32,
-    /// 0 or 1.
-    pub prio: u8,
 }
 
 /// One event.
 #[derive(Clone, Copy, Debug, PartialEq, Eq)]
 pub enum PairEvent {
-    /// A message is offered.
-    Offer { total: u32, prio: u8 },
+    /// A message of so many bytes is offered.
+    Offer {
+        /// How many bytes it has.
+        total: u32,
+    },
     /// The due frame is emitted.
     Emit,
     /// The acknowledgement of what was taken is emitted.
     EmitAck,
     /// The packet of this place among all that were emitted arrives; `fits` says whether a token fits its message.
-    Deliver { packet: u32, fits: bool },
+    Deliver {
+        packet: u32,
+        fits: bool,
+    },
     /// The sender's time runs out.
     Expire,
 }

@@ -1,5 +1,5 @@
-//! The two halves of a connection: a sender that repeats what isn't acknowledged, and a receiver that takes the next
-//! number alone.
+//! The two halves of a connection, from one host to another and of one priority: a sender that repeats what isn't
+//! acknowledged, and a receiver that takes the next number alone.
 //!
 //! It holds no message's bytes and knows no port. `specs/Connection.antt` of `gm_defs` has the rules of the numbers,
 //! `specs/Halves.antt` what a half is, and `specs/Pair.antt` two halves over a medium that loses, repeats and delays.
@@ -23,7 +23,7 @@ mod sender;
 pub use desc::{Desc, Due};
 pub use event::{PairEvent, PairMsg};
 pub use examples::{events_of_a_pair, messages_of_a_sender};
-pub use gm_defs::{Ack, FrameHead, GmBody, Took};
+pub use gm_defs::{Ack, ConnectionKey, FrameHead, GmBody, Took};
 pub use laws::{due_is_of_message, pair_in_order};
 pub use pair::Pair;
 pub use receiver::Receiver;

@@ -1,9 +1,11 @@
 //! Both halves of one connection over a medium that loses, repeats and delays.
 
 ghost use Rattle.std.specs.Prelude.{◌≡◌, true, slice_get, Some, IfOk, OnErr};
-ghost use Rattle.gm_defs.specs.Connection.{due};
+ghost use Rattle.gm_defs.specs.Body.{is_prio};
+ghost use Rattle.gm_defs.specs.Connection.{connection, due};
 ghost use Rattle.gm_conn.specs.declared.event.PairEvent.TheVariants.{Offer};
-ghost use Rattle.gm_conn.specs.Pair.{new_pair, offer, emit, emit_ack, deliver, expire, step, IsFair, IsInOrder};
+ghost use Rattle.gm_conn.specs.Pair.{desc_of, new_pair, offer, emit, emit_ack, deliver, expire, step, IsFair};
+ghost use Rattle.gm_conn.specs.Pair.{IsInOrder};
 
 use crate::{Desc, OfferRefusal, PairEvent, PairMsg, Receiver, Sender};
 use gm_defs::{GmBody, Took};
@@ -32,13 +34,14 @@ impl Model for Pair {
 }
 
 impl Pair {
-    /// The pair for what goes from `src` to `dst`. It takes no memory.
-    pub fn new(alloc: Global, src: u16, dst: u16) -> Pair
-        ensures { result ≡ new_pair src dst }
+    /// The pair for what goes from `src` to `dst` of a priority. It takes no memory.
+    pub fn new(alloc: Global, src: u16, dst: u16, prio: u8) -> Pair
+        requires { is_prio prio ≡ true }
+        ensures { result ≡ new_pair (connection src dst prio) }
     {
         Pair {
-            sender: Sender::new(alloc, src, dst),
-            receiver: Receiver::new(src, dst),
+            sender: Sender::new(alloc, src, dst, prio),
+            receiver: Receiver::new(src, dst, prio),
             packets: Vec::new(alloc),
             offered: Vec::new(alloc),
             taken: Vec::new(alloc),
@@ -53,7 +56,7 @@ impl Pair {
         ensures err { OnErr result (self.new ≡ self.old) }
     {
         match e {
-            PairEvent::Offer { total, prio } => self.offer(PairMsg { total, prio }),
+            PairEvent::Offer { total } => self.offer(PairMsg { total }),
             PairEvent::Emit => self.emit(),
             PairEvent::EmitAck => self.emit_ack(),
             PairEvent::Deliver { packet, fits } => self.deliver(packet as usize, fits),
@@ -79,25 +82,33 @@ impl Pair {
 
     // A message is offered.
     fn offer(&mut self, m: PairMsg) -> Result<bool, AllocError>
-        requires { IsFair (Offer m.total m.prio) }
+        requires { IsFair (Offer m.total) }
         ensures ok { IfOk result (λ answer. offer self.old m ≡ (answer, self.new)) }
         ensures err { OnErr result (self.new ≡ self.old) }
     {
+        let desc = self.desc_of(m);
         self.offered.reserve(1)?;
         match self.sender.reserve(m.total) {
             Ok(()) => {
-                let _first = self.sender.offer(Desc {
-                    ticket: 0,
-                    sport: 0,
-                    dport: 0,
-                    prio: m.prio,
-                    total: m.total,
-                });
+                let _first = self.sender.offer(desc);
                 self.offered.push_reserved(m);
                 Ok(true)
             }
             Err(OfferRefusal::Spent) => Ok(false),
             Err(OfferRefusal::NoMemory) => Err(AllocError),
+        }
+    }
+
+    // A message between ports 0, with ticket 0.
+    fn desc_of(&self, m: PairMsg) -> Desc
+        ensures { result ≡ desc_of self.now.key m }
+    {
+        Desc {
+            ticket: 0,
+            sport: 0,
+            dport: 0,
+            prio: self.sender.key().prio,
+            total: m.total,
         }
     }
 
@@ -137,10 +148,7 @@ impl Pair {
             Some(GmBody::Frame(h)) => {
                 self.taken.reserve(1)?;
                 if let Took::Whole = self.receiver.on_frame(&h, fits) {
-                    self.taken.push_reserved(PairMsg {
-                        total: h.total,
-                        prio: h.prio,
-                    });
+                    self.taken.push_reserved(PairMsg { total: h.total });
                 }
                 Ok(true)
             }

@@ -2,17 +2,16 @@
 
 ghost use Rattle.std.specs.Prelude.{◌≡◌, true};
 ghost use Rattle.gm_defs.specs.Body.{is_head};
-ghost use Rattle.gm_defs.specs.Connection.{took, taken_after};
+ghost use Rattle.gm_defs.specs.Connection.{connection, took, taken_after};
 ghost use Rattle.gm_conn.specs.Halves.{ack_of};
 
-use gm_defs::{Ack, FrameHead, Took};
+use gm_defs::{Ack, ConnectionKey, FrameHead, Took};
 use std::marker::Model;
 
 /// The receiving half of a connection: it takes fragments in the order of their numbers.
 #[derive(Debug, Drop)]
 pub struct Receiver {
-    src: u16,
-    dst: u16,
+    key: ConnectionKey,
     taken: u32,
 }
 
@@ -21,15 +20,18 @@ impl Model for Receiver {
 
     ghost Value = { Incoming };
 
-    ghost view = { λ r. record { src = r.src; dst = r.dst; taken = r.taken } };
+    ghost view = { λ r. record { key = r.key; taken = r.taken } };
 }
 
 impl Receiver {
-    /// The half at `dst` for what `src` sends. It has taken nothing.
-    pub fn new(src: u16, dst: u16) -> Receiver
-        ensures { result ≡ record { src = src; dst = dst; taken = 0 } }
+    /// The half at `dst` for what `src` sends of a priority. It has taken nothing.
+    pub fn new(src: u16, dst: u16, prio: u8) -> Receiver
+        ensures { result ≡ record { key = connection src dst prio; taken = 0 } }
     {
-        Receiver { src, dst, taken: 0 }
+        Receiver {
+            key: ConnectionKey { src, dst, prio },
+            taken: 0,
+        }
     }
 
     /// A frame of this connection arrives; `fits` says whether a token fits its message.
@@ -53,8 +55,9 @@ impl Receiver {
         ensures { result ≡ ack_of self.now }
     {
         Ack {
-            src: self.dst,
-            dst: self.src,
+            src: self.key.dst,
+            dst: self.key.src,
+            prio: self.key.prio,
             next: self.taken,
         }
     }

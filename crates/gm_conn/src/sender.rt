@@ -4,14 +4,16 @@ ghost use Rattle.std.specs.Prelude.{◌≡◌, ◌<◌, ◌≤◌, ◌-◌, ◌+
 ghost use Rattle.std.specs.Prelude.{IsSome, IfSome, OnOk, OnErr};
 ghost use Rattle.std.specs.VecDeque.{deque_len, deque_capacity};
 ghost use Rattle.net_defs.specs.Refusal.{Refuses};
+ghost use Rattle.gm_defs.specs.declared.frame.GmBody.TheVariants.{Frame};
 ghost use Rattle.gm_defs.specs.Body.{is_head, message_limit};
 ghost use Rattle.gm_defs.specs.Fragment.{piece_count};
-ghost use Rattle.gm_defs.specs.Connection.{starting, due, sent_one, is_taken, expired, unacknowledged, is_spent};
+ghost use Rattle.gm_defs.specs.Connection.{connection, key_of, starting, due, sent_one, is_taken, expired};
+ghost use Rattle.gm_defs.specs.Connection.{unacknowledged, is_spent};
 ghost use Rattle.gm_conn.specs.Halves.{IsOutgoing, outgoing, is_desc, due_frame, finished, heard_ack, oldest_finished};
 ghost use Rattle.gm_conn.specs.Halves.{without_finished, offer_refusal, with_offer, head_for};
 
 use crate::{Desc, Due, OfferRefusal};
-use gm_defs::FrameHead;
+use gm_defs::{ConnectionKey, FrameHead};
 use std::alloc::Global;
 use std::collections::VecDeque;
 use std::marker::Model;
@@ -24,8 +26,7 @@ const WINDOW: u32 = 8;
 /// `reserve` makes the room for a message and `offer` takes none.
 #[derive(Drop)]
 pub struct Sender {
-    src: u16,
-    dst: u16,
+    key: ConnectionKey,
     base: u32,
     cursor: u32,
     top: u32,
@@ -40,7 +41,7 @@ impl Model for Sender {
 
     ghost Value = { Outgoing };
 
-    ghost view = { λ s. outgoing s.src s.dst (record {
+    ghost view = { λ s. outgoing s.key (record {
       base = s.base;
       cursor = s.cursor;
       top = s.top;
@@ -48,7 +49,7 @@ impl Model for Sender {
     }) s.waiting.items (deque_capacity s.waiting - deque_len s.waiting) };
 
     ghost invariant = { λ s.
-        IsOutgoing (outgoing s.src s.dst (record {
+        IsOutgoing (outgoing s.key (record {
           base = s.base;
           cursor = s.cursor;
           top = s.top;
@@ -57,20 +58,19 @@ impl Model for Sender {
 }
 
 impl Sender {
-    /// The half at `src` for what goes to `dst`. Its first number is 0. It takes no memory.
-    pub fn new(alloc: Global, src: u16, dst: u16) -> Sender
-        ensures { result ≡ outgoing src dst (starting 0) [] result.spare }
+    /// The half at `src` for what goes to `dst` of a priority. Its first number is 0. It takes no memory.
+    pub fn new(alloc: Global, src: u16, dst: u16, prio: u8) -> Sender
+        ensures { result ≡ outgoing (connection src dst prio) (starting 0) [] result.spare }
     {
-        Sender::starting(alloc, src, dst, 0)
+        Sender::starting(alloc, src, dst, prio, 0)
     }
 
     /// The same with another first number.
-    pub fn starting(alloc: Global, src: u16, dst: u16, first: u32) -> Sender
-        ensures { result ≡ outgoing src dst (starting first) [] result.spare }
+    pub fn starting(alloc: Global, src: u16, dst: u16, prio: u8, first: u32) -> Sender
+        ensures { result ≡ outgoing (connection src dst prio) (starting first) [] result.spare }
     {
         Sender {
-            src,
-            dst,
+            key: ConnectionKey { src, dst, prio },
             base: first,
             cursor: first,
             top: first,
@@ -97,11 +97,12 @@ impl Sender {
         }
     }
 
-    /// Puts a message behind those that were offered, and gives the number of its first fragment.
+    /// Puts a message of the connection's priority behind those that were offered, and gives the number of its first
+    /// fragment.
     pub fn offer(&mut self, d: Desc) -> u32
         requires room { 0 < self.old.spare }
         requires numbers { is_spent self.old.numbers (piece_count d.total) ≡ false }
-        requires by_rules { is_desc d ≡ true }
+        requires by_rules { is_desc self.old.key d ≡ true }
         ensures first { result ≡ self.old.numbers.next }
         ensures new { self.new ≡ with_offer self.old d }
     {
@@ -115,11 +116,12 @@ impl Sender {
     pub fn due(&self) -> Option<Due>
         ensures exact { result ≡ due_frame self.now }
         ensures by_rules { IfSome result (λ d. is_head d.head ≡ true) }
+        ensures connection { IfSome result (λ d. key_of (Frame d.head) ≡ self.now.key) }
     {
         if self.cursor < self.next && self.cursor - self.base < WINDOW {
             let d = desc_at(&self.waiting, (self.cursor - self.first()) as usize);
             Some(Due {
-                head: head_for(self.src, self.dst, self.cursor, &d),
+                head: head_for(self.key, self.cursor, &d),
                 ticket: d.ticket,
             })
         } else {
@@ -178,6 +180,13 @@ impl Sender {
         self.base < self.next
     }
 
+    /// Its connection.
+    pub fn key(&self) -> ConnectionKey
+        ensures { result ≡ self.now.key }
+    {
+        self.key
+    }
+
     /// How many fragments aren't acknowledged, sent or not.
     pub fn unacked(&self) -> u32
         ensures { result ≡ unacknowledged self.now.numbers }
@@ -225,13 +234,13 @@ fn desc_at(waiting: &VecDeque<Desc>, place: usize) -> Desc
 }
 
 // The head of a message's only frame.
-fn head_for(src: u16, dst: u16, seq: u32, d: &Desc) -> FrameHead
-    requires { is_desc d.now ≡ true }
-    ensures { result ≡ head_for src dst seq d.now }
+fn head_for(key: ConnectionKey, seq: u32, d: &Desc) -> FrameHead
+    requires { is_desc key d.now ≡ true }
+    ensures { result ≡ head_for key seq d.now }
 {
     FrameHead {
-        src,
-        dst,
+        src: key.src,
+        dst: key.dst,
         sport: d.sport,
         dport: d.dport,
         prio: d.prio,

@@ -1,6 +1,7 @@
--- The numbers of a connection, from one host to another. Its fragments are numbered from 0.
+-- The numbers of a connection, from one host to another and of one priority. Its fragments are numbered from 0.
 use Rattle.std.specs.Prelude.{ℕ, ◌+◌, ◌-◌, ◌≤◌, Bool, ◌&&◌, nat_lt, nat_le, nat_eq, max, if◌then◌else◌, Option, Some}
 use Rattle.std.specs.Prelude.{None}
+use Rattle.gm_defs.specs.declared.frame.Ack.{Ack}
 use Rattle.gm_defs.specs.declared.frame.ConnectionKey.{ConnectionKey}
 use Rattle.gm_defs.specs.declared.frame.GmBody.{GmBody}
 use Rattle.gm_defs.specs.declared.frame.GmBody.TheVariants.{Frame, Ack as Acknowledges}
@@ -8,11 +9,19 @@ use Rattle.gm_defs.specs.declared.token.Took.{Took}
 use Rattle.gm_defs.specs.declared.token.Took.TheVariants.{NotNext, NoToken, Whole}
 use Rattle.gm_defs.specs.Body.{number_limit}
 
+-- a connection by its hosts and its priority
+abbrev pub connection : ℕ → ℕ → ℕ → ConnectionKey
+connection src dst prio = record { src = src; dst = dst; prio = prio }
+
 -- The connection that a body belongs to: a frame's goes from its sender to its receiver, an acknowledgement's the
 -- other way.
 abbrev pub key_of : GmBody → ConnectionKey
-key_of (Frame h) = record { src = h.src; dst = h.dst }
-key_of (Acknowledges a) = record { src = a.dst; dst = a.src }
+key_of (Frame h) = connection h.src h.dst h.prio
+key_of (Acknowledges a) = connection a.dst a.src a.prio
+
+-- the acknowledgement that goes back on a connection, where so many fragments were taken
+abbrev pub ack_on : ConnectionKey → ℕ → Ack
+ack_on c taken = record { src = c.dst; dst = c.src; prio = c.prio; next = taken }
 
 -- A sender: the first number that isn't acknowledged, the next to send, one past the greatest ever sent, one past the
 -- last offered.

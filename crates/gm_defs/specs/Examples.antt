@@ -2,6 +2,7 @@
 use Rattle.std.specs.Prelude.{ℕ, List, [], ◌∷◌, map, codes, replicate}
 use Rattle.gm_defs.specs.declared.message.Message.{Message}
 use Rattle.gm_defs.specs.declared.frame.FrameHead.{FrameHead}
+use Rattle.gm_defs.specs.declared.frame.Ack.{Ack}
 use Rattle.gm_defs.specs.Token.{PortState, PortEvent, Sent, Received}
 
 -- a message of these bytes, from port 0 to port 1
@@ -11,6 +12,10 @@ message body = record { sport = 0; dport = 1; prio = 0; body = body }
 -- `ABC` from host 0 to host 1, whole in one frame
 abbrev pub abc : FrameHead
 abc = record { src = 0; dst = 1; sport = 0; dport = 1; prio = 0; seq = 0; total = 3; offset = 0; len = 3 }
+
+-- host 1 has taken one fragment of priority 1 from host 0
+abbrev pub answer : Ack
+answer = record { src = 1; dst = 0; prio = 1; next = 1 }
 
 -- a port with one send that isn't finished, one provided token, and one event of each kind
 abbrev pub busy_port : PortState

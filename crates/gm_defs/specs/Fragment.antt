@@ -4,7 +4,10 @@ use Rattle.std.specs.Prelude.{nat_le, slice_get, if◌then◌else◌, Option, So
 use Rattle.gm_defs.specs.declared.message.Message.{Message}
 use Rattle.gm_defs.specs.declared.frame.FrameHead.{FrameHead}
 use Rattle.gm_defs.specs.declared.frame.Ack.{Ack}
+use Rattle.gm_defs.specs.declared.frame.ConnectionKey.{ConnectionKey}
+use Rattle.gm_defs.specs.declared.frame.GmBody.TheVariants.{Frame, Ack as Acknowledges}
 use Rattle.gm_defs.specs.Body.{piece}
+use Rattle.gm_defs.specs.Connection.{key_of}
 
 -- One piece of a message: where it begins, and its bytes.
 pub record Fragment : Type 0 where
@@ -40,11 +43,11 @@ whole_below [] n = 0
 whole_below (m ∷ ms) n = if nat_le (piece_count (length m.body)) n
     then 1 + whole_below ms (n - piece_count (length m.body)) else 0
 
--- the head of the frame that carries a fragment, by its number, from one host to another
-abbrev pub head_of : ℕ → ℕ → ℕ → Fragment → FrameHead
-head_of src dst seq f = record {
-  src = src;
-  dst = dst;
+-- the head of the frame that carries a fragment, by its number, on a connection
+abbrev pub head_of : ConnectionKey → ℕ → Fragment → FrameHead
+head_of c seq f = record {
+  src = c.src;
+  dst = c.dst;
   sport = f.message.sport;
   dport = f.message.dport;
   prio = f.message.prio;
@@ -54,17 +57,17 @@ head_of src dst seq f = record {
   len = length f.part;
 }
 
--- the frame of a number, of the messages that were sent from one host to another
-abbrev pub frame_of : ℕ → ℕ → List Message → ℕ → Option (FrameHead × List ℕ)
-frame_of src dst sent seq = option_map (λ f. (head_of src dst seq f, f.part)) (slice_get (fragments sent) seq)
+-- the frame of a number, of the messages that were sent on a connection
+abbrev pub frame_of : ConnectionKey → List Message → ℕ → Option (FrameHead × List ℕ)
+frame_of c sent seq = option_map (λ f. (head_of c seq f, f.part)) (slice_get (fragments sent) seq)
 
--- a frame is honest where it is the fragment of its number
-abbrev pub IsHonestFrame : ℕ → ℕ → List Message → FrameHead → List ℕ → Type 0
-IsHonestFrame src dst sent h part = frame_of src dst sent h.seq ≡ Some (h, part)
+-- a frame is honest where it is the fragment of its number, of the messages that were sent on its connection
+abbrev pub IsHonestFrame : (ConnectionKey → List Message) → FrameHead → List ℕ → Type 0
+IsHonestFrame sent h part = frame_of (key_of (Frame h)) (sent (key_of (Frame h))) h.seq ≡ Some (h, part)
 
--- an acknowledgement is honest where it says no more than was taken
-abbrev pub IsHonestAck : ℕ → Ack → Type 0
-IsHonestAck taken a = a.next ≤ taken
+-- an acknowledgement is honest where it says no more than was taken on its connection
+abbrev pub IsHonestAck : (ConnectionKey → ℕ) → Ack → Type 0
+IsHonestAck taken a = a.next ≤ taken (key_of (Acknowledges a))
 
 -- the bytes of fragments, end to end
 abbrev pub joined : List Fragment → List ℕ

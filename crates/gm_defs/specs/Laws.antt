@@ -7,7 +7,7 @@ use Rattle.gm_defs.specs.declared.frame.FrameHead.{FrameHead}
 use Rattle.gm_defs.specs.declared.frame.Ack.{Ack}
 use Rattle.gm_defs.specs.declared.frame.GmBody.TheVariants.{Frame, Ack as Acknowledges}
 use Rattle.gm_defs.specs.Fragment.{pieces, joined}
-use Rattle.gm_defs.specs.Body.{piece, is_head, frame_bytes, ack_bytes, part_in, decode, number_limit}
+use Rattle.gm_defs.specs.Body.{piece, is_prio, is_head, frame_bytes, ack_bytes, part_in, decode, number_limit}
 use Rattle.gm_defs.specs.Connection.{SenderState, IsSender, starting, due, sent_one, acknowledged, expired, is_spent}
 use Rattle.gm_defs.specs.Connection.{offered}
 use Rattle.gm_defs.specs.Token.{sizes, room, size_for_length}
@@ -20,7 +20,9 @@ FrameIsRead =
 
 -- and so is an acknowledgement
 abbrev pub AckIsRead : Type 0
-AckIsRead = (a : Ack) → a.src < 2 ^ 16 → a.dst < 2 ^ 16 → a.next < 2 ^ 32 → decode (ack_bytes a) ≡ Ok (Acknowledges a)
+AckIsRead =
+    (a : Ack) → a.src < 2 ^ 16 → a.dst < 2 ^ 16 → is_prio a.prio ≡ true → a.next < 2 ^ 32
+    → decode (ack_bytes a) ≡ Ok (Acknowledges a)
 
 -- each number is a byte
 abbrev pub AreBytes : List ℕ → Type 0
@@ -38,9 +40,10 @@ pub record IsWrittenFrame (body : List ℕ) (h : FrameHead) : Type 0 where
 abbrev pub FrameWasWritten : Type 0
 FrameWasWritten = (body : List ℕ) (h : FrameHead) → AreBytes body → decode body ≡ Ok (Frame h) → IsWrittenFrame body h
 
--- A body that is read as an acknowledgement.
+-- A body that is read as an acknowledgement: it is that acknowledgement's bytes, and its priority is one.
 pub record IsWrittenAck (body : List ℕ) (a : Ack) : Type 0 where
   pub written : body ≡ ack_bytes a
+  pub by_rules : is_prio a.prio ≡ true
   pub src_fits : a.src < 2 ^ 16
   pub dst_fits : a.dst < 2 ^ 16
   pub next_fits : a.next < 2 ^ 32

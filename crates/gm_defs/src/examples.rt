@@ -1,31 +1,41 @@
 //! Worked examples, computed by the prover: each function's contract is the example, and its body is empty.
 
-ghost use Rattle.std.specs.Prelude.{◌≡◌, ◌∷◌, [], codes, replicate, map, length, true, false};
+ghost use Rattle.std.specs.Prelude.{◌≡◌, ◌∷◌, [], codes, drop, map, replicate, length, true, false};
 ghost use Rattle.gm_defs.specs.declared.frame.GmBody.{GmBody};
 ghost use Rattle.gm_defs.specs.declared.token.Took.{Took};
 ghost use Rattle.gm_defs.specs.declared.token.TokenPlace.{TokenPlace};
 ghost use Rattle.gm_defs.specs.Body.{frame_bytes, ack_bytes, decode, is_head};
 ghost use Rattle.gm_defs.specs.Fragment.{pieces, fragments, frame_of, whole_below, piece_count};
-ghost use Rattle.gm_defs.specs.Connection.{starting, due, sent_one, acknowledged, expired, offered, unacknowledged};
-ghost use Rattle.gm_defs.specs.Connection.{is_spent, took};
+ghost use Rattle.gm_defs.specs.Connection.{connection, key_of, ack_on, starting, due, sent_one, acknowledged, expired};
+ghost use Rattle.gm_defs.specs.Connection.{offered, unacknowledged, is_spent, took};
 ghost use Rattle.gm_defs.specs.Token.{size_for_length, fits, HasOneOwner, place_of_send, place_of_recv, can_take};
 ghost use Rattle.gm_defs.specs.Port.{filled, is_bad_size, is_too_long, sent_with, provided_with, finished, delivered};
 ghost use Rattle.gm_defs.specs.Port.{next_event, polled, unfinished};
-ghost use Rattle.gm_defs.specs.Examples.{message, abc, busy_port, sends_of, provided_of, events_of, sent_event};
+ghost use Rattle.gm_defs.specs.Examples.{message, abc, answer, busy_port, sends_of, provided_of, events_of, sent_event};
 
 /// A frame of three bytes and its acknowledgement.
 pub fn bodies_of_frames()
     ensures frame { frame_bytes abc (codes "ABC")
-        ≡ 1 ∷ 1 ∷ 0 ∷ 0 ∷ 0 ∷ 1 ∷ 0 ∷ 1 ∷ 0 ∷ 0 ∷ 0 ∷ 0 ∷ 0 ∷ 0 ∷ 0 ∷ 0 ∷ 3 ∷ 0 ∷ 0 ∷ 0 ∷ 0 ∷ 0 ∷ 3 ∷ 65 ∷ 66 ∷ 67
+        ≡ 1 ∷ 2 ∷ 0 ∷ 0 ∷ 0 ∷ 1 ∷ 0 ∷ 1 ∷ 0 ∷ 0 ∷ 0 ∷ 0 ∷ 0 ∷ 0 ∷ 0 ∷ 0 ∷ 3 ∷ 0 ∷ 0 ∷ 0 ∷ 0 ∷ 0 ∷ 3 ∷ 65 ∷ 66 ∷ 67
         ∷ [] }
     ensures read { decode (frame_bytes abc (codes "ABC")) ≡ Ok (GmBody.Frame abc) }
     ensures too_long { decode (frame_bytes abc (codes "ABCD")) ≡ Err (record {}) }
-    ensures other_version { decode (1 ∷ 2 ∷ replicate 21 0) ≡ Err (record {}) }
-    ensures acknowledged { decode (ack_bytes (record { src = 1; dst = 0; next = 1 }))
-        ≡ Ok (GmBody.Ack (record { src = 1; dst = 0; next = 1 })) }
+    ensures other_version { decode (1 ∷ 1 ∷ drop 2 (frame_bytes abc (codes "ABC"))) ≡ Err (record {}) }
+    ensures acknowledgement { ack_bytes answer ≡ 2 ∷ 2 ∷ 0 ∷ 1 ∷ 0 ∷ 0 ∷ 1 ∷ 0 ∷ 0 ∷ 0 ∷ 1 ∷ [] }
+    ensures acknowledged { decode (ack_bytes answer) ≡ Ok (GmBody.Ack answer) }
+    ensures third_priority { decode (ack_bytes (record answer { prio = 2 })) ≡ Err (record {}) }
     ensures nothing { decode [] ≡ Err (record {}) }
     ensures wrong_port { is_head (record abc { dport = 8 }) ≡ false }
+    ensures wrong_priority { is_head (record abc { prio = 2 }) ≡ false }
     ensures wrong_offset { is_head (record abc { offset = 3 }) ≡ false }
+{}
+
+/// A frame belongs to the connection from its sender, an acknowledgement to the one to its sender, each to that of
+/// its priority.
+pub fn connections_of_bodies()
+    ensures frame { key_of (GmBody.Frame abc) ≡ connection 0 1 0 }
+    ensures acknowledgement { key_of (GmBody.Ack answer) ≡ connection 0 1 1 }
+    ensures answered { ack_on (connection 0 1 1) 1 ≡ answer }
 {}
 
 /// Pieces of messages, their numbers on a connection, and what is whole below a number.
@@ -34,8 +44,8 @@ pub fn pieces_of_messages()
     ensures one { length (pieces (message (replicate 1016 7))) ≡ 1 }
     ensures two { map (λ f. f.offset) (pieces (message (replicate 1017 7))) ≡ 0 ∷ 1016 ∷ [] }
     ensures greatest { piece_count 65528 ≡ 65 }
-    ensures first { frame_of 0 1 (message (codes "ABC") ∷ message [] ∷ []) 0 ≡ Some (abc, codes "ABC") }
-    ensures not_sent { frame_of 0 1 (message (codes "ABC") ∷ message [] ∷ []) 2 ≡ None }
+    ensures first { frame_of (connection 0 1 0) (message (codes "ABC") ∷ message [] ∷ []) 0 ≡ Some (abc, codes "ABC") }
+    ensures not_sent { frame_of (connection 0 1 0) (message (codes "ABC") ∷ message [] ∷ []) 2 ≡ None }
     ensures both_whole { whole_below (message (replicate 1017 7) ∷ message [] ∷ []) 3 ≡ 2 }
     ensures one_whole { whole_below (message (replicate 1017 7) ∷ message [] ∷ []) 2 ≡ 1 }
 {}

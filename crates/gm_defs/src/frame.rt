@@ -7,8 +7,11 @@ pub struct FrameHead {
     pub src: u16,
     /// The receiving host.
     pub dst: u16,
+    /// The sending port, below 8.
     pub sport: u8,
+    /// The receiving port, below 8.
     pub dport: u8,
+    /// The priority of its message, 0 or 1.
     pub prio: u8,
     /// The fragment's number on its connection.
     pub seq: u32,
@@ -20,20 +23,25 @@ pub struct FrameHead {
     pub len: u16,
 }
 
-/// An acknowledgement: all fragments below `next` were taken.
+/// An acknowledgement: all fragments of its priority below `next` were taken.
 #[derive(Clone, Copy, Debug, PartialEq, Eq)]
 pub struct Ack {
     /// The host that acknowledges.
     pub src: u16,
     /// The host that sent the fragments.
     pub dst: u16,
+    /// The priority of their messages, 0 or 1.
+    pub prio: u8,
+    /// The number of the fragment that is to be taken next.
     pub next: u32,
 }
 
 /// What a body says.
 #[derive(Clone, Copy, Debug, PartialEq, Eq)]
 pub enum GmBody {
+    /// A fragment of a message.
     Frame(FrameHead),
+    /// An acknowledgement of fragments.
     Ack(Ack),
 }
 
@@ -41,11 +49,13 @@ pub enum GmBody {
 #[derive(Clone, Copy, Debug, PartialEq, Eq)]
 pub struct Malformed;
 
-/// Which connection: from one host to another.
+/// Which connection: from one host to another, of one priority.
 #[derive(Clone, Copy, Debug, PartialEq, Eq)]
 pub struct ConnectionKey {
     /// The host that sends frames.
     pub src: u16,
     /// The host that takes and acknowledges them.
     pub dst: u16,
+    /// The priority of their messages, 0 or 1.
+    pub prio: u8,
 }

@@ -7,7 +7,7 @@
 //! |---|---|
 //! | `Body` | the bytes of frames and acknowledgements |
 //! | `Fragment` | the pieces of a message, honest frames and acknowledgements |
-//! | `Connection` | the four numbers of a sender, the one of a receiver |
+//! | `Connection` | which connection a body belongs to; the four numbers of a sender, the one of a receiver |
 //! | `Token` | sizes, and where each token of a port is |
 //! | `Port` | what each call makes of a port |
 //!
@@ -26,8 +26,8 @@ mod token;
 
 pub use blob::Blob;
 pub use examples::{
-    bodies_of_frames, numbers_of_a_connection, pieces_of_messages, ports_after_calls,
-    sizes_of_tokens,
+    bodies_of_frames, connections_of_bodies, numbers_of_a_connection, pieces_of_messages,
+    ports_after_calls, sizes_of_tokens,
 };
 pub use frame::{Ack, ConnectionKey, FrameHead, GmBody, Malformed};
 pub use laws::{

@@ -5,7 +5,7 @@
 //!
 //! ```text
 //!   frame            1 version src:2 dst:2 sport dport prio seq:4 total:4 offset:4 len:2 | len bytes
-//!   acknowledgement  2 version src:2 dst:2 next:4
+//!   acknowledgement  2 version src:2 dst:2 prio next:4
 //! ```
 #![tactic(auto)]
 
@@ -24,10 +24,10 @@ const FRAME: u8 = 1;
 const ACK: u8 = 2;
 
 // The version of both.
-const VERSION: u8 = 1;
+const VERSION: u8 = 2;
 
 // The bytes of a frame before those of its fragment.
 const FRAME_LENGTH: usize = 23;
 
 // The bytes of an acknowledgement.
-const ACK_LENGTH: usize = 10;
+const ACK_LENGTH: usize = 11;

@@ -2,8 +2,8 @@
 
 ghost use Rattle.std.specs.Prelude.{◌≡◌, ◌+◌, ◌≤◌, length, true, IfOk, nat_eq};
 ghost use Rattle.std.specs.Int.{w16, w32};
-ghost use Rattle.gm_defs.specs.Body.{number_at, begins_with, head_in, ack_in, part_in, is_head, is_offset, is_frame};
-ghost use Rattle.gm_defs.specs.Body.{is_ack, decode};
+ghost use Rattle.gm_defs.specs.Body.{number_at, begins_with, head_in, ack_in, part_in, is_prio, is_head, is_offset};
+ghost use Rattle.gm_defs.specs.Body.{is_frame, is_ack, decode};
 ghost use Rattle.gm_frame.specs.Written.{IsWritten};
 
 use crate::{ACK, ACK_LENGTH, FRAME, FRAME_LENGTH, VERSION};
@@ -55,7 +55,7 @@ fn has_part(b: &[u8]) -> bool
 fn is_ack(b: &[u8]) -> bool
     ensures { result ≡ is_ack b.now }
 {
-    b.len() == ACK_LENGTH && begins_with(ACK, b)
+    b.len() == ACK_LENGTH && begins_with(ACK, b) && is_prio(ack_in(b).prio)
 }
 
 // The kind and the version in front.
@@ -92,7 +92,8 @@ fn ack_in(b: &[u8]) -> Ack
     Ack {
         src: u16_at(b, 2),
         dst: u16_at(b, 4),
-        next: u32_at(b, 6),
+        prio: b[6],
+        next: u32_at(b, 7),
     }
 }
 
@@ -102,11 +103,18 @@ fn is_head(h: &FrameHead) -> bool
 {
     h.sport < 8
         && h.dport < 8
-        && h.prio < 2
+        && is_prio(h.prio)
         && h.seq < u32::MAX
         && h.total <= MESSAGE_LIMIT
         && is_offset(h.total, h.offset)
         && u32::from(h.len) == h.total.saturating_sub(h.offset).min(PIECE)
+}
+
+// Whether a number is a priority.
+fn is_prio(prio: u8) -> bool
+    ensures { result ≡ is_prio prio }
+{
+    prio < 2
 }
 
 // Whether a fragment of a message of this length may begin there.

@@ -2,7 +2,7 @@
 
 ghost use Rattle.std.specs.Prelude.{◌≡◌, ◌<◌, ◌^◌, length, true, IfOk};
 ghost use Rattle.gm_defs.specs.declared.frame.GmBody.TheVariants.{Frame, Ack as Acknowledges};
-ghost use Rattle.gm_defs.specs.Body.{is_head, head_bytes, frame_bytes, ack_bytes, decode};
+ghost use Rattle.gm_defs.specs.Body.{is_prio, is_head, head_bytes, frame_bytes, ack_bytes, decode};
 
 use crate::{ACK, ACK_LENGTH, FRAME, FRAME_LENGTH, VERSION};
 use gm_defs::{Ack, FrameHead, bodies_are_read};
@@ -40,8 +40,9 @@ fn bytes_of_head(h: &FrameHead) -> [u8; FRAME_LENGTH]
     ]
 }
 
-/// The body of an acknowledgement.
+/// The body of an acknowledgement, which is of one of the priorities.
 pub fn encode_ack(alloc: Global, a: &Ack) -> Result<Vec<u8>, AllocError>
+    requires by_rules { is_prio a.now.prio ≡ true }
     ensures bytes { IfOk result (λ body. body.items ≡ ack_bytes a.now) }
     ensures read { IfOk result (λ body. decode body.items ≡ Ok (Acknowledges a.now)) }
 {
@@ -56,9 +57,14 @@ fn bytes_of_ack(a: &Ack) -> [u8; ACK_LENGTH]
     ensures bytes { result ≡ ack_bytes a.now }
     ensures fit { (a.now.src < 2 ^ 16) × (a.now.dst < 2 ^ 16) × (a.now.next < 2 ^ 32) }
 {
-    let Ack { src, dst, next } = *a;
+    let Ack {
+        src,
+        dst,
+        prio,
+        next,
+    } = *a;
     let [s0, s1] = src.to_be_bytes();
     let [d0, d1] = dst.to_be_bytes();
     let [n0, n1, n2, n3] = next.to_be_bytes();
-    [ACK, VERSION, s0, s1, d0, d1, n0, n1, n2, n3]
+    [ACK, VERSION, s0, s1, d0, d1, prio, n0, n1, n2, n3]
 }

@@ -27,17 +27,17 @@ use Rattle.world_defs.proofs.Lists.{each-set}
 
 -- what an installation leaves of a host
 pub record SamePorts (n m : NodeState) : Type 0 where
-  pub peers : m.peers ≡ n.peers
+  pub lanes : m.lanes ≡ n.lanes
   pub ports : m.ports ≡ n.ports
 
 pub same-ports : (n : NodeState) → SamePorts n n
-same-ports n = record { peers = refl; ports = refl }
+same-ports n = record { lanes = refl; ports = refl }
 
 pub kept-same : (w : WorldState) → IsInstallKept w w
 kept-same w = record {
   fabric = refl;
   hosts = refl;
-  peers = λ h. refl;
+  lanes = λ h. refl;
   ports = λ h. refl;
   clients = refl;
   adopted = refl;
@@ -59,7 +59,7 @@ kept-both u v w a b =
     record {
       fabric = b.fabric ∙ a.fabric;
       hosts = b.hosts ∙ a.hosts;
-      peers = λ h. b.peers h ∙ a.peers h;
+      lanes = λ h. b.lanes h ∙ a.lanes h;
       ports = λ h. b.ports h ∙ a.ports h;
       clients = b.clients ∙ a.clients;
       adopted = b.adopted ∙ a.adopted;
@@ -75,7 +75,7 @@ pub kept-ask : (w v : WorldState) → IsAskKept w v → IsInstallKept w v
 kept-ask w v k = record {
   fabric = k.fabric;
   hosts = k.hosts;
-  peers = k.peers;
+  lanes = k.lanes;
   ports = k.ports;
   clients = k.clients;
   adopted = k.adopted;
@@ -96,7 +96,7 @@ kept-node w h n k =
     record {
       fabric = refl;
       hosts = length-set w.nodes h n;
-      peers = λ g. (each g).peers;
+      lanes = λ g. (each g).lanes;
       ports = λ g. (each g).ports;
       clients = refl;
       adopted = refl;
@@ -119,7 +119,7 @@ kept-sent w h out t same k =
     record {
       fabric = k.net;
       hosts = ap length k.nodes ∙ length-set w.nodes h n;
-      peers = λ g. ap (λ (x : NodeState). x.peers) (at g) ∙ (each g).peers;
+      lanes = λ g. ap (λ (x : NodeState). x.lanes) (at g) ∙ (each g).lanes;
       ports = λ g. ap (λ (x : NodeState). x.ports) (at g) ∙ (each g).ports;
       clients = k.clients;
       adopted = k.adopted;

@@ -77,11 +77,11 @@ answer-first h n x e f g = rw (e, f, g) refl
 -- what is left of the host behind it
 pub part-left : (mapper h : ℕ) (n : NodeState) (p : RoutePart) (by : List ℤ) → IsBetween mapper h n → IsBetween mapper h (after_sending n (TablePart p by)) × SamePorts n (after_sending n (TablePart p by))
 unfolding after_sending
-part-left mapper h n p by b = (record { unstaged = λ other. refl; no_reply = b.no_reply; low = b.low }, record { peers = refl; ports = refl })
+part-left mapper h n p by b = (record { unstaged = λ other. refl; no_reply = b.no_reply; low = b.low }, record { lanes = refl; ports = refl })
 
 pub answer-left : (mapper h : ℕ) (n : NodeState) (x : StagedAck) → IsBetween mapper h n → IsBetween mapper h (after_sending n (PartAnswer x)) × SamePorts n (after_sending n (PartAnswer x))
 unfolding after_sending
-answer-left mapper h n x b = (record { unstaged = b.unstaged; no_reply = b.no_reply; low = b.low }, record { peers = refl; ports = refl })
+answer-left mapper h n x b = (record { unstaged = b.unstaged; no_reply = b.no_reply; low = b.low }, record { lanes = refl; ports = refl })
 
 -- packets by the rules
 pub part-parcel : (w : WorldState) (h : ℕ) (p : RoutePart) (by : List ℤ) → AllByRecursion IsTurn by → is_part p ≡ true → IsParcel w h (TablePart p by) by (PartBody p)

@@ -16,9 +16,9 @@ use Rattle.world_defs.specs.declared.applied.Applied.{Applied}
 use Rattle.world_defs.specs.declared.applied.Applied.TheVariants.{Active, Old}
 use Rattle.world_defs.specs.declared.heard.Heard.{Heard}
 use Rattle.world_defs.specs.Table.{Adoption, TableState, of_epoch, collected_with, joined_or, joined_below, is_epoch, active_epoch, applied}
-use Rattle.world_defs.specs.Peer.{peer_acknowledged, peer_after, tickets_finished}
-use Rattle.world_defs.specs.Node.{NodeState, peer_at, with_peer}
-use Rattle.world_defs.specs.Hearing.{is_host, heard_if, is_part_for, part_heard, hear_mapping, hear_mapping_body, message_of, frame_heard, frame_took, ack_heard, hear_gm, hear_gm_body, hear_body, hear_decoded, hear}
+use Rattle.world_defs.specs.Lane.{lane_acknowledged, lane_after, tickets_finished}
+use Rattle.world_defs.specs.Node.{NodeState, lane_at, with_lane}
+use Rattle.world_defs.specs.Hearing.{is_host, heard_if, is_part_for, part_heard, hear_mapping, hear_mapping_body, message_of, frame_heard, frame_took, ack_heard, hear_gm, hear_gm_body, hear_body, hear_decoded, hear, frame_lane, ack_lane}
 use Rattle.table_laws.specs.Set.{IsPart}
 use Rattle.table_laws.specs.Bodies.{IsBody}
 use Rattle.world_defs.proofs.Tables.{part_heard-table, all_finished-table, delivered_after-table}
@@ -84,11 +84,11 @@ hear_gm-low host hosts n body (Frame h) low =
     let part : List ℕ = part_in body in
     let took : Took = frame_took n h in
     let r : Heard × NodeState = frame_heard n h part took in
-    let m : NodeState = with_peer n h.src (peer_after (peer_at n h.src) took (message_of h part)) in
+    let m : NodeState = with_lane n (frame_lane h) (lane_after (lane_at n (frame_lane h)) took (message_of h part)) in
     heard_if-low (nat_eq h.dst host && is_host hosts h.src) n r low (low-same n r.1 (delivered_after-table m h part took) low)
 hear_gm-low host hosts n body (Acknowledges a) low =
-    let m : NodeState = with_peer n a.src (peer_acknowledged (peer_at n a.src) a.next) in
-    heard_if-low (nat_eq a.dst host && is_host hosts a.src) n (Heard.Ack, ack_heard n a) low (low-same n (ack_heard n a) (all_finished-table m (tickets_finished (peer_at n a.src) a.next)) low)
+    let m : NodeState = with_lane n (ack_lane a) (lane_acknowledged (lane_at n (ack_lane a)) a.next) in
+    heard_if-low (nat_eq a.dst host && is_host hosts a.src) n (Heard.Ack, ack_heard n a) low (low-same n (ack_heard n a) (all_finished-table m (tickets_finished (lane_at n (ack_lane a)) a.next)) low)
 
 hear_gm_body-low : (host hosts : ℕ) (n : NodeState) (body : List ℕ) (r : Result GmBody NoBody) → IsLow n → IsLow (hear_gm_body host hosts n body r).1
 hear_gm_body-low host hosts n body (Err e) low = low

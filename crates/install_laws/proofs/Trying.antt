@@ -136,7 +136,7 @@ sent-so n a dst part w x u s f other b k (Delivery.delivered g base left used nu
     let staged : has_staged_answer s.world dst s.effects ≡ true = ap (λ c. c && is_some (node_at s.world dst).part_ack) come ∙ ap is_some ack in
     let taken : Taken n a dst x.sent w s.world = record {
       between = subst (Between n a) (sym is) (between-node n a base dst m now (taken-between a.mapper dst (node_at base dst) x.sent x.epoch (now.nodes dst)));
-      kept = subst (IsInstallKept w) (sym is) (kept-both w base (with_node base dst m) kept (kept-node base dst m (record { peers = refl; ports = refl })));
+      kept = subst (IsInstallKept w) (sym is) (kept-both w base (with_node base dst m) kept (kept-node base dst m (record { lanes = refl; ports = refl })));
       ack = ack;
     } in
     let t : Tried Bool = record { found = false; harmed = is_harmed s.used_up w s.world; world = s.world } in
@@ -151,7 +151,7 @@ part-tried n a dst part w f other x b =
     let hosts = b.hosts in
     let adopter = x.adopter in
     let now = between-node n a w a.mapper m b (record { unstaged = λ away. absurd (away refl); no_reply = here.no_reply; low = here.low }) in
-    let kept = kept-node w a.mapper m (record { peers = refl; ports = refl }) in
+    let kept = kept-node w a.mapper m (record { lanes = refl; ports = refl }) in
     let staged : (node_at u a.mapper).staged ≡ Some (StagedPart x.sent x.way) = ap (λ (y : NodeState). y.staged) (get_or-set_same w.nodes a.mapper m (new_node 0) (omega (arith, hosts, adopter))) in
     let first = part-first a.mapper (node_at u a.mapper) x.sent x.way staged in
     let is = part-staged a w dst part x.sent x.way b.adopted x.is x.way_is in

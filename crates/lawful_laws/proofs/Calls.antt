@@ -12,8 +12,8 @@ after_sending-own Fair routes host n (Probe walk looped) is = record { staged = 
 after_sending-own Fair routes host n (TablePart part by) is = record { staged = tt; reply = is.reply; ack = is.ack }
 after_sending-own Fair routes host n (Reply r) is = record { staged = is.staged; reply = tt; ack = is.ack }
 after_sending-own Fair routes host n (PartAnswer a) is = record { staged = is.staged; reply = is.reply; ack = tt }
-after_sending-own Fair routes host n (FrameAnswer peer next by) is = record { staged = is.staged; reply = is.reply; ack = is.ack }
-after_sending-own Fair routes host n (Fragment peer head part by) is = record { staged = is.staged; reply = is.reply; ack = is.ack }
+after_sending-own Fair routes host n (FrameAnswer lane next by) is = record { staged = is.staged; reply = is.reply; ack = is.ack }
+after_sending-own Fair routes host n (Fragment lane head part by) is = record { staged = is.staged; reply = is.reply; ack = is.ack }
 
 pub given_up-own : (Fair : Type 0) (routes : List Route) (host : ℕ) (n : NodeState) → IsOwn Fair routes host (given_up n)
 given_up-own Fair routes host n = record { staged = tt; reply = tt; ack = tt }

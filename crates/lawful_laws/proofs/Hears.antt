@@ -21,9 +21,9 @@ use Rattle.world_defs.specs.declared.applied.Applied.{Applied}
 use Rattle.world_defs.specs.declared.applied.Applied.TheVariants.{Part as OnePart, Active, Old}
 use Rattle.world_defs.specs.declared.heard.Heard.{Heard}
 use Rattle.world_defs.specs.Table.{TableState, applied}
-use Rattle.world_defs.specs.Peer.{PeerState, Ticket, tickets_finished}
-use Rattle.world_defs.specs.Node.{NodeState, peer_at, with_peer, port_at, with_port}
-use Rattle.world_defs.specs.Hearing.{is_host, heard_if, is_part_for, part_heard, hear_mapping, hear_mapping_body, delivered_after, frame_took, all_finished, hear_gm, hear_gm_body, hear_body, hear_decoded, hear}
+use Rattle.world_defs.specs.Lane.{LaneState, Ticket, tickets_finished}
+use Rattle.world_defs.specs.Node.{NodeState, lane_at, with_lane, port_at, with_port}
+use Rattle.world_defs.specs.Hearing.{is_host, heard_if, is_part_for, part_heard, hear_mapping, hear_mapping_body, delivered_after, frame_took, all_finished, hear_gm, hear_gm_body, hear_body, hear_decoded, hear, frame_lane, ack_lane}
 use Rattle.lawful_laws.proofs.Walks.{IsWalkFrom}
 use Rattle.lawful_laws.proofs.Bodies.{decode-rules}
 use Rattle.lawful_laws.proofs.Sends.{HasWayBack, IsFitReply, IsOwn}
@@ -77,14 +77,14 @@ delivered_after-own Fair routes host n h part TookNotNext is = is
 delivered_after-own Fair routes host n h part TookNoToken is = is
 delivered_after-own Fair routes host n h part Whole is = record { staged = is.staged; reply = is.reply; ack = is.ack }
 
-peer-own : (Fair : Type 0) (routes : List Route) (host : ℕ) (n : NodeState) (peer : ℕ) (p : PeerState) → IsOwn Fair routes host n → IsOwn Fair routes host (with_peer n peer p)
-peer-own Fair routes host n peer p is = record { staged = is.staged; reply = is.reply; ack = is.ack }
+lane-own : (Fair : Type 0) (routes : List Route) (host : ℕ) (n : NodeState) (lane : ℕ) (p : LaneState) → IsOwn Fair routes host n → IsOwn Fair routes host (with_lane n lane p)
+lane-own Fair routes host n lane p is = record { staged = is.staged; reply = is.reply; ack = is.ack }
 
 hear_gm-own : (Fair : Type 0) (routes : List Route) (host hosts : ℕ) (n : NodeState) (body : List ℕ) (b : GmBody) → IsOwn Fair routes host n → IsOwn Fair routes host (hear_gm host hosts n body b).1
 hear_gm-own Fair routes host hosts n body (Frame h) is =
-    heard_if-own Fair routes host (nat_eq h.dst host && is_host hosts h.src) n _ is (λ e. delivered_after-own Fair routes host _ h (part_in body) (frame_took n h) (peer-own Fair routes host n h.src _ is))
+    heard_if-own Fair routes host (nat_eq h.dst host && is_host hosts h.src) n _ is (λ e. delivered_after-own Fair routes host _ h (part_in body) (frame_took n h) (lane-own Fair routes host n (frame_lane h) _ is))
 hear_gm-own Fair routes host hosts n body (Acknowledges a) is =
-    heard_if-own Fair routes host (nat_eq a.dst host && is_host hosts a.src) n _ is (λ e. all_finished-own Fair routes host _ (tickets_finished (peer_at n a.src) a.next) (peer-own Fair routes host n a.src _ is))
+    heard_if-own Fair routes host (nat_eq a.dst host && is_host hosts a.src) n _ is (λ e. all_finished-own Fair routes host _ (tickets_finished (lane_at n (ack_lane a)) a.next) (lane-own Fair routes host n (ack_lane a) _ is))
 
 hear_gm_body-own : (Fair : Type 0) (routes : List Route) (host hosts : ℕ) (n : NodeState) (body : List ℕ) (r : Result GmBody NoBody) → IsOwn Fair routes host n → IsOwn Fair routes host (hear_gm_body host hosts n body r).1
 hear_gm_body-own Fair routes host hosts n body (Err e) is = is

@@ -16,7 +16,7 @@ use Rattle.gm_defs.specs.Body.{frame_bytes, ack_bytes}
 use Rattle.mapping_defs.specs.Mapping.{RoutePart, MappingBody, is_route, is_mapping, decode_mapping, mapping_bytes}
 use Rattle.mapping_defs.specs.Mapping.MappingBody.{HostProbe, HostReply, Loopback, Part, PartAck}
 use Rattle.world_defs.specs.Table.{table_route}
-use Rattle.world_defs.specs.Node.{NodeState, Staged, StagedReply, StagedAck, StagedProbe, StagedPart, Outgoing, Probe, TablePart, Reply, PartAnswer, FrameAnswer, Fragment, peer_at, way_back, outgoing_staged, owed_to, due_to, due_frame, either, first_some, peers_of, to_send, packet_for}
+use Rattle.world_defs.specs.Node.{NodeState, Staged, StagedReply, StagedAck, StagedProbe, StagedPart, Outgoing, Probe, TablePart, Reply, PartAnswer, FrameAnswer, Fragment, peer_of, takes_from, lane_at, lane_route, way_back, outgoing_staged, owed_on, due_on, due_frame, either, first_some, lanes_of, to_send, packet_for}
 use Rattle.table_laws.specs.Set.{IsFitPart}
 use Rattle.table_laws.proofs.Sets.{RouteFits}
 use Rattle.table_laws.proofs.Written.{part-read}
@@ -25,6 +25,7 @@ use Rattle.lawful_laws.proofs.Ahead.{IsLedBy}
 use Rattle.lawful_laws.proofs.Walks.{IsWalkFrom, led-start}
 use Rattle.lawful_laws.proofs.Bodies.{probe-no_part, ack-no_part}
 use Rattle.lawful_laws.proofs.Turns.{both-true, two-fit, route-turns, back-route, loop-turns}
+use Rattle.gm_defs.specs.Connection.{ack_on}
 
 -- the way back of a part that is read of a body is a walk of the set from the host that it names
 pub record HasWayBack (routes : List Route) (kind : Kind) (payload : List ℕ) : Type 0 where
@@ -73,8 +74,8 @@ IsOut Fair routes host (Probe walk looped) = Fair → is_route walk ≡ true
 IsOut Fair routes host (TablePart p by) = IsWalkFrom routes host by × IsWalkFrom routes p.dst p.back × IsFitPart p
 IsOut Fair routes host (Reply r) = IsFitReply r
 IsOut Fair routes host (PartAnswer a) = IsWalkFrom routes host a.back
-IsOut Fair routes host (FrameAnswer peer next by) = IsWalkFrom routes host by
-IsOut Fair routes host (Fragment peer head part by) = IsWalkFrom routes host by
+IsOut Fair routes host (FrameAnswer lane next by) = IsWalkFrom routes host by
+IsOut Fair routes host (Fragment lane head part by) = IsWalkFrom routes host by
 
 either-holds : {A : Type 0} (P : A → Type 0) (a b : Option A) → ((x : A) → a ≡ Some x → P x) → ((x : A) → b ≡ Some x → P x) → (x : A) → either a b ≡ Some x → P x
 either-holds P (Some y) b f g x e = f x e
@@ -97,19 +98,19 @@ answer-out : (Fair : Type 0) (routes : List Route) (host : ℕ) (s : Option Stag
 answer-out Fair routes host None x is e = cc
 answer-out Fair routes host (Some a) x is e = subst (IsOut Fair routes host) (same_Some (PartAnswer a) x e) is
 
-owed-out : (Fair : Type 0) (routes : List Route) (host peer next : ℕ) (b : Bool) (r : Option (List ℤ)) (x : Outgoing) → ((walk : List ℤ) → r ≡ Some walk → IsWalkFrom routes host walk) → (if b then option_map (λ by. FrameAnswer peer next by) r else None) ≡ Some x → IsOut Fair routes host x
-owed-out Fair routes host peer next true None x k e = cc
-owed-out Fair routes host peer next true (Some by) x k e = subst (IsOut Fair routes host) (same_Some (FrameAnswer peer next by) x e) (k by refl)
-owed-out Fair routes host peer next false r x k e = cc
+owed-out : (Fair : Type 0) (routes : List Route) (host lane next : ℕ) (b : Bool) (r : Option (List ℤ)) (x : Outgoing) → ((walk : List ℤ) → r ≡ Some walk → IsWalkFrom routes host walk) → (if b then option_map (λ by. FrameAnswer lane next by) r else None) ≡ Some x → IsOut Fair routes host x
+owed-out Fair routes host lane next true None x k e = cc
+owed-out Fair routes host lane next true (Some by) x k e = subst (IsOut Fair routes host) (same_Some (FrameAnswer lane next by) x e) (k by refl)
+owed-out Fair routes host lane next false r x k e = cc
 
-routed-out : (Fair : Type 0) (routes : List Route) (host peer : ℕ) (f : FrameHead × List ℕ) (r : Option (List ℤ)) (x : Outgoing) → ((walk : List ℤ) → r ≡ Some walk → IsWalkFrom routes host walk) → option_map (λ by. Fragment peer f.0 f.1 by) r ≡ Some x → IsOut Fair routes host x
-routed-out Fair routes host peer f None x k e = cc
-routed-out Fair routes host peer f (Some by) x k e = subst (IsOut Fair routes host) (same_Some (Fragment peer f.0 f.1 by) x e) (k by refl)
+routed-out : (Fair : Type 0) (routes : List Route) (host lane : ℕ) (f : FrameHead × List ℕ) (r : Option (List ℤ)) (x : Outgoing) → ((walk : List ℤ) → r ≡ Some walk → IsWalkFrom routes host walk) → option_map (λ by. Fragment lane f.0 f.1 by) r ≡ Some x → IsOut Fair routes host x
+routed-out Fair routes host lane f None x k e = cc
+routed-out Fair routes host lane f (Some by) x k e = subst (IsOut Fair routes host) (same_Some (Fragment lane f.0 f.1 by) x e) (k by refl)
 
-due-out : (Fair : Type 0) (routes : List Route) (host : ℕ) (n : NodeState) (peer : ℕ) (f : Option (FrameHead × List ℕ)) (x : Outgoing) → ((walk : List ℤ) → table_route n.table peer ≡ Some walk → IsWalkFrom routes host walk)
-    → option_and_then (λ f. option_map (λ by. Fragment peer f.0 f.1 by) (table_route n.table peer)) f ≡ Some x → IsOut Fair routes host x
-due-out Fair routes host n peer None x k e = cc
-due-out Fair routes host n peer (Some f) x k e = routed-out Fair routes host peer f (table_route n.table peer) x k e
+due-out : (Fair : Type 0) (routes : List Route) (host : ℕ) (n : NodeState) (lane : ℕ) (f : Option (FrameHead × List ℕ)) (x : Outgoing) → ((walk : List ℤ) → lane_route n lane ≡ Some walk → IsWalkFrom routes host walk)
+    → option_and_then (λ f. option_map (λ by. Fragment lane f.0 f.1 by) (lane_route n lane)) f ≡ Some x → IsOut Fair routes host x
+due-out Fair routes host n lane None x k e = cc
+due-out Fair routes host n lane (Some f) x k e = routed-out Fair routes host lane f (lane_route n lane) x k e
 
 -- what a host sends first, where its table has walks of the set alone
 pub to_send-out : (Fair : Type 0) (routes : List Route) (host : ℕ) (n : NodeState) (x : Outgoing) → IsOwn Fair routes host n → ((peer : ℕ) (walk : List ℤ) → table_route n.table peer ≡ Some walk → IsWalkFrom routes host walk) → to_send host n ≡ Some x → IsOut Fair routes host x
@@ -119,9 +120,9 @@ to_send-out Fair routes host n x is k e =
     either-holds P (option_map outgoing_staged n.staged) _ (λ y. staged-out Fair routes host n.staged y is.staged)
     (either-holds P (option_map Reply n.reply) _ (λ y. reply-out Fair routes host n.reply y is.reply)
     (either-holds P (option_map PartAnswer n.part_ack) _ (λ y. answer-out Fair routes host n.part_ack y is.ack)
-    (either-holds P (first_some (owed_to n) (peers_of n)) _
-    (first_some-holds P (owed_to n) (λ peer y. owed-out Fair routes host peer (peer_at n peer).taken (peer_at n peer).owes (table_route n.table peer) y (k peer)) (peers_of n))
-    (first_some-holds P (due_to host n) (λ peer y. due-out Fair routes host n peer (due_frame host n peer) y (k peer)) (peers_of n)))))
+    (either-holds P (first_some (owed_on n) (lanes_of n)) _
+    (first_some-holds P (owed_on n) (λ lane y. owed-out Fair routes host lane (lane_at n lane).taken (lane_at n lane).owes (lane_route n lane) y (k (peer_of lane))) (lanes_of n))
+    (first_some-holds P (due_on host n) (λ lane y. due-out Fair routes host n lane (due_frame host n lane) y (k (peer_of lane))) (lanes_of n)))))
     x e
 
 -- its packet, in the channel of the host's port
@@ -155,7 +156,7 @@ packet-on_way Fair n routes c host number (TablePart p by) fit e near low is =
 packet-on_way Fair n routes c host number (Reply r) fit e near low is = probe-on_way Fair n routes c r.back (HostReply r.number host) refl (λ f. (route-turns r.back is.back, two-fit r.number host is.number near))
 packet-on_way Fair n routes c host number (PartAnswer a) fit e near low is =
     led-on_way Fair n routes c host a.back Mapping (mapping_bytes (PartAck a.epoch host a.part)) fit e is (record { part = λ p k d. absurd (ack-no_part a.epoch host a.part p d) })
-packet-on_way Fair n routes c host number (FrameAnswer peer next by) fit e near low is =
-    let bytes : List ℕ = ack_bytes (record { src = host; dst = peer; next = next }) in led-on_way Fair n routes c host by Gm bytes fit e is (gm_body routes bytes)
-packet-on_way Fair n routes c host number (Fragment peer head part by) fit e near low is =
+packet-on_way Fair n routes c host number (FrameAnswer lane next by) fit e near low is =
+    let bytes : List ℕ = ack_bytes (ack_on (takes_from host lane) next) in led-on_way Fair n routes c host by Gm bytes fit e is (gm_body routes bytes)
+packet-on_way Fair n routes c host number (Fragment lane head part by) fit e near low is =
     led-on_way Fair n routes c host by Gm (frame_bytes head part) fit e is (gm_body routes (frame_bytes head part))

@@ -1,12 +1,11 @@
 -- A host once what it sends first counts as sent.
-use Rattle.std.proofs.Common.{◌≡◌, ℕ, true, Option, Some, None, length, refl, sym, ap, ◌∙◌, arith}
+use Rattle.std.proofs.Common.{◌≡◌, ℕ, true, Option, Some, None, refl, sym, ap, ◌∙◌, arith}
 use Rattle.std.specs.Prelude.{is_some}
-use Rattle.std.proofs.lemmas.List.{length-set}
-use Rattle.world_defs.specs.Peer.{PeerState}
-use Rattle.world_defs.specs.Node.{Staged, StagedProbe, StagedPart, StagedReply, StagedAck, NodeState, with_peer, to_send, after_sending}
+use Rattle.world_defs.specs.Lane.{LaneState}
+use Rattle.world_defs.specs.Node.{Staged, StagedProbe, StagedPart, StagedReply, StagedAck, NodeState, with_lane, to_send, after_sending}
 use Rattle.host_items.specs.Held.{HostItems, first_of, without_first, with_items}
 use Rattle.route_install.specs.Collecting.{HostTable}
-use Rattle.host_peers.specs.Peers.{HostPeers, with_state}
+use Rattle.host_lanes.specs.Lanes.{HostLanes, with_state}
 use Rattle.host_ports.specs.Held.{HostPorts}
 use Rattle.nic_node.specs.declared.next.NextSend.{NextSend}
 use Rattle.nic_node.specs.declared.next.NextSend.TheVariants.{Item}
@@ -33,21 +32,21 @@ sent-as : (w v : HostNode) (next : NextSend) (s : NodeState) → w ≡ v → cho
 sent-as w v next s is first out =
     ap (in_state w) (sym out) ∙ ap (λ (x : HostNode). in_state x (once_sent x.state (chosen x next))) is ∙ ap (λ o. in_state v (once_sent v.state o)) first
 
-pub item-sent : (v : HostNode) (host : ℕ) (i j : HostItems) (t : HostTable) (p : HostPeers) (r : HostPorts) → record { host = host; hosts = length p.peers; state = state_of i t p r } ≡ v
+pub item-sent : (v : HostNode) (host : ℕ) (i j : HostItems) (t : HostTable) (p : HostLanes) (r : HostPorts) → record { host = host; hosts = p.hosts; state = state_of i t p r } ≡ v
     → chosen v Item ≡ to_send v.host v.state → is_some (chosen v Item) ≡ true → j ≡ without_first i
-    → record { host = host; hosts = length p.peers; state = state_of j t p r } ≡ in_state v (after_first v)
+    → record { host = host; hosts = p.hosts; state = state_of j t p r } ≡ in_state v (after_first v)
 item-sent v host i j t p r is first there new =
-    let w : HostNode = record { host = host; hosts = length p.peers; state = state_of i t p r } in
+    let w : HostNode = record { host = host; hosts = p.hosts; state = state_of i t p r } in
     sent-as w v Item (state_of j t p r) is first
     (item-as (state_of i t p r) (ap (λ (x : HostNode). is_some (chosen x Item)) is ∙ there) ∙ ap (λ k. state_of k t p r) (sym new))
 
-pub peer-sent : (v : HostNode) (host : ℕ) (i : HostItems) (t : HostTable) (p q : HostPeers) (r : HostPorts) (next : NextSend) (peer : ℕ) (x : PeerState)
-    → record { host = host; hosts = length p.peers; state = state_of i t p r } ≡ v → chosen v next ≡ to_send v.host v.state
-    → once_sent (state_of i t p r) (chosen (record { host = host; hosts = length p.peers; state = state_of i t p r }) next) ≡ with_peer (state_of i t p r) peer x
-    → q ≡ with_state p peer x → record { host = host; hosts = length q.peers; state = state_of i t q r } ≡ in_state v (after_first v)
-peer-sent v host i t p q r next peer x is first out new =
-    let w : HostNode = record { host = host; hosts = length p.peers; state = state_of i t p r } in
-    let count : length q.peers ≡ length p.peers = ap (λ h. length h.peers) new ∙ length-set p.peers peer x in
-    let counted : ◌≡◌ {A = HostNode} (record { host = host; hosts = length q.peers; state = state_of i t q r }) (in_state w (state_of i t q r)) =
+pub lane-sent : (v : HostNode) (host : ℕ) (i : HostItems) (t : HostTable) (p q : HostLanes) (r : HostPorts) (next : NextSend) (lane : ℕ) (x : LaneState)
+    → record { host = host; hosts = p.hosts; state = state_of i t p r } ≡ v → chosen v next ≡ to_send v.host v.state
+    → once_sent (state_of i t p r) (chosen (record { host = host; hosts = p.hosts; state = state_of i t p r }) next) ≡ with_lane (state_of i t p r) lane x
+    → q ≡ with_state p lane x → record { host = host; hosts = q.hosts; state = state_of i t q r } ≡ in_state v (after_first v)
+lane-sent v host i t p q r next lane x is first out new =
+    let w : HostNode = record { host = host; hosts = p.hosts; state = state_of i t p r } in
+    let count : q.hosts ≡ p.hosts = ap (λ h. h.hosts) new in
+    let counted : ◌≡◌ {A = HostNode} (record { host = host; hosts = q.hosts; state = state_of i t q r }) (in_state w (state_of i t q r)) =
     λ k. record { host = host; hosts = count k; state = state_of i t q r } in
     counted ∙ sent-as w v next (state_of i t q r) is first (out ∙ ap (λ h. state_of i t h r) (sym new))

@@ -1,16 +1,16 @@
--- Which host something goes to first.
+-- By which lane something goes first.
 use Rattle.std.proofs.Common.{◌≡◌, ◌<◌, ◌≤◌, ◌+◌, ℕ, zero, suc, Bool, true, false, nat_eq, nat_lt, Option, Some, None, length, refl, sym, ap, subst, ◌∙◌, arith}
 use Rattle.std.specs.Prelude.{is_some}
 use Rattle.std.proofs.lemmas.Bool.Decides.{nat_tests}
 use Rattle.std.specs.List.{range_with_len}
-use Rattle.world_defs.specs.Node.{Outgoing, either, first_some, peers_of}
-use Rattle.host_peers.specs.Peers.{NoneBetween, IsNext}
-use Rattle.host_peers.specs.Peers.IsNext.{next, nobody_left}
+use Rattle.world_defs.specs.Node.{Outgoing, either, first_some, lanes_of}
+use Rattle.host_lanes.specs.Lanes.{NoneBetween, IsNext}
+use Rattle.host_lanes.specs.Lanes.IsNext.{next, nobody_left}
 use Rattle.nic_node.specs.Held.{HostNode}
 
--- there is nothing for any host below an address
+-- there is nothing for any lane below a number
 abbrev pub NothingBelow : {A : Type 0} → (ℕ → Option A) → ℕ → Type 0
-NothingBelow f below = (peer : ℕ) → peer < below → f peer ≡ None
+NothingBelow f below = (lane : ℕ) → lane < below → f lane ≡ None
 
 first-none : {A : Type 0} (f : ℕ → Option A) (from n : ℕ) → ((p : ℕ) → from ≤ p → p < from + n → f p ≡ None) → first_some f (range_with_len from n) ≡ None
 first-none f from zero none = refl
@@ -43,7 +43,7 @@ search-at {A} f n p within there none = by (f p) refl there
     by (Some x) e t = e ∙ sym (first-at f 0 n p x (omega arith) (omega arith) e (λ q low high. none q high))
     by None e t = absurd (grind arith)
 
--- what the least host says that passes a test
+-- what the least lane says that passes a test
 abbrev pub Found : (ℕ → Bool) → ℕ → ℕ → Option ℕ → Type 0
 Found test from count (Some p) = (from ≤ p) × (p < count) × (test p ≡ true) × NoneBetween test from p
 Found test from count None = NoneBetween test from count
@@ -68,28 +68,28 @@ passed-one f p before here = λ q high. by q high (nat_eq q p) refl
     by q high true e = let same : q ≡ p = grind (arith, nat_tests) in ap f same ∙ here
     by q high false e = let differs : q < p = grind (arith, nat_tests) in before q differs
 
--- Something goes to the least host that passes a test and for which there is something; for one that doesn't pass there is nothing.
-pub goes-there : (f : HostNode → ℕ → Option Outgoing) (w v : HostNode) (test : ℕ → Bool) (from peer : ℕ) → w ≡ v → ((q : ℕ) → test q ≡ false → f w q ≡ None)
-    → NothingBelow (f w) from → IsNext test from (length w.state.peers) (Some peer) → is_some (f w peer) ≡ true
-    → (f v peer ≡ first_some (f v) (peers_of v.state)) × (is_some (f v peer) ≡ true)
-goes-there f w v test from peer is quiet before least there =
-    let l : Found test from (length w.state.peers) (Some peer) = found test from (length w.state.peers) (Some peer) least in
-    subst (λ (x : HostNode). (f x peer ≡ first_some (f x) (peers_of x.state)) × (is_some (f x peer) ≡ true)) is
-    (search-at (f w) (length w.state.peers) peer l.1 there (passed (f w) test from peer quiet before l.3), there)
+-- Something goes by the least lane that passes a test and for which there is something; for one that doesn't pass there is nothing.
+pub goes-there : (f : HostNode → ℕ → Option Outgoing) (w v : HostNode) (test : ℕ → Bool) (from lane : ℕ) → w ≡ v → ((q : ℕ) → test q ≡ false → f w q ≡ None)
+    → NothingBelow (f w) from → IsNext test from (length w.state.lanes) (Some lane) → is_some (f w lane) ≡ true
+    → (f v lane ≡ first_some (f v) (lanes_of v.state)) × (is_some (f v lane) ≡ true)
+goes-there f w v test from lane is quiet before least there =
+    let l : Found test from (length w.state.lanes) (Some lane) = found test from (length w.state.lanes) (Some lane) least in
+    subst (λ (x : HostNode). (f x lane ≡ first_some (f x) (lanes_of x.state)) × (is_some (f x lane) ≡ true)) is
+    (search-at (f w) (length w.state.lanes) lane l.1 there (passed (f w) test from lane quiet before l.3), there)
 
-pub goes-on : (f : HostNode → ℕ → Option Outgoing) (w : HostNode) (test : ℕ → Bool) (from peer : ℕ) → ((q : ℕ) → test q ≡ false → f w q ≡ None)
-    → NothingBelow (f w) from → IsNext test from (length w.state.peers) (Some peer) → f w peer ≡ None → NothingBelow (f w) (peer + 1)
-goes-on f w test from peer quiet before least nothing =
-    let l : Found test from (length w.state.peers) (Some peer) = found test from (length w.state.peers) (Some peer) least in
-    passed-one (f w) peer (passed (f w) test from peer quiet before l.3) nothing
+pub goes-on : (f : HostNode → ℕ → Option Outgoing) (w : HostNode) (test : ℕ → Bool) (from lane : ℕ) → ((q : ℕ) → test q ≡ false → f w q ≡ None)
+    → NothingBelow (f w) from → IsNext test from (length w.state.lanes) (Some lane) → f w lane ≡ None → NothingBelow (f w) (lane + 1)
+goes-on f w test from lane quiet before least nothing =
+    let l : Found test from (length w.state.lanes) (Some lane) = found test from (length w.state.lanes) (Some lane) least in
+    passed-one (f w) lane (passed (f w) test from lane quiet before l.3) nothing
 
 pub goes-nowhere : (f : HostNode → ℕ → Option Outgoing) (w v : HostNode) (test : ℕ → Bool) (from : ℕ) → w ≡ v → ((q : ℕ) → test q ≡ false → f w q ≡ None)
-    → NothingBelow (f w) from → IsNext test from (length w.state.peers) None → None ≡ first_some (f v) (peers_of v.state)
+    → NothingBelow (f w) from → IsNext test from (length w.state.lanes) None → None ≡ first_some (f v) (lanes_of v.state)
 goes-nowhere f w v test from is quiet before least =
-    subst (λ (x : HostNode). None ≡ first_some (f x) (peers_of x.state)) is
-    (search-none (f w) (length w.state.peers) (passed (f w) test from (length w.state.peers) quiet before (found test from (length w.state.peers) None least)))
+    subst (λ (x : HostNode). None ≡ first_some (f x) (lanes_of x.state)) is
+    (search-none (f w) (length w.state.lanes) (passed (f w) test from (length w.state.lanes) quiet before (found test from (length w.state.lanes) None least)))
 
--- a host that is next is one of them, and not before the address
-pub next-within : (test : ℕ → Bool) (from count peer : ℕ) → IsNext test from count (Some peer) → (from ≤ peer) × (peer < count) × (test peer ≡ true)
-next-within test from count peer least =
-    let l : Found test from count (Some peer) = found test from count (Some peer) least in (l.0, l.1, l.2)
+-- a lane that is next is one of them, and not before the number
+pub next-within : (test : ℕ → Bool) (from count lane : ℕ) → IsNext test from count (Some lane) → (from ≤ lane) × (lane < count) × (test lane ≡ true)
+next-within test from count lane least =
+    let l : Found test from count (Some lane) = found test from count (Some lane) least in (l.0, l.1, l.2)

@@ -3,7 +3,7 @@ use Rattle.std.proofs.Common.{◌≡◌, ℕ, ℤ, true, false, List, Option, So
 use Rattle.std.specs.Prelude.{is_some, option_map, Result, Ok, Err, IfOk}
 use Rattle.packet_defs.specs.declared.kind.Kind.TheVariants.{Gm}
 use Rattle.packet_defs.specs.Packet.{packet_of}
-use Rattle.world_defs.specs.Node.{Staged, StagedReply, StagedAck, NodeState, Outgoing, Reply, PartAnswer, outgoing_staged, either, first_some, peers_of, owed_to, due_to, to_send}
+use Rattle.world_defs.specs.Node.{Staged, StagedReply, StagedAck, NodeState, Outgoing, Reply, PartAnswer, outgoing_staged, either, first_some, lanes_of, owed_on, due_on, to_send}
 use Rattle.host_items.specs.Held.{first_of}
 use Rattle.nic_node.specs.Sending.{items_in}
 
@@ -17,7 +17,7 @@ either-none (Some x) y e = absurd (grind arith)
 
 -- what follows the items
 abbrev behind : ℕ → NodeState → Option Outgoing
-behind host n = either (first_some (owed_to n) (peers_of n)) (first_some (due_to host n) (peers_of n))
+behind host n = either (first_some (owed_on n) (lanes_of n)) (first_some (due_on host n) (lanes_of n))
 
 in-order : (host : ℕ) (n : NodeState) → either (first_of (items_in n)) (behind host n) ≡ to_send host n
 unfolding to_send
@@ -34,15 +34,15 @@ in-order host n = by n.staged n.reply n.part_ack (behind host n)
 pub send-item : (host : ℕ) (n : NodeState) → is_some (first_of (items_in n)) ≡ true → first_of (items_in n) ≡ to_send host n
 send-item host n e = either-some (first_of (items_in n)) (behind host n) e ∙ in-order host n
 
-pub send-answer : (host : ℕ) (n : NodeState) (x : Option Outgoing) → is_some (first_of (items_in n)) ≡ false → x ≡ first_some (owed_to n) (peers_of n) → is_some x ≡ true → x ≡ to_send host n
+pub send-answer : (host : ℕ) (n : NodeState) (x : Option Outgoing) → is_some (first_of (items_in n)) ≡ false → x ≡ first_some (owed_on n) (lanes_of n) → is_some x ≡ true → x ≡ to_send host n
 send-answer host n x none is there =
-    either-some x (first_some (due_to host n) (peers_of n)) there ∙ ap (λ z. either z (first_some (due_to host n) (peers_of n))) is
+    either-some x (first_some (due_on host n) (lanes_of n)) there ∙ ap (λ z. either z (first_some (due_on host n) (lanes_of n))) is
     ∙ either-none (first_of (items_in n)) (behind host n) none ∙ in-order host n
 
-pub send-fragment : (host : ℕ) (n : NodeState) (x : Option Outgoing) → is_some (first_of (items_in n)) ≡ false → None ≡ first_some (owed_to n) (peers_of n)
-    → x ≡ first_some (due_to host n) (peers_of n) → x ≡ to_send host n
+pub send-fragment : (host : ℕ) (n : NodeState) (x : Option Outgoing) → is_some (first_of (items_in n)) ≡ false → None ≡ first_some (owed_on n) (lanes_of n)
+    → x ≡ first_some (due_on host n) (lanes_of n) → x ≡ to_send host n
 send-fragment host n x none nothing is =
-    is ∙ ap (λ z. either z (first_some (due_to host n) (peers_of n))) nothing ∙ either-none (first_of (items_in n)) (behind host n) none ∙ in-order host n
+    is ∙ ap (λ z. either z (first_some (due_on host n) (lanes_of n))) nothing ∙ either-none (first_of (items_in n)) (behind host n) none ∙ in-order host n
 
 -- a packet that was made, or memory was wanting
 pub made-as : {P E : Type 0} (r : Result P E) (x y : P) → IfOk r (λ p. p ≡ x) → x ≡ y → IfOk r (λ p. p ≡ y)

@@ -1,4 +1,4 @@
--- What acknowledgements do to the connections and ports of a host, within a host of the world.
+-- What acknowledgements do to the lanes and ports of a host, within a host of the world.
 use Rattle.std.proofs.Common.{◌≡◌, ◌+◌, ℕ, zero, suc, Bool, true, false, List, [], ◌∷◌, ◌++◌, take, Some, None, refl, sym, ap, ◌∙◌, arith, if◌then◌else◌}
 use Rattle.std.specs.Prelude.{slice_get, Result, Ok, Err}
 use Rattle.std.proofs.Math.Seq.{take-nil}
@@ -12,11 +12,11 @@ use Rattle.gm_defs.specs.declared.token.Took.{Took}
 use Rattle.gm_defs.specs.declared.token.Took.TheVariants.{NotNext, NoToken, Whole}
 use Rattle.gm_defs.specs.Port.{finished}
 use Rattle.gm_defs.specs.Body.{is_frame, is_ack, head_in, ack_in, decode}
-use Rattle.world_defs.specs.Peer.{Ticket, finished_by, tickets_finished, peer_acknowledged}
+use Rattle.world_defs.specs.Lane.{Ticket, finished_by, tickets_finished, lane_acknowledged}
 use Rattle.world_defs.specs.Node.{NodeState}
-use Rattle.world_defs.specs.Hearing.{all_finished, ack_heard}
+use Rattle.world_defs.specs.Hearing.{ack_lane, all_finished, ack_heard}
 use Rattle.host_ports.specs.Held.{HostPorts, changed}
-use Rattle.host_peers.specs.Peers.{HostPeers, peer_in, with_state}
+use Rattle.host_lanes.specs.Lanes.{HostLanes, lane_in, with_state}
 use Rattle.nic_node.specs.Messages.{with_messages, delivered_in, finished_in}
 
 -- one ticket more, or none
@@ -43,16 +43,16 @@ pub finished-none : (p q : HostPorts) (ts : List Ticket) (k : ℕ) → slice_get
 finished-none p q ts k e is = is ∙ ap (finished_in p) (sym (take-none ts k e))
 
 -- the sends of tickets, within a host of the world
-within-finished : (n : NodeState) (q : HostPeers) (p : HostPorts) (ts : List Ticket) → all_finished (with_messages n q p) ts ≡ with_messages n q (finished_in p ts)
+within-finished : (n : NodeState) (q : HostLanes) (p : HostPorts) (ts : List Ticket) → all_finished (with_messages n q p) ts ≡ with_messages n q (finished_in p ts)
 within-finished n q p [] = refl
 within-finished n q p (t ∷ ts) = within-finished n q (changed p t.port (λ s. finished s t.token)) ts
 
-pub ack-within : (n : NodeState) (p q : HostPeers) (r s : HostPorts) (a : Ack) (count : ℕ) → count ≡ finished_by (peer_in p a.src) a.next
-    → s ≡ finished_in r (take count (peer_in p a.src).pending) → q ≡ with_state p a.src (peer_acknowledged (peer_in p a.src) a.next)
+pub ack-within : (n : NodeState) (p q : HostLanes) (r s : HostPorts) (a : Ack) (count : ℕ) → count ≡ finished_by (lane_in p (ack_lane a)) a.next
+    → s ≡ finished_in r (take count (lane_in p (ack_lane a)).pending) → q ≡ with_state p (ack_lane a) (lane_acknowledged (lane_in p (ack_lane a)) a.next)
     → ack_heard (with_messages n p r) a ≡ with_messages n q s
 ack-within n p q r s a count ec es eq =
-    let ports : s ≡ finished_in r (tickets_finished (peer_in p a.src) a.next) = es ∙ ap (λ k. finished_in r (take k (peer_in p a.src).pending)) ec in
-    within-finished n (with_state p a.src (peer_acknowledged (peer_in p a.src) a.next)) r (tickets_finished (peer_in p a.src) a.next)
+    let ports : s ≡ finished_in r (tickets_finished (lane_in p (ack_lane a)) a.next) = es ∙ ap (λ k. finished_in r (take k (lane_in p (ack_lane a)).pending)) ec in
+    within-finished n (with_state p (ack_lane a) (lane_acknowledged (lane_in p (ack_lane a)) a.next)) r (tickets_finished (lane_in p (ack_lane a)) a.next)
     ∙ (λ i. with_messages n (sym eq i) (sym ports i))
 
 -- what is read as a frame is one

@@ -8,15 +8,15 @@ use Rattle.gm_defs.specs.Port.{sent_with}
 use Rattle.gm_conn.specs.declared.refusal.OfferRefusal.{OfferRefusal}
 use Rattle.gm_conn.specs.declared.refusal.OfferRefusal.TheVariants.{Spent as SpentNumbers, NoMemory as NoRoom}
 use Rattle.world_defs.specs.Table.{table_route}
-use Rattle.world_defs.specs.Peer.{with_message}
-use Rattle.world_defs.specs.Node.{NodeState, peer_at, with_peer, port_at, with_port}
+use Rattle.world_defs.specs.Lane.{with_message}
+use Rattle.world_defs.specs.Node.{NodeState, lane_of, lane_at, with_lane, port_at, with_port}
 use Rattle.host_ports.specs.declared.ask.PortSend.{PortSend}
 use Rattle.host_ports.specs.declared.ask.PortSend.TheVariants.{NotOpen as PortNotOpen, TooLong as PortTooLong}
 use Rattle.host_ports.specs.declared.ask.PortSend.TheVariants.{BufferShort as PortShort}
 use Rattle.host_ports.specs.Held.{HostPorts, open_at}
 use Rattle.host_ports.specs.Refusal.{send_bar as port_bar}
-use Rattle.host_peers.specs.Peer.{accept_refusal}
-use Rattle.host_peers.specs.Peers.{HostPeers, peer_in, with_state}
+use Rattle.host_lanes.specs.Lane.{accept_refusal}
+use Rattle.host_lanes.specs.Lanes.{HostLanes, lane_in, with_state}
 use Rattle.nic_node.specs.declared.refusal.NodeSend.{NodeSend}
 use Rattle.nic_node.specs.declared.refusal.NodeSend.TheVariants.{NotOpen, TooLong, BufferShort, NoRoute, Spent}
 use Rattle.nic_node.specs.declared.refusal.NodeSend.TheVariants.{NoMemory}
@@ -29,9 +29,9 @@ port_word PortTooLong = TooLong
 port_word PortShort = BufferShort
 
 -- a refusal of the connection, as the host's
-abbrev pub peer_word : OfferRefusal → NodeSend
-peer_word SpentNumbers = Spent
-peer_word NoRoom = NoMemory
+abbrev pub lane_word : OfferRefusal → NodeSend
+lane_word SpentNumbers = Spent
+lane_word NoRoom = NoMemory
 
 -- the first of two refusals
 abbrev pub first_of : Option NodeSend → Option NodeSend → Option NodeSend
@@ -47,14 +47,14 @@ abbrev pub early_bar : Option PortState → Bool → ℕ → List ℕ → Option
 early_bar p route len buffer = first_of (option_map port_word (port_bar p len buffer)) (route_bar route)
 
 -- and then where it needs a number above the greatest
-abbrev pub node_bar : HostPeers → HostPorts → Bool → ℕ → SendAsk → List ℕ → Option NodeSend
-node_bar peers ports route port a buffer =
+abbrev pub node_bar : HostLanes → HostPorts → Bool → ℕ → SendAsk → List ℕ → Option NodeSend
+node_bar lanes ports route port a buffer =
     first_of (early_bar (open_at ports port) route a.len buffer)
-    (option_map peer_word (accept_refusal (peer_in peers a.dest) a.len))
+    (option_map lane_word (accept_refusal (lane_in lanes (lane_of a.dest a.prio)) a.len))
 
--- the connections of a host, as a contract sees them alone
-abbrev pub peers_in : HostNode → HostPeers
-peers_in n = record { host = n.host; peers = n.state.peers }
+-- the lanes of a host, as a contract sees them alone
+abbrev pub lanes_in : HostNode → HostLanes
+lanes_in n = record { host = n.host; hosts = n.hosts; lanes = n.state.lanes }
 
 -- the ports of a host, as a contract sees them alone
 abbrev pub ports_in : HostNode → HostPorts
@@ -62,21 +62,23 @@ ports_in n = record { host = n.host; ports = n.state.ports }
 
 -- the same of a host with its own table
 abbrev pub send_bar : HostNode → ℕ → SendAsk → List ℕ → Option NodeSend
-send_bar n port a buffer = node_bar (peers_in n) (ports_in n) (is_some (table_route n.state.table a.dest)) port a buffer
+send_bar n port a buffer = node_bar (lanes_in n) (ports_in n) (is_some (table_route n.state.table a.dest)) port a buffer
 
 -- the message of a send: the first bytes of its buffer
 abbrev pub message_sent : ℕ → SendAsk → List ℕ → Message
 message_sent port a buffer = record { sport = port; dport = a.dport; prio = a.prio; body = take a.len buffer }
 
--- the connections once a send of a port's token was accepted
-abbrev pub accepted_in : HostPeers → ℕ → ℕ → SendAsk → List ℕ → HostPeers
-accepted_in peers port token a buffer =
-    with_state peers a.dest (with_message (peer_in peers a.dest) (message_sent port a buffer)
+-- the lanes once a send of a port's token was accepted
+abbrev pub accepted_in : HostLanes → ℕ → ℕ → SendAsk → List ℕ → HostLanes
+accepted_in lanes port token a buffer =
+    with_state lanes (lane_of a.dest a.prio) (with_message (lane_in lanes (lane_of a.dest a.prio))
+    (message_sent port a buffer)
     (record { port = port; token = token }))
 
--- a message of a port's token was accepted: its peer has the message, and the port has the token with its buffer
+-- a message of a port's token was accepted: its lane has the message, and the port has the token with its buffer
 abbrev pub accepted : NodeState → ℕ → ℕ → SendAsk → List ℕ → NodeState
 accepted n port token a buffer =
-    with_port (with_peer n a.dest (with_message (peer_at n a.dest) (message_sent port a buffer)
+    with_port (with_lane n (lane_of a.dest a.prio)
+    (with_message (lane_at n (lane_of a.dest a.prio)) (message_sent port a buffer)
     (record { port = port; token = token }))) port
     (option_map (λ s. sent_with s token buffer) (port_at n port))

@@ -1,9 +1,9 @@
 -- What a contract sees of a host: the host of the world that its parts make.
-use Rattle.std.specs.Prelude.{◌≡◌, ◌<◌, ℕ, length}
+use Rattle.std.specs.Prelude.{◌≡◌, ◌<◌, ℕ}
 use Rattle.world_defs.specs.Node.{NodeState, new_node}
 use Rattle.host_items.specs.Held.{HostItems}
 use Rattle.route_install.specs.Collecting.{HostTable}
-use Rattle.host_peers.specs.Peers.{HostPeers}
+use Rattle.host_lanes.specs.Lanes.{HostLanes}
 use Rattle.host_ports.specs.Held.{HostPorts}
 
 -- A host, among so many hosts, in a state.
@@ -20,20 +20,20 @@ in_state n state = record n { state = state }
 abbrev pub unused_node : ℕ → ℕ → HostNode
 unused_node host hosts = record { host = host; hosts = hosts; state = new_node hosts }
 
--- the state that staged items, a table, connections and ports make together
-abbrev pub state_of : HostItems → HostTable → HostPeers → HostPorts → NodeState
-state_of items table peers ports = record {
+-- the state that staged items, a table, lanes and ports make together
+abbrev pub state_of : HostItems → HostTable → HostLanes → HostPorts → NodeState
+state_of items table lanes ports = record {
   staged = items.staged;
   reply = items.reply;
   part_ack = items.part_ack;
   table = table.state;
-  peers = peers.peers;
+  lanes = lanes.lanes;
   ports = ports.ports;
 }
 
--- All parts are this host's, and it is one of the hosts that it has connections with.
-pub record AreOfHost (host : ℕ) (table : HostTable) (peers : HostPeers) (ports : HostPorts) : Type 0 where
+-- All parts are this host's, and it is one of the hosts that it has lanes for.
+pub record AreOfHost (host : ℕ) (table : HostTable) (lanes : HostLanes) (ports : HostPorts) : Type 0 where
   pub own_table : table.host ≡ host
-  pub own_peers : peers.host ≡ host
+  pub own_lanes : lanes.host ≡ host
   pub own_ports : ports.host ≡ host
-  pub among : host < length peers.peers
+  pub among : host < lanes.hosts

@@ -1,17 +1,17 @@
--- The messages of a host, its connections and its ports, within a host of the world.
+-- The messages of a host, its lanes and its ports, within a host of the world.
 use Rattle.std.specs.Prelude.{ℕ, List, [], ◌∷◌}
 use Rattle.gm_defs.specs.declared.frame.FrameHead.{FrameHead}
 use Rattle.gm_defs.specs.declared.token.Took.{Took}
 use Rattle.gm_defs.specs.declared.token.Took.TheVariants.{NotNext, NoToken, Whole}
 use Rattle.gm_defs.specs.Port.{delivered, finished}
-use Rattle.world_defs.specs.Peer.{Ticket}
+use Rattle.world_defs.specs.Lane.{Ticket}
 use Rattle.world_defs.specs.Node.{NodeState}
 use Rattle.host_ports.specs.Held.{HostPorts, changed}
-use Rattle.host_peers.specs.Peers.{HostPeers}
+use Rattle.host_lanes.specs.Lanes.{HostLanes}
 
--- a host of the world with these connections and ports
-abbrev pub with_messages : NodeState → HostPeers → HostPorts → NodeState
-with_messages n peers ports = record n { peers = peers.peers; ports = ports.ports }
+-- a host of the world with these lanes and ports
+abbrev pub with_messages : NodeState → HostLanes → HostPorts → NodeState
+with_messages n lanes ports = record n { lanes = lanes.lanes; ports = ports.ports }
 
 -- a message that was taken whole is in an event of its port
 abbrev pub delivered_in : HostPorts → FrameHead → List ℕ → Took → HostPorts

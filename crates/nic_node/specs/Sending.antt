@@ -1,6 +1,6 @@
 -- What a host sends next.
 use Rattle.std.specs.Prelude.{Option, Some, None}
-use Rattle.world_defs.specs.Node.{NodeState, Outgoing, owed_to, due_to, to_send, after_sending}
+use Rattle.world_defs.specs.Node.{NodeState, Outgoing, owed_on, due_on, to_send, after_sending}
 use Rattle.host_items.specs.Held.{HostItems, first_of}
 use Rattle.nic_node.specs.declared.next.NextSend.{NextSend}
 use Rattle.nic_node.specs.declared.next.NextSend.TheVariants.{Item, Answer, Fragment}
@@ -10,11 +10,11 @@ use Rattle.nic_node.specs.Held.{HostNode}
 abbrev pub items_in : NodeState → HostItems
 items_in n = record { staged = n.staged; reply = n.reply; part_ack = n.part_ack }
 
--- what a choice stands for: the first of the items, what is owed to a peer, or what is due to it
+-- what a choice stands for: the first of the items, what a lane owes, or what is due on it
 abbrev pub chosen : HostNode → NextSend → Option Outgoing
 chosen n Item = first_of (items_in n.state)
-chosen n (Answer peer) = owed_to n.state peer
-chosen n (Fragment peer) = due_to n.host n.state peer
+chosen n (Answer lane) = owed_on n.state lane
+chosen n (Fragment lane) = due_on n.host n.state lane
 
 -- the state once what is sent counts as sent; where nothing is sent, nothing changes
 abbrev pub once_sent : NodeState → Option Outgoing → NodeState

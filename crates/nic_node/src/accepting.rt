@@ -8,11 +8,11 @@ ghost use Rattle.gm_defs.specs.Port.{sent_with};
 ghost use Rattle.gm_tokens.specs.Token.{token_at};
 ghost use Rattle.host_ports.specs.Held.{open_at, changed};
 ghost use Rattle.host_ports.specs.Refusal.{send_bar};
-ghost use Rattle.nic_node.specs.Accepting.{accepted_in, early_bar, node_bar, port_word, peer_word};
+ghost use Rattle.nic_node.specs.Accepting.{accepted_in, early_bar, node_bar, port_word, lane_word};
 
 use crate::refusal::NodeSend;
 use gm_tokens::SendToken;
-use host_peers::{Envelope, OfferRefusal, Peers};
+use host_lanes::{Envelope, Lanes, OfferRefusal};
 use host_ports::{PortSend, Ports, SendAsk};
 use reg_mem::Reg;
 use std::alloc::Global;
@@ -22,7 +22,7 @@ use std::alloc::Global;
 /// NoRoute, Spent, in this order, and only then want of memory.
 pub(crate) fn send(
     alloc: Global,
-    peers: &mut Peers,
+    lanes: &mut Lanes,
     ports: &mut Ports,
     route: bool,
     port: u8,
@@ -31,22 +31,22 @@ pub(crate) fn send(
     a: SendAsk,
 ) -> Result<(), (SendToken, Reg, NodeSend)>
     requires port { port < 8 }
-    requires dest { a.dest < length peers.old.peers }
+    requires dest { a.dest < lanes.old.hosts }
     requires own { t ≡ token_at ports.old.host port t.number }
     requires minted { ForSome (open_at ports.old port) (λ p. t.number < p.sends) }
     requires free { ForSome (open_at ports.old port) (λ p. place_of_send p t.number ≡ None) }
     requires dport { a.dport < 8 }
     requires prio { a.prio < 2 }
-    ensures refused { MatchResult result (λ _. node_bar peers.old ports.old route port a b ≡ None) (λ e.
-        (node_bar peers.old ports.old route port a b ≡ Some e.2)
-        ⊎ ((node_bar peers.old ports.old route port a b ≡ None) × (e.2 ≡ NodeSend.NoMemory))) }
+    ensures refused { MatchResult result (λ _. node_bar lanes.old ports.old route port a b ≡ None) (λ e.
+        (node_bar lanes.old ports.old route port a b ≡ Some e.2)
+        ⊎ ((node_bar lanes.old ports.old route port a b ≡ None) × (e.2 ≡ NodeSend.NoMemory))) }
     ensures handed_back { IfErr result (λ e. (e.0 ≡ t) × (e.1 ≡ b)) }
-    ensures accepted { OnOk result (peers.new ≡ accepted_in peers.old port t.number a b) }
+    ensures accepted { OnOk result (lanes.new ≡ accepted_in lanes.old port t.number a b) }
     ensures sent { OnOk result (ports.new ≡ changed ports.old port (λ s. sent_with s t.number b)) }
-    ensures peers { OnErr result (peers.new ≡ peers.old) }
+    ensures lanes { OnErr result (lanes.new ≡ lanes.old) }
     ensures ports { OnErr result (ports.new ≡ ports.old) }
 {
-    match accept(alloc, peers, ports, route, port, t.number(), a, b.bytes()) {
+    match accept(alloc, lanes, ports, route, port, t.number(), a, b.bytes()) {
         Ok(()) => {
             ports.send(port, t, b, a);
             Ok(())
@@ -58,7 +58,7 @@ pub(crate) fn send(
 // Accepts the message of a buffer for a peer, where nothing refuses it.
 fn accept(
     alloc: Global,
-    peers: &mut Peers,
+    lanes: &mut Lanes,
     ports: &Ports,
     route: bool,
     port: u8,
@@ -67,13 +67,13 @@ fn accept(
     buffer: &[u8],
 ) -> Result<(), NodeSend>
     requires port { port < 8 }
-    requires dest { a.dest < length peers.old.peers }
+    requires dest { a.dest < lanes.old.hosts }
     requires dport { a.dport < 8 }
     requires prio { a.prio < 2 }
-    ensures refused { Refuses (node_bar peers.old ports.now route port a buffer.now) NodeSend.NoMemory result }
+    ensures refused { Refuses (node_bar lanes.old ports.now route port a buffer.now) NodeSend.NoMemory result }
     ensures able { OnOk result (send_bar (open_at ports.now port) a.len buffer.now ≡ None) }
-    ensures accepted { OnOk result (peers.new ≡ accepted_in peers.old port token a buffer.now) }
-    ensures unchanged { OnErr result (peers.new ≡ peers.old) }
+    ensures accepted { OnOk result (lanes.new ≡ accepted_in lanes.old port token a buffer.now) }
+    ensures unchanged { OnErr result (lanes.new ≡ lanes.old) }
 {
     if let Some(refusal) = early_refusal(ports, route, port, a, buffer) {
         return Err(refusal);
@@ -84,13 +84,13 @@ fn accept(
         prio: a.prio,
     };
     let body = &buffer[..a.len as usize];
-    match peers.accept(alloc, a.dest, envelope, body, token) {
+    match lanes.accept(alloc, a.dest, envelope, body, token) {
         Ok(()) => Ok(()),
-        Err(refusal) => Err(peer_word(refusal)),
+        Err(refusal) => Err(lane_word(refusal)),
     }
 }
 
-// Why a message is refused before its peer is looked at.
+// Why a message is refused before its lane is looked at.
 fn early_refusal(
     ports: &Ports,
     route: bool,
@@ -118,8 +118,8 @@ fn port_word(refusal: PortSend) -> NodeSend
     }
 }
 
-fn peer_word(refusal: OfferRefusal) -> NodeSend
-    ensures { result ≡ peer_word refusal }
+fn lane_word(refusal: OfferRefusal) -> NodeSend
+    ensures { result ≡ lane_word refusal }
 {
     match refusal {
         OfferRefusal::Spent => NodeSend::Spent,

@@ -36,6 +36,6 @@ impl NicNode {
         ensures hosts { self.new.hosts ≡ self.old.hosts }
         ensures unchanged { OnErr result (self.new ≡ self.old) }
     {
-        hear(alloc, self.host, &mut self.peers, &mut self.ports, body)
+        hear(alloc, self.host, &mut self.lanes, &mut self.ports, body)
     }
 }

@@ -1,19 +1,19 @@
-//! One host: what it has staged, its table, its connections and its ports, under one roof.
+//! One host: what it has staged, its table, its lanes and its ports, under one roof.
 //!
 //! It moves no packet and knows no client: the world hands it the packets that reach it, and takes the packet that it
 //! has to send. `specs/Node.antt` and `specs/Hearing.antt` of `world_defs` say what a host is and what it does;
-//! `specs/Held.antt` makes that host of the parts, and `specs/Messages.antt` sets connections and ports alone into
+//! `specs/Held.antt` makes that host of the parts, and `specs/Messages.antt` sets lanes and ports alone into
 //! it. `specs/Accepting.antt` says when a message is accepted, and what is kept of it.
 //!
 //! ```text
 //!                      +--> items: a reply, an acknowledgement ---+
 //!   packet --> body ---+--> table: the routes                     +--> the first there is --> packet
-//!                      +--> peers: acknowledged, taken, owed -----+
+//!                      +--> lanes: acknowledged, taken, owed -----+
 //!                      +--> ports: events
 //!
-//!   send             ---> port: open, length, buffer? ---> a route? ---> connection: a number left? ---> both keep it
-//!   frame            ---> connection: the next number? ---> port: a token that fits ---> event
-//!   acknowledgement  ---> connection: which sends?     ---> their ports: finished   ---> events
+//!   send             ---> port: open, length, buffer? ---> a route? ---> lane: a number left? ---> both keep it
+//!   frame            ---> lane: the next number? ---> port: a token that fits ---> event
+//!   acknowledgement  ---> lane: which sends? ---> their ports: finished   ---> events
 //! ```
 #![tactic(auto)]
 
@@ -29,7 +29,7 @@ mod refusal;
 mod sending;
 
 pub use host_items::{Packet, RoutePart};
-pub use host_peers::Message;
+pub use host_lanes::Message;
 pub use host_ports::{NotOpen, PortBegin, PortClose, PortEvent, PortProvide, SendAsk, Wreck};
 pub use node::NicNode;
 pub use refusal::NodeSend;

@@ -149,14 +149,14 @@ impl NicNode {
     {
         part.dst == self.host
             && self.is_host(part.mapper)
-            && are_to_hosts(part.entries.list(), self.peers.count())
+            && are_to_hosts(part.entries.list(), self.lanes.hosts())
     }
 
     // Whether an address is a host's.
     fn is_host(&self, address: u16) -> bool
         ensures { result ≡ is_host self.now.hosts address }
     {
-        address < self.peers.count()
+        address < self.lanes.hosts()
     }
 }
 

@@ -10,34 +10,35 @@ ghost use Rattle.nic_node.specs.Messages.{with_messages, delivered_in, finished_
 
 use gm_defs::Took;
 use gm_frame::{Ack, FrameHead, GmBody, decode, part_of};
-use host_peers::{Peer, Peers};
+use host_lanes::{Lane, Lanes};
 use host_ports::Ports;
 use packet_defs::HostDrop;
 use std::alloc::{AllocError, Global};
 use world_defs::{Arrival, Heard};
 
-/// The body of a packet came to the host that has these connections and ports. Whatever else the host has, what is
-/// made of the body, and what becomes of connections and ports, is as the world's host makes it. Want of memory
+/// The body of a packet came to the host that has these lanes and ports. Whatever else the host has, what is
+/// made of the body, and what becomes of lanes and ports, is as the world's host makes it. Want of memory
 /// changes nothing.
 pub(crate) fn hear(
     alloc: Global,
     host: u16,
-    peers: &mut Peers,
+    lanes: &mut Lanes,
     ports: &mut Ports,
     body: &[u8],
 ) -> Result<Arrival, AllocError>
-    requires { host ≡ peers.old.host }
+    requires { host ≡ lanes.old.host }
     ensures heard { IfOk result (λ arrival. (n : NodeState)
-        → hear_gm_body host (length peers.old.peers) (with_messages n peers.old ports.old) body.now (decode body.now)
-        ≡ (arrival, with_messages n peers.new ports.new)) }
-    ensures peers_host { peers.new.host ≡ peers.old.host }
+        → hear_gm_body host (lanes.old.hosts) (with_messages n lanes.old ports.old) body.now (decode body.now)
+        ≡ (arrival, with_messages n lanes.new ports.new)) }
+    ensures lanes_host { lanes.new.host ≡ lanes.old.host }
+    ensures hosts { lanes.new.hosts ≡ lanes.old.hosts }
     ensures ports_host { ports.new.host ≡ ports.old.host }
-    ensures peers { OnErr result (peers.new ≡ peers.old) }
+    ensures lanes { OnErr result (lanes.new ≡ lanes.old) }
     ensures ports { OnErr result (ports.new ≡ ports.old) }
 {
     match decode(body) {
-        Ok(GmBody::Frame(h)) => hear_frame(alloc, host, peers, ports, &h, part_of(body)),
-        Ok(GmBody::Ack(a)) => Ok(hear_ack(host, peers, ports, &a)),
+        Ok(GmBody::Frame(h)) => hear_frame(alloc, host, lanes, ports, &h, part_of(body)),
+        Ok(GmBody::Ack(a)) => Ok(hear_ack(host, lanes, ports, &a)),
         Err(_) => Ok(Arrival::Dropped(HostDrop::Malformed)),
     }
 }
@@ -46,7 +47,7 @@ pub(crate) fn hear(
 fn hear_frame(
     alloc: Global,
     host: u16,
-    peers: &mut Peers,
+    lanes: &mut Lanes,
     ports: &mut Ports,
     h: &FrameHead,
     part: &[u8],
@@ -54,17 +55,18 @@ fn hear_frame(
     requires head { is_head h.now ≡ true }
     requires part { length part.now ≡ h.now.len }
     ensures ok { IfOk result (λ arrival. (n : NodeState)
-        → heard_if (nat_eq h.now.dst host && is_host (length peers.old.peers) h.now.src)
-        (with_messages n peers.old ports.old) (frame_heard (with_messages n peers.old ports.old) h.now part.now
-        (frame_took (with_messages n peers.old ports.old) h.now))
-        ≡ (arrival, with_messages n peers.new ports.new)) }
-    ensures peers_host { peers.new.host ≡ peers.old.host }
+        → heard_if (nat_eq h.now.dst host && is_host (lanes.old.hosts) h.now.src)
+        (with_messages n lanes.old ports.old) (frame_heard (with_messages n lanes.old ports.old) h.now part.now
+        (frame_took (with_messages n lanes.old ports.old) h.now))
+        ≡ (arrival, with_messages n lanes.new ports.new)) }
+    ensures lanes_host { lanes.new.host ≡ lanes.old.host }
+    ensures hosts { lanes.new.hosts ≡ lanes.old.hosts }
     ensures ports_host { ports.new.host ≡ ports.old.host }
-    ensures peers { OnErr result (peers.new ≡ peers.old) }
+    ensures lanes { OnErr result (lanes.new ≡ lanes.old) }
     ensures ports { OnErr result (ports.new ≡ ports.old) }
 {
-    if is_mine(host, peers, h.dst, h.src) {
-        match take(alloc, peers, ports, h, part) {
+    if is_mine(host, lanes, h.dst, h.src) {
+        match take(alloc, lanes, ports, h, part) {
             Ok(heard) => Ok(Arrival::Heard(heard)),
             Err(error) => Err(error),
         }
@@ -74,15 +76,16 @@ fn hear_frame(
 }
 
 // An acknowledgement came. It must name this host, and a host that sent it.
-fn hear_ack(host: u16, peers: &mut Peers, ports: &mut Ports, a: &Ack) -> Arrival
-    ensures peers_host { peers.new.host ≡ peers.old.host }
+fn hear_ack(host: u16, lanes: &mut Lanes, ports: &mut Ports, a: &Ack) -> Arrival
+    ensures lanes_host { lanes.new.host ≡ lanes.old.host }
+    ensures hosts { lanes.new.hosts ≡ lanes.old.hosts }
     ensures ports_host { ports.new.host ≡ ports.old.host }
-    ensures heard { (n : NodeState) → heard_if (nat_eq a.now.dst host && is_host (length peers.old.peers) a.now.src)
-        (with_messages n peers.old ports.old) (Heard.Ack, ack_heard (with_messages n peers.old ports.old) a.now)
-        ≡ (result, with_messages n peers.new ports.new) }
+    ensures heard { (n : NodeState) → heard_if (nat_eq a.now.dst host && is_host (lanes.old.hosts) a.now.src)
+        (with_messages n lanes.old ports.old) (Heard.Ack, ack_heard (with_messages n lanes.old ports.old) a.now)
+        ≡ (result, with_messages n lanes.new ports.new) }
 {
-    if is_mine(host, peers, a.dst, a.src) {
-        acknowledge(peers, ports, a);
+    if is_mine(host, lanes, a.dst, a.src) {
+        acknowledge(lanes, ports, a);
         Arrival::Heard(Heard::Ack)
     } else {
         Arrival::NotMine
@@ -90,49 +93,51 @@ fn hear_ack(host: u16, peers: &mut Peers, ports: &mut Ports, a: &Ack) -> Arrival
 }
 
 // Whether these are this host and a host that sent.
-fn is_mine(host: u16, peers: &Peers, dst: u16, src: u16) -> bool
-    ensures { result ≡ (nat_eq dst host && is_host (length peers.now.peers) src) }
+fn is_mine(host: u16, lanes: &Lanes, dst: u16, src: u16) -> bool
+    ensures { result ≡ (nat_eq dst host && is_host (lanes.now.hosts) src) }
 {
-    dst == host && src < peers.count()
+    dst == host && src < lanes.hosts()
 }
 
-// A frame of a connection with this host came.
+// A frame for a lane of this host came.
 fn take(
     alloc: Global,
-    peers: &mut Peers,
+    lanes: &mut Lanes,
     ports: &mut Ports,
     h: &FrameHead,
     part: &[u8],
 ) -> Result<Heard, AllocError>
-    requires within { h.now.src < length peers.old.peers }
+    requires within { h.now.src < lanes.old.hosts }
     requires head { is_head h.now ≡ true }
     requires part { length part.now ≡ h.now.len }
     ensures ok { IfOk result (λ heard. (n : NodeState)
-        → frame_heard (with_messages n peers.old ports.old) h.now part.now
-        (frame_took (with_messages n peers.old ports.old) h.now) ≡ (heard, with_messages n peers.new ports.new)) }
-    ensures peers_host { peers.new.host ≡ peers.old.host }
+        → frame_heard (with_messages n lanes.old ports.old) h.now part.now
+        (frame_took (with_messages n lanes.old ports.old) h.now) ≡ (heard, with_messages n lanes.new ports.new)) }
+    ensures lanes_host { lanes.new.host ≡ lanes.old.host }
+    ensures hosts { lanes.new.hosts ≡ lanes.old.hosts }
     ensures ports_host { ports.new.host ≡ ports.old.host }
-    ensures peers { OnErr result (peers.new ≡ peers.old) }
+    ensures lanes { OnErr result (lanes.new ≡ lanes.old) }
     ensures ports { OnErr result (ports.new ≡ ports.old) }
 {
     let fits = ports.can_take(h.dport, h.total, h.prio);
-    let took = peers.on_frame(alloc, h, part, fits)?;
+    let took = lanes.on_frame(alloc, h, part, fits)?;
     deliver(ports, took, h, part);
     Ok(word_of(took))
 }
 
-// An acknowledgement for a connection of this host came.
-fn acknowledge(peers: &mut Peers, ports: &mut Ports, a: &Ack)
-    requires { a.now.src < length peers.old.peers }
-    ensures peers_host { peers.new.host ≡ peers.old.host }
+// An acknowledgement for a lane of this host came.
+fn acknowledge(lanes: &mut Lanes, ports: &mut Ports, a: &Ack)
+    requires { a.now.src < lanes.old.hosts }
+    ensures lanes_host { lanes.new.host ≡ lanes.old.host }
+    ensures hosts { lanes.new.hosts ≡ lanes.old.hosts }
     ensures ports_host { ports.new.host ≡ ports.old.host }
-    ensures heard { (n : NodeState) → ack_heard (with_messages n peers.old ports.old) a.now
-        ≡ with_messages n peers.new ports.new }
+    ensures heard { (n : NodeState) → ack_heard (with_messages n lanes.old ports.old) a.now
+        ≡ with_messages n lanes.new ports.new }
 {
-    let peer = peers.at(a.src);
-    let finished = peer.finished_by(a.next);
-    finish(peer, ports, finished);
-    peers.on_ack(a.src, a.next);
+    let lane = lanes.lane(a.src, a.prio);
+    let finished = lane.finished_by(a.next);
+    finish(lane, ports, finished);
+    lanes.on_ack(a);
 }
 
 // A message that was taken whole goes into an event of its port.
@@ -150,13 +155,13 @@ fn deliver(ports: &mut Ports, took: Took, h: &FrameHead, part: &[u8])
     }
 }
 
-// The first so many sends to a peer that wait longest are finished at their ports.
-fn finish(peer: &Peer, ports: &mut Ports, count: usize)
-    ensures finished { ports.new ≡ finished_in ports.old (take count peer.now.state.pending) }
+// The first so many sends of a lane that wait longest are finished at their ports.
+fn finish(lane: &Lane, ports: &mut Ports, count: usize)
+    ensures finished { ports.new ≡ finished_in ports.old (take count lane.now.state.pending) }
     ensures host { ports.new.host ≡ ports.old.host }
 {
     for place in 0..count {
-        if let Some(ticket) = peer.pending(place) {
+        if let Some(ticket) = lane.pending(place) {
             ports.finish(ticket.port(), ticket.token());
         }
     }

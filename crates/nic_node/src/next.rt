@@ -1,21 +1,23 @@
 //! What a host sends next.
 
-ghost use Rattle.std.specs.Prelude.{◌≡◌, ◌<◌, ◌+◌, is_some, option_and_then, true, IfSome};
+ghost use Rattle.std.specs.Prelude.{◌≡◌, ◌<◌, ◌+◌, length, is_some, option_and_then, true, IfSome};
+ghost use Rattle.std.specs.Option.{option_copied};
 ghost use Rattle.world_defs.specs.Table.{table_route};
-ghost use Rattle.world_defs.specs.Node.{owed_to, due_to, first_some, peers_of, to_send};
+ghost use Rattle.world_defs.specs.Node.{lane_route, owed_on, due_on, first_some, lanes_of, to_send};
 ghost use Rattle.nic_node.specs.Sending.{chosen};
 
 use crate::node::NicNode;
+use net_defs::Walk;
 
 /// Which of the things that a host has to send goes first.
 #[derive(Clone, Copy, Debug)]
 pub(crate) enum NextSend {
     /// The first of the staged items.
     Item,
-    /// The acknowledgement that is owed to a peer.
-    Answer(u16),
-    /// The fragment that is due to a peer.
-    Fragment(u16),
+    /// The acknowledgement that a lane owes.
+    Answer(u32),
+    /// The fragment that is due on a lane.
+    Fragment(u32),
 }
 
 impl NicNode {
@@ -28,23 +30,23 @@ impl NicNode {
             return Some(NextSend::Item);
         }
         match self.next_answer() {
-            Some(peer) => Some(NextSend::Answer(peer)),
+            Some(lane) => Some(NextSend::Answer(lane)),
             None => match self.next_fragment() {
-                Some(peer) => Some(NextSend::Fragment(peer)),
+                Some(lane) => Some(NextSend::Fragment(lane)),
                 None => None,
             },
         }
     }
 
-    // The least peer that is owed an acknowledgement, and to which the table has a route.
-    fn next_answer(&self) -> Option<u16>
-        ensures first { option_and_then (owed_to self.now.state) result
-            ≡ first_some (owed_to self.now.state) (peers_of self.now.state) }
-        ensures there { IfSome result (λ peer. is_some (owed_to self.now.state peer) ≡ true) }
+    // The least lane that owes an acknowledgement, and to whose peer the table has a route.
+    fn next_answer(&self) -> Option<u32>
+        ensures first { option_and_then (owed_on self.now.state) result
+            ≡ first_some (owed_on self.now.state) (lanes_of self.now.state) }
+        ensures there { IfSome result (λ lane. is_some (owed_on self.now.state lane) ≡ true) }
     {
         let mut from = 0;
-        while let Some(owed) = self.peers.next_owing(from) {
-            if self.has_route(owed) {
+        while let Some(owed) = self.lanes.next_owing(from) {
+            if self.leads(owed) {
                 return Some(owed);
             }
             from = self.after(owed);
@@ -52,15 +54,15 @@ impl NicNode {
         None
     }
 
-    // The least peer to which a fragment is due, and to which the table has a route.
-    fn next_fragment(&self) -> Option<u16>
-        ensures first { option_and_then (due_to self.now.host self.now.state) result
-            ≡ first_some (due_to self.now.host self.now.state) (peers_of self.now.state) }
-        ensures there { IfSome result (λ peer. is_some (due_to self.now.host self.now.state peer) ≡ true) }
+    // The least lane on which a fragment is due, and to whose peer the table has a route.
+    fn next_fragment(&self) -> Option<u32>
+        ensures first { option_and_then (due_on self.now.host self.now.state) result
+            ≡ first_some (due_on self.now.host self.now.state) (lanes_of self.now.state) }
+        ensures there { IfSome result (λ lane. is_some (due_on self.now.host self.now.state lane) ≡ true) }
     {
         let mut from = 0;
-        while let Some(due) = self.peers.next_due(from) {
-            if self.has_route(due) {
+        while let Some(due) = self.lanes.next_due(from) {
+            if self.leads(due) {
                 return Some(due);
             }
             from = self.after(due);
@@ -75,13 +77,29 @@ impl NicNode {
         self.table.route(to).is_some()
     }
 
-    // The address behind a host's. There is one, since the number of hosts is one too.
-    fn after(&self, peer: u16) -> u16
-        requires { peer < self.now.hosts }
-        ensures { result ≡ peer + 1 }
+    /// The route to the peer of a lane, by the active table.
+    pub(crate) fn lane_route(&self, lane: u32) -> Option<&Walk>
+        requires { lane < length self.now.state.lanes }
+        ensures { option_copied result ≡ lane_route self.now.state lane }
     {
-        let hosts = self.hosts();
-        prove!(peer < hosts);
-        peer + 1
+        self.table.route(self.lanes.at(lane).peer())
+    }
+
+    // Whether the table has a route to the peer of a lane.
+    fn leads(&self, lane: u32) -> bool
+        requires { lane < length self.now.state.lanes }
+        ensures { result ≡ is_some (lane_route self.now.state lane) }
+    {
+        self.lane_route(lane).is_some()
+    }
+
+    // The number behind a lane's. There is one, since the number of lanes is one too.
+    fn after(&self, lane: u32) -> u32
+        requires { lane < length self.now.state.lanes }
+        ensures { result ≡ lane + 1 }
+    {
+        let count = self.lanes.count();
+        prove!(lane < count);
+        lane + 1
     }
 }

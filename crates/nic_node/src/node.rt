@@ -4,12 +4,13 @@ ghost use Rattle.std.specs.Prelude.{◌≡◌, ◌<◌, ◌≤◌, nat_lt, lengt
 ghost use Rattle.std.specs.Prelude.{IfOk};
 ghost use Rattle.mapping_defs.specs.Mapping.{is_part};
 ghost use Rattle.world_defs.specs.Node.{StagedProbe, StagedPart, port_count, has_staged, given_up, node_expired};
-ghost use Rattle.world_defs.specs.Node.{unacknowledged_to, peer_at};
+ghost use Rattle.world_defs.specs.Node.{unacknowledged_to, lane_count, lane_of, lane_at};
+ghost use Rattle.gm_defs.specs.Body.{is_prio};
 ghost use Rattle.world_defs.specs.Table.{active_epoch};
 ghost use Rattle.nic_node.specs.Held.{unused_node, in_state};
 
 use host_items::Items;
-use host_peers::{Message, Peers};
+use host_lanes::{Lanes, Message};
 use host_ports::Ports;
 use net_defs::Walk;
 use route_install::Table;
@@ -25,23 +26,22 @@ pub struct NicNode {
     pub(crate) host: u16,
     pub(crate) items: Items,
     pub(crate) table: Table,
-    pub(crate) peers: Peers,
+    pub(crate) lanes: Lanes,
     pub(crate) ports: Ports,
 }
 
 impl Model for NicNode {
-    ghost use Rattle.std.specs.Prelude.{length};
     ghost use Rattle.nic_node.specs.Held.{HostNode, state_of, AreOfHost};
 
     ghost Value = { HostNode };
 
     ghost view = { λ n. record {
       host = n.host;
-      hosts = length n.peers.peers;
-      state = state_of n.items n.table n.peers n.ports;
+      hosts = n.lanes.hosts;
+      state = state_of n.items n.table n.lanes n.ports;
     } };
 
-    ghost invariant = { λ n. AreOfHost n.host n.table n.peers n.ports };
+    ghost invariant = { λ n. AreOfHost n.host n.table n.lanes n.ports };
 }
 
 impl NicNode {
@@ -50,13 +50,13 @@ impl NicNode {
         requires { host < hosts }
         ensures { IfOk result (λ n. n ≡ unused_node host hosts) }
     {
-        let peers = Peers::new(alloc, host, hosts)?;
+        let lanes = Lanes::new(alloc, host, hosts)?;
         let ports = Ports::new(alloc, host)?;
         Ok(NicNode {
             host,
             items: Items::new(),
             table: Table::new(alloc, host),
-            peers,
+            lanes,
             ports,
         })
     }
@@ -72,9 +72,9 @@ impl NicNode {
     /// How many hosts there are.
     pub fn hosts(&self) -> u16
         ensures hosts { result ≡ self.now.hosts }
-        ensures peers { result ≡ length self.now.state.peers }
+        ensures lanes { length self.now.state.lanes ≡ lane_count result }
     {
-        self.peers.count()
+        self.lanes.hosts()
     }
 
     /// Stages a probe of a walk, in the place of what was staged before. A looped one returns to this host: its walk
@@ -126,18 +126,18 @@ impl NicNode {
         self.items.has_answer()
     }
 
-    /// What a peer didn't acknowledge is sent again. False exactly where nothing is unacknowledged, and then nothing
-    /// changes.
+    /// What a peer didn't acknowledge is sent again, of both priorities. False exactly where nothing is unacknowledged,
+    /// and then nothing changes.
     pub fn expire(&mut self, peer: u16) -> bool
         requires { peer < self.old.hosts }
         ensures told { result ≡ nat_lt 0 (unacknowledged_to self.old.state peer) }
         ensures after { self.new ≡ in_state self.old (if result then node_expired self.old.state peer
             else self.old.state) }
     {
-        if self.peers.at(peer).unacked() == 0 {
+        if self.lanes.unacked(peer) == 0 {
             return false;
         }
-        self.peers.expire(peer);
+        self.lanes.expire(peer);
         true
     }
 
@@ -155,28 +155,31 @@ impl NicNode {
         self.table.active()
     }
 
-    /// The messages that were accepted for a peer, in order.
-    pub fn sent(&self, peer: u16) -> &[Message]
-        requires { peer < self.now.hosts }
-        ensures { result.now ≡ (peer_at self.now.state peer).sent }
+    /// The messages of a priority that were accepted for a peer, in order.
+    pub fn sent(&self, peer: u16, prio: u8) -> &[Message]
+        requires peer { peer < self.now.hosts }
+        requires prio { is_prio prio ≡ true }
+        ensures { result.now ≡ (lane_at self.now.state (lane_of peer prio)).sent }
     {
-        self.peers.at(peer).sent()
+        self.lanes.lane(peer, prio).sent()
     }
 
-    /// The messages that were taken from a peer, in order.
-    pub fn got(&self, peer: u16) -> &[Message]
-        requires { peer < self.now.hosts }
-        ensures { result.now ≡ (peer_at self.now.state peer).got }
+    /// The messages of a priority that were taken from a peer, in order.
+    pub fn got(&self, peer: u16, prio: u8) -> &[Message]
+        requires peer { peer < self.now.hosts }
+        requires prio { is_prio prio ≡ true }
+        ensures { result.now ≡ (lane_at self.now.state (lane_of peer prio)).got }
     {
-        self.peers.at(peer).got()
+        self.lanes.lane(peer, prio).got()
     }
 
-    /// How many fragments to a peer aren't acknowledged, sent or not.
-    pub fn unacked(&self, peer: u16) -> u32
+    /// How many fragments to a peer aren't acknowledged, sent or not, of both priorities.
+    pub fn unacked(&self, peer: u16) -> u64
         requires { peer < self.now.hosts }
-        ensures { result ≡ unacknowledged_to self.now.state peer }
+        ensures sum { result ≡ unacknowledged_to self.now.state peer }
+        ensures few { result ≤ 8589934590 }
     {
-        self.peers.at(peer).unacked()
+        self.lanes.unacked(peer)
     }
 
     /// Spends a host whose ports are all closed.
@@ -187,7 +190,7 @@ impl NicNode {
             host: _,
             items: _items,
             table: _table,
-            peers: _peers,
+            lanes: _lanes,
             ports,
         } = self;
         ports.end();

@@ -110,7 +110,7 @@ impl NicNode {
         let route = self.has_route(a.dest);
         send(
             alloc,
-            &mut self.peers,
+            &mut self.lanes,
             &mut self.ports,
             route,
             port,

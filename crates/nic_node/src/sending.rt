@@ -2,15 +2,15 @@
 
 ghost use Rattle.std.specs.Prelude.{◌≡◌, ◌<◌, ℕ, is_some, option_map, length, true, IfOk};
 ghost use Rattle.packet_defs.specs.Packet.{packet_of};
-ghost use Rattle.gm_defs.specs.Body.{is_head, frame_bytes, ack_bytes};
-ghost use Rattle.world_defs.specs.Node.{owed_to, due_to, to_send, packet_for, peer_at};
+ghost use Rattle.gm_defs.specs.Body.{is_prio, is_head, frame_bytes, ack_bytes};
+ghost use Rattle.world_defs.specs.Node.{owed_on, due_on, to_send, packet_for, lane_at};
 ghost use Rattle.nic_node.specs.Held.{in_state};
 ghost use Rattle.nic_node.specs.Sending.{after_first};
 
 use crate::next::NextSend;
 use crate::node::NicNode;
 use gm_frame::{encode_ack, encode_frame};
-use host_peers::{Ack, DueFrame};
+use host_lanes::{Ack, DueFrame};
 use myri_packet::{Kind, Packet, encode};
 use net_defs::Walk;
 use std::alloc::{AllocError, Global};
@@ -31,8 +31,8 @@ impl NicNode {
     {
         match self.next_send() {
             Some(NextSend::Item) => self.items.packet(alloc, self.host, number),
-            Some(NextSend::Answer(peer)) => self.answer_packet(alloc, peer),
-            Some(NextSend::Fragment(peer)) => self.fragment_packet(alloc, peer),
+            Some(NextSend::Answer(lane)) => self.answer_packet(alloc, lane),
+            Some(NextSend::Fragment(lane)) => self.fragment_packet(alloc, lane),
             None => Ok(None),
         }
     }
@@ -43,35 +43,35 @@ impl NicNode {
     {
         match self.next_send() {
             Some(NextSend::Item) => self.items.sent(),
-            Some(NextSend::Answer(peer)) => self.peers.answered(peer),
-            Some(NextSend::Fragment(peer)) => self.peers.sent_one(peer),
+            Some(NextSend::Answer(lane)) => self.lanes.answered(lane),
+            Some(NextSend::Fragment(lane)) => self.lanes.sent_one(lane),
             None => {}
         }
     }
 
-    // The packet of the acknowledgement that is owed to a peer, where the table has a route.
-    fn answer_packet(&self, alloc: Global, peer: u16) -> Result<Option<Packet>, AllocError>
-        requires within { peer < self.now.hosts }
-        requires owes { (peer_at self.now.state peer).owes ≡ true }
+    // The packet of the acknowledgement that a lane owes, where the table has a route to its peer.
+    fn answer_packet(&self, alloc: Global, lane: u32) -> Result<Option<Packet>, AllocError>
+        requires within { lane < length self.now.state.lanes }
+        requires owes { (lane_at self.now.state lane).owes ≡ true }
         ensures { (number : ℕ) → IfOk result (λ packet.
-            packet ≡ option_map (packet_for self.now.host number) (owed_to self.now.state peer)) }
+            packet ≡ option_map (packet_for self.now.host number) (owed_on self.now.state lane)) }
     {
-        match self.table.route(peer) {
-            Some(by) => Ok(Some(ack_packet(alloc, &self.peers.at(peer).ack(), by)?)),
+        match self.lane_route(lane) {
+            Some(by) => Ok(Some(ack_packet(alloc, &self.lanes.at(lane).ack(), by)?)),
             None => Ok(None),
         }
     }
 
-    // The packet of the fragment that is due to a peer, where one is and the table has a route.
-    fn fragment_packet(&self, alloc: Global, peer: u16) -> Result<Option<Packet>, AllocError>
-        requires { peer < self.now.hosts }
+    // The packet of the fragment that is due on a lane, where one is and the table has a route to its peer.
+    fn fragment_packet(&self, alloc: Global, lane: u32) -> Result<Option<Packet>, AllocError>
+        requires { lane < length self.now.state.lanes }
         ensures { (number : ℕ) → IfOk result (λ packet.
-            packet ≡ option_map (packet_for self.now.host number) (due_to self.now.host self.now.state peer)) }
+            packet ≡ option_map (packet_for self.now.host number) (due_on self.now.host self.now.state lane)) }
     {
-        let Some(frame) = self.peers.at(peer).due() else {
+        let Some(frame) = self.lanes.at(lane).due() else {
             return Ok(None);
         };
-        match self.table.route(peer) {
+        match self.lane_route(lane) {
             Some(by) => Ok(Some(frame_packet(alloc, &frame, by)?)),
             None => Ok(None),
         }
@@ -80,6 +80,7 @@ impl NicNode {
 
 // The packet of an acknowledgement, by a route.
 fn ack_packet(alloc: Global, ack: &Ack, by: &Walk) -> Result<Packet, AllocError>
+    requires { is_prio ack.now.prio ≡ true }
     ensures { IfOk result (λ packet. packet ≡ packet_of by.now Kind.Gm (ack_bytes ack.now)) }
 {
     let payload = encode_ack(alloc, ack)?;

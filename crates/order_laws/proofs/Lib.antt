@@ -1,4 +1,4 @@
-pub mod Peers
+pub mod Lanes
 pub mod Frames
 pub mod Nodes
 pub mod Worlds

@@ -1,5 +1,5 @@
--- Every act keeps what each host got a front part of what was sent to it, and the frames on their way the fragments of their numbers.
-use Rattle.std.proofs.Common.{◌+◌, ◌≤◌, ◌<◌, ℕ, zero, suc, List, length, replicate, get_or, IfSome, refl, subst, arith}
+-- Every act keeps what was got on each connection a front part of what was sent on it, and the frames on their way the fragments of their numbers.
+use Rattle.std.proofs.Common.{◌≡◌, ◌+◌, ◌≤◌, ◌<◌, ℕ, zero, suc, List, length, replicate, get_or, IfSome, refl, subst, arith}
 use Rattle.std.specs.List.{AllByRecursion}
 use Rattle.std.proofs.lemmas.List.{length-replicate}
 use Rattle.net_defs.specs.Network.{Network, IsFabric}
@@ -9,15 +9,16 @@ use Rattle.gm_defs.specs.declared.message.Message.{Message}
 use Rattle.world_defs.specs.declared.event.Event.{Event}
 use Rattle.world_defs.specs.declared.effect.Effect.{Effect}
 use Rattle.world_defs.specs.EightBits.{IsByteFault}
-use Rattle.world_defs.specs.Peer.{new_peer}
-use Rattle.world_defs.specs.Node.{NodeState, peer_at, packet_for, new_node}
+use Rattle.world_defs.specs.Lane.{new_lane}
+use Rattle.world_defs.specs.Node.{NodeState, lane_count, prio_place, peer_of, prio_of, lane_of, sending_lane, taking_lane, lane_at, packet_for, new_node}
+use Rattle.world_defs.proofs.Lanes.{facing, facing-taking, prio_of-lane, peer_of-below}
 use Rattle.world_defs.specs.World.{WorldState, fabric_of, host_count, new_world, node_at}
 use Rattle.world_defs.specs.Sound.{IsFront}
-use Rattle.world_defs.specs.Traffic.{sent_between, got_between}
+use Rattle.world_defs.specs.Traffic.{sent_on, got_on}
 use Rattle.act_defs.specs.Acts.{Act, acted, IsByteAct, IsReached}
 use Rattle.order_laws.specs.Says.{SaysTrue}
-use Rattle.order_laws.specs.Order.{GotIsFrontOfSent, GotIsAsLongAsTaken, FramesAreHonest}
-use Rattle.order_laws.proofs.Peers.{IsNumbered, InOrder, front-then}
+use Rattle.order_laws.specs.Order.{GotIsFrontOfSent, GotIsAsLongAsTaken, SentIsOfPriority, FramesAreHonest}
+use Rattle.order_laws.proofs.Lanes.{IsNumbered, InOrder, front-then}
 use Rattle.order_laws.proofs.Frames.{says-more}
 use Rattle.world_defs.proofs.Views.{HostChange}
 use Rattle.world_defs.proofs.Calls.{call_view}
@@ -29,9 +30,13 @@ use Rattle.table_laws.proofs.Medium.{Holds, weaker-holds, empty-holds, carries-h
 use Rattle.table_laws.proofs.Keeping.{holds-read, new-honest, honest-more, acted-holds}
 use Rattle.order_laws.proofs.Nodes.{IsHost, NodeNext, node-kept, hear-next, after_sending-next, node_expired-next, call-next, sent-built}
 
--- what each host has been sent, as the world stands
-abbrev to_host : WorldState → ℕ → ℕ → List Message
-to_host w h p = sent_between w p h
+-- what each host has sent by its lanes, as the world stands
+abbrev pub sent_by_lane : WorldState → ℕ → ℕ → List Message
+sent_by_lane w h lane = (lane_at (node_at w h) lane).sent
+
+-- what was sent to a host by its lanes
+abbrev pub to_host : WorldState → ℕ → ℕ → List Message
+to_host w = facing (sent_by_lane w)
 
 -- each host goes on so
 record Goes (w v : WorldState) : Type 0 where
@@ -43,45 +48,47 @@ host-goes w (HostChange.stages a p by d e f) = node-kept (to_host w a.mapper) (n
 host-goes w (HostChange.expires {h = h} {peer = peer} k) = node_expired-next (to_host w h) (node_at w h) peer
 host-goes w (HostChange.gives_up {h = h} k) = node-kept (to_host w h) (node_at w h) _ refl
 
-node-goes : (w : WorldState) (a : Act) → Holds (λ c. IsHonest (SaysTrue (sent_between w))) w.links → (h : ℕ) (m : NodeState) → NodeChange w a h m → NodeNext (to_host w h) (node_at w h) m
+node-goes : (w : WorldState) (a : Act) → Holds (λ c. IsHonest (SaysTrue (sent_on w))) w.links → (h : ℕ) (m : NodeState) → NodeChange w a h m → NodeNext (to_host w h) (node_at w h) m
 node-goes w a is h m (NodeChange.itself k) = host-goes w k
-node-goes w a is h m (NodeChange.hears {c = c} packet j d e) = hear-next (sent_between w) j (host_count w) (node_at w j) packet.wire (holds-read (SaysTrue (sent_between w)) w.links c packet is d)
+node-goes w a is h m (NodeChange.hears {c = c} packet j d e) = hear-next (sent_by_lane w) j (host_count w) (node_at w j) packet.wire (holds-read (SaysTrue (sent_on w)) w.links c packet is d)
 node-goes w a is h m (NodeChange.sends c out d e) = after_sending-next (to_host w h) (node_at w h) out
 node-goes w a is h m (NodeChange.calls k) = call-next (to_host w h) (call_view k)
 node-goes w a is h m NodeChange.adopts = node-kept (to_host w h) (node_at w h) _ refl
 
 -- every act
-acted-goes : (w : WorldState) (a : Act) → Holds (λ c. IsHonest (SaysTrue (sent_between w))) w.links → Goes w (acted w a)
+acted-goes : (w : WorldState) (a : Act) → Holds (λ c. IsHonest (SaysTrue (sent_on w))) w.links → Goes w (acted w a)
 acted-goes w a is = record { nodes = each_node (λ h m. NodeNext (to_host w h) (node_at w h) m) (nodes_view w a) (λ h. node-kept (to_host w h) (node_at w h) (node_at w h) refl) (node-goes w a is) }
 
 -- the invariant
 pub record IsOrdered (w : WorldState) : Type 0 where
-  pub links : Holds (λ c. IsHonest (SaysTrue (sent_between w))) w.links
+  pub links : Holds (λ c. IsHonest (SaysTrue (sent_on w))) w.links
   pub plan : AllByRecursion (λ f. IsByteFault f.1) w.plan
   pub hosts : (h : ℕ) → IsHost h (node_at w h)
-  pub order : (a b : ℕ) → InOrder (sent_between w a b) (peer_at (node_at w b) a)
+  pub order : (h lane : ℕ) → InOrder (to_host w h lane) (lane_at (node_at w h) lane)
 
 host-next : (h : ℕ) (S : ℕ → List Message) (n m : NodeState) → IsHost h n → NodeNext S n m → IsHost h m
 host-next h S n m is k = record {
-  fits = λ p low. is.fits p (subst (λ l. p < l) k.count low);
-  peers = λ p. (k.peers p).numbers (is.peers p);
+  fits = λ lane low. is.fits lane (subst (λ l. lane < l) k.count low);
+  lanes = λ lane. (k.lanes lane).numbers (is.lanes lane);
 }
 
 pub acted-ordered : (w : WorldState) (a : Act) → IsByteAct a → IsOrdered w → IsOrdered (acted w a)
 acted-ordered w a low is =
     let v : WorldState = acted w a in
-    let F : ℕ → Held → Type 0 = λ c. IsHonest (SaysTrue (sent_between w)) in
+    let F : ℕ → Held → Type 0 = λ c. IsHonest (SaysTrue (sent_on w)) in
     let g : Goes w v = acted-goes w a is.links in
-    let grows : (a b : ℕ) → IsFront (sent_between w a b) (sent_between v a b) = λ a b. ((g.nodes a).peers b).grows in
-    let links : Holds F v.links = acted-holds F w (carries-honest (fabric_of w) (SaysTrue (sent_between w))) is.links is.plan a low
-    (λ h c out i. new-honest (SaysTrue (sent_between w)) (packet_for h (w.injected + 1) out) (sent-built (sent_between w) h (w.injected + 1) (node_at w h) out (is.hosts h) (λ p. refl) i.sends)) in
+    let grows : (h lane : ℕ) → IsFront (sent_by_lane w h lane) (sent_by_lane v h lane) = λ h lane. ((g.nodes h).lanes lane).grows in
+    let links : Holds F v.links = acted-holds F w (carries-honest (fabric_of w) (SaysTrue (sent_on w))) is.links is.plan a low
+    (λ h c out i. new-honest (SaysTrue (sent_on w)) (packet_for h (w.injected + 1) out) (sent-built (sent_by_lane w) h (w.injected + 1) (node_at w h) out (is.hosts h) (λ lane. refl) i.sends)) in
     record {
-      links = weaker-holds F (λ c. IsHonest (SaysTrue (sent_between v))) v.links (λ c held. honest-more (SaysTrue (sent_between w)) (SaysTrue (sent_between v)) held (says-more (sent_between w) (sent_between v) grows)) links;
+      links = weaker-holds F (λ c. IsHonest (SaysTrue (sent_on v))) v.links (λ c held. honest-more (SaysTrue (sent_on w)) (SaysTrue (sent_on v)) held (says-more (sent_on w) (sent_on v) (λ k. grows k.src (sending_lane k)))) links;
       plan = acted-plan w a low is.plan;
       hosts = λ h. host-next h (to_host w h) (node_at w h) (node_at v h) (is.hosts h) (g.nodes h);
-      order = λ a b.
-          let o = ((g.nodes b).peers a).order ((is.hosts a).peers b).short (is.order a b) in
-          record { front = front-then (got_between v a b) (sent_between w a b) (sent_between v a b) o.front (grows a b); count = o.count };
+      order = λ h lane.
+          let peer : ℕ = peer_of lane in
+          let back : ℕ = lane_of h (prio_of lane) in
+          let o = ((g.nodes h).lanes lane).order ((is.hosts peer).lanes back).short (is.order h lane) in
+          record { front = front-then (lane_at (node_at v h) lane).got (to_host w h lane) (to_host v h lane) o.front (grows peer back); count = o.count };
     }
 
 -- the new world
@@ -90,40 +97,51 @@ at-replicate P zero j x d p q = q j
 at-replicate P (suc k) zero x d p q = p zero (omega arith)
 at-replicate P (suc k) (suc j) x d p q = at-replicate (λ i. P (suc i)) k j x d (λ i l. p (suc i) (omega (arith, l))) (λ i. q (suc i))
 
-new-numbered : IsNumbered new_peer
-new-numbered = record { numbered = refl; few = omega arith; short = tt }
+new-numbered : (prio : ℕ) → IsNumbered prio new_lane
+new-numbered prio = record { numbered = refl; few = omega arith; short = tt; of_prio = tt }
 
 new-host : (h k : ℕ) → k ≤ 128 → (0 < k → h < k) → IsHost h (new_node k)
 new-host h k few low = record {
-  fits = λ p l. let m : p < k = subst (λ x. p < x) (length-replicate k new_peer) l in let n = low (omega (arith, m)) in (omega (arith, n, few), omega (arith, m, few));
-  peers = λ p. at-replicate (λ i. IsNumbered) k p new_peer new_peer (λ i l. new-numbered) (λ i. new-numbered);
+  fits = λ lane l.
+      let m : lane < lane_count k = subst (λ x. lane < x) (length-replicate (lane_count k) new_lane) l in
+      let peer = peer_of-below k lane m in
+      let n = low (omega (arith, peer)) in
+      (omega (arith, n, few), omega (arith, peer, few));
+  lanes = λ lane. at-replicate (λ i l. IsNumbered (prio_of lane) l) (lane_count k) lane new_lane new_lane (λ i l. new-numbered (prio_of lane)) (λ i. new-numbered (prio_of lane));
 }
 
-new-order : (from : List Message) → InOrder from new_peer
+new-order : (from : List Message) → InOrder from new_lane
 new-order from = record { front = record { rest = from; both = refl }; count = refl }
 
 pub new-ordered : (n : Network) → IsFabric n → IsOrdered (new_world n)
 new-ordered n f =
     let k : ℕ = length n.hosts in
     record {
-      links = empty-holds (λ c. IsHonest (SaysTrue (sent_between (new_world n)))) n;
+      links = empty-holds (λ c. IsHonest (SaysTrue (sent_on (new_world n)))) n;
       plan = tt;
       hosts = λ h. at-replicate IsHost k h (new_node k) (new_node 0) (λ i l. new-host i k f.few_hosts (λ p. l)) (λ i. new-host i 0 (omega arith) (λ p. absurd (omega (arith, p))));
-      order = λ a b. at-replicate (λ i x. InOrder (sent_between (new_world n) a b) (peer_at x a)) k b (new_node k) (new_node 0)
-          (λ i l. at-replicate (λ j. InOrder (sent_between (new_world n) a b)) k a new_peer new_peer (λ j l. new-order (sent_between (new_world n) a b)) (λ j. new-order (sent_between (new_world n) a b)))
-          (λ i. new-order (sent_between (new_world n) a b));
+      order = λ h lane.
+          let sent : List Message = to_host (new_world n) h lane in
+          at-replicate (λ i x. InOrder sent (lane_at x lane)) k h (new_node k) (new_node 0)
+          (λ i l. at-replicate (λ j. InOrder sent) (lane_count k) lane new_lane new_lane (λ j l. new-order sent) (λ j. new-order sent))
+          (λ i. new-order sent);
     }
 
 pub reached-ordered : (n : Network) (w : WorldState) → IsReached n w → IsOrdered w
 reached-ordered n w is = reached-has IsOrdered n (new-ordered n is.fabric) (λ w a r may. acted-ordered w a (may-byte w a may)) w is
 
 pub got-front : GotIsFrontOfSent
-got-front n w is a b = ((reached-ordered n w is).order a b).front
+got-front n w is c = subst (IsFront (got_on w c)) (facing-taking (sent_by_lane w) c) ((reached-ordered n w is).order c.dst (taking_lane c)).front
 
 pub got-count : GotIsAsLongAsTaken
-got-count n w is a b = ((reached-ordered n w is).order a b).count
+got-count n w is c = ((reached-ordered n w is).order c.dst (taking_lane c)).count
+
+pub sent-of_priority : SentIsOfPriority
+sent-of_priority n w is c =
+    subst (λ p. AllByRecursion (λ m. prio_place m.prio ≡ p) (sent_on w c)) (prio_of-lane c.dst c.prio)
+    (((reached-ordered n w is).hosts c.src).lanes (sending_lane c)).of_prio
 
 pub frames-honest : FramesAreHonest
 frames-honest n w c held body h is e d f =
-    let good : IsHonest (SaysTrue (sent_between w)) held = subst (λ o. IfSome o (IsHonest (SaysTrue (sent_between w)))) e ((reached-ordered n w is).links.in_channels c) in
-    honest-read (SaysTrue (sent_between w)) held Gm body good d h f
+    let good : IsHonest (SaysTrue (sent_on w)) held = subst (λ o. IfSome o (IsHonest (SaysTrue (sent_on w)))) e ((reached-ordered n w is).links.in_channels c) in
+    honest-read (SaysTrue (sent_on w)) held Gm body good d h f

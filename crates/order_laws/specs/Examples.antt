@@ -4,7 +4,8 @@ use Rattle.net_defs.specs.Examples.{two_hosts}
 use Rattle.gm_defs.specs.declared.message.Message.{Message}
 use Rattle.world_defs.specs.declared.event.Event.TheVariants.{Inject, Advance, Begin, Provide, Send}
 use Rattle.world_defs.specs.World.{WorldState, new_world}
-use Rattle.world_defs.specs.Traffic.{sent_between, got_between}
+use Rattle.gm_defs.specs.Connection.{connection}
+use Rattle.world_defs.specs.Traffic.{sent_on, got_on}
 use Rattle.world_defs.specs.Examples.{setup_routes}
 use Rattle.act_defs.specs.Acts.{Act, Happens, Adopts, acted_all, IsReached}
 
@@ -29,4 +30,5 @@ ten = record { sport = 0; dport = 1; prio = 0; body = 10 ∷ [] }
 
 -- host 1 has it, and it is all that was sent there
 abbrev pub OneMessageCame : Type 0
-OneMessageCame = (got_between message_world 0 1 ≡ ten ∷ []) × (sent_between message_world 0 1 ≡ ten ∷ [])
+OneMessageCame = (got_on message_world (connection 0 1 0) ≡ ten ∷ [])
+    × (sent_on message_world (connection 0 1 0) ≡ ten ∷ [])

@@ -1,33 +1,41 @@
--- What holds of the messages between two hosts, and of the frames on their way, after every list of acts.
+-- What holds of the messages of each connection, and of the frames on their way, after every list of acts.
 use Rattle.std.specs.Prelude.{◌≡◌, ℕ, List, length, Some, Ok}
+use Rattle.std.specs.List.{AllByRecursion}
 use Rattle.net_defs.specs.Network.{Network}
 use Rattle.packet_defs.specs.declared.kind.Kind.TheVariants.{Gm}
 use Rattle.packet_defs.specs.Host.{decode as decode_packet}
 use Rattle.link_defs.specs.Links.{Held, packet_in}
 use Rattle.gm_defs.specs.declared.frame.FrameHead.{FrameHead}
+use Rattle.gm_defs.specs.declared.frame.ConnectionKey.{ConnectionKey}
 use Rattle.gm_defs.specs.declared.frame.GmBody.TheVariants.{Frame}
 use Rattle.gm_defs.specs.Body.{decode, part_in}
 use Rattle.gm_defs.specs.Fragment.{IsHonestFrame}
+use Rattle.world_defs.specs.Node.{prio_place}
 use Rattle.world_defs.specs.World.{WorldState}
 use Rattle.world_defs.specs.Sound.{IsFront}
-use Rattle.world_defs.specs.Traffic.{sent_between, got_between, taken_between}
+use Rattle.world_defs.specs.Traffic.{sent_on, got_on, taken_on}
 use Rattle.act_defs.specs.Acts.{IsReached}
 
--- what a host got from another is a front part of what the other sent there
+-- what was got on a connection is a front part of what was sent on it
 abbrev pub GotIsFrontOfSent : Type 0
-GotIsFrontOfSent = (n : Network) (w : WorldState) → IsReached n w → (a b : ℕ)
-    → IsFront (got_between w a b) (sent_between w a b)
+GotIsFrontOfSent = (n : Network) (w : WorldState) → IsReached n w → (c : ConnectionKey)
+    → IsFront (got_on w c) (sent_on w c)
 
 -- and as many messages as fragments were taken
 abbrev pub GotIsAsLongAsTaken : Type 0
-GotIsAsLongAsTaken = (n : Network) (w : WorldState) → IsReached n w → (a b : ℕ)
-    → taken_between w a b ≡ length (got_between w a b)
+GotIsAsLongAsTaken = (n : Network) (w : WorldState) → IsReached n w → (c : ConnectionKey)
+    → taken_on w c ≡ length (got_on w c)
 
--- whatever a host would read as a frame, of a packet in a channel, is the fragment of its number, of what its source
--- has sent to its destination
+-- each message that was sent on a connection is of its priority
+abbrev pub SentIsOfPriority : Type 0
+SentIsOfPriority =
+    (n : Network) (w : WorldState) → IsReached n w → (c : ConnectionKey)
+    → AllByRecursion (λ m. prio_place m.prio ≡ prio_place c.prio) (sent_on w c)
+
+-- whatever a host would read as a frame, of a packet in a channel, is the fragment of its number, of what was sent on
+-- its connection
 abbrev pub FramesAreHonest : Type 0
 FramesAreHonest =
     (n : Network) (w : WorldState) (c : ℕ) (held : Held) (body : List ℕ) (h : FrameHead) → IsReached n w
     → packet_in w.links c ≡ Some held
-    → decode_packet held.wire ≡ Ok (Gm, body) → decode body ≡ Ok (Frame h)
-    → IsHonestFrame h.src h.dst (sent_between w h.src h.dst) h (part_in body)
+    → decode_packet held.wire ≡ Ok (Gm, body) → decode body ≡ Ok (Frame h) → IsHonestFrame (sent_on w) h (part_in body)

@@ -1,5 +1,5 @@
-//! What each host got from another is a front part of what the other sent there, after every list of acts that may
-//! happen.
+//! What was got on each connection is a front part of what was sent on it, after every list of acts that may happen:
+//! from each host to each other, for each priority by itself.
 //!
 //! It sends nothing, and says nothing of how much is got: that is `window_laws`. Read `specs/Order.antt` first.
 //!
@@ -13,5 +13,5 @@
 mod order;
 mod worked;
 
-pub use order::{frames_on_their_way, messages_in_order};
+pub use order::{frames_on_their_way, messages_in_order, messages_of_a_priority};
 pub use worked::one_message;

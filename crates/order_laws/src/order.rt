@@ -1,11 +1,17 @@
-//! Messages between two hosts: `specs/Order.antt` has the statements.
+//! The messages of a connection: `specs/Order.antt` has the statements.
 
-ghost use Rattle.order_laws.specs.Order.{GotIsFrontOfSent, GotIsAsLongAsTaken, FramesAreHonest};
+ghost use Rattle.order_laws.specs.Order.{GotIsFrontOfSent, GotIsAsLongAsTaken, SentIsOfPriority, FramesAreHonest};
 
-/// No message comes twice or out of order, and none is left out before one that came.
+/// On each connection, so between two hosts for each priority, no message comes twice or out of order, and none is
+/// left out before one that came.
 pub fn messages_in_order()
     ensures front { GotIsFrontOfSent }
     ensures count { GotIsAsLongAsTaken }
+{}
+
+/// A message is sent on the connection of its priority.
+pub fn messages_of_a_priority()
+    ensures sent { SentIsOfPriority }
 {}
 
 /// A frame on its way is the fragment of its number, or no host reads it.

@@ -19,9 +19,9 @@ use Rattle.world_defs.specs.declared.applied.Applied.{Applied}
 use Rattle.world_defs.specs.declared.applied.Applied.TheVariants.{Part as OnePart, Active, Old}
 use Rattle.world_defs.specs.declared.heard.Heard.{Heard}
 use Rattle.world_defs.specs.Table.{TableState, applied}
-use Rattle.world_defs.specs.Peer.{Ticket, peer_acknowledged, tickets_finished, peer_after}
-use Rattle.world_defs.specs.Node.{NodeState, Outgoing, Probe, TablePart, Reply, PartAnswer, FrameAnswer, Fragment, peer_at, with_peer, port_at, with_port, after_sending}
-use Rattle.world_defs.specs.Hearing.{is_host, heard_if, is_part_for, part_heard, hear_mapping, hear_mapping_body, message_of, delivered_after, frame_heard, frame_took, all_finished, ack_heard, hear_gm, hear_gm_body, hear_body, hear_decoded, hear}
+use Rattle.world_defs.specs.Lane.{Ticket, lane_acknowledged, tickets_finished, lane_after}
+use Rattle.world_defs.specs.Node.{NodeState, Outgoing, Probe, TablePart, Reply, PartAnswer, FrameAnswer, Fragment, lane_at, with_lane, port_at, with_port, after_sending}
+use Rattle.world_defs.specs.Hearing.{is_host, heard_if, is_part_for, part_heard, hear_mapping, hear_mapping_body, message_of, delivered_after, frame_heard, frame_took, all_finished, ack_heard, hear_gm, hear_gm_body, hear_body, hear_decoded, hear, frame_lane, ack_lane}
 use Rattle.world_defs.specs.Client.{ClientState}
 use Rattle.world_defs.specs.Sound.{AreOwned}
 use Rattle.world_laws.proofs.Lists.{at-set}
@@ -94,7 +94,7 @@ delivered_after-owned n h part Whole =
 
 frame_heard-owned : (n : NodeState) (h : FrameHead) (part : List ℕ) (t : Took) → NodeOwned n (frame_heard n h part t).1
 frame_heard-owned n h part t =
-    let m : NodeState = with_peer n h.src (peer_after (peer_at n h.src) t (message_of h part)) in
+    let m : NodeState = with_lane n (frame_lane h) (lane_after (lane_at n (frame_lane h)) t (message_of h part)) in
     node-after n m (frame_heard n h part t).1 (node-same n m refl) (delivered_after-owned m h part t)
 
 all_finished-owned : (n : NodeState) (ts : List Ticket) → NodeOwned n (all_finished n ts)
@@ -107,8 +107,8 @@ hear_gm-owned : (host hosts : ℕ) (n : NodeState) (body : List ℕ) (b : GmBody
 hear_gm-owned host hosts n body (Frame h) =
     heard_if-owned (nat_eq h.dst host && is_host hosts h.src) n _ (frame_heard-owned n h (part_in body) (frame_took n h))
 hear_gm-owned host hosts n body (Acknowledges a) =
-    let m : NodeState = with_peer n a.src (peer_acknowledged (peer_at n a.src) a.next) in
-    heard_if-owned (nat_eq a.dst host && is_host hosts a.src) n _ (node-after n m (ack_heard n a) (node-same n m refl) (all_finished-owned m (tickets_finished (peer_at n a.src) a.next)))
+    let m : NodeState = with_lane n (ack_lane a) (lane_acknowledged (lane_at n (ack_lane a)) a.next) in
+    heard_if-owned (nat_eq a.dst host && is_host hosts a.src) n _ (node-after n m (ack_heard n a) (node-same n m refl) (all_finished-owned m (tickets_finished (lane_at n (ack_lane a)) a.next)))
 
 hear_gm_body-owned : (host hosts : ℕ) (n : NodeState) (body : List ℕ) (r : Result GmBody NoBody) → NodeOwned n (hear_gm_body host hosts n body r).1
 hear_gm_body-owned host hosts n body (Err e) = node-same n n refl
@@ -133,5 +133,5 @@ after_sending-owned n (Probe walk looped) = node-same n _ refl
 after_sending-owned n (TablePart part by) = node-same n _ refl
 after_sending-owned n (Reply r) = node-same n _ refl
 after_sending-owned n (PartAnswer a) = node-same n _ refl
-after_sending-owned n (FrameAnswer peer next by) = node-same n _ refl
-after_sending-owned n (Fragment peer head part by) = node-same n _ refl
+after_sending-owned n (FrameAnswer lane next by) = node-same n _ refl
+after_sending-owned n (Fragment lane head part by) = node-same n _ refl

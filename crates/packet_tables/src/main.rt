@@ -5,7 +5,7 @@
 //! the file `stdout` beside `src/`; that these are the counts is shown by the run, and stands in no clause.
 //!
 //! ```text
-//!   83 | 0008 | 01 01 0000 0001 00 01 00 00000000 00000003 00000000 0003 | 414243 | 83     the frame: 30 bytes
+//!   83 | 0008 | 01 02 0000 0001 00 01 00 00000000 00000003 00000000 0003 | 414243 | 92     the frame: 30 bytes
 //!  turn  type   its body: a head of 23 bytes, from host 0 to host 1, and a message    CRC
 //! ```
 //!

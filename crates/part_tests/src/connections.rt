@@ -14,7 +14,7 @@ const ONE_BYTE: Desc = Desc {
 
 #[test]
 fn the_last_number_is_used_once(rt: HostRuntime) -> Result<(), Fail> {
-    let mut sender = Sender::starting(rt.alloc(), 0, 1, 4_294_967_294);
+    let mut sender = Sender::starting(rt.alloc(), 0, 1, 0, 4_294_967_294);
     sender.reserve(1)?;
     assert_eq!(rt; sender.offer(ONE_BYTE), 4_294_967_294);
     assert_eq!(rt; sender.reserve(1), Err(OfferRefusal::Spent));
@@ -30,7 +30,7 @@ fn the_last_number_is_used_once(rt: HostRuntime) -> Result<(), Fail> {
 fn emitted(pair: &mut Pair, count: u8) -> Result<u8, AllocError> {
     let mut emitted = 0u8;
     for _ in 0..count {
-        pair.step(PairEvent::Offer { total: 1, prio: 0 })?;
+        pair.step(PairEvent::Offer { total: 1 })?;
     }
     for _ in 0..count {
         if pair.step(PairEvent::Emit)? {
@@ -48,7 +48,7 @@ fn taken(pair: &mut Pair, packet: u32) -> Result<usize, AllocError> {
 
 #[test]
 fn frames_are_taken_in_order_and_once(rt: HostRuntime) -> Result<(), Fail> {
-    let mut pair = Pair::new(rt.alloc(), 0, 1);
+    let mut pair = Pair::new(rt.alloc(), 0, 1, 0);
     assert_eq!(rt; emitted(&mut pair, 9)?, 8);
     let counts = (
         taken(&mut pair, 1)?,

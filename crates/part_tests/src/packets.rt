@@ -2,7 +2,7 @@
 
 use crc_eight::crc;
 use crossbar::{Turned, turn};
-use gm_frame::{Ack, FrameHead, encode_ack, encode_frame};
+use gm_frame::{Ack, FrameHead, decode, encode_ack, encode_frame};
 use myri_packet::{Body, HostDrop, Kind, Packet, WireFault, decode_at_host, encode};
 use probe::{BodyFault, ProbeBody};
 use std::alloc::Global;
@@ -71,7 +71,7 @@ fn the_first_frame_of_a_connection_has_these_bytes(rt: HostRuntime) -> Result<()
     let body = encode_frame(rt.alloc(), &ABC, b"ABC")?;
     let packet = encode(rt.alloc(), &[3], Kind::Gm, &body)?;
     let bytes =
-        b"\x83\x00\x08\x01\x01\x00\x00\x00\x01\x00\x01\x00\x00\x00\x00\x00\x00\x00\x00\x03\x00\x00\x00\x00\x00\x03ABC\x83";
+        b"\x83\x00\x08\x01\x02\x00\x00\x00\x01\x00\x01\x00\x00\x00\x00\x00\x00\x00\x00\x03\x00\x00\x00\x00\x00\x03ABC\x92";
     assert_eq!(rt; packet.wire(), bytes.as_slice());
     Ok(())
 }
@@ -81,12 +81,20 @@ fn an_acknowledgement_has_these_bytes(rt: HostRuntime) -> Result<(), Fail> {
     let ack = Ack {
         src: 1,
         dst: 0,
+        prio: 1,
         next: 258,
     };
     let body = encode_ack(rt.alloc(), &ack)?;
     assert_eq!(rt;
         body.as_slice(),
-        b"\x02\x01\x00\x01\x00\x00\x00\x00\x01\x02".as_slice()
+        b"\x02\x02\x00\x01\x00\x00\x01\x00\x00\x01\x02".as_slice()
     );
     Ok(())
+}
+
+#[test]
+fn another_version_or_priority_is_malformed(rt: HostRuntime) {
+    let version_1 = b"\x02\x01\x00\x01\x00\x00\x01\x00\x00\x01\x02";
+    let priority_2 = b"\x02\x02\x00\x01\x00\x00\x02\x00\x00\x01\x02";
+    assert!(rt; decode(version_1).is_err() && decode(priority_2).is_err());
 }

@@ -17,9 +17,9 @@ use Rattle.world_defs.specs.declared.applied.Applied.{Applied}
 use Rattle.world_defs.specs.declared.applied.Applied.TheVariants.{Active, Old}
 use Rattle.world_defs.specs.declared.heard.Heard.{Heard}
 use Rattle.world_defs.specs.Table.{TableState, of_epoch, collected_with, joined_or, joined_below, is_epoch, active_epoch, applied}
-use Rattle.world_defs.specs.Peer.{peer_acknowledged, peer_after, tickets_finished}
-use Rattle.world_defs.specs.Node.{NodeState, peer_at, with_peer}
-use Rattle.world_defs.specs.Hearing.{is_host, heard_if, is_part_for, part_heard, hear_mapping, hear_mapping_body, message_of, frame_heard, frame_took, ack_heard, hear_gm, hear_gm_body, hear_body, hear_decoded, hear}
+use Rattle.world_defs.specs.Lane.{lane_acknowledged, lane_after, tickets_finished}
+use Rattle.world_defs.specs.Node.{NodeState, lane_at, with_lane}
+use Rattle.world_defs.specs.Hearing.{frame_lane, ack_lane, is_host, heard_if, is_part_for, part_heard, hear_mapping, hear_mapping_body, message_of, frame_heard, frame_took, ack_heard, hear_gm, hear_gm_body, hear_body, hear_decoded, hear}
 use Rattle.world_defs.specs.World.{WorldState, host_count, node_at}
 use Rattle.act_defs.specs.Acts.{Act, acted}
 use Rattle.world_defs.proofs.Views.{HostChange}
@@ -80,11 +80,11 @@ hear_gm-stays host hosts n body (Frame h) =
     let part : List ℕ = part_in body in
     let took : Took = frame_took n h in
     let r : Heard × NodeState = frame_heard n h part took in
-    let m : NodeState = with_peer n h.src (peer_after (peer_at n h.src) took (message_of h part)) in
+    let m : NodeState = with_lane n (frame_lane h) (lane_after (lane_at n (frame_lane h)) took (message_of h part)) in
     heard_if-stays (nat_eq h.dst host && is_host hosts h.src) n r (same-stays n r.1 (delivered_after-table m h part took))
 hear_gm-stays host hosts n body (Acknowledges a) =
-    let m : NodeState = with_peer n a.src (peer_acknowledged (peer_at n a.src) a.next) in
-    heard_if-stays (nat_eq a.dst host && is_host hosts a.src) n (Heard.Ack, ack_heard n a) (same-stays n (ack_heard n a) (all_finished-table m (tickets_finished (peer_at n a.src) a.next)))
+    let m : NodeState = with_lane n (ack_lane a) (lane_acknowledged (lane_at n (ack_lane a)) a.next) in
+    heard_if-stays (nat_eq a.dst host && is_host hosts a.src) n (Heard.Ack, ack_heard n a) (same-stays n (ack_heard n a) (all_finished-table m (tickets_finished (lane_at n (ack_lane a)) a.next)))
 
 hear_gm_body-stays : (host hosts : ℕ) (n : NodeState) (body : List ℕ) (r : Result GmBody NoBody) → Stays n (hear_gm_body host hosts n body r).1
 hear_gm_body-stays host hosts n body (Err e) = λ a. a

@@ -11,9 +11,9 @@ use Rattle.gm_defs.specs.Connection.{SenderState, is_taken, acknowledged}
 use Rattle.gm_defs.specs.Token.{PortState, Provided, Sending, fits}
 use Rattle.gm_defs.specs.Port.{without_first, send_of, ended_by, finished, taken_by, delivered}
 use Rattle.gm_defs.proofs.Choices.{both}
-use Rattle.world_defs.specs.Peer.{PeerState, Ticket, new_peer, peer_acknowledged, tickets_finished, peer_after}
-use Rattle.world_defs.specs.Node.{NodeState, peer_at, with_peer, port_at, with_port, given_up}
-use Rattle.world_defs.specs.Hearing.{port_takes, message_of, delivered_after, frame_heard, frame_took, all_finished, hear}
+use Rattle.world_defs.specs.Lane.{LaneState, Ticket, new_lane, lane_acknowledged, tickets_finished, lane_after}
+use Rattle.world_defs.specs.Node.{NodeState, lane_at, with_lane, port_at, with_port, given_up}
+use Rattle.world_defs.specs.Hearing.{port_takes, message_of, frame_lane, ack_lane, delivered_after, frame_heard, frame_took, all_finished, hear}
 use Rattle.world_laws.proofs.Lists.{at-set}
 use Rattle.window_laws.proofs.Heard.{IsHeard, quietly, of_frame, of_ack, hear-is}
 
@@ -23,7 +23,7 @@ pub data SenderCalm (s t : SenderState) : Type 0 where
   risen : s.base < t.base → SenderCalm s t
 
 -- as much is taken, and what was owed still is; or more is, and an acknowledgement is owed
-pub data TakerCalm (p q : PeerState) : Type 0 where
+pub data TakerCalm (p q : LaneState) : Type 0 where
   keeps : q.taken ≡ p.taken → (p.owes ≡ true → q.owes ≡ true) → TakerCalm p q
   takes : p.taken < q.taken → q.owes ≡ true → TakerCalm p q
 
@@ -33,17 +33,17 @@ PortCalm o r = (len prio : ℕ) → port_takes o len prio ≡ false → port_tak
 
 -- a host's connections and ports
 pub record NodeCalm (n m : NodeState) : Type 0 where
-  pub senders : (p : ℕ) → SenderCalm (peer_at n p).sender (peer_at m p).sender
-  pub takers : (p : ℕ) → TakerCalm (peer_at n p) (peer_at m p)
+  pub senders : (p : ℕ) → SenderCalm (lane_at n p).sender (lane_at m p).sender
+  pub takers : (p : ℕ) → TakerCalm (lane_at n p) (lane_at m p)
   pub ports : (port : ℕ) → PortCalm (port_at n port) (port_at m port)
 
-taker-same : (p : PeerState) → TakerCalm p p
+taker-same : (p : LaneState) → TakerCalm p p
 taker-same p = TakerCalm.keeps refl (λ e. e)
 
-pub node-quiet : (n m : NodeState) → m.peers ≡ n.peers → m.ports ≡ n.ports → NodeCalm n m
+pub node-quiet : (n m : NodeState) → m.lanes ≡ n.lanes → m.ports ≡ n.ports → NodeCalm n m
 node-quiet n m e f = record {
-  senders = λ p. SenderCalm.same (ap (λ l. (get_or l p new_peer).sender) e);
-  takers = λ p. subst (λ l. TakerCalm (peer_at n p) (get_or l p new_peer)) (sym e) (taker-same (peer_at n p));
+  senders = λ p. SenderCalm.same (ap (λ l. (get_or l p new_lane).sender) e);
+  takers = λ p. subst (λ l. TakerCalm (lane_at n p) (get_or l p new_lane)) (sym e) (taker-same (lane_at n p));
   ports = λ port. subst (λ l. PortCalm (port_at n port) (get_or l port None)) (sym f) (λ len prio h. h);
 }
 
@@ -54,7 +54,7 @@ sender-both s t u (SenderCalm.same e) (SenderCalm.risen r) = SenderCalm.risen (s
 sender-both s t u (SenderCalm.risen r) (SenderCalm.same f) = SenderCalm.risen (subst (λ x. s.base < x.base) (sym f) r)
 sender-both s t u (SenderCalm.risen r) (SenderCalm.risen q) = SenderCalm.risen (omega (arith, r, q))
 
-taker-both : (p q r : PeerState) → TakerCalm p q → TakerCalm q r → TakerCalm p r
+taker-both : (p q r : LaneState) → TakerCalm p q → TakerCalm q r → TakerCalm p r
 taker-both p q r (TakerCalm.keeps e f) (TakerCalm.keeps g h) = TakerCalm.keeps (g ∙ e) (λ o. h (f o))
 taker-both p q r (TakerCalm.keeps e f) (TakerCalm.takes l o) = TakerCalm.takes (omega (arith, e, l)) o
 taker-both p q r (TakerCalm.takes l o) (TakerCalm.keeps g h) = TakerCalm.takes (omega (arith, l, g)) (h o)
@@ -62,23 +62,23 @@ taker-both p q r (TakerCalm.takes l o) (TakerCalm.takes m s) = TakerCalm.takes (
 
 pub node-both : (n m o : NodeState) → NodeCalm n m → NodeCalm m o → NodeCalm n o
 node-both n m o k l = record {
-  senders = λ p. sender-both (peer_at n p).sender (peer_at m p).sender (peer_at o p).sender (k.senders p) (l.senders p);
-  takers = λ p. taker-both (peer_at n p) (peer_at m p) (peer_at o p) (k.takers p) (l.takers p);
+  senders = λ p. sender-both (lane_at n p).sender (lane_at m p).sender (lane_at o p).sender (k.senders p) (l.senders p);
+  takers = λ p. taker-both (lane_at n p) (lane_at m p) (lane_at o p) (k.takers p) (l.takers p);
   ports = λ port len prio h. l.ports port len prio (k.ports port len prio h);
 }
 
--- the connections with one peer, and one port
-peer-calm : (n : NodeState) (k : ℕ) (q : PeerState) → SenderCalm (peer_at n k).sender q.sender → TakerCalm (peer_at n k) q → NodeCalm n (with_peer n k q)
-peer-calm n k q s t = record {
-  senders = λ p. at-set (λ x y. SenderCalm x.sender y.sender) (λ x. SenderCalm.same refl) n.peers k p q new_peer s;
-  takers = λ p. at-set TakerCalm taker-same n.peers k p q new_peer t;
+-- one lane, and one port
+lane-calm : (n : NodeState) (k : ℕ) (q : LaneState) → SenderCalm (lane_at n k).sender q.sender → TakerCalm (lane_at n k) q → NodeCalm n (with_lane n k q)
+lane-calm n k q s t = record {
+  senders = λ p. at-set (λ x y. SenderCalm x.sender y.sender) (λ x. SenderCalm.same refl) n.lanes k p q new_lane s;
+  takers = λ p. at-set TakerCalm taker-same n.lanes k p q new_lane t;
   ports = λ port len prio h. h;
 }
 
 port-calm : (n : NodeState) (k : ℕ) (o : Option PortState) → PortCalm (port_at n k) o → NodeCalm n (with_port n k o)
 port-calm n k o c = record {
   senders = λ p. SenderCalm.same refl;
-  takers = λ p. taker-same (peer_at n p);
+  takers = λ p. taker-same (lane_at n p);
   ports = λ port. at-set PortCalm (λ x len prio h. h) n.ports k port o None c;
 }
 
@@ -110,7 +110,7 @@ finished-calm token None len prio e = e
 finished-calm token (Some p) len prio e = ended-calm p token (send_of p token) len prio e
 
 -- a frame
-took-calm : (p : PeerState) (t : Took) (m : Message) → TakerCalm p (peer_after p t m)
+took-calm : (p : LaneState) (t : Took) (m : Message) → TakerCalm p (lane_after p t m)
 took-calm p NotNext m = TakerCalm.keeps refl (λ o. refl)
 took-calm p NoToken m = TakerCalm.keeps refl (λ o. refl)
 took-calm p Whole m = TakerCalm.takes (omega arith) refl
@@ -122,8 +122,8 @@ delivered_after-calm n h part Whole = port-calm n h.dport (option_map (λ p. del
 
 frame-calm : (n : NodeState) (h : FrameHead) (part : List ℕ) (t : Took) → NodeCalm n (frame_heard n h part t).1
 frame-calm n h part t =
-    let q : PeerState = peer_after (peer_at n h.src) t (message_of h part) in
-    node-both n (with_peer n h.src q) (frame_heard n h part t).1 (peer-calm n h.src q (SenderCalm.same refl) (took-calm (peer_at n h.src) t (message_of h part))) (delivered_after-calm (with_peer n h.src q) h part t)
+    let q : LaneState = lane_after (lane_at n (frame_lane h)) t (message_of h part) in
+    node-both n (with_lane n (frame_lane h) q) (frame_heard n h part t).1 (lane-calm n (frame_lane h) q (SenderCalm.same refl) (took-calm (lane_at n (frame_lane h)) t (message_of h part))) (delivered_after-calm (with_lane n (frame_lane h) q) h part t)
 
 -- an acknowledgement
 acknowledged-calm : (s : SenderState) (k : ℕ) → SenderCalm s (acknowledged s k)
@@ -139,10 +139,10 @@ all_finished-calm n (t ∷ ts) =
     let p : Option PortState = option_map (λ p. finished p t.token) (port_at n t.port) in
     node-both n (with_port n t.port p) (all_finished n (t ∷ ts)) (port-calm n t.port p (finished-calm t.token (port_at n t.port))) (all_finished-calm (with_port n t.port p) ts)
 
-ack-calm : (n : NodeState) (src next : ℕ) → NodeCalm n (all_finished (with_peer n src (peer_acknowledged (peer_at n src) next)) (tickets_finished (peer_at n src) next))
-ack-calm n src next =
-    let q : PeerState = peer_acknowledged (peer_at n src) next in
-    node-both n (with_peer n src q) _ (peer-calm n src q (acknowledged-calm (peer_at n src).sender next) (TakerCalm.keeps refl (λ o. o))) (all_finished-calm (with_peer n src q) (tickets_finished (peer_at n src) next))
+ack-calm : (n : NodeState) (lane next : ℕ) → NodeCalm n (all_finished (with_lane n lane (lane_acknowledged (lane_at n lane) next)) (tickets_finished (lane_at n lane) next))
+ack-calm n lane next =
+    let q : LaneState = lane_acknowledged (lane_at n lane) next in
+    node-both n (with_lane n lane q) _ (lane-calm n lane q (acknowledged-calm (lane_at n lane).sender next) (TakerCalm.keeps refl (λ o. o))) (all_finished-calm (with_lane n lane q) (tickets_finished (lane_at n lane) next))
 
 -- whatever a host hears
 pub hear-calm : (host hosts : ℕ) (n : NodeState) (wire : List ℕ) → NodeCalm n (hear host hosts n wire).1
@@ -151,7 +151,7 @@ hear-calm host hosts n wire = by (hear host hosts n wire).1 (hear-is host hosts 
     by : (m : NodeState) → IsHeard host hosts n wire m → NodeCalm n m
     by m (quietly e f) = node-quiet n m e f
     by m (of_frame body h e d mine there is) = subst (NodeCalm n) (sym is) (frame-calm n h (part_in body) (frame_took n h))
-    by m (of_ack body a e d mine there is) = subst (NodeCalm n) (sym is) (ack-calm n a.src a.next)
+    by m (of_ack body a e d mine there is) = subst (NodeCalm n) (sym is) (ack-calm n (ack_lane a) a.next)
 
 -- and a host that gives up
 pub given_up-calm : (n : NodeState) → NodeCalm n (given_up n)

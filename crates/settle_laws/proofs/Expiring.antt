@@ -1,19 +1,21 @@
 -- Behind the expiries of a round each connection with something unacknowledged sends again from the first number that isn't.
-use Rattle.std.proofs.Common.{◌≡◌, ◌≢◌, ◌<◌, ◌≤◌, ◌+◌, ℕ, zero, suc, Bool, true, false, true≢false, List, [], ◌∷◌, ◌++◌, map, length, nat_eq, nat_lt, refl, sym, ap, ◌∙◌, subst, arith, append_assoc, if◌then◌else◌}
+use Rattle.std.proofs.Common.{◌≡◌, ◌≢◌, ◌<◌, ◌≤◌, ◌+◌, ℕ, zero, suc, Bool, true, false, true≢false, List, [], ◌∷◌, ◌++◌, map, length, nat_eq, nat_lt, ◌⊎◌, inl, inr, refl, sym, ap, ◌∙◌, subst, arith, append_assoc, if◌then◌else◌}
 use Rattle.std.specs.List.{AllByRecursion, range_with_len, filter}
 use Rattle.std.proofs.lemmas.Bool.Decides.{nat_tests}
 use Rattle.std.proofs.lemmas.List.{get_or-set_same}
 use Rattle.std.proofs.Math.ListN.{length-set}
+use Rattle.gm_defs.specs.declared.frame.ConnectionKey.{ConnectionKey}
 use Rattle.world_defs.specs.declared.event.Event.{Event}
 use Rattle.world_defs.specs.declared.event.Event.TheVariants.{Expire}
 use Rattle.world_defs.specs.declared.effect.Effect.{Effect}
 use Rattle.world_defs.specs.declared.effect.Effect.TheVariants.{Expired, Idle}
-use Rattle.world_defs.specs.Peer.{new_peer, peer_expired}
-use Rattle.world_defs.specs.Node.{NodeState, peer_at, new_node, node_expired, unacknowledged_to}
+use Rattle.world_defs.specs.Lane.{new_lane, lane_expired}
+use Rattle.world_defs.specs.Node.{NodeState, lane_of, sending_lane, lane_at, new_node, with_expired, node_expired, unacknowledged_to}
 use Rattle.world_defs.specs.World.{WorldState, host_count, node_at, with_node, addresses}
 use Rattle.world_defs.specs.Step.{expired, step, after_all}
 use Rattle.world_defs.specs.Settle.{expiries_of, expiries_of_all, expiries}
-use Rattle.world_defs.specs.Settled.{sender_between}
+use Rattle.world_defs.specs.Traffic.{sender_on}
+use Rattle.world_defs.proofs.Lanes.{lane-within}
 use Rattle.world_laws.proofs.Lists.{at-set}
 use Rattle.world_laws.proofs.Along.{Along, after_all-along, all-map, all-append}
 use Rattle.world_laws.proofs.Reached.{after_all-append}
@@ -26,51 +28,64 @@ IsExpiry _ = ⊥
 record ExpireSo (w v : WorldState) : Type 0 where
   links : v.links ≡ w.links
   count : length v.nodes ≡ length w.nodes
-  peers : (a : ℕ) → length (node_at v a).peers ≡ length (node_at w a).peers
-  base : (a b : ℕ) → (sender_between v a b).base ≡ (sender_between w a b).base
-  next : (a b : ℕ) → (sender_between v a b).next ≡ (sender_between w a b).next
-  again : (a b : ℕ) → (sender_between w a b).cursor ≡ (sender_between w a b).base → (sender_between v a b).cursor ≡ (sender_between v a b).base
+  lanes : (a : ℕ) → length (node_at v a).lanes ≡ length (node_at w a).lanes
+  base : (c : ConnectionKey) → (sender_on v c).base ≡ (sender_on w c).base
+  next : (c : ConnectionKey) → (sender_on v c).next ≡ (sender_on w c).next
+  again : (c : ConnectionKey) → (sender_on w c).cursor ≡ (sender_on w c).base → (sender_on v c).cursor ≡ (sender_on v c).base
 
 expire-same : (w : WorldState) → ExpireSo w w
-expire-same w = record { links = refl; count = refl; peers = λ a. refl; base = λ a b. refl; next = λ a b. refl; again = λ a b e. e }
+expire-same w = record { links = refl; count = refl; lanes = λ a. refl; base = λ c. refl; next = λ c. refl; again = λ c e. e }
 
 expire-both : (u v w : WorldState) → ExpireSo u v → ExpireSo v w → ExpireSo u w
 expire-both u v w k l = record {
   links = l.links ∙ k.links;
   count = l.count ∙ k.count;
-  peers = λ a. l.peers a ∙ k.peers a;
-  base = λ a b. l.base a b ∙ k.base a b;
-  next = λ a b. l.next a b ∙ k.next a b;
-  again = λ a b e. l.again a b (k.again a b e);
+  lanes = λ a. l.lanes a ∙ k.lanes a;
+  base = λ c. l.base c ∙ k.base c;
+  next = λ c. l.next c ∙ k.next c;
+  again = λ c e. l.again c (k.again c e);
 }
 
--- a host whose fragments to a peer are sent again
+-- a host whose fragments of some lanes are sent again
 record NodeExpires (n m : NodeState) : Type 0 where
-  peers : length m.peers ≡ length n.peers
-  base : (b : ℕ) → (peer_at m b).sender.base ≡ (peer_at n b).sender.base
-  next : (b : ℕ) → (peer_at m b).sender.next ≡ (peer_at n b).sender.next
-  again : (b : ℕ) → (peer_at n b).sender.cursor ≡ (peer_at n b).sender.base → (peer_at m b).sender.cursor ≡ (peer_at m b).sender.base
+  lanes : length m.lanes ≡ length n.lanes
+  base : (k : ℕ) → (lane_at m k).sender.base ≡ (lane_at n k).sender.base
+  next : (k : ℕ) → (lane_at m k).sender.next ≡ (lane_at n k).sender.next
+  again : (k : ℕ) → (lane_at n k).sender.cursor ≡ (lane_at n k).sender.base → (lane_at m k).sender.cursor ≡ (lane_at m k).sender.base
+
+lane-expires : (n : NodeState) (lane : ℕ) → NodeExpires n (with_expired n lane)
+lane-expires n lane = record {
+  lanes = length-set n.lanes lane (lane_expired (lane_at n lane));
+  base = λ k. at-set (λ x y. y.sender.base ≡ x.sender.base) (λ x. refl) n.lanes lane k (lane_expired (lane_at n lane)) new_lane refl;
+  next = λ k. at-set (λ x y. y.sender.next ≡ x.sender.next) (λ x. refl) n.lanes lane k (lane_expired (lane_at n lane)) new_lane refl;
+  again = λ k. at-set (λ x y. x.sender.cursor ≡ x.sender.base → y.sender.cursor ≡ y.sender.base) (λ x e. e) n.lanes lane k (lane_expired (lane_at n lane)) new_lane (λ e. refl);
+}
+
+expires-both : (n m o : NodeState) → NodeExpires n m → NodeExpires m o → NodeExpires n o
+expires-both n m o f g = record {
+  lanes = g.lanes ∙ f.lanes;
+  base = λ k. g.base k ∙ f.base k;
+  next = λ k. g.next k ∙ f.next k;
+  again = λ k e. g.again k (f.again k e);
+}
 
 node-expires : (n : NodeState) (peer : ℕ) → NodeExpires n (node_expired n peer)
-node-expires n peer = record {
-  peers = length-set n.peers peer (peer_expired (peer_at n peer));
-  base = λ b. at-set (λ x y. y.sender.base ≡ x.sender.base) (λ x. refl) n.peers peer b (peer_expired (peer_at n peer)) new_peer refl;
-  next = λ b. at-set (λ x y. y.sender.next ≡ x.sender.next) (λ x. refl) n.peers peer b (peer_expired (peer_at n peer)) new_peer refl;
-  again = λ b. at-set (λ x y. x.sender.cursor ≡ x.sender.base → y.sender.cursor ≡ y.sender.base) (λ x e. e) n.peers peer b (peer_expired (peer_at n peer)) new_peer (λ e. refl);
-}
+node-expires n peer =
+    let m : NodeState = with_expired n (lane_of peer 0) in
+    expires-both n m (node_expired n peer) (lane-expires n (lane_of peer 0)) (lane-expires m (lane_of peer 1))
 
 expired-node : (w : WorldState) (h peer a : ℕ) → NodeExpires (node_at w a) (node_at (with_node w h (node_expired (node_at w h) peer)) a)
 expired-node w h peer a =
-    at-set NodeExpires (λ n. record { peers = refl; base = λ b. refl; next = λ b. refl; again = λ b e. e }) w.nodes h a (node_expired (node_at w h) peer) (new_node 0) (node-expires (node_at w h) peer)
+    at-set NodeExpires (λ n. record { lanes = refl; base = λ k. refl; next = λ k. refl; again = λ k e. e }) w.nodes h a (node_expired (node_at w h) peer) (new_node 0) (node-expires (node_at w h) peer)
 
 expired-so : (w : WorldState) (h peer : ℕ) (b : Bool) → ExpireSo w (if b then (let r : Effect × WorldState = (Expired, with_node w h (node_expired (node_at w h) peer)) in r) else (Idle, w)).1
 expired-so w h peer true = record {
   links = refl;
   count = length-set w.nodes h (node_expired (node_at w h) peer);
-  peers = λ a. (expired-node w h peer a).peers;
-  base = λ a. (expired-node w h peer a).base;
-  next = λ a. (expired-node w h peer a).next;
-  again = λ a. (expired-node w h peer a).again;
+  lanes = λ a. (expired-node w h peer a).lanes;
+  base = λ c. (expired-node w h peer c.src).base (sending_lane c);
+  next = λ c. (expired-node w h peer c.src).next (sending_lane c);
+  again = λ c. (expired-node w h peer c.src).again (sending_lane c);
 }
 expired-so w h peer false = expire-same w
 
@@ -82,16 +97,41 @@ event-expires w _ q = absurd q
 along-expires : Along ExpireSo IsExpiry
 along-expires = record { same = expire-same; both = expire-both; event = event-expires }
 
--- the expiry of the connection itself
-expired-here : (w : WorldState) (a b : ℕ) → a < length w.nodes → b < length (node_at w a).peers → 0 < unacknowledged_to (node_at w a) b → (sender_between (step w (Expire a b)).1 a b).cursor ≡ (sender_between (step w (Expire a b)).1 a b).base
-unfolding expired
-expired-here w a b low below some = by (nat_lt 0 (unacknowledged_to (node_at w a) b)) (grind (arith, nat_tests))
+-- the expiry of the connection itself: of its lane first, or second
+both-lanes : (peer prio : ℕ) → (lane_of peer prio ≡ lane_of peer 0) ⊎ (lane_of peer prio ≡ lane_of peer 1)
+both-lanes peer zero = inl refl
+both-lanes peer (suc prio) = inr (omega arith)
+
+lane-again : (n : NodeState) (lane : ℕ) → lane < length n.lanes → (lane_at (with_expired n lane) lane).sender.cursor ≡ (lane_at (with_expired n lane) lane).sender.base
+lane-again n lane low =
+    let here : lane_at (with_expired n lane) lane ≡ lane_expired (lane_at n lane) = get_or-set_same n.lanes lane (lane_expired (lane_at n lane)) new_lane low in
+    ap (λ l. l.sender.cursor) here ∙ sym (ap (λ l. l.sender.base) here)
+
+node-again : (n : NodeState) (peer prio : ℕ) → lane_of peer prio < length n.lanes → (lane_at (node_expired n peer) (lane_of peer prio)).sender.cursor ≡ (lane_at (node_expired n peer) (lane_of peer prio)).sender.base
+node-again n peer prio low = by (both-lanes peer prio)
   where
-    by : (t : Bool) → t ≡ true → (let v : WorldState = (if t then (let r : Effect × WorldState = (Expired, with_node w a (node_expired (node_at w a) b)) in r) else (Idle, w)).1 in (sender_between v a b).cursor ≡ (sender_between v a b).base)
-    by true e =
-        let there : node_at (with_node w a (node_expired (node_at w a) b)) a ≡ node_expired (node_at w a) b = get_or-set_same w.nodes a (node_expired (node_at w a) b) (new_node 0) low in
-        let peer : peer_at (node_expired (node_at w a) b) b ≡ peer_expired (peer_at (node_at w a) b) = get_or-set_same (node_at w a).peers b (peer_expired (peer_at (node_at w a) b)) new_peer below in
-        ap (λ n. (peer_at n b).sender.cursor) there ∙ (ap (λ p. p.sender.cursor) peer ∙ sym (ap (λ n. (peer_at n b).sender.base) there ∙ ap (λ p. p.sender.base) peer))
+    m : NodeState
+    m = with_expired n (lane_of peer 0)
+
+    Again : ℕ → Type 0
+    Again k = (lane_at (node_expired n peer) k).sender.cursor ≡ (lane_at (node_expired n peer) k).sender.base
+
+    by : (lane_of peer prio ≡ lane_of peer 0) ⊎ (lane_of peer prio ≡ lane_of peer 1) → Again (lane_of peer prio)
+    by (inl e) = subst Again (sym e) ((lane-expires m (lane_of peer 1)).again (lane_of peer 0) (lane-again n (lane_of peer 0) (subst (λ k. k < length n.lanes) e low)))
+    by (inr e) = subst Again (sym e) (lane-again m (lane_of peer 1) (subst (λ count. lane_of peer 1 < count) (sym (lane-expires n (lane_of peer 0)).lanes) (subst (λ k. k < length n.lanes) e low)))
+
+expired-here : (w : WorldState) (c : ConnectionKey) → c.src < length w.nodes → sending_lane c < length (node_at w c.src).lanes → 0 < unacknowledged_to (node_at w c.src) c.dst → (sender_on (step w (Expire c.src c.dst)).1 c).cursor ≡ (sender_on (step w (Expire c.src c.dst)).1 c).base
+unfolding expired
+expired-here w c low below some = by (nat_lt 0 (unacknowledged_to n c.dst)) (grind (arith, nat_tests))
+  where
+    n : NodeState
+    n = node_at w c.src
+
+    Again : NodeState → Type 0
+    Again m = (lane_at m (sending_lane c)).sender.cursor ≡ (lane_at m (sending_lane c)).sender.base
+
+    by : (t : Bool) → t ≡ true → Again (node_at (if t then (let r : Effect × WorldState = (Expired, with_node w c.src (node_expired n c.dst)) in r) else (Idle, w)).1 c.src)
+    by true e = subst Again (sym (get_or-set_same w.nodes c.src (node_expired n c.dst) (new_node 0) low)) (node-again n c.dst c.prio below)
     by false e = cc
 
 -- an element stands in a list
@@ -157,19 +197,20 @@ pub expiries-links : (w : WorldState) → (after_all w (expiries w)).links ≡ w
 expiries-links w = (after_all-along ExpireSo IsExpiry along-expires w (expiries w) (all-expiries w (addresses w))).links
 
 -- behind the expiries
-pub expiries-again : (w : WorldState) (a b : ℕ) → a < host_count w → b < host_count w → b < length (node_at w a).peers → (sender_between w a b).base < (sender_between w a b).next → (sender_between (after_all w (expiries w)) a b).cursor ≡ (sender_between w a b).base
-expiries-again w a b low below peer some =
-    let s : StandsIn (Expire a b) (expiries w) = of-host w a b 0 (host_count w) (omega arith) (omega (arith, low)) below (omega (arith, some)) in
-    let parts = all-parts s.front (Expire a b ∷ s.back) (subst (AllByRecursion IsExpiry) s.whole (all-expiries w (addresses w))) in
+pub expiries-again : (w : WorldState) (c : ConnectionKey) → c.src < host_count w → c.dst < host_count w → sending_lane c < length (node_at w c.src).lanes → (sender_on w c).base < (sender_on w c).next → (sender_on (after_all w (expiries w)) c).cursor ≡ (sender_on w c).base
+expiries-again w c low below lane some =
+    let left : 0 < unacknowledged_to (node_at w c.src) c.dst = let within = lane-within (node_at w c.src) c.dst c.prio in omega (arith, some, within) in
+    let s : StandsIn (Expire c.src c.dst) (expiries w) = of-host w c.src c.dst 0 (host_count w) (omega arith) (omega (arith, low)) below left in
+    let parts = all-parts s.front (Expire c.src c.dst ∷ s.back) (subst (AllByRecursion IsExpiry) s.whole (all-expiries w (addresses w))) in
     let mid : WorldState = after_all w s.front in
-    let then_w : WorldState = (step mid (Expire a b)).1 in
+    let then_w : WorldState = (step mid (Expire c.src c.dst)).1 in
     let first = after_all-along ExpireSo IsExpiry along-expires w s.front parts.0 in
     let last = after_all-along ExpireSo IsExpiry along-expires then_w s.back parts.1.1 in
     let count = first.count in
-    let peers = first.peers a in
-    let base = first.base a b in
-    let next = first.next a b in
-    let here = expired-here mid a b (omega (arith, low, count)) (omega (arith, peer, peers)) (omega (arith, some, base, next)) in
-    let whole : after_all w (expiries w) ≡ after_all then_w s.back = ap (after_all w) s.whole ∙ after_all-append w s.front (Expire a b ∷ s.back) in
-    let one = event-expires mid (Expire a b) tt in
-    ap (λ v. (sender_between v a b).cursor) whole ∙ (last.again a b here ∙ (last.base a b ∙ (one.base a b ∙ base)))
+    let base = first.base c in
+    let next = first.next c in
+    let left_then : 0 < unacknowledged_to (node_at mid c.src) c.dst = let within = lane-within (node_at mid c.src) c.dst c.prio in omega (arith, some, base, next, within) in
+    let here = expired-here mid c (omega (arith, low, count)) (subst (λ l. sending_lane c < l) (sym (first.lanes c.src)) lane) left_then in
+    let whole : after_all w (expiries w) ≡ after_all then_w s.back = ap (after_all w) s.whole ∙ after_all-append w s.front (Expire c.src c.dst ∷ s.back) in
+    let one = event-expires mid (Expire c.src c.dst) tt in
+    ap (λ v. (sender_on v c).cursor) whole ∙ (last.again c here ∙ (last.base c ∙ (one.base c ∙ base)))

@@ -1,15 +1,17 @@
 -- What is known of a connection in a reached world: its hosts are there, the fragment of a number isn't acknowledged below it, and its message stands at its place.
-use Rattle.std.proofs.Common.{◌≡◌, ◌<◌, ◌≤◌, ◌^◌, ℕ, zero, suc, List, [], ◌∷◌, length, Some, ap, ◌∙◌, subst, arith}
+use Rattle.std.proofs.Common.{◌≡◌, ◌<◌, ◌≤◌, ◌^◌, ◌+◌, ◌*◌, ℕ, zero, suc, List, [], ◌∷◌, length, Some, sym, ap, ◌∙◌, subst, arith}
 use Rattle.std.specs.Prelude.{slice_get}
 use Rattle.std.specs.List.{AllByRecursion}
 use Rattle.std.proofs.lemmas.Option.{same_Some}
 use Rattle.net_defs.specs.Network.{Network}
 use Rattle.link_defs.specs.Channel.{channel_count}
 use Rattle.gm_defs.specs.declared.message.Message.{Message}
-use Rattle.gm_defs.specs.Body.{piece}
+use Rattle.gm_defs.specs.declared.frame.ConnectionKey.{ConnectionKey}
+use Rattle.gm_defs.specs.Body.{piece, prio_limit}
 use Rattle.world_defs.specs.World.{WorldState, fabric_of, host_count, node_at}
-use Rattle.world_defs.specs.Traffic.{sent_between, taken_between}
-use Rattle.world_defs.specs.Settled.{sender_between}
+use Rattle.world_defs.specs.Traffic.{sender_on, sent_on, taken_on}
+use Rattle.world_defs.specs.Node.{prio_place, lane_of, prio_of, sending_lane, taking_lane}
+use Rattle.world_defs.proofs.Lanes.{peer_of-lane, prio_of-lane, lane_of-below}
 use Rattle.world_laws.specs.Shape.{IsWorld}
 use Rattle.act_defs.specs.Acts.{IsReached}
 use Rattle.order_laws.proofs.Worlds.{reached-ordered}
@@ -18,13 +20,13 @@ use Rattle.window_laws.proofs.Windows.{windows-hold}
 use Rattle.window_laws.proofs.Taken.{reached-world}
 use Rattle.settle_laws.proofs.Frames.{IsByRules}
 
-pub record Facts (n : Network) (a b k : ℕ) (m : Message) (w : WorldState) : Type 0 where
+pub record Facts (n : Network) (key : ConnectionKey) (k : ℕ) (m : Message) (w : WorldState) : Type 0 where
   pub reached : IsReached n w
   pub net : fabric_of w ≡ n
-  pub host : a < host_count w
-  pub peer : b < host_count w
-  pub low : k ≤ (sender_between w a b).base
-  pub there : slice_get (sent_between w a b) k ≡ Some m
+  pub host : key.src < host_count w
+  pub peer : key.dst < host_count w
+  pub low : k ≤ (sender_on w key).base
+  pub there : slice_get (sent_on w key) k ≡ Some m
 
 pub place-below : {A : Type 0} (xs : List A) (i : ℕ) (x : A) → slice_get xs i ≡ Some x → i < length xs
 place-below [] i x e = cc
@@ -42,30 +44,41 @@ pub record IsReadable (m : Message) : Type 0 where
   pub to_port : m.dport < 8
   pub priority : m.prio < 2
 
-module _ (n : Network) (a b k : ℕ) (m : Message) (w : WorldState) (f : Facts n a b k m w) where
+module _ (n : Network) (key : ConnectionKey) (k : ℕ) (m : Message) (w : WorldState) (f : Facts n key k m w) where
   pub world-of : IsWorld w
   world-of = reached-world n w f.reached
 
-  pub window-of : IsWindow (sender_between w a b) (taken_between w a b)
-  window-of = windows-hold n w f.reached a b
+  pub window-of : IsWindow (sender_on w key) (taken_on w key)
+  window-of = windows-hold n w f.reached key
 
-  pub peer-low : b < length (node_at w a).peers
-  peer-low = let long = (world-of.each_node a f.host).peers in let low = f.peer in omega (arith, long, low)
+  pub peer-low : sending_lane key < length (node_at w key.src).lanes
+  peer-low = subst (λ count. sending_lane key < count) (sym (world-of.each_node key.src f.host).lanes) (lane_of-below (host_count w) key.dst key.prio f.peer)
 
-  pub host-low : a < length (node_at w b).peers
-  host-low = let long = (world-of.each_node b f.peer).peers in let low = f.host in omega (arith, long, low)
+  pub host-low : taking_lane key < length (node_at w key.dst).lanes
+  host-low = subst (λ count. taking_lane key < count) (sym (world-of.each_node key.dst f.peer).lanes) (lane_of-below (host_count w) key.src key.prio f.host)
 
-  pub short-of : AllByRecursion (λ x. length x.body ≤ piece) (sent_between w a b)
-  short-of = (((reached-ordered n w f.reached).hosts a).peers b).short
+  pub short-of : AllByRecursion (λ x. length x.body ≤ piece) (sent_on w key)
+  short-of = (((reached-ordered n w f.reached).hosts key.src).lanes (sending_lane key)).short
 
-  pub fits-of : (a < 2 ^ 16) × (b < 2 ^ 16)
-  fits-of = ((reached-ordered n w f.reached).hosts a).fits b peer-low
+  pub fits-of : (key.src < 2 ^ 16) × (key.dst < 2 ^ 16)
+  fits-of =
+      let two = ((reached-ordered n w f.reached).hosts key.src).fits (sending_lane key) peer-low in
+      (two.0, subst (λ x. x < 2 ^ 16) (peer_of-lane key.dst key.prio) two.1)
+
+  -- the message is of the connection's priority, and its frame is taken by the connection's lane
+  prio-of : prio_place m.prio ≡ prio_place key.prio
+  prio-of =
+      let all = (((reached-ordered n w f.reached).hosts key.src).lanes (sending_lane key)).of_prio in
+      at-place (λ x. prio_place x.prio ≡ prio_of (sending_lane key)) (sent_on w key) k m all f.there ∙ prio_of-lane key.dst key.prio
+
+  pub lane-of : lane_of key.src m.prio ≡ taking_lane key
+  lane-of = ap (λ p. prio_limit * key.src + p) prio-of
 
   pub slots-of : length w.links.channels ≡ channel_count n
   slots-of = world-of.links.slots ∙ ap channel_count f.net
 
-  pub rules-of : IsReadable m → IsByRules a b k m
+  pub rules-of : IsReadable m → IsByRules key k m
   rules-of r =
-      let long = (((reached-ordered n w f.reached).hosts a).peers b).few in
-      let low = place-below (sent_between w a b) k m f.there in
-      record { src_fits = fits-of.0; dst_fits = fits-of.1; seq_fits = omega (arith, low, long); from_port = r.from_port; to_port = r.to_port; priority = r.priority; short = at-place (λ x. length x.body ≤ piece) (sent_between w a b) k m short-of f.there }
+      let long = (((reached-ordered n w f.reached).hosts key.src).lanes (sending_lane key)).few in
+      let low = place-below (sent_on w key) k m f.there in
+      record { src_fits = fits-of.0; dst_fits = fits-of.1; seq_fits = omega (arith, low, long); from_port = r.from_port; to_port = r.to_port; priority = r.priority; short = at-place (λ x. length x.body ≤ piece) (sent_on w key) k m short-of f.there }

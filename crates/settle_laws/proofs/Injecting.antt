@@ -11,23 +11,25 @@ use Rattle.link_defs.specs.Links.{Held, packet_in, with_packet}
 use Rattle.link_defs.proofs.Ends.{channel_from-ends}
 use Rattle.gm_defs.specs.declared.message.Message.{Message}
 use Rattle.gm_defs.specs.declared.frame.FrameHead.{FrameHead}
+use Rattle.gm_defs.specs.declared.frame.ConnectionKey.{ConnectionKey}
 use Rattle.gm_defs.specs.Body.{frame_bytes, ack_bytes}
 use Rattle.gm_defs.specs.Fragment.{frame_of}
+use Rattle.gm_defs.specs.Connection.{connection, ack_on}
 use Rattle.world_defs.specs.declared.effect.Effect.{Effect}
 use Rattle.world_defs.specs.Table.{table_route}
-use Rattle.world_defs.specs.Peer.{PeerState, new_peer, peer_sent_one, peer_answered}
-use Rattle.world_defs.specs.Node.{NodeState, Outgoing, Probe, TablePart, Reply, PartAnswer, FrameAnswer, Fragment, peer_at, with_peer, port_at, new_node, packet_for, after_sending}
+use Rattle.world_defs.specs.Lane.{LaneState, new_lane, lane_sent_one, lane_answered}
+use Rattle.world_defs.specs.Node.{NodeState, peer_of, prio_of, prio_place, lane_of, sending_lane, taking_lane, sends_on, takes_from, lane_route, Outgoing, Probe, TablePart, Reply, PartAnswer, FrameAnswer, Fragment, lane_at, with_lane, port_at, new_node, packet_for, after_sending}
 use Rattle.world_defs.specs.Hearing.{port_takes}
 use Rattle.world_defs.specs.World.{WorldState, fabric_of, node_at}
-use Rattle.world_defs.specs.Traffic.{sent_between, taken_between}
-use Rattle.world_defs.specs.Settled.{sender_between}
+use Rattle.world_defs.specs.Traffic.{sender_on, sent_on, taken_on}
+use Rattle.world_defs.proofs.Lanes.{peer_of-lane, prio_of-lane}
 use Rattle.world_defs.specs.Step.{planned_strikes, sent_out}
 use Rattle.world_laws.proofs.Lists.{at-set}
 use Rattle.window_laws.proofs.Numbers.{due-number}
 use Rattle.settle_laws.proofs.Views.{InjectOf, unstruck-links}
 use Rattle.settle_laws.proofs.Leading.{LeadsTo, place-leads}
 use Rattle.settle_laws.proofs.Ways.{OnWay, keep-there, new-there, still-way}
-use Rattle.settle_laws.proofs.Staged.{IsOwed, IsDueTo, IsToPeer, to_send-peer, IsBare}
+use Rattle.settle_laws.proofs.Staged.{IsOwed, IsDueOn, IsToPeer, to_send-peer, IsBare}
 use Rattle.world_defs.proofs.Strikes.{injection-nodes}
 use Rattle.settle_laws.proofs.Routes.{route-leads}
 use Rattle.settle_laws.proofs.Frames.{head_for, frame-there}
@@ -37,14 +39,14 @@ use Rattle.settle_laws.proofs.Lively.{Lively, frame_payload, ack_payload}
 
 -- what sending leaves of a host
 record SentCalm (n m : NodeState) : Type 0 where
-  base : (p : ℕ) → (peer_at m p).sender.base ≡ (peer_at n p).sender.base
-  taken : (p : ℕ) → (peer_at m p).taken ≡ (peer_at n p).taken
+  base : (p : ℕ) → (lane_at m p).sender.base ≡ (lane_at n p).sender.base
+  taken : (p : ℕ) → (lane_at m p).taken ≡ (lane_at n p).taken
   ports : m.ports ≡ n.ports
 
-sent-peer : (n : NodeState) (k : ℕ) (q : PeerState) → q.sender.base ≡ (peer_at n k).sender.base → q.taken ≡ (peer_at n k).taken → SentCalm n (with_peer n k q)
-sent-peer n k q e f = record {
-  base = λ p. at-set (λ x y. y.sender.base ≡ x.sender.base) (λ x. refl) n.peers k p q new_peer e;
-  taken = λ p. at-set (λ x y. y.taken ≡ x.taken) (λ x. refl) n.peers k p q new_peer f;
+sent-lane : (n : NodeState) (k : ℕ) (q : LaneState) → q.sender.base ≡ (lane_at n k).sender.base → q.taken ≡ (lane_at n k).taken → SentCalm n (with_lane n k q)
+sent-lane n k q e f = record {
+  base = λ p. at-set (λ x y. y.sender.base ≡ x.sender.base) (λ x. refl) n.lanes k p q new_lane e;
+  taken = λ p. at-set (λ x y. y.taken ≡ x.taken) (λ x. refl) n.lanes k p q new_lane f;
   ports = refl;
 }
 
@@ -54,36 +56,42 @@ sent-calm n (Probe walk looped) = record { base = λ p. refl; taken = λ p. refl
 sent-calm n (TablePart part by) = record { base = λ p. refl; taken = λ p. refl; ports = refl }
 sent-calm n (Reply r) = record { base = λ p. refl; taken = λ p. refl; ports = refl }
 sent-calm n (PartAnswer a) = record { base = λ p. refl; taken = λ p. refl; ports = refl }
-sent-calm n (FrameAnswer peer next by) = sent-peer n peer (peer_answered (peer_at n peer)) refl refl
-sent-calm n (Fragment peer head part by) = sent-peer n peer (peer_sent_one (peer_at n peer)) refl refl
+sent-calm n (FrameAnswer lane next by) = sent-lane n lane (lane_answered (lane_at n lane)) refl refl
+sent-calm n (Fragment lane head part by) = sent-lane n lane (lane_sent_one (lane_at n lane)) refl refl
 
 -- what an acknowledgement that is sent leaves of the sender, and a fragment of the taker
-answered-sender : (n : NodeState) (peer next : ℕ) (by : List ℤ) (p : ℕ) → (peer_at (after_sending n (FrameAnswer peer next by)) p).sender ≡ (peer_at n p).sender
+answered-sender : (n : NodeState) (lane next : ℕ) (by : List ℤ) (p : ℕ) → (lane_at (after_sending n (FrameAnswer lane next by)) p).sender ≡ (lane_at n p).sender
 unfolding after_sending
-answered-sender n peer next by p = at-set (λ x y. y.sender ≡ x.sender) (λ x. refl) n.peers peer p (peer_answered (peer_at n peer)) new_peer refl
+answered-sender n lane next by p = at-set (λ x y. y.sender ≡ x.sender) (λ x. refl) n.lanes lane p (lane_answered (lane_at n lane)) new_lane refl
 
-answered-other : (n : NodeState) (peer next : ℕ) (by : List ℤ) (p : ℕ) → p ≢ peer → (peer_at (after_sending n (FrameAnswer peer next by)) p).owes ≡ (peer_at n p).owes
+answered-other : (n : NodeState) (lane next : ℕ) (by : List ℤ) (p : ℕ) → p ≢ lane → (lane_at (after_sending n (FrameAnswer lane next by)) p).owes ≡ (lane_at n p).owes
 unfolding after_sending
-answered-other n peer next by p other = ap (λ x. x.owes) (get_or-set_other n.peers peer p (peer_answered (peer_at n peer)) new_peer other)
+answered-other n lane next by p other = ap (λ x. x.owes) (get_or-set_other n.lanes lane p (lane_answered (lane_at n lane)) new_lane other)
 
-sent-owes : (n : NodeState) (peer : ℕ) (head : FrameHead) (part : List ℕ) (by : List ℤ) (p : ℕ) → (peer_at (after_sending n (Fragment peer head part by)) p).owes ≡ (peer_at n p).owes
+sent-owes : (n : NodeState) (lane : ℕ) (head : FrameHead) (part : List ℕ) (by : List ℤ) (p : ℕ) → (lane_at (after_sending n (Fragment lane head part by)) p).owes ≡ (lane_at n p).owes
 unfolding after_sending
-sent-owes n peer head part by p = at-set (λ x y. y.owes ≡ x.owes) (λ x. refl) n.peers peer p (peer_sent_one (peer_at n peer)) new_peer refl
+sent-owes n lane head part by p = at-set (λ x y. y.owes ≡ x.owes) (λ x. refl) n.lanes lane p (lane_sent_one (lane_at n lane)) new_lane refl
 
-sent-other : (n : NodeState) (peer : ℕ) (head : FrameHead) (part : List ℕ) (by : List ℤ) (p : ℕ) → p ≢ peer → (peer_at (after_sending n (Fragment peer head part by)) p).sender ≡ (peer_at n p).sender
+sent-other : (n : NodeState) (lane : ℕ) (head : FrameHead) (part : List ℕ) (by : List ℤ) (p : ℕ) → p ≢ lane → (lane_at (after_sending n (Fragment lane head part by)) p).sender ≡ (lane_at n p).sender
 unfolding after_sending
-sent-other n peer head part by p other = ap (λ x. x.sender) (get_or-set_other n.peers peer p (peer_sent_one (peer_at n peer)) new_peer other)
+sent-other n lane head part by p other = ap (λ x. x.sender) (get_or-set_other n.lanes lane p (lane_sent_one (lane_at n lane)) new_lane other)
 
 -- their packets
-answer-wire : (h number peer next : ℕ) (by : List ℤ) → packet_for h number (FrameAnswer peer next by) ≡ packet_of by Gm (ack_bytes (record { src = h; dst = peer; next = next }))
+answer-wire : (h number lane next : ℕ) (by : List ℤ) → packet_for h number (FrameAnswer lane next by) ≡ packet_of by Gm (ack_bytes (ack_on (takes_from h lane) next))
 unfolding packet_for
-answer-wire h number peer next by = refl
+answer-wire h number lane next by = refl
 
-fragment-wire : (h number peer : ℕ) (head : FrameHead) (part : List ℕ) (by : List ℤ) → packet_for h number (Fragment peer head part by) ≡ packet_of by Gm (frame_bytes head part)
+fragment-wire : (h number lane : ℕ) (head : FrameHead) (part : List ℕ) (by : List ℤ) → packet_for h number (Fragment lane head part by) ≡ packet_of by Gm (frame_bytes head part)
 unfolding packet_for
-fragment-wire h number peer head part by = refl
+fragment-wire h number lane head part by = refl
 
-module _ (n : Network) (a b k : ℕ) (m : Message) (w v : WorldState) (f : Facts n a b k m w) (h c : ℕ) (out : Outgoing) (chan : channel_from (fabric_of w) (host_port h) ≡ Some c) (none : packet_in w.links c ≡ None) (nodes : v.nodes ≡ set w.nodes h (after_sending (node_at w h) out)) (links : v.links ≡ with_packet w.links c (Some (record { wire = packet_for h (w.injected + 1) out; marked = false }))) where
+same-number : (x y : ℕ) → nat_eq x y ≡ true → x ≡ y
+same-number x y e = grind (arith, nat_tests)
+
+other-number : (x y : ℕ) → nat_eq x y ≡ false → y ≢ x
+other-number x y e = grind (arith, nat_tests)
+
+module _ (n : Network) (key : ConnectionKey) (k : ℕ) (m : Message) (w v : WorldState) (f : Facts n key k m w) (h c : ℕ) (out : Outgoing) (chan : channel_from (fabric_of w) (host_port h) ≡ Some c) (none : packet_in w.links c ≡ None) (nodes : v.nodes ≡ set w.nodes h (after_sending (node_at w h) out)) (links : v.links ≡ with_packet w.links c (Some (record { wire = packet_for h (w.injected + 1) out; marked = false }))) where
   net : fabric_of v ≡ fabric_of w
   net = ap (λ l. l.net) links
 
@@ -109,7 +117,7 @@ module _ (n : Network) (a b k : ℕ) (m : Message) (w v : WorldState) (f : Facts
       let at : channel_from n (host_port h) ≡ Some c = subst (λ x. channel_from x (host_port h) ≡ Some c) f.net chan in
       let leads : LeadsTo n payload to walk c = place-leads n h to c walk payload led.1 at led.0 in
       let low = (channel_from-ends n (host_port h) c at).2 in
-      let slots = slots-of n a b k m w f in
+      let slots = slots-of n key k m w f in
       let new : Held = record { wire = packet_for h (w.injected + 1) out; marked = false } in
       record {
         channel = c;
@@ -120,100 +128,114 @@ module _ (n : Network) (a b k : ℕ) (m : Message) (w v : WorldState) (f : Facts
         leads = subst (λ x. LeadsTo x payload to walk c) (sym (net ∙ f.net)) leads;
       }
 
-  taken-same : taken_between v a b ≡ taken_between w a b
-  taken-same = (calm b).taken a
+  taken-same : taken_on v key ≡ taken_on w key
+  taken-same = (calm key.dst).taken (taking_lane key)
 
   -- what doesn't hang on what is sent
-  risen-sent : k < (sender_between w a b).base → Still a b k m v
-  risen-sent r = let e = (calm a).base b in Still.risen (omega (arith, r, e))
+  risen-sent : k < (sender_on w key).base → Still key k m v
+  risen-sent r = let e = (calm key.src).base (sending_lane key) in Still.risen (omega (arith, r, e))
 
-  waits-sent : taken_between w a b ≡ k → port_takes (port_at (node_at w b) m.dport) (length m.body) m.prio ≡ false → Still a b k m v
-  waits-sent t p = Still.waits (taken-same ∙ t) (ap (λ l. port_takes (get_or l m.dport None) (length m.body) m.prio) (calm b).ports ∙ p)
+  waits-sent : taken_on w key ≡ k → port_takes (port_at (node_at w key.dst) m.dport) (length m.body) m.prio ≡ false → Still key k m v
+  waits-sent t p = Still.waits (taken-same ∙ t) (ap (λ l. port_takes (get_or l m.dport None) (length m.body) m.prio) (calm key.dst).ports ∙ p)
+
+  -- the route of a lane of the connection
+  route-to : (lane peer prio : ℕ) (by : List ℤ) → lane ≡ lane_of peer prio → lane_route (node_at w h) lane ≡ Some by → table_route (node_at w h).table peer ≡ Some by
+  route-to lane peer prio by to e = subst (λ x. table_route (node_at w h).table x ≡ Some by) (ap peer_of to ∙ peer_of-lane peer prio) e
 
   -- an acknowledgement is sent
-  answer-here : (peer next : ℕ) (by : List ℤ) → out ≡ FrameAnswer peer next by → IsOwed (node_at w h) peer next by → h ≡ b → peer ≡ a → k < taken_between w a b → Lively a b k m v
-  answer-here peer next by e is at to t =
-      let count : next ≡ taken_between w a b = is.count ∙ (ap (λ x. (peer_at (node_at w x) peer).taken) at ∙ ap (λ x. (peer_at (node_at w b) x).taken) to) in
-      let wire : packet_for h (w.injected + 1) out ≡ packet_of by Gm (ack_payload a b next) =
-      ap (packet_for h (w.injected + 1)) e ∙ (answer-wire h (w.injected + 1) peer next by ∙ (ap (λ x. packet_of by Gm (ack_bytes (record { src = x; dst = peer; next = next }))) at ∙ ap (λ x. packet_of by Gm (ack_bytes (record { src = b; dst = x; next = next }))) to)) in
-      Lively.ack next (omega (arith, count, t)) (omega (arith, count, taken-same)) (new-way (ack_payload a b next) a by wire (subst (λ x. table_route (node_at w h).table x ≡ Some by) to is.route))
+  answer-here : (lane next : ℕ) (by : List ℤ) → out ≡ FrameAnswer lane next by → IsOwed (node_at w h) lane next by → h ≡ key.dst → lane ≡ taking_lane key → k < taken_on w key → Lively key k m v
+  answer-here lane next by e is at to t =
+      let count : next ≡ taken_on w key = is.count ∙ (ap (λ x. (lane_at (node_at w x) lane).taken) at ∙ ap (λ x. (lane_at (node_at w key.dst) x).taken) to) in
+      let peer : peer_of lane ≡ key.src = ap peer_of to ∙ peer_of-lane key.src key.prio in
+      let prio : prio_of lane ≡ prio_place key.prio = ap prio_of to ∙ prio_of-lane key.src key.prio in
+      let answers : takes_from h lane ≡ connection key.src key.dst (prio_place key.prio) = λ i. connection (peer i) (at i) (prio i) in
+      let wire : packet_for h (w.injected + 1) out ≡ packet_of by Gm (ack_payload key next) =
+      ap (packet_for h (w.injected + 1)) e ∙ (answer-wire h (w.injected + 1) lane next by ∙ ap (λ x. packet_of by Gm (ack_bytes (ack_on x next))) answers) in
+      Lively.ack next (omega (arith, count, t)) (omega (arith, count, taken-same)) (new-way (ack_payload key next) key.src by wire (route-to lane key.src key.prio by to is.route))
 
-  answer-owed : (peer next : ℕ) (by : List ℤ) → out ≡ FrameAnswer peer next by → IsOwed (node_at w h) peer next by → k < taken_between w a b → (peer_at (node_at w b) a).owes ≡ true → Lively a b k m v
-  answer-owed peer next by e is t o = cases (nat_eq h b) (nat_eq peer a) refl refl
+  answer-owed : (lane next : ℕ) (by : List ℤ) → out ≡ FrameAnswer lane next by → IsOwed (node_at w h) lane next by → k < taken_on w key → (lane_at (node_at w key.dst) (taking_lane key)).owes ≡ true → Lively key k m v
+  answer-owed lane next by e is t o = cases (nat_eq h key.dst) (nat_eq lane (taking_lane key)) refl refl
     where
-      still : (peer_at (node_at v b) a).owes ≡ (peer_at (node_at w b) a).owes → Lively a b k m v
+      p : ℕ
+      p = taking_lane key
+
+      still : (lane_at (node_at v key.dst) p).owes ≡ (lane_at (node_at w key.dst) p).owes → Lively key k m v
       still same = Lively.still (Still.owed (omega (arith, t, taken-same)) (same ∙ o))
 
-      cases : (x y : Bool) → nat_eq h b ≡ x → nat_eq peer a ≡ y → Lively a b k m v
-      cases true true p q = answer-here peer next by e is (grind (arith, nat_tests)) (grind (arith, nat_tests)) t
-      cases false y p q = let other : b ≢ h = grind (arith, nat_tests) in still (ap (λ x. (peer_at x a).owes) (unmoved b other))
-      cases true false p q =
-          let other : a ≢ peer = grind (arith, nat_tests) in
-          still (over (λ x y. (peer_at y a).owes ≡ (peer_at x a).owes) (λ x. refl) (subst (λ z. (peer_at (after_sending (node_at w h) z) a).owes ≡ (peer_at (node_at w h) a).owes) (sym e) (answered-other (node_at w h) peer next by a other)) b)
+      cases : (x y : Bool) → nat_eq h key.dst ≡ x → nat_eq lane p ≡ y → Lively key k m v
+      cases true true d g = answer-here lane next by e is (same-number h key.dst d) (same-number lane p g) t
+      cases false y d g = still (ap (λ x. (lane_at x p).owes) (unmoved key.dst (other-number h key.dst d)))
+      cases true false d g =
+          still (over (λ x y. (lane_at y p).owes ≡ (lane_at x p).owes) (λ x. refl) (subst (λ z. (lane_at (after_sending (node_at w h) z) p).owes ≡ (lane_at (node_at w h) p).owes) (sym e) (answered-other (node_at w h) lane next by p (other-number lane p g))) key.dst)
 
-  answer-again : (peer next : ℕ) (by : List ℤ) → out ≡ FrameAnswer peer next by → (sender_between w a b).cursor ≡ k → Still a b k m v
-  answer-again peer next by e g =
-      let same : sender_between v a b ≡ sender_between w a b = over (λ x y. (peer_at y b).sender ≡ (peer_at x b).sender) (λ x. refl) (subst (λ z. (peer_at (after_sending (node_at w h) z) b).sender ≡ (peer_at (node_at w h) b).sender) (sym e) (answered-sender (node_at w h) peer next by b)) a in
+  answer-again : (lane next : ℕ) (by : List ℤ) → out ≡ FrameAnswer lane next by → (sender_on w key).cursor ≡ k → Still key k m v
+  answer-again lane next by e g =
+      let p : ℕ = sending_lane key in
+      let same : sender_on v key ≡ sender_on w key = over (λ x y. (lane_at y p).sender ≡ (lane_at x p).sender) (λ x. refl) (subst (λ z. (lane_at (after_sending (node_at w h) z) p).sender ≡ (lane_at (node_at w h) p).sender) (sym e) (answered-sender (node_at w h) lane next by p)) key.src in
       Still.again (ap (λ s. s.cursor) same ∙ g)
 
-  answer-lively : (peer next : ℕ) (by : List ℤ) → out ≡ FrameAnswer peer next by → IsOwed (node_at w h) peer next by → Still a b k m w → Lively a b k m v
-  answer-lively peer next by e is (Still.risen r) = Lively.still (risen-sent r)
-  answer-lively peer next by e is (Still.waits t p) = Lively.still (waits-sent t p)
-  answer-lively peer next by e is (Still.owed t o) = answer-owed peer next by e is t o
-  answer-lively peer next by e is (Still.again g) = Lively.still (answer-again peer next by e g)
+  answer-lively : (lane next : ℕ) (by : List ℤ) → out ≡ FrameAnswer lane next by → IsOwed (node_at w h) lane next by → Still key k m w → Lively key k m v
+  answer-lively lane next by e is (Still.risen r) = Lively.still (risen-sent r)
+  answer-lively lane next by e is (Still.waits t p) = Lively.still (waits-sent t p)
+  answer-lively lane next by e is (Still.owed t o) = answer-owed lane next by e is t o
+  answer-lively lane next by e is (Still.again g) = Lively.still (answer-again lane next by e g)
 
   -- a fragment is sent
-  fragment-here : (peer : ℕ) (head : FrameHead) (part : List ℕ) (by : List ℤ) → out ≡ Fragment peer head part by → IsDueTo h (node_at w h) peer head part by → h ≡ a → peer ≡ b → (sender_between w a b).cursor ≡ k → Lively a b k m v
-  fragment-here peer head part by e is at to g =
-      let d : IsDueTo a (node_at w a) b head part by = subst (λ y. IsDueTo a (node_at w a) y head part by) to (subst (λ x. IsDueTo x (node_at w x) peer head part by) at is) in
-      let number : d.number ≡ k = (due-number (sender_between w a b) d.number d.due).is ∙ g in
-      let frame : frame_of a b (sent_between w a b) k ≡ Some (head, part) = subst (λ x. frame_of a b (sent_between w a b) x ≡ Some (head, part)) number d.frame in
-      let same : (head, part) ≡ (head_for a b k m, m.body) = same_Some (head, part) (head_for a b k m, m.body) (sym frame ∙ frame-there a b k (sent_between w a b) k m (short-of n a b k m w f) f.there) in
-      let wire : packet_for h (w.injected + 1) out ≡ packet_of by Gm (frame_payload a b k m) = ap (packet_for h (w.injected + 1)) e ∙ (fragment-wire h (w.injected + 1) peer head part by ∙ ap (λ x. packet_of by Gm (frame_bytes x.0 x.1)) same) in
-      Lively.frame (new-way (frame_payload a b k m) b by wire (subst (λ x. table_route (node_at w h).table x ≡ Some by) to is.route))
+  fragment-here : (lane : ℕ) (head : FrameHead) (part : List ℕ) (by : List ℤ) → out ≡ Fragment lane head part by → IsDueOn h (node_at w h) lane head part by → h ≡ key.src → lane ≡ sending_lane key → (sender_on w key).cursor ≡ k → Lively key k m v
+  fragment-here lane head part by e is at to g =
+      let d : IsDueOn key.src (node_at w key.src) (sending_lane key) head part by = subst (λ y. IsDueOn key.src (node_at w key.src) y head part by) to (subst (λ x. IsDueOn x (node_at w x) lane head part by) at is) in
+      let number : d.number ≡ k = (due-number (sender_on w key) d.number d.due).is ∙ g in
+      let mine : sends_on key.src (sending_lane key) ≡ connection key.src key.dst (prio_place key.prio) = λ i. connection key.src (peer_of-lane key.dst key.prio i) (prio_of-lane key.dst key.prio i) in
+      let frame : frame_of key (sent_on w key) k ≡ Some (head, part) = subst (λ x. frame_of key (sent_on w key) x ≡ Some (head, part)) number (sym (ap (λ x. frame_of x (sent_on w key) d.number) mine) ∙ d.frame) in
+      let same : (head, part) ≡ (head_for key k m, m.body) = same_Some (head, part) (head_for key k m, m.body) (sym frame ∙ frame-there key k (sent_on w key) k m (short-of n key k m w f) f.there) in
+      let wire : packet_for h (w.injected + 1) out ≡ packet_of by Gm (frame_payload key k m) = ap (packet_for h (w.injected + 1)) e ∙ (fragment-wire h (w.injected + 1) lane head part by ∙ ap (λ x. packet_of by Gm (frame_bytes x.0 x.1)) same) in
+      Lively.frame (new-way (frame_payload key k m) key.dst by wire (route-to lane key.dst key.prio by to is.route))
 
-  fragment-again : (peer : ℕ) (head : FrameHead) (part : List ℕ) (by : List ℤ) → out ≡ Fragment peer head part by → IsDueTo h (node_at w h) peer head part by → (sender_between w a b).cursor ≡ k → Lively a b k m v
-  fragment-again peer head part by e is g = cases (nat_eq h a) (nat_eq peer b) refl refl
+  fragment-again : (lane : ℕ) (head : FrameHead) (part : List ℕ) (by : List ℤ) → out ≡ Fragment lane head part by → IsDueOn h (node_at w h) lane head part by → (sender_on w key).cursor ≡ k → Lively key k m v
+  fragment-again lane head part by e is g = cases (nat_eq h key.src) (nat_eq lane (sending_lane key)) refl refl
     where
-      still : sender_between v a b ≡ sender_between w a b → Lively a b k m v
+      p : ℕ
+      p = sending_lane key
+
+      still : sender_on v key ≡ sender_on w key → Lively key k m v
       still same = Lively.still (Still.again (ap (λ s. s.cursor) same ∙ g))
 
-      cases : (x y : Bool) → nat_eq h a ≡ x → nat_eq peer b ≡ y → Lively a b k m v
-      cases true true p q = fragment-here peer head part by e is (grind (arith, nat_tests)) (grind (arith, nat_tests)) g
-      cases false y p q = let other : a ≢ h = grind (arith, nat_tests) in still (ap (λ x. (peer_at x b).sender) (unmoved a other))
-      cases true false p q =
-          let other : b ≢ peer = grind (arith, nat_tests) in
-          still (over (λ x y. (peer_at y b).sender ≡ (peer_at x b).sender) (λ x. refl) (subst (λ z. (peer_at (after_sending (node_at w h) z) b).sender ≡ (peer_at (node_at w h) b).sender) (sym e) (sent-other (node_at w h) peer head part by b other)) a)
+      cases : (x y : Bool) → nat_eq h key.src ≡ x → nat_eq lane p ≡ y → Lively key k m v
+      cases true true d i = fragment-here lane head part by e is (same-number h key.src d) (same-number lane p i) g
+      cases false y d i = still (ap (λ x. (lane_at x p).sender) (unmoved key.src (other-number h key.src d)))
+      cases true false d i =
+          still (over (λ x y. (lane_at y p).sender ≡ (lane_at x p).sender) (λ x. refl) (subst (λ z. (lane_at (after_sending (node_at w h) z) p).sender ≡ (lane_at (node_at w h) p).sender) (sym e) (sent-other (node_at w h) lane head part by p (other-number lane p i))) key.src)
 
-  fragment-owed : (peer : ℕ) (head : FrameHead) (part : List ℕ) (by : List ℤ) → out ≡ Fragment peer head part by → k < taken_between w a b → (peer_at (node_at w b) a).owes ≡ true → Still a b k m v
-  fragment-owed peer head part by e t o =
-      let same = over (λ x y. (peer_at y a).owes ≡ (peer_at x a).owes) (λ x. refl) (subst (λ z. (peer_at (after_sending (node_at w h) z) a).owes ≡ (peer_at (node_at w h) a).owes) (sym e) (sent-owes (node_at w h) peer head part by a)) b in
+  fragment-owed : (lane : ℕ) (head : FrameHead) (part : List ℕ) (by : List ℤ) → out ≡ Fragment lane head part by → k < taken_on w key → (lane_at (node_at w key.dst) (taking_lane key)).owes ≡ true → Still key k m v
+  fragment-owed lane head part by e t o =
+      let p : ℕ = taking_lane key in
+      let same = over (λ x y. (lane_at y p).owes ≡ (lane_at x p).owes) (λ x. refl) (subst (λ z. (lane_at (after_sending (node_at w h) z) p).owes ≡ (lane_at (node_at w h) p).owes) (sym e) (sent-owes (node_at w h) lane head part by p)) key.dst in
       Still.owed (omega (arith, t, taken-same)) (same ∙ o)
 
-  fragment-lively : (peer : ℕ) (head : FrameHead) (part : List ℕ) (by : List ℤ) → out ≡ Fragment peer head part by → IsDueTo h (node_at w h) peer head part by → Still a b k m w → Lively a b k m v
-  fragment-lively peer head part by e is (Still.risen r) = Lively.still (risen-sent r)
-  fragment-lively peer head part by e is (Still.waits t p) = Lively.still (waits-sent t p)
-  fragment-lively peer head part by e is (Still.owed t o) = Lively.still (fragment-owed peer head part by e t o)
-  fragment-lively peer head part by e is (Still.again g) = fragment-again peer head part by e is g
+  fragment-lively : (lane : ℕ) (head : FrameHead) (part : List ℕ) (by : List ℤ) → out ≡ Fragment lane head part by → IsDueOn h (node_at w h) lane head part by → Still key k m w → Lively key k m v
+  fragment-lively lane head part by e is (Still.risen r) = Lively.still (risen-sent r)
+  fragment-lively lane head part by e is (Still.waits t p) = Lively.still (waits-sent t p)
+  fragment-lively lane head part by e is (Still.owed t o) = Lively.still (fragment-owed lane head part by e t o)
+  fragment-lively lane head part by e is (Still.again g) = fragment-again lane head part by e is g
 
-  still-sent : (x : Outgoing) → out ≡ x → IsToPeer h (node_at w h) x → Still a b k m w → Lively a b k m v
-  still-sent (FrameAnswer peer next by) e is s = answer-lively peer next by e is s
-  still-sent (Fragment peer head part by) e is s = fragment-lively peer head part by e is s
+  still-sent : (x : Outgoing) → out ≡ x → IsToPeer h (node_at w h) x → Still key k m w → Lively key k m v
+  still-sent (FrameAnswer lane next by) e is s = answer-lively lane next by e is s
+  still-sent (Fragment lane head part by) e is s = fragment-lively lane head part by e is s
   still-sent (Probe walk looped) e is s = absurd is
   still-sent (TablePart part by) e is s = absurd is
   still-sent (Reply r) e is s = absurd is
   still-sent (PartAnswer r) e is s = absurd is
 
-  sent-lively : IsToPeer h (node_at w h) out → Lively a b k m w → Lively a b k m v
+  sent-lively : IsToPeer h (node_at w h) out → Lively key k m w → Lively key k m v
   sent-lively is (Lively.still s) = still-sent out refl is s
-  sent-lively is (Lively.frame o) = Lively.frame (other-way (frame_payload a b k m) b o)
-  sent-lively is (Lively.ack next more most o) = Lively.ack next more (omega (arith, most, taken-same)) (other-way (ack_payload a b next) a o)
+  sent-lively is (Lively.frame o) = Lively.frame (other-way (frame_payload key k m) key.dst o)
+  sent-lively is (Lively.ack next more most o) = Lively.ack next more (omega (arith, most, taken-same)) (other-way (ack_payload key next) key.src o)
 
 -- an injection that no planned fault strikes
-pub inject-lively : (n : Network) (a b k : ℕ) (m : Message) (w : WorldState) (h : ℕ) (r : Effect × WorldState) → Facts n a b k m w → IsBare w → InjectOf w h r → r.1.struck ≤ w.struck → Lively a b k m w → Lively a b k m r.1
-inject-lively n a b k m w h r f bare (InjectOf.idle e s) t l = subst (Lively a b k m) (sym s) l
-inject-lively n a b k m w h r f bare (InjectOf.sends c out chan e none x s) t l =
+pub inject-lively : (n : Network) (key : ConnectionKey) (k : ℕ) (m : Message) (w : WorldState) (h : ℕ) (r : Effect × WorldState) → Facts n key k m w → IsBare w → InjectOf w h r → r.1.struck ≤ w.struck → Lively key k m w → Lively key k m r.1
+inject-lively n key k m w h r f bare (InjectOf.idle e s) t l = subst (Lively key k m) (sym s) l
+inject-lively n key k m w h r f bare (InjectOf.sends c out chan e none x s) t l =
     let v : WorldState = planned_strikes (sent_out w h c out) c in
     let few : v.struck ≤ w.struck = subst (λ z. z.struck ≤ w.struck) s t in
-    subst (Lively a b k m) (sym s)
-    (sent-lively n a b k m w v f h c out chan none (injection-nodes w h c out) (unstruck-links w h c out none few) (to_send-peer h (node_at w h) (bare.each h) out e) l)
+    subst (Lively key k m) (sym s)
+    (sent-lively n key k m w v f h c out chan none (injection-nodes w h c out) (unstruck-links w h c out none few) (to_send-peer h (node_at w h) (bare.each h) out e) l)

@@ -2,11 +2,13 @@
 use Rattle.std.proofs.Common.{ℕ, ◌∙◌, arith}
 use Rattle.net_defs.specs.Network.{Network}
 use Rattle.gm_defs.specs.declared.message.Message.{Message}
+use Rattle.gm_defs.specs.declared.frame.ConnectionKey.{ConnectionKey}
 use Rattle.world_defs.specs.declared.event.Event.{Event}
 use Rattle.world_defs.specs.declared.event.Event.TheVariants.{Inject, Advance, Replay, Reset, Expire, GiveUp}
 use Rattle.world_defs.specs.EightBits.{IsByteEvent}
+use Rattle.world_defs.specs.Node.{sending_lane}
 use Rattle.world_defs.specs.World.{WorldState, node_at}
-use Rattle.world_defs.specs.Traffic.{sent_between}
+use Rattle.world_defs.specs.Traffic.{sent_on}
 use Rattle.world_defs.specs.Step.{step}
 use Rattle.world_laws.specs.Reached.{IsOfSettle}
 use Rattle.world_laws.proofs.Shapes.{step-kept}
@@ -36,22 +38,22 @@ along-going = record { same = follows-going.same; both = follows-going.both; eve
 pub along-reached : (n : Network) → Along (λ w v. IsReached n w → IsReached n v) IsOfSettle
 along-reached n = record { same = λ w r. r; both = λ u v w f g r. g (f r); event = λ w e q r. reached-next n w (Happens e) r (settle-byte e q).0 }
 
-event-facts : (n : Network) (a b k : ℕ) (m : Message) (w : WorldState) (e : Event) → IsOfSettle e → Facts n a b k m w → Facts n a b k m (step w e).1
-event-facts n a b k m w e q f =
+event-facts : (n : Network) (key : ConnectionKey) (k : ℕ) (m : Message) (w : WorldState) (e : Event) → IsOfSettle e → Facts n key k m w → Facts n key k m (step w e).1
+event-facts n key k m w e q f =
     let g : Going w (step w e).1 = event-going w e q in
     let count = g.nodes.count in
     let h = f.host in
     let p = f.peer in
     let low = f.low in
-    let up = ((g.nodes.each a).senders b).base in
+    let up = ((g.nodes.each key.src).senders (sending_lane key)).base in
     record {
       reached = reached-next n w (Happens e) f.reached (settle-byte e q).0;
       net = (step-kept w e).net ∙ f.net;
       host = omega (arith, h, count);
       peer = omega (arith, p, count);
       low = omega (arith, low, up);
-      there = sent-place (node_at w a) b k (sent_between w a b) (sent_between (step w e).1 a b) m ((acted-says n w (Happens e) f.reached a).sent b) f.there;
+      there = sent-place (node_at w key.src) (sending_lane key) k (sent_on w key) (sent_on (step w e).1 key) m ((acted-says n w (Happens e) f.reached key.src).sent (sending_lane key)) f.there;
     }
 
-pub along-facts : (n : Network) (a b k : ℕ) (m : Message) → Along (λ w v. Facts n a b k m w → Facts n a b k m v) IsOfSettle
-along-facts n a b k m = record { same = λ w f. f; both = λ u v w f g x. g (f x); event = event-facts n a b k m }
+pub along-facts : (n : Network) (key : ConnectionKey) (k : ℕ) (m : Message) → Along (λ w v. Facts n key k m w → Facts n key k m v) IsOfSettle
+along-facts n key k m = record { same = λ w f. f; both = λ u v w f g x. g (f x); event = event-facts n key k m }

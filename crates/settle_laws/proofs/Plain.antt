@@ -6,8 +6,9 @@ use Rattle.packet_defs.specs.declared.kind.Kind.TheVariants.{Gm}
 use Rattle.packet_defs.specs.Packet.{packet_of}
 use Rattle.link_defs.specs.Links.{Held, LinkState, packet_in, with_packet, is_idle}
 use Rattle.gm_defs.specs.Body.{frame_bytes, ack_bytes}
+use Rattle.gm_defs.specs.Connection.{ack_on}
 use Rattle.world_defs.specs.declared.effect.Effect.{Effect}
-use Rattle.world_defs.specs.Node.{Outgoing, Probe, TablePart, Reply, PartAnswer, FrameAnswer, Fragment, packet_for}
+use Rattle.world_defs.specs.Node.{takes_from, Outgoing, Probe, TablePart, Reply, PartAnswer, FrameAnswer, Fragment, packet_for}
 use Rattle.world_defs.specs.Step.{planned_strikes, sent_out}
 use Rattle.world_defs.specs.World.{WorldState, node_at}
 use Rattle.world_laws.proofs.Lists.{at-set}
@@ -44,8 +45,8 @@ set-plain s c p is new = record {
 -- an injection
 sent-plain : (host h number : ℕ) (w : WorldState) (out : Outgoing) → IsToPeer host (node_at w host) out → IsPlainPacket (record { wire = packet_for h number out; marked = false })
 unfolding packet_for
-sent-plain host h number w (FrameAnswer peer next by) is = record { unmarked = refl; turns = by; payload = ack_bytes (record { src = h; dst = peer; next = next }); wire = refl }
-sent-plain host h number w (Fragment peer head part by) is = record { unmarked = refl; turns = by; payload = frame_bytes head part; wire = refl }
+sent-plain host h number w (FrameAnswer lane next by) is = record { unmarked = refl; turns = by; payload = ack_bytes (ack_on (takes_from h lane) next); wire = refl }
+sent-plain host h number w (Fragment lane head part by) is = record { unmarked = refl; turns = by; payload = frame_bytes head part; wire = refl }
 sent-plain host h number w (Probe walk looped) is = absurd is
 sent-plain host h number w (TablePart part by) is = absurd is
 sent-plain host h number w (Reply r) is = absurd is

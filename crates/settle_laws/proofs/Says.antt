@@ -14,10 +14,11 @@ use Rattle.gm_defs.specs.Port.{without_first, send_of, ended_by, finished, taken
 use Rattle.gm_defs.proofs.Choices.{chosen}
 use Rattle.world_defs.specs.declared.client.ClientCause.TheVariants.{TooLong, NoRoute, Spent}
 use Rattle.world_defs.specs.Table.{table_route}
-use Rattle.world_defs.specs.Peer.{PeerState, Ticket, new_peer, with_message, peer_acknowledged, peer_expired, peer_sent_one, peer_answered, tickets_finished, got_after, peer_after}
-use Rattle.world_defs.specs.Node.{NodeState, Outgoing, Probe, TablePart, Reply, PartAnswer, FrameAnswer, Fragment, peer_at, with_peer, port_at, with_port, after_sending, node_expired}
-use Rattle.world_defs.specs.Hearing.{message_of, delivered_after, frame_heard, frame_took, all_finished, hear}
-use Rattle.world_defs.specs.Client.{ClientState, Called, Wanted, wanted_message}
+use Rattle.world_defs.specs.Lane.{LaneState, Ticket, new_lane, with_message, lane_acknowledged, lane_expired, lane_sent_one, lane_answered, tickets_finished, got_after, lane_after}
+use Rattle.world_defs.specs.Node.{NodeState, Outgoing, Probe, TablePart, Reply, PartAnswer, FrameAnswer, Fragment, lane_of, lane_at, lane_route, with_lane, port_at, with_port, after_sending, with_expired, node_expired}
+use Rattle.world_defs.specs.Hearing.{message_of, frame_lane, ack_lane, delivered_after, frame_heard, frame_took, all_finished, hear}
+use Rattle.world_defs.specs.Client.{ClientState, Called, Wanted, wanted_message, wanted_lane}
+use Rattle.world_defs.proofs.Lanes.{peer_of-lane}
 use Rattle.world_defs.proofs.Lists.{each-set}
 use Rattle.world_defs.proofs.Calls.{Call}
 use Rattle.world_laws.proofs.Lists.{at-set}
@@ -33,37 +34,37 @@ abbrev pub PortFits : Option PortState → Type 0
 PortFits None = Unit {0}
 PortFits (Some p) = AllByRecursion (λ r. r.prio < 2) p.provided
 
--- what is sent to a peer: as before, or a message more, from a port of the host, and the table has a route there
-pub data SentSo (n : NodeState) (peer : ℕ) (old new : List Message) : Type 0 where
-  same : new ≡ old → SentSo n peer old new
-  more : (m : Message) → new ≡ old ++ m ∷ [] → m.sport < length n.ports → is_some (table_route n.table peer) ≡ true → SentSo n peer old new
+-- what is sent by a lane: as before, or a message more, from a port of the host, and the table has a route to its peer
+pub data SentSo (n : NodeState) (lane : ℕ) (old new : List Message) : Type 0 where
+  same : new ≡ old → SentSo n lane old new
+  more : (m : Message) → new ≡ old ++ m ∷ [] → m.sport < length n.ports → is_some (lane_route n lane) ≡ true → SentSo n lane old new
 
 -- a change of a host
 pub record NodeSays (n m : NodeState) : Type 0 where
-  pub sent : (p : ℕ) → SentSo n p (peer_at n p).sent (peer_at m p).sent
-  pub got : (p : ℕ) → AllByRecursion IsFor (peer_at n p).got → AllByRecursion IsFor (peer_at m p).got
+  pub sent : (p : ℕ) → SentSo n p (lane_at n p).sent (lane_at m p).sent
+  pub got : (p : ℕ) → AllByRecursion IsFor (lane_at n p).got → AllByRecursion IsFor (lane_at m p).got
   pub ports : (port : ℕ) → PortFits (port_at n port) → PortFits (port_at m port)
 
-pub says-quiet : (n m : NodeState) → m.peers ≡ n.peers → m.ports ≡ n.ports → NodeSays n m
+pub says-quiet : (n m : NodeState) → m.lanes ≡ n.lanes → m.ports ≡ n.ports → NodeSays n m
 says-quiet n m e f = record {
-  sent = λ p. SentSo.same (ap (λ l. (get_or l p new_peer).sent) e);
-  got = λ p all. subst (λ l. AllByRecursion IsFor (get_or l p new_peer).got) (sym e) all;
+  sent = λ p. SentSo.same (ap (λ l. (get_or l p new_lane).sent) e);
+  got = λ p all. subst (λ l. AllByRecursion IsFor (get_or l p new_lane).got) (sym e) all;
   ports = λ port fit. subst (λ l. PortFits (get_or l port None)) (sym f) fit;
 }
 
 -- a call that changes a port alone
-pub says-port : (n m : NodeState) → m.peers ≡ n.peers → ((port : ℕ) → PortFits (port_at n port) → PortFits (port_at m port)) → NodeSays n m
+pub says-port : (n m : NodeState) → m.lanes ≡ n.lanes → ((port : ℕ) → PortFits (port_at n port) → PortFits (port_at m port)) → NodeSays n m
 says-port n m e k = record {
-  sent = λ p. SentSo.same (ap (λ l. (get_or l p new_peer).sent) e);
-  got = λ p all. subst (λ l. AllByRecursion IsFor (get_or l p new_peer).got) (sym e) all;
+  sent = λ p. SentSo.same (ap (λ l. (get_or l p new_lane).sent) e);
+  got = λ p all. subst (λ l. AllByRecursion IsFor (get_or l p new_lane).got) (sym e) all;
   ports = k;
 }
 
--- the connections with one peer, whose messages sent stay, and then ports
-says-peer : (n m : NodeState) (k : ℕ) (q : PeerState) → m.peers ≡ (with_peer n k q).peers → q.sent ≡ (peer_at n k).sent → (AllByRecursion IsFor (peer_at n k).got → AllByRecursion IsFor q.got) → ((port : ℕ) → PortFits (port_at n port) → PortFits (port_at m port)) → NodeSays n m
-says-peer n m k q e s g f = record {
-  sent = λ p. SentSo.same (ap (λ l. (get_or l p new_peer).sent) e ∙ at-set (λ a b. b.sent ≡ a.sent) (λ a. refl) n.peers k p q new_peer s);
-  got = λ p all. subst (λ l. AllByRecursion IsFor (get_or l p new_peer).got) (sym e) (at-set (λ a b. AllByRecursion IsFor a.got → AllByRecursion IsFor b.got) (λ a x. x) n.peers k p q new_peer g all);
+-- one lane, whose messages sent stay, and then ports
+says-lane : (n m : NodeState) (k : ℕ) (q : LaneState) → m.lanes ≡ (with_lane n k q).lanes → q.sent ≡ (lane_at n k).sent → (AllByRecursion IsFor (lane_at n k).got → AllByRecursion IsFor q.got) → ((port : ℕ) → PortFits (port_at n port) → PortFits (port_at m port)) → NodeSays n m
+says-lane n m k q e s g f = record {
+  sent = λ p. SentSo.same (ap (λ l. (get_or l p new_lane).sent) e ∙ at-set (λ a b. b.sent ≡ a.sent) (λ a. refl) n.lanes k p q new_lane s);
+  got = λ p all. subst (λ l. AllByRecursion IsFor (get_or l p new_lane).got) (sym e) (at-set (λ a b. AllByRecursion IsFor a.got → AllByRecursion IsFor b.got) (λ a x. x) n.lanes k p q new_lane g all);
   ports = f;
 }
 
@@ -93,7 +94,7 @@ delivered_after-fits n h part NotNext port fit = fit
 delivered_after-fits n h part NoToken port fit = fit
 delivered_after-fits n h part Whole port fit = port-fits n h.dport (option_map (λ p. delivered p h part) (port_at n h.dport)) (delivered-fits h part (port_at n h.dport)) port fit
 
-delivered_after-same : (n : NodeState) (h : FrameHead) (part : List ℕ) (t : Took) → (delivered_after n h part t).peers ≡ n.peers
+delivered_after-same : (n : NodeState) (h : FrameHead) (part : List ℕ) (t : Took) → (delivered_after n h part t).lanes ≡ n.lanes
 delivered_after-same n h part NotNext = refl
 delivered_after-same n h part NoToken = refl
 delivered_after-same n h part Whole = refl
@@ -137,8 +138,8 @@ got-for got Whole m is all = all-push IsFor got m all is
 
 frame-says : (n : NodeState) (h : FrameHead) (part : List ℕ) (t : Took) → is_head h ≡ true → NodeSays n (frame_heard n h part t).1
 frame-says n h part t e =
-    let q : PeerState = peer_after (peer_at n h.src) t (message_of h part) in
-    says-peer n _ h.src q (delivered_after-same (with_peer n h.src q) h part t) refl (got-for (peer_at n h.src).got t (message_of h part) (head-for h part e)) (delivered_after-fits (with_peer n h.src q) h part t)
+    let q : LaneState = lane_after (lane_at n (frame_lane h)) t (message_of h part) in
+    says-lane n _ (frame_lane h) q (delivered_after-same (with_lane n (frame_lane h) q) h part t) refl (got-for (lane_at n (frame_lane h)).got t (message_of h part) (head-for h part e)) (delivered_after-fits (with_lane n (frame_lane h) q) h part t)
 
 -- an acknowledgement
 ended-fits : (p : PortState) (token : ℕ) (o : Option Sending) → PortFits (Some p) → PortFits (Some (ended_by p token o))
@@ -155,15 +156,15 @@ all_finished-fits n (t ∷ ts) port fit =
     let p : Option PortState = option_map (λ p. finished p t.token) (port_at n t.port) in
     all_finished-fits (with_port n t.port p) ts port (port-fits n t.port p (finished-fits t.token (port_at n t.port)) port fit)
 
-all_finished-same : (n : NodeState) (ts : List Ticket) → (all_finished n ts).peers ≡ n.peers
+all_finished-same : (n : NodeState) (ts : List Ticket) → (all_finished n ts).lanes ≡ n.lanes
 all_finished-same n [] = refl
 all_finished-same n (t ∷ ts) = all_finished-same (with_port n t.port (option_map (λ p. finished p t.token) (port_at n t.port))) ts
 
-ack-says : (n : NodeState) (src next : ℕ) → NodeSays n (all_finished (with_peer n src (peer_acknowledged (peer_at n src) next)) (tickets_finished (peer_at n src) next))
-ack-says n src next =
-    let q : PeerState = peer_acknowledged (peer_at n src) next in
-    let ts : List Ticket = tickets_finished (peer_at n src) next in
-    says-peer n _ src q (all_finished-same (with_peer n src q) ts) refl (λ all. all) (all_finished-fits (with_peer n src q) ts)
+ack-says : (n : NodeState) (lane next : ℕ) → NodeSays n (all_finished (with_lane n lane (lane_acknowledged (lane_at n lane) next)) (tickets_finished (lane_at n lane) next))
+ack-says n lane next =
+    let q : LaneState = lane_acknowledged (lane_at n lane) next in
+    let ts : List Ticket = tickets_finished (lane_at n lane) next in
+    says-lane n _ lane q (all_finished-same (with_lane n lane q) ts) refl (λ all. all) (all_finished-fits (with_lane n lane q) ts)
 
 -- whatever a host hears
 pub hear-says : (host hosts : ℕ) (n : NodeState) (wire : List ℕ) → NodeSays n (hear host hosts n wire).1
@@ -172,7 +173,7 @@ hear-says host hosts n wire = by (hear host hosts n wire).1 (hear-is host hosts 
     by : (m : NodeState) → IsHeard host hosts n wire m → NodeSays n m
     by m (quietly e f) = says-quiet n m e f
     by m (of_frame body h e d mine there is) = subst (NodeSays n) (sym is) (frame-says n h (part_in body) (frame_took n h) (read-head body h d))
-    by m (of_ack body a e d mine there is) = subst (NodeSays n) (sym is) (ack-says n a.src a.next)
+    by m (of_ack body a e d mine there is) = subst (NodeSays n) (sym is) (ack-says n (ack_lane a) a.next)
 
 -- what a host sends, and an expiry
 pub sent-says : (n : NodeState) (out : Outgoing) → NodeSays n (after_sending n out)
@@ -181,11 +182,26 @@ sent-says n (Probe walk looped) = says-quiet n _ refl refl
 sent-says n (TablePart part by) = says-quiet n _ refl refl
 sent-says n (Reply r) = says-quiet n _ refl refl
 sent-says n (PartAnswer a) = says-quiet n _ refl refl
-sent-says n (FrameAnswer peer next by) = says-peer n _ peer (peer_answered (peer_at n peer)) refl refl (λ all. all) (λ port fit. fit)
-sent-says n (Fragment peer head part by) = says-peer n _ peer (peer_sent_one (peer_at n peer)) refl refl (λ all. all) (λ port fit. fit)
+sent-says n (FrameAnswer lane next by) = says-lane n _ lane (lane_answered (lane_at n lane)) refl refl (λ all. all) (λ port fit. fit)
+sent-says n (Fragment lane head part by) = says-lane n _ lane (lane_sent_one (lane_at n lane)) refl refl (λ all. all) (λ port fit. fit)
+
+lane-expired : (n : NodeState) (lane : ℕ) → NodeSays n (with_expired n lane)
+lane-expired n lane = says-lane n _ lane (lane_expired (lane_at n lane)) refl refl (λ all. all) (λ port fit. fit)
+
+-- an expiry sends nothing new, so its two lanes go one behind the other
+sent-same : (n : NodeState) (lane k : ℕ) → (lane_at (with_expired n lane) k).sent ≡ (lane_at n k).sent
+sent-same n lane k = at-set (λ a b. b.sent ≡ a.sent) (λ a. refl) n.lanes lane k (lane_expired (lane_at n lane)) new_lane refl
 
 pub expired-says : (n : NodeState) (peer : ℕ) → NodeSays n (node_expired n peer)
-expired-says n peer = says-peer n _ peer (peer_expired (peer_at n peer)) refl refl (λ all. all) (λ port fit. fit)
+expired-says n peer =
+    let first : ℕ = lane_of peer 0 in
+    let second : ℕ = lane_of peer 1 in
+    let m : NodeState = with_expired n first in
+    record {
+      sent = λ k. SentSo.same (sent-same m second k ∙ sent-same n first k);
+      got = λ k all. (lane-expired m second).got k ((lane-expired n first).got k all);
+      ports = λ port fit. fit;
+    }
 
 -- a message that is accepted
 some-below : {X : Type 0} (xs : List (Option X)) (i : ℕ) (x : X) → get_or xs i None ≡ Some x → i < length xs
@@ -211,11 +227,12 @@ call-says {n = n} (Call.provides {port = port} size prio t ts p d e f g k) =
     let low : prio < 2 = grind (arith, nat_tests) in
     says-port n _ refl (port-fits n port _ (λ fit. all-push (λ r. r.prio < 2) p.provided _ (subst PortFits e fit) low))
 call-says {n = n} (Call.accepts s t ts p d e f g k) =
-    let q : PeerState = with_message (peer_at n s.dest) (wanted_message s) (record { port = s.port; token = t }) in
+    let q : LaneState = with_message (lane_at n (wanted_lane s)) (wanted_message s) (record { port = s.port; token = t }) in
     let route : is_some (table_route n.table s.dest) ≡ true = route-there n s _ (is_none (table_route n.table s.dest)) _ refl k in
+    let here : is_some (lane_route n (wanted_lane s)) ≡ true = subst (λ x. is_some (table_route n.table x) ≡ true) (sym (peer_of-lane s.dest s.prio)) route in
     record {
-      sent = λ j. each-set (λ i y. SentSo n i (peer_at n i).sent y.sent) n.peers s.dest j q new_peer (SentSo.more (wanted_message s) refl (some-below n.ports s.port p e) route) (λ i. SentSo.same refl);
-      got = λ j all. at-set (λ a b. AllByRecursion IsFor a.got → AllByRecursion IsFor b.got) (λ a x. x) n.peers s.dest j q new_peer (λ x. x) all;
+      sent = λ j. each-set (λ i y. SentSo n i (lane_at n i).sent y.sent) n.lanes (wanted_lane s) j q new_lane (SentSo.more (wanted_message s) refl (some-below n.ports s.port p e) here) (λ i. SentSo.same refl);
+      got = λ j all. at-set (λ a b. AllByRecursion IsFor a.got → AllByRecursion IsFor b.got) (λ a x. x) n.lanes (wanted_lane s) j q new_lane (λ x. x) all;
       ports = λ port fit. port-fits n s.port _ (λ x. subst PortFits e x) port fit;
     }
 call-says {n = n} (Call.hands_sent {port = port} t buffer p d e f g) = says-port n _ refl (port-fits n port _ (λ fit. subst PortFits e fit))

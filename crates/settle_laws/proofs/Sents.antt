@@ -7,11 +7,13 @@ use Rattle.std.proofs.lemmas.List.{get_or_past}
 use Rattle.net_defs.specs.Network.{Network}
 use Rattle.net_defs.proofs.Distinct.{all-push}
 use Rattle.gm_defs.specs.declared.message.Message.{Message}
+use Rattle.gm_defs.specs.declared.frame.ConnectionKey.{ConnectionKey}
 use Rattle.world_defs.specs.Table.{table_route}
-use Rattle.world_defs.specs.Peer.{new_peer}
-use Rattle.world_defs.specs.Node.{NodeState, peer_at, port_at, new_node, port_count}
+use Rattle.world_defs.specs.Lane.{new_lane}
+use Rattle.world_defs.specs.Node.{NodeState, lane_count, sending_lane, taking_lane, lane_at, port_at, new_node, port_count}
+use Rattle.world_defs.proofs.Lanes.{peer_of-lane}
 use Rattle.world_defs.specs.World.{WorldState, host_count, node_at, new_world}
-use Rattle.world_defs.specs.Traffic.{sent_between, got_between}
+use Rattle.world_defs.specs.Traffic.{sent_on, got_on}
 use Rattle.world_laws.specs.Shape.{IsWorld}
 use Rattle.act_defs.specs.Acts.{Act, acted, MayAct, IsReached}
 use Rattle.order_laws.proofs.Frames.{get-front}
@@ -37,15 +39,15 @@ pub acted-says : (n : Network) (w : WorldState) (a : Act) → IsReached n w → 
 acted-says n w a is h = (acted-goes w (numbers_of w) (λ h. NodeSays) (says-rules w) a (reached-windowed n w is).links).nodes h
 
 -- messages that were sent stay at their places
-pub sent-place : (n : NodeState) (peer k : ℕ) (old new : List Message) (m : Message) → SentSo n peer old new → slice_get old k ≡ Some m → slice_get new k ≡ Some m
-sent-place n peer k old new m (SentSo.same e) there = ap (λ l. slice_get l k) e ∙ there
-sent-place n peer k old new m (SentSo.more x e low route) there = ap (λ l. slice_get l k) e ∙ get-front old (x ∷ []) k m there
+pub sent-place : (n : NodeState) (lane k : ℕ) (old new : List Message) (m : Message) → SentSo n lane old new → slice_get old k ≡ Some m → slice_get new k ≡ Some m
+sent-place n lane k old new m (SentSo.same e) there = ap (λ l. slice_get l k) e ∙ there
+sent-place n lane k old new m (SentSo.more x e low route) there = ap (λ l. slice_get l k) e ∙ get-front old (x ∷ []) k m there
 
 -- the invariant
 pub record IsSaid (w : WorldState) : Type 0 where
-  pub from_ports : (a b : ℕ) → AllByRecursion (λ m. m.sport < 8) (sent_between w a b)
-  pub routed : (a b : ℕ) → 0 < length (sent_between w a b) → is_some (table_route (node_at w a).table b) ≡ true
-  pub got : (a b : ℕ) → AllByRecursion IsFor (got_between w a b)
+  pub from_ports : (c : ConnectionKey) → AllByRecursion (λ m. m.sport < 8) (sent_on w c)
+  pub routed : (c : ConnectionKey) → 0 < length (sent_on w c) → is_some (table_route (node_at w c.src).table c.dst) ≡ true
+  pub got : (c : ConnectionKey) → AllByRecursion IsFor (got_on w c)
   pub ports : (h port : ℕ) → PortFits (port_at (node_at w h) port)
 
 -- each host has eight ports, also one that isn't there
@@ -60,33 +62,34 @@ module _ (n : Network) (w : WorldState) (a : Act) (is : IsReached n w) (may : Ma
   abbrev v : WorldState
   v = acted w a
 
-  from-port : (x y : ℕ) → SentSo (node_at w x) y (sent_between w x y) (sent_between v x y) → AllByRecursion (λ m. m.sport < 8) (sent_between v x y)
-  from-port x y (SentSo.same e) = subst (AllByRecursion (λ m. m.sport < 8)) (sym e) (said.from_ports x y)
-  from-port x y (SentSo.more m e low route) =
-      let eight = eight-ports w x (reached-world n w is) in
-      subst (AllByRecursion (λ m. m.sport < 8)) (sym e) (all-push (λ m. m.sport < 8) (sent_between w x y) m (said.from_ports x y) (omega (arith, low, eight)))
+  from-port : (c : ConnectionKey) → SentSo (node_at w c.src) (sending_lane c) (sent_on w c) (sent_on v c) → AllByRecursion (λ m. m.sport < 8) (sent_on v c)
+  from-port c (SentSo.same e) = subst (AllByRecursion (λ m. m.sport < 8)) (sym e) (said.from_ports c)
+  from-port c (SentSo.more m e low route) =
+      let eight = eight-ports w c.src (reached-world n w is) in
+      subst (AllByRecursion (λ m. m.sport < 8)) (sym e) (all-push (λ m. m.sport < 8) (sent_on w c) m (said.from_ports c) (omega (arith, low, eight)))
 
-  routed-then : (x y : ℕ) → SentSo (node_at w x) y (sent_between w x y) (sent_between v x y) → 0 < length (sent_between v x y) → is_some (table_route (node_at v x).table y) ≡ true
-  routed-then x y (SentSo.same e) some = route-stays n w a x y is may now (said.routed x y (subst (λ l. 0 < length l) e some))
-  routed-then x y (SentSo.more m e low route) some = route-stays n w a x y is may now route
+  routed-then : (c : ConnectionKey) → SentSo (node_at w c.src) (sending_lane c) (sent_on w c) (sent_on v c) → 0 < length (sent_on v c) → is_some (table_route (node_at v c.src).table c.dst) ≡ true
+  routed-then c (SentSo.same e) some = route-stays n w a c.src c.dst is may now (said.routed c (subst (λ l. 0 < length l) e some))
+  routed-then c (SentSo.more m e low route) some =
+      route-stays n w a c.src c.dst is may now (subst (λ x. is_some (table_route (node_at w c.src).table x) ≡ true) (peer_of-lane c.dst c.prio) route)
 
   acted-said : IsSaid (acted w a)
   acted-said = record {
-    from_ports = λ x y. from-port x y ((acted-says n w a is x).sent y);
-    routed = λ x y. routed-then x y ((acted-says n w a is x).sent y);
-    got = λ x y. (acted-says n w a is y).got x (said.got x y);
+    from_ports = λ c. from-port c ((acted-says n w a is c.src).sent (sending_lane c));
+    routed = λ c. routed-then c ((acted-says n w a is c.src).sent (sending_lane c));
+    got = λ c. (acted-says n w a is c.dst).got (taking_lane c) (said.got c);
     ports = λ h port. (acted-says n w a is h).ports port (said.ports h port);
   }
 
 -- the new world
 -- a host before anything happened
 record IsNew (x : NodeState) : Type 0 where
-  peers : (p : ℕ) → peer_at x p ≡ new_peer
+  lanes : (p : ℕ) → lane_at x p ≡ new_lane
   ports : (port : ℕ) → port_at x port ≡ None
 
 new-node : (k : ℕ) → IsNew (new_node k)
 new-node k = record {
-  peers = λ p. each-replicate (λ x. x ≡ new_peer) k p new_peer new_peer refl refl;
+  lanes = λ p. each-replicate (λ x. x ≡ new_lane) (lane_count k) p new_lane new_lane refl refl;
   ports = λ port. each-replicate (λ x. x ≡ None) port_count port None None refl refl;
 }
 
@@ -95,9 +98,9 @@ new-nodes n h = let k : ℕ = length n.hosts in each-replicate IsNew k h (new_no
 
 new-said : (n : Network) → IsSaid (new_world n)
 new-said n = record {
-  from_ports = λ a b. subst (λ p. AllByRecursion (λ m. m.sport < 8) p.sent) (sym ((new-nodes n a).peers b)) tt;
-  routed = λ a b some. let none : length (sent_between (new_world n) a b) ≡ 0 = ap (λ p. length p.sent) ((new-nodes n a).peers b) in absurd (omega (arith, some, none));
-  got = λ a b. subst (λ p. AllByRecursion IsFor p.got) (sym ((new-nodes n b).peers a)) tt;
+  from_ports = λ c. subst (λ p. AllByRecursion (λ m. m.sport < 8) p.sent) (sym ((new-nodes n c.src).lanes (sending_lane c))) tt;
+  routed = λ c some. let none : length (sent_on (new_world n) c) ≡ 0 = ap (λ p. length p.sent) ((new-nodes n c.src).lanes (sending_lane c)) in absurd (omega (arith, some, none));
+  got = λ c. subst (λ p. AllByRecursion IsFor p.got) (sym ((new-nodes n c.dst).lanes (taking_lane c))) tt;
   ports = λ h port. subst PortFits (sym ((new-nodes n h).ports port)) tt;
 }
 

@@ -9,15 +9,16 @@ use Rattle.net_defs.specs.Route.{place, host_port, channel_from}
 use Rattle.link_defs.specs.Links.{is_idle}
 use Rattle.link_defs.proofs.LonePackets.{no_channel-place}
 use Rattle.gm_defs.specs.declared.message.Message.{Message}
+use Rattle.gm_defs.specs.declared.frame.ConnectionKey.{ConnectionKey}
 use Rattle.net_defs.specs.RouteSet.{HasRoute}
 use Rattle.world_defs.specs.Table.{ActiveTable, table_route}
-use Rattle.world_defs.specs.Node.{to_send}
+use Rattle.world_defs.specs.Node.{sending_lane, to_send}
 use Rattle.world_defs.specs.World.{WorldState, fabric_of, host_count, last_count, node_at}
 use Rattle.world_defs.specs.Step.{after_all}
 use Rattle.world_defs.specs.Drain.{clear}
-use Rattle.world_defs.specs.Traffic.{adopted_routes, routes_in, sent_between}
+use Rattle.world_defs.specs.Traffic.{adopted_routes, routes_in, sender_on, sent_on}
 use Rattle.world_defs.specs.Settle.{Stretch, expiries, round_pass, unacknowledged_in, base_rose, has_helped, is_last_round, Rounds}
-use Rattle.world_defs.specs.Settled.{sender_between, IsSettledPair, IsSettled}
+use Rattle.world_defs.specs.Settled.{IsSettledConnection, IsSettled}
 use Rattle.world_laws.specs.Reached.{IsOfSettle}
 use Rattle.world_laws.specs.Settling.{RoundPasses, IsRound, AllRounds}
 use Rattle.world_laws.proofs.Shapes.{step-kept}
@@ -42,7 +43,7 @@ use Rattle.settle_laws.proofs.Expiring.{expiries-links, expiries-again}
 use Rattle.settle_laws.proofs.Waiting.{place-there, still-waiting, unreadable}
 
 pub sent-route : SentHasRoute
-sent-route n w is a b some = (reached-said n w is).routed a b some
+sent-route n w is c some = (reached-said n w is).routed c some
 
 -- what passes leave
 passes-going : (p : ℕ) (w : WorldState) (s : Stretch) → RoundPasses p w s → Going w s.world
@@ -55,24 +56,24 @@ passes-idle p w s (RoundPasses.last_pass e) = pass-idle w
 passes-idle p w s (RoundPasses.another_pass {n = j} {s = rest} e more c d) = ap (λ t. is_idle t.world.links) d ∙ passes-idle j (round_pass w).world rest more
 
 -- a connection behind the last pass of a round
-record Ended (n : Network) (a b k : ℕ) (m : Message) (z : WorldState) : Type 0 where
-  facts : Facts n a b k m z
-  still : Still a b k m z
-  host_done : to_send a (node_at z a) ≡ None
-  peer_done : to_send b (node_at z b) ≡ None
+record Ended (n : Network) (key : ConnectionKey) (k : ℕ) (m : Message) (z : WorldState) : Type 0 where
+  facts : Facts n key k m z
+  still : Still key k m z
+  host_done : to_send key.src (node_at z key.src) ≡ None
+  peer_done : to_send key.dst (node_at z key.dst) ≡ None
 
-module _ (flows : PlainDrainsIdle) (n : Network) (a b k : ℕ) (m : Message) (readable : IsReadable m) (from : is_some (channel_from n (host_port a)) ≡ true) (to : is_some (channel_from n (host_port b)) ≡ true) where
+module _ (flows : PlainDrainsIdle) (n : Network) (key : ConnectionKey) (k : ℕ) (m : Message) (readable : IsReadable m) (from : is_some (channel_from n (host_port key.src)) ≡ true) (to : is_some (channel_from n (host_port key.dst)) ≡ true) where
   cable : (h : ℕ) (w : WorldState) → fabric_of w ≡ n → is_some (channel_from n (host_port h)) ≡ true → is_some (channel_from (fabric_of w) (host_port h)) ≡ true
   cable h w net e = ap (λ x. is_some (channel_from x (host_port h))) net ∙ e
 
-  passes-end : (p : ℕ) (w : WorldState) (s : Stretch) → RoundPasses p w s → is_idle w.links ≡ true → s.world.struck ≤ w.struck → s.world.injected < last_count → Facts n a b k m w → Still a b k m w → Ended n a b k m s.world
+  passes-end : (p : ℕ) (w : WorldState) (s : Stretch) → RoundPasses p w s → is_idle w.links ≡ true → s.world.struck ≤ w.struck → s.world.injected < last_count → Facts n key k m w → Still key k m w → Ended n key k m s.world
   passes-end p w s (RoundPasses.last_pass e) idle few left f still =
-      let then_f = pass-facts flows n a b k m readable w f in
+      let then_f = pass-facts flows n key k m readable w f in
       record {
         facts = then_f;
-        still = pass-still flows n a b k m readable w idle few f still;
-        host_done = nothing-left w a idle e f.host then_f.host (cable a w f.net from) left;
-        peer_done = nothing-left w b idle e f.peer then_f.peer (cable b w f.net to) left;
+        still = pass-still flows n key k m readable w idle few f still;
+        host_done = nothing-left w key.src idle e f.host then_f.host (cable key.src w f.net from) left;
+        peer_done = nothing-left w key.dst idle e f.peer then_f.peer (cable key.dst w f.net to) left;
       }
   passes-end p w s (RoundPasses.another_pass {n = j} {s = rest} e more c d) idle few left f still =
       let mid : WorldState = (round_pass w).world in
@@ -80,8 +81,8 @@ module _ (flows : PlainDrainsIdle) (n : Network) (a b k : ℕ) (m : Message) (re
       let on = (passes-going j mid rest more).rises in
       let few_all : rest.world.struck ≤ w.struck = subst (λ t. t.world.struck ≤ w.struck) d few in
       let left_all : rest.world.injected < last_count = subst (λ t. t.world.injected < last_count) d left in
-      subst (λ t. Ended n a b k m t.world) (sym d)
-      (passes-end j mid rest more (pass-idle w) (omega (arith, few_all, up)) left_all (pass-facts flows n a b k m readable w f) (pass-still flows n a b k m readable w idle (omega (arith, few_all, on)) f still))
+      subst (λ t. Ended n key k m t.world) (sym d)
+      (passes-end j mid rest more (pass-idle w) (omega (arith, few_all, up)) left_all (pass-facts flows n key k m readable w f) (pass-still flows n key k m readable w idle (omega (arith, few_all, on)) f still))
 
 -- a route from a host needs its cable
 has-cable : (n : Network) (h to : ℕ) (walk : List ℤ) → place n h walk ≡ AtHostPlace to → is_some (channel_from n (host_port h)) ≡ true
@@ -109,9 +110,9 @@ route-back n z a b is joined there active back =
     ap is_some (table-route n z b a is back) ∙ in-route (adopted_routes z) b a y.place y.route y.there y.from y.to
 
 -- a connection behind the last round
-module _ (flows : PlainDrainsIdle) (n : Network) (w : WorldState) (s : Stretch) (round : IsRound w s) (is : IsReached n w) (net : fabric_of w ≡ n) (idle : is_idle w.links ≡ true) (few : s.world.struck ≤ w.struck) (left : s.world.injected < last_count) (joined : AreJoined s.world) (a b : ℕ) (low : a < host_count w) (below : b < host_count w) (same : (sender_between s.world a b).base ≡ (sender_between w a b).base) (some : (sender_between w a b).base < (sender_between w a b).next) where
+module _ (flows : PlainDrainsIdle) (n : Network) (w : WorldState) (s : Stretch) (round : IsRound w s) (is : IsReached n w) (net : fabric_of w ≡ n) (idle : is_idle w.links ≡ true) (few : s.world.struck ≤ w.struck) (left : s.world.injected < last_count) (joined : AreJoined s.world) (key : ConnectionKey) (low : key.src < host_count w) (below : key.dst < host_count w) (same : (sender_on s.world key).base ≡ (sender_on w key).base) (some : (sender_on w key).base < (sender_on w key).next) where
   abbrev k : ℕ
-  k = (sender_between w a b).base
+  k = (sender_on w key).base
 
   abbrev z : WorldState
   z = s.world
@@ -125,51 +126,51 @@ module _ (flows : PlainDrainsIdle) (n : Network) (w : WorldState) (s : Stretch) 
   reached-end : IsReached n z
   reached-end = round-along (λ w v. IsReached n w → IsReached n v) IsOfSettle (along-reached n) settles-of w s round is
 
-  next-same : (sender_between z a b).next ≡ (sender_between w a b).next
-  next-same = ((going.nodes.each a).senders b).next
+  next-same : (sender_on z key).next ≡ (sender_on w key).next
+  next-same = ((going.nodes.each key.src).senders (sending_lane key)).next
 
-  message : (m : Message) × (slice_get (sent_between w a b) k ≡ Some m)
-  message = let long = (((reached-ordered n w is).hosts a).peers b).numbered in place-there (sent_between w a b) k (omega (arith, some, long))
+  message : (m : Message) × (slice_get (sent_on w key) k ≡ Some m)
+  message = let long = (((reached-ordered n w is).hosts key.src).lanes (sending_lane key)).numbered in place-there (sent_on w key) k (omega (arith, some, long))
 
   abbrev m : Message
   m = message.0
 
-  first : Facts n a b k m w
+  first : Facts n key k m w
   first = record { reached = is; net = net; host = low; peer = below; low = omega arith; there = message.1 }
 
-  last : Facts n a b k m z
-  last = round-along (λ w v. Facts n a b k m w → Facts n a b k m v) IsOfSettle (along-facts n a b k m) settles-of w s round first
+  last : Facts n key k m z
+  last = round-along (λ w v. Facts n key k m w → Facts n key k m v) IsOfSettle (along-facts n key k m) settles-of w s round first
 
-  start : Facts n a b k m u
-  start = expiries-along (λ w v. Facts n a b k m w → Facts n a b k m v) IsOfSettle (along-facts n a b k m) (λ h p. tt) w first
+  start : Facts n key k m u
+  start = expiries-along (λ w v. Facts n key k m w → Facts n key k m v) IsOfSettle (along-facts n key k m) (λ h p. tt) w first
 
-  expired-first : Still a b k m u
-  expired-first = Still.again (expiries-again w a b low below (peer-low n a b k m w first) some)
+  expired-first : Still key k m u
+  expired-first = Still.again (expiries-again w key low below (peer-low n key k m w first) some)
 
-  there : is_some (table_route (node_at z a).table b) ≡ true
-  there = let long = place-below (sent_between z a b) k m last.there in (reached-said n z reached-end).routed a b (omega (arith, long))
+  there : is_some (table_route (node_at z key.src).table key.dst) ≡ true
+  there = let long = place-below (sent_on z key) k m last.there in (reached-said n z reached-end).routed key (omega (arith, long))
 
-  waits : IsReadable m → is_some (node_at z b).table.active ≡ true → IsSettledPair z a b
+  waits : IsReadable m → is_some (node_at z key.dst).table.active ≡ true → IsSettledConnection z key
   waits readable active =
-      let back = route-back n z a b reached-end joined there (has-active (node_at z a).table b there) active in
-      let from = table-cable n z a b reached-end there in
-      let to = table-cable n z b a reached-end back in
+      let back = route-back n z key.src key.dst reached-end joined there (has-active (node_at z key.src).table key.dst there) active in
+      let from = table-cable n z key.src key.dst reached-end there in
+      let to = table-cable n z key.dst key.src reached-end back in
       let up = (expiries-along Going IsOfSettle along-going (λ h p. tt) w).rises in
-      let e = passes-end flows n a b k m readable from to round.passes u s round.through (ap is_idle (expiries-links w) ∙ idle) (omega (arith, few, up)) left start expired-first in
-      IsSettledPair.waiting (still-waiting n a b k m z e.facts same (omega (arith, some, next-same)) there back e.host_done e.peer_done e.still)
+      let e = passes-end flows n key k m readable from to round.passes u s round.through (ap is_idle (expiries-links w) ∙ idle) (omega (arith, few, up)) left start expired-first in
+      IsSettledConnection.waiting (still-waiting n key k m z e.facts same (omega (arith, some, next-same)) there back e.host_done e.peer_done e.still)
 
-  readable-by : (t v : Bool) → nat_lt m.dport 8 ≡ t → nat_lt m.prio 2 ≡ v → is_some (node_at z b).table.active ≡ true → IsSettledPair z a b
+  readable-by : (t v : Bool) → nat_lt m.dport 8 ≡ t → nat_lt m.prio 2 ≡ v → is_some (node_at z key.dst).table.active ≡ true → IsSettledConnection z key
   readable-by true true t v active =
-      let port = at-place (λ x. x.sport < 8) (sent_between w a b) k m ((reached-said n w is).from_ports a b) message.1 in
+      let port = at-place (λ x. x.sport < 8) (sent_on w key) k m ((reached-said n w is).from_ports key) message.1 in
       waits (record { from_port = port; to_port = grind (arith, nat_tests); priority = grind (arith, nat_tests) }) active
-  readable-by false v t y active = IsSettledPair.waiting (unreadable n a b k m z last same false v t y refl)
-  readable-by true false t y active = IsSettledPair.waiting (unreadable n a b k m z last same true false t y refl)
+  readable-by false v t y active = IsSettledConnection.waiting (unreadable n key k m z last same false v t y refl)
+  readable-by true false t y active = IsSettledConnection.waiting (unreadable n key k m z last same true false t y refl)
 
-  pair-settled : IsSettledPair z a b
-  pair-settled = by (node_at z b).table.active refl
+  connection-settled : IsSettledConnection z key
+  connection-settled = by (node_at z key.dst).table.active refl
     where
-      by : (o : Option ActiveTable) → (node_at z b).table.active ≡ o → IsSettledPair z a b
-      by None e = IsSettledPair.no_table (ap (option_map (λ (t : ActiveTable). t.epoch)) e)
+      by : (o : Option ActiveTable) → (node_at z key.dst).table.active ≡ o → IsSettledConnection z key
+      by None e = IsSettledConnection.no_table (ap (option_map (λ (t : ActiveTable). t.epoch)) e)
       by (Some t) e = readable-by (nat_lt m.dport 8) (nat_lt m.prio 2) refl refl (ap is_some e)
 
 -- a round that didn't help
@@ -195,35 +196,35 @@ round-settled flows n w s round e is net idle left joined = by (nat_eq (unacknow
     reached-z : IsReached n z
     reached-z = round-along (λ w v. IsReached n w → IsReached n v) IsOfSettle (along-reached n) settles-of w s round is
 
-    left-over : (base_rose w z ≡ false) × (nat_lt w.struck z.struck ≡ false) → (a b : ℕ) → a < host_count z → b < host_count z → IsSettledPair z a b
-    left-over none a b low below = equal (nat_eq (sender_between z a b).base (sender_between z a b).next) refl
+    left-over : (base_rose w z ≡ false) × (nat_lt w.struck z.struck ≡ false) → (key : ConnectionKey) → key.src < host_count z → key.dst < host_count z → IsSettledConnection z key
+    left-over none key low below = equal (nat_eq (sender_on z key).base (sender_on z key).next) refl
       where
         count : host_count z ≡ host_count w
         count = going.nodes.count
 
-        up : (sender_between w a b).base ≤ (sender_between z a b).base
-        up = ((going.nodes.each a).senders b).base
+        up : (sender_on w key).base ≤ (sender_on z key).base
+        up = ((going.nodes.each key.src).senders (sending_lane key)).base
 
-        not-rose : (t : Bool) → nat_lt (sender_between w a b).base (sender_between z a b).base ≡ t → (sender_between z a b).base ≡ (sender_between w a b).base
-        not-rose true r = absurd (true≢false (sym ((base-test w z).1 (record { host = a; peer = b; is_host = low; is_peer = below; rose = grind (arith, nat_tests) })) ∙ none.0))
-        not-rose false r = let high : (sender_between z a b).base ≤ (sender_between w a b).base = grind (arith, nat_tests) in omega (arith, high, up)
+        not-rose : (t : Bool) → nat_lt (sender_on w key).base (sender_on z key).base ≡ t → (sender_on z key).base ≡ (sender_on w key).base
+        not-rose true r = absurd (true≢false (sym ((base-test w z).1 (record { host = key.src; peer = key.dst; prio = key.prio; is_host = low; is_peer = below; rose = grind (arith, nat_tests) })) ∙ none.0))
+        not-rose false r = let high : (sender_on z key).base ≤ (sender_on w key).base = grind (arith, nat_tests) in omega (arith, high, up)
 
-        equal : (t : Bool) → nat_eq (sender_between z a b).base (sender_between z a b).next ≡ t → IsSettledPair z a b
-        equal true t = IsSettledPair.all_acknowledged (grind (arith, nat_tests))
+        equal : (t : Bool) → nat_eq (sender_on z key).base (sender_on z key).next ≡ t → IsSettledConnection z key
+        equal true t = IsSettledConnection.all_acknowledged (grind (arith, nat_tests))
         equal false t =
-            let same = not-rose (nat_lt (sender_between w a b).base (sender_between z a b).base) refl in
+            let same = not-rose (nat_lt (sender_on w key).base (sender_on z key).base) refl in
             let few : z.struck ≤ w.struck = let no = none.1 in grind (arith, nat_tests) in
-            let order = (reached-windowed n z reached-z).senders.in_order a b in
+            let order = (reached-windowed n z reached-z).senders.in_order key.src (sending_lane key) in
             let c = order.base_below in
             let d = order.cursor_below in
             let f = order.top_below in
-            let other : (sender_between z a b).base ≢ (sender_between z a b).next = grind (arith, nat_tests) in
-            let next = ((going.nodes.each a).senders b).next in
-            pair-settled flows n w s round is net idle few left joined a b (omega (arith, low, count)) (omega (arith, below, count)) same (omega (arith, c, d, f, other, next, same))
+            let other : (sender_on z key).base ≢ (sender_on z key).next = grind (arith, nat_tests) in
+            let next = ((going.nodes.each key.src).senders (sending_lane key)).next in
+            connection-settled flows n w s round is net idle few left joined key (omega (arith, low, count)) (omega (arith, below, count)) same (omega (arith, c, d, f, other, next, same))
 
     by : (t : Bool) → nat_eq (unacknowledged_in z) 0 ≡ t → IsSettled z
     by true t = none_left-settled z (reached-windowed n z reached-z).senders (grind (arith, nat_tests))
-    by false t = record { pairs = left-over (neither (base_rose w z) (nat_lt w.struck z.struck) (no-help (nat_eq (unacknowledged_in z) 0) (has_helped w z) e t)) }
+    by false t = record { connections = left-over (neither (base_rose w z) (nat_lt w.struck z.struck) (no-help (nat_eq (unacknowledged_in z) 0) (has_helped w z) e t)) }
 
 -- all rounds
 along-net : Along (λ w v. fabric_of v ≡ fabric_of w) IsOfSettle

@@ -12,8 +12,7 @@ use Rattle.gm_defs.proofs.Choices.{then-some, if-some, map-some}
 use Rattle.world_defs.specs.declared.event.Event.TheVariants.{GiveUp}
 use Rattle.world_defs.specs.declared.effect.Effect.{Effect}
 use Rattle.world_defs.specs.declared.effect.Effect.TheVariants.{GaveUp, Idle}
-use Rattle.world_defs.specs.Table.{table_route}
-use Rattle.world_defs.specs.Node.{NodeState, Outgoing, Probe, TablePart, Reply, PartAnswer, FrameAnswer, Fragment, peer_at, outgoing_staged, owed_to, due_to, due_frame, either, first_some, peers_of, to_send, after_sending, new_node, has_staged, given_up}
+use Rattle.world_defs.specs.Node.{NodeState, Outgoing, Probe, TablePart, Reply, PartAnswer, FrameAnswer, Fragment, sends_on, lane_at, lane_route, outgoing_staged, owed_on, due_on, due_frame, either, first_some, lanes_of, to_send, after_sending, new_node, has_staged, given_up}
 use Rattle.world_defs.specs.World.{WorldState, node_at, with_node, addresses}
 use Rattle.world_defs.specs.Step.{gave_up, step, after_all}
 use Rattle.world_laws.specs.Idle.{HasNothingStaged}
@@ -21,22 +20,22 @@ use Rattle.world_laws.proofs.Lists.{at-set}
 use Rattle.world_laws.proofs.Draining.{range-all}
 
 -- what goes to a peer, by the route of the active table: an acknowledgement that is owed, with the number of fragments taken, or the due fragment
-pub record IsOwed (n : NodeState) (peer next : ℕ) (by : List ℤ) : Type 0 where
-  pub low : peer < length n.peers
-  pub owes : (peer_at n peer).owes ≡ true
-  pub count : next ≡ (peer_at n peer).taken
-  pub route : table_route n.table peer ≡ Some by
+pub record IsOwed (n : NodeState) (lane next : ℕ) (by : List ℤ) : Type 0 where
+  pub low : lane < length n.lanes
+  pub owes : (lane_at n lane).owes ≡ true
+  pub count : next ≡ (lane_at n lane).taken
+  pub route : lane_route n lane ≡ Some by
 
-pub record IsDueTo (host : ℕ) (n : NodeState) (peer : ℕ) (head : FrameHead) (part : List ℕ) (by : List ℤ) : Type 0 where
+pub record IsDueOn (host : ℕ) (n : NodeState) (lane : ℕ) (head : FrameHead) (part : List ℕ) (by : List ℤ) : Type 0 where
   pub number : ℕ
-  pub low : peer < length n.peers
-  pub due : due (peer_at n peer).sender ≡ Some number
-  pub frame : frame_of host peer (peer_at n peer).sent number ≡ Some (head, part)
-  pub route : table_route n.table peer ≡ Some by
+  pub low : lane < length n.lanes
+  pub due : due (lane_at n lane).sender ≡ Some number
+  pub frame : frame_of (sends_on host lane) (lane_at n lane).sent number ≡ Some (head, part)
+  pub route : lane_route n lane ≡ Some by
 
 abbrev pub IsToPeer : ℕ → NodeState → Outgoing → Type 0
-IsToPeer host n (FrameAnswer peer next by) = IsOwed n peer next by
-IsToPeer host n (Fragment peer head part by) = IsDueTo host n peer head part by
+IsToPeer host n (FrameAnswer lane next by) = IsOwed n lane next by
+IsToPeer host n (Fragment lane head part by) = IsDueOn host n lane head part by
 IsToPeer host n (Probe walk looped) = ⊥
 IsToPeer host n (TablePart part by) = ⊥
 IsToPeer host n (Reply r) = ⊥
@@ -52,36 +51,36 @@ first_some-holds P f a (suc k) all x e =
     either-holds P (f a) (first_some f (range_with_len (a + 1) k)) (λ y. all a y (omega arith)) (first_some-holds P f (a + 1) k (λ j y l. all j y (omega (arith, l)))) x e
 
 module _ (host : ℕ) (n : NodeState) where
-  owed-out : (peer : ℕ) (x : Outgoing) → peer < length n.peers → owed_to n peer ≡ Some x → IsToPeer host n x
-  owed-out peer x low e =
-      let t = if-some (peer_at n peer).owes (option_map (λ by. FrameAnswer peer (peer_at n peer).taken by) (table_route n.table peer)) x e in
-      let m = map-some (λ by. FrameAnswer peer (peer_at n peer).taken by) (table_route n.table peer) x t.1 in
+  owed-out : (lane : ℕ) (x : Outgoing) → lane < length n.lanes → owed_on n lane ≡ Some x → IsToPeer host n x
+  owed-out lane x low e =
+      let t = if-some (lane_at n lane).owes (option_map (λ by. FrameAnswer lane (lane_at n lane).taken by) (lane_route n lane)) x e in
+      let m = map-some (λ by. FrameAnswer lane (lane_at n lane).taken by) (lane_route n lane) x t.1 in
       subst (IsToPeer host n) m.1.1 (record { low = low; owes = t.0; count = refl; route = m.1.0 })
 
-  due-out : (peer : ℕ) (x : Outgoing) → peer < length n.peers → due_to host n peer ≡ Some x → IsToPeer host n x
-  due-out peer x low e =
-      let f = then-some (λ f. option_map (λ by. Fragment peer f.0 f.1 by) (table_route n.table peer)) (due_frame host n peer) x e in
-      let d = then-some (λ seq. frame_of host peer (peer_at n peer).sent seq) (due (peer_at n peer).sender) f.0 f.1.0 in
-      let m = map-some (λ by. Fragment peer f.0.0 f.0.1 by) (table_route n.table peer) x f.1.1 in
+  due-out : (lane : ℕ) (x : Outgoing) → lane < length n.lanes → due_on host n lane ≡ Some x → IsToPeer host n x
+  due-out lane x low e =
+      let f = then-some (λ f. option_map (λ by. Fragment lane f.0 f.1 by) (lane_route n lane)) (due_frame host n lane) x e in
+      let d = then-some (λ seq. frame_of (sends_on host lane) (lane_at n lane).sent seq) (due (lane_at n lane).sender) f.0 f.1.0 in
+      let m = map-some (λ by. Fragment lane f.0.0 f.0.1 by) (lane_route n lane) x f.1.1 in
       subst (IsToPeer host n) m.1.1 (record { number = d.0; low = low; due = d.1.0; frame = d.1.1; route = m.1.0 })
 
-  peers-out : (x : Outgoing) → either (first_some (owed_to n) (peers_of n)) (first_some (due_to host n) (peers_of n)) ≡ Some x → IsToPeer host n x
-  peers-out x e =
-      either-holds (IsToPeer host n) (first_some (owed_to n) (peers_of n)) _
-      (first_some-holds (IsToPeer host n) (owed_to n) 0 (length n.peers) (λ peer y l. owed-out peer y (omega (arith, l))))
-      (first_some-holds (IsToPeer host n) (due_to host n) 0 (length n.peers) (λ peer y l. due-out peer y (omega (arith, l))))
+  lanes-out : (x : Outgoing) → either (first_some (owed_on n) (lanes_of n)) (first_some (due_on host n) (lanes_of n)) ≡ Some x → IsToPeer host n x
+  lanes-out x e =
+      either-holds (IsToPeer host n) (first_some (owed_on n) (lanes_of n)) _
+      (first_some-holds (IsToPeer host n) (owed_on n) 0 (length n.lanes) (λ lane y l. owed-out lane y (omega (arith, l))))
+      (first_some-holds (IsToPeer host n) (due_on host n) 0 (length n.lanes) (λ lane y l. due-out lane y (omega (arith, l))))
       x e
 
   -- with nothing staged
   pub to_send-peer : HasNothingStaged n → (x : Outgoing) → to_send host n ≡ Some x → IsToPeer host n x
   unfolding to_send
   to_send-peer is x e =
-      let rest : Option Outgoing = either (first_some (owed_to n) (peers_of n)) (first_some (due_to host n) (peers_of n)) in
+      let rest : Option Outgoing = either (first_some (owed_on n) (lanes_of n)) (first_some (due_on host n) (lanes_of n)) in
       let same : to_send host n ≡ rest =
       ap (λ o. either (option_map outgoing_staged o) (either (option_map Reply n.reply) (either (option_map PartAnswer n.part_ack) rest))) is.no_probe_or_part
       ∙ ap (λ o. either (option_map Reply o) (either (option_map PartAnswer n.part_ack) rest)) is.no_reply
       ∙ ap (λ o. either (option_map PartAnswer o) rest) is.no_part_ack in
-      peers-out x (sym same ∙ e)
+      lanes-out x (sym same ∙ e)
 
 -- no host has anything staged
 pub record IsBare (w : WorldState) : Type 0 where
@@ -174,8 +173,8 @@ sent-bare n (Probe walk looped) is = record { no_probe_or_part = refl; no_reply 
 sent-bare n (TablePart part by) is = record { no_probe_or_part = refl; no_reply = is.no_reply; no_part_ack = is.no_part_ack }
 sent-bare n (Reply r) is = record { no_probe_or_part = is.no_probe_or_part; no_reply = refl; no_part_ack = is.no_part_ack }
 sent-bare n (PartAnswer a) is = record { no_probe_or_part = is.no_probe_or_part; no_reply = is.no_reply; no_part_ack = refl }
-sent-bare n (FrameAnswer peer next by) is = record { no_probe_or_part = is.no_probe_or_part; no_reply = is.no_reply; no_part_ack = is.no_part_ack }
-sent-bare n (Fragment peer head part by) is = record { no_probe_or_part = is.no_probe_or_part; no_reply = is.no_reply; no_part_ack = is.no_part_ack }
+sent-bare n (FrameAnswer lane next by) is = record { no_probe_or_part = is.no_probe_or_part; no_reply = is.no_reply; no_part_ack = is.no_part_ack }
+sent-bare n (Fragment lane head part by) is = record { no_probe_or_part = is.no_probe_or_part; no_reply = is.no_reply; no_part_ack = is.no_part_ack }
 
 pub sending-bare : (w v : WorldState) (h : ℕ) (out : Outgoing) → v.nodes ≡ set w.nodes h (after_sending (node_at w h) out) → IsBare w → IsBare v
 sending-bare w v h out e is = record {

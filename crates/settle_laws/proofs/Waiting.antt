@@ -8,16 +8,18 @@ use Rattle.std.proofs.lemmas.Option.{same_Some}
 use Rattle.net_defs.specs.Network.{Network}
 use Rattle.gm_defs.specs.declared.message.Message.{Message}
 use Rattle.gm_defs.specs.declared.frame.FrameHead.{FrameHead}
+use Rattle.gm_defs.specs.declared.frame.ConnectionKey.{ConnectionKey}
 use Rattle.gm_defs.specs.Connection.{SenderState, window, due}
 use Rattle.gm_defs.specs.Fragment.{whole_below, frame_of}
 use Rattle.gm_defs.specs.Token.{PortState, Provided, size_for_length, is_size, fits}
 use Rattle.world_defs.specs.Sound.{IsFront}
 use Rattle.world_defs.specs.Table.{table_route}
-use Rattle.world_defs.specs.Node.{NodeState, Reply, PartAnswer, FrameAnswer, Fragment, peer_at, port_at, outgoing_staged, owed_to, due_to, due_frame, either, first_some, peers_of, to_send}
+use Rattle.world_defs.specs.Node.{NodeState, lane_of, sending_lane, taking_lane, sends_on, lane_route, Reply, PartAnswer, FrameAnswer, Fragment, lane_at, port_at, outgoing_staged, owed_on, due_on, due_frame, either, first_some, lanes_of, to_send}
 use Rattle.world_defs.specs.Hearing.{port_takes}
 use Rattle.world_defs.specs.World.{WorldState, node_at}
-use Rattle.world_defs.specs.Traffic.{sent_between, got_between}
-use Rattle.world_defs.specs.Settled.{sender_between, IsWaiting}
+use Rattle.world_defs.specs.Traffic.{sender_on, sent_on, got_on}
+use Rattle.world_defs.proofs.Lanes.{peer_of-lane}
+use Rattle.world_defs.specs.Settled.{IsWaiting}
 use Rattle.order_laws.proofs.Worlds.{got-front, got-count}
 use Rattle.window_laws.proofs.Taken.{whole-below}
 use Rattle.settle_laws.proofs.Frames.{head_for, frame-there}
@@ -40,17 +42,17 @@ first-none f from (suc count) j low high e = by (nat_eq j from) refl (either-non
     by true p two more = let same : j ≡ from = grind (arith, nat_tests) in ap f same ∙ two.0
     by false p two more = let other : j ≢ from = grind (arith, nat_tests) in more (omega (arith, low, other)) two.1
 
-nothing-owed : (host : ℕ) (n : NodeState) → to_send host n ≡ None → (p : ℕ) → p < length n.peers → (owed_to n p ≡ None) × (due_to host n p ≡ None)
+nothing-owed : (host : ℕ) (n : NodeState) → to_send host n ≡ None → (p : ℕ) → p < length n.lanes → (owed_on n p ≡ None) × (due_on host n p ≡ None)
 unfolding to_send
 nothing-owed host n e p low =
     let a = either-none (option_map outgoing_staged n.staged) _ e in
     let b = either-none (option_map Reply n.reply) _ a.1 in
     let c = either-none (option_map PartAnswer n.part_ack) _ b.1 in
-    let d = either-none (first_some (owed_to n) (peers_of n)) _ c.1 in
-    (first-none (owed_to n) 0 (length n.peers) p (omega arith) (omega (arith, low)) d.0, first-none (due_to host n) 0 (length n.peers) p (omega arith) (omega (arith, low)) d.1)
+    let d = either-none (first_some (owed_on n) (lanes_of n)) _ c.1 in
+    (first-none (owed_on n) 0 (length n.lanes) p (omega arith) (omega (arith, low)) d.0, first-none (due_on host n) 0 (length n.lanes) p (omega arith) (omega (arith, low)) d.1)
 
 -- with a route, an acknowledgement that is owed would be sent
-no-answer : (n : NodeState) (p : ℕ) (b : Bool) (o : Option (List ℤ)) → b ≡ true → is_some o ≡ true → (if b then option_map (λ by. FrameAnswer p (peer_at n p).taken by) o else None) ≡ None → ⊥
+no-answer : (n : NodeState) (p : ℕ) (b : Bool) (o : Option (List ℤ)) → b ≡ true → is_some o ≡ true → (if b then option_map (λ by. FrameAnswer p (lane_at n p).taken by) o else None) ≡ None → ⊥
 no-answer n p true (Some by) e f g = cc
 no-answer n p true None e f g = absurd (true≢false (sym f))
 no-answer n p false o e f g = absurd (true≢false (sym e))
@@ -102,54 +104,61 @@ no-priority : (len prio : ℕ) (o : Option PortState) → PortFits o → 2 ≤ p
 no-priority len prio None fit high = refl
 no-priority len prio (Some p) fit high = unfit len prio p.provided high fit
 
-module _ (n : Network) (a b k : ℕ) (m : Message) (z : WorldState) (f : Facts n a b k m z) (base : (sender_between z a b).base ≡ k) where
+module _ (n : Network) (key : ConnectionKey) (k : ℕ) (m : Message) (z : WorldState) (f : Facts n key k m z) (base : (sender_on z key).base ≡ k) where
   -- the message is there, and it is the first that isn't acknowledged
-  first-there : k ≡ whole_below (sent_between z a b) (sender_between z a b).base
+  first-there : k ≡ whole_below (sent_on z key) (sender_on z key).base
   first-there =
-      let low = place-below (sent_between z a b) k m f.there in
-      sym (ap (whole_below (sent_between z a b)) base ∙ whole-below (sent_between z a b) k (short-of n a b k m z f) (omega (arith, low)))
+      let low = place-below (sent_on z key) k m f.there in
+      sym (ap (whole_below (sent_on z key)) base ∙ whole-below (sent_on z key) k (short-of n key k m z f) (omega (arith, low)))
 
-  not-next : (sender_between z a b).cursor ≡ k → k < (sender_between z a b).next → is_some (table_route (node_at z a).table b) ≡ true → to_send a (node_at z a) ≡ None → ⊥
+  -- a route to a peer is one of its lane
+  lane-routed : (host peer prio : ℕ) → is_some (table_route (node_at z host).table peer) ≡ true → is_some (lane_route (node_at z host) (lane_of peer prio)) ≡ true
+  lane-routed host peer prio route = subst (λ x. is_some (table_route (node_at z host).table x) ≡ true) (sym (peer_of-lane peer prio)) route
+
+  not-next : (sender_on z key).cursor ≡ k → k < (sender_on z key).next → is_some (table_route (node_at z key.src).table key.dst) ≡ true → to_send key.src (node_at z key.src) ≡ None → ⊥
   not-next c low route none =
-      let d = (nothing-owed a (node_at z a) none b (peer-low n a b k m z f)).1 in
-      let frame : due_frame a (node_at z a) b ≡ Some (head_for a b k m, m.body) =
-      ap (option_and_then (λ seq. frame_of a b (sent_between z a b) seq)) (due-now (sender_between z a b) k c base low) ∙ frame-there a b k (sent_between z a b) k m (short-of n a b k m z f) f.there in
-      no-fragment b (head_for a b k m, m.body) (table_route (node_at z a).table b) route
-      (sym (ap (option_and_then (λ x. option_map (λ by. Fragment b x.0 x.1 by) (table_route (node_at z a).table b))) frame) ∙ d)
+      let lane : ℕ = sending_lane key in
+      let mine : ConnectionKey = sends_on key.src lane in
+      let d = (nothing-owed key.src (node_at z key.src) none lane (peer-low n key k m z f)).1 in
+      let frame : due_frame key.src (node_at z key.src) lane ≡ Some (head_for mine k m, m.body) =
+      ap (option_and_then (λ seq. frame_of mine (sent_on z key) seq)) (due-now (sender_on z key) k c base low) ∙ frame-there mine k (sent_on z key) k m (short-of n key k m z f) f.there in
+      no-fragment lane (head_for mine k m, m.body) (lane_route (node_at z key.src) lane) (lane-routed key.src key.dst key.prio route)
+      (sym (ap (option_and_then (λ x. option_map (λ by. Fragment lane x.0 x.1 by) (lane_route (node_at z key.src) lane))) frame) ∙ d)
 
-  not-owed : (peer_at (node_at z b) a).owes ≡ true → is_some (table_route (node_at z b).table a) ≡ true → to_send b (node_at z b) ≡ None → ⊥
+  not-owed : (lane_at (node_at z key.dst) (taking_lane key)).owes ≡ true → is_some (table_route (node_at z key.dst).table key.src) ≡ true → to_send key.dst (node_at z key.dst) ≡ None → ⊥
   not-owed o route none =
-      let d = (nothing-owed b (node_at z b) none a (host-low n a b k m z f)).0 in
-      no-answer (node_at z b) a (peer_at (node_at z b) a).owes (table_route (node_at z b).table a) o route d
+      let lane : ℕ = taking_lane key in
+      let d = (nothing-owed key.dst (node_at z key.dst) none lane (host-low n key k m z f)).0 in
+      no-answer (node_at z key.dst) lane (lane_at (node_at z key.dst) lane).owes (lane_route (node_at z key.dst) lane) o (lane-routed key.dst key.src key.prio route) d
 
-  pub still-waiting : k < (sender_between z a b).next → is_some (table_route (node_at z a).table b) ≡ true → is_some (table_route (node_at z b).table a) ≡ true → to_send a (node_at z a) ≡ None → to_send b (node_at z b) ≡ None → Still a b k m z → IsWaiting z a b
+  pub still-waiting : k < (sender_on z key).next → is_some (table_route (node_at z key.src).table key.dst) ≡ true → is_some (table_route (node_at z key.dst).table key.src) ≡ true → to_send key.src (node_at z key.src) ≡ None → to_send key.dst (node_at z key.dst) ≡ None → Still key k m z → IsWaiting z key
   still-waiting low there back no_a no_b (Still.risen r) = absurd (omega (arith, r, base))
   still-waiting low there back no_a no_b (Still.again c) = absurd (not-next c low there no_a)
   still-waiting low there back no_a no_b (Still.owed t o) = absurd (not-owed o back no_b)
   still-waiting low there back no_a no_b (Still.waits t p) =
-      let count = got-count n z f.reached a b in
+      let count = got-count n z f.reached key in
       record { place = k; message = m; first = first-there; there = f.there; not_taken = omega (arith, t, count); no_token = p }
 
   -- a message that no host takes: for no port, or of no priority
-  not-got : (IsFor m → ⊥) → length (got_between z a b) ≤ k
-  not-got never = by (nat_lt k (length (got_between z a b))) refl
+  not-got : (IsFor m → ⊥) → length (got_on z key) ≤ k
+  not-got never = by (nat_lt k (length (got_on z key))) refl
     where
-      by : (t : Bool) → nat_lt k (length (got_between z a b)) ≡ t → length (got_between z a b) ≤ k
+      by : (t : Bool) → nat_lt k (length (got_on z key)) ≡ t → length (got_on z key) ≤ k
       by true t =
-          let low : k < length (got_between z a b) = grind (arith, nat_tests) in
-          absurd (never (of-front IsFor (got_between z a b) (sent_between z a b) k m (got-front n z f.reached a b) ((reached-said n z f.reached).got a b) low f.there))
+          let low : k < length (got_on z key) = grind (arith, nat_tests) in
+          absurd (never (of-front IsFor (got_on z key) (sent_on z key) k m (got-front n z f.reached key) ((reached-said n z f.reached).got key) low f.there))
       by false t = grind (arith, nat_tests)
 
   -- no port of eight
-  no-port : 8 ≤ m.dport → port_takes (port_at (node_at z b) m.dport) (length m.body) m.prio ≡ false
+  no-port : 8 ≤ m.dport → port_takes (port_at (node_at z key.dst) m.dport) (length m.body) m.prio ≡ false
   no-port past =
-      let eight : length (node_at z b).ports ≡ 8 = ((world-of n a b k m z f).each_node b f.peer).ports in
-      ap (λ o. port_takes o (length m.body) m.prio) (get_or_past (node_at z b).ports m.dport None (omega (arith, past, eight)))
+      let eight : length (node_at z key.dst).ports ≡ 8 = ((world-of n key k m z f).each_node key.dst f.peer).ports in
+      ap (λ o. port_takes o (length m.body) m.prio) (get_or_past (node_at z key.dst).ports m.dport None (omega (arith, past, eight)))
 
-  pub unreadable-waiting : (IsFor m → ⊥) → port_takes (port_at (node_at z b) m.dport) (length m.body) m.prio ≡ false → IsWaiting z a b
+  pub unreadable-waiting : (IsFor m → ⊥) → port_takes (port_at (node_at z key.dst) m.dport) (length m.body) m.prio ≡ false → IsWaiting z key
   unreadable-waiting never p = record { place = k; message = m; first = first-there; there = f.there; not_taken = not-got never; no_token = p }
 
-  pub unreadable : (t u : Bool) → nat_lt m.dport 8 ≡ t → nat_lt m.prio 2 ≡ u → (t && u) ≡ false → IsWaiting z a b
+  pub unreadable : (t u : Bool) → nat_lt m.dport 8 ≡ t → nat_lt m.prio 2 ≡ u → (t && u) ≡ false → IsWaiting z key
   unreadable false u t v e = unreadable-waiting (λ x. let low = x.port in absurd (grind (arith, nat_tests))) (no-port (grind (arith, nat_tests)))
-  unreadable true false t v e = unreadable-waiting (λ x. let low = x.priority in absurd (grind (arith, nat_tests))) (no-priority (length m.body) m.prio (port_at (node_at z b) m.dport) ((reached-said n z f.reached).ports b m.dport) (grind (arith, nat_tests)))
+  unreadable true false t v e = unreadable-waiting (λ x. let low = x.priority in absurd (grind (arith, nat_tests))) (no-priority (length m.body) m.prio (port_at (node_at z key.dst) m.dport) ((reached-said n z f.reached).ports key.dst m.dport) (grind (arith, nat_tests)))
   unreadable true true t v e = absurd (true≢false e)

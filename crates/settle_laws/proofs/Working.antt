@@ -12,7 +12,8 @@ use Rattle.world_defs.specs.Hearing.{hear}
 use Rattle.world_defs.specs.Client.{begun, provided_by, sent_by}
 use Rattle.world_defs.specs.Step.{lost, was_reset, replayed, planned_strikes, sent_out, injected, advanced, expired, gave_up}
 use Rattle.world_defs.specs.Drain.{pass, drain, clear}
-use Rattle.world_defs.specs.Traffic.{got_between}
+use Rattle.gm_defs.specs.Connection.{connection}
+use Rattle.world_defs.specs.Traffic.{got_on}
 use Rattle.world_defs.specs.Settle.{round_pass, round, settle}
 use Rattle.act_defs.specs.Acts.{AreAdoptable}
 use Rattle.table_laws.specs.Examples.{adopted_world}
@@ -57,5 +58,5 @@ bare-can = record {
 pub bare-waits : MessageWaitsForToken
 unfolding to_send packet_for after_sending hear begun provided_by sent_by was_reset replayed planned_strikes sent_out injected advanced expired gave_up pass drain clear round_pass round settle
 bare-waits =
-    let none : length (got_between (settle bare_world).world 0 1) ≡ 0 = refl in
+    let none : length (got_on (settle bare_world).world (connection 0 1 0)) ≡ 0 = refl in
     (refl, record { place = 0; message = ten; first = refl; there = refl; not_taken = omega (arith, none); no_token = refl })

@@ -1,10 +1,11 @@
 -- Two settles, worked out: the two hosts at one switch, of which host 0 sends host 1 one byte.
 use Rattle.std.specs.Prelude.{◌≡◌, List, [], ◌∷◌}
 use Rattle.net_defs.specs.Examples.{two_hosts}
+use Rattle.gm_defs.specs.Connection.{connection}
 use Rattle.world_defs.specs.declared.event.Event.TheVariants.{Inject, Lose, Begin, Provide, Send}
 use Rattle.world_defs.specs.World.{WorldState, new_world}
 use Rattle.world_defs.specs.Examples.{setup_routes}
-use Rattle.world_defs.specs.Traffic.{got_between}
+use Rattle.world_defs.specs.Traffic.{got_on}
 use Rattle.world_defs.specs.Settle.{unacknowledged_in, settle}
 use Rattle.world_defs.specs.Settled.{IsWaiting}
 use Rattle.act_defs.specs.Acts.{Act, Happens, Adopts, acted_all}
@@ -31,7 +32,7 @@ LostWorldCanSettle = CanSettle lost_world
 abbrev pub LostFrameIsSentAgain : Type 0
 LostFrameIsSentAgain =
     (unacknowledged_in lost_world ≡ 1) × (unacknowledged_in (settle lost_world).world ≡ 0)
-    × (got_between (settle lost_world).world 0 1 ≡ ten ∷ [])
+    × (got_on (settle lost_world).world (connection 0 1 0) ≡ ten ∷ [])
 
 -- no buffer is provided
 abbrev pub bare_acts : List Act
@@ -49,4 +50,5 @@ BareWorldCanSettle = CanSettle bare_world
 
 -- behind a settle the message still waits
 abbrev pub MessageWaitsForToken : Type 0
-MessageWaitsForToken = (unacknowledged_in (settle bare_world).world ≡ 1) × IsWaiting (settle bare_world).world 0 1
+MessageWaitsForToken = (unacknowledged_in (settle bare_world).world ≡ 1)
+    × IsWaiting (settle bare_world).world (connection 0 1 0)

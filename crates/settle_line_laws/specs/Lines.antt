@@ -2,8 +2,9 @@
 use Rattle.std.specs.Prelude.{◌≡◌, ℕ, ◌+◌, ◌<◌, ◌≤◌, List, ◌∷◌, length}
 use Rattle.std.specs.List.{AllByRecursion}
 use Rattle.net_defs.specs.Network.{Network, IsFabric}
+use Rattle.gm_defs.specs.declared.frame.ConnectionKey.{ConnectionKey}
 use Rattle.world_defs.specs.World.{fabric_of, last_count}
-use Rattle.world_defs.specs.Traffic.{IsLawfulTraffic, sent_between, got_between}
+use Rattle.world_defs.specs.Traffic.{IsLawfulTraffic, sent_on, got_on}
 use Rattle.world_defs.specs.Settle.{unacknowledged_in, settle}
 use Rattle.world_defs.specs.Settled.{IsSettled}
 use Rattle.run_defs.specs.declared.command.Command.{Command}
@@ -27,7 +28,7 @@ RunCanSettle =
 -- What the line `settle rounds R resets N unacked U` says: there were R rounds, at least one and at most one more
 -- than the unacknowledged fragments and planned faults before; N is 0 unless the traffic wasn't lawful when some
 -- clear of the settle began; U fragments aren't acknowledged behind it; where injections are left then, the world is
--- settled; and where U is 0, each host got all that was sent to it.
+-- settled; and where U is 0, all that was sent is got, for each sender, receiver and priority.
 pub record IsSettledLine (s next : SessionState) (rounds resets unacked : ℕ) : Type 0 where
   pub after : next.world ≡ (settle s.world).world
   pub at_least : 1 ≤ rounds
@@ -35,7 +36,7 @@ pub record IsSettledLine (s next : SessionState) (rounds resets unacked : ℕ) :
   pub lawful : AllByRecursion IsLawfulTraffic (settle_clears s.world) → resets ≡ 0
   pub left : unacked ≡ unacknowledged_in next.world
   pub settled : next.world.injected < last_count → IsSettled next.world
-  pub got : unacked ≡ 0 → (a b : ℕ) → got_between next.world a b ≡ sent_between next.world a b
+  pub got : unacked ≡ 0 → (c : ConnectionKey) → got_on next.world c ≡ sent_on next.world c
 
 -- every such line behind a run says so
 abbrev pub SettledLineIsTrue : Type 0

@@ -15,6 +15,7 @@ use Rattle.gm_defs.specs.declared.frame.Malformed.{Malformed as NoBody}
 use Rattle.gm_defs.specs.declared.token.Took.{Took}
 use Rattle.gm_defs.specs.declared.token.Took.TheVariants.{NotNext as TookNotNext, NoToken as TookNoToken, Whole}
 use Rattle.gm_defs.specs.Body.{decode, part_in, frame_bytes, ack_bytes}
+use Rattle.gm_defs.specs.Connection.{ack_on}
 use Rattle.mapping_defs.specs.Mapping.{RoutePart, MappingBody, Front, decode_mapping, mapping_bytes, is_mapping, by_the_rules, whole, two_front, route_front, byte_front, route_bytes}
 use Rattle.mapping_defs.specs.Mapping.MappingBody.{HostProbe, HostReply, Loopback, Part, PartAck}
 use Rattle.gm_defs.specs.Port.{finished}
@@ -22,10 +23,10 @@ use Rattle.gm_defs.proofs.Choices.{both, map-some, then-some}
 use Rattle.world_defs.specs.declared.applied.Applied.{Applied}
 use Rattle.world_defs.specs.declared.applied.Applied.TheVariants.{Part as OnePart, Active, Old}
 use Rattle.world_defs.specs.declared.heard.Heard.{Heard}
-use Rattle.world_defs.specs.Table.{Adoption, TableState, table_route, applied}
-use Rattle.world_defs.specs.Peer.{PeerState, Ticket, peer_expired, tickets_finished}
-use Rattle.world_defs.specs.Node.{NodeState, Staged, StagedReply, StagedAck, StagedProbe, StagedPart, Outgoing, Probe, TablePart, Reply, PartAnswer, FrameAnswer, Fragment, peer_at, with_peer, port_at, with_port, way_back, outgoing_staged, owed_to, due_to, due_frame, either, first_some, peers_of, to_send, packet_for, after_sending, given_up, node_expired}
-use Rattle.world_defs.specs.Hearing.{is_host, heard_if, is_part_for, part_heard, hear_mapping, hear_mapping_body, delivered_after, frame_took, all_finished, hear_gm, hear_gm_body, hear_body, hear_decoded, hear}
+use Rattle.world_defs.specs.Table.{Adoption, TableState, applied}
+use Rattle.world_defs.specs.Lane.{LaneState, Ticket, lane_expired, tickets_finished}
+use Rattle.world_defs.specs.Node.{NodeState, Staged, StagedReply, StagedAck, StagedProbe, StagedPart, Outgoing, Probe, TablePart, Reply, PartAnswer, FrameAnswer, Fragment, lane_of, takes_from, lane_at, with_lane, lane_route, port_at, with_port, way_back, outgoing_staged, owed_on, due_on, due_frame, either, first_some, lanes_of, to_send, packet_for, after_sending, given_up, with_expired, node_expired}
+use Rattle.world_defs.specs.Hearing.{is_host, frame_lane, ack_lane, heard_if, is_part_for, part_heard, hear_mapping, hear_mapping_body, delivered_after, frame_took, all_finished, hear_gm, hear_gm_body, hear_body, hear_decoded, hear}
 use Rattle.world_defs.specs.Client.{ClientState, Called}
 use Rattle.world_defs.proofs.Calls.{Call}
 use Rattle.table_laws.specs.Set.{IsPart, IsTable, IsFitPart}
@@ -76,14 +77,14 @@ delivered_after-host o host n h part TookNotNext is = is
 delivered_after-host o host n h part TookNoToken is = is
 delivered_after-host o host n h part Whole is = record { staged = is.staged; table = is.table }
 
-peer-host : (o : Option Adoption) (host : ℕ) (n : NodeState) (peer : ℕ) (p : PeerState) → IsHostOf o host n → IsHostOf o host (with_peer n peer p)
-peer-host o host n peer p is = record { staged = is.staged; table = is.table }
+lane-host : (o : Option Adoption) (host : ℕ) (n : NodeState) (lane : ℕ) (l : LaneState) → IsHostOf o host n → IsHostOf o host (with_lane n lane l)
+lane-host o host n lane l is = record { staged = is.staged; table = is.table }
 
 hear_gm-host : (o : Option Adoption) (host hosts : ℕ) (n : NodeState) (body : List ℕ) (b : GmBody) → IsHostOf o host n → IsHostOf o host (hear_gm host hosts n body b).1
 hear_gm-host o host hosts n body (Frame h) is =
-    heard_if-host o host (nat_eq h.dst host && is_host hosts h.src) n _ is (λ e. delivered_after-host o host _ h (part_in body) (frame_took n h) (peer-host o host n h.src _ is))
+    heard_if-host o host (nat_eq h.dst host && is_host hosts h.src) n _ is (λ e. delivered_after-host o host _ h (part_in body) (frame_took n h) (lane-host o host n (frame_lane h) _ is))
 hear_gm-host o host hosts n body (Acknowledges a) is =
-    heard_if-host o host (nat_eq a.dst host && is_host hosts a.src) n _ is (λ e. all_finished-host o host _ (tickets_finished (peer_at n a.src) a.next) (peer-host o host n a.src _ is))
+    heard_if-host o host (nat_eq a.dst host && is_host hosts a.src) n _ is (λ e. all_finished-host o host _ (tickets_finished (lane_at n (ack_lane a)) a.next) (lane-host o host n (ack_lane a) _ is))
 
 hear_gm_body-host : (o : Option Adoption) (host hosts : ℕ) (n : NodeState) (body : List ℕ) (r : Result GmBody NoBody) → IsHostOf o host n → IsHostOf o host (hear_gm_body host hosts n body r).1
 hear_gm_body-host o host hosts n body (Err e) is = is
@@ -107,8 +108,8 @@ IsOut o (TablePart p by) = IsPart o p.dst p × IsFitPart p
 IsOut o (Probe walk looped) = Unit {0}
 IsOut o (Reply r) = Unit {0}
 IsOut o (PartAnswer a) = Unit {0}
-IsOut o (FrameAnswer peer next by) = Unit {0}
-IsOut o (Fragment peer head part by) = Unit {0}
+IsOut o (FrameAnswer lane next by) = Unit {0}
+IsOut o (Fragment lane head part by) = Unit {0}
 
 either-holds : {A : Type 0} (P : A → Type 0) (a b : Option A) → ((x : A) → a ≡ Some x → P x) → ((x : A) → b ≡ Some x → P x) → (x : A) → either a b ≡ Some x → P x
 either-holds P (Some y) b f g x e = f x e
@@ -131,18 +132,18 @@ answer-out : (o : Option Adoption) (s : Option StagedAck) (x : Outgoing) → opt
 answer-out o None x e = cc
 answer-out o (Some a) x e = subst (IsOut o) (same_Some (PartAnswer a) x e) tt
 
-owed-out : (o : Option Adoption) (peer next : ℕ) (b : Bool) (r : Option (List ℤ)) (x : Outgoing) → (if b then option_map (λ by. FrameAnswer peer next by) r else None) ≡ Some x → IsOut o x
-owed-out o peer next true None x e = cc
-owed-out o peer next true (Some by) x e = subst (IsOut o) (same_Some (FrameAnswer peer next by) x e) tt
-owed-out o peer next false r x e = cc
+owed-out : (o : Option Adoption) (lane next : ℕ) (b : Bool) (r : Option (List ℤ)) (x : Outgoing) → (if b then option_map (λ by. FrameAnswer lane next by) r else None) ≡ Some x → IsOut o x
+owed-out o lane next true None x e = cc
+owed-out o lane next true (Some by) x e = subst (IsOut o) (same_Some (FrameAnswer lane next by) x e) tt
+owed-out o lane next false r x e = cc
 
-routed-out : (o : Option Adoption) (peer : ℕ) (f : FrameHead × List ℕ) (r : Option (List ℤ)) (x : Outgoing) → option_map (λ by. Fragment peer f.0 f.1 by) r ≡ Some x → IsOut o x
-routed-out o peer f None x e = cc
-routed-out o peer f (Some by) x e = subst (IsOut o) (same_Some (Fragment peer f.0 f.1 by) x e) tt
+routed-out : (o : Option Adoption) (lane : ℕ) (f : FrameHead × List ℕ) (r : Option (List ℤ)) (x : Outgoing) → option_map (λ by. Fragment lane f.0 f.1 by) r ≡ Some x → IsOut o x
+routed-out o lane f None x e = cc
+routed-out o lane f (Some by) x e = subst (IsOut o) (same_Some (Fragment lane f.0 f.1 by) x e) tt
 
-due-out : (o : Option Adoption) (n : NodeState) (peer : ℕ) (f : Option (FrameHead × List ℕ)) (x : Outgoing) → option_and_then (λ f. option_map (λ by. Fragment peer f.0 f.1 by) (table_route n.table peer)) f ≡ Some x → IsOut o x
-due-out o n peer None x e = cc
-due-out o n peer (Some f) x e = routed-out o peer f (table_route n.table peer) x e
+due-out : (o : Option Adoption) (n : NodeState) (lane : ℕ) (f : Option (FrameHead × List ℕ)) (x : Outgoing) → option_and_then (λ f. option_map (λ by. Fragment lane f.0 f.1 by) (lane_route n lane)) f ≡ Some x → IsOut o x
+due-out o n lane None x e = cc
+due-out o n lane (Some f) x e = routed-out o lane f (lane_route n lane) x e
 
 to_send-out : (o : Option Adoption) (host : ℕ) (n : NodeState) (x : Outgoing) → IsHostOf o host n → to_send host n ≡ Some x → IsOut o x
 unfolding to_send
@@ -150,9 +151,9 @@ to_send-out o host n x is e =
     either-holds (IsOut o) (option_map outgoing_staged n.staged) _ (λ y. staged-out o n.staged y is.staged)
     (either-holds (IsOut o) (option_map Reply n.reply) _ (reply-out o n.reply)
     (either-holds (IsOut o) (option_map PartAnswer n.part_ack) _ (answer-out o n.part_ack)
-    (either-holds (IsOut o) (first_some (owed_to n) (peers_of n)) _
-    (first_some-holds (IsOut o) (owed_to n) (λ peer. owed-out o peer (peer_at n peer).taken (peer_at n peer).owes (table_route n.table peer)) (peers_of n))
-    (first_some-holds (IsOut o) (due_to host n) (λ peer y. due-out o n peer (due_frame host n peer) y) (peers_of n)))))
+    (either-holds (IsOut o) (first_some (owed_on n) (lanes_of n)) _
+    (first_some-holds (IsOut o) (owed_on n) (λ lane. owed-out o lane (lane_at n lane).taken (lane_at n lane).owes (lane_route n lane)) (lanes_of n))
+    (first_some-holds (IsOut o) (due_on host n) (λ lane y. due-out o n lane (due_frame host n lane) y) (lanes_of n)))))
     x e
 
 -- other bodies aren't read as parts
@@ -219,10 +220,10 @@ packet-built o host number (Reply r) is =
     record { route = r.back; kind = Mapping; payload = mapping_bytes (HostReply r.number host); written = refl; good = record { part = λ p m e. absurd (no_reply p (to_be_bytes w64 r.number ++ to_be_bytes w16 host) e) } }
 packet-built o host number (PartAnswer a) is =
     record { route = a.back; kind = Mapping; payload = mapping_bytes (PartAck a.epoch host a.part); written = refl; good = record { part = λ p m e. absurd (no_ack p (to_be_bytes w32 a.epoch ++ to_be_bytes w16 host ++ a.part ∷ []) e) } }
-packet-built o host number (FrameAnswer peer next by) is =
-    let bytes : List ℕ = ack_bytes (record { src = host; dst = peer; next = next }) in
+packet-built o host number (FrameAnswer lane next by) is =
+    let bytes : List ℕ = ack_bytes (ack_on (takes_from host lane) next) in
     record { route = by; kind = Gm; payload = bytes; written = refl; good = gm_body o bytes }
-packet-built o host number (Fragment peer head part by) is =
+packet-built o host number (Fragment lane head part by) is =
     record { route = by; kind = Gm; payload = frame_bytes head part; written = refl; good = gm_body o (frame_bytes head part) }
 
 -- the packet of what is sent has a route, a kind and a payload
@@ -233,8 +234,8 @@ packet-shape host number (Probe walk false) = record { route = walk; kind = Mapp
 packet-shape host number (TablePart part by) = record { route = by; kind = Mapping; payload = mapping_bytes (Part part); written = refl; good = tt }
 packet-shape host number (Reply r) = record { route = r.back; kind = Mapping; payload = mapping_bytes (HostReply r.number host); written = refl; good = tt }
 packet-shape host number (PartAnswer a) = record { route = a.back; kind = Mapping; payload = mapping_bytes (PartAck a.epoch host a.part); written = refl; good = tt }
-packet-shape host number (FrameAnswer peer next by) = record { route = by; kind = Gm; payload = ack_bytes (record { src = host; dst = peer; next = next }); written = refl; good = tt }
-packet-shape host number (Fragment peer head part by) = record { route = by; kind = Gm; payload = frame_bytes head part; written = refl; good = tt }
+packet-shape host number (FrameAnswer lane next by) = record { route = by; kind = Gm; payload = ack_bytes (ack_on (takes_from host lane) next); written = refl; good = tt }
+packet-shape host number (Fragment lane head part by) = record { route = by; kind = Gm; payload = frame_bytes head part; written = refl; good = tt }
 
 pub sent-built : (o : Option Adoption) (host number : ℕ) (n : NodeState) (x : Outgoing) → IsHostOf o host n → to_send host n ≡ Some x → Built (IsBody o) (packet_for host number x)
 sent-built o host number n x is e = packet-built o host number x (to_send-out o host n x is e)
@@ -245,8 +246,8 @@ after_sending-host o host n (Probe walk looped) is = record { staged = tt; table
 after_sending-host o host n (TablePart part by) is = record { staged = tt; table = is.table }
 after_sending-host o host n (Reply r) is = record { staged = is.staged; table = is.table }
 after_sending-host o host n (PartAnswer a) is = record { staged = is.staged; table = is.table }
-after_sending-host o host n (FrameAnswer peer next by) is = record { staged = is.staged; table = is.table }
-after_sending-host o host n (Fragment peer head part by) is = record { staged = is.staged; table = is.table }
+after_sending-host o host n (FrameAnswer lane next by) is = record { staged = is.staged; table = is.table }
+after_sending-host o host n (Fragment lane head part by) is = record { staged = is.staged; table = is.table }
 
 pub given_up-host : (o : Option Adoption) (host : ℕ) (n : NodeState) → IsHostOf o host n → IsHostOf o host (given_up n)
 given_up-host o host n is = record { staged = tt; table = is.table }
@@ -255,7 +256,9 @@ pub staged-host : (o : Option Adoption) (host : ℕ) (n : NodeState) (s : Staged
 staged-host o host n s new is = record { staged = new; table = is.table }
 
 pub node_expired-host : (o : Option Adoption) (host : ℕ) (n : NodeState) (peer : ℕ) → IsHostOf o host n → IsHostOf o host (node_expired n peer)
-node_expired-host o host n peer is = peer-host o host n peer (peer_expired (peer_at n peer)) is
+node_expired-host o host n peer is =
+    let m : NodeState = with_expired n (lane_of peer 0) in
+    lane-host o host m (lane_of peer 1) (lane_expired (lane_at m (lane_of peer 1))) (lane-host o host n (lane_of peer 0) (lane_expired (lane_at n (lane_of peer 0))) is)
 
 -- what its clients call for
 pub call-host : (o : Option Adoption) (host : ℕ) {n : NodeState} {c : Option ClientState} {port : ℕ} {call : Called} → Call n c port call → IsHostOf o host n → IsHostOf o host call.node

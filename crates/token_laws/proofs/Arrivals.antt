@@ -13,41 +13,45 @@ use Rattle.gm_defs.specs.declared.frame.FrameHead.{FrameHead}
 use Rattle.gm_defs.specs.declared.token.Took.{Took}
 use Rattle.gm_defs.specs.declared.token.Took.TheVariants.{NotNext, NoToken, Whole}
 use Rattle.gm_defs.specs.Body.{piece, part_in}
+use Rattle.gm_defs.specs.declared.frame.ConnectionKey.{ConnectionKey}
+use Rattle.gm_defs.specs.declared.frame.GmBody.TheVariants.{Frame}
 use Rattle.gm_defs.specs.Fragment.{IsHonestFrame}
+use Rattle.gm_defs.specs.Connection.{key_of}
 use Rattle.gm_defs.specs.Token.{Provided, PortEvent, Sent, Received, PortState, is_size, size_for_length, fits, fitting}
 use Rattle.gm_defs.specs.Port.{finished, filled, delivered, sent_with}
 use Rattle.gm_defs.proofs.Choices.{both}
-use Rattle.world_defs.specs.Peer.{PeerState, Ticket, new_peer, with_message, peer_acknowledged, tickets_finished, peer_expired, peer_sent_one, peer_answered, peer_after}
-use Rattle.world_defs.specs.Node.{NodeState, Outgoing, Probe, TablePart, Reply, PartAnswer, FrameAnswer, Fragment, peer_at, with_peer, port_at, with_port, after_sending, new_node, port_count}
-use Rattle.world_defs.specs.Hearing.{message_of, delivered_after, frame_took, all_finished}
-use Rattle.world_defs.specs.Client.{ClientState, Called, Wanted, wanted_message, client_bytes, empty_buffer, send_accepted}
+use Rattle.world_defs.specs.Lane.{LaneState, Ticket, new_lane, with_message, lane_acknowledged, tickets_finished, lane_expired, lane_sent_one, lane_answered, lane_after}
+use Rattle.world_defs.specs.Node.{NodeState, Outgoing, Probe, TablePart, Reply, PartAnswer, FrameAnswer, Fragment, lane_count, lane_of, sending_lane, lane_at, with_lane, port_at, with_port, after_sending, with_expired, node_expired, new_node, port_count}
+use Rattle.world_defs.specs.Hearing.{message_of, frame_lane, ack_lane, delivered_after, frame_took, all_finished}
+use Rattle.world_defs.specs.Client.{ClientState, Called, Wanted, wanted_message, wanted_lane, client_bytes, empty_buffer, send_accepted}
 use Rattle.world_defs.specs.World.{WorldState, host_count, new_world, node_at}
 use Rattle.world_defs.specs.Sound.{IsFront}
-use Rattle.world_defs.specs.Traffic.{sent_between}
+use Rattle.world_defs.specs.Traffic.{sent_on}
 use Rattle.act_defs.specs.Acts.{Act, acted, IsReached}
 use Rattle.order_laws.specs.Says.{SaysTrue}
-use Rattle.order_laws.proofs.Peers.{front-same, frame-message}
+use Rattle.order_laws.proofs.Lanes.{front-same, frame-message}
 use Rattle.world_defs.proofs.Lists.{each-set, each-replicate}
+use Rattle.world_defs.proofs.Lanes.{lane_of-below}
 use Rattle.owner_laws.proofs.Moves.{found-passes}
 use Rattle.window_laws.proofs.Heard.{IsHeard, quietly, of_frame, of_ack, hear-is}
 use Rattle.window_laws.proofs.Hosts.{Rules, Goes, acted-goes}
-use Rattle.window_laws.proofs.Numbers.{all_finished-peers}
+use Rattle.window_laws.proofs.Numbers.{all_finished-lanes}
 use Rattle.act_defs.proofs.Reaching.{reached-has}
 use Rattle.window_laws.proofs.Windows.{reached-windowed}
 use Rattle.token_laws.specs.Untouched.{IsUntouched}
 use Rattle.token_laws.specs.Received.{IsOfMessage, ReceivedEventsAreOfMessages}
 use Rattle.token_laws.proofs.Calls.{IsCall, CallDoes, call-does}
-use Rattle.token_laws.proofs.Hosts.{peer-new}
+use Rattle.token_laws.proofs.Hosts.{lane-new}
 use Rattle.token_laws.proofs.Events.{AreAll, all-more, PortStill, port-same, called-still, finished-still, delivered-still, event-at, ports-same, ports-set}
 use Rattle.token_laws.proofs.Buffers.{provided-untouched}
 use Rattle.token_laws.proofs.Reaching.{reached-count, reached-known}
 use Rattle.order_laws.proofs.Frames.{get-front}
 use Rattle.token_laws.proofs.Lists.{get-last}
 
--- an event is of a message that was got
+-- an event is of a message that was got by the lane of its sender and its priority
 abbrev IsEventOf : (ℕ → List Message) → ℕ → PortEvent → Type 0
 IsEventOf got port (Sent t b) = Unit {0}
-IsEventOf got port (Received t b from sport prio len) = IsOfMessage got port b from sport prio len
+IsEventOf got port (Received t b from sport prio len) = IsOfMessage (λ a. got (lane_of a prio)) port b from sport prio len
 
 abbrev AreOf : (ℕ → List Message) → ℕ → Option PortState → Type 0
 AreOf got port o = AreAll (IsEventOf got port) o
@@ -59,7 +63,7 @@ event-more G H port more (Received t b from sport prio len) is = record {
   place = is.place;
   message = is.message;
   size = is.size;
-  there = ap (λ l. slice_get l is.place) (more from).both ∙ get-front (G from) (more from).rest is.place is.message is.there;
+  there = ap (λ l. slice_get l is.place) (more (lane_of from prio)).both ∙ get-front (G (lane_of from prio)) (more (lane_of from prio)).rest is.place is.message is.there;
   to_port = is.to_port;
   from_port = is.from_port;
   priority = is.priority;
@@ -68,9 +72,9 @@ event-more G H port more (Received t b from sport prio len) is = record {
   bytes = is.bytes;
 }
 
--- what a host got from a peer
+-- what a host got by a lane
 abbrev got_at : NodeState → ℕ → List Message
-got_at n k = (peer_at n k).got
+got_at n k = (lane_at n k).got
 
 record AllOf (n : NodeState) : Type 0 where
   each : (port : ℕ) → AreOf (got_at n) port (port_at n port)
@@ -83,18 +87,18 @@ record HostGoes (n m : NodeState) : Type 0 where
 all-of : (n m : NodeState) → HostGoes n m → AllOf n → AllOf m
 all-of n m g is = record { each = λ port. (g.ports port).still (all-more (IsEventOf (got_at n) port) (IsEventOf (got_at m) port) (event-more (got_at n) (got_at m) port g.more) (port_at n port) (is.each port)) }
 
-got-same : (n m : NodeState) → m.peers ≡ n.peers → (k : ℕ) → IsFront (got_at n k) (got_at m k)
-got-same n m e k = subst (λ l. IsFront (got_at n k) (get_or l k new_peer).got) (sym e) (front-same (got_at n k))
+got-same : (n m : NodeState) → m.lanes ≡ n.lanes → (k : ℕ) → IsFront (got_at n k) (got_at m k)
+got-same n m e k = subst (λ l. IsFront (got_at n k) (get_or l k new_lane).got) (sym e) (front-same (got_at n k))
 
-got-set : (n m : NodeState) (k : ℕ) (q : PeerState) → m.peers ≡ set n.peers k q → IsFront (got_at n k) q.got → (j : ℕ) → IsFront (got_at n j) (got_at m j)
+got-set : (n m : NodeState) (k : ℕ) (q : LaneState) → m.lanes ≡ set n.lanes k q → IsFront (got_at n k) q.got → (j : ℕ) → IsFront (got_at n j) (got_at m j)
 got-set n m k q e here j =
-    subst (λ l. IsFront (got_at n j) (get_or l j new_peer).got) (sym e) (each-set (λ i x. IsFront (got_at n i) x.got) n.peers k j q new_peer here (λ i. front-same (got_at n i)))
+    subst (λ l. IsFront (got_at n j) (get_or l j new_lane).got) (sym e) (each-set (λ i x. IsFront (got_at n i) x.got) n.lanes k j q new_lane here (λ i. front-same (got_at n i)))
 
-quiet-goes : (n m : NodeState) → m.peers ≡ n.peers → m.ports ≡ n.ports → HostGoes n m
+quiet-goes : (n m : NodeState) → m.lanes ≡ n.lanes → m.ports ≡ n.ports → HostGoes n m
 quiet-goes n m e f = record { more = got-same n m e; ports = ports-same (IsEventOf (got_at m)) n m f }
 
-peer-goes : (n : NodeState) (k : ℕ) (q : PeerState) → IsFront (got_at n k) q.got → HostGoes n (with_peer n k q)
-peer-goes n k q here = record { more = got-set n (with_peer n k q) k q refl here; ports = ports-same (IsEventOf (got_at (with_peer n k q))) n (with_peer n k q) refl }
+lane-goes : (n : NodeState) (k : ℕ) (q : LaneState) → IsFront (got_at n k) q.got → HostGoes n (with_lane n k q)
+lane-goes n k q here = record { more = got-set n (with_lane n k q) k q refl here; ports = ports-same (IsEventOf (got_at (with_lane n k q))) n (with_lane n k q) refl }
 
 all-finished : (got : ℕ → List Message) (n : NodeState) (ts : List Ticket) (port : ℕ) → PortStill (IsEventOf got port) (port_at n port) (port_at (all_finished n ts) port)
 all-finished got n [] port = port-same (IsEventOf got port) (port_at n port)
@@ -124,35 +128,38 @@ least-size size (Some least) e = ap Some (same e)
 abbrev HasUntouched : NodeState → Type 0
 HasUntouched n = (port : ℕ) (p : PortState) → port_at n port ≡ Some p → AllByRecursion IsUntouched p.provided
 
-module _ (n : NodeState) (hosts : ℕ) (long : length n.peers ≡ hosts) (untouched : HasUntouched n) where
+module _ (n : NodeState) (hosts : ℕ) (long : length n.lanes ≡ lane_count hosts) (untouched : HasUntouched n) where
   -- a frame that carries a whole message
-  frame-goes : (h : FrameHead) (part : List ℕ) (t : Took) → h.src < hosts → length part ≡ h.total → HostGoes n (delivered_after (with_peer n h.src (peer_after (peer_at n h.src) t (message_of h part))) h part t)
-  frame-goes h part NotNext low whole = peer-goes n h.src (peer_after (peer_at n h.src) NotNext (message_of h part)) (front-same (got_at n h.src))
-  frame-goes h part NoToken low whole = peer-goes n h.src (peer_after (peer_at n h.src) NoToken (message_of h part)) (front-same (got_at n h.src))
+  frame-goes : (h : FrameHead) (part : List ℕ) (t : Took) → h.src < hosts → length part ≡ h.total → HostGoes n (delivered_after (with_lane n (frame_lane h) (lane_after (lane_at n (frame_lane h)) t (message_of h part))) h part t)
+  frame-goes h part NotNext low whole = lane-goes n (frame_lane h) (lane_after (lane_at n (frame_lane h)) NotNext (message_of h part)) (front-same (got_at n (frame_lane h)))
+  frame-goes h part NoToken low whole = lane-goes n (frame_lane h) (lane_after (lane_at n (frame_lane h)) NoToken (message_of h part)) (front-same (got_at n (frame_lane h)))
   frame-goes h part Whole low whole = record {
-    more = got-set n m h.src q refl (record { rest = message_of h part ∷ []; both = refl });
+    more = got-set n m (frame_lane h) q refl (record { rest = message_of h part ∷ []; both = refl });
     ports = ports-set (IsEventOf (got_at m)) n m h.dport (option_map (λ p. delivered p h part) (port_at n h.dport)) refl (delivered-still (IsEventOf (got_at m) h.dport) h part (port_at n h.dport) new);
   }
     where
-      q : PeerState
-      q = peer_after (peer_at n h.src) Whole (message_of h part)
+      q : LaneState
+      q = lane_after (lane_at n (frame_lane h)) Whole (message_of h part)
 
       m : NodeState
-      m = delivered_after (with_peer n h.src q) h part Whole
+      m = delivered_after (with_lane n (frame_lane h) q) h part Whole
 
-      now : got_at m h.src ≡ got_at n h.src ++ message_of h part ∷ []
-      now = ap (λ x. x.got) (peer-new n m h.src q refl (omega (arith, long, low)))
+      k : ℕ
+      k = frame_lane h
 
-      new : (p : PortState) (r : Provided) → port_at n h.dport ≡ Some p → fitting p h.total h.prio ≡ Some r → IsOfMessage (got_at m) h.dport (filled r.buffer part) h.src h.sport h.prio h.total
+      now : got_at m k ≡ got_at n k ++ message_of h part ∷ []
+      now = ap (λ x. x.got) (lane-new n m k q refl (subst (λ count. k < count) (sym long) (lane_of-below hosts h.src h.prio low)))
+
+      new : (p : PortState) (r : Provided) → port_at n h.dport ≡ Some p → fitting p h.total h.prio ≡ Some r → IsOfMessage (λ a. got_at m (lane_of a h.prio)) h.dport (filled r.buffer part) h.src h.sport h.prio h.total
       new p r e f =
           let test : Provided → Bool = λ x. fits x.size x.prio h.total h.prio in
           let passes : fits r.size r.prio h.total h.prio ≡ true = found-passes test (λ x. x.token) p.provided r f in
           let clean : r.buffer ≡ empty_buffer r.size = found-all IsUntouched test p.provided r (untouched h.dport p e) f in
           record {
-            place = length (got_at n h.src);
+            place = length (got_at n k);
             message = message_of h part;
             size = r.size;
-            there = ap (λ l. slice_get l (length (got_at n h.src))) now ∙ get-last (got_at n h.src) (message_of h part);
+            there = ap (λ l. slice_get l (length (got_at n k))) now ∙ get-last (got_at n k) (message_of h part);
             to_port = refl;
             from_port = refl;
             priority = refl;
@@ -162,20 +169,21 @@ module _ (n : NodeState) (hosts : ℕ) (long : length n.peers ≡ hosts) (untouc
           }
 
   -- all that is read is so, of messages of one fragment
-  heard-goes : (S : ℕ → ℕ → List Message) (host : ℕ) (wire : List ℕ) (m : NodeState) → ((a : ℕ) → AllByRecursion (λ x. length x.body ≤ piece) (S a host)) → ((k : Kind) (body : List ℕ) → decode_packet wire ≡ Ok (k, body) → SaysTrue S k body) → IsHeard host hosts n wire m → HostGoes n m
+  heard-goes : (S : ConnectionKey → List Message) (host : ℕ) (wire : List ℕ) (m : NodeState) → ((c : ConnectionKey) → AllByRecursion (λ x. length x.body ≤ piece) (S c)) → ((k : Kind) (body : List ℕ) → decode_packet wire ≡ Ok (k, body) → SaysTrue S k body) → IsHeard host hosts n wire m → HostGoes n m
   heard-goes S host wire m short good (quietly e f) = quiet-goes n m e f
   heard-goes S host wire m short good (of_frame body h e d mine low now) =
-      let frame : IsHonestFrame h.src h.dst (S h.src h.dst) h (part_in body) = good Gm body e h d in
-      let carried = frame-message h.src h.dst h.seq (S h.src h.dst) h.seq (h, part_in body) (subst (λ x. AllByRecursion (λ y. length y.body ≤ piece) (S h.src x)) (sym mine) (short h.src)) frame in
+      let c : ConnectionKey = key_of (Frame h) in
+      let frame : IsHonestFrame S h (part_in body) = good Gm body e h d in
+      let carried = frame-message c h.seq (S c) h.seq (h, part_in body) (short c) frame in
       let total : h.total ≡ length carried.message.body = ap (λ x. x.0.total) carried.is in
       let bytes : length (part_in body) ≡ length carried.message.body = ap (λ x. length x.1) carried.is in
       subst (HostGoes n) (sym now) (frame-goes h (part_in body) (frame_took n h) low (bytes ∙ sym total))
   heard-goes S host wire m short good (of_ack body a e d mine low now) =
-      let v : NodeState = with_peer n a.src (peer_acknowledged (peer_at n a.src) a.next) in
-      let gone : List Ticket = tickets_finished (peer_at n a.src) a.next in
+      let v : NodeState = with_lane n (ack_lane a) (lane_acknowledged (lane_at n (ack_lane a)) a.next) in
+      let gone : List Ticket = tickets_finished (lane_at n (ack_lane a)) a.next in
       let after : NodeState = all_finished v gone in
       let goes : HostGoes n after = record {
-        more = got-set n after a.src (peer_acknowledged (peer_at n a.src) a.next) (all_finished-peers v gone) (front-same (got_at n a.src));
+        more = got-set n after (ack_lane a) (lane_acknowledged (lane_at n (ack_lane a)) a.next) (all_finished-lanes v gone) (front-same (got_at n (ack_lane a)));
         ports = all-finished (got_at after) v gone;
       } in
       subst (HostGoes n) (sym now) goes
@@ -187,24 +195,33 @@ module _ (n : NodeState) where
   sending-goes (TablePart part by) = quiet-goes n (record n { staged = None }) refl refl
   sending-goes (Reply r) = quiet-goes n (record n { reply = None }) refl refl
   sending-goes (PartAnswer a) = quiet-goes n (record n { part_ack = None }) refl refl
-  sending-goes (FrameAnswer peer next by) = peer-goes n peer (peer_answered (peer_at n peer)) (front-same (got_at n peer))
-  sending-goes (Fragment peer head part by) = peer-goes n peer (peer_sent_one (peer_at n peer)) (front-same (got_at n peer))
+  sending-goes (FrameAnswer lane next by) = lane-goes n lane (lane_answered (lane_at n lane)) (front-same (got_at n lane))
+  sending-goes (Fragment lane head part by) = lane-goes n lane (lane_sent_one (lane_at n lane)) (front-same (got_at n lane))
 
-  call-goes : (port : ℕ) (call : Called) → IsCall n port call → call.node.peers ≡ n.peers → HostGoes n call.node
+  call-goes : (port : ℕ) (call : Called) → IsCall n port call → call.node.lanes ≡ n.lanes → HostGoes n call.node
   call-goes port call is e = record { more = got-same n call.node e; ports = ports-set (IsEventOf (got_at call.node)) n call.node port is.after is.ports (called-still (IsEventOf (got_at call.node) port) (port_at n port) is.after is.change) }
 
   send-goes : (s : Wanted) (p : PortState) (c : ClientState) (t : ℕ) (ts : List ℕ) → port_at n s.port ≡ Some p → HostGoes n (send_accepted n s p c t ts).node
   send-goes s p c t ts e =
       let m : NodeState = (send_accepted n s p c t ts).node in
-      let q : PeerState = with_message (peer_at n s.dest) (wanted_message s) (record { port = s.port; token = t }) in
+      let q : LaneState = with_message (lane_at n (wanted_lane s)) (wanted_message s) (record { port = s.port; token = t }) in
       record {
-        more = got-set n m s.dest q refl (front-same (got_at n s.dest));
+        more = got-set n m (wanted_lane s) q refl (front-same (got_at n (wanted_lane s)));
         ports = ports-set (IsEventOf (got_at m)) n m s.port (Some (sent_with p t (client_bytes s.len s.seed))) refl (record { still = λ a. subst (AreOf (got_at m) s.port) e a });
       }
+
+  -- fragments are sent again, of one lane and of both of a peer
+  expired-goes : (lane : ℕ) → HostGoes n (with_expired n lane)
+  expired-goes lane = lane-goes n lane (lane_expired (lane_at n lane)) (front-same (got_at n lane))
 
   called-goes : {c : Option ClientState} {port : ℕ} {call : Called} → CallDoes n c port call → HostGoes n call.node
   called-goes (CallDoes.at_port {port = port} {call = call} i e) = call-goes port call i e
   called-goes (CallDoes.accepts s p d t ts e f g k) = send-goes s p d t ts e
+
+expires-kept : (n : NodeState) (peer : ℕ) → AllOf n → AllOf (node_expired n peer)
+expires-kept n peer is =
+    let m : NodeState = with_expired n (lane_of peer 0) in
+    all-of m (node_expired n peer) (expired-goes m (lane_of peer 1)) (all-of n m (expired-goes n (lane_of peer 0)) is)
 
 -- a change of a host of the fabric
 record Still (count h : ℕ) (n m : NodeState) : Type 0 where
@@ -213,12 +230,12 @@ record Still (count h : ℕ) (n m : NodeState) : Type 0 where
 abbrev StillOf : Network → ℕ → NodeState → NodeState → Type 0
 StillOf n h a b = Still (length n.hosts) h a b
 
-event-rules : (n : Network) (w : WorldState) → IsReached n w → Rules w (SaysTrue (sent_between w)) (StillOf n)
+event-rules : (n : Network) (w : WorldState) → IsReached n w → Rules w (SaysTrue (sent_on w)) (StillOf n)
 event-rules n w is = record {
   quiet = λ h m e f. record { still = λ low. all-of (node_at w h) m (quiet-goes (node_at w h) m e f) };
-  hears = λ h wire good. record { still = λ low. all-of (node_at w h) _ (heard-goes (node_at w h) (host_count w) (reached-known n w h is low).peers (provided-untouched n w is h) (sent_between w) h wire _ (λ a. (((reached-windowed n w is).ordered.hosts a).peers h).short) good (hear-is h (host_count w) (node_at w h) wire)) };
+  hears = λ h wire good. record { still = λ low. all-of (node_at w h) _ (heard-goes (node_at w h) (host_count w) (reached-known n w h is low).lanes (provided-untouched n w is h) (sent_on w) h wire _ (λ c. (((reached-windowed n w is).ordered.hosts c.src).lanes (sending_lane c)).short) good (hear-is h (host_count w) (node_at w h) wire)) };
   sends = λ h out e. record { still = λ low. all-of (node_at w h) _ (sending-goes (node_at w h) out) };
-  expires = λ h peer. record { still = λ low. all-of (node_at w h) _ (peer-goes (node_at w h) peer (peer_expired (peer_at (node_at w h) peer)) (front-same (got_at (node_at w h) peer))) };
+  expires = λ h peer. record { still = λ low. expires-kept (node_at w h) peer };
   calls = λ h port call k. record { still = λ low. all-of (node_at w h) _ (called-goes (node_at w h) (call-does k)) };
 }
 
@@ -228,7 +245,7 @@ record HasMessages (n : Network) (w : WorldState) : Type 0 where
 
 acted-messages : (n : Network) (w : WorldState) (a : Act) → IsReached n w → HasMessages n w → HasMessages n (acted w a)
 acted-messages n w a r is =
-    let g : Goes (StillOf n) w (acted w a) = acted-goes w (SaysTrue (sent_between w)) (StillOf n) (event-rules n w r) a (reached-windowed n w r).ordered.links in
+    let g : Goes (StillOf n) w (acted w a) = acted-goes w (SaysTrue (sent_on w)) (StillOf n) (event-rules n w r) a (reached-windowed n w r).ordered.links in
     record { hosts = λ h low. (g.nodes h).still low (is.hosts h low) }
 
 new-of : (k : ℕ) → AllOf (new_node k)

@@ -11,9 +11,9 @@ use Rattle.gm_defs.specs.Token.{Sending, Provided, PortState, fits, fitting}
 use Rattle.gm_defs.specs.Port.{without_first, send_of, ended_by, finished, taken_by, delivered, sent_with, unfinished, unread}
 use Rattle.world_defs.specs.declared.client.ClientCause.TheVariants.{Busy, Unread}
 use Rattle.world_defs.specs.declared.effect.Said.TheVariants.{Count}
-use Rattle.world_defs.specs.Peer.{Ticket, peer_acknowledged, tickets_finished, peer_after}
-use Rattle.world_defs.specs.Node.{NodeState, Outgoing, Probe, TablePart, Reply, PartAnswer, FrameAnswer, Fragment, peer_at, with_peer, port_at, with_port, after_sending, new_node, port_count}
-use Rattle.world_defs.specs.Hearing.{message_of, delivered_after, frame_took, all_finished}
+use Rattle.world_defs.specs.Lane.{Ticket, lane_acknowledged, tickets_finished, lane_after}
+use Rattle.world_defs.specs.Node.{NodeState, Outgoing, Probe, TablePart, Reply, PartAnswer, FrameAnswer, Fragment, lane_at, with_lane, port_at, with_port, after_sending, new_node, port_count}
+use Rattle.world_defs.specs.Hearing.{frame_lane, ack_lane, message_of, delivered_after, frame_took, all_finished}
 use Rattle.world_defs.specs.Client.{ClientState, Called, Wanted, client_bytes, empty_buffer, refused, left, close_open, closed, send_accepted}
 use Rattle.world_defs.specs.World.{WorldState, host_count, new_world, node_at, client_at}
 use Rattle.world_laws.proofs.Lists.{at-set}
@@ -101,12 +101,12 @@ delivered_after-still n h part Whole = host-set n (delivered_after n h part Whol
 heard-still : (host hosts : ℕ) (n : NodeState) (wire : List ℕ) (m : NodeState) → IsHeard host hosts n wire m → HostStill n m
 heard-still host hosts n wire m (quietly e f) = host-same n m f
 heard-still host hosts n wire m (of_frame body h e d mine there now) =
-    let v : NodeState = with_peer n h.src (peer_after (peer_at n h.src) (frame_took n h) (message_of h (part_in body))) in
+    let v : NodeState = with_lane n (frame_lane h) (lane_after (lane_at n (frame_lane h)) (frame_took n h) (message_of h (part_in body))) in
     let after : NodeState = delivered_after v h (part_in body) (frame_took n h) in
     subst (HostStill n) (sym now) (host-then n v after (host-same n v refl) (delivered_after-still v h (part_in body) (frame_took n h)))
 heard-still host hosts n wire m (of_ack body a e d mine there now) =
-    let v : NodeState = with_peer n a.src (peer_acknowledged (peer_at n a.src) a.next) in
-    let gone : List Ticket = tickets_finished (peer_at n a.src) a.next in
+    let v : NodeState = with_lane n (ack_lane a) (lane_acknowledged (lane_at n (ack_lane a)) a.next) in
+    let gone : List Ticket = tickets_finished (lane_at n (ack_lane a)) a.next in
     subst (HostStill n) (sym now) (host-then n v (all_finished v gone) (host-same n v refl) (all_finished-still v gone))
 
 sending-still : (n : NodeState) (out : Outgoing) → HostStill n (after_sending n out)
@@ -115,8 +115,8 @@ sending-still n (Probe walk looped) = host-same n (record n { staged = None }) r
 sending-still n (TablePart part by) = host-same n (record n { staged = None }) refl
 sending-still n (Reply r) = host-same n (record n { reply = None }) refl
 sending-still n (PartAnswer a) = host-same n (record n { part_ack = None }) refl
-sending-still n (FrameAnswer peer next by) = host-same n (with_peer n peer _) refl
-sending-still n (Fragment peer head part by) = host-same n (with_peer n peer _) refl
+sending-still n (FrameAnswer lane next by) = host-same n (with_lane n lane _) refl
+sending-still n (Fragment lane head part by) = host-same n (with_lane n lane _) refl
 
 send-still : (n : NodeState) (s : Wanted) (p : PortState) (c : ClientState) (t : ℕ) (ts : List ℕ) → port_at n s.port ≡ Some p → HostStill n (send_accepted n s p c t ts).node
 send-still n s p c t ts e =

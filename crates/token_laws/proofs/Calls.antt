@@ -24,7 +24,7 @@ pub record IsCall (n : NodeState) (port : ℕ) (call : Called) : Type 0 where
 
 -- What a call makes of its host: its port alone changes, or a message is accepted.
 pub data CallDoes (n : NodeState) (c : Option ClientState) : ℕ → Called → Type 0 where
-  at_port : {port : ℕ} {call : Called} → IsCall n port call → call.node.peers ≡ n.peers → CallDoes n c port call
+  at_port : {port : ℕ} {call : Called} → IsCall n port call → call.node.lanes ≡ n.lanes → CallDoes n c port call
   accepts : (s : Wanted) (p : PortState) (d : ClientState) (t : ℕ) (ts : List ℕ) → port_at n s.port ≡ Some p → c ≡ Some d → d.sends ≡ t ∷ ts → send_refusal n s ≡ None → CallDoes n c s.port (send_accepted n s p d t ts)
 
 none-queued : (p : PortState) → nat_eq (unfinished p) 0 ≡ true → length p.queue ≡ 0

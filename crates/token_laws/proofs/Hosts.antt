@@ -15,28 +15,29 @@ use Rattle.gm_defs.specs.Token.{Sending, PortState, sent_tokens}
 use Rattle.gm_defs.specs.Port.{sent_with, delivered}
 use Rattle.gm_defs.proofs.Choices.{both}
 use Rattle.world_defs.specs.Table.{table_route}
-use Rattle.world_defs.specs.Peer.{PeerState, Ticket, new_peer, with_message, finished_by, peer_acknowledged, tickets_finished, peer_expired, peer_sent_one, peer_answered, peer_after}
-use Rattle.world_defs.specs.Node.{NodeState, Outgoing, Probe, TablePart, Reply, PartAnswer, FrameAnswer, Fragment, peer_at, with_peer, port_at, after_sending, node_expired}
-use Rattle.world_defs.specs.Hearing.{message_of, delivered_after, frame_took, all_finished, hear}
-use Rattle.world_defs.specs.Client.{ClientState, Called, Wanted, client_bytes, wanted_message, send_accepted, send_refusal}
+use Rattle.world_defs.specs.Lane.{LaneState, Ticket, new_lane, with_message, finished_by, lane_acknowledged, tickets_finished, lane_expired, lane_sent_one, lane_answered, lane_after}
+use Rattle.world_defs.specs.Node.{NodeState, Outgoing, Probe, TablePart, Reply, PartAnswer, FrameAnswer, Fragment, lane_count, lane_of, prio_of, lane_at, with_lane, port_at, after_sending, with_expired, node_expired}
+use Rattle.world_defs.specs.Hearing.{message_of, frame_lane, ack_lane, delivered_after, frame_took, all_finished, hear}
+use Rattle.world_defs.specs.Client.{ClientState, Called, Wanted, client_bytes, wanted_message, wanted_lane, send_accepted, send_refusal}
+use Rattle.world_defs.proofs.Lanes.{lane_of-below}
 use Rattle.world_defs.specs.Sound.{HasOwners, AreOwned}
-use Rattle.order_laws.proofs.Peers.{IsNumbered}
+use Rattle.order_laws.proofs.Lanes.{IsNumbered}
 use Rattle.window_laws.proofs.Heard.{IsHeard, quietly, of_frame, of_ack, hear-is}
-use Rattle.window_laws.proofs.Numbers.{all_finished-peers, delivered_after-peers}
+use Rattle.window_laws.proofs.Numbers.{all_finished-lanes, delivered_after-lanes}
 use Rattle.window_laws.proofs.Taken.{whole-below}
-use Rattle.token_laws.specs.Unfinished.{send_at, tickets_with}
+use Rattle.token_laws.specs.Unfinished.{send_at, tickets_on}
 use Rattle.token_laws.proofs.Matching.{same-or, OneAfter, the_one, another, tickets-long, matched-same, matched-accepted}
 use Rattle.token_laws.proofs.Sendings.{under, tokens, under-none, under-joined, under-new}
 use Rattle.world_defs.proofs.Calls.{not_refused-acceptable}
 use Rattle.token_laws.proofs.Calls.{IsCall, CallDoes}
-use Rattle.token_laws.proofs.Ports.{send_in, delivered-sends, called-sends, set-sends, SameTickets, peers-same, peers-set, left_to, HostMatched, host-same, HasApartSends, AllApart, port-there, same-ticket, at, at-here, at-other, all-finished}
+use Rattle.token_laws.proofs.Ports.{send_in, delivered-sends, called-sends, set-sends, SameTickets, lanes-same, lanes-set, left_on, HostMatched, host-same, HasApartSends, AllApart, port-there, same-ticket, at, at-here, at-other, all-finished}
 
 -- what is known of a host, one of so many, and of its clients
 pub record IsKnown (n : NodeState) (client : ℕ → Option ClientState) (hosts : ℕ) : Type 0 where
-  pub numbered : (k : ℕ) → IsNumbered (peer_at n k)
-  pub senders : (k : ℕ) → IsSender (peer_at n k).sender
+  pub numbered : (k : ℕ) → IsNumbered (prio_of k) (lane_at n k)
+  pub senders : (k : ℕ) → IsSender (lane_at n k).sender
   pub owned : (port : ℕ) → AreOwned (port_at n port) (client port)
-  pub peers : length n.peers ≡ hosts
+  pub lanes : length n.lanes ≡ lane_count hosts
   pub routed : (dest : ℕ) → is_none (table_route n.table dest) ≡ false → dest < hosts
 
 -- parts of what is apart
@@ -62,12 +63,12 @@ owned-apart None c own = tt
 owned-apart (Some p) None own = absurd own
 owned-apart (Some p) (Some c) own = apart-front (tokens p.queue) (sent_tokens p.events) (apart-back c.sends (tokens p.queue ++ sent_tokens p.events) own.sends.once)
 
--- one connection of a host
-pub peer-new : (n m : NodeState) (k : ℕ) (q : PeerState) → m.peers ≡ set n.peers k q → k < length n.peers → peer_at m k ≡ q
-peer-new n m k q e low = ap (λ l. get_or l k new_peer) e ∙ get_or-set_same n.peers k q new_peer low
+-- one lane of a host
+pub lane-new : (n m : NodeState) (k : ℕ) (q : LaneState) → m.lanes ≡ set n.lanes k q → k < length n.lanes → lane_at m k ≡ q
+lane-new n m k q e low = ap (λ l. get_or l k new_lane) e ∙ get_or-set_same n.lanes k q new_lane low
 
-peer-old : (n m : NodeState) (k : ℕ) (q : PeerState) → m.peers ≡ set n.peers k q → (j : ℕ) → j ≢ k → peer_at m j ≡ peer_at n j
-peer-old n m k q e j other = ap (λ l. get_or l j new_peer) e ∙ get_or-set_other n.peers k j q new_peer other
+lane-old : (n m : NodeState) (k : ℕ) (q : LaneState) → m.lanes ≡ set n.lanes k q → (j : ℕ) → j ≢ k → lane_at m j ≡ lane_at n j
+lane-old n m k q e j other = ap (λ l. get_or l j new_lane) e ∙ get_or-set_other n.lanes k j q new_lane other
 
 -- an acknowledgement raises the first number that isn't acknowledged, to the top at most
 pub record IsRaised (s : SenderState) (base : ℕ) : Type 0 where
@@ -94,15 +95,15 @@ module _ (n : NodeState) where
       set-sends m (delivered_after m h part Whole) h.dport (option_map (λ p. delivered p h part) (port_at m h.dport)) refl (delivered-sends h part (port_at m h.dport)) x ∙ ap (λ ps. send_in (get_or ps x.port None) x.token) e
 
   -- a call that is no send leaves them too
-  pub call-same : (port : ℕ) (call : Called) → IsCall n port call → call.node.peers ≡ n.peers → HostMatched n → HostMatched call.node
-  call-same port call is e = host-same n call.node (set-sends n call.node port is.after is.ports (called-sends (port_at n port) is.after is.change)) (peers-same n call.node e)
+  pub call-same : (port : ℕ) (call : Called) → IsCall n port call → call.node.lanes ≡ n.lanes → HostMatched n → HostMatched call.node
+  call-same port call is e = host-same n call.node (set-sends n call.node port is.after is.ports (called-sends (port_at n port) is.after is.change)) (lanes-same n call.node e)
 
-  pub quiet-same : (m : NodeState) → m.peers ≡ n.peers → m.ports ≡ n.ports → HostMatched n → HostMatched m
-  quiet-same m e f = host-same n m (λ x. ap (λ ps. send_in (get_or ps x.port None) x.token) f) (peers-same n m e)
+  pub quiet-same : (m : NodeState) → m.lanes ≡ n.lanes → m.ports ≡ n.ports → HostMatched n → HostMatched m
+  quiet-same m e f = host-same n m (λ x. ap (λ ps. send_in (get_or ps x.port None) x.token) f) (lanes-same n m e)
 
-  -- one connection that keeps its tickets and messages
-  peer-matched : (k : ℕ) (q : PeerState) → SameTickets (peer_at n k) q → HostMatched n → HostMatched (with_peer n k q)
-  peer-matched k q here = host-same n (with_peer n k q) (λ x. refl) (peers-set n (with_peer n k q) k q refl here)
+  -- one lane that keeps its tickets and messages
+  lane-matched : (k : ℕ) (q : LaneState) → SameTickets (lane_at n k) q → HostMatched n → HostMatched (with_lane n k q)
+  lane-matched k q here = host-same n (with_lane n k q) (λ x. refl) (lanes-set n (with_lane n k q) k q refl here)
 
   pub sending-same : (out : Outgoing) → HostMatched n → HostMatched (after_sending n out)
   unfolding after_sending
@@ -110,28 +111,32 @@ module _ (n : NodeState) where
   sending-same (TablePart part by) = quiet-same (record n { staged = None }) refl refl
   sending-same (Reply r) = quiet-same (record n { reply = None }) refl refl
   sending-same (PartAnswer a) = quiet-same (record n { part_ack = None }) refl refl
-  sending-same (FrameAnswer peer next by) = peer-matched peer (peer_answered (peer_at n peer)) (record { tickets = refl; messages = refl })
-  sending-same (Fragment peer head part by) = peer-matched peer (peer_sent_one (peer_at n peer)) (record { tickets = refl; messages = refl })
+  sending-same (FrameAnswer lane next by) = lane-matched lane (lane_answered (lane_at n lane)) (record { tickets = refl; messages = refl })
+  sending-same (Fragment lane head part by) = lane-matched lane (lane_sent_one (lane_at n lane)) (record { tickets = refl; messages = refl })
 
-  pub expired-same : (peer : ℕ) → HostMatched n → HostMatched (node_expired n peer)
-  expired-same peer = peer-matched peer (peer_expired (peer_at n peer)) (record { tickets = refl; messages = refl })
+-- a lane whose fragments are sent again, and both lanes of a peer
+lane-expired : (n : NodeState) (lane : ℕ) → HostMatched n → HostMatched (with_expired n lane)
+lane-expired n lane = lane-matched n lane (lane_expired (lane_at n lane)) (record { tickets = refl; messages = refl })
 
--- An acknowledgement of a peer finishes as many sends as it raises the first number that isn't acknowledged, and as many tickets wait at least.
+pub expired-same : (n : NodeState) (peer : ℕ) → HostMatched n → HostMatched (node_expired n peer)
+expired-same n peer is = lane-expired (with_expired n (lane_of peer 0)) (lane_of peer 1) (lane-expired n (lane_of peer 0) is)
+
+-- An acknowledgement of a lane finishes as many sends as it raises the first number that isn't acknowledged, and as many tickets wait at least.
 pub record IsFinishing (n : NodeState) (k next : ℕ) : Type 0 where
-  pub counted : (peer_at n k).sender.base + finished_by (peer_at n k) next ≡ (acknowledged (peer_at n k).sender next).base
-  pub many : length (take (finished_by (peer_at n k) next) (peer_at n k).pending) ≡ finished_by (peer_at n k) next
-  pub there : k < length n.peers
+  pub counted : (lane_at n k).sender.base + finished_by (lane_at n k) next ≡ (acknowledged (lane_at n k).sender next).base
+  pub many : length (take (finished_by (lane_at n k) next) (lane_at n k).pending) ≡ finished_by (lane_at n k) next
+  pub there : k < length n.lanes
 
 module _ (n : NodeState) (client : ℕ → Option ClientState) (hosts : ℕ) (known : IsKnown n client hosts) where
   pub all-apart : AllApart n
   all-apart = record { each = λ port. owned-apart (port_at n port) (client port) (known.owned port) }
 
-  -- how many sends to a peer an acknowledgement finishes
-  pub finishing : (k next : ℕ) → k < hosts → HostMatched n → IsFinishing n k next
+  -- how many sends of a lane an acknowledgement finishes
+  pub finishing : (k next : ℕ) → k < lane_count hosts → HostMatched n → IsFinishing n k next
   finishing k next low is = record { counted = counted; many = many; there = there }
     where
-      p : PeerState
-      p = peer_at n k
+      p : LaneState
+      p = lane_at n k
 
       base : ℕ
       base = (acknowledged p.sender next).base
@@ -155,7 +160,7 @@ module _ (n : NodeState) (client : ℕ → Option ClientState) (hosts : ℕ) (kn
 
       many : length (take count p.pending) ≡ count
       many =
-          let as_many = tickets-long (send_at n) p.pending (left_to n k) (is.of_messages k) in
+          let as_many = tickets-long (send_at n) p.pending (left_on n k) (is.of_messages k) in
           let fewer = length-drop p.sender.base p.sent in
           let long = (known.numbered k).numbered in
           let top = (known.senders k).top_below in
@@ -163,17 +168,17 @@ module _ (n : NodeState) (client : ℕ → Option ClientState) (hosts : ℕ) (kn
           let all = counted in
           length-take-le count p.pending (omega (arith, as_many, fewer, long, top, below, all))
 
-      there : k < length n.peers
-      there = let e = known.peers in omega (arith, e, low)
+      there : k < length n.lanes
+      there = subst (λ count. k < count) (sym known.lanes) low
 
-  -- an acknowledgement finishes the first sends to its peer
-  acknowledged-matched : (k next : ℕ) → k < hosts → HostMatched n → HostMatched (all_finished (with_peer n k (peer_acknowledged (peer_at n k) next)) (tickets_finished (peer_at n k) next))
+  -- an acknowledgement finishes the first sends of its lane
+  acknowledged-matched : (k next : ℕ) → k < lane_count hosts → HostMatched n → HostMatched (all_finished (with_lane n k (lane_acknowledged (lane_at n k) next)) (tickets_finished (lane_at n k) next))
   acknowledged-matched k next low is =
-      matched-same (send_at m) (send_at m) (at k left (tickets_with n)) (tickets_with m) (at k (drop (length gone) (left_to n k)) (left_to n)) (left_to m) (λ x. refl) tickets messages
-      (all-finished before (tickets_with n) (left_to n) k gone left (sym (take-append-drop count p.pending)) apart is)
+      matched-same (send_at m) (send_at m) (at k left (tickets_on n)) (tickets_on m) (at k (drop (length gone) (left_on n k)) (left_on n)) (left_on m) (λ x. refl) tickets messages
+      (all-finished before (tickets_on n) (left_on n) k gone left (sym (take-append-drop count p.pending)) apart is)
     where
-      p : PeerState
-      p = peer_at n k
+      p : LaneState
+      p = lane_at n k
 
       base : ℕ
       base = (acknowledged p.sender next).base
@@ -181,8 +186,8 @@ module _ (n : NodeState) (client : ℕ → Option ClientState) (hosts : ℕ) (kn
       count : ℕ
       count = finished_by p next
 
-      q : PeerState
-      q = peer_acknowledged p next
+      q : LaneState
+      q = lane_acknowledged p next
 
       gone : List Ticket
       gone = take count p.pending
@@ -191,7 +196,7 @@ module _ (n : NodeState) (client : ℕ → Option ClientState) (hosts : ℕ) (kn
       left = drop count p.pending
 
       before : NodeState
-      before = with_peer n k q
+      before = with_lane n k q
 
       m : NodeState
       m = all_finished before gone
@@ -202,45 +207,45 @@ module _ (n : NodeState) (client : ℕ → Option ClientState) (hosts : ℕ) (kn
       known_here : IsFinishing n k next
       known_here = finishing k next low is
 
-      peers : m.peers ≡ set n.peers k q
-      peers = all_finished-peers before gone
+      lanes : m.lanes ≡ set n.lanes k q
+      lanes = all_finished-lanes before gone
 
-      now : peer_at m k ≡ q
-      now = peer-new n m k q peers known_here.there
+      now : lane_at m k ≡ q
+      now = lane-new n m k q lanes known_here.there
 
-      tickets : (j : ℕ) → tickets_with m j ≡ at k left (tickets_with n) j
+      tickets : (j : ℕ) → tickets_on m j ≡ at k left (tickets_on n) j
       tickets j = by (same-or j k)
         where
-          by : (j ≡ k) ⊎ (j ≢ k) → tickets_with m j ≡ at k left (tickets_with n) j
-          by (inl same) = ap (tickets_with m) same ∙ (ap (λ x. x.pending) now ∙ (sym (at-here k left (tickets_with n)) ∙ ap (at k left (tickets_with n)) (sym same)))
-          by (inr other) = ap (λ x. x.pending) (peer-old n m k q peers j other) ∙ sym (at-other k left (tickets_with n) j other)
+          by : (j ≡ k) ⊎ (j ≢ k) → tickets_on m j ≡ at k left (tickets_on n) j
+          by (inl same) = ap (tickets_on m) same ∙ (ap (λ x. x.pending) now ∙ (sym (at-here k left (tickets_on n)) ∙ ap (at k left (tickets_on n)) (sym same)))
+          by (inr other) = ap (λ x. x.pending) (lane-old n m k q lanes j other) ∙ sym (at-other k left (tickets_on n) j other)
 
-      messages : (j : ℕ) → left_to m j ≡ at k (drop (length gone) (left_to n k)) (left_to n) j
+      messages : (j : ℕ) → left_on m j ≡ at k (drop (length gone) (left_on n k)) (left_on n) j
       messages j = by (same-or j k)
         where
           rest : List Message
-          rest = drop (length gone) (left_to n k)
+          rest = drop (length gone) (left_on n k)
 
-          here : left_to m k ≡ rest
+          here : left_on m k ≡ rest
           here =
               let all = known_here.counted in
               let long = known_here.many in
               let sum : p.sender.base + length gone ≡ base = omega (arith, all, long) in
               ap (λ x. drop x.sender.base x.sent) now ∙ sym (drop-drop (length gone) p.sender.base p.sent ∙ ap (λ i. drop i p.sent) sum)
 
-          by : (j ≡ k) ⊎ (j ≢ k) → left_to m j ≡ at k rest (left_to n) j
-          by (inl same) = ap (left_to m) same ∙ (here ∙ (sym (at-here k rest (left_to n)) ∙ ap (at k rest (left_to n)) (sym same)))
-          by (inr other) = ap (λ x. drop x.sender.base x.sent) (peer-old n m k q peers j other) ∙ sym (at-other k rest (left_to n) j other)
+          by : (j ≡ k) ⊎ (j ≢ k) → left_on m j ≡ at k rest (left_on n) j
+          by (inl same) = ap (left_on m) same ∙ (here ∙ (sym (at-here k rest (left_on n)) ∙ ap (at k rest (left_on n)) (sym same)))
+          by (inr other) = ap (λ x. drop x.sender.base x.sent) (lane-old n m k q lanes j other) ∙ sym (at-other k rest (left_on n) j other)
 
   heard-matched : (host : ℕ) (wire : List ℕ) (m : NodeState) → IsHeard host hosts n wire m → HostMatched n → HostMatched m
   heard-matched host wire m (quietly e f) is = quiet-same n m e f is
   heard-matched host wire m (of_frame body h e d mine there now) is =
-      let q : PeerState = peer_after (peer_at n h.src) (frame_took n h) (message_of h (part_in body)) in
-      let v : NodeState = with_peer n h.src q in
+      let q : LaneState = lane_after (lane_at n (frame_lane h)) (frame_took n h) (message_of h (part_in body)) in
+      let v : NodeState = with_lane n (frame_lane h) q in
       let after : NodeState = delivered_after v h (part_in body) (frame_took n h) in
       subst HostMatched (sym now)
-      (host-same n after (delivered-same n v h (part_in body) (frame_took n h) refl) (peers-set n after h.src q (delivered_after-peers v h (part_in body) (frame_took n h)) (record { tickets = refl; messages = refl })) is)
-  heard-matched host wire m (of_ack body a e d mine there now) is = subst HostMatched (sym now) (acknowledged-matched a.src a.next there is)
+      (host-same n after (delivered-same n v h (part_in body) (frame_took n h) refl) (lanes-set n after (frame_lane h) q (delivered_after-lanes v h (part_in body) (frame_took n h)) (record { tickets = refl; messages = refl })) is)
+  heard-matched host wire m (of_ack body a e d mine there now) is = subst HostMatched (sym now) (acknowledged-matched (ack_lane a) a.next (lane_of-below hosts a.src a.prio there) is)
 
   pub hear-matched : (host : ℕ) (wire : List ℕ) → HostMatched n → HostMatched (hear host hosts n wire).1
   hear-matched host wire is = heard-matched host wire (hear host hosts n wire).1 (hear-is host hosts n wire) is
@@ -248,10 +253,10 @@ module _ (n : NodeState) (client : ℕ → Option ClientState) (hosts : ℕ) (kn
   -- a message is accepted
   accepted-matched : (s : Wanted) (p : PortState) (c : ClientState) (t : ℕ) (ts : List ℕ) → port_at n s.port ≡ Some p → c.sends ≡ t ∷ ts → HasOwners p c → send_refusal n s ≡ None → HostMatched n → HostMatched (send_accepted n s p c t ts).node
   accepted-matched s p c t ts e f own none is =
-      matched-accepted (send_at n) (send_at m) (tickets_with n) (tickets_with m) (left_to n) (left_to m) k ticket message more messages others others_too free refl sends is
+      matched-accepted (send_at n) (send_at m) (tickets_on n) (tickets_on m) (left_on n) (left_on m) k ticket message more messages others others_too free refl sends is
     where
       k : ℕ
-      k = s.dest
+      k = wanted_lane s
 
       ticket : Ticket
       ticket = record { port = s.port; token = t }
@@ -265,37 +270,36 @@ module _ (n : NodeState) (client : ℕ → Option ClientState) (hosts : ℕ) (kn
       new : Sending
       new = record { token = t; buffer = bytes }
 
-      q : PeerState
-      q = with_message (peer_at n k) message ticket
+      q : LaneState
+      q = with_message (lane_at n k) message ticket
 
       m : NodeState
       m = (send_accepted n s p c t ts).node
 
-      there : k < length n.peers
+      there : k < length n.lanes
       there =
-          let low = known.routed k (not_refused-acceptable n s none).routed in
-          let long = known.peers in
-          omega (arith, low, long)
+          let low = known.routed s.dest (not_refused-acceptable n s none).routed in
+          subst (λ count. k < count) (sym known.lanes) (lane_of-below hosts s.dest s.prio low)
 
-      now : peer_at m k ≡ q
-      now = peer-new n m k q refl there
+      now : lane_at m k ≡ q
+      now = lane-new n m k q refl there
 
-      more : tickets_with m k ≡ tickets_with n k ++ ticket ∷ []
+      more : tickets_on m k ≡ tickets_on n k ++ ticket ∷ []
       more = ap (λ x. x.pending) now
 
-      messages : left_to m k ≡ left_to n k ++ message ∷ []
+      messages : left_on m k ≡ left_on n k ++ message ∷ []
       messages =
           let long = (known.numbered k).numbered in
           let a = (known.senders k).base_below in
           let b = (known.senders k).cursor_below in
           let d = (known.senders k).top_below in
-          ap (λ x. drop x.sender.base x.sent) now ∙ drop-append-le (peer_at n k).sender.base (peer_at n k).sent (message ∷ []) (omega (arith, long, a, b, d))
+          ap (λ x. drop x.sender.base x.sent) now ∙ drop-append-le (lane_at n k).sender.base (lane_at n k).sent (message ∷ []) (omega (arith, long, a, b, d))
 
-      others : (j : ℕ) → j ≢ k → tickets_with m j ≡ tickets_with n j
-      others j other = ap (λ x. x.pending) (peer-old n m k q refl j other)
+      others : (j : ℕ) → j ≢ k → tickets_on m j ≡ tickets_on n j
+      others j other = ap (λ x. x.pending) (lane-old n m k q refl j other)
 
-      others_too : (j : ℕ) → j ≢ k → left_to m j ≡ left_to n j
-      others_too j other = ap (λ x. drop x.sender.base x.sent) (peer-old n m k q refl j other)
+      others_too : (j : ℕ) → j ≢ k → left_on m j ≡ left_on n j
+      others_too j other = ap (λ x. drop x.sender.base x.sent) (lane-old n m k q refl j other)
 
       -- the client had the token
       apart : AllByRecursion (λ y. t ≢ y) (tokens p.queue)

@@ -4,7 +4,7 @@ use Rattle.std.specs.Prelude.{slice_get}
 use Rattle.std.proofs.lemmas.Bool.Decides.{nat_tests}
 use Rattle.gm_defs.specs.declared.message.Message.{Message}
 use Rattle.gm_defs.specs.Token.{Sending}
-use Rattle.world_defs.specs.Peer.{Ticket}
+use Rattle.world_defs.specs.Lane.{Ticket}
 use Rattle.token_laws.specs.Tickets.{IsTicketOf, AreTicketsOf, HasOneTicket, AreMatched}
 use Rattle.order_laws.proofs.Frames.{get-front}
 use Rattle.token_laws.proofs.Lists.{get-last}
@@ -64,20 +64,20 @@ matched-same S T P Q U V s p u is = record {
   one_each = λ x y e.
       let one = is.one_each x y (sym (s x) ∙ e) in
       record {
-        peer = one.peer;
+        lane = one.lane;
         place = one.place;
-        there = ap (λ ts. slice_get ts one.place) (p one.peer) ∙ one.there;
+        there = ap (λ ts. slice_get ts one.place) (p one.lane) ∙ one.there;
         only = λ j i d. one.only j i (ap (λ ts. slice_get ts i) (sym (p j)) ∙ d);
       };
 }
 
--- where a ticket stood before the first ticket with a peer went
+-- where a ticket stood before the first ticket on a lane went
 data StoodAt (P : ℕ → List Ticket) (k j i : ℕ) (x : Ticket) : Type 0 where
   behind : j ≡ k → slice_get (P k) (suc i) ≡ Some x → StoodAt P k j i x
   elsewhere : j ≢ k → slice_get (P j) i ≡ Some x → StoodAt P k j i x
 
 module _ (S T : Ticket → Option Sending) (P Q : ℕ → List Ticket) (U V : ℕ → List Message) (k : ℕ) (t : Ticket) (rest : List Ticket) where
-  -- the first ticket with a peer goes, and its send
+  -- the first ticket on a lane goes, and its send
   pub matched-finished : P k ≡ t ∷ rest → Q k ≡ rest → V k ≡ drop 1 (U k) → ((j : ℕ) → j ≢ k → Q j ≡ P j) → ((j : ℕ) → j ≢ k → V j ≡ U j) → ((x : Ticket) → OneAfter x t (S x) (T x) None) → AreMatched S P U → AreMatched T Q V
   matched-finished first left messages others others_too sends is = record { of_messages = tickets; one_each = one_each }
     where
@@ -131,15 +131,15 @@ module _ (S T : Ticket → Option Sending) (P Q : ℕ → List Ticket) (U V : �
           by (inr other) = elsewhere other (ap (λ ts. slice_get ts i) (sym (others j other)) ∙ e)
 
       moved : (x : Ticket) → x ≢ t → HasOneTicket P x → HasOneTicket Q x
-      moved x apart was = by (same-or was.peer k) was.place was.there refl
+      moved x apart was = by (same-or was.lane k) was.place was.there refl
         where
-          by : (was.peer ≡ k) ⊎ (was.peer ≢ k) → (i : ℕ) → slice_get (P was.peer) i ≡ Some x → was.place ≡ i → HasOneTicket Q x
+          by : (was.lane ≡ k) ⊎ (was.lane ≢ k) → (i : ℕ) → slice_get (P was.lane) i ≡ Some x → was.place ≡ i → HasOneTicket Q x
           by (inl same) zero e p = absurd (apart (same_some x t (sym e ∙ ap (λ j. slice_get (P j) 0) same ∙ at_first)))
             where
               same_some : (a b : Ticket) → Some a ≡ Some b → a ≡ b
               same_some a b d = cc
           by (inl same) (suc i) e p = record {
-            peer = k;
+            lane = k;
             place = i;
             there = ap (λ ts. slice_get ts i) left ∙ (ap (λ ts. slice_get ts (suc i)) (sym first) ∙ (ap (λ j. slice_get (P j) (suc i)) (sym same) ∙ e));
             only = λ j l d. found j l (stood j l x d);
@@ -149,13 +149,13 @@ module _ (S T : Ticket → Option Sending) (P Q : ℕ → List Ticket) (U V : �
               found j l (behind at d) = let o = (was.only k (suc l) d).1 in (at, omega (arith, o, p))
               found j l (elsewhere other d) = absurd (other ((was.only j l d).0 ∙ same))
           by (inr far) i e p = record {
-            peer = was.peer;
+            lane = was.lane;
             place = was.place;
-            there = ap (λ ts. slice_get ts was.place) (others was.peer far) ∙ was.there;
+            there = ap (λ ts. slice_get ts was.place) (others was.lane far) ∙ was.there;
             only = λ j l d. found j l (stood j l x d);
           }
             where
-              found : (j l : ℕ) → StoodAt P k j l x → (j ≡ was.peer) × (l ≡ was.place)
+              found : (j l : ℕ) → StoodAt P k j l x → (j ≡ was.lane) × (l ≡ was.place)
               found j l (behind at d) = absurd (far (sym (was.only k (suc l) d).0))
               found j l (elsewhere other d) = was.only j l d
 
@@ -179,13 +179,13 @@ get-push (z ∷ xs) y x (suc i) e = by (get-push xs y x i e)
     by (inl b) = inl (b.0, ap suc b.1)
     by (inr e) = inr e
 
--- where a ticket stands once a new one stands behind those with a peer
+-- where a ticket stands once a new one stands behind those on a lane
 data StandsAt (P : ℕ → List Ticket) (k j i : ℕ) (x t : Ticket) : Type 0 where
   last : x ≡ t → j ≡ k → i ≡ length (P k) → StandsAt P k j i x t
   before : slice_get (P j) i ≡ Some x → StandsAt P k j i x t
 
 module _ (S T : Ticket → Option Sending) (P Q : ℕ → List Ticket) (U V : ℕ → List Message) (k : ℕ) (t : Ticket) (m : Message) where
-  -- a ticket more stands behind those with a peer, and its send
+  -- a ticket more stands behind those on a lane, and its send
   pub matched-accepted : Q k ≡ P k ++ t ∷ [] → V k ≡ U k ++ m ∷ [] → ((j : ℕ) → j ≢ k → Q j ≡ P j) → ((j : ℕ) → j ≢ k → V j ≡ U j) → S t ≡ None → t.port ≡ m.sport → ((x : Ticket) → OneAfter x t (S x) (T x) (Some (record { token = t.token; buffer = m.body }))) → AreMatched S P U → AreMatched T Q V
   matched-accepted more messages others others_too free port sends is = record { of_messages = tickets; one_each = one_each }
     where
@@ -250,25 +250,25 @@ module _ (S T : Ticket → Option Sending) (P Q : ℕ → List Ticket) (U V : �
         where
           by : OneAfter x t (S x) (T x) (Some new) → HasOneTicket Q x
           by (the_one same now) = record {
-            peer = k;
+            lane = k;
             place = length (P k);
             there = ap (λ ts. slice_get ts (length (P k))) more ∙ (get-last (P k) t ∙ ap Some (sym same));
             only = λ j i d. found j i (stands j i x d);
           }
             where
               found : (j i : ℕ) → StandsAt P k j i x t → (j ≡ k) × (i ≡ length (P k))
-              found j i (last at peer place) = (peer, place)
+              found j i (last at lane place) = (lane, place)
               found j i (before d) = absurd (nowhere j i x d same)
           by (another apart now) = record {
-            peer = was.peer;
+            lane = was.lane;
             place = was.place;
-            there = still was.peer was.place x was.there;
+            there = still was.lane was.place x was.there;
             only = λ j i d. found j i (stands j i x d);
           }
             where
               was : HasOneTicket P x
               was = is.one_each x s (sym now ∙ e)
 
-              found : (j i : ℕ) → StandsAt P k j i x t → (j ≡ was.peer) × (i ≡ was.place)
-              found j i (last at peer place) = absurd (apart at)
+              found : (j i : ℕ) → StandsAt P k j i x t → (j ≡ was.lane) × (i ≡ was.place)
+              found j i (last at lane place) = absurd (apart at)
               found j i (before d) = was.only j i d

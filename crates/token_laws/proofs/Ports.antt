@@ -8,12 +8,12 @@ use Rattle.gm_defs.specs.declared.message.Message.{Message}
 use Rattle.gm_defs.specs.declared.frame.FrameHead.{FrameHead}
 use Rattle.gm_defs.specs.Token.{Sending, Provided, PortState, fitting}
 use Rattle.gm_defs.specs.Port.{send_of, ended_by, finished, taken_by, delivered}
-use Rattle.world_defs.specs.Peer.{PeerState, Ticket, new_peer}
-use Rattle.world_defs.specs.Node.{NodeState, peer_at, port_at, with_port}
+use Rattle.world_defs.specs.Lane.{LaneState, Ticket, new_lane}
+use Rattle.world_defs.specs.Node.{NodeState, lane_at, port_at, with_port}
 use Rattle.world_defs.specs.Hearing.{all_finished}
 use Rattle.world_laws.proofs.Lists.{at-set}
 use Rattle.token_laws.specs.Tickets.{AreMatched}
-use Rattle.token_laws.specs.Unfinished.{send_at, tickets_with}
+use Rattle.token_laws.specs.Unfinished.{send_at, tickets_on}
 use Rattle.token_laws.proofs.Matching.{same-or, OneAfter, the_one, another, ticket-send, matched-same, matched-finished}
 use Rattle.token_laws.proofs.Sendings.{under, tokens, under-left, under-gone, apart-left, finished-queue}
 use Rattle.token_laws.proofs.Calls.{PortCalled, stays, opens, closes, provides, polls}
@@ -54,31 +54,31 @@ set-sends n m port o e same x =
     let now : SameSends (port_at n x.port) (get_or (set n.ports port o) x.port None) = at-set SameSends sends-same n.ports port x.port o None same in
     ap (λ ps. send_in (get_or ps x.port None) x.token) e ∙ now.each x.token
 
--- the connections with a peer that has the same tickets, and as many messages that aren't acknowledged
-pub record SameTickets (p q : PeerState) : Type 0 where
+-- a lane with the same tickets, and as many messages that aren't acknowledged
+pub record SameTickets (p q : LaneState) : Type 0 where
   pub tickets : q.pending ≡ p.pending
   pub messages : drop q.sender.base q.sent ≡ drop p.sender.base p.sent
 
-pub tickets-same : (p : PeerState) → SameTickets p p
+pub tickets-same : (p : LaneState) → SameTickets p p
 tickets-same p = record { tickets = refl; messages = refl }
 
-pub peers-same : (n m : NodeState) → m.peers ≡ n.peers → (k : ℕ) → SameTickets (peer_at n k) (peer_at m k)
-peers-same n m e k = subst (λ l. SameTickets (peer_at n k) (get_or l k new_peer)) (sym e) (tickets-same (peer_at n k))
+pub lanes-same : (n m : NodeState) → m.lanes ≡ n.lanes → (k : ℕ) → SameTickets (lane_at n k) (lane_at m k)
+lanes-same n m e k = subst (λ l. SameTickets (lane_at n k) (get_or l k new_lane)) (sym e) (tickets-same (lane_at n k))
 
-pub peers-set : (n m : NodeState) (k : ℕ) (q : PeerState) → m.peers ≡ set n.peers k q → SameTickets (peer_at n k) q → (j : ℕ) → SameTickets (peer_at n j) (peer_at m j)
-peers-set n m k q e here j =
-    let now : SameTickets (peer_at n j) (get_or (set n.peers k q) j new_peer) = at-set SameTickets tickets-same n.peers k j q new_peer here in
-    subst (λ l. SameTickets (peer_at n j) (get_or l j new_peer)) (sym e) now
+pub lanes-set : (n m : NodeState) (k : ℕ) (q : LaneState) → m.lanes ≡ set n.lanes k q → SameTickets (lane_at n k) q → (j : ℕ) → SameTickets (lane_at n j) (lane_at m j)
+lanes-set n m k q e here j =
+    let now : SameTickets (lane_at n j) (get_or (set n.lanes k q) j new_lane) = at-set SameTickets tickets-same n.lanes k j q new_lane here in
+    subst (λ l. SameTickets (lane_at n j) (get_or l j new_lane)) (sym e) now
 
--- the messages for a peer from the first that isn't acknowledged on
-abbrev pub left_to : NodeState → ℕ → List Message
-left_to n k = drop (peer_at n k).sender.base (peer_at n k).sent
+-- the messages of a lane from the first that isn't acknowledged on
+abbrev pub left_on : NodeState → ℕ → List Message
+left_on n k = drop (lane_at n k).sender.base (lane_at n k).sent
 
 abbrev pub HostMatched : NodeState → Type 0
-HostMatched n = AreMatched (send_at n) (tickets_with n) (left_to n)
+HostMatched n = AreMatched (send_at n) (tickets_on n) (left_on n)
 
-pub host-same : (n m : NodeState) → ((x : Ticket) → send_at m x ≡ send_at n x) → ((k : ℕ) → SameTickets (peer_at n k) (peer_at m k)) → HostMatched n → HostMatched m
-host-same n m sends peers is = matched-same (send_at n) (send_at m) (tickets_with n) (tickets_with m) (left_to n) (left_to m) sends (λ k. (peers k).tickets) (λ k. (peers k).messages) is
+pub host-same : (n m : NodeState) → ((x : Ticket) → send_at m x ≡ send_at n x) → ((k : ℕ) → SameTickets (lane_at n k) (lane_at m k)) → HostMatched n → HostMatched m
+host-same n m sends lanes is = matched-same (send_at n) (send_at m) (tickets_on n) (tickets_on m) (left_on n) (left_on m) sends (λ k. (lanes k).tickets) (λ k. (lanes k).messages) is
 
 -- each open port's queue has each token once
 abbrev pub HasApartSends : Option PortState → Type 0
@@ -179,14 +179,14 @@ at-again k x y z f e j = by (nat_eq j k)
     by true = sym e
     by false = refl
 
--- the first ticket with a peer goes, and its send
+-- the first ticket on a lane goes, and its send
 pub first-finished : (n : NodeState) (P : ℕ → List Ticket) (U : ℕ → List Message) (k : ℕ) (t : Ticket) (rest : List Ticket) → P k ≡ t ∷ rest → AllApart n → AreMatched (send_at n) P U → AreMatched (send_at (finish n t)) (at k rest P) (at k (drop 1 (U k)) U)
 first-finished n P U k t rest e apart is =
     let first : slice_get (P k) 0 ≡ Some t = ap (λ l. slice_get l 0) e in
     let send = ticket-send (send_at n) (P k) (U k) 0 t (is.of_messages k) first in
     matched-finished (send_at n) (send_at (finish n t)) P (at k rest P) U (at k (drop 1 (U k)) U) k t rest e (at-here k rest P) (at-here k (drop 1 (U k)) U) (at-other k rest P) (at-other k (drop 1 (U k)) U) (one-finished n t send.0 send.1 apart) is
 
--- the first tickets with a peer go, and their sends
+-- the first tickets on a lane go, and their sends
 pub all-finished : (n : NodeState) (P : ℕ → List Ticket) (U : ℕ → List Message) (k : ℕ) (ts rest : List Ticket) → P k ≡ ts ++ rest → AllApart n → AreMatched (send_at n) P U → AreMatched (send_at (all_finished n ts)) (at k rest P) (at k (drop (length ts) (U k)) U)
 all-finished n P U k [] rest e apart is =
     matched-same (send_at n) (send_at n) P (at k rest P) U (at k (U k) U) (λ x. refl) (kept rest P (sym e)) (kept (U k) U refl) is

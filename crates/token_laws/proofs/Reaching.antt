@@ -21,9 +21,9 @@ reached-known n w h is low =
     let r : IsWindowed w = reached-windowed n w is in
     let count = reached-count n w is in
     record {
-      numbered = λ k. (r.ordered.hosts h).peers k;
+      numbered = λ k. (r.ordered.hosts h).lanes k;
       senders = λ k. r.senders.in_order h k;
       owned = λ port. subst (λ v. AreOwned (port_at (node_at v h) port) (client_at v h port)) (sym is.leads) (always-owned n is.acts h port);
-      peers = ((reached-world n w is).each_node h (omega (arith, count, low))).peers;
+      lanes = ((reached-world n w is).each_node h (omega (arith, count, low))).lanes;
       routed = λ dest e. let there = route-there n w h dest is e in omega (arith, there, count);
     }

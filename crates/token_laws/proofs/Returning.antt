@@ -13,27 +13,28 @@ use Rattle.gm_defs.specs.Fragment.{whole_below}
 use Rattle.gm_defs.specs.Connection.{acknowledged}
 use Rattle.gm_defs.specs.Token.{Sending, PortEvent, Sent, Received, PortState}
 use Rattle.gm_defs.specs.Port.{send_of, finished, delivered, sent_with}
-use Rattle.world_defs.specs.Peer.{PeerState, Ticket, new_peer, with_message, finished_by, peer_acknowledged, peer_expired, peer_sent_one, peer_answered, peer_after}
-use Rattle.world_defs.specs.Node.{NodeState, Outgoing, Probe, TablePart, Reply, PartAnswer, FrameAnswer, Fragment, peer_at, with_peer, port_at, after_sending, new_node, port_count}
-use Rattle.world_defs.specs.Hearing.{message_of, delivered_after, frame_took, all_finished}
-use Rattle.world_defs.specs.Client.{ClientState, Called, Wanted, wanted_message, client_bytes, send_accepted}
+use Rattle.world_defs.specs.Lane.{LaneState, Ticket, new_lane, with_message, finished_by, lane_acknowledged, lane_expired, lane_sent_one, lane_answered, lane_after}
+use Rattle.world_defs.specs.Node.{NodeState, Outgoing, Probe, TablePart, Reply, PartAnswer, FrameAnswer, Fragment, lane_count, lane_of, sending_lane, sends_on, lane_at, with_lane, port_at, after_sending, with_expired, node_expired, new_node, port_count}
+use Rattle.world_defs.specs.Hearing.{message_of, frame_lane, ack_lane, delivered_after, frame_took, all_finished}
+use Rattle.world_defs.specs.Client.{ClientState, Called, Wanted, wanted_message, wanted_lane, client_bytes, send_accepted}
 use Rattle.world_defs.specs.World.{WorldState, host_count, new_world, node_at, client_at}
 use Rattle.world_defs.specs.Sound.{IsFront}
 use Rattle.act_defs.specs.Acts.{Act, acted, IsReached}
-use Rattle.order_laws.proofs.Peers.{front-same}
+use Rattle.order_laws.proofs.Lanes.{front-same}
 use Rattle.world_defs.proofs.Lists.{each-set, each-replicate}
+use Rattle.world_defs.proofs.Lanes.{lane_of-parts, lane_of-below}
 use Rattle.window_laws.proofs.Heard.{IsHeard, quietly, of_frame, of_ack, hear-is}
 use Rattle.window_laws.proofs.Hosts.{Rules, Goes, acted-goes}
-use Rattle.window_laws.proofs.Numbers.{all_finished-peers}
+use Rattle.window_laws.proofs.Numbers.{all_finished-lanes}
 use Rattle.act_defs.proofs.Reaching.{reached-has}
 use Rattle.window_laws.proofs.Taken.{whole-below}
 use Rattle.window_laws.proofs.Windows.{IsWindowed, numbers_of, reached-windowed}
 use Rattle.token_laws.specs.Tickets.{IsTicketOf, AreTicketsOf, AreMatched}
-use Rattle.token_laws.specs.Unfinished.{send_at, tickets_with}
+use Rattle.token_laws.specs.Unfinished.{send_at, tickets_on}
 use Rattle.token_laws.specs.Returned.{IsReturned, SentEventsAreOfMessages}
 use Rattle.token_laws.proofs.Calls.{IsCall, CallDoes, call-does}
-use Rattle.token_laws.proofs.Ports.{send_in, left_to, HostMatched, AllApart, finish, finish-apart, at, at-here, first-finished}
-use Rattle.token_laws.proofs.Hosts.{IsKnown, peer-new, raised, all-apart, IsFinishing, finishing}
+use Rattle.token_laws.proofs.Ports.{send_in, left_on, HostMatched, AllApart, finish, finish-apart, at, at-here, first-finished}
+use Rattle.token_laws.proofs.Hosts.{IsKnown, lane-new, raised, all-apart, IsFinishing, finishing}
 use Rattle.token_laws.proofs.Events.{AreAll, all-more, PortStill, port-same, called-still, finished-still, delivered-still, event-at, ports-same, ports-set}
 use Rattle.token_laws.proofs.Matched.{reached-matched}
 use Rattle.token_laws.proofs.Reaching.{reached-count, reached-known}
@@ -50,18 +51,18 @@ get-drop (suc b) [] i x e = cc
 get-drop (suc b) (y ∷ xs) i x e = let s : suc b + i ≡ suc (b + i) = omega arith in ap (slice_get (y ∷ xs)) s ∙ get-drop b xs i x e
 
 -- more is sent, and more is acknowledged
-record PeerUp (p q : PeerState) : Type 0 where
+record LaneUp (p q : LaneState) : Type 0 where
   sent : IsFront p.sent q.sent
   base : p.sender.base ≤ q.sender.base
 
-up-same : (p q : PeerState) → q.sent ≡ p.sent → q.sender.base ≡ p.sender.base → PeerUp p q
+up-same : (p q : LaneState) → q.sent ≡ p.sent → q.sender.base ≡ p.sender.base → LaneUp p q
 up-same p q e d = record { sent = subst (IsFront p.sent) (sym e) (front-same p.sent); base = omega (arith, d) }
 
 abbrev sent_at : NodeState → ℕ → List Message
-sent_at n k = (peer_at n k).sent
+sent_at n k = (lane_at n k).sent
 
 abbrev base_at : NodeState → ℕ → ℕ
-base_at n k = (peer_at n k).sender.base
+base_at n k = (lane_at n k).sender.base
 
 -- an event of a host's port
 abbrev IsOf : NodeState → ℕ → PortEvent → Type 0
@@ -71,17 +72,17 @@ record AllOf (n : NodeState) : Type 0 where
   each : (port : ℕ) → AreAll (IsOf n port) (port_at n port)
 
 record HostGoes (n m : NodeState) : Type 0 where
-  more : (k : ℕ) → PeerUp (peer_at n k) (peer_at m k)
+  more : (k : ℕ) → LaneUp (lane_at n k) (lane_at m k)
   ports : (port : ℕ) → PortStill (IsOf m port) (port_at n port) (port_at m port)
 
-event-more : (n m : NodeState) → ((k : ℕ) → PeerUp (peer_at n k) (peer_at m k)) → (port : ℕ) (e : PortEvent) → IsOf n port e → IsOf m port e
+event-more : (n m : NodeState) → ((k : ℕ) → LaneUp (lane_at n k) (lane_at m k)) → (port : ℕ) (e : PortEvent) → IsOf n port e → IsOf m port e
 event-more n m more port (Received t b from sport prio len) is = tt
 event-more n m more port (Sent t b) is = record {
-  peer = is.peer;
+  lane = is.lane;
   place = is.place;
   message = is.message;
-  there = ap (λ l. slice_get l is.place) (more is.peer).sent.both ∙ get-front (sent_at n is.peer) (more is.peer).sent.rest is.place is.message is.there;
-  acknowledged = let low = is.acknowledged in let up = (more is.peer).base in omega (arith, low, up);
+  there = ap (λ l. slice_get l is.place) (more is.lane).sent.both ∙ get-front (sent_at n is.lane) (more is.lane).sent.rest is.place is.message is.there;
+  acknowledged = let low = is.acknowledged in let up = (more is.lane).base in omega (arith, low, up);
   from_port = is.from_port;
   bytes = is.bytes;
 }
@@ -89,18 +90,18 @@ event-more n m more port (Sent t b) is = record {
 all-of : (n m : NodeState) → HostGoes n m → AllOf n → AllOf m
 all-of n m g is = record { each = λ port. (g.ports port).still (all-more (IsOf n port) (IsOf m port) (event-more n m g.more port) (port_at n port) (is.each port)) }
 
-peers-same : (n m : NodeState) → m.peers ≡ n.peers → (k : ℕ) → PeerUp (peer_at n k) (peer_at m k)
-peers-same n m e k = subst (λ l. PeerUp (peer_at n k) (get_or l k new_peer)) (sym e) (up-same (peer_at n k) (peer_at n k) refl refl)
+lanes-same : (n m : NodeState) → m.lanes ≡ n.lanes → (k : ℕ) → LaneUp (lane_at n k) (lane_at m k)
+lanes-same n m e k = subst (λ l. LaneUp (lane_at n k) (get_or l k new_lane)) (sym e) (up-same (lane_at n k) (lane_at n k) refl refl)
 
-peers-set : (n m : NodeState) (k : ℕ) (q : PeerState) → m.peers ≡ set n.peers k q → PeerUp (peer_at n k) q → (j : ℕ) → PeerUp (peer_at n j) (peer_at m j)
-peers-set n m k q e here j =
-    subst (λ l. PeerUp (peer_at n j) (get_or l j new_peer)) (sym e) (each-set (λ i x. PeerUp (peer_at n i) x) n.peers k j q new_peer here (λ i. up-same (peer_at n i) (peer_at n i) refl refl))
+lanes-set : (n m : NodeState) (k : ℕ) (q : LaneState) → m.lanes ≡ set n.lanes k q → LaneUp (lane_at n k) q → (j : ℕ) → LaneUp (lane_at n j) (lane_at m j)
+lanes-set n m k q e here j =
+    subst (λ l. LaneUp (lane_at n j) (get_or l j new_lane)) (sym e) (each-set (λ i x. LaneUp (lane_at n i) x) n.lanes k j q new_lane here (λ i. up-same (lane_at n i) (lane_at n i) refl refl))
 
-quiet-goes : (n m : NodeState) → m.peers ≡ n.peers → m.ports ≡ n.ports → HostGoes n m
-quiet-goes n m e f = record { more = peers-same n m e; ports = ports-same (IsOf m) n m f }
+quiet-goes : (n m : NodeState) → m.lanes ≡ n.lanes → m.ports ≡ n.ports → HostGoes n m
+quiet-goes n m e f = record { more = lanes-same n m e; ports = ports-same (IsOf m) n m f }
 
-peer-goes : (n : NodeState) (k : ℕ) (q : PeerState) → PeerUp (peer_at n k) q → HostGoes n (with_peer n k q)
-peer-goes n k q here = record { more = peers-set n (with_peer n k q) k q refl here; ports = ports-same (IsOf (with_peer n k q)) n (with_peer n k q) refl }
+lane-goes : (n : NodeState) (k : ℕ) (q : LaneState) → LaneUp (lane_at n k) q → HostGoes n (with_lane n k q)
+lane-goes n k q here = record { more = lanes-set n (with_lane n k q) k q refl here; ports = ports-same (IsOf (with_lane n k q)) n (with_lane n k q) refl }
 
 -- the message of the first ticket
 first-message : (S : Ticket → Option Sending) (t : Ticket) (rest : List Ticket) (ms : List Message) → AreTicketsOf S (t ∷ rest) ms → (x : Message) × ((slice_get ms 0 ≡ Some x) × IsTicketOf S t x)
@@ -132,14 +133,14 @@ finished-all E n P U k (t ∷ ts) rest e apart is new port =
 
 module _ (n : NodeState) (client : ℕ → Option ClientState) (hosts : ℕ) (known : IsKnown n client hosts) where
   -- an acknowledgement
-  acknowledged-goes : (k next : ℕ) → k < hosts → HostMatched n → HostGoes n (all_finished (with_peer n k (peer_acknowledged (peer_at n k) next)) (take (finished_by (peer_at n k) next) (peer_at n k).pending))
-  acknowledged-goes k next low is = record { more = peers-set n m k q peers up; ports = ports }
+  acknowledged-goes : (k next : ℕ) → k < lane_count hosts → HostMatched n → HostGoes n (all_finished (with_lane n k (lane_acknowledged (lane_at n k) next)) (take (finished_by (lane_at n k) next) (lane_at n k).pending))
+  acknowledged-goes k next low is = record { more = lanes-set n m k q lanes up; ports = ports }
     where
-      p : PeerState
-      p = peer_at n k
+      p : LaneState
+      p = lane_at n k
 
-      q : PeerState
-      q = peer_acknowledged p next
+      q : LaneState
+      q = lane_acknowledged p next
 
       count : ℕ
       count = finished_by p next
@@ -148,7 +149,7 @@ module _ (n : NodeState) (client : ℕ → Option ClientState) (hosts : ℕ) (kn
       gone = take count p.pending
 
       before : NodeState
-      before = with_peer n k q
+      before = with_lane n k q
 
       m : NodeState
       m = all_finished before gone
@@ -159,22 +160,22 @@ module _ (n : NodeState) (client : ℕ → Option ClientState) (hosts : ℕ) (kn
       apart : AllApart before
       apart = record { each = λ port. (all-apart n client hosts known).each port }
 
-      peers : m.peers ≡ set n.peers k q
-      peers = all_finished-peers before gone
+      lanes : m.lanes ≡ set n.lanes k q
+      lanes = all_finished-lanes before gone
 
-      now : peer_at m k ≡ q
-      now = peer-new n m k q peers f.there
+      now : lane_at m k ≡ q
+      now = lane-new n m k q lanes f.there
 
-      up : PeerUp p q
+      up : LaneUp p q
       up = record { sent = front-same p.sent; base = (raised p.sender next (known.senders k)).up }
 
-      returned : (i : ℕ) (x : Message) (t : ℕ) → i < length gone → slice_get (left_to n k) i ≡ Some x → IsReturned (sent_at m) (base_at m) x.sport x.body
+      returned : (i : ℕ) (x : Message) (t : ℕ) → i < length gone → slice_get (left_on n k) i ≡ Some x → IsReturned (sent_at m) (base_at m) x.sport x.body
       returned i x t below e =
           let base : base_at m k ≡ (acknowledged p.sender next).base = ap (λ z. z.sender.base) now in
           let all = f.counted in
           let many = f.many in
           record {
-            peer = k;
+            lane = k;
             place = p.sender.base + i;
             message = x;
             there = ap (λ z. slice_get z.sent (p.sender.base + i)) now ∙ get-drop p.sender.base p.sent i x e;
@@ -184,23 +185,23 @@ module _ (n : NodeState) (client : ℕ → Option ClientState) (hosts : ℕ) (kn
           }
 
       ports : (port : ℕ) → PortStill (IsOf m port) (port_at n port) (port_at m port)
-      ports = finished-all (IsOf m) before (tickets_with n) (left_to n) k gone (drop count p.pending) (sym (take-append-drop count p.pending)) apart is returned
+      ports = finished-all (IsOf m) before (tickets_on n) (left_on n) k gone (drop count p.pending) (sym (take-append-drop count p.pending)) apart is returned
 
-  frame-goes : (h : FrameHead) (part : List ℕ) (t : Took) → HostGoes n (delivered_after (with_peer n h.src (peer_after (peer_at n h.src) t (message_of h part))) h part t)
-  frame-goes h part NotNext = peer-goes n h.src (peer_after (peer_at n h.src) NotNext (message_of h part)) (up-same (peer_at n h.src) (peer_after (peer_at n h.src) NotNext (message_of h part)) refl refl)
-  frame-goes h part NoToken = peer-goes n h.src (peer_after (peer_at n h.src) NoToken (message_of h part)) (up-same (peer_at n h.src) (peer_after (peer_at n h.src) NoToken (message_of h part)) refl refl)
+  frame-goes : (h : FrameHead) (part : List ℕ) (t : Took) → HostGoes n (delivered_after (with_lane n (frame_lane h) (lane_after (lane_at n (frame_lane h)) t (message_of h part))) h part t)
+  frame-goes h part NotNext = lane-goes n (frame_lane h) (lane_after (lane_at n (frame_lane h)) NotNext (message_of h part)) (up-same (lane_at n (frame_lane h)) (lane_after (lane_at n (frame_lane h)) NotNext (message_of h part)) refl refl)
+  frame-goes h part NoToken = lane-goes n (frame_lane h) (lane_after (lane_at n (frame_lane h)) NoToken (message_of h part)) (up-same (lane_at n (frame_lane h)) (lane_after (lane_at n (frame_lane h)) NoToken (message_of h part)) refl refl)
   frame-goes h part Whole =
-      let q : PeerState = peer_after (peer_at n h.src) Whole (message_of h part) in
-      let m : NodeState = delivered_after (with_peer n h.src q) h part Whole in
+      let q : LaneState = lane_after (lane_at n (frame_lane h)) Whole (message_of h part) in
+      let m : NodeState = delivered_after (with_lane n (frame_lane h) q) h part Whole in
       record {
-        more = peers-set n m h.src q refl (up-same (peer_at n h.src) q refl refl);
+        more = lanes-set n m (frame_lane h) q refl (up-same (lane_at n (frame_lane h)) q refl refl);
         ports = ports-set (IsOf m) n m h.dport (option_map (λ p. delivered p h part) (port_at n h.dport)) refl (delivered-still (IsOf m h.dport) h part (port_at n h.dport) (λ p r e d. tt));
       }
 
   heard-goes : (host : ℕ) (wire : List ℕ) (m : NodeState) → HostMatched n → IsHeard host hosts n wire m → HostGoes n m
   heard-goes host wire m is (quietly e f) = quiet-goes n m e f
   heard-goes host wire m is (of_frame body h e d mine low now) = subst (HostGoes n) (sym now) (frame-goes h (part_in body) (frame_took n h))
-  heard-goes host wire m is (of_ack body a e d mine low now) = subst (HostGoes n) (sym now) (acknowledged-goes a.src a.next low is)
+  heard-goes host wire m is (of_ack body a e d mine low now) = subst (HostGoes n) (sym now) (acknowledged-goes (ack_lane a) a.next (lane_of-below hosts a.src a.prio low) is)
 
 module _ (n : NodeState) where
   sending-goes : (out : Outgoing) → HostGoes n (after_sending n out)
@@ -209,24 +210,33 @@ module _ (n : NodeState) where
   sending-goes (TablePart part by) = quiet-goes n (record n { staged = None }) refl refl
   sending-goes (Reply r) = quiet-goes n (record n { reply = None }) refl refl
   sending-goes (PartAnswer a) = quiet-goes n (record n { part_ack = None }) refl refl
-  sending-goes (FrameAnswer peer next by) = peer-goes n peer (peer_answered (peer_at n peer)) (up-same (peer_at n peer) (peer_answered (peer_at n peer)) refl refl)
-  sending-goes (Fragment peer head part by) = peer-goes n peer (peer_sent_one (peer_at n peer)) (up-same (peer_at n peer) (peer_sent_one (peer_at n peer)) refl refl)
+  sending-goes (FrameAnswer lane next by) = lane-goes n lane (lane_answered (lane_at n lane)) (up-same (lane_at n lane) (lane_answered (lane_at n lane)) refl refl)
+  sending-goes (Fragment lane head part by) = lane-goes n lane (lane_sent_one (lane_at n lane)) (up-same (lane_at n lane) (lane_sent_one (lane_at n lane)) refl refl)
 
-  call-goes : (port : ℕ) (call : Called) → IsCall n port call → call.node.peers ≡ n.peers → HostGoes n call.node
-  call-goes port call is e = record { more = peers-same n call.node e; ports = ports-set (IsOf call.node) n call.node port is.after is.ports (called-still (IsOf call.node port) (port_at n port) is.after is.change) }
+  call-goes : (port : ℕ) (call : Called) → IsCall n port call → call.node.lanes ≡ n.lanes → HostGoes n call.node
+  call-goes port call is e = record { more = lanes-same n call.node e; ports = ports-set (IsOf call.node) n call.node port is.after is.ports (called-still (IsOf call.node port) (port_at n port) is.after is.change) }
 
   send-goes : (s : Wanted) (p : PortState) (c : ClientState) (t : ℕ) (ts : List ℕ) → port_at n s.port ≡ Some p → HostGoes n (send_accepted n s p c t ts).node
   send-goes s p c t ts e =
       let m : NodeState = (send_accepted n s p c t ts).node in
-      let q : PeerState = with_message (peer_at n s.dest) (wanted_message s) (record { port = s.port; token = t }) in
+      let q : LaneState = with_message (lane_at n (wanted_lane s)) (wanted_message s) (record { port = s.port; token = t }) in
       record {
-        more = peers-set n m s.dest q refl (record { sent = record { rest = wanted_message s ∷ []; both = refl }; base = omega arith });
+        more = lanes-set n m (wanted_lane s) q refl (record { sent = record { rest = wanted_message s ∷ []; both = refl }; base = omega arith });
         ports = ports-set (IsOf m) n m s.port (Some (sent_with p t (client_bytes s.len s.seed))) refl (record { still = λ a. subst (AreAll (IsOf m s.port)) e a });
       }
+
+  -- fragments are sent again, of one lane and of both of a peer
+  expired-goes : (lane : ℕ) → HostGoes n (with_expired n lane)
+  expired-goes lane = lane-goes n lane (lane_expired (lane_at n lane)) (up-same (lane_at n lane) (lane_expired (lane_at n lane)) refl refl)
 
   called-goes : {c : Option ClientState} {port : ℕ} {call : Called} → CallDoes n c port call → HostGoes n call.node
   called-goes (CallDoes.at_port {port = port} {call = call} i e) = call-goes port call i e
   called-goes (CallDoes.accepts s p d t ts e f g k) = send-goes s p d t ts e
+
+expires-kept : (n : NodeState) (peer : ℕ) → AllOf n → AllOf (node_expired n peer)
+expires-kept n peer is =
+    let m : NodeState = with_expired n (lane_of peer 0) in
+    all-of m (node_expired n peer) (expired-goes m (lane_of peer 1)) (all-of n m (expired-goes n (lane_of peer 0)) is)
 
 -- a change of a host of the fabric
 record Still (count h : ℕ) (n m : NodeState) : Type 0 where
@@ -240,7 +250,7 @@ return-rules n w is = record {
   quiet = λ h m e f. record { still = λ low. all-of (node_at w h) m (quiet-goes (node_at w h) m e f) };
   hears = λ h wire good. record { still = λ low. all-of (node_at w h) _ (heard-goes (node_at w h) (client_at w h) (host_count w) (reached-known n w h is low) h wire _ (reached-matched n w is h) (hear-is h (host_count w) (node_at w h) wire)) };
   sends = λ h out e. record { still = λ low. all-of (node_at w h) _ (sending-goes (node_at w h) out) };
-  expires = λ h peer. record { still = λ low. all-of (node_at w h) _ (peer-goes (node_at w h) peer (peer_expired (peer_at (node_at w h) peer)) (up-same (peer_at (node_at w h) peer) (peer_expired (peer_at (node_at w h) peer)) refl refl)) };
+  expires = λ h peer. record { still = λ low. expires-kept (node_at w h) peer };
   calls = λ h port call k. record { still = λ low. all-of (node_at w h) _ (called-goes (node_at w h) (call-does k)) };
 }
 
@@ -279,13 +289,23 @@ pub sent-events : SentEventsAreOfMessages
 sent-events n w is h port place p t buffer e d =
     let m : NodeState = node_at w h in
     let here : IsReturned (sent_at m) (base_at m) port buffer = event-at (IsOf m port) p.events place (Sent t buffer) (subst (AreAll (IsOf m port)) e ((reached-of n w is h).each port)) d in
+    let k : ℕ = here.lane in
     let r : IsWindowed w = reached-windowed n w is in
-    let numbers = (r.ordered.hosts h).peers here.peer in
+    let numbers = (r.ordered.hosts h).lanes k in
     let long = numbers.numbered in
-    let s = r.senders.in_order h here.peer in
+    let s = r.senders.in_order h k in
     let a = s.base_below in
     let b = s.cursor_below in
     let c = s.top_below in
-    let whole : whole_below (sent_at m here.peer) (base_at m here.peer) ≡ base_at m here.peer = whole-below (sent_at m here.peer) (base_at m here.peer) numbers.short (omega (arith, long, a, b, c)) in
-    let low = here.acknowledged in
-    record { peer = here.peer; place = here.place; message = here.message; there = here.there; acknowledged = omega (arith, low, whole); from_port = here.from_port; bytes = here.bytes }
+    let whole : whole_below (sent_at m k) (base_at m k) ≡ base_at m k = whole-below (sent_at m k) (base_at m k) numbers.short (omega (arith, long, a, b, c)) in
+    let low : here.place < whole_below (sent_at m k) (base_at m k) = subst (λ x. here.place < x) (sym whole) here.acknowledged in
+    let same : lane_at m k ≡ lane_at m (sending_lane (sends_on h k)) = ap (lane_at m) (sym (lane_of-parts k)) in
+    record {
+      lane = k;
+      place = here.place;
+      message = here.message;
+      there = subst (λ l. slice_get l.sent here.place ≡ Some here.message) same here.there;
+      acknowledged = subst (λ l. here.place < whole_below l.sent l.sender.base) same low;
+      from_port = here.from_port;
+      bytes = here.bytes;
+    }

@@ -5,15 +5,15 @@ use Rattle.gm_defs.specs.declared.message.Message.{Message}
 use Rattle.gm_defs.specs.Token.{Sent, Received}
 use Rattle.world_defs.specs.declared.event.Event.TheVariants.{Begin, Provide}
 use Rattle.world_defs.specs.declared.effect.Said.TheVariants.{Count}
-use Rattle.world_defs.specs.Peer.{Ticket}
-use Rattle.world_defs.specs.Node.{port_at}
+use Rattle.world_defs.specs.Lane.{Ticket}
+use Rattle.world_defs.specs.Node.{lane_of, port_at}
 use Rattle.world_defs.specs.Client.{empty_buffer, closed}
 use Rattle.world_defs.specs.World.{WorldState, new_world, node_at, client_at}
 use Rattle.act_defs.specs.Acts.{Happens, acted_all, IsReached}
 use Rattle.owner_laws.specs.Examples.{busy_world}
 use Rattle.order_laws.specs.Examples.{message_world, ten}
 use Rattle.window_laws.specs.Examples.{answered_world}
-use Rattle.token_laws.specs.Unfinished.{send_at, tickets_with, unfinished_to}
+use Rattle.token_laws.specs.Unfinished.{send_at, tickets_on, unfinished_on}
 
 -- the world in which host 0 has sent five bytes from port 3 is reached
 abbrev pub BusyWorldIsReached : Type 0
@@ -27,12 +27,12 @@ of_port_3 = record { port = 3; token = 0 }
 abbrev pub five_bytes : Message
 five_bytes = record { sport = 3; dport = 2; prio = 0; body = 7 ∷ 8 ∷ 9 ∷ 10 ∷ 11 ∷ [] }
 
--- nothing is acknowledged: the ticket waits with host 1, the message is unfinished, and its send stands in the queue
--- with its bytes
+-- nothing is acknowledged: the ticket waits on the lane of host 1 and priority 0, the message is unfinished, and its
+-- send stands in the queue with its bytes
 abbrev pub SendIsUnfinished : Type 0
 SendIsUnfinished =
-    (tickets_with (node_at busy_world 0) 1 ≡ of_port_3 ∷ [])
-    × (unfinished_to (node_at busy_world 0) 1 ≡ five_bytes ∷ [])
+    (tickets_on (node_at busy_world 0) (lane_of 1 0) ≡ of_port_3 ∷ [])
+    × (unfinished_on (node_at busy_world 0) (lane_of 1 0) ≡ five_bytes ∷ [])
     × (send_at (node_at busy_world 0) of_port_3 ≡ Some (record { token = 0; buffer = five_bytes.body }))
 
 -- the ticket of a send from port 0
@@ -42,9 +42,10 @@ of_port_0 = record { port = 0; token = 0 }
 -- a message that came stands in the queue until its acknowledgement came back too
 abbrev pub SendIsFinished : Type 0
 SendIsFinished =
-    (unfinished_to (node_at message_world 0) 1 ≡ ten ∷ [])
+    (unfinished_on (node_at message_world 0) (lane_of 1 0) ≡ ten ∷ [])
     × (send_at (node_at message_world 0) of_port_0 ≡ Some (record { token = 0; buffer = ten.body }))
-    × (unfinished_to (node_at answered_world 0) 1 ≡ []) × (tickets_with (node_at answered_world 0) 1 ≡ [])
+    × (unfinished_on (node_at answered_world 0) (lane_of 1 0) ≡ [])
+    × (tickets_on (node_at answered_world 0) (lane_of 1 0) ≡ [])
     × (send_at (node_at answered_world 0) of_port_0 ≡ None)
 
 -- the buffer that host 0 has provided at port 3 has 56 zero bytes

@@ -4,14 +4,16 @@ use Rattle.net_defs.specs.Network.{Network}
 use Rattle.gm_defs.specs.declared.message.Message.{Message}
 use Rattle.gm_defs.specs.Token.{PortState, Received, size_for_length}
 use Rattle.gm_defs.specs.Port.{filled}
+use Rattle.gm_defs.specs.Connection.{connection}
 use Rattle.world_defs.specs.Node.{port_at}
 use Rattle.world_defs.specs.Client.{empty_buffer}
 use Rattle.world_defs.specs.World.{WorldState, node_at}
-use Rattle.world_defs.specs.Traffic.{got_between}
+use Rattle.world_defs.specs.Traffic.{got_on}
 use Rattle.act_defs.specs.Acts.{IsReached}
 
--- What a received event says is of a message that was got from there for its port: the message's bytes stand in
--- front, and behind them the zero bytes of the buffer that was provided, which is of the least size that has room.
+-- What a received event says is of a message that was got from there, of its priority, for its port: the message's
+-- bytes stand in front, and behind them the zero bytes of the buffer that was provided, which is of the least size
+-- that has room.
 pub record IsOfMessage (got : ℕ → List Message) (port : ℕ) (buffer : List ℕ) (from sport prio len : ℕ) : Type 0 where
   pub place : ℕ
   pub message : Message
@@ -30,4 +32,4 @@ ReceivedEventsAreOfMessages =
     (n : Network) (w : WorldState) → IsReached n w
     → (h port place : ℕ) (p : PortState) (t : ℕ) (buffer : List ℕ) (from sport prio len : ℕ)
     → port_at (node_at w h) port ≡ Some p → slice_get p.events place ≡ Some (Received t buffer from sport prio len)
-    → IsOfMessage (λ a. got_between w a h) port buffer from sport prio len
+    → IsOfMessage (λ a. got_on w (connection a h prio)) port buffer from sport prio len

@@ -9,7 +9,7 @@
 //! | `Unfinished` | a port's queue has exactly the sends that aren't finished |
 //! | `Untouched` | provided buffers are as they were provided |
 //! | `Received`, `Returned` | what received events and sent events hold |
-//! | `Examples` | reached worlds in which a send is unfinished and finished, a buffer is provided, and a message received |
+//! | `Examples` | reached worlds: a send is unfinished and finished, a buffer is provided, a message is received |
 #![tactic(auto)]
 
 mod buffer;

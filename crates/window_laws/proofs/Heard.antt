@@ -23,7 +23,7 @@ use Rattle.world_defs.specs.Hearing.{is_host, heard_if, is_part_for, part_heard,
 
 -- what a host, one of so many, is once it heard the bytes of a packet
 pub data IsHeard (host hosts : ℕ) (n : NodeState) (wire : List ℕ) (m : NodeState) : Type 0 where
-  quietly : m.peers ≡ n.peers → m.ports ≡ n.ports → IsHeard host hosts n wire m
+  quietly : m.lanes ≡ n.lanes → m.ports ≡ n.ports → IsHeard host hosts n wire m
   of_frame : (body : List ℕ) (h : FrameHead) → decode_packet wire ≡ Ok (Gm, body) → decode body ≡ Ok (Frame h) → h.dst ≡ host → h.src < hosts → m ≡ (frame_heard n h (part_in body) (frame_took n h)).1 → IsHeard host hosts n wire m
   of_ack : (body : List ℕ) (a : Ack) → decode_packet wire ≡ Ok (Gm, body) → decode body ≡ Ok (Acknowledges a) → a.dst ≡ host → a.src < hosts → m ≡ ack_heard n a → IsHeard host hosts n wire m
 

@@ -1,7 +1,6 @@
 -- Each packet that no flip has met is honest: what stands behind the route bytes is what was built.
-use Rattle.std.proofs.Common.{◌≡◌, ◌+◌, ◌*◌, ◌≤◌, ℕ, zero, suc, Bool, true, false, ℤ, List, [], ◌∷◌, drop, Some, None, IfSome, Ok, sym, ap, ◌∙◌, subst, arith, if◌then◌else◌}
-use Rattle.std.specs.Prelude.{slice_get}
-use Rattle.std.specs.List.{AllByRecursion, prefix_len}
+use Rattle.std.proofs.Common.{◌≡◌, ◌+◌, ◌*◌, ◌≤◌, ℕ, suc, Bool, true, false, ℤ, List, [], ◌∷◌, drop, None, IfSome, Ok, sym, ap, ◌∙◌, subst, arith, if◌then◌else◌}
+use Rattle.std.specs.List.{prefix_len}
 use Rattle.std.proofs.lemmas.Bool.Decides.{nat_tests}
 use Rattle.packet_defs.specs.declared.kind.Kind.{Kind}
 use Rattle.packet_defs.specs.declared.kind.Kind.TheVariants.{Mapping, Gm}
@@ -13,9 +12,10 @@ use Rattle.packet_defs.proofs.Packets.{head-push}
 use Rattle.link_defs.specs.Links.{Held}
 use Rattle.gm_defs.specs.declared.frame.GmBody.TheVariants.{Ack as Acknowledges}
 use Rattle.world_defs.specs.World.{WorldState}
-use Rattle.world_defs.specs.Traffic.{sent_between, unrouted, IsHonest as IsHonestIn}
+use Rattle.world_defs.specs.Traffic.{sent_on, unrouted, IsHonest as IsHonestIn}
 use Rattle.table_laws.specs.Packets.{IsHonest}
 use Rattle.order_laws.specs.Says.{SaysTrue}
+use Rattle.order_laws.proofs.Frames.{at-place}
 use Rattle.window_laws.specs.Windows.{TrafficIsHonest}
 use Rattle.window_laws.proofs.Windows.{IsWindowed, numbers_of, reached-windowed}
 
@@ -53,24 +53,18 @@ packet-read G held k body is m e =
     let pair : ◌≡◌ {A = Kind × List ℕ} (b.kind, b.payload) (k, body) = behind-read b.route b.kind k b.payload body (ap (λ h. body_of (behind_route h)) (sym same) ∙ e) in
     subst (λ x. G x.0 x.1) pair b.good
 
-held-honest : (w : WorldState) (held : Held) → IsHonest (SaysTrue (sent_between w)) held → IsHonest (numbers_of w) held → IsHonestIn w held
+held-honest : (w : WorldState) (held : Held) → IsHonest (SaysTrue (sent_on w)) held → IsHonest (numbers_of w) held → IsHonestIn w held
 held-honest w held frames numbers = record {
-  frames = λ h body m e d. packet-read (SaysTrue (sent_between w)) held Gm body frames m e h d;
+  frames = λ h body m e d. packet-read (SaysTrue (sent_on w)) held Gm body frames m e h d;
   acks = λ a body m e d. packet-read (numbers_of w) held Gm body numbers m e (Acknowledges a) d;
 }
-
--- an element of which all holds
-at-place : {X : Type 0} (P : X → Type 0) (xs : List X) (i : ℕ) (x : X) → AllByRecursion P xs → slice_get xs i ≡ Some x → P x
-at-place P [] i x all e = cc
-at-place P (y ∷ xs) zero x all e = let same : y ≡ x = cc in subst P same all.0
-at-place P (y ∷ xs) (suc i) x all e = at-place P xs i x all.1 e
 
 pub traffic-honest : TrafficIsHonest
 traffic-honest n w is =
     let r : IsWindowed w = reached-windowed n w is in
     record {
-      in_channels = λ c held e. held-honest w held (subst (λ o. IfSome o (IsHonest (SaysTrue (sent_between w)))) e (r.ordered.links.in_channels c)) (subst (λ o. IfSome o (IsHonest (numbers_of w))) e (r.links.in_channels c));
+      in_channels = λ c held e. held-honest w held (subst (λ o. IfSome o (IsHonest (SaysTrue (sent_on w)))) e (r.ordered.links.in_channels c)) (subst (λ o. IfSome o (IsHonest (numbers_of w))) e (r.links.in_channels c));
       in_limbo = λ place serial caught e.
-          held-honest w caught.held (at-place (λ x. IsHonest (SaysTrue (sent_between w)) x.1.held) w.links.limbo place (serial, caught) r.ordered.links.in_limbo e)
+          held-honest w caught.held (at-place (λ x. IsHonest (SaysTrue (sent_on w)) x.1.held) w.links.limbo place (serial, caught) r.ordered.links.in_limbo e)
           (at-place (λ x. IsHonest (numbers_of w) x.1.held) w.links.limbo place (serial, caught) r.links.in_limbo e);
     }

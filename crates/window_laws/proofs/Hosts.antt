@@ -18,7 +18,7 @@ use Rattle.table_laws.proofs.Keeping.{holds-read}
 
 -- every change of a host goes so, where what it reads is so
 pub record Rules (w : WorldState) (G : Kind → List ℕ → Type 0) (R : ℕ → NodeState → NodeState → Type 0) : Type 0 where
-  pub quiet : (h : ℕ) (m : NodeState) → m.peers ≡ (node_at w h).peers → m.ports ≡ (node_at w h).ports → R h (node_at w h) m
+  pub quiet : (h : ℕ) (m : NodeState) → m.lanes ≡ (node_at w h).lanes → m.ports ≡ (node_at w h).ports → R h (node_at w h) m
   pub hears : (h : ℕ) (wire : List ℕ) → ((k : Kind) (body : List ℕ) → decode wire ≡ Ok (k, body) → G k body) → R h (node_at w h) (hear h (host_count w) (node_at w h) wire).1
   pub sends : (h : ℕ) (out : Outgoing) → to_send h (node_at w h) ≡ Some out → R h (node_at w h) (after_sending (node_at w h) out)
   pub expires : (h peer : ℕ) → R h (node_at w h) (node_expired (node_at w h) peer)

@@ -6,20 +6,19 @@ use Rattle.gm_defs.specs.declared.frame.FrameHead.{FrameHead}
 use Rattle.gm_defs.specs.Fragment.{frame_of}
 use Rattle.gm_defs.specs.Connection.{due}
 use Rattle.gm_defs.proofs.Choices.{then-some}
-use Rattle.world_defs.specs.Table.{table_route}
-use Rattle.world_defs.specs.Node.{NodeState, Staged, StagedReply, StagedAck, StagedProbe, StagedPart, Outgoing, Probe, TablePart, Reply, PartAnswer, FrameAnswer, Fragment, peer_at, outgoing_staged, owed_to, due_to, due_frame, either, first_some, peers_of, to_send}
+use Rattle.world_defs.specs.Node.{NodeState, Staged, StagedReply, StagedAck, StagedProbe, StagedPart, Outgoing, Probe, TablePart, Reply, PartAnswer, FrameAnswer, Fragment, sends_on, lane_at, lane_route, outgoing_staged, owed_on, due_on, due_frame, either, first_some, lanes_of, to_send}
 
--- a fragment that is due to a peer
-pub record IsDue (host : ℕ) (n : NodeState) (peer : ℕ) (head : FrameHead) (part : List ℕ) : Type 0 where
+-- a fragment that is due on a lane
+pub record IsDue (host : ℕ) (n : NodeState) (lane : ℕ) (head : FrameHead) (part : List ℕ) : Type 0 where
   pub number : ℕ
-  pub low : peer < length n.peers
-  pub due : due (peer_at n peer).sender ≡ Some number
-  pub frame : frame_of host peer (peer_at n peer).sent number ≡ Some (head, part)
+  pub low : lane < length n.lanes
+  pub due : due (lane_at n lane).sender ≡ Some number
+  pub frame : frame_of (sends_on host lane) (lane_at n lane).sent number ≡ Some (head, part)
 
 -- what a host may send
 abbrev pub IsOut : ℕ → NodeState → Outgoing → Type 0
-IsOut host n (Fragment peer head part by) = IsDue host n peer head part
-IsOut host n (FrameAnswer peer next by) = (peer < length n.peers) × (next ≡ (peer_at n peer).taken)
+IsOut host n (Fragment lane head part by) = IsDue host n lane head part
+IsOut host n (FrameAnswer lane next by) = (lane < length n.lanes) × (next ≡ (lane_at n lane).taken)
 IsOut host n (Probe walk looped) = Unit {0}
 IsOut host n (TablePart part by) = Unit {0}
 IsOut host n (Reply r) = Unit {0}
@@ -48,20 +47,20 @@ module _ (host : ℕ) (n : NodeState) where
   answer-out None x e = cc
   answer-out (Some a) x e = subst (IsOut host n) (same_Some (PartAnswer a) x e) tt
 
-  owed-out : (peer : ℕ) (b : Bool) (r : Option (List ℤ)) (x : Outgoing) → peer < length n.peers → (if b then option_map (λ by. FrameAnswer peer (peer_at n peer).taken by) r else None) ≡ Some x → IsOut host n x
-  owed-out peer true None x low e = cc
-  owed-out peer true (Some by) x low e = subst (IsOut host n) (same_Some (FrameAnswer peer (peer_at n peer).taken by) x e) (low, refl)
-  owed-out peer false r x low e = cc
+  owed-out : (lane : ℕ) (b : Bool) (r : Option (List ℤ)) (x : Outgoing) → lane < length n.lanes → (if b then option_map (λ by. FrameAnswer lane (lane_at n lane).taken by) r else None) ≡ Some x → IsOut host n x
+  owed-out lane true None x low e = cc
+  owed-out lane true (Some by) x low e = subst (IsOut host n) (same_Some (FrameAnswer lane (lane_at n lane).taken by) x e) (low, refl)
+  owed-out lane false r x low e = cc
 
-  routed-out : (peer : ℕ) (f : FrameHead × List ℕ) (r : Option (List ℤ)) (x : Outgoing) → IsDue host n peer f.0 f.1 → option_map (λ by. Fragment peer f.0 f.1 by) r ≡ Some x → IsOut host n x
-  routed-out peer f None x is e = cc
-  routed-out peer f (Some by) x is e = subst (IsOut host n) (same_Some (Fragment peer f.0 f.1 by) x e) is
+  routed-out : (lane : ℕ) (f : FrameHead × List ℕ) (r : Option (List ℤ)) (x : Outgoing) → IsDue host n lane f.0 f.1 → option_map (λ by. Fragment lane f.0 f.1 by) r ≡ Some x → IsOut host n x
+  routed-out lane f None x is e = cc
+  routed-out lane f (Some by) x is e = subst (IsOut host n) (same_Some (Fragment lane f.0 f.1 by) x e) is
 
-  due-out : (peer : ℕ) (x : Outgoing) → peer < length n.peers → due_to host n peer ≡ Some x → IsOut host n x
-  due-out peer x low e =
-      let f = then-some (λ f. option_map (λ by. Fragment peer f.0 f.1 by) (table_route n.table peer)) (due_frame host n peer) x e in
-      let d = then-some (λ seq. frame_of host peer (peer_at n peer).sent seq) (due (peer_at n peer).sender) f.0 f.1.0 in
-      routed-out peer f.0 (table_route n.table peer) x (record { number = d.0; low = low; due = d.1.0; frame = d.1.1 }) f.1.1
+  due-out : (lane : ℕ) (x : Outgoing) → lane < length n.lanes → due_on host n lane ≡ Some x → IsOut host n x
+  due-out lane x low e =
+      let f = then-some (λ f. option_map (λ by. Fragment lane f.0 f.1 by) (lane_route n lane)) (due_frame host n lane) x e in
+      let d = then-some (λ seq. frame_of (sends_on host lane) (lane_at n lane).sent seq) (due (lane_at n lane).sender) f.0 f.1.0 in
+      routed-out lane f.0 (lane_route n lane) x (record { number = d.0; low = low; due = d.1.0; frame = d.1.1 }) f.1.1
 
   pub to_send-out : (x : Outgoing) → to_send host n ≡ Some x → IsOut host n x
   unfolding to_send
@@ -69,7 +68,7 @@ module _ (host : ℕ) (n : NodeState) where
       either-holds (IsOut host n) (option_map outgoing_staged n.staged) _ (staged-out n.staged)
       (either-holds (IsOut host n) (option_map Reply n.reply) _ (reply-out n.reply)
       (either-holds (IsOut host n) (option_map PartAnswer n.part_ack) _ (answer-out n.part_ack)
-      (either-holds (IsOut host n) (first_some (owed_to n) (peers_of n)) _
-      (first_some-holds (IsOut host n) (owed_to n) 0 (length n.peers) (λ peer y l. owed-out peer (peer_at n peer).owes (table_route n.table peer) y (omega (arith, l))))
-      (first_some-holds (IsOut host n) (due_to host n) 0 (length n.peers) (λ peer y l. due-out peer y (omega (arith, l)))))))
+      (either-holds (IsOut host n) (first_some (owed_on n) (lanes_of n)) _
+      (first_some-holds (IsOut host n) (owed_on n) 0 (length n.lanes) (λ lane y l. owed-out lane (lane_at n lane).owes (lane_route n lane) y (omega (arith, l))))
+      (first_some-holds (IsOut host n) (due_on host n) 0 (length n.lanes) (λ lane y l. due-out lane y (omega (arith, l)))))))
       x e

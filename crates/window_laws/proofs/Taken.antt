@@ -1,5 +1,5 @@
 -- How much of what was sent is got: as much as was taken, since each message is one fragment.
-use Rattle.std.proofs.Common.{◌≡◌, ◌+◌, ◌-◌, ◌≤◌, ◌<◌, ℕ, zero, suc, Bool, true, false, List, [], ◌∷◌, map, length, take, nat_le, nat_lt, refl, sym, ap, ◌∙◌, arith, if◌then◌else◌}
+use Rattle.std.proofs.Common.{◌≡◌, ◌+◌, ◌-◌, ◌≤◌, ◌<◌, ℕ, zero, suc, Bool, true, false, List, [], ◌∷◌, map, length, take, nat_le, nat_lt, refl, sym, ap, ◌∙◌, subst, arith, if◌then◌else◌}
 use Rattle.std.specs.List.{AllByRecursion, range_with_len}
 use Rattle.std.proofs.lemmas.Bool.Decides.{nat_tests}
 use Rattle.std.proofs.lemmas.List.{get_or_past, take_all}
@@ -8,18 +8,20 @@ use Rattle.net_defs.specs.Network.{Network}
 use Rattle.gm_defs.specs.declared.message.Message.{Message}
 use Rattle.gm_defs.specs.Body.{piece}
 use Rattle.gm_defs.specs.Fragment.{piece_count, whole_below}
-use Rattle.world_defs.specs.Peer.{new_peer}
-use Rattle.world_defs.specs.Node.{peer_at, new_node, unacknowledged_to}
+use Rattle.gm_defs.specs.declared.frame.ConnectionKey.{ConnectionKey}
+use Rattle.world_defs.specs.Lane.{new_lane}
+use Rattle.world_defs.specs.Node.{sending_lane, taking_lane, lane_at, new_node, unacknowledged_to}
+use Rattle.world_defs.proofs.Lanes.{facing-taking, lane-within}
 use Rattle.world_defs.specs.World.{WorldState, host_count, node_at, sum_of}
 use Rattle.world_defs.specs.Sound.{IsFront}
-use Rattle.world_defs.specs.Traffic.{sent_between, got_between, taken_between}
+use Rattle.world_defs.specs.Traffic.{sender_on, sent_on, got_on, taken_on}
 use Rattle.world_defs.specs.Settle.{unacknowledged_from, unacknowledged_in}
-use Rattle.world_defs.specs.Settled.{sender_between}
 use Rattle.world_laws.specs.Shape.{IsWorld}
 use Rattle.world_laws.proofs.Shapes.{step-kept, new-world, adopted-world, planned-world}
 use Rattle.act_defs.specs.Acts.{Act, Happens, Plans, Adopts, acted, IsReached}
 use Rattle.window_laws.specs.Got.{GotIsWholeBelowTaken, AllAcknowledgedIsAllGot, NoneUnacknowledgedIsAllGot}
 use Rattle.act_defs.proofs.Reaching.{reached-has}
+use Rattle.order_laws.proofs.Worlds.{sent_by_lane}
 use Rattle.window_laws.proofs.Windows.{IsWindowed, reached-windowed}
 
 one-piece : (len : ℕ) → len ≤ piece → piece_count len ≡ 1
@@ -46,28 +48,29 @@ front-take got sent f = sym (ap (take (length got)) f.both ∙ take-append_seam 
 front-all : {X : Type 0} (got sent : List X) → IsFront got sent → length sent ≤ length got → got ≡ sent
 front-all got sent f long = front-take got sent f ∙ take_all (length got) sent long
 
-pub got-below : GotIsWholeBelowTaken
-got-below n w is a b =
-    let r : IsWindowed w = reached-windowed n w is in
-    let order = r.ordered.order a b in
-    let numbers = (r.ordered.hosts a).peers b in
-    let count = order.count in
-    let taken = (r.pairs a b).taken_below in
-    let top = (r.senders.in_order a b).top_below in
-    let all = numbers.numbered in
-    let whole : whole_below (sent_between w a b) (taken_between w a b) ≡ taken_between w a b = whole-below (sent_between w a b) (taken_between w a b) numbers.short (omega (arith, taken, top, all)) in
-    front-take (got_between w a b) (sent_between w a b) order.front ∙ ap (λ k. take k (sent_between w a b)) (sym (whole ∙ count))
+windowed-front : (w : WorldState) (c : ConnectionKey) → IsWindowed w → IsFront (got_on w c) (sent_on w c)
+windowed-front w c r = subst (IsFront (got_on w c)) (facing-taking (sent_by_lane w) c) (r.ordered.order c.dst (taking_lane c)).front
 
-windowed-all : (w : WorldState) (a b : ℕ) → IsWindowed w → (sender_between w a b).base ≡ (sender_between w a b).next → got_between w a b ≡ sent_between w a b
-windowed-all w a b r e =
-    let order = r.ordered.order a b in
-    let count = order.count in
-    let base = (r.pairs a b).base_below in
-    let all = ((r.ordered.hosts a).peers b).numbered in
-    front-all (got_between w a b) (sent_between w a b) order.front (omega (arith, e, count, base, all))
+pub got-below : GotIsWholeBelowTaken
+got-below n w is c =
+    let r : IsWindowed w = reached-windowed n w is in
+    let numbers = (r.ordered.hosts c.src).lanes (sending_lane c) in
+    let count = (r.ordered.order c.dst (taking_lane c)).count in
+    let taken = (r.connections c).taken_below in
+    let top = (r.senders.in_order c.src (sending_lane c)).top_below in
+    let all = numbers.numbered in
+    let whole : whole_below (sent_on w c) (taken_on w c) ≡ taken_on w c = whole-below (sent_on w c) (taken_on w c) numbers.short (omega (arith, taken, top, all)) in
+    front-take (got_on w c) (sent_on w c) (windowed-front w c r) ∙ ap (λ k. take k (sent_on w c)) (sym (whole ∙ count))
+
+windowed-all : (w : WorldState) (c : ConnectionKey) → IsWindowed w → (sender_on w c).base ≡ (sender_on w c).next → got_on w c ≡ sent_on w c
+windowed-all w c r e =
+    let count = (r.ordered.order c.dst (taking_lane c)).count in
+    let base = (r.connections c).base_below in
+    let all = ((r.ordered.hosts c.src).lanes (sending_lane c)).numbered in
+    front-all (got_on w c) (sent_on w c) (windowed-front w c r) (omega (arith, e, count, base, all))
 
 pub acknowledged-got : AllAcknowledgedIsAllGot
-acknowledged-got n w is a b e = windowed-all w a b (reached-windowed n w is) e
+acknowledged-got n w is c e = windowed-all w c (reached-windowed n w is) e
 
 -- a sum of nothing is of nothings
 sum-none : (f : ℕ → ℕ) (from count i j : ℕ) → j ≡ from + i → sum_of (map f (range_with_len from count)) ≡ 0 → i < count → f j ≡ 0
@@ -85,31 +88,34 @@ pub reached-world : (n : Network) (w : WorldState) → IsReached n w → IsWorld
 reached-world n w is = reached-has IsWorld n (new-world n) (λ w a r may. acted-world w a) w is
 
 -- a connection of hosts that aren't there has numbers 0
-past-host : (w : WorldState) (a b : ℕ) → host_count w ≤ a → (sender_between w a b).base ≡ (sender_between w a b).next
-past-host w a b past = ap (λ n. (peer_at n b).sender.base) (get_or_past w.nodes a (new_node 0) past) ∙ sym (ap (λ n. (peer_at n b).sender.next) (get_or_past w.nodes a (new_node 0) past))
+past-host : (w : WorldState) (c : ConnectionKey) → host_count w ≤ c.src → (sender_on w c).base ≡ (sender_on w c).next
+past-host w c past =
+    let none = get_or_past w.nodes c.src (new_node 0) past in
+    ap (λ n. (lane_at n (sending_lane c)).sender.base) none ∙ sym (ap (λ n. (lane_at n (sending_lane c)).sender.next) none)
 
-past-peer : (w : WorldState) (a b : ℕ) → IsWorld w → a < host_count w → host_count w ≤ b → (sender_between w a b).base ≡ (sender_between w a b).next
-past-peer w a b is low past =
-    let long = (is.each_node a low).peers in
-    let none : peer_at (node_at w a) b ≡ new_peer = get_or_past (node_at w a).peers b new_peer (omega (arith, long, past)) in
-    ap (λ p. p.sender.base) none ∙ sym (ap (λ p. p.sender.next) none)
+past-peer : (w : WorldState) (c : ConnectionKey) → IsWorld w → c.src < host_count w → host_count w ≤ c.dst → (sender_on w c).base ≡ (sender_on w c).next
+past-peer w c is low past =
+    let long = (is.each_node c.src low).lanes in
+    let none : lane_at (node_at w c.src) (sending_lane c) ≡ new_lane = get_or_past (node_at w c.src).lanes (sending_lane c) new_lane (omega (arith, long, past)) in
+    ap (λ l. l.sender.base) none ∙ sym (ap (λ l. l.sender.next) none)
 
-none-left : (w : WorldState) (a b : ℕ) → IsWorld w → IsWindowed w → unacknowledged_in w ≡ 0 → (sender_between w a b).base ≡ (sender_between w a b).next
-none-left w a b world is e = by (nat_lt a (host_count w)) (nat_lt b (host_count w)) refl refl
+none-left : (w : WorldState) (c : ConnectionKey) → IsWorld w → IsWindowed w → unacknowledged_in w ≡ 0 → (sender_on w c).base ≡ (sender_on w c).next
+none-left w c world is e = by (nat_lt c.src (host_count w)) (nat_lt c.dst (host_count w)) refl refl
   where
-    by : (t u : Bool) → nat_lt a (host_count w) ≡ t → nat_lt b (host_count w) ≡ u → (sender_between w a b).base ≡ (sender_between w a b).next
+    by : (t u : Bool) → nat_lt c.src (host_count w) ≡ t → nat_lt c.dst (host_count w) ≡ u → (sender_on w c).base ≡ (sender_on w c).next
     by true true t u =
-        let from : unacknowledged_from w a ≡ 0 = sum-none (unacknowledged_from w) 0 (host_count w) a a (omega arith) e (grind (arith, nat_tests)) in
-        let left : unacknowledged_to (node_at w a) b ≡ 0 = sum-none (unacknowledged_to (node_at w a)) 0 (host_count w) b b (omega arith) from (grind (arith, nat_tests)) in
-        let s = is.senders.in_order a b in
+        let from : unacknowledged_from w c.src ≡ 0 = sum-none (unacknowledged_from w) 0 (host_count w) c.src c.src (omega arith) e (grind (arith, nat_tests)) in
+        let left : unacknowledged_to (node_at w c.src) c.dst ≡ 0 = sum-none (unacknowledged_to (node_at w c.src)) 0 (host_count w) c.dst c.dst (omega arith) from (grind (arith, nat_tests)) in
+        let within = lane-within (node_at w c.src) c.dst c.prio in
+        let s = is.senders.in_order c.src (sending_lane c) in
         let below = s.base_below in
         let cursor = s.cursor_below in
         let top = s.top_below in
-        omega (arith, left, below, cursor, top)
-    by true false t u = past-peer w a b world (grind (arith, nat_tests)) (grind (arith, nat_tests))
-    by false u t v = past-host w a b (grind (arith, nat_tests))
+        omega (arith, left, within, below, cursor, top)
+    by true false t u = past-peer w c world (grind (arith, nat_tests)) (grind (arith, nat_tests))
+    by false u t v = past-host w c (grind (arith, nat_tests))
 
 pub none-got : NoneUnacknowledgedIsAllGot
-none-got n w is e a b =
+none-got n w is e c =
     let r : IsWindowed w = reached-windowed n w is in
-    windowed-all w a b r (none-left w a b (reached-world n w is) r e)
+    windowed-all w c r (none-left w c (reached-world n w is) r e)

@@ -8,12 +8,12 @@ use Rattle.packet_defs.specs.declared.host_drop.HostDrop.{HostDrop}
 use Rattle.packet_defs.specs.Host.{body_of}
 use Rattle.link_defs.specs.Links.{packet_in}
 use Rattle.gm_defs.specs.Body.{ack_bytes}
+use Rattle.gm_defs.specs.Connection.{connection, ack_on}
 use Rattle.world_defs.specs.Examples.{setup_routes}
 use Rattle.world_defs.specs.declared.event.Event.TheVariants.{Inject, Advance}
 use Rattle.world_defs.specs.World.{WorldState, new_world}
-use Rattle.world_defs.specs.Traffic.{sent_between, got_between, taken_between, unrouted}
+use Rattle.world_defs.specs.Traffic.{sender_on, sent_on, got_on, taken_on, unrouted}
 use Rattle.world_defs.specs.Settle.{unacknowledged_in}
-use Rattle.world_defs.specs.Settled.{sender_between}
 use Rattle.act_defs.specs.Acts.{Act, Happens, Adopts, acted_all, IsReached}
 use Rattle.order_laws.specs.Examples.{one_message, message_world, ten}
 
@@ -38,16 +38,16 @@ answer_on_its_way =
 
 -- behind its route it is the acknowledgement of one fragment, as many as host 1 has taken
 abbrev pub AnswerIsHonest : Type 0
-AnswerIsHonest = answer_on_its_way ≡ Some (Ok (Gm, ack_bytes (record { src = 1; dst = 0; next = 1 })))
+AnswerIsHonest = answer_on_its_way ≡ Some (Ok (Gm, ack_bytes (ack_on (connection 0 1 0) 1)))
 
 -- before the answer one fragment is taken, and none acknowledged
 abbrev pub TakenAheadOfBase : Type 0
-TakenAheadOfBase = (taken_between message_world 0 1 ≡ 1)
-    × (sender_between message_world 0 1 ≡ record { base = 0; cursor = 1; top = 1; next = 1 })
+TakenAheadOfBase = (taken_on message_world (connection 0 1 0) ≡ 1)
+    × (sender_on message_world (connection 0 1 0) ≡ record { base = 0; cursor = 1; top = 1; next = 1 })
 
 -- behind it all is acknowledged, and the message is got
 abbrev pub AllIsAcknowledged : Type 0
 AllIsAcknowledged =
-    (sender_between answered_world 0 1 ≡ record { base = 1; cursor = 1; top = 1; next = 1 })
+    (sender_on answered_world (connection 0 1 0) ≡ record { base = 1; cursor = 1; top = 1; next = 1 })
     × (unacknowledged_in answered_world ≡ 0)
-    × (got_between answered_world 0 1 ≡ ten ∷ []) × (sent_between answered_world 0 1 ≡ ten ∷ [])
+    × (got_on answered_world (connection 0 1 0) ≡ ten ∷ []) × (sent_on answered_world (connection 0 1 0) ≡ ten ∷ [])

@@ -1,33 +1,33 @@
 -- How much of what was sent is got, after every list of acts.
-use Rattle.std.specs.Prelude.{◌≡◌, ℕ, take}
+use Rattle.std.specs.Prelude.{◌≡◌, take}
 use Rattle.net_defs.specs.Network.{Network}
+use Rattle.gm_defs.specs.declared.frame.ConnectionKey.{ConnectionKey}
 use Rattle.gm_defs.specs.Fragment.{whole_below}
 use Rattle.world_defs.specs.World.{WorldState}
-use Rattle.world_defs.specs.Traffic.{sent_between, got_between, taken_between}
+use Rattle.world_defs.specs.Traffic.{sender_on, sent_on, got_on, taken_on}
 use Rattle.world_defs.specs.Settle.{unacknowledged_in, settle}
-use Rattle.world_defs.specs.Settled.{sender_between}
 use Rattle.act_defs.specs.Acts.{IsReached}
 
--- what is got is the messages that lie wholly below the number of fragments taken
+-- what is got on a connection is the messages that lie wholly below the number of fragments taken
 abbrev pub GotIsWholeBelowTaken : Type 0
 GotIsWholeBelowTaken =
-    (n : Network) (w : WorldState) → IsReached n w → (a b : ℕ)
-    → got_between w a b ≡ take (whole_below (sent_between w a b) (taken_between w a b)) (sent_between w a b)
+    (n : Network) (w : WorldState) → IsReached n w → (c : ConnectionKey)
+    → got_on w c ≡ take (whole_below (sent_on w c) (taken_on w c)) (sent_on w c)
 
--- where all fragments of a connection are acknowledged, all that was sent is got
+-- where all fragments of a connection are acknowledged, all that was sent on it is got
 abbrev pub AllAcknowledgedIsAllGot : Type 0
 AllAcknowledgedIsAllGot =
-    (n : Network) (w : WorldState) → IsReached n w → (a b : ℕ)
-    → (sender_between w a b).base ≡ (sender_between w a b).next → got_between w a b ≡ sent_between w a b
+    (n : Network) (w : WorldState) → IsReached n w → (c : ConnectionKey)
+    → (sender_on w c).base ≡ (sender_on w c).next → got_on w c ≡ sent_on w c
 
--- and where no host has an unacknowledged fragment, each host got all that was sent to it
+-- and where no host has an unacknowledged fragment, all that was sent on each connection is got
 abbrev pub NoneUnacknowledgedIsAllGot : Type 0
 NoneUnacknowledgedIsAllGot =
     (n : Network) (w : WorldState) → IsReached n w → unacknowledged_in w ≡ 0
-    → (a b : ℕ) → got_between w a b ≡ sent_between w a b
+    → (c : ConnectionKey) → got_on w c ≡ sent_on w c
 
--- so a settle behind which no fragment is unacknowledged leaves each host with all that was sent to it
+-- so a settle behind which no fragment is unacknowledged leaves all got that was sent, on each connection
 abbrev pub SettleGetsAll : Type 0
 SettleGetsAll =
     (n : Network) (w : WorldState) → IsReached n w → unacknowledged_in (settle w).world ≡ 0
-    → (a b : ℕ) → got_between (settle w).world a b ≡ sent_between (settle w).world a b
+    → (c : ConnectionKey) → got_on (settle w).world c ≡ sent_on (settle w).world c

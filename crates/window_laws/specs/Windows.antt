@@ -1,10 +1,10 @@
 -- The window of each connection, and the packets on their way, after every list of acts.
 use Rattle.std.specs.Prelude.{ℕ, ◌+◌, ◌≤◌}
 use Rattle.net_defs.specs.Network.{Network}
+use Rattle.gm_defs.specs.declared.frame.ConnectionKey.{ConnectionKey}
 use Rattle.gm_defs.specs.Connection.{SenderState, IsSender, window}
 use Rattle.world_defs.specs.World.{WorldState}
-use Rattle.world_defs.specs.Traffic.{taken_between, IsHonestTraffic}
-use Rattle.world_defs.specs.Settled.{sender_between}
+use Rattle.world_defs.specs.Traffic.{sender_on, taken_on, IsHonestTraffic}
 use Rattle.act_defs.specs.Acts.{IsReached}
 
 -- The numbers of a connection: the sender's are in order, what is acknowledged was taken, what was taken was sent,
@@ -17,8 +17,8 @@ pub record IsWindow (s : SenderState) (taken : ℕ) : Type 0 where
 
 -- each connection has its window
 abbrev pub WindowsHold : Type 0
-WindowsHold = (n : Network) (w : WorldState) → IsReached n w → (a b : ℕ)
-    → IsWindow (sender_between w a b) (taken_between w a b)
+WindowsHold = (n : Network) (w : WorldState) → IsReached n w → (c : ConnectionKey)
+    → IsWindow (sender_on w c) (taken_on w c)
 
 -- each packet in a channel or in limbo that no flip has met is honest
 abbrev pub TrafficIsHonest : Type 0

@@ -10,7 +10,7 @@ pub fn messages_below_taken()
 
 /// Where all is acknowledged, all is got: of one connection, of all at once, and so behind a settle.
 pub fn acknowledged_messages()
-    ensures pair { AllAcknowledgedIsAllGot }
+    ensures connection { AllAcknowledgedIsAllGot }
     ensures all { NoneUnacknowledgedIsAllGot }
     ensures settled { SettleGetsAll }
 {}

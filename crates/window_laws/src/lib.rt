@@ -1,7 +1,7 @@
 //! What the numbers of every connection say, after every list of acts that may happen: what is acknowledged, what was
 //! taken, what was sent.
 //!
-//! It keeps no connection: that is `gm_conn`, and `host_peers` at a host. Read `specs/Windows.antt` first.
+//! It keeps no connection: that is `gm_conn`, and `host_lanes` at a host. Read `specs/Windows.antt` first.
 //!
 //! | file of `specs/` | says |
 //! |---|---|

@@ -10,8 +10,8 @@ use Rattle.world_defs.specs.declared.client.ClientCause.TheVariants.{TooLong, No
 use Rattle.world_defs.specs.declared.effect.Said.{Said}
 use Rattle.world_defs.specs.declared.effect.Said.TheVariants.{Done, Count, Token, Sent as SaidSent, Received as SaidReceived}
 use Rattle.world_defs.specs.Table.{table_route}
-use Rattle.world_defs.specs.Node.{NodeState, peer_at, port_at}
-use Rattle.world_defs.specs.Client.{ClientState, Called, Wanted, new_client, empty_buffer, refused, left, begin_at, begun, close_open, closed, provide_with, provide_open, provided_by, send_accepted, send_refusal, send_unless, send_with, send_open, sent_by, handed_out, poll_open, polled_by}
+use Rattle.world_defs.specs.Node.{NodeState, lane_at, port_at}
+use Rattle.world_defs.specs.Client.{ClientState, Called, Wanted, wanted_lane, new_client, empty_buffer, refused, left, begin_at, begun, close_open, closed, provide_with, provide_open, provided_by, send_accepted, send_refusal, send_unless, send_with, send_open, sent_by, handed_out, poll_open, polled_by}
 use Rattle.world_defs.specs.World.{WorldState, node_at, client_at}
 use Rattle.world_defs.proofs.Views.{CallChange}
 
@@ -106,7 +106,7 @@ module _ (n : NodeState) (port : ℕ) where
 pub record IsAcceptable (n : NodeState) (s : Wanted) : Type 0 where
   pub short : is_too_long s.len ≡ false
   pub routed : is_none (table_route n.table s.dest) ≡ false
-  pub numbered : is_spent (peer_at n s.dest).sender (piece_count s.len) ≡ false
+  pub numbered : is_spent (lane_at n (wanted_lane s)).sender (piece_count s.len) ≡ false
 
 not_refused : (a b c : Bool) → (if a then Some TooLong else if b then Some NoRoute else if c then Some Spent else None) ≡ None → (a ≡ false) × (b ≡ false) × (c ≡ false)
 not_refused true b c e = cc
@@ -116,7 +116,7 @@ not_refused false false false e = (refl, refl, refl)
 
 pub not_refused-acceptable : (n : NodeState) (s : Wanted) → send_refusal n s ≡ None → IsAcceptable n s
 not_refused-acceptable n s e =
-    let free = not_refused (is_too_long s.len) (is_none (table_route n.table s.dest)) (is_spent (peer_at n s.dest).sender (piece_count s.len)) e in
+    let free = not_refused (is_too_long s.len) (is_none (table_route n.table s.dest)) (is_spent (lane_at n (wanted_lane s)).sender (piece_count s.len)) e in
     record { short = free.0; routed = free.1; numbered = free.2 }
 
 -- every call

@@ -1,6 +1,7 @@
 -- Moments of small worlds: what is sound, lawful, honest and settled there, and what isn't.
 use Rattle.std.proofs.Common.{◌≡◌, ◌<◌, ℕ, zero, suc, true, false, List, [], ◌∷◌, ◌++◌, length, replicate, get_or, Option, Some, None, Result, Ok, Err, refl, sym, ◌∙◌, ap, subst, arith, rules, ◌||◌, nat_eq, if◌then◌else◌}
 use Rattle.std.specs.Prelude.{pos, codes, slice_get}
+use Rattle.std.specs.List.{AllByRecursion}
 use Rattle.net_defs.specs.Route.{channels_of}
 use Rattle.net_defs.specs.Examples.{two_hosts}
 use Rattle.packet_defs.specs.declared.kind.Kind.{Kind}
@@ -14,35 +15,44 @@ use Rattle.net_defs.proofs.Cycles.{no_cycle-rising}
 use Rattle.gm_defs.specs.declared.message.Message.{Message}
 use Rattle.gm_defs.specs.declared.frame.FrameHead.{FrameHead}
 use Rattle.gm_defs.specs.declared.frame.Ack.{Ack}
+use Rattle.gm_defs.specs.declared.frame.ConnectionKey.{ConnectionKey}
 use Rattle.gm_defs.specs.declared.frame.GmBody.TheVariants.{Frame, Ack as Acknowledges}
 use Rattle.gm_defs.specs.Body.{frame_bytes, decode, part_in}
 use Rattle.gm_defs.specs.Fragment.{IsHonestFrame, IsHonestAck, frame_of, whole_below}
+use Rattle.gm_defs.specs.Connection.{connection}
 use Rattle.gm_defs.specs.Token.{PortState}
 use Rattle.gm_defs.specs.Examples.{message, abc}
 use Rattle.world_defs.specs.Table.{applied, active_epoch}
-use Rattle.world_defs.specs.Node.{to_send, packet_for, after_sending, port_at}
+use Rattle.world_defs.specs.Lane.{LaneState, new_lane}
+use Rattle.world_defs.specs.Node.{lane_of, sending_lane, taking_lane, lane_at, to_send, packet_for, after_sending, port_at}
 use Rattle.world_defs.specs.Hearing.{hear, port_takes}
 use Rattle.world_defs.specs.Client.{ClientState, begun, closed, provided_by, sent_by, polled_by}
 use Rattle.world_defs.specs.World.{new_world, fabric_of, host_count, node_at, client_at}
 use Rattle.world_defs.specs.Step.{lost, was_reset, repeated, held, flipped, replayed, asked, part_staged, planned_strikes, sent_out, injected, advanced, expired, gave_up}
 use Rattle.world_defs.specs.Drain.{pass, drain, clear}
 use Rattle.world_defs.specs.Settle.{round_pass, round, settle}
-use Rattle.world_defs.specs.Settled.{IsSettled, IsSettledPair, IsWaiting, sender_between}
-use Rattle.world_defs.specs.Settled.IsSettledPair.{all_acknowledged, no_table, waiting}
+use Rattle.world_defs.specs.Settled.{IsSettled, IsSettledConnection, IsWaiting}
+use Rattle.world_defs.specs.Settled.IsSettledConnection.{all_acknowledged, no_table, waiting}
 use Rattle.world_defs.specs.Asking.{sends, host_try, loop_try, ask}
 use Rattle.world_defs.specs.Install.{part_try, installed}
-use Rattle.world_defs.specs.Traffic.{IsLawful, IsLawfulTraffic, IsHonest, IsHonestTraffic, adopted_routes, channels_ahead, sent_between, got_between, taken_between, unrouted}
+use Rattle.world_defs.specs.Traffic.{IsLawful, IsLawfulTraffic, IsHonest, IsHonestTraffic, adopted_routes, channels_ahead, sender_on, sent_on, got_on, taken_on, unrouted}
 use Rattle.world_defs.specs.Sound.{IsSound, IsFront, AreOwned, installed_channels}
 use Rattle.world_defs.specs.Examples.{on_its_way, abc_frame, further_on, abc_further_on, spoiled, forged, unserved}
 
+-- an element of a list of which all holds
+pub all-at : {X : Type 0} (P : X → Type 0) (xs : List X) (i : ℕ) (d : X) → AllByRecursion P xs → P d → P (get_or xs i d)
+all-at P [] i d all past = past
+all-at P (x ∷ xs) zero d all past = all.0
+all-at P (x ∷ xs) (suc i) d all past = all-at P xs i d all.1 past
+
 -- an element of equal ones
-same-at : {X : Type 0} (x : X) (k i : ℕ) → get_or (replicate k x) i x ≡ x
+pub same-at : {X : Type 0} (x : X) (k i : ℕ) → get_or (replicate k x) i x ≡ x
 same-at x zero i = refl
 same-at x (suc k) zero = refl
 same-at x (suc k) (suc i) = same-at x k i
 
 -- a port that isn't open, and no client
-unowned : (p : Option PortState) (c : Option ClientState) → p ≡ None → c ≡ None → AreOwned p c
+pub unowned : (p : Option PortState) (c : Option ClientState) → p ≡ None → c ≡ None → AreOwned p c
 unowned None None e f = tt
 unowned (Some p) c e f = cc
 unowned None (Some c) e f = cc
@@ -82,24 +92,18 @@ rises c d b = by b.place b.there
     by (suc (suc k)) e = cc
 
 -- of nothing, everything begins with it
-front_of_none : (got sent : List Message) → got ≡ [] → IsFront got sent
+pub front_of_none : (got sent : List Message) → got ≡ [] → IsFront got sent
 front_of_none [] sent e = record { rest = sent; both = refl }
 front_of_none (m ∷ ms) sent e = cc
 
 -- before anything happened
-first_got : (a b : ℕ) → got_between (new_world two_hosts) a b ≡ []
-first_got zero zero = refl
-first_got zero (suc zero) = refl
-first_got zero (suc (suc b)) = refl
-first_got (suc zero) zero = refl
-first_got (suc zero) (suc zero) = refl
-first_got (suc zero) (suc (suc b)) = refl
-first_got (suc (suc a)) zero = refl
-first_got (suc (suc a)) (suc zero) = refl
-first_got (suc (suc a)) (suc (suc b)) = refl
+first_lane : (h lane : ℕ) → lane_at (node_at (new_world two_hosts) h) lane ≡ new_lane
+first_lane zero lane = same-at new_lane 4 lane
+first_lane (suc zero) lane = same-at new_lane 4 lane
+first_lane (suc (suc h)) lane = same-at new_lane 0 lane
 
-first_front : (a b : ℕ) → IsFront (got_between (new_world two_hosts) a b) (sent_between (new_world two_hosts) a b)
-first_front a b = front_of_none _ _ (first_got a b)
+first_front : (c : ConnectionKey) → IsFront (got_on (new_world two_hosts) c) (sent_on (new_world two_hosts) c)
+first_front c = front_of_none _ _ (ap (λ l. l.got) (first_lane c.dst (taking_lane c)))
 
 first_owned : (h port : ℕ) → AreOwned (port_at (node_at (new_world two_hosts) h) port) (client_at (new_world two_hosts) h port)
 first_owned zero port = unowned _ _ (same-at None 8 port) (same-at None 8 port)
@@ -113,20 +117,14 @@ pub first_is_sound : IsSound (new_world two_hosts)
 first_is_sound = record { no_cycle = no_cycle-rising _ (λ c. c) no_routes; in_order = first_front; one_owner = first_owned }
 
 -- a frame is on its way
-way_got : (a b : ℕ) → got_between on_its_way a b ≡ []
+way_got : (h : ℕ) → AllByRecursion (λ (l : LaneState). l.got ≡ []) (node_at on_its_way h).lanes
 unfolding sends host_try loop_try ask begun closed provided_by sent_by polled_by pass drain clear hear part_try installed to_send packet_for after_sending round_pass round settle lost was_reset repeated held flipped replayed asked part_staged planned_strikes sent_out injected advanced expired gave_up applied
-way_got zero zero = refl
-way_got zero (suc zero) = refl
-way_got zero (suc (suc b)) = refl
-way_got (suc zero) zero = refl
-way_got (suc zero) (suc zero) = refl
-way_got (suc zero) (suc (suc b)) = refl
-way_got (suc (suc a)) zero = refl
-way_got (suc (suc a)) (suc zero) = refl
-way_got (suc (suc a)) (suc (suc b)) = refl
+way_got zero = (refl, (refl, (refl, (refl, tt))))
+way_got (suc zero) = (refl, (refl, (refl, (refl, tt))))
+way_got (suc (suc h)) = tt
 
-way_front : (a b : ℕ) → IsFront (got_between on_its_way a b) (sent_between on_its_way a b)
-way_front a b = front_of_none _ _ (way_got a b)
+way_front : (c : ConnectionKey) → IsFront (got_on on_its_way c) (sent_on on_its_way c)
+way_front c = front_of_none _ _ (all-at (λ (l : LaneState). l.got ≡ []) (node_at on_its_way c.dst).lanes (taking_lane c) new_lane (way_got c.dst) refl)
 
 way_owned : (h port : ℕ) → AreOwned (port_at (node_at on_its_way h) port) (client_at on_its_way h port)
 unfolding sends host_try loop_try ask begun closed provided_by sent_by polled_by pass drain clear hear part_try installed to_send packet_for after_sending round_pass round settle lost was_reset repeated held flipped replayed asked part_staged planned_strikes sent_out injected advanced expired gave_up applied
@@ -145,11 +143,11 @@ pub way_is_sound : IsSound on_its_way
 way_is_sound = record { no_cycle = subst (λ cs. HasNoCycle (IsBefore cs)) (sym way_channels) (no_cycle-rising _ rank rises); in_order = way_front; one_owner = way_owned }
 
 -- a message that nobody sent
-forged_got : got_between forged 0 1 ≡ message [] ∷ []
+forged_got : got_on forged (connection 0 1 0) ≡ message [] ∷ []
 unfolding sends host_try loop_try ask begun closed provided_by sent_by polled_by pass drain clear hear part_try installed to_send packet_for after_sending round_pass round settle lost was_reset repeated held flipped replayed asked part_staged planned_strikes sent_out injected advanced expired gave_up applied
 forged_got = refl
 
-forged_sent : sent_between forged 0 1 ≡ message (codes "ABC") ∷ []
+forged_sent : sent_on forged (connection 0 1 0) ≡ message (codes "ABC") ∷ []
 unfolding sends host_try loop_try ask begun closed provided_by sent_by polled_by pass drain clear hear part_try installed to_send packet_for after_sending round_pass round settle lost was_reset repeated held flipped replayed asked part_staged planned_strikes sent_out injected advanced expired gave_up applied
 forged_sent = refl
 
@@ -161,7 +159,7 @@ no_front got sent e f front =
     cc
 
 pub forged_is_not_sound : ¬ IsSound forged
-forged_is_not_sound s = no_front _ _ forged_got forged_sent (s.in_order 0 1)
+forged_is_not_sound s = no_front _ _ forged_got forged_sent (s.in_order (connection 0 1 0))
 
 -- the frame in its channels
 pub frame_is_there : packet_in on_its_way.links 0 ≡ Some abc_frame
@@ -209,7 +207,7 @@ pub further_is_lawful : IsLawful further_on 3 abc_further_on
 unfolding sends host_try loop_try ask begun closed provided_by sent_by polled_by pass drain clear hear part_try installed to_send packet_for after_sending round_pass round settle lost was_reset repeated held flipped replayed asked part_staged planned_strikes sent_out injected advanced expired gave_up applied
 further_is_lawful = record { unmarked = refl; place = 0; route = record { from = 0; to = 1; walk = pos 3 ∷ [] }; behind = 0 ∷ []; there = refl; ends_it = refl }
 
-spoiled_frame : packet_in spoiled.links 0 ≡ Some (record { wire = 128 ∷ 4 ∷ 8 ∷ frame_bytes abc (codes "ABC") ++ 131 ∷ []; marked = true })
+spoiled_frame : packet_in spoiled.links 0 ≡ Some (record { wire = 128 ∷ 4 ∷ 8 ∷ frame_bytes abc (codes "ABC") ++ 146 ∷ []; marked = true })
 unfolding sends host_try loop_try ask begun closed provided_by sent_by polled_by pass drain clear hear part_try installed to_send packet_for after_sending round_pass round settle lost was_reset repeated held flipped replayed asked part_staged planned_strikes sent_out injected advanced expired gave_up applied
 spoiled_frame = refl
 
@@ -245,20 +243,20 @@ body_is body b = same_body (unrouted abc_frame.wire) abc_bytes body frame_body b
 head_in : (body : List ℕ) → abc_bytes ≡ body → decode body ≡ Ok (Frame abc)
 head_in body e = subst (λ y. decode y ≡ Ok (Frame abc)) e frame_head
 
-way_frame : IsHonestFrame 0 1 (sent_between on_its_way 0 1) abc (part_in abc_bytes)
+way_frame : IsHonestFrame (sent_on on_its_way) abc (part_in abc_bytes)
 unfolding sends host_try loop_try ask begun closed provided_by sent_by polled_by pass drain clear hear part_try installed to_send packet_for after_sending round_pass round settle lost was_reset repeated held flipped replayed asked part_staged planned_strikes sent_out injected advanced expired gave_up applied
 way_frame = refl
 
 frame_honest : IsHonest on_its_way abc_frame
 frame_honest = record { frames = frames; acks = acks }
   where
-    frames : (h : FrameHead) (body : List ℕ) → abc_frame.marked ≡ false → body_of (unrouted abc_frame.wire) ≡ Ok (Gm, body) → decode body ≡ Ok (Frame h) → IsHonestFrame h.src h.dst (sent_between on_its_way h.src h.dst) h (part_in body)
+    frames : (h : FrameHead) (body : List ℕ) → abc_frame.marked ≡ false → body_of (unrouted abc_frame.wire) ≡ Ok (Gm, body) → decode body ≡ Ok (Frame h) → IsHonestFrame (sent_on on_its_way) h (part_in body)
     frames h body u b d =
         let same : abc_bytes ≡ body = body_is body b in
         let head : abc ≡ h = same_head body abc h (head_in body same) d in
-        subst (λ (x : FrameHead). IsHonestFrame x.src x.dst (sent_between on_its_way x.src x.dst) x (part_in body)) head (subst (λ y. IsHonestFrame 0 1 (sent_between on_its_way 0 1) abc (part_in y)) same way_frame)
+        subst (λ (x : FrameHead). IsHonestFrame (sent_on on_its_way) x (part_in body)) head (subst (λ y. IsHonestFrame (sent_on on_its_way) abc (part_in y)) same way_frame)
 
-    acks : (a : Ack) (body : List ℕ) → abc_frame.marked ≡ false → body_of (unrouted abc_frame.wire) ≡ Ok (Gm, body) → decode body ≡ Ok (Acknowledges a) → IsHonestAck (taken_between on_its_way a.dst a.src) a
+    acks : (a : Ack) (body : List ℕ) → abc_frame.marked ≡ false → body_of (unrouted abc_frame.wire) ≡ Ok (Gm, body) → decode body ≡ Ok (Acknowledges a) → IsHonestAck (taken_on on_its_way) a
     acks a body u b d = absurd (no_ack body abc a (head_in body (body_is body b)) d)
 
 way_limbo : on_its_way.links.limbo ≡ []
@@ -275,7 +273,7 @@ way_is_honest = record {
 }
 
 -- the same frame where nothing was sent
-nothing_sent : frame_of 0 1 (sent_between (new_world two_hosts) 0 1) 0 ≡ None
+nothing_sent : frame_of (connection 0 1 0) (sent_on (new_world two_hosts) (connection 0 1 0)) 0 ≡ None
 nothing_sent = refl
 
 not_there : (o : Option (FrameHead × List ℕ)) (x : FrameHead × List ℕ) → o ≡ None → o ≡ Some x → ⊥
@@ -285,19 +283,14 @@ pub unsent_is_not_honest : ¬ IsHonest (new_world two_hosts) abc_frame
 unsent_is_not_honest t = not_there _ (abc, part_in abc_bytes) nothing_sent (t.frames abc abc_bytes refl frame_body frame_head)
 
 -- settled worlds
-first_numbers : (a b : ℕ) → (sender_between (new_world two_hosts) a b).base ≡ (sender_between (new_world two_hosts) a b).next
-first_numbers zero zero = refl
-first_numbers zero (suc zero) = refl
-first_numbers zero (suc (suc b)) = refl
-first_numbers (suc zero) zero = refl
-first_numbers (suc zero) (suc zero) = refl
-first_numbers (suc zero) (suc (suc b)) = refl
-first_numbers (suc (suc a)) b = refl
+first_numbers : (c : ConnectionKey) → (sender_on (new_world two_hosts) c).base ≡ (sender_on (new_world two_hosts) c).next
+first_numbers c =
+    ap (λ l. l.sender.base) (first_lane c.src (sending_lane c)) ∙ sym (ap (λ l. l.sender.next) (first_lane c.src (sending_lane c)))
 
 pub first_is_settled : IsSettled (new_world two_hosts)
-first_is_settled = record { pairs = λ a b l m. all_acknowledged (first_numbers a b) }
+first_is_settled = record { connections = λ c l m. all_acknowledged (first_numbers c) }
 
-unserved_waits : IsWaiting unserved 0 1
+unserved_waits : IsWaiting unserved (connection 0 1 0)
 unfolding sends host_try loop_try ask begun closed provided_by sent_by polled_by pass drain clear hear part_try installed to_send packet_for after_sending round_pass round settle lost was_reset repeated held flipped replayed asked part_staged planned_strikes sent_out injected advanced expired gave_up applied
 unserved_waits = record { place = 0; message = message (1 ∷ 2 ∷ []); first = refl; there = refl; not_taken = omega arith; no_token = refl }
 
@@ -305,28 +298,41 @@ two : host_count unserved ≡ 2
 unfolding sends host_try loop_try ask begun closed provided_by sent_by polled_by pass drain clear hear part_try installed to_send packet_for after_sending round_pass round settle lost was_reset repeated held flipped replayed asked part_staged planned_strikes sent_out injected advanced expired gave_up applied
 two = refl
 
-pub unserved_is_settled : IsSettled unserved
+-- its sender has nothing else unacknowledged, and its receiver nothing at all
+unserved_others : (lane : ℕ) → (lane ≡ 2 → ⊥) → (lane_at (node_at unserved 0) lane).sender.base ≡ (lane_at (node_at unserved 0) lane).sender.next
 unfolding sends host_try loop_try ask begun closed provided_by sent_by polled_by pass drain clear hear part_try installed to_send packet_for after_sending round_pass round settle lost was_reset repeated held flipped replayed asked part_staged planned_strikes sent_out injected advanced expired gave_up applied
-unserved_is_settled = record { pairs = λ a b l m. by a b (subst (λ n. a < n) two l) (subst (λ n. b < n) two m) }
+unserved_others zero other = refl
+unserved_others (suc zero) other = refl
+unserved_others (suc (suc zero)) other = absurd (other refl)
+unserved_others (suc (suc (suc zero))) other = refl
+unserved_others (suc (suc (suc (suc lane)))) other = refl
+
+unserved_receiver : AllByRecursion (λ (l : LaneState). l.sender.base ≡ l.sender.next) (node_at unserved 1).lanes
+unfolding sends host_try loop_try ask begun closed provided_by sent_by polled_by pass drain clear hear part_try installed to_send packet_for after_sending round_pass round settle lost was_reset repeated held flipped replayed asked part_staged planned_strikes sent_out injected advanced expired gave_up applied
+unserved_receiver = (refl, (refl, (refl, (refl, tt))))
+
+pub unserved_is_settled : IsSettled unserved
+unserved_is_settled = record { connections = λ c l m. by c.src c.dst c.prio (subst (λ n. c.src < n) two l) (subst (λ n. c.dst < n) two m) }
   where
-    by : (a b : ℕ) → a < 2 → b < 2 → IsSettledPair unserved a b
-    by zero zero l m = all_acknowledged refl
-    by zero (suc zero) l m = waiting unserved_waits
-    by (suc zero) zero l m = all_acknowledged refl
-    by (suc zero) (suc zero) l m = all_acknowledged refl
-    by (suc (suc a)) b l m = absurd (omega arith)
-    by a (suc (suc b)) l m = absurd (omega arith)
+    by : (a b prio : ℕ) → a < 2 → b < 2 → IsSettledConnection unserved (connection a b prio)
+    by zero zero prio l m = all_acknowledged (unserved_others (lane_of 0 prio) (λ e. omega (arith, e)))
+    by zero (suc zero) zero l m = waiting unserved_waits
+    by zero (suc zero) (suc prio) l m = all_acknowledged (unserved_others (lane_of 1 (suc prio)) (λ e. omega (arith, e)))
+    by zero (suc (suc b)) prio l m = absurd (omega arith)
+    by (suc zero) b prio l m =
+        all_acknowledged (all-at (λ (l : LaneState). l.sender.base ≡ l.sender.next) (node_at unserved 1).lanes (lane_of b prio) new_lane unserved_receiver refl)
+    by (suc (suc a)) b prio l m = absurd (omega arith)
 
 -- a token fits the message of the frame that is on its way
 way_hosts : host_count on_its_way ≡ 2
 unfolding sends host_try loop_try ask begun closed provided_by sent_by polled_by pass drain clear hear part_try installed to_send packet_for after_sending round_pass round settle lost was_reset repeated held flipped replayed asked part_staged planned_strikes sent_out injected advanced expired gave_up applied
 way_hosts = refl
 
-way_base : (sender_between on_its_way 0 1).base ≡ 0
+way_base : (sender_on on_its_way (connection 0 1 0)).base ≡ 0
 unfolding sends host_try loop_try ask begun closed provided_by sent_by polled_by pass drain clear hear part_try installed to_send packet_for after_sending round_pass round settle lost was_reset repeated held flipped replayed asked part_staged planned_strikes sent_out injected advanced expired gave_up applied
 way_base = refl
 
-way_next : (sender_between on_its_way 0 1).next ≡ 1
+way_next : (sender_on on_its_way (connection 0 1 0)).next ≡ 1
 unfolding sends host_try loop_try ask begun closed provided_by sent_by polled_by pass drain clear hear part_try installed to_send packet_for after_sending round_pass round settle lost was_reset repeated held flipped replayed asked part_staged planned_strikes sent_out injected advanced expired gave_up applied
 way_next = refl
 
@@ -334,7 +340,7 @@ way_table : active_epoch (node_at on_its_way 1).table ≡ Some 1
 unfolding sends host_try loop_try ask begun closed provided_by sent_by polled_by pass drain clear hear part_try installed to_send packet_for after_sending round_pass round settle lost was_reset repeated held flipped replayed asked part_staged planned_strikes sent_out injected advanced expired gave_up applied
 way_table = refl
 
-way_sent : sent_between on_its_way 0 1 ≡ message (codes "ABC") ∷ []
+way_sent : sent_on on_its_way (connection 0 1 0) ≡ message (codes "ABC") ∷ []
 unfolding sends host_try loop_try ask begun closed provided_by sent_by polled_by pass drain clear hear part_try installed to_send packet_for after_sending round_pass round settle lost was_reset repeated held flipped replayed asked part_staged planned_strikes sent_out injected advanced expired gave_up applied
 way_sent = refl
 
@@ -342,7 +348,7 @@ way_fits : port_takes (port_at (node_at on_its_way 1) 1) 3 0 ≡ true
 unfolding sends host_try loop_try ask begun closed provided_by sent_by polled_by pass drain clear hear part_try installed to_send packet_for after_sending round_pass round settle lost was_reset repeated held flipped replayed asked part_staged planned_strikes sent_out injected advanced expired gave_up applied
 way_fits = refl
 
-way_first : whole_below (sent_between on_its_way 0 1) (sender_between on_its_way 0 1).base ≡ 0
+way_first : whole_below (sent_on on_its_way (connection 0 1 0)) (sender_on on_its_way (connection 0 1 0)).base ≡ 0
 unfolding sends host_try loop_try ask begun closed provided_by sent_by polled_by pass drain clear hear part_try installed to_send packet_for after_sending round_pass round settle lost was_reset repeated held flipped replayed asked part_staged planned_strikes sent_out injected advanced expired gave_up applied
 way_first = refl
 
@@ -356,16 +362,16 @@ first_message : (m n : Message) → slice_get (m ∷ []) 0 ≡ Some n → m ≡ 
 first_message m n e = cc
 
 pub way_is_not_settled : ¬ IsSettled on_its_way
-way_is_not_settled s = by (s.pairs 0 1 (subst (λ n. 0 < n) (sym way_hosts) (omega arith)) (subst (λ n. 1 < n) (sym way_hosts) (omega arith)))
+way_is_not_settled s = by (s.connections (connection 0 1 0) (subst (λ n. 0 < n) (sym way_hosts) (omega arith)) (subst (λ n. 1 < n) (sym way_hosts) (omega arith)))
   where
     takes : (m : Message) → message (codes "ABC") ≡ m → port_takes (port_at (node_at on_its_way 1) m.dport) (length m.body) m.prio ≡ false → ⊥
     takes m e f = let z : true ≡ false = sym way_fits ∙ subst (λ (x : Message). port_takes (port_at (node_at on_its_way 1) x.dport) (length x.body) x.prio ≡ false) (sym e) f in cc
 
-    by : IsSettledPair on_its_way 0 1 → ⊥
+    by : IsSettledConnection on_its_way (connection 0 1 0) → ⊥
     by (all_acknowledged e) = zero_one _ _ way_base way_next e
     by (no_table e) = no_epoch _ 1 way_table e
     by (waiting q) =
         let at_first : q.place ≡ 0 = q.first ∙ way_first in
-        let there : slice_get (message (codes "ABC") ∷ []) 0 ≡ Some q.message = subst (λ ms. slice_get ms 0 ≡ Some q.message) way_sent (subst (λ k. slice_get (sent_between on_its_way 0 1) k ≡ Some q.message) at_first q.there) in
+        let there : slice_get (message (codes "ABC") ∷ []) 0 ≡ Some q.message = subst (λ ms. slice_get ms 0 ≡ Some q.message) way_sent (subst (λ k. slice_get (sent_on on_its_way (connection 0 1 0)) k ≡ Some q.message) at_first q.there) in
         let one : message (codes "ABC") ≡ q.message = first_message _ _ there in
         takes q.message one q.no_token

@@ -15,7 +15,7 @@ use Rattle.link_defs.specs.Links.{packet_in}
 use Rattle.world_defs.specs.declared.effect.Effect.{Effect}
 use Rattle.world_defs.specs.declared.effect.Said.{Said}
 use Rattle.world_defs.specs.declared.heard.Heard.{Heard}
-use Rattle.world_defs.specs.Examples.{setup_map, setup_install, received, three_calls, three_plans, three_settled, three_polls, abc_injected, abc_settled, abc_polls, waiting, provided_late, served, served_poll, stepwise, stepwise_settled, stepwise_polls}
+use Rattle.world_defs.specs.Examples.{setup_map, setup_install, received, three_calls, three_plans, three_settled, three_polls, abc_injected, abc_settled, abc_polls, waiting, provided_late, served, served_poll, received_of, two_priorities, priorities_settled, priorities_polls, stepwise, stepwise_settled, stepwise_polls}
 
 pub asks_of_the_map_answers : setup_map.0 ≡ Answer.Switch ∷ replicate 17 Answer.Nothing ++ Answer.Host 1 ∷ replicate 12 Answer.Nothing
 unfolding sends host_try loop_try ask begun closed provided_by sent_by polled_by pass drain clear hear part_try installed to_send packet_for after_sending round_pass round settle lost was_reset repeated held flipped replayed asked part_staged planned_strikes sent_out injected advanced expired gave_up applied
@@ -73,7 +73,7 @@ pub three_messages_drops : three_polls.1.dropped ≡ 59
 unfolding sends host_try loop_try ask begun closed provided_by sent_by polled_by pass drain clear hear part_try installed to_send packet_for after_sending round_pass round settle lost was_reset repeated held flipped replayed asked part_staged planned_strikes sent_out injected advanced expired gave_up applied
 three_messages_drops = refl
 
-pub flipped_route_byte_frame : packet_in abc_injected.links 0 ≡ Some (record { wire = 131 ∷ 0 ∷ 8 ∷ 1 ∷ 1 ∷ 0 ∷ 0 ∷ 0 ∷ 1 ∷ 0 ∷ 1 ∷ 0 ∷ replicate 4 0 ++ 0 ∷ 0 ∷ 0 ∷ 3 ∷ replicate 4 0 ++ 0 ∷ 3 ∷ 65 ∷ 66 ∷ 67 ∷ 131 ∷ []; marked = false })
+pub flipped_route_byte_frame : packet_in abc_injected.links 0 ≡ Some (record { wire = 131 ∷ 0 ∷ 8 ∷ 1 ∷ 2 ∷ 0 ∷ 0 ∷ 0 ∷ 1 ∷ 0 ∷ 1 ∷ 0 ∷ replicate 4 0 ++ 0 ∷ 0 ∷ 0 ∷ 3 ∷ replicate 4 0 ++ 0 ∷ 3 ∷ 65 ∷ 66 ∷ 67 ∷ 146 ∷ []; marked = false })
 unfolding sends host_try loop_try ask begun closed provided_by sent_by polled_by pass drain clear hear part_try installed to_send packet_for after_sending round_pass round settle lost was_reset repeated held flipped replayed asked part_staged planned_strikes sent_out injected advanced expired gave_up applied
 flipped_route_byte_frame = refl
 
@@ -136,6 +136,34 @@ message_waits_for_a_token_injections = refl
 pub message_waits_for_a_token_drops : served_poll.1.dropped ≡ 59
 unfolding sends host_try loop_try ask begun closed provided_by sent_by polled_by pass drain clear hear part_try installed to_send packet_for after_sending round_pass round settle lost was_reset repeated held flipped replayed asked part_staged planned_strikes sent_out injected advanced expired gave_up applied
 message_waits_for_a_token_drops = refl
+
+pub priority_passes_calls : two_priorities.0 ≡ Effect.Said Said.Done ∷ Effect.Said Said.Done ∷ map (λ t. Effect.Said (Said.Token t)) (0 ∷ 0 ∷ 1 ∷ [])
+unfolding sends host_try loop_try ask begun closed provided_by sent_by polled_by pass drain clear hear part_try installed to_send packet_for after_sending round_pass round settle lost was_reset repeated held flipped replayed asked part_staged planned_strikes sent_out injected advanced expired gave_up applied
+priority_passes_calls = refl
+
+pub priority_passes_rounds : priorities_settled.rounds ≡ 2
+unfolding sends host_try loop_try ask begun closed provided_by sent_by polled_by pass drain clear hear part_try installed to_send packet_for after_sending round_pass round settle lost was_reset repeated held flipped replayed asked part_staged planned_strikes sent_out injected advanced expired gave_up applied
+priority_passes_rounds = refl
+
+pub priority_passes_resets : priorities_settled.resets ≡ 0
+unfolding sends host_try loop_try ask begun closed provided_by sent_by polled_by pass drain clear hear part_try installed to_send packet_for after_sending round_pass round settle lost was_reset repeated held flipped replayed asked part_staged planned_strikes sent_out injected advanced expired gave_up applied
+priority_passes_resets = refl
+
+pub priority_passes_waits : unacknowledged_in priorities_settled.world ≡ 1
+unfolding sends host_try loop_try ask begun closed provided_by sent_by polled_by pass drain clear hear part_try installed to_send packet_for after_sending round_pass round settle lost was_reset repeated held flipped replayed asked part_staged planned_strikes sent_out injected advanced expired gave_up applied
+priority_passes_waits = refl
+
+pub priority_passes_polls : priorities_polls.0 ≡ received_of 1 0 (2 ∷ []) ∷ Effect.Said Said.Nothing ∷ []
+unfolding sends host_try loop_try ask begun closed provided_by sent_by polled_by pass drain clear hear part_try installed to_send packet_for after_sending round_pass round settle lost was_reset repeated held flipped replayed asked part_staged planned_strikes sent_out injected advanced expired gave_up applied
+priority_passes_polls = refl
+
+pub priority_passes_injections : priorities_polls.1.injected ≡ 70
+unfolding sends host_try loop_try ask begun closed provided_by sent_by polled_by pass drain clear hear part_try installed to_send packet_for after_sending round_pass round settle lost was_reset repeated held flipped replayed asked part_staged planned_strikes sent_out injected advanced expired gave_up applied
+priority_passes_injections = refl
+
+pub priority_passes_drops : priorities_polls.1.dropped ≡ 59
+unfolding sends host_try loop_try ask begun closed provided_by sent_by polled_by pass drain clear hear part_try installed to_send packet_for after_sending round_pass round settle lost was_reset repeated held flipped replayed asked part_staged planned_strikes sent_out injected advanced expired gave_up applied
+priority_passes_drops = refl
 
 pub step_by_step_effects : stepwise.0 ≡ Effect.Injected 65 ∷ Effect.Moved 3 ∷ Effect.Injected 66 ∷ Effect.Idle ∷ Effect.Blocked 3 ∷ Effect.Arrived 1 Heard.Message ∷ Effect.Moved 3 ∷ Effect.Lost ∷ []
 unfolding sends host_try loop_try ask begun closed provided_by sent_by polled_by pass drain clear hear part_try installed to_send packet_for after_sending round_pass round settle lost was_reset repeated held flipped replayed asked part_staged planned_strikes sent_out injected advanced expired gave_up applied

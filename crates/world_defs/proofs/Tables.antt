@@ -8,7 +8,7 @@ use Rattle.gm_defs.specs.Port.{finished}
 use Rattle.world_defs.specs.declared.applied.Applied.{Applied}
 use Rattle.world_defs.specs.declared.applied.Applied.TheVariants.{Part as OnePart, Active, Old}
 use Rattle.world_defs.specs.Table.{TableState}
-use Rattle.world_defs.specs.Peer.{Ticket}
+use Rattle.world_defs.specs.Lane.{Ticket}
 use Rattle.world_defs.specs.Node.{NodeState, Outgoing, Probe, TablePart, Reply, PartAnswer, FrameAnswer, Fragment, port_at, with_port, after_sending}
 use Rattle.world_defs.specs.Hearing.{part_heard, delivered_after, all_finished}
 use Rattle.world_defs.specs.Client.{ClientState, Called}

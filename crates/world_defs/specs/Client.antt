@@ -15,8 +15,8 @@ use Rattle.world_defs.specs.declared.effect.Said.{Said}
 use Rattle.world_defs.specs.declared.effect.Said.TheVariants.{Done, Count, Token, Sent as SaidSent}
 use Rattle.world_defs.specs.declared.effect.Said.TheVariants.{Received as SaidReceived, Nothing, Refused}
 use Rattle.world_defs.specs.Table.{table_route}
-use Rattle.world_defs.specs.Peer.{with_message}
-use Rattle.world_defs.specs.Node.{NodeState, peer_at, with_peer, port_at, with_port}
+use Rattle.world_defs.specs.Lane.{with_message}
+use Rattle.world_defs.specs.Node.{NodeState, lane_of, lane_at, with_lane, port_at, with_port}
 
 -- The tokens that the client of an open port holds, those held longest first.
 pub record ClientState : Type 0 where
@@ -111,10 +111,14 @@ pub record Wanted : Type 0 where
 abbrev pub wanted_message : Wanted → Message
 wanted_message s = record { sport = s.port; dport = s.dport; prio = s.prio; body = client_bytes s.len s.seed }
 
+-- the lane of the message that a client wants to send
+abbrev pub wanted_lane : Wanted → ℕ
+wanted_lane s = lane_of s.dest s.prio
+
 -- an accepted message: its bytes are the buffer of its token
 abbrev pub send_accepted : NodeState → Wanted → PortState → ClientState → ℕ → List ℕ → Called
 send_accepted n s p c t ts =
-    left (with_peer n s.dest (with_message (peer_at n s.dest) (wanted_message s)
+    left (with_lane n (wanted_lane s) (with_message (lane_at n (wanted_lane s)) (wanted_message s)
     (record { port = s.port; token = t }))) s.port
     (Some (sent_with p t (client_bytes s.len s.seed))) (Some (record c { sends = ts })) (Token t)
 
@@ -123,7 +127,7 @@ abbrev pub send_refusal : NodeState → Wanted → Option ClientCause
 send_refusal n s =
     if is_too_long s.len then Some TooLong
     else if is_none (table_route n.table s.dest) then Some NoRoute
-    else if is_spent (peer_at n s.dest).sender (piece_count s.len) then Some Spent
+    else if is_spent (lane_at n (wanted_lane s)).sender (piece_count s.len) then Some Spent
     else None
 
 -- a message is accepted where nothing refuses it

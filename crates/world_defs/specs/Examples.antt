@@ -16,8 +16,8 @@ use Rattle.world_defs.specs.declared.effect.Said.TheVariants.{Received}
 use Rattle.world_defs.specs.declared.fault.Fault.{Fault}
 use Rattle.world_defs.specs.declared.fault.Fault.TheVariants.{Lose, Repeat, Hold, Flip}
 use Rattle.world_defs.specs.Table.{Adoption}
-use Rattle.world_defs.specs.Peer.{new_peer}
-use Rattle.world_defs.specs.Node.{with_peer}
+use Rattle.world_defs.specs.Lane.{new_lane}
+use Rattle.world_defs.specs.Node.{lane_of, with_lane}
 use Rattle.world_defs.specs.World.{WorldState, new_world, node_at, with_node, adopted_by, planned}
 use Rattle.world_defs.specs.Step.{step, steps, after_all}
 use Rattle.world_defs.specs.Asking.{Asked, ask}
@@ -70,9 +70,13 @@ opened sends recvs rest = Begin 0 0 sends 0 ∷ Begin 1 1 0 recvs ∷ rest
 abbrev pub provide : ℕ → Event
 provide prio = Provide 1 1 4 prio
 
--- a message from port 0 of host 0 to port 1 of host 1
+-- a message of a priority from port 0 of host 0 to port 1 of host 1
+abbrev pub send_of : ℕ → ℕ → ℕ → Event
+send_of prio len seed = Send 0 0 1 1 prio len seed
+
+-- a message of priority 0
 abbrev pub send : ℕ → ℕ → Event
-send len seed = Send 0 0 1 1 0 len seed
+send len seed = send_of 0 len seed
 
 -- host 1 takes an event of its port
 abbrev pub poll_receiver : Event
@@ -90,9 +94,13 @@ planned_all w (f ∷ fs) = (
   (planned_all (planned w f.0 f.1).1 fs).1,
 )
 
--- a message of these bytes came into the buffer of a token
+-- a message of a priority and of these bytes came into the buffer of a token
+abbrev pub received_of : ℕ → ℕ → List ℕ → Effect
+received_of prio token body = Said (Received token 0 0 prio body)
+
+-- a message of priority 0
 abbrev pub received : ℕ → List ℕ → Effect
-received token body = Said (Received token 0 0 0 body)
+received token body = received_of 0 token body
 
 -- three messages; the first frame is copied, the second is lost, the fourth packet is held
 abbrev pub three_calls : List Effect × WorldState
@@ -142,6 +150,18 @@ served = settle provided_late.1
 abbrev pub served_poll : List Effect × WorldState
 served_poll = steps served.world (poll_receiver ∷ [])
 
+-- a message of each priority, and a token for that of priority 1 alone
+abbrev pub two_priorities : List Effect × WorldState
+two_priorities = steps setup (opened 2 1 (provide 1 ∷ send_of 0 1 1 ∷ send_of 1 1 2 ∷ []))
+
+-- their settle
+abbrev pub priorities_settled : Rounds
+priorities_settled = settle two_priorities.1
+
+-- host 1 takes the one that came
+abbrev pub priorities_polls : List Effect × WorldState
+priorities_polls = steps priorities_settled.world (poll_receiver ∷ poll_receiver ∷ [])
+
 -- two messages, step by step: the channels of host 0 are 0 and 1, and 3 leads from the switch to host 1
 abbrev pub stepwise : List Effect × WorldState
 stepwise =
@@ -166,7 +186,7 @@ on_its_way = after_all ready (opened 1 1 (provide 0 ∷ send 3 65 ∷ Inject 0 �
 
 -- that frame: a route byte, the type, the body, and the CRC byte
 abbrev pub abc_frame : Held
-abc_frame = record { wire = 131 ∷ 0 ∷ 8 ∷ frame_bytes abc (codes "ABC") ++ 131 ∷ []; marked = false }
+abc_frame = record { wire = 131 ∷ 0 ∷ 8 ∷ frame_bytes abc (codes "ABC") ++ 146 ∷ []; marked = false }
 
 -- the frame has gone on to the second channel of its route
 abbrev pub further_on : WorldState
@@ -174,7 +194,7 @@ further_on = (step on_its_way (Advance 0)).1
 
 -- the frame there, without its route byte
 abbrev pub abc_further_on : Held
-abc_further_on = record { wire = 0 ∷ 8 ∷ frame_bytes abc (codes "ABC") ++ 23 ∷ []; marked = false }
+abc_further_on = record { wire = 0 ∷ 8 ∷ frame_bytes abc (codes "ABC") ++ 6 ∷ []; marked = false }
 
 -- the frame was flipped in its route byte and in its type
 abbrev pub spoiled : WorldState
@@ -182,7 +202,8 @@ spoiled = (step on_its_way (FlipEvent 0 6 193)).1
 
 -- host 1 has put an empty message into its port, which host 0 didn't send
 abbrev pub forged : WorldState
-forged = with_node on_its_way 1 (with_peer (node_at on_its_way 1) 0 (record new_peer { got = message [] ∷ [] }))
+forged = with_node on_its_way 1 (with_lane (node_at on_its_way 1) (lane_of 0 0)
+    (record new_lane { got = message [] ∷ [] }))
 
 -- a message waits for a token that fits, behind a settle
 abbrev pub unserved : WorldState

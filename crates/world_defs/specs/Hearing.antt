@@ -18,7 +18,7 @@ use Rattle.gm_defs.specs.declared.token.Took.TheVariants.{NotNext as TookNotNext
 use Rattle.gm_defs.specs.Body.{decode, part_in}
 use Rattle.mapping_defs.specs.Mapping.{RoutePart, MappingBody, decode_mapping}
 use Rattle.mapping_defs.specs.Mapping.MappingBody.{HostProbe, HostReply, Loopback, Part, PartAck}
-use Rattle.gm_defs.specs.Connection.{took}
+use Rattle.gm_defs.specs.Connection.{key_of, took}
 use Rattle.gm_defs.specs.Token.{PortState, can_take}
 use Rattle.gm_defs.specs.Port.{delivered, finished}
 use Rattle.world_defs.specs.declared.applied.Applied.{Applied}
@@ -30,8 +30,8 @@ use Rattle.world_defs.specs.declared.heard.Heard.TheVariants.{Ack as AckHeard}
 use Rattle.world_defs.specs.declared.arrival.Arrival.{Arrival}
 use Rattle.world_defs.specs.declared.arrival.Arrival.TheVariants.{Heard as Hears, Dropped, NotMine}
 use Rattle.world_defs.specs.Table.{TableState, applied}
-use Rattle.world_defs.specs.Peer.{Ticket, peer_acknowledged, tickets_finished, peer_after}
-use Rattle.world_defs.specs.Node.{NodeState, peer_at, with_peer, port_at, with_port}
+use Rattle.world_defs.specs.Lane.{Ticket, lane_acknowledged, tickets_finished, lane_after}
+use Rattle.world_defs.specs.Node.{NodeState, sending_lane, taking_lane, lane_at, with_lane, port_at, with_port}
 
 -- the address of one of so many hosts
 abbrev pub is_host : ℕ → ℕ → Bool
@@ -94,25 +94,36 @@ delivered_after n h part TookNotNext = n
 delivered_after n h part TookNoToken = n
 delivered_after n h part Whole = with_port n h.dport (option_map (λ p. delivered p h part) (port_at n h.dport))
 
--- what a host hears of a frame, and the host once its connection and its port took it
-abbrev pub frame_heard : NodeState → FrameHead → List ℕ → Took → Heard × NodeState
-frame_heard n h part t =
-    (took_word t, delivered_after (with_peer n h.src (peer_after (peer_at n h.src) t (message_of h part))) h part t)
+-- the lane of a frame's connection at the host that takes it
+abbrev pub frame_lane : FrameHead → ℕ
+frame_lane h = taking_lane (key_of (Frame h))
 
--- what is made of a frame: its number must be the next, and a token must fit its message
+-- the lane of an acknowledgement's connection at the host that sent the fragments
+abbrev pub ack_lane : Ack → ℕ
+ack_lane a = sending_lane (key_of (Acknowledges a))
+
+-- what a host hears of a frame, and the host once its lane and its port took it
+abbrev pub frame_heard : NodeState → FrameHead → List ℕ → Took → Heard × NodeState
+frame_heard n h part t = (
+  took_word t,
+  delivered_after (with_lane n (frame_lane h)
+      (lane_after (lane_at n (frame_lane h)) t (message_of h part))) h part t,
+)
+
+-- what is made of a frame: its number must be the next of its lane, and a token must fit its message
 abbrev pub frame_took : NodeState → FrameHead → Took
-frame_took n h = took (peer_at n h.src).taken h.seq (port_takes (port_at n h.dport) h.total h.prio)
+frame_took n h = took (lane_at n (frame_lane h)).taken h.seq (port_takes (port_at n h.dport) h.total h.prio)
 
 -- the sends of tickets are finished at their ports
 abbrev pub all_finished : NodeState → List Ticket → NodeState
 all_finished n [] = n
 all_finished n (t ∷ ts) = all_finished (with_port n t.port (option_map (λ p. finished p t.token) (port_at n t.port))) ts
 
--- an acknowledgement finishes sends
+-- an acknowledgement finishes sends of its lane
 abbrev pub ack_heard : NodeState → Ack → NodeState
 ack_heard n a =
-    all_finished (with_peer n a.src (peer_acknowledged (peer_at n a.src) a.next))
-    (tickets_finished (peer_at n a.src) a.next)
+    all_finished (with_lane n (ack_lane a) (lane_acknowledged (lane_at n (ack_lane a)) a.next))
+    (tickets_finished (lane_at n (ack_lane a)) a.next)
 
 -- What a host makes of a frame or of an acknowledgement, which must name it and a host that sent it.
 abbrev pub hear_gm : ℕ → ℕ → NodeState → List ℕ → GmBody → Arrival × NodeState

@@ -5,8 +5,8 @@ pub mod EightBits
 pub mod Examples
 pub mod Hearing
 pub mod Install
+pub mod Lane
 pub mod Node
-pub mod Peer
 pub mod Settle
 pub mod Settled
 pub mod Sound

@@ -5,7 +5,7 @@ use Rattle.std.specs.List.{list_any, list_all, filter}
 use Rattle.world_defs.specs.declared.event.Event.{Event}
 use Rattle.world_defs.specs.declared.event.Event.TheVariants.{Inject, Replay, Expire, GiveUp}
 use Rattle.world_defs.specs.declared.effect.Effect.{Effect}
-use Rattle.world_defs.specs.Node.{to_send, peer_at, unacknowledged_to}
+use Rattle.world_defs.specs.Node.{to_send, lane_of, lane_at, unacknowledged_to}
 use Rattle.world_defs.specs.World.{WorldState, node_at, addresses, last_count, sum_of}
 use Rattle.world_defs.specs.Step.{steps, after_all}
 use Rattle.world_defs.specs.Drain.{changes, clear}
@@ -18,7 +18,7 @@ unacknowledged_from w h = sum_of (map (unacknowledged_to (node_at w h)) (address
 abbrev pub unacknowledged_in : WorldState → ℕ
 unacknowledged_in w = sum_of (map (unacknowledged_from w) (addresses w))
 
--- an expiry for each peer to which something isn't acknowledged
+-- an expiry for each peer to which something isn't acknowledged, of either priority
 abbrev pub expiries_of : WorldState → ℕ → List Event
 expiries_of w h = map (Expire h) (filter (λ p. nat_lt 0 (unacknowledged_to (node_at w h) p)) (addresses w))
 
@@ -27,7 +27,7 @@ abbrev pub expiries_of_all : WorldState → List ℕ → List Event
 expiries_of_all w [] = []
 expiries_of_all w (h ∷ hs) = expiries_of w h ++ expiries_of_all w hs
 
--- the expiries of all connections, by host and then by peer
+-- the expiries of each two hosts, by host and then by peer
 abbrev pub expiries : WorldState → List Event
 expiries w = expiries_of_all w (addresses w)
 
@@ -94,14 +94,18 @@ pass_bound w = 2 * (last_count - w.injected) + length w.links.limbo + 1
 unfoldable pub round : WorldState → Stretch
 round w = round_passes (pass_bound w) (after_all w (expiries w))
 
--- the first number that isn't acknowledged
-abbrev pub base_of : WorldState → ℕ → ℕ → ℕ
-base_of w h peer = (peer_at (node_at w h) peer).sender.base
+-- the first number that isn't acknowledged, from a host to a peer, of a priority
+abbrev pub base_of : WorldState → ℕ → ℕ → ℕ → ℕ
+base_of w h peer prio = (lane_at (node_at w h) (lane_of peer prio)).sender.base
+
+-- a base from a host to a peer rose, of either priority
+abbrev pub rose_to : WorldState → WorldState → ℕ → ℕ → Bool
+rose_to before w h peer = nat_lt (base_of before h peer 0) (base_of w h peer 0) || nat_lt (base_of before h peer 1)
+    (base_of w h peer 1)
 
 -- some connection's base rose
 abbrev pub base_rose : WorldState → WorldState → Bool
-base_rose before w = list_any (λ h. list_any (λ p. nat_lt (base_of before h p) (base_of w h p)) (addresses w))
-    (addresses w)
+base_rose before w = list_any (λ h. list_any (rose_to before w h) (addresses w)) (addresses w)
 
 -- a round helped: a base rose, or a planned fault struck
 abbrev pub has_helped : WorldState → WorldState → Bool

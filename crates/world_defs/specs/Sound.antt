@@ -1,17 +1,18 @@
--- What holds at every moment of a run: no cycle among the installed routes, each receiver's messages a front part of
--- those sent, one owner for each token.
+-- What holds at every moment of a run: no cycle among the installed routes, the messages got on each connection a
+-- front part of those sent, one owner for each token.
 use Rattle.std.specs.Prelude.{◌≡◌, ℕ, ◌<◌, List, [], ◌∷◌, ◌++◌, map, length, Option, Some, None}
 use Rattle.std.specs.List.{AllByRecursion}
 use Rattle.net_defs.specs.Network.{Apart}
 use Rattle.net_defs.specs.Route.{channels_of}
 use Rattle.mapping_defs.specs.Mapping.{RouteEntry}
+use Rattle.gm_defs.specs.declared.frame.ConnectionKey.{ConnectionKey}
 use Rattle.gm_defs.specs.Token.{PortState, sends_out, recvs_out}
 use Rattle.net_defs.specs.Dependencies.{IsBefore, HasNoCycle}
 use Rattle.world_defs.specs.Table.{ActiveTable}
 use Rattle.world_defs.specs.Node.{port_at}
 use Rattle.world_defs.specs.Client.{ClientState}
 use Rattle.world_defs.specs.World.{WorldState, fabric_of, node_at, client_at, addresses}
-use Rattle.world_defs.specs.Traffic.{sent_between, got_between}
+use Rattle.world_defs.specs.Traffic.{sent_on, got_on}
 
 -- the routes of an active table; none without one
 abbrev pub entries_in : Option ActiveTable → List RouteEntry
@@ -57,5 +58,5 @@ AreOwned _ _ = ⊥
 -- A moment is sound.
 pub record IsSound (w : WorldState) : Type 0 where
   pub no_cycle : HasNoCycle (IsBefore (installed_channels w))
-  pub in_order : (a b : ℕ) → IsFront (got_between w a b) (sent_between w a b)
+  pub in_order : (c : ConnectionKey) → IsFront (got_on w c) (sent_on w c)
   pub one_owner : (h port : ℕ) → AreOwned (port_at (node_at w h) port) (client_at w h port)

@@ -196,7 +196,7 @@ advanced_by w (Empty, l) = (Idle, w)
 unfoldable pub advanced : WorldState → ℕ → Effect × WorldState
 advanced w c = advanced_by w (advance w.links c)
 
--- a sender's time is up, where something isn't acknowledged
+-- the time of a host's senders to a peer is up, where something isn't acknowledged, of either priority
 unfoldable pub expired : WorldState → ℕ → ℕ → Effect × WorldState
 expired w h peer =
     if nat_lt 0 (unacknowledged_to (node_at w h) peer) then (Expired, with_node w h (node_expired (node_at w h) peer))

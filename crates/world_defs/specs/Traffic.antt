@@ -12,11 +12,13 @@ use Rattle.link_defs.specs.Links.{Held, Caught, packet_in}
 use Rattle.gm_defs.specs.declared.message.Message.{Message}
 use Rattle.gm_defs.specs.declared.frame.FrameHead.{FrameHead}
 use Rattle.gm_defs.specs.declared.frame.Ack.{Ack}
+use Rattle.gm_defs.specs.declared.frame.ConnectionKey.{ConnectionKey}
 use Rattle.gm_defs.specs.declared.frame.GmBody.TheVariants.{Frame, Ack as Acknowledges}
 use Rattle.gm_defs.specs.Body.{decode, part_in}
 use Rattle.gm_defs.specs.Fragment.{IsHonestFrame, IsHonestAck}
 use Rattle.world_defs.specs.Table.{Adoption}
-use Rattle.world_defs.specs.Node.{peer_at}
+use Rattle.gm_defs.specs.Connection.{SenderState}
+use Rattle.world_defs.specs.Node.{sending_lane, taking_lane, lane_at}
 use Rattle.world_defs.specs.World.{WorldState, fabric_of, node_at}
 
 -- the routes of an adopted set; none where nothing is adopted
@@ -55,17 +57,21 @@ pub record IsLawful (w : WorldState) (c : ℕ) (held : Held) : Type 0 where
 pub record IsLawfulTraffic (w : WorldState) : Type 0 where
   pub packets : (c : ℕ) (held : Held) → packet_in w.links c ≡ Some held → IsLawful w c held
 
--- what a host's ports accepted for another host, in order
-abbrev pub sent_between : WorldState → ℕ → ℕ → List Message
-sent_between w a b = (peer_at (node_at w a) b).sent
+-- the numbers of a connection's sender
+abbrev pub sender_on : WorldState → ConnectionKey → SenderState
+sender_on w c = (lane_at (node_at w c.src) (sending_lane c)).sender
 
--- what a host put into its ports' queues from another host, in order
-abbrev pub got_between : WorldState → ℕ → ℕ → List Message
-got_between w a b = (peer_at (node_at w b) a).got
+-- what the ports of a connection's sending host accepted for it, in order
+abbrev pub sent_on : WorldState → ConnectionKey → List Message
+sent_on w c = (lane_at (node_at w c.src) (sending_lane c)).sent
 
--- how many fragments a host has taken from another
-abbrev pub taken_between : WorldState → ℕ → ℕ → ℕ
-taken_between w a b = (peer_at (node_at w b) a).taken
+-- what a connection's taking host put into its ports' queues, in order
+abbrev pub got_on : WorldState → ConnectionKey → List Message
+got_on w c = (lane_at (node_at w c.dst) (taking_lane c)).got
+
+-- how many fragments were taken from a connection
+abbrev pub taken_on : WorldState → ConnectionKey → ℕ
+taken_on w c = (lane_at (node_at w c.dst) (taking_lane c)).taken
 
 -- a packet's head without the route bytes in front
 abbrev pub unrouted : List ℕ → List ℕ
@@ -75,9 +81,9 @@ unrouted wire = drop (prefix_len is_route_byte (head wire)) (head wire)
 -- more than was taken, or neither; a flip may have made anything of it.
 pub record IsHonest (w : WorldState) (held : Held) : Type 0 where
   pub frames : (h : FrameHead) (body : List ℕ) → held.marked ≡ false → body_of (unrouted held.wire) ≡ Ok (Gm, body)
-      → decode body ≡ Ok (Frame h) → IsHonestFrame h.src h.dst (sent_between w h.src h.dst) h (part_in body)
+      → decode body ≡ Ok (Frame h) → IsHonestFrame (sent_on w) h (part_in body)
   pub acks : (a : Ack) (body : List ℕ) → held.marked ≡ false → body_of (unrouted held.wire) ≡ Ok (Gm, body)
-      → decode body ≡ Ok (Acknowledges a) → IsHonestAck (taken_between w a.dst a.src) a
+      → decode body ≡ Ok (Acknowledges a) → IsHonestAck (taken_on w) a
 
 -- every packet in a channel or in limbo is honest
 pub record IsHonestTraffic (w : WorldState) : Type 0 where

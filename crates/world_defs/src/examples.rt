@@ -8,6 +8,7 @@ ghost use Rattle.link_defs.specs.Links.{packet_in, is_idle};
 ghost use Rattle.world_defs.specs.declared.effect.Effect.{Effect};
 ghost use Rattle.world_defs.specs.declared.effect.Said.{Said};
 ghost use Rattle.net_defs.specs.Examples.{two_hosts};
+ghost use Rattle.world_defs.specs.Node.{lane_of, peer_of, prio_of};
 ghost use Rattle.world_defs.specs.World.{new_world, planned};
 ghost use Rattle.world_defs.specs.declared.fault.Fault.{Fault};
 ghost use Rattle.world_defs.specs.declared.heard.Heard.{Heard};
@@ -18,7 +19,8 @@ ghost use Rattle.world_defs.specs.Settled.{IsSettled};
 ghost use Rattle.world_defs.specs.Examples.{on_its_way, abc_frame, further_on, abc_further_on, spoiled, forged};
 ghost use Rattle.world_defs.specs.Examples.{unserved, setup_map, setup_install, received, three_calls, three_plans};
 ghost use Rattle.world_defs.specs.Examples.{three_settled, three_polls, abc_injected, abc_settled, abc_polls, waiting};
-ghost use Rattle.world_defs.specs.Examples.{provided_late, served, served_poll, stepwise, stepwise_settled};
+ghost use Rattle.world_defs.specs.Examples.{provided_late, served, served_poll, received_of, two_priorities};
+ghost use Rattle.world_defs.specs.Examples.{priorities_settled, priorities_polls, stepwise, stepwise_settled};
 ghost use Rattle.world_defs.specs.Examples.{stepwise_polls};
 
 /// A mapper asks 31 walks over the two hosts at one switch: 62 packets, of which three aren't dropped.
@@ -58,8 +60,8 @@ pub fn three_messages()
 pub fn flipped_route_byte()
     ensures frame { packet_in abc_injected.links 0
         ≡ Some (record {
-          wire = 131 ∷ 0 ∷ 8 ∷ 1 ∷ 1 ∷ 0 ∷ 0 ∷ 0 ∷ 1 ∷ 0 ∷ 1 ∷ 0 ∷ replicate 4 0
-              ++ 0 ∷ 0 ∷ 0 ∷ 3 ∷ replicate 4 0 ++ 0 ∷ 3 ∷ 65 ∷ 66 ∷ 67 ∷ 131 ∷ [];
+          wire = 131 ∷ 0 ∷ 8 ∷ 1 ∷ 2 ∷ 0 ∷ 0 ∷ 0 ∷ 1 ∷ 0 ∷ 1 ∷ 0 ∷ replicate 4 0
+              ++ 0 ∷ 0 ∷ 0 ∷ 3 ∷ replicate 4 0 ++ 0 ∷ 3 ∷ 65 ∷ 66 ∷ 67 ∷ 146 ∷ [];
           marked = false;
         }) }
     ensures rounds { abc_settled.rounds ≡ 2 }
@@ -82,6 +84,30 @@ pub fn message_waits_for_a_token()
     ensures message { served_poll.0 ≡ received 1 (1 ∷ 2 ∷ []) ∷ [] }
     ensures injections { served_poll.1.injected ≡ 68 }
     ensures drops { served_poll.1.dropped ≡ 59 }
+{}
+
+/// Lanes stand by the peers' addresses, and for one peer by priority; each is that of its peer and its priority.
+pub fn lanes_of_peers()
+    ensures first { lane_of 0 0 ≡ 0 }
+    ensures urgent { lane_of 0 1 ≡ 1 }
+    ensures next_peer { lane_of 1 0 ≡ 2 }
+    ensures peer { peer_of 7 ≡ 3 }
+    ensures priority { prio_of 7 ≡ 1 }
+    ensures lane { (lane : ℕ) → lane_of (peer_of lane) (prio_of lane) ≡ lane }
+    ensures one_peer { (peer prio : ℕ) → peer_of (lane_of peer prio) ≡ peer }
+{}
+
+/// Of two messages the one of priority 0 waits for a token, and that of priority 1 passes it.
+#[tactic(auto, using(crate::proofs::Rows::priority_passes_calls, crate::proofs::Rows::priority_passes_rounds, crate::proofs::Rows::priority_passes_resets, crate::proofs::Rows::priority_passes_waits, crate::proofs::Rows::priority_passes_polls, crate::proofs::Rows::priority_passes_injections, crate::proofs::Rows::priority_passes_drops))]
+pub fn priority_passes()
+    ensures calls { two_priorities.0 ≡ Effect.Said Said.Done ∷ Effect.Said Said.Done
+        ∷ map (λ t. Effect.Said (Said.Token t)) (0 ∷ 0 ∷ 1 ∷ []) }
+    ensures rounds { priorities_settled.rounds ≡ 2 }
+    ensures resets { priorities_settled.resets ≡ 0 }
+    ensures waits { unacknowledged_in priorities_settled.world ≡ 1 }
+    ensures polls { priorities_polls.0 ≡ received_of 1 0 (2 ∷ []) ∷ Effect.Said Said.Nothing ∷ [] }
+    ensures injections { priorities_polls.1.injected ≡ 70 }
+    ensures drops { priorities_polls.1.dropped ≡ 59 }
 {}
 
 /// Two frames step by step: a host's channel that is full takes no packet, a packet waits for another, and a lost one

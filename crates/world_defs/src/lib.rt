@@ -5,7 +5,7 @@
 //!
 //! | file of `specs/` | says |
 //! |---|---|
-//! | `World`, `Node`, `Peer`, `Table` | the state: of all, of a host, of its connections with a peer, of its routes |
+//! | `World`, `Node`, `Lane`, `Table` | the state: of all, of a host, of its connections with a peer of one priority, of its routes |
 //! | `Client` | the tokens that a client holds, and its calls |
 //! | `Hearing` | what a host makes of a packet that reaches it |
 //! | `Step` | one event: its effect, and the world after it |
@@ -17,7 +17,7 @@
 //!   host a                                      host b
 //!   +---------------------------+               +---------------------------+
 //!   | staged  reply  part_ack   |   channels    | staged  reply  part_ack   |
-//!   | table   peers  ports 0..7 |==============>| table   peers  ports 0..7 |
+//!   | table   lanes  ports 0..7 |==============>| table   lanes  ports 0..7 |
 //!   | clients' tokens           |<==============| clients' tokens           |
 //!   +---------------------------+     limbo     +---------------------------+
 //! ```
@@ -38,9 +38,9 @@ pub use client::ClientCause;
 pub use effect::{Cause, Effect, Said};
 pub use event::Event;
 pub use examples::{
-    asks_of_the_map, flipped_route_byte, installation, message_waits_for_a_token,
-    plans_for_one_injection, settled_worlds, soundness_of_moments, step_by_step, three_messages,
-    traffic_of_one_frame,
+    asks_of_the_map, flipped_route_byte, installation, lanes_of_peers, message_waits_for_a_token,
+    plans_for_one_injection, priority_passes, settled_worlds, soundness_of_moments, step_by_step,
+    three_messages, traffic_of_one_frame,
 };
 pub use fault::Fault;
 pub use heard::Heard;

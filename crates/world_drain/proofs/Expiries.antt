@@ -6,8 +6,8 @@ use Rattle.world_defs.specs.declared.event.Event.TheVariants.{Expire}
 use Rattle.world_defs.specs.declared.effect.Effect.{Effect}
 use Rattle.world_defs.specs.declared.effect.Effect.TheVariants.{Idle, Expired}
 use Rattle.gm_defs.specs.Connection.{unacknowledged}
-use Rattle.world_defs.specs.Peer.{new_peer, peer_expired}
-use Rattle.world_defs.specs.Node.{NodeState, new_node, peer_at, node_expired, unacknowledged_to}
+use Rattle.world_defs.specs.Lane.{new_lane, lane_expired}
+use Rattle.world_defs.specs.Node.{NodeState, new_node, lane_of, lane_at, with_expired, node_expired, unacknowledged_on, unacknowledged_to}
 use Rattle.world_defs.specs.World.{WorldState, host_count, node_at, with_node, addresses}
 use Rattle.world_defs.specs.Step.{expired, step, after_all}
 use Rattle.world_defs.specs.Settle.{expiries_of, expiries_of_all, expiries}
@@ -21,8 +21,16 @@ use Rattle.world_drain.proofs.Later.{later-same, later-both, later-step}
 abbrev pub HasSameLeft : WorldState → WorldState → Type 0
 HasSameLeft w v = (h p : ℕ) → unacknowledged_to (node_at v h) p ≡ unacknowledged_to (node_at w h) p
 
+lane-left : (n : NodeState) (lane k : ℕ) → unacknowledged_on (with_expired n lane) k ≡ unacknowledged_on n k
+lane-left n lane k = at-set (λ a b. unacknowledged b.sender ≡ unacknowledged a.sender) (λ a. refl) n.lanes lane k (lane_expired (lane_at n lane)) new_lane refl
+
 node-left : (n : NodeState) (p q : ℕ) → unacknowledged_to (node_expired n p) q ≡ unacknowledged_to n q
-node-left n p q = at-set (λ a b. unacknowledged b.sender ≡ unacknowledged a.sender) (λ a. refl) n.peers p q (peer_expired (peer_at n p)) new_peer refl
+node-left n p q =
+    let m : NodeState = with_expired n (lane_of p 0) in
+    let left : (k : ℕ) → unacknowledged_on (node_expired n p) k ≡ unacknowledged_on n k = λ k. lane-left m (lane_of p 1) k ∙ lane-left n (lane_of p 0) k in
+    let a = left (lane_of q 0) in
+    let b = left (lane_of q 1) in
+    omega (arith, a, b)
 
 nodes-left : (w : WorldState) (h p : ℕ) → HasSameLeft w (with_node w h (node_expired (node_at w h) p))
 nodes-left w h p = λ a b.

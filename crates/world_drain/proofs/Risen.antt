@@ -2,9 +2,9 @@
 use Rattle.std.proofs.Common.{◌≡◌, ◌≤◌, ℕ, Bool, true, false, not, ◌||◌, List, [], ◌∷◌, map, nat_eq, nat_lt, sym, ◌∙◌, ap, refl, arith, true≢false}
 use Rattle.std.specs.List.{list_any}
 use Rattle.std.proofs.lemmas.Bool.Decides.{nat_tests}
-use Rattle.world_defs.specs.Node.{unacknowledged_to}
+use Rattle.world_defs.specs.Node.{lane_of, unacknowledged_on, unacknowledged_to}
 use Rattle.world_defs.specs.World.{WorldState, node_at, addresses, sum_of}
-use Rattle.world_defs.specs.Settle.{unacknowledged_from, unacknowledged_in, base_of, base_rose, is_last_round}
+use Rattle.world_defs.specs.Settle.{unacknowledged_from, unacknowledged_in, base_of, rose_to, base_rose, is_last_round}
 use Rattle.world_laws.specs.Shape.{HasSenders}
 use Rattle.world_laws.proofs.Rounds.{Going, going_senders, fragments-addresses, fragments-less}
 
@@ -17,13 +17,24 @@ sum-same f g t (n ∷ ns) all e = by (t n) refl e (sum-same f g t ns all)
     by true u d ih = absurd (true≢false d)
     by false u d ih = let a = all n u in let c = ih d in omega (arith, a, c)
 
--- one pair
-one_same : (w v : WorldState) → Going w v → (h p : ℕ) → nat_lt (base_of w h p) (base_of v h p) ≡ false → unacknowledged_to (node_at w h) p ≤ unacknowledged_to (node_at v h) p
-one_same w v k h p e =
-    let s = (k.nodes.each h).senders p in
+-- one lane, and one pair
+lane_same : (w v : WorldState) → Going w v → (h p prio : ℕ) → nat_lt (base_of w h p prio) (base_of v h p prio) ≡ false → unacknowledged_on (node_at w h) (lane_of p prio) ≤ unacknowledged_on (node_at v h) (lane_of p prio)
+lane_same w v k h p prio e =
+    let s = (k.nodes.each h).senders (lane_of p prio) in
     let b = s.next in
-    let high : base_of v h p ≤ base_of w h p = grind (arith, nat_tests) in
+    let high : base_of v h p prio ≤ base_of w h p prio = grind (arith, nat_tests) in
     omega (arith, b, high)
+
+neither : (x y : Bool) → (x || y) ≡ false → (x ≡ false) × (y ≡ false)
+neither true y e = absurd (true≢false e)
+neither false y e = (refl, e)
+
+one_same : (w v : WorldState) → Going w v → (h p : ℕ) → rose_to w v h p ≡ false → unacknowledged_to (node_at w h) p ≤ unacknowledged_to (node_at v h) p
+one_same w v k h p e =
+    let two = neither (nat_lt (base_of w h p 0) (base_of v h p 0)) (nat_lt (base_of w h p 1) (base_of v h p 1)) e in
+    let a = lane_same w v k h p 0 two.0 in
+    let b = lane_same w v k h p 1 two.1 in
+    omega (arith, a, b)
 
 -- all pairs
 still-same : (w v : WorldState) → Going w v → base_rose w v ≡ false → unacknowledged_in w ≤ unacknowledged_in v
@@ -31,8 +42,8 @@ still-same w v k e =
     let hs : List ℕ = addresses v in
     let a = fragments-addresses w v k in
     let b =
-    sum-same (unacknowledged_from v) (λ h. sum_of (map (unacknowledged_to (node_at w h)) hs)) (λ h. list_any (λ p. nat_lt (base_of w h p) (base_of v h p)) hs) hs
-    (λ h u. sum-same (unacknowledged_to (node_at v h)) (unacknowledged_to (node_at w h)) (λ p. nat_lt (base_of w h p) (base_of v h p)) hs (one_same w v k h) u) e in
+    sum-same (unacknowledged_from v) (λ h. sum_of (map (unacknowledged_to (node_at w h)) hs)) (λ h. list_any (rose_to w v h) hs) hs
+    (λ h u. sum-same (unacknowledged_to (node_at v h)) (unacknowledged_to (node_at w h)) (rose_to w v h) hs (one_same w v k h) u) e in
     omega (arith, a, b)
 
 rose-is : (w v : WorldState) → Going w v → HasSenders v → base_rose w v ≡ nat_lt (unacknowledged_in v) (unacknowledged_in w)

@@ -134,7 +134,7 @@ round-smaller first now next rounds resets left struck one left_now struck_now e
 
 -- the rounds fit
 pub rounds-few : (first now : WorldState) (rounds resets left struck planned : ℕ) → Settling first now rounds resets left struck
-    → unacknowledged_in first ≤ 70368744161280 → planned ≡ length first.plan → planned < 2 ^ 63 → rounds + 1 < 2 ^ 64
+    → unacknowledged_in first ≤ 140737488322560 → planned ≡ length first.plan → planned < 2 ^ 63 → rounds + 1 < 2 ^ 64
 rounds-few first now rounds resets left struck planned r few count small =
     let cost = r.cost in
     omega (arith, cost, few, count, small)

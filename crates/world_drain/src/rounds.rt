@@ -91,7 +91,7 @@ fn all_rounds(alloc: Global, w: &mut World) -> Result<Settled, AllocError>
 // How far a world has come.
 fn progress_of(w: &World) -> Progress
     ensures unacked { result.unacked ≡ unacknowledged_in w.now }
-    ensures few { result.unacked ≤ 70368744161280 }
+    ensures few { result.unacked ≤ 140737488322560 }
     ensures struck { result.struck ≡ w.now.struck }
 {
     Progress {

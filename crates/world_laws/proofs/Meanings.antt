@@ -1,15 +1,17 @@
 -- Tests over all hosts, and what they say of each.
-use Rattle.std.proofs.Common.{◌≡◌, ◌≢◌, ◌↔◌, ◌<◌, ◌≤◌, ◌+◌, ℕ, zero, suc, Bool, true, false, ◌||◌, List, [], ◌∷◌, map, length, nat_eq, nat_lt, Option, Some, None, is_none, refl, sym, ◌∙◌, ap, arith, true≢false}
+use Rattle.std.proofs.Common.{◌≡◌, ◌≢◌, ◌↔◌, ◌<◌, ◌≤◌, ◌+◌, ℕ, zero, suc, Bool, true, false, ◌||◌, List, [], ◌∷◌, map, length, nat_eq, nat_lt, Option, Some, None, is_none, inl, inr, refl, sym, ◌∙◌, ap, subst, arith, true≢false}
 use Rattle.std.specs.List.{AllByRecursion, range_with_len, list_all, list_any}
 use Rattle.std.proofs.lemmas.Bool.Decides.{nat_tests}
 use Rattle.net_defs.proofs.Ends.{both}
 use Rattle.link_defs.specs.Links.{Caught}
-use Rattle.world_defs.specs.Node.{to_send, unacknowledged_to}
+use Rattle.world_defs.specs.Node.{lane_of, sending_lane, lane_at, to_send, unacknowledged_to}
+use Rattle.world_defs.proofs.Lanes.{lane-within}
 use Rattle.world_defs.specs.World.{WorldState, host_count, node_at, addresses, sum_of}
-use Rattle.world_defs.specs.Settle.{unacknowledged_from, unacknowledged_in, is_quiet, base_of, base_rose}
-use Rattle.world_defs.specs.Settled.{IsSettled, IsSettledPair}
+use Rattle.world_defs.specs.Settle.{unacknowledged_from, unacknowledged_in, is_quiet, base_of, rose_to, base_rose}
+use Rattle.world_defs.specs.Settled.{IsSettled, IsSettledConnection}
 use Rattle.world_laws.specs.Shape.{HasSenders}
 use Rattle.world_laws.specs.Tests.{IsQuiet, BaseRose, IsAllAcknowledged}
+use Rattle.world_laws.proofs.Lists.{or-cases, first-true, second-true}
 use Rattle.world_laws.proofs.Draining.{range-all}
 
 -- all, one by one
@@ -90,7 +92,7 @@ pub base-test : (before w : WorldState) → base_rose before w ≡ true ↔ Base
 base-test before w = (to, from)
   where
     t : ℕ → ℕ → Bool
-    t = λ h p. nat_lt (base_of before h p) (base_of w h p)
+    t = rose_to before w
 
     to : base_rose before w ≡ true → BaseRose before w
     to e =
@@ -98,15 +100,27 @@ base-test before w = (to, from)
         let p = any-of (t h.place) 0 (host_count w) h.passes in
         let a = h.low in
         let b = p.low in
-        let c : nat_lt (base_of before h.place p.place) (base_of w h.place p.place) ≡ true = p.passes in
-        record { host = h.place; peer = p.place; is_host = omega (arith, a); is_peer = omega (arith, b); rose = grind (arith, nat_tests) }
+        let rose : (prio : ℕ) → nat_lt (base_of before h.place p.place prio) (base_of w h.place p.place prio) ≡ true → BaseRose before w =
+        λ prio c. record { host = h.place; peer = p.place; prio = prio; is_host = omega (arith, a); is_peer = omega (arith, b); rose = grind (arith, nat_tests) } in
+        elim (or-cases (nat_lt (base_of before h.place p.place 0) (base_of w h.place p.place 0)) (nat_lt (base_of before h.place p.place 1) (base_of w h.place p.place 1)) p.passes) [
+          | inl c ↦ rose 0 c
+          | inr c ↦ rose 1 c
+        ]
+
+    rises : (h p prio : ℕ) → base_of before h p prio < base_of w h p prio → t h p ≡ true
+    rises h p zero c = let first : nat_lt (base_of before h p 0) (base_of w h p 0) ≡ true = grind (arith, nat_tests) in
+        first-true (nat_lt (base_of before h p 0) (base_of w h p 0)) (nat_lt (base_of before h p 1) (base_of w h p 1)) first
+    rises h p (suc prio) c =
+        let one : lane_of p (suc prio) ≡ lane_of p 1 = omega arith in
+        let d : base_of before h p 1 < base_of w h p 1 = subst (λ k. (lane_at (node_at before h) k).sender.base < (lane_at (node_at w h) k).sender.base) one c in
+        let second : nat_lt (base_of before h p 1) (base_of w h p 1) ≡ true = grind (arith, nat_tests) in
+        second-true (nat_lt (base_of before h p 0) (base_of w h p 0)) (nat_lt (base_of before h p 1) (base_of w h p 1)) second
 
     from : BaseRose before w → base_rose before w ≡ true
     from r =
         let a = r.is_host in
         let b = r.is_peer in
-        let c = r.rose in
-        let here : t r.host r.peer ≡ true = grind (arith, nat_tests) in
+        let here : t r.host r.peer ≡ true = rises r.host r.peer r.prio r.rose in
         any-from (λ h. list_any (t h) (addresses w)) 0 (host_count w) r.host (omega arith) (omega (arith, a)) (any-from (t r.host) 0 (host_count w) r.peer (omega arith) (omega (arith, b)) here)
 
 pub none_left-test : (w : WorldState) → unacknowledged_in w ≡ 0 ↔ IsAllAcknowledged w
@@ -123,11 +137,12 @@ none_left-test w = (to, from)
 
 pub none_left-settled : (w : WorldState) → HasSenders w → unacknowledged_in w ≡ 0 → IsSettled w
 none_left-settled w is e = record {
-  pairs = λ a b low below.
-      let o = is.in_order a b in
-      let c = o.base_below in
-      let d = o.cursor_below in
-      let f = o.top_below in
-      let none : unacknowledged_to (node_at w a) b ≡ 0 = (none_left-test w).0 e a b low below in
-      IsSettledPair.all_acknowledged (omega (arith, c, d, f, none));
+  connections = λ c low below.
+      let o = is.in_order c.src (sending_lane c) in
+      let a = o.base_below in
+      let b = o.cursor_below in
+      let d = o.top_below in
+      let none : unacknowledged_to (node_at w c.src) c.dst ≡ 0 = (none_left-test w).0 e c.src c.dst low below in
+      let within = lane-within (node_at w c.src) c.dst c.prio in
+      IsSettledConnection.all_acknowledged (omega (arith, a, b, d, none, within));
 }

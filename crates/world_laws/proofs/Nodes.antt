@@ -1,4 +1,4 @@
--- What an event that is no client's call leaves of a host: its connections and its ports, open as they were, and its senders' numbers in order.
+-- What an event that is no client's call leaves of a host: its lanes and its ports, open as they were, and its senders' numbers in order.
 use Rattle.std.proofs.Common.{◌≡◌, ◌≤◌, ◌<◌, ◌+◌, ℕ, Bool, true, false, ◌&&◌, List, [], ◌∷◌, length, max, nat_eq, nat_lt, Option, Some, None, is_some, option_map, refl, ◌∙◌, subst, arith, if◌then◌else◌, ℤ, Result, Ok, Err}
 use Rattle.std.specs.Prelude.{option_and_then}
 use Rattle.std.proofs.Math.ListN.{length-set}
@@ -24,10 +24,10 @@ use Rattle.packet_defs.specs.Host.{decode as decode_packet}
 use Rattle.world_defs.specs.declared.applied.Applied.{Applied}
 use Rattle.world_defs.specs.declared.applied.Applied.TheVariants.{Part as OnePart, Active, Old}
 use Rattle.world_defs.specs.declared.heard.Heard.{Heard}
-use Rattle.world_defs.specs.Table.{TableState, table_route, applied}
-use Rattle.world_defs.specs.Peer.{PeerState, Ticket, new_peer, peer_acknowledged, peer_expired, peer_sent_one, peer_answered, tickets_finished, peer_after}
-use Rattle.world_defs.specs.Node.{NodeState, Staged, StagedReply, StagedAck, StagedProbe, StagedPart, Outgoing, Probe, TablePart, Reply, PartAnswer, FrameAnswer, Fragment, peer_at, with_peer, port_at, with_port, outgoing_staged, owed_to, due_to, either, first_some, peers_of, to_send, after_sending, given_up, node_expired}
-use Rattle.world_defs.specs.Hearing.{is_host, heard_if, is_part_for, part_heard, hear_mapping, hear_mapping_body, delivered_after, frame_heard, frame_took, all_finished, ack_heard, hear_gm, hear_gm_body, hear_body, hear_decoded, hear}
+use Rattle.world_defs.specs.Table.{TableState, applied}
+use Rattle.world_defs.specs.Lane.{LaneState, Ticket, new_lane, lane_acknowledged, lane_expired, lane_sent_one, lane_answered, tickets_finished, lane_after}
+use Rattle.world_defs.specs.Node.{NodeState, Staged, StagedReply, StagedAck, StagedProbe, StagedPart, Outgoing, Probe, TablePart, Reply, PartAnswer, FrameAnswer, Fragment, lane_of, sends_on, lane_at, with_lane, lane_route, port_at, with_port, outgoing_staged, owed_on, due_on, either, first_some, lanes_of, to_send, after_sending, given_up, with_expired, node_expired}
+use Rattle.world_defs.specs.Hearing.{is_host, frame_lane, ack_lane, heard_if, is_part_for, part_heard, hear_mapping, hear_mapping_body, delivered_after, frame_heard, frame_took, all_finished, ack_heard, hear_gm, hear_gm_body, hear_body, hear_decoded, hear}
 use Rattle.world_laws.proofs.Lists.{at-set}
 
 -- the numbers of a sender: in order if they were, the base no less, and nothing is offered
@@ -41,13 +41,13 @@ sender_same s = record { in_order = λ is. is; base = omega arith; next = refl }
 
 -- a host
 pub record NodeKept (n m : NodeState) : Type 0 where
-  pub peers : length m.peers ≡ length n.peers
+  pub lanes : length m.lanes ≡ length n.lanes
   pub ports : length m.ports ≡ length n.ports
   pub open_ports : (port : ℕ) → is_some (port_at m port) ≡ is_some (port_at n port)
-  pub senders : (peer : ℕ) → SenderKept (peer_at n peer).sender (peer_at m peer).sender
+  pub senders : (lane : ℕ) → SenderKept (lane_at n lane).sender (lane_at m lane).sender
 
 pub node_same : (n : NodeState) → NodeKept n n
-node_same n = record { peers = refl; ports = refl; open_ports = λ port. refl; senders = λ peer. sender_same (peer_at n peer).sender }
+node_same n = record { lanes = refl; ports = refl; open_ports = λ port. refl; senders = λ lane. sender_same (lane_at n lane).sender }
 
 sender_after : (s t u : SenderState) → SenderKept s t → SenderKept t u → SenderKept s u
 sender_after s t u k m = record {
@@ -58,28 +58,28 @@ sender_after s t u k m = record {
 
 pub node_after : (n m o : NodeState) → NodeKept n m → NodeKept m o → NodeKept n o
 node_after n m o k l = record {
-  peers = l.peers ∙ k.peers;
+  lanes = l.lanes ∙ k.lanes;
   ports = l.ports ∙ k.ports;
   open_ports = λ port. l.open_ports port ∙ k.open_ports port;
-  senders = λ peer. sender_after (peer_at n peer).sender (peer_at m peer).sender (peer_at o peer).sender (k.senders peer) (l.senders peer);
+  senders = λ lane. sender_after (lane_at n lane).sender (lane_at m lane).sender (lane_at o lane).sender (k.senders lane) (l.senders lane);
 }
 
--- the connections with one peer go on
-pub with_peer-kept : (n : NodeState) (peer : ℕ) (p : PeerState) → SenderKept (peer_at n peer).sender p.sender → NodeKept n (with_peer n peer p)
-with_peer-kept n peer p k = record {
-  peers = length-set n.peers peer p;
+-- one lane goes on
+pub with_lane-kept : (n : NodeState) (lane : ℕ) (p : LaneState) → SenderKept (lane_at n lane).sender p.sender → NodeKept n (with_lane n lane p)
+with_lane-kept n lane p k = record {
+  lanes = length-set n.lanes lane p;
   ports = refl;
   open_ports = λ port. refl;
-  senders = λ j. at-set (λ a b. SenderKept a.sender b.sender) (λ a. sender_same a.sender) n.peers peer j p new_peer k;
+  senders = λ j. at-set (λ a b. SenderKept a.sender b.sender) (λ a. sender_same a.sender) n.lanes lane j p new_lane k;
 }
 
 -- a port is as open as it was
 with_port-kept : (n : NodeState) (port : ℕ) (p : Option PortState) → is_some p ≡ is_some (port_at n port) → NodeKept n (with_port n port p)
 with_port-kept n port p e = record {
-  peers = refl;
+  lanes = refl;
   ports = length-set n.ports port p;
   open_ports = λ j. at-set (λ a b. is_some b ≡ is_some a) (λ a. refl) n.ports port j p None e;
-  senders = λ peer. sender_same (peer_at n peer).sender;
+  senders = λ lane. sender_same (lane_at n lane).sender;
 }
 
 option_map-some : {X Y : Type 0} (f : X → Y) (o : Option X) → is_some (option_map f o) ≡ is_some o
@@ -125,9 +125,9 @@ sent_one-kept s low = record {
 
 -- what a host hears
 part_heard-kept : (n : NodeState) (p : RoutePart) (r : Applied × TableState) → NodeKept n (part_heard n p r)
-part_heard-kept n p (OnePart, t) = record { peers = refl; ports = refl; open_ports = λ port. refl; senders = λ peer. sender_same (peer_at n peer).sender }
-part_heard-kept n p (Active, t) = record { peers = refl; ports = refl; open_ports = λ port. refl; senders = λ peer. sender_same (peer_at n peer).sender }
-part_heard-kept n p (Old, t) = record { peers = refl; ports = refl; open_ports = λ port. refl; senders = λ peer. sender_same (peer_at n peer).sender }
+part_heard-kept n p (OnePart, t) = record { lanes = refl; ports = refl; open_ports = λ port. refl; senders = λ lane. sender_same (lane_at n lane).sender }
+part_heard-kept n p (Active, t) = record { lanes = refl; ports = refl; open_ports = λ port. refl; senders = λ lane. sender_same (lane_at n lane).sender }
+part_heard-kept n p (Old, t) = record { lanes = refl; ports = refl; open_ports = λ port. refl; senders = λ lane. sender_same (lane_at n lane).sender }
 
 heard_if-kept : (b : Bool) (n : NodeState) (r : Heard × NodeState) → NodeKept n r.1 → NodeKept n (heard_if b n r).1
 heard_if-kept true n (heard, after) k = k
@@ -135,7 +135,7 @@ heard_if-kept false n (heard, after) k = node_same n
 
 hear_mapping-kept : (host hosts : ℕ) (n : NodeState) (b : MappingBody) → NodeKept n (hear_mapping host hosts n b).1
 hear_mapping-kept host hosts n (HostProbe number mapper back) =
-    heard_if-kept (is_host hosts mapper) n _ (record { peers = refl; ports = refl; open_ports = λ port. refl; senders = λ peer. sender_same (peer_at n peer).sender })
+    heard_if-kept (is_host hosts mapper) n _ (record { lanes = refl; ports = refl; open_ports = λ port. refl; senders = λ lane. sender_same (lane_at n lane).sender })
 hear_mapping-kept host hosts n (HostReply number from) = heard_if-kept (is_host hosts from) n _ (node_same n)
 hear_mapping-kept host hosts n (Loopback number mapper) = heard_if-kept (nat_eq mapper host) n _ (node_same n)
 hear_mapping-kept host hosts n (Part p) = heard_if-kept (is_part_for host hosts p) n _ (part_heard-kept n p (applied n.table p))
@@ -153,8 +153,8 @@ delivered_after-kept n h part Whole =
 
 frame_heard-kept : (n : NodeState) (h : FrameHead) (part : List ℕ) (t : Took) → NodeKept n (frame_heard n h part t).1
 frame_heard-kept n h part t =
-    let p : PeerState = peer_after (peer_at n h.src) t (record { sport = h.sport; dport = h.dport; prio = h.prio; body = part }) in
-    node_after n (with_peer n h.src p) (frame_heard n h part t).1 (with_peer-kept n h.src p (sender_same (peer_at n h.src).sender)) (delivered_after-kept (with_peer n h.src p) h part t)
+    let p : LaneState = lane_after (lane_at n (frame_lane h)) t (record { sport = h.sport; dport = h.dport; prio = h.prio; body = part }) in
+    node_after n (with_lane n (frame_lane h) p) (frame_heard n h part t).1 (with_lane-kept n (frame_lane h) p (sender_same (lane_at n (frame_lane h)).sender)) (delivered_after-kept (with_lane n (frame_lane h) p) h part t)
 
 all_finished-kept : (n : NodeState) (ts : List Ticket) → NodeKept n (all_finished n ts)
 all_finished-kept n [] = node_same n
@@ -164,8 +164,8 @@ all_finished-kept n (t ∷ ts) =
 
 ack_heard-kept : (n : NodeState) (a : Ack) → NodeKept n (ack_heard n a)
 ack_heard-kept n a =
-    let m : NodeState = with_peer n a.src (peer_acknowledged (peer_at n a.src) a.next) in
-    node_after n m (ack_heard n a) (with_peer-kept n a.src (peer_acknowledged (peer_at n a.src) a.next) (acknowledged-kept (peer_at n a.src).sender a.next)) (all_finished-kept m (tickets_finished (peer_at n a.src) a.next))
+    let m : NodeState = with_lane n (ack_lane a) (lane_acknowledged (lane_at n (ack_lane a)) a.next) in
+    node_after n m (ack_heard n a) (with_lane-kept n (ack_lane a) (lane_acknowledged (lane_at n (ack_lane a)) a.next) (acknowledged-kept (lane_at n (ack_lane a)).sender a.next)) (all_finished-kept m (tickets_finished (lane_at n (ack_lane a)) a.next))
 
 hear_gm-kept : (host hosts : ℕ) (n : NodeState) (body : List ℕ) (b : GmBody) → NodeKept n (hear_gm host hosts n body b).1
 hear_gm-kept host hosts n body (Frame h) =
@@ -194,8 +194,8 @@ IsDue n (Probe walk looped) = Unit {0}
 IsDue n (TablePart part by) = Unit {0}
 IsDue n (Reply r) = Unit {0}
 IsDue n (PartAnswer a) = Unit {0}
-IsDue n (FrameAnswer peer next by) = Unit {0}
-IsDue n (Fragment peer head part by) = (k : ℕ) × (due (peer_at n peer).sender ≡ Some k)
+IsDue n (FrameAnswer lane next by) = Unit {0}
+IsDue n (Fragment lane head part by) = (k : ℕ) × (due (lane_at n lane).sender ≡ Some k)
 
 either-holds : {A : Type 0} (P : A → Type 0) (a b : Option A) → ((x : A) → a ≡ Some x → P x) → ((x : A) → b ≡ Some x → P x) → (x : A) → either a b ≡ Some x → P x
 either-holds P (Some y) b f g x e = f x e
@@ -218,22 +218,22 @@ part_ack-due : (n : NodeState) (o : Option StagedAck) (x : Outgoing) → option_
 part_ack-due n None x e = cc
 part_ack-due n (Some a) x e = let same : PartAnswer a ≡ x = cc in subst (IsDue n) same tt
 
-owed_by-due : (n : NodeState) (peer next : ℕ) (b : Bool) (o : Option (List ℤ)) (x : Outgoing) → (if b then option_map (λ by. FrameAnswer peer next by) o else None) ≡ Some x → IsDue n x
-owed_by-due n peer next true None x e = cc
-owed_by-due n peer next true (Some by) x e = let same : FrameAnswer peer next by ≡ x = cc in subst (IsDue n) same tt
-owed_by-due n peer next false o x e = cc
+owed_by-due : (n : NodeState) (lane next : ℕ) (b : Bool) (o : Option (List ℤ)) (x : Outgoing) → (if b then option_map (λ by. FrameAnswer lane next by) o else None) ≡ Some x → IsDue n x
+owed_by-due n lane next true None x e = cc
+owed_by-due n lane next true (Some by) x e = let same : FrameAnswer lane next by ≡ x = cc in subst (IsDue n) same tt
+owed_by-due n lane next false o x e = cc
 
-routed-due : (n : NodeState) (peer : ℕ) (f : FrameHead × List ℕ) (o : Option (List ℤ)) (x : Outgoing) (k : ℕ) → due (peer_at n peer).sender ≡ Some k → option_map (λ by. Fragment peer f.0 f.1 by) o ≡ Some x → IsDue n x
-routed-due n peer f None x k d e = cc
-routed-due n peer f (Some by) x k d e = let same : Fragment peer f.0 f.1 by ≡ x = cc in subst (IsDue n) same (k, d)
+routed-due : (n : NodeState) (lane : ℕ) (f : FrameHead × List ℕ) (o : Option (List ℤ)) (x : Outgoing) (k : ℕ) → due (lane_at n lane).sender ≡ Some k → option_map (λ by. Fragment lane f.0 f.1 by) o ≡ Some x → IsDue n x
+routed-due n lane f None x k d e = cc
+routed-due n lane f (Some by) x k d e = let same : Fragment lane f.0 f.1 by ≡ x = cc in subst (IsDue n) same (k, d)
 
-framed-due : (n : NodeState) (peer : ℕ) (o : Option (FrameHead × List ℕ)) (x : Outgoing) (k : ℕ) → due (peer_at n peer).sender ≡ Some k → option_and_then (λ f. option_map (λ by. Fragment peer f.0 f.1 by) (table_route n.table peer)) o ≡ Some x → IsDue n x
-framed-due n peer None x k d e = cc
-framed-due n peer (Some f) x k d e = routed-due n peer f (table_route n.table peer) x k d e
+framed-due : (n : NodeState) (lane : ℕ) (o : Option (FrameHead × List ℕ)) (x : Outgoing) (k : ℕ) → due (lane_at n lane).sender ≡ Some k → option_and_then (λ f. option_map (λ by. Fragment lane f.0 f.1 by) (lane_route n lane)) o ≡ Some x → IsDue n x
+framed-due n lane None x k d e = cc
+framed-due n lane (Some f) x k d e = routed-due n lane f (lane_route n lane) x k d e
 
-fragment-due : (host : ℕ) (n : NodeState) (peer : ℕ) (o : Option ℕ) (x : Outgoing) → due (peer_at n peer).sender ≡ o → option_and_then (λ f. option_map (λ by. Fragment peer f.0 f.1 by) (table_route n.table peer)) (option_and_then (λ seq. frame_of host peer (peer_at n peer).sent seq) o) ≡ Some x → IsDue n x
-fragment-due host n peer None x d e = cc
-fragment-due host n peer (Some k) x d e = framed-due n peer (frame_of host peer (peer_at n peer).sent k) x k d e
+fragment-due : (host : ℕ) (n : NodeState) (lane : ℕ) (o : Option ℕ) (x : Outgoing) → due (lane_at n lane).sender ≡ o → option_and_then (λ f. option_map (λ by. Fragment lane f.0 f.1 by) (lane_route n lane)) (option_and_then (λ seq. frame_of (sends_on host lane) (lane_at n lane).sent seq) o) ≡ Some x → IsDue n x
+fragment-due host n lane None x d e = cc
+fragment-due host n lane (Some k) x d e = framed-due n lane (frame_of (sends_on host lane) (lane_at n lane).sent k) x k d e
 
 to_send-due : (host : ℕ) (n : NodeState) (x : Outgoing) → to_send host n ≡ Some x → IsDue n x
 unfolding to_send
@@ -241,30 +241,35 @@ to_send-due host n x e =
     either-holds (IsDue n) (option_map outgoing_staged n.staged) _ (staged-due n n.staged)
     (either-holds (IsDue n) (option_map Reply n.reply) _ (reply-due n n.reply)
     (either-holds (IsDue n) (option_map PartAnswer n.part_ack) _ (part_ack-due n n.part_ack)
-    (either-holds (IsDue n) (first_some (owed_to n) (peers_of n)) _
-    (first_some-holds (IsDue n) (owed_to n) (λ peer. owed_by-due n peer (peer_at n peer).taken (peer_at n peer).owes (table_route n.table peer)) (peers_of n))
-    (first_some-holds (IsDue n) (due_to host n) (λ peer y. fragment-due host n peer (due (peer_at n peer).sender) y refl) (peers_of n)))))
+    (either-holds (IsDue n) (first_some (owed_on n) (lanes_of n)) _
+    (first_some-holds (IsDue n) (owed_on n) (λ lane. owed_by-due n lane (lane_at n lane).taken (lane_at n lane).owes (lane_route n lane)) (lanes_of n))
+    (first_some-holds (IsDue n) (due_on host n) (λ lane y. fragment-due host n lane (due (lane_at n lane).sender) y refl) (lanes_of n)))))
     x e
 
 -- and the host after it
 after_sending-kept : (n : NodeState) (o : Outgoing) → IsDue n o → NodeKept n (after_sending n o)
 unfolding after_sending
-after_sending-kept n (Probe walk looped) d = record { peers = refl; ports = refl; open_ports = λ port. refl; senders = λ peer. sender_same (peer_at n peer).sender }
-after_sending-kept n (TablePart part by) d = record { peers = refl; ports = refl; open_ports = λ port. refl; senders = λ peer. sender_same (peer_at n peer).sender }
-after_sending-kept n (Reply r) d = record { peers = refl; ports = refl; open_ports = λ port. refl; senders = λ peer. sender_same (peer_at n peer).sender }
-after_sending-kept n (PartAnswer a) d = record { peers = refl; ports = refl; open_ports = λ port. refl; senders = λ peer. sender_same (peer_at n peer).sender }
-after_sending-kept n (FrameAnswer peer next by) d = with_peer-kept n peer (peer_answered (peer_at n peer)) (sender_same (peer_at n peer).sender)
-after_sending-kept n (Fragment peer head part by) d =
-    with_peer-kept n peer (peer_sent_one (peer_at n peer)) (sent_one-kept (peer_at n peer).sender (due-below (peer_at n peer).sender d.0 d.1))
+after_sending-kept n (Probe walk looped) d = record { lanes = refl; ports = refl; open_ports = λ port. refl; senders = λ lane. sender_same (lane_at n lane).sender }
+after_sending-kept n (TablePart part by) d = record { lanes = refl; ports = refl; open_ports = λ port. refl; senders = λ lane. sender_same (lane_at n lane).sender }
+after_sending-kept n (Reply r) d = record { lanes = refl; ports = refl; open_ports = λ port. refl; senders = λ lane. sender_same (lane_at n lane).sender }
+after_sending-kept n (PartAnswer a) d = record { lanes = refl; ports = refl; open_ports = λ port. refl; senders = λ lane. sender_same (lane_at n lane).sender }
+after_sending-kept n (FrameAnswer lane next by) d = with_lane-kept n lane (lane_answered (lane_at n lane)) (sender_same (lane_at n lane).sender)
+after_sending-kept n (Fragment lane head part by) d =
+    with_lane-kept n lane (lane_sent_one (lane_at n lane)) (sent_one-kept (lane_at n lane).sender (due-below (lane_at n lane).sender d.0 d.1))
 
 pub sent-kept : (host : ℕ) (n : NodeState) (o : Outgoing) → to_send host n ≡ Some o → NodeKept n (after_sending n o)
 sent-kept host n o e = after_sending-kept n o (to_send-due host n o e)
 
 pub given_up-kept : (n : NodeState) → NodeKept n (given_up n)
-given_up-kept n = record { peers = refl; ports = refl; open_ports = λ port. refl; senders = λ peer. sender_same (peer_at n peer).sender }
+given_up-kept n = record { lanes = refl; ports = refl; open_ports = λ port. refl; senders = λ lane. sender_same (lane_at n lane).sender }
 
 pub staged-kept : (n : NodeState) (s : Option Staged) → NodeKept n (record n { staged = s })
-staged-kept n s = record { peers = refl; ports = refl; open_ports = λ port. refl; senders = λ peer. sender_same (peer_at n peer).sender }
+staged-kept n s = record { lanes = refl; ports = refl; open_ports = λ port. refl; senders = λ lane. sender_same (lane_at n lane).sender }
+
+with_expired-kept : (n : NodeState) (lane : ℕ) → NodeKept n (with_expired n lane)
+with_expired-kept n lane = with_lane-kept n lane (lane_expired (lane_at n lane)) (expired-kept (lane_at n lane).sender)
 
 pub node_expired-kept : (n : NodeState) (peer : ℕ) → NodeKept n (node_expired n peer)
-node_expired-kept n peer = with_peer-kept n peer (peer_expired (peer_at n peer)) (expired-kept (peer_at n peer).sender)
+node_expired-kept n peer =
+    let m : NodeState = with_expired n (lane_of peer 0) in
+    node_after n m (node_expired n peer) (with_expired-kept n (lane_of peer 0)) (with_expired-kept m (lane_of peer 1))

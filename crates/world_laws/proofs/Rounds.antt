@@ -1,15 +1,16 @@
 -- The rounds of a settle end: each but the last lowers the fragments that aren't acknowledged, or the faults that are planned.
-use Rattle.std.proofs.Common.{◌≡◌, ◌<◌, ◌≤◌, ◌+◌, ℕ, zero, suc, Bool, true, false, not, ◌||◌, List, [], ◌∷◌, map, length, nat_eq, nat_lt, refl, sym, ◌∙◌, ap, subst, arith, true≢false, if◌then◌else◌}
+use Rattle.std.proofs.Common.{◌≡◌, ◌<◌, ◌≤◌, ◌+◌, ℕ, zero, suc, Bool, true, false, not, ◌||◌, List, [], ◌∷◌, map, length, nat_eq, nat_lt, inl, inr, refl, sym, ◌∙◌, ap, subst, arith, true≢false, if◌then◌else◌}
 use Rattle.std.specs.List.{range_with_len, list_any}
 use Rattle.std.proofs.lemmas.Bool.Decides.{nat_tests}
 use Rattle.link_defs.specs.Step.{stepped}
-use Rattle.world_defs.specs.Node.{unacknowledged_to}
+use Rattle.world_defs.specs.Node.{lane_of, lane_at, unacknowledged_on, unacknowledged_to}
 use Rattle.world_defs.specs.World.{WorldState, node_at, with_node, with_links, with_drop, addresses, sum_of}
 use Rattle.world_defs.specs.Step.{planned_strikes, sent_out}
 use Rattle.world_defs.specs.Drain.{clear}
-use Rattle.world_defs.specs.Settle.{unacknowledged_from, unacknowledged_in, Stretch, round, base_of, base_rose, has_helped, is_last_round, Rounds, one_round, after_round, rounds_of, round_bound, behind_clear, settle}
+use Rattle.world_defs.specs.Settle.{unacknowledged_from, unacknowledged_in, Stretch, round, base_of, rose_to, base_rose, has_helped, is_last_round, Rounds, one_round, after_round, rounds_of, round_bound, behind_clear, settle}
 use Rattle.world_laws.specs.Shape.{HasSenders}
 use Rattle.world_laws.specs.Settling.{IsRound, AllRounds, Settles}
+use Rattle.world_laws.proofs.Lists.{or-cases}
 use Rattle.world_laws.proofs.Nodes.{node_after}
 use Rattle.world_laws.proofs.Strikes.{Strikes, planned_strikes-kept}
 use Rattle.world_laws.proofs.Leaves.{Follows, IsNoCall, quiet-leaves}
@@ -91,23 +92,38 @@ fragments w hs = sum_of (map (λ h. sum_of (map (unacknowledged_to (node_at w h)
 pub fragments-addresses : (w v : WorldState) → Going w v → unacknowledged_in w ≡ fragments w (addresses v)
 fragments-addresses w v k = ap (λ n. fragments w (range_with_len 0 n)) (sym k.nodes.count)
 
-one_fewer : (w v : WorldState) → Going w v → (h p : ℕ) → unacknowledged_to (node_at v h) p ≤ unacknowledged_to (node_at w h) p
-one_fewer w v k h p =
-    let s = (k.nodes.each h).senders p in
+-- of one lane
+lane_fewer : (w v : WorldState) → Going w v → (h lane : ℕ) → unacknowledged_on (node_at v h) lane ≤ unacknowledged_on (node_at w h) lane
+lane_fewer w v k h lane =
+    let s = (k.nodes.each h).senders lane in
     let a = s.base in
     let b = s.next in
     omega (arith, a, b)
 
-one_less : (w v : WorldState) → Going w v → HasSenders v → (h p : ℕ) → nat_lt (base_of w h p) (base_of v h p) ≡ true → unacknowledged_to (node_at v h) p < unacknowledged_to (node_at w h) p
-one_less w v k is h p e =
-    let s = (k.nodes.each h).senders p in
+lane_less : (w v : WorldState) → Going w v → HasSenders v → (h lane : ℕ) → (lane_at (node_at w h) lane).sender.base < (lane_at (node_at v h) lane).sender.base → unacknowledged_on (node_at v h) lane < unacknowledged_on (node_at w h) lane
+lane_less w v k is h lane low =
+    let s = (k.nodes.each h).senders lane in
     let b = s.next in
-    let o = is.in_order h p in
+    let o = is.in_order h lane in
     let c = o.base_below in
     let d = o.cursor_below in
     let f = o.top_below in
-    let low : base_of w h p < base_of v h p = grind (arith, nat_tests) in
     omega (arith, b, c, d, f, low)
+
+one_fewer : (w v : WorldState) → Going w v → (h p : ℕ) → unacknowledged_to (node_at v h) p ≤ unacknowledged_to (node_at w h) p
+one_fewer w v k h p =
+    let s = lane_fewer w v k h (lane_of p 0) in
+    let t = lane_fewer w v k h (lane_of p 1) in
+    omega (arith, s, t)
+
+one_less : (w v : WorldState) → Going w v → HasSenders v → (h p : ℕ) → rose_to w v h p ≡ true → unacknowledged_to (node_at v h) p < unacknowledged_to (node_at w h) p
+one_less w v k is h p e =
+    let s = lane_fewer w v k h (lane_of p 0) in
+    let t = lane_fewer w v k h (lane_of p 1) in
+    elim (or-cases (nat_lt (base_of w h p 0) (base_of v h p 0)) (nat_lt (base_of w h p 1) (base_of v h p 1)) e) [
+      | inl u ↦ let l = lane_less w v k is h (lane_of p 0) (grind (arith, nat_tests)) in omega (arith, l, t)
+      | inr u ↦ let l = lane_less w v k is h (lane_of p 1) (grind (arith, nat_tests)) in omega (arith, s, l)
+    ]
 
 pub fragments-fewer : (w v : WorldState) → Going w v → unacknowledged_in v ≤ unacknowledged_in w
 fragments-fewer w v k =
@@ -121,7 +137,7 @@ fragments-less w v k is e =
     let hs : List ℕ = addresses v in
     let a = fragments-addresses w v k in
     let b =
-    sum-less (unacknowledged_from v) (λ h. sum_of (map (unacknowledged_to (node_at w h)) hs)) (λ h. list_any (λ p. nat_lt (base_of w h p) (base_of v h p)) hs) hs (λ h. sum-le (unacknowledged_to (node_at v h)) (unacknowledged_to (node_at w h)) hs (one_fewer w v k h)) (λ h u. sum-less (unacknowledged_to (node_at v h)) (unacknowledged_to (node_at w h)) (λ p. nat_lt (base_of w h p) (base_of v h p)) hs (one_fewer w v k h) (one_less w v k is h) u) e in
+    sum-less (unacknowledged_from v) (λ h. sum_of (map (unacknowledged_to (node_at w h)) hs)) (λ h. list_any (rose_to w v h) hs) hs (λ h. sum-le (unacknowledged_to (node_at v h)) (unacknowledged_to (node_at w h)) hs (one_fewer w v k h)) (λ h u. sum-less (unacknowledged_to (node_at v h)) (unacknowledged_to (node_at w h)) (rose_to w v h) hs (one_fewer w v k h) (one_less w v k is h) u) e in
     omega (arith, a, b)
 
 -- a round that helped

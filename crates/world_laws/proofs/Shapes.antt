@@ -12,8 +12,8 @@ use Rattle.gm_defs.specs.Token.{PortState}
 use Rattle.world_defs.specs.declared.event.Event.{Event}
 use Rattle.world_defs.specs.declared.fault.Fault.{Fault}
 use Rattle.world_defs.specs.Table.{TableState, whole_table}
-use Rattle.world_defs.specs.Peer.{PeerState, new_peer}
-use Rattle.world_defs.specs.Node.{NodeState, Outgoing, to_send, packet_for, after_sending, new_node, peer_at, port_at, port_count}
+use Rattle.world_defs.specs.Lane.{LaneState, new_lane}
+use Rattle.world_defs.specs.Node.{NodeState, Outgoing, to_send, packet_for, after_sending, lane_count, new_node, lane_at, port_at, port_count}
 use Rattle.world_defs.specs.Client.{ClientState, Called}
 use Rattle.world_defs.specs.World.{WorldState, fabric_of, host_count, new_world, last_count, counted, node_at, with_node, with_links, client_at, with_client, with_drop, adopted_by, planned}
 use Rattle.world_defs.specs.Step.{planned_strikes, sent_out, step, after_all}
@@ -56,7 +56,7 @@ made_world w v is links net k clients injections drops strikes harms = record {
   clients = ap length clients ∙ (is.clients ∙ sym k.count);
   each_node = λ h low.
       let was : IsNode (host_count w) (node_at w h) = is.each_node h (subst (λ n. h < n) k.count low) in
-      record { peers = (k.each h).peers ∙ (was.peers ∙ sym k.count); ports = (k.each h).ports ∙ was.ports };
+      record { lanes = (k.each h).lanes ∙ (was.lanes ∙ ap lane_count (sym k.count)); ports = (k.each h).ports ∙ was.ports };
   each_client = λ h low. ap (λ cs. length (get_or cs h [])) clients ∙ is.each_client h (subst (λ n. h < n) k.count low);
   open_ports = λ h port. ap (λ cs. is_some (get_or (get_or cs h []) port None)) clients ∙ (is.open_ports h port ∙ sym ((k.each h).open_ports port));
   injections = injections;
@@ -66,7 +66,7 @@ made_world w v is links net k clients injections drops strikes harms = record {
 }
 
 pub made_senders : (w v : WorldState) → NodesKept w v → HasSenders w → HasSenders v
-made_senders w v k is = record { in_order = λ h peer. ((k.each h).senders peer).in_order (is.in_order h peer) }
+made_senders w v k is = record { in_order = λ h lane. ((k.each h).senders lane).in_order (is.in_order h lane) }
 
 kept_links : (w : WorldState) (x : Step) → Kept w (with_links w (stepped w.links x))
 kept_links w x = record {
@@ -161,7 +161,7 @@ follows-kept = record {
 
 -- a call: the lists of ports and of clients change at the same place
 record SameLong (n m : NodeState) : Type 0 where
-  peers : length m.peers ≡ length n.peers
+  lanes : length m.lanes ≡ length n.lanes
   ports : length m.ports ≡ length n.ports
 
 abbrev IsOpenWhere : List (Option PortState) → List (Option ClientState) → Type 0
@@ -180,15 +180,15 @@ called_world : (w : WorldState) (h port : ℕ) (call : Called) → CallKept (nod
 called_world w h port call k is =
     let row : List (Option ClientState) = get_or w.clients h [] in
     let count : length (set w.nodes h call.node) ≡ length w.nodes = length-set w.nodes h call.node in
-    let same : SameLong (node_at w h) call.node = record { peers = k.peers; ports = ap length k.ports ∙ length-set (node_at w h).ports port k.at_port } in
+    let same : SameLong (node_at w h) call.node = record { lanes = k.lanes; ports = ap length k.ports ∙ length-set (node_at w h).ports port k.at_port } in
     record {
       links = is.links;
       hosts = count ∙ is.hosts;
       clients = length-set w.clients h (set row port call.client) ∙ (is.clients ∙ sym count);
       each_node = λ j low.
           let was : IsNode (host_count w) (node_at w j) = is.each_node j (subst (λ n. j < n) count low) in
-          let long : SameLong (node_at w j) (get_or (set w.nodes h call.node) j (new_node 0)) = at-set SameLong (λ n. record { peers = refl; ports = refl }) w.nodes h j call.node (new_node 0) same in
-          record { peers = long.peers ∙ (was.peers ∙ sym count); ports = long.ports ∙ was.ports };
+          let long : SameLong (node_at w j) (get_or (set w.nodes h call.node) j (new_node 0)) = at-set SameLong (λ n. record { lanes = refl; ports = refl }) w.nodes h j call.node (new_node 0) same in
+          record { lanes = long.lanes ∙ (was.lanes ∙ ap lane_count (sym count)); ports = long.ports ∙ was.ports };
       each_client = λ j low.
           at-set (λ (a b : List (Option ClientState)). length b ≡ length a) (λ a. refl) w.clients h j (set row port call.client) [] (length-set row port call.client) ∙ is.each_client j (subst (λ n. j < n) count low);
       open_ports = two-set (λ n cs. IsOpenWhere n.ports cs) w.nodes w.clients h call.node (set row port call.client) (new_node 0) [] is.clients (called_open w h port call k is) is.open_ports;
@@ -200,8 +200,8 @@ called_world w h port call k is =
 
 called_senders : (w : WorldState) (h port : ℕ) (call : Called) → CallKept (node_at w h) port (client_at w h port) call → HasSenders w → HasSenders (with_client (with_node w h call.node) h port call.client)
 called_senders w h port call k is = record {
-  in_order = λ j peer.
-      at-set (λ a b. IsSender (peer_at a peer).sender → IsSender (peer_at b peer).sender) (λ a i. i) w.nodes h j call.node (new_node 0) (k.senders peer).in_order (is.in_order j peer);
+  in_order = λ j lane.
+      at-set (λ a b. IsSender (lane_at a lane).sender → IsSender (lane_at b lane).sender) (λ a i. i) w.nodes h j call.node (new_node 0) (k.senders lane).in_order (is.in_order j lane);
 }
 
 pub follows_calls-kept : FollowsCalls Kept
@@ -242,7 +242,7 @@ new-world n =
       hosts = count;
       clients = length-replicate k row ∙ sym count;
       each_node = λ h low.
-          below-replicate (IsNode (length (replicate k (new_node k)))) k h (new_node k) (new_node 0) (subst (λ m. h < m) count low) (record { peers = length-replicate k new_peer ∙ sym count; ports = refl });
+          below-replicate (IsNode (length (replicate k (new_node k)))) k h (new_node k) (new_node 0) (subst (λ m. h < m) count low) (record { lanes = length-replicate (lane_count k) new_lane ∙ ap lane_count (sym count); ports = refl });
       each_client = λ h low. below-replicate (λ (cs : List (Option ClientState)). length cs ≡ port_count) k h row [] (subst (λ m. h < m) count low) refl;
       open_ports = λ h port.
           let c : get_or (get_or (replicate k row) h []) port None ≡ None = at-replicate (λ (cs : List (Option ClientState)). get_or cs port None ≡ None) k h row [] (no_client port) refl in
@@ -261,13 +261,13 @@ pub new-senders : (n : Network) → HasSenders (new_world n)
 new-senders n =
     let k : ℕ = length n.hosts in
     record {
-      in_order = λ h peer.
-          at-replicate (λ m. IsSender (peer_at m peer).sender) k h (new_node k) (new_node 0) (at-replicate (λ (p : PeerState). IsSender p.sender) k peer new_peer new_peer starting-order starting-order) starting-order;
+      in_order = λ h lane.
+          at-replicate (λ m. IsSender (lane_at m lane).sender) k h (new_node k) (new_node 0) (at-replicate (λ (p : LaneState). IsSender p.sender) (lane_count k) lane new_lane new_lane starting-order starting-order) starting-order;
     }
 
 -- an adoption and a plan, which are no events
 table_kept : (n : NodeState) (t : TableState) → NodeKept n (record n { table = t })
-table_kept n t = record { peers = refl; ports = refl; open_ports = λ port. refl; senders = λ peer. sender_same (peer_at n peer).sender }
+table_kept n t = record { lanes = refl; ports = refl; open_ports = λ port. refl; senders = λ lane. sender_same (lane_at n lane).sender }
 
 adopted_nodes : (w : WorldState) (mapper : ℕ) (routes : List Route) → NodesKept w (adopted_by w mapper routes)
 adopted_nodes w mapper routes =

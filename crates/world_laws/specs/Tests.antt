@@ -19,9 +19,10 @@ QuietTest = (w : WorldState) → is_quiet w ≡ true ↔ IsQuiet w
 pub record BaseRose (before w : WorldState) : Type 0 where
   pub host : ℕ
   pub peer : ℕ
+  pub prio : ℕ
   pub is_host : host < host_count w
   pub is_peer : peer < host_count w
-  pub rose : base_of before host peer < base_of w host peer
+  pub rose : base_of before host peer prio < base_of w host peer prio
 
 -- the test of a round: a base rose in it
 abbrev pub BaseTest : Type 0

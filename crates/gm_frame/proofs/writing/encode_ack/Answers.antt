@@ -6,4 +6,4 @@ use Rattle.gm_frame.proofs.writing.encode_ack.Goals as goal
 pub returns-clause-read : goal.returns-clause-read
 returns-clause-read c =
     let written : c.extend_from_slice.new.self.items ≡ ack_bytes c.args.a.now = grind (arith, common_steps) in
-    ap decode written ∙ c.bodies_are_read.ensures.acknowledgement c.args.a.now c.bytes_of_ack.ensures.fit.0 c.bytes_of_ack.ensures.fit.1 c.bytes_of_ack.ensures.fit.2
+    ap decode written ∙ c.bodies_are_read.ensures.acknowledgement c.args.a.now c.bytes_of_ack.ensures.fit.0 c.bytes_of_ack.ensures.fit.1 c.requires.by_rules c.bytes_of_ack.ensures.fit.2

@@ -11,14 +11,14 @@ loop-place-preserved c =
     elim c.match-pending.branch [
       | in-Some w ↦
           w.ports-is ∙ w.finish.ensures ∙ (λ i. changed c.loop-place.ports (w.port.ensures i) (λ s. finished s (w.token.ensures i)))
-          ∙ finished-next c.args.ports.now c.loop-place.ports c.args.peer.now.state.pending c.loop-place.place w.in-Some.ticket.now
+          ∙ finished-next c.args.ports.now c.loop-place.ports c.args.lane.now.state.pending c.loop-place.place w.in-Some.ticket.now
           (sym c.pending.ensures ∙ ap option_copied w.in-Some.is) c.loop-place.invariant
       | in_default w ↦
           w.ports-is
-          ∙ finished-none c.args.ports.now c.loop-place.ports c.args.peer.now.state.pending c.loop-place.place
+          ∙ finished-none c.args.ports.now c.loop-place.ports c.args.lane.now.state.pending c.loop-place.place
           (sym c.pending.ensures ∙ ap option_copied w.in_default.is) c.loop-place.invariant
     ]
 
 pub returns-clause-host : goal.returns-clause-host
 returns-clause-host c =
-    ap (λ p. p.host) c.loop-place.invariant ∙ finished-host c.args.ports.now (take c.loop-place.place c.args.peer.now.state.pending)
+    ap (λ p. p.host) c.loop-place.invariant ∙ finished-host c.args.ports.now (take c.loop-place.place c.args.lane.now.state.pending)

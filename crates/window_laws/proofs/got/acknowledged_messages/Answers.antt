@@ -2,8 +2,8 @@ use Rattle.window_laws.proofs.Taken.{acknowledged-got, none-got}
 use Rattle.window_laws.proofs.Reaching.{settle-got}
 use Rattle.window_laws.proofs.got.acknowledged_messages.Goals as goal
 
-pub returns-clause-pair : goal.returns-clause-pair
-returns-clause-pair c = acknowledged-got
+pub returns-clause-connection : goal.returns-clause-connection
+returns-clause-connection c = acknowledged-got
 
 pub returns-clause-all : goal.returns-clause-all
 returns-clause-all c = none-got

@@ -8,5 +8,5 @@ use Rattle.fab_world.proofs.world.World.unacked.Given as goal
 abbrev pub invariant-loop-host : goal.invariant-loop-host
 invariant-loop-host l = record {
   sums : Summing (unacknowledged_from l.self) (host_count l.self) l.host l.sum;
-  few : l.sum ≤ l.host * 549755813760;
+  few : l.sum ≤ l.host * 1099511627520;
 }

@@ -1,4 +1,4 @@
-use Rattle.std.proofs.Common.{ℕ, arith, ◌∙◌, ap, ◌+◌, ◌<◌}
+use Rattle.std.proofs.Common.{ℕ, arith, ap, ◌+◌, ◌<◌}
 use Rattle.world_defs.specs.Node.{unacknowledged_to}
 use Rattle.world_defs.specs.World.{host_count, node_at}
 use Rattle.fab_world.proofs.Summing.{summing-on}
@@ -11,7 +11,7 @@ loop-peer-preserved c =
     let peer : ℕ = c.loop-peer.peer in
     let below : peer < host_count c.args.self.now = omega (arith, c.loop-peer-test.true, c.hosts-peer-end.ensures) in
     record {
-      sums = summing-on left (host_count c.args.self.now) peer sum (sum + c.from-sum.result) c.loop-peer.invariant.sums below
-          (ap (λ (n : ℕ). sum + n) (c.from-sum.ensures ∙ c.unacked_to.ensures));
-      few = omega (arith, c.loop-peer.invariant.few, c.from-sum.ensures);
+      sums = summing-on left (host_count c.args.self.now) peer sum (sum + c.unacked_to-sum.result) c.loop-peer.invariant.sums below
+          (ap (λ (n : ℕ). sum + n) c.unacked_to-sum.ensures.sum);
+      few = omega (arith, c.loop-peer.invariant.few, c.unacked_to-sum.ensures.few);
     }

@@ -8,5 +8,5 @@ use Rattle.fab_world.proofs.world.World.unacked_from.Given as goal
 abbrev pub invariant-loop-peer : goal.invariant-loop-peer
 invariant-loop-peer l = record {
   sums : Summing (unacknowledged_to (node_at l.self l.host)) (host_count l.self) l.peer l.sum;
-  few : l.sum ≤ l.peer * 4294967295;
+  few : l.sum ≤ l.peer * 8589934590;
 }

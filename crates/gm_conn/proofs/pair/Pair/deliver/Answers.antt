@@ -14,7 +14,7 @@ invariant_of-self-in-Whole c =
     hear-kept _ _ _ _ _ _ _ c.args.packet c.in-Some-Frame.h c.args.fits c.on_frame.result c.self.invariant
     (ap (λ l. slice_get l c.args.packet) (sym c.deref.ensures.value) ∙ sym c.packet_at.ensures ∙ c.in-Some-Frame.is ∙ ap (λ b. Some b) c.in-Some-Frame.field-0-is)
     c.on_frame.ensures.took c.on_frame.ensures.taken
-    (c.push_reserved.ensures.items ∙ ap (λ l. l ++ record { total = c.in-Some-Frame.h.total; prio = c.in-Some-Frame.h.prio } ∷ []) c.reserve.ensures.items
+    (c.push_reserved.ensures.items ∙ ap (λ l. l ++ record { total = c.in-Some-Frame.h.total } ∷ []) c.reserve.ensures.items
     ∙ ap (λ t. c.self.inside.taken.items ++ whole_message c.in-Some-Frame.h t) (sym c.in-Whole.is))
 
 pub invariant_of-self-in-Some-Ack : goal.invariant_of-self-in-Some-Ack

@@ -1,4 +1,4 @@
-use Rattle.std.proofs.Common.{◌≡◌, ◌∙◌, length, map, subst}
+use Rattle.std.proofs.Common.{◌≡◌, ◌∙◌, map, subst}
 use Rattle.std.specs.Prelude.{IfSome}
 use Rattle.gm_port.specs.Held.{event_at}
 use Rattle.world_defs.specs.Node.{NodeState, port_at}
@@ -7,7 +7,7 @@ use Rattle.nic_node.proofs.node.NicNode.abandon.Goals as goal
 
 pub returns-clause-events : goal.returns-clause-events
 returns-clause-events c =
-    let n : NodeState = state_of c.self.inside.items c.self.inside.table c.self.inside.peers c.self.inside.ports in
-    let w : HostNode = record { host = c.self.inside.ports.host; hosts = length c.self.inside.peers.peers; state = n } in
-    let is : w ≡ c.args.self.now = (λ i. record { host = c.self.invariant.own_ports i; hosts = length c.self.inside.peers.peers; state = n }) ∙ c.self.view_is in
+    let n : NodeState = state_of c.self.inside.items c.self.inside.table c.self.inside.lanes c.self.inside.ports in
+    let w : HostNode = record { host = c.self.inside.ports.host; hosts = c.self.inside.lanes.hosts; state = n } in
+    let is : w ≡ c.args.self.now = (λ i. record { host = c.self.invariant.own_ports i; hosts = c.self.inside.lanes.hosts; state = n }) ∙ c.self.view_is in
     subst (λ (x : HostNode). IfSome c.abandon.result (λ r. IfSome (port_at x.state c.args.port) (λ p. r.events.items ≡ map (event_at x.host c.args.port) p.events))) is c.abandon.ensures.events

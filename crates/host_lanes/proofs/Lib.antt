@@ -1,0 +1,2 @@
+pub mod OneLane
+pub mod Places

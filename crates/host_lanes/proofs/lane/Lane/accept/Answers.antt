@@ -1,0 +1,30 @@
+use Rattle.std.proofs.Common.{◌≡◌, ◌∙◌, ◌++◌, ◌∷◌, [], sym, ap, subst, length, arith}
+use Rattle.gm_defs.specs.declared.message.Message.{Message}
+use Rattle.gm_conn.specs.declared.desc.Desc.{Desc}
+use Rattle.gm_conn.specs.Halves.{Describes}
+use Rattle.host_lanes.specs.Lane.{IsLane}
+use Rattle.host_lanes.proofs.OneLane.{described, accepted-is, roomier-lane}
+use Rattle.host_lanes.proofs.lane.Lane.accept.Goals as goal
+
+pub offer-first-requires-clause-by_rules : goal.offer-first-requires-clause-by_rules
+offer-first-requires-clause-by_rules c =
+    let d : Desc = record { ticket = c.from.result; sport = c.args.e.sport; dport = c.args.e.dport; prio = c.args.e.prio; total = length c.args.body.now } in
+    described c.reserve.new.self c.self.inside.sender d c.reserve.ensures.stays c.requires.sport c.requires.dport c.requires.prio
+    (c.requires.lane ∙ ap (λ p. p.key.prio) (sym c.self.view_is)) c.requires.length
+
+pub invariant_of-self-2 : goal.invariant_of-self-2
+invariant_of-self-2 c =
+    let v = c.reserve.new.self in
+    let ms = c.self.inside.sent.items in
+    let m : Message = c.in_ok-message.message in
+    let d : Desc = record { ticket = c.from.result; sport = c.args.e.sport; dport = c.args.e.dport; prio = c.args.e.prio; total = length c.args.body.now } in
+    let is : m ≡ record { sport = c.args.e.sport; dport = c.args.e.dport; prio = c.args.e.prio; body = c.args.body.now } = c.in_ok-message.ensures.ok in
+    let of : Describes d m = record { sport = ap (λ x. x.sport) (sym is); dport = ap (λ x. x.dport) (sym is); prio = ap (λ x. x.prio) (sym is); total = ap (λ x. length x.body) (sym is) } in
+    let old : IsLane v c.self.inside.receiver ms = roomier-lane c.self.inside.sender v c.self.inside.receiver ms c.reserve.ensures.stays c.self.invariant in
+    let small = c.requires.length in
+    let short = ap (λ x. length x.body) is in
+    let new = c.offer-first.ensures.new in
+    let sent : c.push_reserved.new.self.items ≡ ms ++ m ∷ [] = c.push_reserved.ensures.items ∙ ap (λ xs. xs ++ m ∷ []) c.make_room.ensures.sent in
+    subst (λ xs. IsLane c.offer-first.new.self c.self.inside.receiver xs) (sym sent)
+    (accepted-is v c.offer-first.new.self c.self.inside.receiver ms d m c.in_order.ensures old of (omega (arith, small, short))
+    (ap (λ x. x.key) new) (ap (λ x. x.numbers.next) new) (ap (λ x. x.waiting) new))

@@ -1,0 +1,56 @@
+-- What a contract sees of one lane of a host: its connections with a peer, of one priority.
+use Rattle.std.specs.Prelude.{◌≡◌, ℕ, ◌≤◌, List, length, if◌then◌else◌, Option, Some, None, option_map, option_and_then}
+use Rattle.std.specs.List.{AllByRecursion}
+use Rattle.gm_defs.specs.declared.message.Message.{Message}
+use Rattle.gm_defs.specs.declared.frame.FrameHead.{FrameHead}
+use Rattle.gm_defs.specs.declared.frame.ConnectionKey.{ConnectionKey}
+use Rattle.gm_defs.specs.Body.{piece}
+use Rattle.gm_defs.specs.Fragment.{piece_count, frame_of}
+use Rattle.gm_defs.specs.Connection.{connection, due, is_spent}
+use Rattle.gm_conn.specs.declared.refusal.OfferRefusal.{OfferRefusal}
+use Rattle.gm_conn.specs.declared.refusal.OfferRefusal.TheVariants.{Spent}
+use Rattle.gm_conn.specs.Halves.{Outgoing, Incoming, WaitsFor}
+use Rattle.world_defs.specs.Lane.{LaneState, new_lane}
+use Rattle.host_lanes.specs.declared.due.DueFrame.{DueFrame}
+use Rattle.host_lanes.specs.declared.envelope.Envelope.{Envelope}
+
+-- A lane of a host: the connection on which it sends, and the lane's state.
+pub record HostLane : Type 0 where
+  pub key : ConnectionKey
+  pub state : LaneState
+
+-- the connection that goes the other way
+abbrev pub other_way : ConnectionKey → ConnectionKey
+other_way c = connection c.dst c.src c.prio
+
+-- the same lane, in another state
+abbrev pub in_state : HostLane → LaneState → HostLane
+in_state p s = record p { state = s }
+
+-- a lane on which nothing was sent
+abbrev pub unused : ConnectionKey → HostLane
+unused key = record { key = key; state = new_lane }
+
+-- the frame of the number that is due
+abbrev pub due_frame : HostLane → Option (FrameHead × List ℕ)
+due_frame p = option_and_then (λ seq. frame_of p.key p.state.sent seq) (due p.state.sender)
+
+-- a frame as it is handed out
+abbrev pub frame_shown : Option DueFrame → Option (FrameHead × List ℕ)
+frame_shown d = option_map (λ f. (f.head, f.part.now)) d
+
+-- the message of an envelope and its bytes
+abbrev pub message_in : Envelope → List ℕ → Message
+message_in e body = record { sport = e.sport; dport = e.dport; prio = e.prio; body = body }
+
+-- a message is refused where it needs a number above the greatest
+abbrev pub accept_refusal : LaneState → ℕ → Option OfferRefusal
+accept_refusal p total = if is_spent p.sender (piece_count total) then Some Spent else None
+
+-- What the two halves and the messages keep: each message is one piece, so its place is its number; the descriptors
+-- that wait are of the last messages; and what comes from the peer goes the other way.
+pub record IsLane (w : Outgoing) (r : Incoming) (sent : List Message) : Type 0 where
+  pub numbered : length sent ≡ w.numbers.next
+  pub short : AllByRecursion (λ m. length m.body ≤ piece) sent
+  pub waits : WaitsFor w sent
+  pub way_back : r.key ≡ other_way w.key

@@ -1,0 +1,325 @@
+//! One lane of a host: its connections with one peer, of one priority.
+
+ghost use Rattle.std.specs.Prelude.{◌≡◌, ◌<◌, ◌≤◌, true, List, length, drop, slice_get, vec_len, vec_capacity};
+ghost use Rattle.std.specs.Prelude.{IsSome, IfSome, OnOk, OnErr, IfOk, IfErr};
+ghost use Rattle.std.specs.Option.{option_copied};
+ghost use Rattle.std.specs.VecDeque.{deque_len, deque_capacity};
+ghost use Rattle.net_defs.specs.Refusal.{Refuses};
+ghost use Rattle.gm_defs.specs.Body.{is_prio, is_head, message_limit};
+ghost use Rattle.gm_defs.specs.Connection.{connection, ack_on, due, unacknowledged, took};
+ghost use Rattle.gm_defs.specs.declared.message.Message.{Message};
+ghost use Rattle.gm_conn.specs.Halves.{WaitsFor};
+ghost use Rattle.world_defs.specs.Lane.{with_message, finished_by, lane_acknowledged, lane_expired, lane_sent_one};
+ghost use Rattle.world_defs.specs.Lane.{lane_answered, got_after, lane_after};
+ghost use Rattle.world_defs.specs.Hearing.{message_of};
+ghost use Rattle.host_lanes.specs.Lane.{in_state, other_way, unused, due_frame, frame_shown, message_in};
+ghost use Rattle.host_lanes.specs.Lane.{accept_refusal};
+
+use crate::{DueFrame, Envelope, Ticket};
+use gm_conn::{Ack, Desc, FrameHead, OfferRefusal, Receiver, Sender, Took};
+use gm_defs::{Blob, Message};
+use std::alloc::{AllocError, Global};
+use std::collections::VecDeque;
+use std::marker::Model;
+
+/// What a host sends to a peer of one priority, and what it takes from there. The messages on both sides are kept.
+#[derive(Drop)]
+pub struct Lane {
+    sender: Sender,
+    sent: Vec<Message>,
+    pending: VecDeque<Ticket>,
+    receiver: Receiver,
+    got: Vec<Message>,
+    owes: bool,
+}
+
+impl Model for Lane {
+    ghost use Rattle.host_lanes.specs.Lane.{HostLane, IsLane};
+
+    ghost Value = { HostLane };
+
+    ghost view = { λ p. record {
+      key = p.sender.key;
+      state = record {
+        sender = p.sender.numbers;
+        sent = p.sent.items;
+        pending = p.pending.items;
+        got = p.got.items;
+        taken = p.receiver.taken;
+        owes = p.owes;
+      };
+    } };
+
+    ghost invariant = { λ p. IsLane p.sender p.receiver p.sent.items };
+}
+
+impl Lane {
+    /// The lane of a host with a peer and a priority on which nothing was sent. It takes no memory.
+    pub fn new(alloc: Global, host: u16, peer: u16, prio: u8) -> Lane
+        ensures { result ≡ unused (connection host peer prio) }
+    {
+        Lane {
+            sender: Sender::new(alloc, host, peer, prio),
+            sent: Vec::new(alloc),
+            pending: VecDeque::new(alloc),
+            receiver: Receiver::new(peer, host, prio),
+            got: Vec::new(alloc),
+            owes: false,
+        }
+    }
+
+    /// The fragment that is to be sent next, if one is.
+    pub fn due(&self) -> Option<DueFrame<'_>>
+        ensures exact { frame_shown result ≡ due_frame self.now }
+        ensures by_rules { IfSome result (λ d. is_head d.head ≡ true) }
+        ensures part { IfSome result (λ d. length d.part.now ≡ d.head.len) }
+    {
+        self.sender.in_order();
+        match self.sender.due() {
+            Some(due) => Some(DueFrame {
+                head: due.head,
+                part: self.sent[due.head.seq as usize].body.bytes(),
+            }),
+            None => None,
+        }
+    }
+
+    /// The due fragment was sent.
+    pub fn sent_one(&mut self)
+        requires { IsSome (due self.old.state.sender) }
+        ensures { self.new ≡ in_state self.old (lane_sent_one self.old.state) }
+    {
+        self.sender.mark_sent();
+    }
+
+    /// The acknowledgement was sent.
+    pub fn answered(&mut self)
+        ensures { self.new ≡ in_state self.old (lane_answered self.old.state) }
+    {
+        self.owes = false;
+    }
+
+    /// What isn't acknowledged is sent again.
+    pub fn expire(&mut self)
+        ensures { self.new ≡ in_state self.old (lane_expired self.old.state) }
+    {
+        let _some = self.sender.expire();
+    }
+
+    /// The peer.
+    pub fn peer(&self) -> u16
+        ensures { result ≡ self.now.key.dst }
+    {
+        self.sender.key().dst
+    }
+
+    /// How many fragments to the peer aren't acknowledged, sent or not.
+    pub fn unacked(&self) -> u32
+        ensures { result ≡ unacknowledged self.now.state.sender }
+    {
+        self.sender.unacked()
+    }
+
+    /// Whether the peer is owed an acknowledgement.
+    pub fn owes(&self) -> bool
+        ensures { result ≡ self.now.state.owes }
+    {
+        self.owes
+    }
+
+    /// The acknowledgement of what was taken from the peer.
+    pub fn ack(&self) -> Ack
+        ensures { result ≡ ack_on (other_way self.now.key) self.now.state.taken }
+    {
+        self.receiver.ack()
+    }
+
+    /// Accepts a message of the lane's priority for the peer, with the number of its port's token. `Spent` exactly
+    /// where it needs a number above 4,294,967,294. A refusal changes nothing.
+    pub fn accept(
+        &mut self,
+        alloc: Global,
+        e: Envelope,
+        body: &[u8],
+        token: u16,
+    ) -> Result<(), OfferRefusal>
+        requires sport { e.sport < 8 }
+        requires dport { e.dport < 8 }
+        requires prio { is_prio e.prio ≡ true }
+        requires lane { e.prio ≡ self.old.key.prio }
+        requires length { length body.now ≤ message_limit }
+        ensures refused { Refuses (accept_refusal self.old.state (length body.now)) OfferRefusal.NoMemory result }
+        ensures ok { OnOk result (self.new ≡ in_state self.old
+            (with_message self.old.state (message_in e body.now) (record { port = e.sport; token = token }))) }
+        ensures err { OnErr result (self.new ≡ self.old) }
+    {
+        let total = body.len() as u32;
+        self.sender.reserve(total)?;
+        self.sender.in_order();
+        make_room(&mut self.sent, &mut self.pending)?;
+        let message = message_in(alloc, e, body)?;
+        let _first = self.sender.offer(Desc {
+            ticket: usize::from(token),
+            sport: e.sport,
+            dport: e.dport,
+            prio: e.prio,
+            total,
+        });
+        self.sent.push_reserved(message);
+        self.pending.push_back_reserved(Ticket::new(e.sport, token));
+        Ok(())
+    }
+
+    /// How many sends an acknowledgement of this number finishes: so many of the tickets that wait longest.
+    pub fn finished_by(&self, next: u32) -> usize
+        ensures { result ≡ finished_by self.now.state next }
+    {
+        self.sender.in_order();
+        if self.sender.takes(next) {
+            next as usize - (self.sent().len() - self.sender.unacked() as usize)
+        } else {
+            0
+        }
+    }
+
+    /// The ticket at a place among those that wait, the one that waits longest at 0.
+    pub fn pending(&self, place: usize) -> Option<&Ticket>
+        ensures { option_copied result ≡ slice_get self.now.state.pending place }
+    {
+        self.pending.get(place)
+    }
+
+    /// An acknowledgement came: the sends that it finishes wait no more.
+    pub fn on_ack(&mut self, next: u32)
+        ensures { self.new ≡ in_state self.old (lane_acknowledged self.old.state next) }
+    {
+        let finished = self.finished_by(next);
+        let _messages = self.sender.on_ack(next);
+        drop_tickets(&mut self.pending, finished);
+        drop_finished(&mut self.sender, finished);
+    }
+
+    /// A frame came; `fits` says whether a token fits its message. Whatever is made of it, an acknowledgement is
+    /// owed. Want of memory changes nothing.
+    pub fn on_frame(
+        &mut self,
+        alloc: Global,
+        h: &FrameHead,
+        part: &[u8],
+        fits: bool,
+    ) -> Result<Took, AllocError>
+        requires head { is_head h.now ≡ true }
+        ensures took { IfOk result (λ t. t ≡ took self.old.state.taken h.now.seq fits) }
+        ensures ok { IfOk result (λ t. self.new ≡ in_state self.old
+            (lane_after self.old.state t (message_of h.now part.now))) }
+        ensures err { OnErr result (self.new ≡ self.old) }
+    {
+        let took = took_of(self.receiver.ack().next, h.seq, fits);
+        keep(alloc, &mut self.got, took, h, part)?;
+        self.owes = true;
+        Ok(self.receiver.on_frame(h, fits))
+    }
+
+    /// The messages that were accepted for the peer, in order.
+    pub fn sent(&self) -> &[Message]
+        ensures { result.now ≡ self.now.state.sent }
+    {
+        &self.sent
+    }
+
+    /// The messages that were taken from the peer, in order.
+    pub fn got(&self) -> &[Message]
+        ensures { result.now ≡ self.now.state.got }
+    {
+        &self.got
+    }
+}
+
+// What is made of a frame's number where so many were taken.
+fn took_of(taken: u32, seq: u32, fits: bool) -> Took
+    ensures { result ≡ took taken seq fits }
+{
+    if seq != taken {
+        Took::NotNext
+    } else if fits {
+        Took::Whole
+    } else {
+        Took::NoToken
+    }
+}
+
+// Makes room for one message and one ticket more.
+fn make_room(sent: &mut Vec<Message>, pending: &mut VecDeque<Ticket>) -> Result<(), OfferRefusal>
+    ensures sent { sent.new.items ≡ sent.old.items }
+    ensures pending { pending.new.items ≡ pending.old.items }
+    ensures sent_room { OnOk result (vec_len sent.new < vec_capacity sent.new) }
+    ensures pending_room { OnOk result (deque_len pending.new < deque_capacity pending.new) }
+    ensures err { IfErr result (λ e. e ≡ OfferRefusal.NoMemory) }
+{
+    if sent.reserve(1).is_ok() && pending.reserve(1).is_ok() {
+        Ok(())
+    } else {
+        Err(OfferRefusal::NoMemory)
+    }
+}
+
+// The message of an envelope and its bytes.
+fn message_in(alloc: Global, e: Envelope, body: &[u8]) -> Result<Message, OfferRefusal>
+    ensures ok { IfOk result (λ m. m ≡ message_in e body.now) }
+    ensures err { IfErr result (λ e. e ≡ OfferRefusal.NoMemory) }
+{
+    match body.to_vec(alloc) {
+        Ok(bytes) => Ok(Message {
+            sport: e.sport,
+            dport: e.dport,
+            prio: e.prio,
+            body: Blob::new(bytes),
+        }),
+        Err(_) => Err(OfferRefusal::NoMemory),
+    }
+}
+
+// The message of a frame joins those that were got, where it was taken whole.
+fn keep(
+    alloc: Global,
+    got: &mut Vec<Message>,
+    took: Took,
+    h: &FrameHead,
+    part: &[u8],
+) -> Result<(), AllocError>
+    ensures ok { OnOk result (got.new.items ≡ got_after got.old.items took (message_of h.now part.now)) }
+    ensures err { OnErr result (got.new.items ≡ got.old.items) }
+{
+    if let Took::Whole = took {
+        let body = part.to_vec(alloc)?;
+        got.reserve(1)?;
+        got.push_reserved(Message {
+            sport: h.sport,
+            dport: h.dport,
+            prio: h.prio,
+            body: Blob::new(body),
+        });
+    }
+    Ok(())
+}
+
+// Drops so many tickets in front.
+fn drop_tickets(pending: &mut VecDeque<Ticket>, count: usize)
+    ensures { pending.new.items ≡ drop count pending.old.items }
+{
+    for _ in 0..count {
+        let _ticket = pending.pop_front();
+    }
+}
+
+// Takes so many finished descriptors out of a sender, which keeps its numbers.
+fn drop_finished(sender: &mut Sender, count: usize)
+    ensures key { sender.new.key ≡ sender.old.key }
+    ensures numbers { sender.new.numbers ≡ sender.old.numbers }
+    ensures waits { (sent : List Message) → WaitsFor sender.old sent → WaitsFor sender.new sent }
+{
+    for _ in 0..count {
+        sender.in_order();
+        let _desc = sender.take_finished();
+    }
+}

@@ -1,2 +1,0 @@
-pub mod OnePeer
-pub mod Places

@@ -1,2 +1,0 @@
-pub mod Peer
-pub mod Peers
