@@ -1,10 +1,10 @@
 //! The routes of probes.
 
-ghost use Rattle.std.specs.Prelude.{◌≡◌, ◌++◌, ◌∷◌, map, pos, neg_ℤ, All, IfOk, OnOk};
-ghost use Rattle.net_defs.specs.Turn.{IsTurn};
+ghost use Rattle.std.specs.Prelude.{◌≡◌, ◌++◌, ◌∷◌, map, pos, neg_ℤ, None, All, IfOk, OnOk};
+ghost use Rattle.net_defs.specs.Turn.{IsTurn, walk_refusal};
 ghost use Rattle.world_defs.specs.Node.{way_back};
 
-use net_defs::Walk;
+use net_defs::{Walk, WalkFault};
 use std::alloc::{AllocError, Global};
 
 // The turn the other way.
@@ -43,9 +43,19 @@ pub(crate) fn way_back(alloc: Global, walk: &Walk) -> Result<Walk, AllocError>
     ensures { IfOk result (λ back. back ≡ way_back walk.now) }
 {
     let back = turns_back(alloc, walk.turns())?;
-    match Walk::new(alloc, &back) {
-        Ok(back) => Ok(back),
-        Err(_) => Err(AllocError),
+    walk_of(alloc, &back)
+}
+
+// The walk of turns that are one.
+fn walk_of(alloc: Global, turns: &[i8]) -> Result<Walk, AllocError>
+    requires { walk_refusal turns.now ≡ None }
+    ensures { IfOk result (λ walk. walk ≡ turns.now) }
+{
+    match Walk::new(alloc, turns) {
+        Ok(walk) => Ok(walk),
+        Err(WalkFault::NoMemory) => Err(AllocError),
+        Err(WalkFault::TooLong) => unreachable!(),
+        Err(WalkFault::TurnRange) => unreachable!(),
     }
 }
 

@@ -148,6 +148,7 @@ module _ (c : ClassTable) (order : List ℕ) (once : Apart c.nodes) (o : IsNodeO
 -- at the end all classes have vertices
 pub numbered-whole : (c : ClassTable) (order : List ℕ) (k : ℕ) (least : List ℕ) (vertices : List (Option ℕ)) → IsNodeOrder c.nodes order → length order ≡ k → IsNumberedTo c order k least vertices → AreVertices c least vertices
 numbered-whole c order k least vertices o long t = record {
+  few = (let s = t.short in let n = o.few in omega arith);
   inside = λ v n e. (let f = t.placed v n e in o.inside f.place n f.there);
   own = λ v n e. (t.placed v n e).is_vertex;
   first = λ v n m e l same. first v n m (t.placed v n e) (o.whole m l) same;

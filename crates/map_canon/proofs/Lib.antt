@@ -1,5 +1,6 @@
 pub mod Expanding
 pub mod Firsts
+pub mod Joined
 pub mod Named
 pub mod Ordered
 pub mod Places
@@ -7,4 +8,5 @@ pub mod Sorting
 pub mod Standing
 pub mod Taken
 pub mod Told
+pub mod Vertices
 pub mod Whole

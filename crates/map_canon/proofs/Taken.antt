@@ -26,7 +26,7 @@ use Rattle.map_canon.proofs.Ordered.{IsBelow, IsRising, below-in_order, below-me
 use Rattle.map_canon.proofs.Places.{place-member}
 
 -- what a map refuses no cable for
-taken : (m : NetMap) (c : MapCable) → nat_lt c.v (length m.vertices) ≡ true → nat_lt c.w (length m.vertices) ≡ true → may_have m (first_end c) ≡ true → may_have m (second_end c) ≡ true
+pub taken : (m : NetMap) (c : MapCable) → nat_lt c.v (length m.vertices) ≡ true → nat_lt c.w (length m.vertices) ≡ true → may_have m (first_end c) ≡ true → may_have m (second_end c) ≡ true
     → is_near (first_end c) (second_end c) ≡ true → is_used m c ≡ false → nat_le 4294967295 (length m.cables) ≡ false → cable_refusal m c ≡ None
 taken m c e f g h k u n =
     λ i. if not (e i) then Some NoVertex else if not (f i) then Some NoVertex else if not (g i) then Some PortRange else if not (h i) then Some PortRange
@@ -91,7 +91,7 @@ apart-order (c ∷ cs) o = (all-from-members (λ d. c ≢ d) cs (λ d i same. lo
     loop : (d : MapCable) → port_below (first_end c) (first_end d) ≡ true → c ≡ d → ⊥
     loop d b same = port-asym (first_end c) (first_end d) b ((λ i. port_below (first_end (sym same i)) (first_end (same i))) ∙ b)
 
-not-full : (n : ℕ) → n < 4294967295 → nat_le 4294967295 n ≡ false
+pub not-full : (n : ℕ) → n < 4294967295 → nat_le 4294967295 n ≡ false
 not-full n l = grind (arith, nat_tests)
 
 module _ (m : NetMap) (is : IsMap m) where

@@ -104,7 +104,7 @@ module _ (host : ℕ) (j : List Entry) (walks : List (List ℤ)) (c : ClassTable
   there n u l e = subst (IsNode j) e (is_node host j c least vertices g n l)
 
   -- the ends of a cable that is told of are joined, both ways
-  told-led : (at : ℕ) (w : List ℤ) (o : Option MapCable) (x : MapCable) → slice_get walks at ≡ Some w → TellsCable walks c vertices w (at + 1) o → o ≡ Some x → Led (first_end x) (second_end x) × Led (second_end x) (first_end x)
+  pub told-led : (at : ℕ) (w : List ℤ) (o : Option MapCable) (x : MapCable) → slice_get walks at ≡ Some w → TellsCable walks c vertices w (at + 1) o → o ≡ Some x → Led (first_end x) (second_end x) × Led (second_end x) (first_end x)
   told-led at w o x s (from_mapper e is) q =
       let n = node-of at w s in
       let first : node_at c.nodes (at + 1) ≡ Reached [] = n.1 ∙ ap Reached e in

@@ -79,7 +79,7 @@ end-in-turns host j walks t once e at m front turn a b =
         let p = subst (λ (ns : List Node). (k + 1 < length ns) × (node_at ns (k + 1) ≡ Reached w)) e (walk-node walks k w s) in
         subst (IsNode j) p.1 (at-node j once (k + 1) p.0)
 
-map-twice : (f : Node → Option ℕ) (g : ℕ → Node) (ns : List ℕ) → map (λ n. f (g n)) ns ≡ map f (map g ns)
+pub map-twice : (f : Node → Option ℕ) (g : ℕ → Node) (ns : List ℕ) → map (λ n. f (g n)) ns ≡ map f (map g ns)
 map-twice f g [] = refl
 map-twice f g (n ∷ ns) = ap (λ l. f (g n) ∷ l) (map-twice f g ns)
 

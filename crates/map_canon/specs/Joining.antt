@@ -4,7 +4,7 @@ use Rattle.std.specs.Prelude.{slice_index_or, unwrap_or, is_some, if◌then◌el
 use Rattle.net_defs.specs.Turn.{IsTurn}
 use Rattle.map_defs.specs.declared.vertex.MapCable.{MapCable}
 use Rattle.map_defs.specs.NetMap.{NetMap, MapPort, first_end, map_far}
-use Rattle.fabric_map.specs.Growing.{with_cable}
+use Rattle.fabric_map.specs.Growing.{with_cable, cable_refusal}
 use Rattle.probe.specs.Keeping.{has_walk}
 use Rattle.class_joins.specs.Table.{ClassTable}
 use Rattle.class_joins.specs.Ways.{frame_at}
@@ -53,6 +53,12 @@ pub data JoinsBelow (walks : List (List ℤ)) (c : ClassTable) (vertices : List 
   next : (k at : ℕ) (old new : NetMap) (walk : List ℤ) (o : Option MapCable) → k ≡ at + 1
       → JoinsBelow walks c vertices first at old → slice_get walks at ≡ Some walk
       → TellsCable walks c vertices walk (at + 1) o → new ≡ joined_by old o → JoinsBelow walks c vertices first k new
+
+-- The cable that the next walk tells of is refused for nothing, where there is none at its first end.
+abbrev pub AreTaken : List (List ℤ) → ClassTable → List (Option ℕ) → NetMap → Type 0
+AreTaken walks c vertices first = (at : ℕ) (m : NetMap) (walk : List ℤ) (x : MapCable)
+    → JoinsBelow walks c vertices first at m → slice_get walks at ≡ Some walk
+    → TellsCable walks c vertices walk (at + 1) (Some x) → map_far m (first_end x) ≡ None → cable_refusal m x ≡ None
 
 -- each node's class has a vertex
 abbrev pub HaveVertices : ClassTable → List (Option ℕ) → Type 0

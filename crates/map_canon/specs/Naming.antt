@@ -1,11 +1,12 @@
 -- A map without cables, whose vertices are named for nodes.
-use Rattle.std.specs.Prelude.{ℕ, ℤ, true, List, [], map, Option, Some, None}
+use Rattle.std.specs.Prelude.{◌≡◌, ℕ, ℤ, true, List, [], map, slice_get, Option, Some, None}
 use Rattle.journal_defs.specs.declared.entry.Entry.{Entry}
 use Rattle.journal_defs.specs.Tree.{host_of}
 use Rattle.map_defs.specs.declared.vertex.MapVertex.{MapVertex}
 use Rattle.map_defs.specs.NetMap.{NetMap}
 use Rattle.map_defs.specs.Quotient.{named}
-use Rattle.fabric_map.specs.Growing.{with_host, with_switch}
+use Rattle.fabric_map.specs.declared.fault.MapFault.{MapFault}
+use Rattle.fabric_map.specs.Growing.{with_host, with_switch, host_refusal, switch_refusal}
 use Rattle.class_joins.specs.Nodes.{nodes_of}
 use Rattle.class_joins.specs.Ways.{node_at}
 
@@ -17,6 +18,15 @@ bare_map vertices = record { vertices = vertices; cables = []; core = map (λ v.
 abbrev pub with_vertex : NetMap → Option ℕ → NetMap
 with_vertex m (Some h) = with_host m h
 with_vertex m None = with_switch m true
+
+-- why a map doesn't take a host of this address, or a switch
+abbrev pub vertex_refusal : NetMap → Option ℕ → Option MapFault
+vertex_refusal m (Some h) = host_refusal m h
+vertex_refusal m None = switch_refusal m
+
+-- no address stands twice among these
+abbrev pub HaveOwnAddresses : List (Option ℕ) → Type 0
+HaveOwnAddresses os = (v w h : ℕ) → slice_get os v ≡ Some (Some h) → slice_get os w ≡ Some (Some h) → v ≡ w
 
 -- the addresses of nodes by their numbers: none of a switch
 abbrev pub addresses_of : ℕ → List Entry → List (List ℤ) → List ℕ → List (Option ℕ)

@@ -1,5 +1,5 @@
 -- The nodes of a journal in their order, and the vertices of their classes.
-use Rattle.std.specs.Prelude.{◌≡◌, ℕ, ◌<◌, true, false, List, length, slice_get, Option, Some}
+use Rattle.std.specs.Prelude.{◌≡◌, ℕ, ◌<◌, ◌≤◌, true, false, List, length, slice_get, Option, Some}
 use Rattle.journal_defs.specs.Tree.{node_below, Node}
 use Rattle.class_joins.specs.Table.{ClassTable}
 use Rattle.class_joins.specs.Ways.{node_at, frame_at}
@@ -42,6 +42,7 @@ pub record HasNumber (c : ClassTable) (least : List ℕ) (vertices : List (Optio
 
 -- The least node of each vertex, in the order of nodes, and the vertex of each class.
 pub record AreVertices (c : ClassTable) (least : List ℕ) (vertices : List (Option ℕ)) : Type 0 where
+  pub few : length least ≤ length c.nodes
   pub inside : (v n : ℕ) → slice_get least v ≡ Some n → n < length c.nodes
   pub own : (v n : ℕ) → slice_get least v ≡ Some n → IsVertexOf vertices (class_at c n) v
   pub first : (v n m : ℕ) → slice_get least v ≡ Some n → m < length c.nodes → class_at c m ≡ class_at c n

@@ -15,7 +15,7 @@ const PORTS: usize = 31;
 const MAX_PORT: i8 = 15;
 
 /// Adds the cables of a map to the map of the same vertices without cables, in their order.
-pub(crate) fn add_in_order(map: &mut FabricMap, loose: &FabricMap) -> Result<(), AllocError>
+pub fn add_in_order(map: &mut FabricMap, loose: &FabricMap) -> Result<(), AllocError>
     requires { map.old ≡ record { vertices = loose.now.vertices; cables = []; core = loose.now.core } }
     ensures { OnOk result (map.new ≡ in_order loose.now) }
 {
@@ -40,8 +40,8 @@ fn cable_from(loose: &FabricMap, place: usize) -> Option<MapCable>
     }
 }
 
-// Adds a cable that the map takes.
-fn add(map: &mut FabricMap, cable: MapCable) -> Result<(), AllocError>
+/// Adds a cable that the map takes.
+pub(crate) fn add(map: &mut FabricMap, cable: MapCable) -> Result<(), AllocError>
     requires { cable_refusal map.old cable ≡ None }
     ensures { OnOk result (map.new ≡ with_cable map.old cable) }
 {

@@ -1,13 +1,16 @@
 //! The cables of a map, from the walks of a journal: each walk tells of one, to the node that it reached from the
 //! node in front.
 
-ghost use Rattle.std.specs.Prelude.{◌≡◌, ℕ, ◌+◌, ◌<◌, ◌^◌, ℤ, List, length, slice_get, Some, OnOk};
+ghost use Rattle.std.specs.Prelude.{◌≡◌, ℕ, ◌+◌, ◌<◌, ◌^◌, ℤ, List, length, slice_get, Some, None, IfSome, OnOk};
 ghost use Rattle.map_canon.specs.Numbering.{IsVertexOf};
 ghost use Rattle.net_defs.specs.Turn.{IsTurn};
 ghost use Rattle.class_joins.specs.Nodes.{nodes_of};
+ghost use Rattle.map_defs.specs.NetMap.{first_end, map_far};
+ghost use Rattle.fabric_map.specs.Growing.{cable_refusal};
 ghost use Rattle.map_canon.specs.Joining.{TellsCable, JoinsBelow, HaveVertices, EndInTurns, port_of, cable_between};
-ghost use Rattle.map_canon.specs.Joining.{vertex_at, joined, joined_by};
+ghost use Rattle.map_canon.specs.Joining.{vertex_at, joined, joined_by, AreTaken};
 
+use crate::cables::add;
 use fabric_map::{FabricMap, MapCable};
 use probe::WalkIndex;
 use replicate_merge::Classes;
@@ -24,6 +27,7 @@ pub(crate) fn join_all(
     requires nodes { nodes_of walks.now ≡ c.now.nodes }
     requires numbered { HaveVertices c.now vertices.now }
     requires turns { EndInTurns walks.now }
+    requires taken { AreTaken walks.now c.now vertices.now map.old }
     ensures { OnOk result (JoinsBelow walks.now c.now vertices.now map.old (length walks.now) map.new) }
 {
     for at in 0..walks.len() {
@@ -98,6 +102,7 @@ fn vertex_of(vertices: &[Option<u32>], class: u32) -> u32
 
 // Adds a cable that was told of, where there is none yet.
 fn join_told(map: &mut FabricMap, told: Option<MapCable>) -> Result<(), AllocError>
+    requires { IfSome told (λ x. map_far map.old (first_end x) ≡ None → cable_refusal map.old x ≡ None) }
     ensures { OnOk result (map.new ≡ joined_by map.old told) }
 {
     match told {
@@ -106,15 +111,13 @@ fn join_told(map: &mut FabricMap, told: Option<MapCable>) -> Result<(), AllocErr
     }
 }
 
-// Adds a cable where there is none at its first end.
+// Adds a cable where there is none at its first end. It isn't refused there.
 fn join(map: &mut FabricMap, cable: MapCable) -> Result<(), AllocError>
+    requires { map_far map.old (first_end cable) ≡ None → cable_refusal map.old cable ≡ None }
     ensures { OnOk result (map.new ≡ joined map.old cable) }
 {
     if map.map_far(cable.v, cable.p).is_some() {
         return Ok(());
     }
-    match map.add_cable(cable) {
-        Ok(_) => Ok(()),
-        Err(_) => Err(AllocError),
-    }
+    add(map, cable)
 }

@@ -33,6 +33,7 @@ mod numbering;
 mod of_journal;
 mod order;
 
+pub use cables::add_in_order;
 pub use closing::closed;
 pub use fabric_map::{FabricMap, MapCable, MapVertex};
 pub use of_journal::quotient;

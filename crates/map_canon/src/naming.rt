@@ -1,10 +1,11 @@
 //! A map's vertices, from the least nodes of the classes.
 
-ghost use Rattle.std.specs.Prelude.{◌≡◌, IfOk, OnOk};
-ghost use Rattle.map_canon.specs.Naming.{bare_map, vertices_of, with_vertex};
+ghost use Rattle.std.specs.Prelude.{◌≡◌, ◌<◌, ◌^◌, length, None, IfOk, OnOk};
+ghost use Rattle.map_canon.specs.Naming.{bare_map, vertices_of, with_vertex, vertex_refusal};
+ghost use Rattle.map_canon.specs.Naming.{HaveOwnAddresses, addresses_of};
 
 use crate::found::address_of;
-use fabric_map::FabricMap;
+use fabric_map::{FabricMap, MapFault};
 use probe::{Journal, WalkIndex};
 use std::alloc::{AllocError, Global};
 
@@ -15,6 +16,8 @@ pub(crate) fn named(
     walks: &WalkIndex,
     least: &[u32],
 ) -> Result<FabricMap, AllocError>
+    requires few { length least.now < 2 ^ 32 }
+    requires own { HaveOwnAddresses (addresses_of j.now.host j.now.entries walks.now least.now) }
     ensures { IfOk result (λ m. m ≡ bare_map (vertices_of j.now.host j.now.entries walks.now least.now)) }
 {
     let mut map = FabricMap::new(alloc);
@@ -24,8 +27,9 @@ pub(crate) fn named(
     Ok(map)
 }
 
-// Adds a host of this address, or a switch.
+// Adds a host of this address, or a switch, that isn't refused.
 fn add_vertex(map: &mut FabricMap, address: Option<u16>) -> Result<(), AllocError>
+    requires { vertex_refusal map.old address ≡ None }
     ensures { OnOk result (map.new ≡ with_vertex map.old address) }
 {
     let added = match address {
@@ -34,6 +38,7 @@ fn add_vertex(map: &mut FabricMap, address: Option<u16>) -> Result<(), AllocErro
     };
     match added {
         Ok(_) => Ok(()),
-        Err(_) => Err(AllocError),
+        Err(MapFault::NoMemory) => Err(AllocError),
+        Err(_) => unreachable!(),
     }
 }

@@ -25,7 +25,7 @@ host-member (Host g ∷ vs) (suc v) h e = inr (host-member vs v h e)
 host-member (Switch s ∷ vs) zero h e = cc
 host-member (Switch s ∷ vs) (suc v) h e = host-member vs v h e
 
-host-one : (vs : List MapVertex) (v w h : ℕ) → Apart (hosts_of vs) → host_at (slice_get vs v) ≡ Some h → host_at (slice_get vs w) ≡ Some h → v ≡ w
+pub host-one : (vs : List MapVertex) (v w h : ℕ) → Apart (hosts_of vs) → host_at (slice_get vs v) ≡ Some h → host_at (slice_get vs w) ≡ Some h → v ≡ w
 host-one [] v w h apart a b = cc
 host-one (Host g ∷ vs) zero zero h apart a b = refl
 host-one (Host g ∷ vs) zero (suc w) h apart a b = absurd (all-member (λ y. g ≢ y) h (hosts_of vs) apart.0 (host-member vs w h b) (let one : g ≡ h = cc in one))

@@ -2,11 +2,10 @@ pub mod Covers
 pub mod Finds
 pub mod Images
 pub mod Levels
+pub mod Moved
 pub mod Named
 pub mod Nodes
 pub mod OneCanon
-pub mod Ordered
-pub mod Places
 pub mod Renumbered
 pub mod Steps
 pub mod Ways

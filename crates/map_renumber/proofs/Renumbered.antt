@@ -1,5 +1,5 @@
 -- From a search to the map renumbered.
-use Rattle.std.proofs.Common.{◌≡◌, ◌<◌, ◌*◌, ◌⊎◌, inl, inr, ℕ, zero, suc, List, [], ◌∷◌, map, length, Option, Some, None, unwrap_or, refl, ap, sym, ◌∙◌, subst, arith}
+use Rattle.std.proofs.Common.{◌≡◌, ◌<◌, ◌*◌, ◌⊎◌, inl, inr, ℕ, List, map, length, Option, Some, None, unwrap_or, ap, sym, ◌∙◌, subst, arith}
 use Rattle.std.specs.Prelude.{ℤ, pos, ◌+ℤ◌, ◌-ℤ◌, neg_ℤ, ◌↔◌, slice_get, slice_index_or}
 use Rattle.std.proofs.lemmas.Int.{ints}
 use Rattle.std.proofs.lemmas.List.{length-map}
@@ -14,18 +14,14 @@ use Rattle.map_defs.specs.Sameness.{IsSame, graph_of_map}
 use Rattle.map_defs.proofs.Ports.{far_is_cabled}
 use Rattle.map_laws.proofs.Least.{below-get, get-map, named-length, named-host}
 use Rattle.fabric_map.proofs.Ends.{port-holds}
-use Rattle.map_renumber.specs.InOrder.{in_order}
+use Rattle.map_canon.specs.InOrder.{in_order}
 use Rattle.map_renumber.specs.Canon.{start_port, IsPortOf, IsMoved, IsRenumbered, IsCanon, is_of_core}
 use Rattle.map_renumber.proofs.Levels.{far-back}
 use Rattle.map_renumber.specs.Search.{IsSearch, IsBehind, turn_at, number_of, entry_of, moved_port, moved_cable}
-use Rattle.map_renumber.proofs.Places.{one-there, get-less}
-use Rattle.map_renumber.proofs.Ordered.{below-in_order, ordered-only, ordered-each}
+use Rattle.map_canon.proofs.Places.{one-there, get-less}
+use Rattle.map_canon.proofs.Ordered.{below-in_order, ordered-only, ordered-each}
+use Rattle.map_canon.proofs.Vertices.{map-place}
 use Rattle.map_renumber.proofs.Covers.{all-found}
-
-pub map-place : {X Y : Type 0} (f : X → Y) (xs : List X) (k : ℕ) (y : Y) → slice_get (map f xs) k ≡ Some y → (x : X) × (slice_get xs k ≡ Some x) × (f x ≡ y)
-map-place f [] k y e = cc
-map-place f (x ∷ xs) zero y e = (x, refl, (let one : f x ≡ y = cc in one))
-map-place f (x ∷ xs) (suc k) y e = map-place f xs k y e
 
 moved_again : (p a : ℤ) → p ≡ (p -ℤ a) +ℤ a
 moved_again p a = omega (arith, ints)
@@ -37,7 +33,7 @@ less_is_neg : (p a : ℤ) → p -ℤ a ≡ p +ℤ neg_ℤ a
 less_is_neg p a = omega (arith, ints)
 
 module _ (m : NetMap) (is_map : IsMap m) (h : ℕ) (host : host_of_vertex m 0 ≡ Some h) (connected : IsConnected m) (found : List MapPort) (numbers : List (Option ℕ)) (ways : List Node) (s : IsSearch m found numbers ways (length m.vertices) 0) where
-  abbrev image : ℕ → ℕ
+  abbrev pub image : ℕ → ℕ
   image = number_of numbers
 
   -- each vertex has a number, with its entry port
@@ -53,13 +49,24 @@ module _ (m : NetMap) (is_map : IsMap m) (h : ℕ) (host : host_of_vertex m 0 �
       entry : entry_of found (image x) ≡ p
       entry = ap (entry_of found) number ∙ ap (λ (y : MapPort). y.p) (get_or_from_slice_get found v (record { v = x; p = p }) start_port e)
 
-  image-there : (x : ℕ) → x < length m.vertices → slice_get found (image x) ≡ Some (record { v = x; p = entry_of found (image x) })
+  pub image-there : (x : ℕ) → x < length m.vertices → slice_get found (image x) ≡ Some (record { v = x; p = entry_of found (image x) })
   image-there x l =
       let r = renumbered x l in
       let i = image-is x r.number r.entry r.there in
       ap (slice_get found) i.0 ∙ r.there ∙ ap Some (λ k. record { v = x; p = sym i.1 k })
 
-  cabled-low : (d e : MapPort) → IsCabled m d e → d.v < length m.vertices
+  -- a host is entered by port 0
+  pub host-entry : (x a : ℕ) → x < length m.vertices → host_of_vertex m x ≡ Some a → entry_of found (image x) ≡ pos 0
+  host-entry x a l is =
+      let w = below-get ways (image x) (let b = get-less found (image x) (record { v = x; p = entry_of found (image x) }) (image-there x l) in let n = s.one_each in omega arith) in
+      by w.0 (s.behind (image x) w.0 (record { v = x; p = entry_of found (image x) }) w.1 (image-there x l))
+    where
+      by : (u : Node) → (image x ≡ 0) ⊎ IsBehind m found ways (length m.vertices) 0 u (record { v = x; p = entry_of found (image x) }) → entry_of found (image x) ≡ pos 0
+      by u (inl z) = ap (λ (y : MapPort). y.p) (one-there found 0 (record { v = x; p = entry_of found (image x) }) start_port (subst (λ n. slice_get found n ≡ Some (record { v = x; p = entry_of found (image x) })) z (image-there x l)) s.start_entry)
+      by u (inr b) =
+          port-holds (λ (y : MapPort). (g : ℕ) → host_of_vertex m y.v ≡ Some g → y.p ≡ pos 0) m.cables (record { v = x; p = entry_of found (image x) }) (record { v = b.entry.v; p = b.entry.p +ℤ turn_at b.place }) is_map.host_ports (far-back m (record { v = b.entry.v; p = b.entry.p +ℤ turn_at b.place }) (record { v = x; p = entry_of found (image x) }) is_map b.far) a is
+
+  pub cabled-low : (d e : MapPort) → IsCabled m d e → d.v < length m.vertices
   cabled-low d e c = port-holds (λ x. x.v < length m.vertices) m.cables d e is_map.cabled_vertices ((far_is_cabled m d e is_map).1 c)
 
   turned : (k : NetMap) (d e : MapPort) → IsCabled k d e → IsCabled k e d
@@ -150,17 +157,6 @@ module _ (m : NetMap) (is_map : IsMap m) (h : ℕ) (host : host_of_vertex m 0 �
       addresses x l =
           ap (λ (vs : List MapVertex). host_at (slice_get vs (image x))) vertices-k
           ∙ named-host 0 (map (λ (d : MapPort). host_of_vertex m d.v) found) (image x) (host_of_vertex m x) (get-map (λ (d : MapPort). host_of_vertex m d.v) found (image x) (record { v = x; p = entry_of found (image x) }) (image-there x l))
-
-      -- a host is entered by port 0
-      host-entry : (x a : ℕ) → x < length m.vertices → host_of_vertex m x ≡ Some a → entry_of found (image x) ≡ pos 0
-      host-entry x a l is =
-          let w = below-get ways (image x) (let b = get-less found (image x) (record { v = x; p = entry_of found (image x) }) (image-there x l) in let n = s.one_each in omega arith) in
-          by w.0 (s.behind (image x) w.0 (record { v = x; p = entry_of found (image x) }) w.1 (image-there x l))
-        where
-          by : (u : Node) → (image x ≡ 0) ⊎ IsBehind m found ways (length m.vertices) 0 u (record { v = x; p = entry_of found (image x) }) → entry_of found (image x) ≡ pos 0
-          by u (inl z) = ap (λ (y : MapPort). y.p) (one-there found 0 (record { v = x; p = entry_of found (image x) }) start_port (subst (λ n. slice_get found n ≡ Some (record { v = x; p = entry_of found (image x) })) z (image-there x l)) s.start_entry)
-          by u (inr b) =
-              port-holds (λ (y : MapPort). (g : ℕ) → host_of_vertex m y.v ≡ Some g → y.p ≡ pos 0) m.cables (record { v = x; p = entry_of found (image x) }) (record { v = b.entry.v; p = b.entry.p +ℤ turn_at b.place }) is_map.host_ports (far-back m (record { v = b.entry.v; p = b.entry.p +ℤ turn_at b.place }) (record { v = x; p = entry_of found (image x) }) is_map b.far) a is
 
       -- a port by its offset is the port by its number
       by_offset : (x : ℕ) (p : ℤ) → ◌≡◌ {A = MapPort} (moved_port found numbers (record { v = x; p = p })) (record { v = image x; p = p +ℤ offset x })

@@ -1,11 +1,12 @@
 -- A search through a map by levels: which vertices were found, with their entry ports.
-use Rattle.std.specs.Prelude.{◌≡◌, ◌⊎◌, ℕ, suc, ◌+◌, ◌<◌, ℤ, pos, ◌+ℤ◌, ◌-ℤ◌, true, false, List, [], ◌∷◌, ◌++◌, map}
+use Rattle.std.specs.Prelude.{◌≡◌, ◌⊎◌, ℕ, suc, ◌+◌, ◌<◌, ℤ, pos, ◌+ℤ◌, ◌-ℤ◌, true, false, List, [], ◌∷◌, ◌++◌, map, take}
 use Rattle.std.specs.Prelude.{length, slice_get, slice_index_or, unwrap_or, Option, Some, None}
 use Rattle.net_defs.specs.Turn.{IsTurn}
 use Rattle.journal_defs.specs.Tree.{Node, node_below}
 use Rattle.journal_defs.specs.Tree.Node.{Mapper, Reached}
 use Rattle.map_defs.specs.declared.vertex.MapCable.{MapCable}
 use Rattle.map_defs.specs.NetMap.{NetMap, MapPort, first_end, second_end, map_far, is_switch_vertex}
+use Rattle.fabric_map.specs.Growing.{cable_refusal}
 use Rattle.map_renumber.specs.Canon.{entered, start_port}
 
 -- the vertex has this number
@@ -105,6 +106,19 @@ moved_cable found numbers c = record {
   w = (moved_port found numbers (second_end c)).v;
   q = (moved_port found numbers (second_end c)).p;
 }
+
+-- a map with these cables more by the new numbers
+abbrev pub with_moved : NetMap → List MapPort → List (Option ℕ) → List MapCable → NetMap
+with_moved k found numbers cs = record {
+  vertices = k.vertices;
+  cables = k.cables ++ map (moved_cable found numbers) cs;
+  core = k.core;
+}
+
+-- Each of these cables is refused for nothing by its new numbers, after those before it.
+abbrev pub AreTaken : NetMap → List MapPort → List (Option ℕ) → List MapCable → Type 0
+AreTaken k found numbers cs = (i : ℕ) (c : MapCable) → slice_get cs i ≡ Some c
+    → cable_refusal (with_moved k found numbers (take i cs)) (moved_cable found numbers c) ≡ None
 
 -- A port of a vertex that has a number, with the port by which that was entered: both are turns from some port.
 pub record IsKnown (found : List (ℕ × ℤ)) (numbers : List (Option ℕ)) (d : MapPort) : Type 0 where

@@ -19,12 +19,10 @@
 //! |---|---|
 //! | `search` | the vertices by their least walks, with the ports by which these enter |
 //! | `naming` | a map's vertices in another order |
-//! | `cables` | cables in the order of a report |
 //! | `renumbering` | the map renumbered |
 //! | `laws` | that maps of one network are one when renumbered |
 #![tactic(auto)]
 
-mod cables;
 mod laws;
 mod naming;
 mod renumbering;

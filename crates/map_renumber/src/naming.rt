@@ -1,12 +1,13 @@
 //! The vertices of a map in another order.
 
-ghost use Rattle.std.specs.Prelude.{◌≡◌, ℕ, ℤ, map as map_list, IfOk, OnOk};
+ghost use Rattle.std.specs.Prelude.{◌≡◌, ◌<◌, ◌^◌, ℕ, ℤ, map as map_list, length, None, IfOk, OnOk};
 ghost use Rattle.map_defs.specs.NetMap.{host_of_vertex};
 ghost use Rattle.map_defs.specs.Quotient.{named};
+ghost use Rattle.map_canon.specs.Naming.{HaveOwnAddresses, vertex_refusal};
 ghost use Rattle.map_renumber.specs.Canon.{is_of_core};
 ghost use Rattle.map_renumber.specs.Naming.{bare_map, with_vertex};
 
-use fabric_map::{FabricMap, MapVertex};
+use fabric_map::{FabricMap, MapFault, MapVertex};
 use std::alloc::{AllocError, Global};
 
 /// The map of these vertices with their marks and without cables, its switches numbered anew.
@@ -15,6 +16,8 @@ pub(crate) fn vertices_of(
     m: &FabricMap,
     found: &[(u32, i8)],
 ) -> Result<FabricMap, AllocError>
+    requires few { length found.now < 2 ^ 32 }
+    requires own { HaveOwnAddresses (map_list (λ d. host_of_vertex m.now d.0) found.now) }
     ensures { IfOk result (λ k. k ≡ bare_map (named 0 (map_list (λ d. host_of_vertex m.now d.0) found.now))
         (map_list (λ d. is_of_core m.now d.0) found.now)) }
 {
@@ -43,8 +46,9 @@ fn is_of_core(m: &FabricMap, v: u32) -> bool
     m.core().get(v as usize).copied().unwrap_or(true)
 }
 
-// Adds a host of this address, or a switch with its mark.
+// Adds a host of this address, or a switch with its mark, that isn't refused.
 fn add_vertex(map: &mut FabricMap, address: Option<u16>, mark: bool) -> Result<(), AllocError>
+    requires { vertex_refusal map.old address ≡ None }
     ensures { OnOk result (map.new ≡ with_vertex map.old address mark) }
 {
     let added = match address {
@@ -53,6 +57,7 @@ fn add_vertex(map: &mut FabricMap, address: Option<u16>, mark: bool) -> Result<(
     };
     match added {
         Ok(_) => Ok(()),
-        Err(_) => Err(AllocError),
+        Err(MapFault::NoMemory) => Err(AllocError),
+        Err(_) => unreachable!(),
     }
 }

@@ -1,16 +1,17 @@
 //! A map renumbered by least walks from vertex 0.
 
-ghost use Rattle.std.specs.Prelude.{◌≡◌, ◌++◌, ℕ, map as map_list, slice_get, Some, IfOk, OnOk};
+ghost use Rattle.std.specs.Prelude.{◌≡◌, ℕ, map as map_list, slice_get, Some, None, IfOk, OnOk};
 ghost use Rattle.map_defs.specs.declared.vertex.MapCable.{MapCable};
 ghost use Rattle.map_defs.specs.NetMap.{IsConnected, host_of_vertex, first_end, second_end};
 ghost use Rattle.map_defs.specs.Sameness.{IsSame, graph_of_map};
+ghost use Rattle.fabric_map.specs.Growing.{cable_refusal, with_cable};
 ghost use Rattle.map_renumber.specs.Canon.{IsCanon};
-ghost use Rattle.map_renumber.specs.Search.{IsKnown, port_of_pair, moved_port, moved_cable};
+ghost use Rattle.map_renumber.specs.Search.{IsKnown, AreTaken, port_of_pair, moved_port, moved_cable, with_moved};
 
-use crate::cables::{add, add_in_order};
 use crate::naming::vertices_of;
 use crate::search::{Search, searched};
-use fabric_map::{FabricMap, MapCable};
+use fabric_map::{FabricMap, MapCable, MapFault};
+use map_canon::add_in_order;
 use std::alloc::{AllocError, Global};
 
 /// The map with its vertices, and their marks, in the order of their least walks from vertex 0, the ports of each
@@ -33,20 +34,30 @@ pub fn canon(alloc: Global, m: &FabricMap) -> Result<FabricMap, AllocError>
 
 // Adds the cables between the same vertices, by their new numbers and ports.
 fn move_cables(map: &mut FabricMap, m: &FabricMap, search: &Search) -> Result<(), AllocError>
-    requires { (c : MapCable) (k : ℕ) → slice_get m.now.cables k ≡ Some c
+    requires known { (c : MapCable) (k : ℕ) → slice_get m.now.cables k ≡ Some c
         → IsKnown search.now.found.items search.now.numbers.items (first_end c)
         × IsKnown search.now.found.items search.now.numbers.items (second_end c) }
-    ensures { OnOk result (map.new ≡ record {
-      vertices = map.old.vertices;
-      cables = map.old.cables ++ map_list (moved_cable
-          (map_list port_of_pair search.now.found.items) search.now.numbers.items) m.now.cables;
-      core = map.old.core;
-    }) }
+    requires taken { AreTaken map.old (map_list port_of_pair search.now.found.items) search.now.numbers.items
+        m.now.cables }
+    ensures { OnOk result (map.new ≡ with_moved map.old (map_list port_of_pair search.now.found.items)
+        search.now.numbers.items m.now.cables) }
 {
     for cable in m.cables() {
         add(map, moved_cable(search, *cable))?;
     }
     Ok(())
+}
+
+// Adds a cable that the map takes.
+fn add(map: &mut FabricMap, cable: MapCable) -> Result<(), AllocError>
+    requires { cable_refusal map.old cable ≡ None }
+    ensures { OnOk result (map.new ≡ with_cable map.old cable) }
+{
+    match map.add_cable(cable) {
+        Ok(_) => Ok(()),
+        Err(MapFault::NoMemory) => Err(AllocError),
+        Err(_) => unreachable!(),
+    }
 }
 
 // A cable between the same vertices by their new numbers and ports.

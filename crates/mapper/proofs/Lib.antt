@@ -8,3 +8,4 @@ pub mod Adding
 pub mod Sweeping
 pub mod Starting
 pub mod Ending
+pub mod Walking

@@ -8,7 +8,7 @@ ghost use Rattle.mapper.specs.Growths.{IsAsk, IsLostAsk, IsNextWalk, IsNextEntry
 
 use crate::tree::Tree;
 use net_defs::{Answer, Walk};
-use probe::{Entry, Prober};
+use probe::{Entry, JournalPush, Prober};
 use std::alloc::{AllocError, Global};
 
 /// Asks a walk, and puts it with its answer at the end of the journal.
@@ -34,8 +34,7 @@ pub(crate) fn ask<P: Prober>(
     keep(alloc, tree, walk, answer)
 }
 
-// Puts an entry at the end of the journal. A walk that stands there isn't told from want of memory: none is asked
-// twice.
+// Puts an entry at the end of the journal. Its walk doesn't stand there: none is asked twice.
 fn keep(alloc: Global, tree: &mut Tree, walk: Walk, answer: Answer) -> Result<(), AllocError>
     requires few { tree.old.nodes ≤ node_limit }
     requires next { IsNextEntry tree.old (record { walk = walk; answer = answer }) }
@@ -48,7 +47,8 @@ fn keep(alloc: Global, tree: &mut Tree, walk: Walk, answer: Answer) -> Result<()
             tree.nodes += node_count(answer);
             Ok(())
         }
-        Err(_) => Err(AllocError),
+        Err((_, JournalPush::NoMemory)) => Err(AllocError),
+        Err((_, JournalPush::Known)) => unreachable!(),
     }
 }
 

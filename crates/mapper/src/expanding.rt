@@ -1,6 +1,7 @@
 //! The 30 turns of one node.
 
-ghost use Rattle.std.specs.Prelude.{◌≡◌, ◌≤◌, OnOk, OnErr};
+ghost use Rattle.std.specs.Prelude.{◌≡◌, ◌≤◌, All, OnOk, OnErr};
+ghost use Rattle.net_defs.specs.Turn.{IsTurn};
 ghost use Rattle.journal_defs.specs.Growth.{IsAtRest, IsChosen};
 ghost use Rattle.mapper.specs.Growths.{HasGrown, StopsShort, IsToldOf, IsUnderWay, ExpandsOrFills};
 
@@ -24,6 +25,7 @@ pub(crate) fn expand<P: Prober>(
     requires under_way { IsUnderWay tree.old }
     requires rest { IsAtRest tree.old.journal.entries }
     requires chosen { IsChosen tree.old.journal.host tree.old.depth tree.old.journal.entries front.now }
+    requires turns { All IsTurn front.now }
     ensures grown { OnOk result (HasGrown P.State P.asked (P.fabric p.old) tree.old (P.state p.old)
         (P.lost p.old) tree.new (P.state p.new) (P.lost p.new)) }
     ensures expanded { OnOk result (ExpandsOrFills tree.new front.now) }

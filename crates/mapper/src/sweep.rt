@@ -1,6 +1,7 @@
 //! One node after another, in the order of their walks.
 
-ghost use Rattle.std.specs.Prelude.{◌≡◌, ◌<◌, ◌≤◌, true, false, length, IfOk, OnOk, OnErr, Ok};
+ghost use Rattle.std.specs.Prelude.{◌≡◌, ◌<◌, ◌≤◌, true, false, length, All, IfOk, OnOk, OnErr, Ok};
+ghost use Rattle.net_defs.specs.Turn.{IsTurn};
 ghost use Rattle.mapper.specs.Growths.{HasGrown, StopsShort, IsToldOf, IsNextOpen, IsSettled, IsWhole, IsWalkAt};
 
 use crate::expanding::expand;
@@ -76,7 +77,8 @@ fn expand_at<P: Prober>(
 // The turns of the walk at a place of the journal.
 fn turns_at(alloc: Global, tree: &Tree, place: usize) -> Result<Vec<i8>, AllocError>
     requires { place < length tree.now.journal.entries }
-    ensures { IfOk result (λ turns. IsWalkAt tree.now.journal.entries place turns.items) }
+    ensures there { IfOk result (λ turns. IsWalkAt tree.now.journal.entries place turns.items) }
+    ensures in_range { IfOk result (λ turns. All IsTurn turns.items) }
 {
     let entries = tree.journal.entries();
     entries[place].walk.turns().to_vec(alloc)

@@ -1,10 +1,10 @@
 //! Walks that go on by a turn.
 
-ghost use Rattle.std.specs.Prelude.{◌≡◌, ◌≤◌, ◌<◌, ◌++◌, ◌∷◌, [], length, All, IfOk};
-ghost use Rattle.net_defs.specs.Turn.{IsTurn};
+ghost use Rattle.std.specs.Prelude.{◌≡◌, ◌<◌, ◌++◌, ◌∷◌, [], length, All, None, IfOk};
+ghost use Rattle.net_defs.specs.Turn.{IsTurn, walk_refusal};
 ghost use Rattle.mapper.specs.Turns.{turn_at};
 
-use net_defs::Walk;
+use net_defs::{Walk, WalkFault};
 use std::alloc::{AllocError, Global};
 
 /// How many turns a node has.
@@ -27,21 +27,31 @@ pub fn turn_at(step: u8) -> i8
 pub fn empty_walk(alloc: Global) -> Result<Walk, AllocError>
     ensures { IfOk result (λ walk. walk ≡ []) }
 {
-    match Walk::new(alloc, &[]) {
-        Ok(walk) => Ok(walk),
-        Err(_) => Err(AllocError),
-    }
+    walk_of(alloc, &[])
 }
 
-/// A walk with a turn more.
+/// A walk with a turn more. There is room for it.
 pub(crate) fn onward(alloc: Global, front: &[i8], turn: i8) -> Result<Walk, AllocError>
+    requires short { length front.now < 64 }
+    requires front { All IsTurn front.now }
+    requires turn { IsTurn turn }
     ensures { IfOk result (λ walk. walk ≡ front.now ++ turn ∷ []) }
 {
     let mut turns = Vec::with_capacity(alloc, front.len() + 1)?;
     turns.extend_from_slice(front)?;
     turns.push(turn)?;
-    match Walk::new(alloc, &turns) {
+    walk_of(alloc, &turns)
+}
+
+// The walk of turns that are one.
+fn walk_of(alloc: Global, turns: &[i8]) -> Result<Walk, AllocError>
+    requires { walk_refusal turns.now ≡ None }
+    ensures { IfOk result (λ walk. walk ≡ turns.now) }
+{
+    match Walk::new(alloc, turns) {
         Ok(walk) => Ok(walk),
-        Err(_) => Err(AllocError),
+        Err(WalkFault::NoMemory) => Err(AllocError),
+        Err(WalkFault::TooLong) => unreachable!(),
+        Err(WalkFault::TurnRange) => unreachable!(),
     }
 }

@@ -25,6 +25,12 @@ loop-step-init g c =
       later = omega arith;
     }
 
+pub onward-requires-clause-short : goal.onward-requires-clause-short
+onward-requires-clause-short g c =
+    let near = c.requires.chosen.near in
+    let shallow = c.requires.shallow in
+    omega arith
+
 pub ask-requires-clause-short : goal.ask-requires-clause-short
 ask-requires-clause-short g c =
     let w : List ℤ = c.args.front.now ++ turn_at c.loop-step.step ∷ [] in

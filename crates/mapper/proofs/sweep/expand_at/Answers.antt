@@ -1,4 +1,6 @@
-use Rattle.std.proofs.Common.{sym, subst, arith}
+use Rattle.std.proofs.Common.{List, sym, subst, arith}
+use Rattle.std.specs.Prelude.{ℤ, All}
+use Rattle.net_defs.specs.Turn.{IsTurn}
 use Rattle.journal_defs.specs.Growth.{IsChosen}
 use Rattle.mapper.specs.Growths.{ExpandsOrFills}
 use Rattle.mapper.proofs.Adding.{stops-still, on-err}
@@ -22,8 +24,11 @@ expand-requires-clause-rest g c = c.requires.settled.rest
 pub expand-requires-clause-chosen : goal.expand-requires-clause-chosen
 expand-requires-clause-chosen g c =
     let t = c.args.tree.now in
-    let w = c.in_ok-front.ensures in
+    let w = c.in_ok-front.ensures.there in
     subst (IsChosen t.journal.host t.depth t.journal.entries) (sym c.deref.ensures.value) (open-chosen t c.args.next.now c.requires.settled c.args.place c.requires.is_next c.in_ok-front.front.items w.entry w.there w.walk)
+
+pub expand-requires-clause-turns : goal.expand-requires-clause-turns
+expand-requires-clause-turns g c = subst (λ (ts : List ℤ). All IsTurn ts) (sym c.deref.ensures.value) c.in_ok-front.ensures.in_range
 
 pub returns-in_err-expand-clause-stopped : goal.returns-in_err-expand-clause-stopped
 returns-in_err-expand-clause-stopped g c = on-err c.from_residual-in_err-expand.result c.in_err-expand.ensures.stopped
@@ -41,7 +46,7 @@ pub returns-clause-goes_on : goal.returns-clause-goes_on
 returns-clause-goes_on g c = λ e.
     let p = g.P.Prober in
     let t = c.args.tree.now in
-    let w = c.in_ok-front.ensures in
+    let w = c.in_ok-front.ensures.there in
     goes-settled p.State p.asked (p.fabric c.args.p.now) t c.args.next.now c.requires.settled c.expand.new.tree (p.state c.args.p.now) (p.state c.expand.new.p) (p.lost c.args.p.now) (p.lost c.expand.new.p) c.in_ok-expand.ensures.grown c.args.place c.requires.is_next c.in_ok-front.front.items w.entry w.there w.walk (subst (ExpandsOrFills c.expand.new.tree) c.deref.ensures.value c.in_ok-expand.ensures.expanded) e
 
 pub returns-clause-rises : goal.returns-clause-rises
