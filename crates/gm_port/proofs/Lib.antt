@@ -1,5 +1,4 @@
 pub mod Tables
-pub mod Tickets
 pub mod Queue
 pub mod Owner
 pub mod Listed

@@ -1,6 +1,6 @@
 -- The whole port, after each of its calls.
-use Rattle.std.proofs.Common.{◌≡◌, ℕ, ◌+◌, ◌<◌, ◌≤◌, Bool, true, false, List, [], ◌∷◌, ◌++◌, length, map, drop, nat_eq, nat_lt, nat_le, min, ◌-◌, ◌&&◌, Option, Some, None, IsSome, refl, sym, ap, subst, ◌∙◌, true≢false, arith, length-append, zero-add}
-use Rattle.std.specs.Prelude.{find, option_map, slice_set}
+use Rattle.std.proofs.Common.{◌≡◌, ℕ, ◌+◌, ◌<◌, ◌≤◌, Bool, true, false, List, [], ◌∷◌, ◌++◌, length, map, drop, nat_eq, nat_lt, nat_le, min, ◌-◌, ◌&&◌, Option, Some, None, refl, sym, ap, subst, ◌∙◌, true≢false, arith, length-append, zero-add}
+use Rattle.std.specs.Prelude.{find, option_map}
 use Rattle.std.specs.List.{AllByRecursion}
 use Rattle.std.proofs.lemmas.Bool.{and_parts}
 use Rattle.std.proofs.lemmas.Bool.Decides.{nat_tests}
@@ -11,12 +11,13 @@ use Rattle.gm_tokens.specs.Token.{Token}
 use Rattle.gm_defs.specs.declared.frame.FrameHead.{FrameHead}
 use Rattle.gm_defs.specs.Body.{is_head, is_offset, number_limit, message_limit}
 use Rattle.gm_defs.specs.Token.{Sending, Provided, PortEvent, Sent, Received, PortState, HasOneOwner, room, size_for_length, is_size, place_of_send, place_of_recv, received_tokens, recvs_out}
-use Rattle.gm_defs.specs.Port.{with_send, without_first, filled, ended_by, delivered, taken_by, provided_with, is_bad_size, is_short}
+use Rattle.gm_defs.specs.Port.{with_send, without_first, filled, finished, ended_by, delivered, taken_by, provided_with, is_bad_size, is_short}
 use Rattle.gm_defs.proofs.Sizes.{size-least}
 use Rattle.gm_port.specs.declared.event.ProvidedToken.{ProvidedToken}
-use Rattle.gm_port.specs.Held.{Sends, Buffers, Events, number_at, send_by, without_send, send_at, provided_at}
+use Rattle.gm_port.specs.Held.{Sends, Buffers, Events, send_at, provided_at}
 use Rattle.gm_port.specs.Lists.{takes}
-use Rattle.gm_port.specs.Opened.{OpenPort, IsPort, state_of, finished_by, finished_at}
+use Rattle.gm_port.specs.Opened.{OpenPort, IsPort, state_of}
+use Rattle.gm_port.specs.Table.{is_of}
 use Rattle.gm_port.specs.Refusal.{provide_refusal}
 use Rattle.gm_port.specs.declared.ask.ProvideRefusal.TheVariants.{BadSize, BufferShort}
 use Rattle.gm_port.proofs.Owner.{sent_with-one, provided_with-one, finished-one, delivered-one, polled-one, few-numbers, few-events, found-token}
@@ -76,8 +77,8 @@ module _ (s : Sends) (b : Buffers) (e : Events) (q : IsPort s b e) where
   now = state_of s b e
 
   -- a send was taken in
-  pub sent-port : (t : ℕ) (buffer : List ℕ) (tickets : List (Option ℕ)) (after : Sends) → after ≡ record s { sends = with_send (record { token = t; buffer = buffer }) s.sends; tickets = tickets } → t < s.limit → place_of_send now t ≡ None → IsPort after b e
-  sent-port t buffer tickets after is lt none =
+  pub sent-port : (t : ℕ) (buffer : List ℕ) (after : Sends) → after ≡ record s { sends = with_send (record { token = t; buffer = buffer }) s.sends } → t < s.limit → place_of_send now t ≡ None → IsPort after b e
+  sent-port t buffer after is lt none =
       subst (λ (w : Sends). IsPort w b e) (sym is) (record {
         buffers_host = q.buffers_host;
         buffers_port = q.buffers_port;
@@ -111,32 +112,27 @@ module _ (s : Sends) (b : Buffers) (e : Events) (q : IsPort s b e) where
       })
 
   -- a send is finished
-  module _ (o : Option ℕ) (pair : Token × List ℕ) (some : IsSome o) (taken : option_map (send_at s.host s.port) (send_by s.sends o) ≡ Some pair) where
+  module _ (n : ℕ) (pair : Token × List ℕ) (taken : option_map (send_at s.host s.port) (find (is_of n) s.sends) ≡ Some pair) where
     abbrev behind : List PortEvent
     behind = e.events ++ Sent pair.0.number pair.1 ∷ []
 
-    pub finish-state : finished_by now o ≡ record now { queue = without_send s.sends o; events = behind }
-    finish-state = at o some taken
-      where
-        at : (u : Option ℕ) → IsSome u → option_map (send_at s.host s.port) (send_by s.sends u) ≡ Some pair → finished_by now u ≡ record now { queue = without_send s.sends u; events = behind }
-        at None i t = absurd (true≢false (sym i))
-        at (Some n) i t = by (find (λ (x : Sending). nat_eq x.token n) s.sends) refl t
-          where
-            by : (f : Option Sending) → find (λ (x : Sending). nat_eq x.token n) s.sends ≡ f → option_map (send_at s.host s.port) f ≡ Some pair → ended_by now n f ≡ record now { queue = without_first (λ (x : Sending). nat_eq x.token n) s.sends; events = behind }
-            by None g h = absurd (let k : None ≡ Some pair = h in cc)
-            by (Some x) g h =
-                let it : send_at s.host s.port x ≡ pair = cc in
-                let token : n ≡ pair.0.number = sym (found-token n s.sends x g) ∙ ap (λ (u : Token × List ℕ). u.0.number) it in
-                let bytes : x.buffer ≡ pair.1 = ap (λ (u : Token × List ℕ). u.1) it in
-                let event : Sent n x.buffer ≡ Sent pair.0.number pair.1 = cc in
-                ap (λ (v : PortEvent). record now { queue = without_first (λ (x : Sending). nat_eq x.token n) s.sends; events = e.events ++ v ∷ [] }) event
+    abbrev unfinished : List Sending
+    unfinished = without_first (is_of n) s.sends
 
-    finish-one : HasOneOwner (record now { queue = without_send s.sends o; events = behind })
-    finish-one = subst HasOneOwner finish-state (at o)
+    pub finish-state : finished now n ≡ record now { queue = unfinished; events = behind }
+    finish-state = by (find (is_of n) s.sends) refl taken
       where
-        at : (u : Option ℕ) → HasOneOwner (finished_by now u)
-        at None = q.one_owner
-        at (Some n) = finished-one now n q.one_owner
+        by : (f : Option Sending) → find (is_of n) s.sends ≡ f → option_map (send_at s.host s.port) f ≡ Some pair → ended_by now n f ≡ record now { queue = unfinished; events = behind }
+        by None g h = absurd (let k : None ≡ Some pair = h in cc)
+        by (Some x) g h =
+            let it : send_at s.host s.port x ≡ pair = cc in
+            let token : n ≡ pair.0.number = sym (found-token n s.sends x g) ∙ ap (λ (u : Token × List ℕ). u.0.number) it in
+            let bytes : x.buffer ≡ pair.1 = ap (λ (u : Token × List ℕ). u.1) it in
+            let event : Sent n x.buffer ≡ Sent pair.0.number pair.1 = cc in
+            ap (λ (v : PortEvent). record now { queue = unfinished; events = e.events ++ v ∷ [] }) event
+
+    finish-one : HasOneOwner (record now { queue = unfinished; events = behind })
+    finish-one = subst HasOneOwner finish-state (finished-one now n q.one_owner)
 
     pub finish-room : length e.events < e.limit
     finish-room =
@@ -145,9 +141,9 @@ module _ (s : Sends) (b : Buffers) (e : Events) (q : IsPort s b e) where
         let wide : s.limit + b.limit ≤ e.limit = q.event_room in
         omega (arith, few, more, wide)
 
-    pub finish-port : (tickets : List (Option ℕ)) (after : Sends) (events : Events) → after ≡ record s { sends = without_send s.sends o; tickets = tickets } → events ≡ record e { events = behind } → IsPort after b events
-    finish-port tickets after events is es =
-        subst (λ (w : Sends). IsPort w b events) (sym is) (subst (λ (w : Events). IsPort (record s { sends = without_send s.sends o; tickets = tickets }) b w) (sym es) (record {
+    pub finish-port : (after : Sends) (events : Events) → after ≡ record s { sends = unfinished } → events ≡ record e { events = behind } → IsPort after b events
+    finish-port after events is es =
+        subst (λ (w : Sends). IsPort w b events) (sym is) (subst (λ (w : Events). IsPort (record s { sends = unfinished }) b w) (sym es) (record {
           buffers_host = q.buffers_host;
           buffers_port = q.buffers_port;
           events_host = q.events_host;
@@ -156,6 +152,14 @@ module _ (s : Sends) (b : Buffers) (e : Events) (q : IsPort s b e) where
           sized = q.sized;
           event_room = q.event_room;
         }))
+
+    -- a finished send, as contracts see it
+    pub finish-seen : (after : Sends) (events : Events) → after ≡ record s { sends = unfinished } → events ≡ record e { events = behind } → (old : OpenPort) → record { host = s.host; port = s.port; state = now } ≡ old → record { host = after.host; port = after.port; state = state_of after b events } ≡ record old { state = finished old.state n }
+    finish-seen after events is es old v =
+        let see : Sends → Events → OpenPort = λ t u. record { host = t.host; port = t.port; state = state_of t b u } in
+        let put : see after events ≡ see (record s { sends = unfinished }) (record e { events = behind }) = cc in
+        let done : see (record s { sends = unfinished }) (record e { events = behind }) ≡ record (see s e) { state = finished now n } = ap (λ (w : PortState). let p : OpenPort = record { host = s.host; port = s.port; state = w } in p) (sym finish-state) in
+        put ∙ done ∙ ap (λ (w : OpenPort). record w { state = finished w.state n }) v
 
   -- a message was taken
   module _ (h : FrameHead) (part : List ℕ) (r : ProvidedToken) (taken : option_map (provided_at b.host b.port) (find (takes h.total h.prio) b.provided) ≡ Some r) where
@@ -223,12 +227,3 @@ module _ (s : Sends) (b : Buffers) (e : Events) (q : IsPort s b e) where
         sized = q.sized;
         event_room = q.event_room;
       })
-
--- a finished send, as contracts see it
-pub finish-seen : (s : Sends) (b : Buffers) (e : Events) → IsPort s b e → (ticket : ℕ) (pair : Token × List ℕ) → IsSome (number_at s.tickets ticket) → option_map (send_at s.host s.port) (send_by s.sends (number_at s.tickets ticket)) ≡ Some pair → (after : Sends) (events : Events) → after ≡ record s { sends = without_send s.sends (number_at s.tickets ticket); tickets = slice_set s.tickets ticket None } → events ≡ record e { events = e.events ++ Sent pair.0.number pair.1 ∷ [] } → (old : OpenPort) → record { host = s.host; port = s.port; state = state_of s b e; tickets = s.tickets } ≡ old → record { host = after.host; port = after.port; state = state_of after b events; tickets = after.tickets } ≡ finished_at old ticket
-finish-seen s b e q ticket pair some taken after events is es old v =
-    let see : Sends → Events → OpenPort = λ t u. record { host = t.host; port = t.port; state = state_of t b u; tickets = t.tickets } in
-    let state = finish-state s b e q (number_at s.tickets ticket) pair some taken in
-    let put : see after events ≡ see (record s { sends = without_send s.sends (number_at s.tickets ticket); tickets = slice_set s.tickets ticket None }) (record e { events = e.events ++ Sent pair.0.number pair.1 ∷ [] }) = cc in
-    let done : see (record s { sends = without_send s.sends (number_at s.tickets ticket); tickets = slice_set s.tickets ticket None }) (record e { events = e.events ++ Sent pair.0.number pair.1 ∷ [] }) ≡ finished_at (see s e) ticket = ap (λ (w : PortState). let p : OpenPort = record { host = s.host; port = s.port; state = w; tickets = slice_set s.tickets ticket None } in p) (sym state) in
-    put ∙ done ∙ ap (λ (w : OpenPort). finished_at w ticket) v

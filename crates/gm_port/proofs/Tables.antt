@@ -1,12 +1,13 @@
 -- The table of sends: what a put, a take and a look-up make of the sends in it.
-use Rattle.std.proofs.Common.{◌≡◌, ℕ, zero, suc, ◌+◌, ◌<◌, ◌≤◌, true, false, List, [], ◌∷◌, length, map, nat_eq, nat_lt, Some, None, refl, sym, ap, ◌∙◌, arith}
+use Rattle.std.proofs.Common.{◌≡◌, ℕ, zero, suc, ◌+◌, ◌<◌, Bool, true, false, List, [], ◌∷◌, length, map, nat_eq, nat_lt, Some, None, is_some, count_by, cond, refl, sym, ap, ◌∙◌, true≢false, arith}
 use Rattle.std.specs.Prelude.{slice_get, slice_set, find}
+use Rattle.std.proofs.lemmas.List.Sums.{sum_by-cons}
 use Rattle.std.proofs.lemmas.Bool.Decides.{nat_tests}
 use Rattle.gm_defs.specs.Token.{Sending, has_number}
 use Rattle.gm_defs.specs.Port.{with_send, without_first}
 use Rattle.gm_tokens.specs.Token.{Token, token_at}
 use Rattle.gm_port.specs.Held.{send_at}
-use Rattle.gm_port.specs.Table.{Place, sends_of, held_in, IsTable, AreFree, is_held, sending_numbers}
+use Rattle.gm_port.specs.Table.{Place, sends_of, held_in, IsTable, AreFree, is_held, is_of, sending_numbers}
 
 -- a place's send
 abbrev the_send : Token × List ℕ → Sending
@@ -47,6 +48,22 @@ number-held host port k (suc n) m (Some p ∷ ps) at t =
     let number : p.0.number ≡ k = table-number host port k p t.0 in
     let other : nat_eq m p.0.number ≡ false = grind (arith, nat_tests) in
     rw other (number-held host port (suc k) n m ps (omega arith) t.1)
+
+-- a send is found exactly where its number is among those of the sends
+pub found-number : (t : ℕ) (ss : List Sending) → is_some (find (is_of t) ss) ≡ has_number (sending_numbers ss) t
+found-number t [] = refl
+found-number t (x ∷ ss) = by (nat_eq x.token t) refl (nat_eq t x.token) refl (found-number t ss)
+  where
+    by : (b : Bool) → nat_eq x.token t ≡ b → (d : Bool) → nat_eq t x.token ≡ d → is_some (find (is_of t) ss) ≡ has_number (sending_numbers ss) t
+        → is_some (find (is_of t) (x ∷ ss)) ≡ has_number (sending_numbers (x ∷ ss)) t
+    by true e true f r = rw e (rw f refl)
+    by true e false f r = absurd (true≢false (let same : nat_eq t x.token ≡ true = grind (arith, nat_tests) in sym same ∙ f))
+    by false e true f r = absurd (true≢false (let same : nat_eq x.token t ≡ true = grind (arith, nat_tests) in sym same ∙ e))
+    by false e false f r = rw e (rw f r)
+
+-- and where its place has one
+pub found-held : (host port k n m : ℕ) (ps : List Place) → m ≡ k + n → IsTable host port k ps → is_some (find (is_of m) (sends_of ps)) ≡ is_held (slice_get ps n)
+found-held host port k n m ps at t = found-number m (sends_of ps) ∙ number-held host port k n m ps at t
 
 -- a put
 pub sends-put : (host port k n m : ℕ) (e : Token × List ℕ) (ps : List Place) → m ≡ k + n → IsTable host port k ps → slice_get ps n ≡ Some None → e.0 ≡ token_at host port m → sends_of (slice_set ps n (Some e)) ≡ with_send (the_send e) (sends_of ps)
@@ -129,18 +146,11 @@ free-table host port k [] free = (tt, refl)
 free-table host port k (None ∷ ps) free = free-table host port (suc k) ps free.1
 free-table host port k (Some p ∷ ps) free = absurd (let e : Some p ≡ None = free.0 in cc)
 
--- a table with a free place has fewer sends than places
-pub few-sends : (ps : List Place) → length (sends_of ps) ≤ length ps
-few-sends [] = omega arith
-few-sends (None ∷ ps) = let r = few-sends ps in omega (arith, r)
-few-sends (Some p ∷ ps) = let r = few-sends ps in omega (arith, r)
-
-pub fewer-sends : (n : ℕ) (ps : List Place) → slice_get ps n ≡ Some None → length (sends_of ps) < length ps
-fewer-sends n [] free = cc
-fewer-sends zero (None ∷ ps) free = let r = few-sends ps in omega (arith, r)
-fewer-sends zero (Some p ∷ ps) free = cc
-fewer-sends (suc n) (None ∷ ps) free = let r = fewer-sends n ps free in omega (arith, r)
-fewer-sends (suc n) (Some p ∷ ps) free = let r = fewer-sends n ps free in omega (arith, r)
+-- as many sends as places with one
+pub count-sends : (ps : List Place) → count_by is_some ps ≡ length (sends_of ps)
+count-sends [] = refl
+count-sends (None ∷ ps) = let r = count-sends ps in omega (arith, r, sum_by-cons (λ p. cond (is_some p) 1 0) None ps)
+count-sends (Some p ∷ ps) = let r = count-sends ps in omega (arith, r, sum_by-cons (λ p. cond (is_some p) 1 0) (Some p) ps)
 
 -- a place without a send is free
 pub place-free : (n : ℕ) (ps : List Place) → is_held (slice_get ps n) ≡ false → n < length ps → slice_get ps n ≡ Some None

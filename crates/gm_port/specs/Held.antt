@@ -1,20 +1,18 @@
 -- What the parts of a port hold, as contracts see them.
-use Rattle.std.specs.Prelude.{◌≡◌, ℕ, List, find, nat_eq, slice_index_or, Option, Some, None}
+use Rattle.std.specs.Prelude.{ℕ, List}
 use Rattle.gm_defs.specs.Token.{Sending, Provided, PortEvent, Sent, Received}
-use Rattle.gm_defs.specs.Port.{without_first}
 use Rattle.gm_tokens.specs.Token.{Token, token_at}
 use Rattle.gm_port.specs.declared.event.PortEvent.{PortEvent as Event}
 use Rattle.gm_port.specs.declared.event.PortEvent.TheVariants.{Sent as SentEvent, Received as ReceivedEvent}
 use Rattle.gm_port.specs.declared.event.ProvidedToken.{ProvidedToken}
 
--- The unfinished sends of a port: whose tokens they are, how many there may be, the sends by the rising numbers of
--- their tokens, and the number of the token at each ticket.
+-- The unfinished sends of a port: whose tokens they are, how many there may be, and the sends by the rising numbers of
+-- their tokens.
 pub record Sends : Type 0 where
   pub host : ℕ
   pub port : ℕ
   pub limit : ℕ
   pub sends : List Sending
-  pub tickets : List (Option ℕ)
 
 -- The provided tokens of a port, first provided first.
 pub record Buffers : Type 0 where
@@ -29,26 +27,6 @@ pub record Events : Type 0 where
   pub port : ℕ
   pub limit : ℕ
   pub events : List PortEvent
-
--- the number of the token at a ticket
-abbrev pub number_at : List (Option ℕ) → ℕ → Option ℕ
-number_at tickets ticket = slice_index_or tickets ticket None
-
--- A ticket was given out: it was free, it stands for this token, and every other ticket stands for what it did.
-pub record IsGiven (old new : List (Option ℕ)) (ticket token : ℕ) : Type 0 where
-  pub free : number_at old ticket ≡ None
-  pub stands : number_at new ticket ≡ Some token
-  pub others : (other : ℕ) → (other ≡ ticket → ⊥) → number_at new other ≡ number_at old other
-
--- the send of a token, and the others, where there is a token
-abbrev pub send_by : List Sending → Option ℕ → Option Sending
-send_by ss None = None
-send_by ss (Some token) = find (λ s. nat_eq s.token token) ss
-
--- the other sends
-abbrev pub without_send : List Sending → Option ℕ → List Sending
-without_send ss None = ss
-without_send ss (Some token) = without_first (λ s. nat_eq s.token token) ss
 
 -- a send as its token with its buffer
 abbrev pub send_at : ℕ → ℕ → Sending → Token × List ℕ

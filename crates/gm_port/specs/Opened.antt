@@ -1,41 +1,19 @@
 -- What a contract sees of an open port.
-use Rattle.std.specs.Prelude.{◌≡◌, ℕ, ◌+◌, ◌≤◌, Bool, List, length, slice_set, if◌then◌else◌, Option, Some, None}
+use Rattle.std.specs.Prelude.{◌≡◌, ℕ, ◌+◌, ◌≤◌, Bool, length, if◌then◌else◌, Option}
 use Rattle.std.specs.List.{AllByRecursion}
 use Rattle.gm_defs.specs.declared.token.TokenPlace.{TokenPlace}
-use Rattle.gm_defs.specs.Token.{PortState, Sending, HasOneOwner, room, place_of_send, place_of_recv}
-use Rattle.gm_defs.specs.Port.{finished}
-use Rattle.gm_port.specs.Held.{Sends, Buffers, Events, number_at, send_by}
+use Rattle.gm_defs.specs.Token.{PortState, HasOneOwner, room, place_of_send, place_of_recv}
+use Rattle.gm_port.specs.Held.{Sends, Buffers, Events}
 
--- An open port: whose it is, its state, and the number of the token at each ticket.
+-- An open port: whose it is, and its state.
 pub record OpenPort : Type 0 where
   pub host : ℕ
   pub port : ℕ
   pub state : PortState
-  pub tickets : List (Option ℕ)
 
 -- the state of a port, by its parts
 abbrev pub state_of : Sends → Buffers → Events → PortState
 state_of s b e = record { sends = s.limit; recvs = b.limit; queue = s.sends; provided = b.provided; events = e.events }
-
--- the number of the token at a ticket: none where the ticket's send isn't unfinished
-abbrev pub token_of : OpenPort → ℕ → Option ℕ
-token_of p ticket = number_at p.tickets ticket
-
--- the unfinished send at a ticket
-abbrev pub sent_at : OpenPort → ℕ → Option Sending
-sent_at p ticket = send_by p.state.queue (token_of p ticket)
-
--- its message is acknowledged, and the ticket is free
-abbrev pub finished_by : PortState → Option ℕ → PortState
-finished_by s None = s
-finished_by s (Some token) = finished s token
-
--- the send at a ticket is finished
-abbrev pub finished_at : OpenPort → ℕ → OpenPort
-finished_at p ticket = record p {
-  state = finished_by p.state (token_of p ticket);
-  tickets = slice_set p.tickets ticket None;
-}
 
 -- the place of a token: none where the client has it
 abbrev pub place_of : PortState → Bool → ℕ → Option TokenPlace

@@ -1,12 +1,10 @@
 -- The table of a port's unfinished sends: a place for each token, by its number.
-use Rattle.std.specs.Prelude.{◌≡◌, ℕ, suc, ◌≤◌, Bool, true, false, List, [], ◌∷◌, length, Option, Some, None, is_some}
+use Rattle.std.specs.Prelude.{◌≡◌, ℕ, suc, ◌≤◌, Bool, false, List, [], ◌∷◌, length, nat_eq, Option, Some, None, is_some}
 use Rattle.std.specs.Prelude.{Vec, vec_capacity, map}
 use Rattle.std.specs.List.{AllByRecursion}
 use Rattle.std.specs.declared.alloc.Global.{Global}
-use Rattle.slab.specs.Slab.{Slab, slab_len}
-use Rattle.gm_defs.specs.Token.{Sending, has_number}
+use Rattle.gm_defs.specs.Token.{Sending}
 use Rattle.gm_tokens.specs.Token.{Token, token_at}
-use Rattle.gm_port.specs.Held.{number_at}
 
 -- a place of the table: a token with its buffer, or none
 abbrev pub Place : Type 0
@@ -43,19 +41,12 @@ is_held (Some p) = is_some p
 abbrev pub sending_numbers : List Sending → List ℕ
 sending_numbers ss = map (λ s. s.token) ss
 
--- Each ticket stands for an unfinished send, no two for one, and each send has one.
-pub record AreTickets (sends : List Sending) (tickets : Slab ℕ) : Type 0 where
-  pub held : (ticket token : ℕ) → number_at tickets.slots ticket ≡ Some token
-      → has_number (sending_numbers sends) token ≡ true
-  pub one_each : (ticket other token : ℕ) → number_at tickets.slots ticket ≡ Some token
-      → number_at tickets.slots other ≡ Some token → ticket ≡ other
-  pub counted : slab_len tickets ≡ length sends
+-- a send is of this token
+abbrev pub is_of : ℕ → Sending → Bool
+is_of token s = nat_eq s.token token
 
--- The table with its tickets, and room for all of them and for the list in which they are handed back.
-pub record IsQueue (host port : ℕ) (places : List Place) (tickets : Slab ℕ)
-    (listed : Vec (Token × List ℕ) Global) : Type 0 where
+-- The table, and room for all of it in the list in which its sends are handed back.
+pub record IsQueue (host port : ℕ) (places : List Place) (listed : Vec (Token × List ℕ) Global) : Type 0 where
   pub table : IsTable host port 0 places
-  pub ticketed : AreTickets (sends_of places) tickets
-  pub ticket_room : length places ≤ tickets.capacity
   pub none_listed : listed.items ≡ []
   pub list_room : length places ≤ vec_capacity listed

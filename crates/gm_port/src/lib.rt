@@ -16,7 +16,7 @@
 //! |---|---|
 //! | `ask` | what is asked and refused |
 //! | `event` | events, and what an abandoned port hands back |
-//! | `sends` | the queue: unfinished sends by token, and their tickets |
+//! | `sends` | the queue: unfinished sends by token |
 //! | `buffers` | the provided tokens |
 //! | `events` | the queue of events |
 //! | `port` | the port |

@@ -1,13 +1,13 @@
 //! The port.
 
-ghost use Rattle.std.specs.Prelude.{◌≡◌, ◌<◌, [], length, map, find, false, true, is_some, IsSome, Some, None, IfOk};
+ghost use Rattle.std.specs.Prelude.{◌≡◌, ◌<◌, length, map, find, false, true, is_some, IsSome, Some, None, IfOk};
 ghost use Rattle.std.specs.Prelude.{IfErr, OnErr, OnOk, MatchResult, option_map, slice_get};
 ghost use Rattle.gm_defs.specs.Body.{is_head};
 ghost use Rattle.gm_defs.specs.Token.{opened, HasOneOwner, place_of_send, place_of_recv, can_take};
-ghost use Rattle.gm_defs.specs.Port.{sent_with, provided_with, delivered, next_event, polled};
+ghost use Rattle.gm_defs.specs.Port.{sent_with, provided_with, send_of, finished, delivered, next_event, polled};
 ghost use Rattle.gm_tokens.specs.Token.{token_at};
-ghost use Rattle.gm_port.specs.Held.{IsGiven, send_at, receive_at, event_at};
-ghost use Rattle.gm_port.specs.Opened.{token_of, sent_at, finished_at, place_of};
+ghost use Rattle.gm_port.specs.Held.{send_at, receive_at, event_at};
+ghost use Rattle.gm_port.specs.Opened.{place_of};
 ghost use Rattle.gm_port.specs.Refusal.{send_refusal, provide_refusal, close_refusal};
 
 use crate::ask::{CloseRefusal, ProvideRefusal, SendAsk, SendRefusal};
@@ -39,7 +39,6 @@ impl Model for Port {
       host = p.sends.host;
       port = p.sends.port;
       state = state_of p.sends p.buffers p.events;
-      tickets = p.sends.tickets;
     } };
 
     ghost invariant = { λ p. IsPort p.sends p.buffers p.events };
@@ -55,7 +54,7 @@ impl Port {
         sends: u16,
         recvs: u16,
     ) -> Result<Port, NoMemory>
-        ensures { IfOk result (λ p. p ≡ record { host = host; port = port; state = opened sends recvs; tickets = [] }) }
+        ensures { IfOk result (λ p. p ≡ record { host = host; port = port; state = opened sends recvs }) }
     {
         let send_queue = SendQueue::with_room(alloc, host, port, sends)?;
         let buffers = match BufferList::with_room(alloc, host, port, recvs) {
@@ -80,9 +79,9 @@ impl Port {
         }
     }
 
-    /// Takes a message to send: the buffer's first `len` bytes. The answer is its ticket. A refusal hands token and
-    /// buffer back and changes nothing: TooLong above the greatest length of a message, then BufferShort where the
-    /// buffer is shorter than the message.
+    /// Takes a message to send: the buffer's first `len` bytes. The answer is its ticket, the number of its token. A
+    /// refusal hands token and buffer back and changes nothing: TooLong above the greatest length of a message, then
+    /// BufferShort where the buffer is shorter than the message.
     pub fn send(
         &mut self,
         t: SendToken,
@@ -98,11 +97,8 @@ impl Port {
             send_refusal a.len b ≡ Some e.2) }
         ensures handed_back { IfErr result (λ e. (e.0 ≡ t) × (e.1 ≡ b)) }
         ensures unchanged { OnErr result (self.new ≡ self.old) }
-        ensures sent { OnOk result (self.new ≡ record self.old {
-          state = sent_with self.old.state t.number b;
-          tickets = self.new.tickets;
-        }) }
-        ensures ticket { IfOk result (λ ticket. IsGiven self.old.tickets self.new.tickets ticket t.number) }
+        ensures sent { OnOk result (self.new ≡ record self.old { state = sent_with self.old.state t.number b }) }
+        ensures ticket { IfOk result (λ ticket. ticket ≡ t.number) }
         ensures one_owner { HasOneOwner self.new.state }
     {
         match refuse_send(a.len, b.bytes()) {
@@ -150,17 +146,16 @@ impl Port {
 
     /// The buffer of an unfinished send.
     pub fn sending(&self, ticket: usize) -> &[u8]
-        requires { IsSome (token_of self.now ticket) }
-        ensures { option_map (λ s. s.buffer) (sent_at self.now ticket) ≡ Some result.now }
+        requires { IsSome (send_of self.now.state ticket) }
+        ensures { option_map (λ s. s.buffer) (send_of self.now.state ticket) ≡ Some result.now }
     {
         self.sends.buffer(ticket)
     }
 
-    /// All of a send's message is acknowledged: its token and its buffer, unchanged, go into an event, and its ticket
-    /// is free.
+    /// All of an unfinished send's message is acknowledged: its token and its buffer, unchanged, go into an event.
     pub fn finish(&mut self, ticket: usize)
-        requires { IsSome (token_of self.old ticket) }
-        ensures finished { self.new ≡ finished_at self.old ticket }
+        requires { IsSome (send_of self.old.state ticket) }
+        ensures finished { self.new ≡ record self.old { state = finished self.old.state ticket } }
         ensures one_owner { HasOneOwner self.new.state }
     {
         let (token, buffer) = self.sends.remove(ticket);

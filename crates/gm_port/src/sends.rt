@@ -1,26 +1,26 @@
 //! The unfinished sends of a port.
 //!
-//! A send's token and buffer lie at the token's number, and its ticket is a key of the slab, whose slot has that
-//! number. The slab holds numbers alone, since one of values that must be spent could never be let go.
+//! A send's token and buffer lie at the token's number, which is the send's ticket. So a ticket needs no table of its
+//! own, and who knows a token knows its ticket.
 //!
 //! ```text
-//!   ticket      0   1   2              number      0      1      2
-//!            +---+---+---+                      +------+------+------+
-//!   tickets  | 2 |   | 0 |              places  | send |      | send |
-//!            +---+---+---+                      +------+------+------+
+//!   ticket       0      1      2
+//!            +------+------+------+
+//!   places   | send |      | send |
+//!            +------+------+------+
 //! ```
 
-ghost use Rattle.std.specs.Prelude.{◌≡◌, ◌<◌, ◌≤◌, [], length, map, true, false, None, Some, IsSome, IfOk, slice_get};
-ghost use Rattle.std.specs.Prelude.{slice_set, option_map, vec_capacity};
+ghost use Rattle.std.specs.Prelude.{◌≡◌, ◌<◌, ◌≤◌, [], length, map, find, true, false, None, Some, IsSome, is_some};
+ghost use Rattle.std.specs.Prelude.{IfOk, slice_get, slice_set, option_map, vec_capacity};
+ghost use Rattle.std.specs.List.{count_by};
 ghost use Rattle.gm_defs.specs.Token.{has_number};
-ghost use Rattle.gm_defs.specs.Port.{with_send};
+ghost use Rattle.gm_defs.specs.Port.{with_send, without_first};
 ghost use Rattle.gm_tokens.specs.Token.{token_at};
-ghost use Rattle.gm_port.specs.Held.{number_at, send_by, without_send, send_at, IsGiven};
-ghost use Rattle.gm_port.specs.Table.{AreFree, held_in, is_held, sending_numbers};
+ghost use Rattle.gm_port.specs.Held.{send_at};
+ghost use Rattle.gm_port.specs.Table.{AreFree, held_in, is_held, is_of, sending_numbers};
 
 use gm_tokens::SendToken;
 use reg_mem::Reg;
-use slab::Slab;
 use std::alloc::{AllocError, Global};
 use std::collections::VecDeque;
 use std::marker::Model;
@@ -30,7 +30,6 @@ pub(crate) struct SendQueue {
     host: u16,
     port: u8,
     places: Vec<Option<(SendToken, Reg)>>,
-    tickets: Slab<u16>,
     // Empty: the list in which the sends are handed back.
     listed: Vec<(SendToken, Reg)>,
 }
@@ -48,10 +47,9 @@ impl Model for SendQueue {
       port = q.port;
       limit = length q.places.items;
       sends = sends_of q.places.items;
-      tickets = q.tickets.slots;
     } };
 
-    ghost invariant = { λ q. IsQueue q.host q.port q.places.items q.tickets q.listed };
+    ghost invariant = { λ q. IsQueue q.host q.port q.places.items q.listed };
 }
 
 impl SendQueue {
@@ -62,17 +60,15 @@ impl SendQueue {
         port: u8,
         limit: u16,
     ) -> Result<SendQueue, AllocError>
-        ensures { IfOk result (λ q. q ≡ record { host = host; port = port; limit = limit; sends = []; tickets = [] }) }
+        ensures { IfOk result (λ q. q ≡ record { host = host; port = port; limit = limit; sends = [] }) }
     {
         let limit = usize::from(limit);
-        let tickets = Slab::with_capacity(alloc, limit)?;
         let listed = Vec::with_capacity(alloc, limit)?;
         match free_places(alloc, limit) {
             Ok(places) => Ok(SendQueue {
                 host,
                 port,
                 places,
-                tickets,
                 listed,
             }),
             Err(error) => {
@@ -98,7 +94,7 @@ impl SendQueue {
     pub(crate) fn len(&self) -> usize
         ensures { result ≡ length self.now.sends }
     {
-        self.tickets.len()
+        count_sends(&self.places)
     }
 
     /// Whether the send of this number isn't finished.
@@ -110,11 +106,10 @@ impl SendQueue {
 
     /// The buffer of a ticket's send.
     pub(crate) fn buffer(&self, ticket: usize) -> &[u8]
-        requires { IsSome (number_at self.now.tickets ticket) }
-        ensures { option_map (λ s. s.buffer) (send_by self.now.sends (number_at self.now.tickets ticket))
-            ≡ Some result.now }
+        requires { IsSome (find (is_of ticket) self.now.sends) }
+        ensures { option_map (λ s. s.buffer) (find (is_of ticket) self.now.sends) ≡ Some result.now }
     {
-        match &self.places[usize::from(self.tickets[ticket])] {
+        match &self.places[ticket] {
             Some((_, buffer)) => buffer.bytes(),
             None => unreachable!(),
         }
@@ -128,28 +123,22 @@ impl SendQueue {
         ensures sends { self.new ≡ record self.old {
           sends = with_send
               (record { token = token.number; buffer = buffer }) self.old.sends;
-          tickets = self.new.tickets;
         } }
-        ensures ticket { IsGiven self.old.tickets self.new.tickets result token.number }
+        ensures ticket { result ≡ token.number }
     {
-        let number = token.number();
-        put(&mut self.places, usize::from(number), (token, buffer));
-        self.tickets.insert_reserved(number)
+        let ticket = usize::from(token.number());
+        put(&mut self.places, ticket, (token, buffer));
+        ticket
     }
 
     /// Takes the send of a ticket out.
     pub(crate) fn remove(&mut self, ticket: usize) -> (SendToken, Reg)
-        requires { IsSome (number_at self.old.tickets ticket) }
-        ensures sends { self.new ≡ record self.old {
-          sends = without_send self.old.sends
-              (number_at self.old.tickets ticket);
-          tickets = slice_set self.old.tickets ticket None;
-        } }
-        ensures taken { option_map (send_at self.old.host self.old.port)
-            (send_by self.old.sends (number_at self.old.tickets ticket)) ≡ Some result }
+        requires { IsSome (find (is_of ticket) self.old.sends) }
+        ensures sends { self.new ≡ record self.old { sends = without_first (is_of ticket) self.old.sends } }
+        ensures taken { option_map (send_at self.old.host self.old.port) (find (is_of ticket) self.old.sends)
+            ≡ Some result }
     {
-        let number = self.tickets.remove(ticket);
-        take(&mut self.places, usize::from(number))
+        take(&mut self.places, ticket)
     }
 
     /// All sends, by the rising numbers of their tokens. Takes no memory.
@@ -160,7 +149,6 @@ impl SendQueue {
             host: _,
             port: _,
             places,
-            tickets: _,
             listed,
         } = self;
         list_places(places, listed)
@@ -177,6 +165,13 @@ fn free_places(alloc: Global, count: usize) -> Result<Vec<Option<(SendToken, Reg
         places.push_reserved(None);
     }
     Ok(places)
+}
+
+// How many places have a send.
+fn count_sends(places: &[Option<(SendToken, Reg)>]) -> usize
+    ensures { result ≡ count_by is_some places.now }
+{
+    places.iter().filter(|place| place.is_some()).count()
 }
 
 // Whether a place has a send.

@@ -3,9 +3,8 @@ use Rattle.std.specs.Prelude.{◌≡◌, ℕ, Bool, List, map, length, replicate
 use Rattle.std.specs.Prelude.{option_map}
 use Rattle.gm_defs.specs.declared.token.TokenPlace.{TokenPlace}
 use Rattle.gm_defs.specs.Token.{PortState}
-use Rattle.gm_port.specs.Opened.{place_of}
+use Rattle.gm_port.specs.Opened.{OpenPort, place_of}
 use Rattle.world_defs.specs.Node.{port_count}
-use Rattle.host_ports.specs.Numbered.{PortOf, port_in}
 
 -- The ports of a host by number, where they are open.
 pub record HostPorts : Type 0 where
@@ -29,21 +28,25 @@ abbrev pub changed : HostPorts → ℕ → (PortState → PortState) → HostPor
 changed h port f = with_open h port (option_map f (open_at h port))
 
 -- the states of ports
-abbrev pub state_at : Option PortOf → Option PortState
+abbrev pub state_at : Option OpenPort → Option PortState
 state_at p = option_map (λ x. x.state) p
 
 -- the state of each port, where it is open
-abbrev pub states : List (Option PortOf) → List (Option PortState)
+abbrev pub states : List (Option OpenPort) → List (Option PortState)
 states ps = map state_at ps
 
+-- the same port, in another state
+abbrev pub port_in : OpenPort → PortState → OpenPort
+port_in p s = record p { state = s }
+
 -- the port of a host and a number, in another state
-abbrev pub changed_port : Option PortOf → (PortState → PortState) → Option PortOf
+abbrev pub changed_port : Option OpenPort → (PortState → PortState) → Option OpenPort
 changed_port p f = option_map (λ x. port_in x (f x.state)) p
 
 -- Eight ports, and each that is open knows whose it is.
-pub record IsHostPorts (host : ℕ) (ps : List (Option PortOf)) : Type 0 where
+pub record IsHostPorts (host : ℕ) (ps : List (Option OpenPort)) : Type 0 where
   pub counted : length ps ≡ port_count
-  pub own : (port : ℕ) (p : PortOf) → slice_index_or ps port None ≡ Some p → (p.host ≡ host) × (p.port ≡ port)
+  pub own : (port : ℕ) (p : OpenPort) → slice_index_or ps port None ≡ Some p → (p.host ≡ host) × (p.port ≡ port)
 
 -- the place of a token of a port: none where the client has it, or the port isn't open
 abbrev pub place_at : Option PortState → Bool → ℕ → Option TokenPlace

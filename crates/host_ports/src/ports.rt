@@ -14,10 +14,9 @@ ghost use Rattle.host_ports.specs.Held.{none_open, open_at, with_open, changed, 
 ghost use Rattle.host_ports.specs.Refusal.{begin_bar, send_bar, provide_bar, close_bar};
 
 use crate::ask::{NotOpen, PortBegin, PortClose, PortProvide, PortSend};
-use crate::node_port::NodePort;
 use crate::slot;
 use gm_defs::{FrameHead, TokenPlace};
-use gm_port::{PortEvent, SendAsk, Wreck};
+use gm_port::{Port, PortEvent, SendAsk, Wreck};
 use gm_tokens::{RecvToken, SendToken};
 use reg_mem::Reg;
 use std::alloc::{AllocError, Global};
@@ -31,7 +30,7 @@ const PORTS: usize = 8;
 /// They must be spent, by [`Ports::end`] once all are closed.
 pub struct Ports {
     host: u16,
-    ports: Vec<Option<NodePort>>,
+    ports: Vec<Option<Port>>,
 }
 
 impl Model for Ports {
@@ -73,7 +72,7 @@ impl Ports {
         if self.ports[place].is_some() {
             return Err(PortBegin::Already);
         }
-        match NodePort::begin(alloc, self.host, port, sends, recvs) {
+        match Port::begin(alloc, self.host, port, sends, recvs) {
             Ok(opened) => {
                 slot::put_back(&mut self.ports[place], opened);
                 Ok(())

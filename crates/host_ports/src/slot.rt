@@ -5,7 +5,7 @@ ghost use Rattle.std.specs.Prelude.{OnErr, MatchResult, MatchOption, option_map}
 ghost use Rattle.std.specs.Option.{ForSome};
 ghost use Rattle.gm_defs.specs.Body.{is_head};
 ghost use Rattle.gm_defs.specs.Token.{place_of_send, place_of_recv};
-ghost use Rattle.gm_defs.specs.Port.{sent_with, provided_with, finished, delivered, next_event, polled};
+ghost use Rattle.gm_defs.specs.Port.{sent_with, provided_with, send_of, finished, delivered, next_event, polled};
 ghost use Rattle.gm_tokens.specs.Token.{token_at};
 ghost use Rattle.gm_port.specs.Held.{send_at, receive_at, event_at};
 ghost use Rattle.world_defs.specs.Hearing.{port_takes};
@@ -13,14 +13,13 @@ ghost use Rattle.host_ports.specs.Held.{state_at, changed_port, place_at};
 ghost use Rattle.host_ports.specs.Refusal.{send_bar, provide_bar, close_bar, close_word};
 
 use crate::ask::{NotOpen, PortClose, PortProvide, PortSend};
-use crate::node_port::NodePort;
 use gm_defs::{FrameHead, TokenPlace};
-use gm_port::{CloseRefusal, PortEvent, ProvideRefusal, SendAsk, Wreck};
+use gm_port::{CloseRefusal, Port, PortEvent, ProvideRefusal, SendAsk, Wreck};
 use gm_tokens::{RecvToken, SendToken, is_too_long};
 use reg_mem::Reg;
 
 // Why a send of so many bytes of a buffer is refused.
-pub(crate) fn refuse_send(slot: &Option<NodePort>, len: u32, buffer: &[u8]) -> Option<PortSend>
+pub(crate) fn refuse_send(slot: &Option<Port>, len: u32, buffer: &[u8]) -> Option<PortSend>
     ensures { result ≡ send_bar (state_at slot.now) len buffer.now }
 {
     if slot.is_none() {
@@ -35,7 +34,7 @@ pub(crate) fn refuse_send(slot: &Option<NodePort>, len: u32, buffer: &[u8]) -> O
 }
 
 // Takes a message to send.
-pub(crate) fn send(slot: &mut Option<NodePort>, t: SendToken, b: Reg, a: SendAsk)
+pub(crate) fn send(slot: &mut Option<Port>, t: SendToken, b: Reg, a: SendAsk)
     requires able { send_bar (state_at slot.old) a.len b ≡ None }
     requires own { ForSome slot.old (λ p. t ≡ token_at p.host p.port t.number) }
     requires minted { ForSome slot.old (λ p. t.number < p.state.sends) }
@@ -46,7 +45,7 @@ pub(crate) fn send(slot: &mut Option<NodePort>, t: SendToken, b: Reg, a: SendAsk
 {
     match slot {
         Some(port) => match port.send(t, b, a) {
-            Ok(()) => {}
+            Ok(_ticket) => {}
             Err(_) => unreachable!(),
         },
         None => unreachable!(),
@@ -55,7 +54,7 @@ pub(crate) fn send(slot: &mut Option<NodePort>, t: SendToken, b: Reg, a: SendAsk
 
 // Takes a buffer to receive into. A refusal hands token and buffer back.
 pub(crate) fn provide(
-    slot: &mut Option<NodePort>,
+    slot: &mut Option<Port>,
     t: RecvToken,
     b: Reg,
     size: u8,
@@ -81,17 +80,26 @@ pub(crate) fn provide(
     }
 }
 
-// The message of a token is acknowledged.
-pub(crate) fn finish(slot: &mut Option<NodePort>, number: u16)
+// The message of a token is acknowledged. Nothing changes where the token has no unfinished send.
+pub(crate) fn finish(slot: &mut Option<Port>, number: u16)
     ensures { slot.new ≡ changed_port slot.old (λ s. finished s number) }
 {
     if let Some(port) = slot {
-        port.finish(number);
+        if is_unfinished(port, number) {
+            port.finish(usize::from(number));
+        }
     }
 }
 
+// Whether a token has an unfinished send.
+fn is_unfinished(port: &Port, number: u16) -> bool
+    ensures { result ≡ is_some (send_of port.now.state number) }
+{
+    port.place(true, number) == Some(TokenPlace::Queue)
+}
+
 // Whether a provided token fits a message.
-pub(crate) fn can_take(slot: &Option<NodePort>, len: u32, prio: u8) -> bool
+pub(crate) fn can_take(slot: &Option<Port>, len: u32, prio: u8) -> bool
     ensures { result ≡ port_takes (state_at slot.now) len prio }
 {
     match slot {
@@ -101,7 +109,7 @@ pub(crate) fn can_take(slot: &Option<NodePort>, len: u32, prio: u8) -> bool
 }
 
 // A message came whole.
-pub(crate) fn deliver(slot: &mut Option<NodePort>, h: &FrameHead, part: &[u8])
+pub(crate) fn deliver(slot: &mut Option<Port>, h: &FrameHead, part: &[u8])
     requires taken { port_takes (state_at slot.old) h.now.total h.now.prio ≡ true }
     requires head { is_head h.now ≡ true }
     requires part { length part.now ≡ h.now.len }
@@ -114,7 +122,7 @@ pub(crate) fn deliver(slot: &mut Option<NodePort>, h: &FrameHead, part: &[u8])
 }
 
 // Hands out the event that was put in first.
-pub(crate) fn poll(slot: &mut Option<NodePort>) -> Result<Option<PortEvent>, NotOpen>
+pub(crate) fn poll(slot: &mut Option<Port>) -> Result<Option<PortEvent>, NotOpen>
     ensures open { MatchResult result (λ _. is_some slot.old ≡ true) (λ _. slot.old ≡ None) }
     ensures first { IfOk result (λ e. IfSome slot.old (λ p.
         e ≡ option_map (event_at p.host p.port) (next_event p.state))) }
@@ -127,7 +135,7 @@ pub(crate) fn poll(slot: &mut Option<NodePort>) -> Result<Option<PortEvent>, Not
 }
 
 // Closes a port, and hands each provided token back with its buffer.
-pub(crate) fn close(slot: &mut Option<NodePort>) -> Result<Vec<(RecvToken, Reg)>, PortClose>
+pub(crate) fn close(slot: &mut Option<Port>) -> Result<Vec<(RecvToken, Reg)>, PortClose>
     ensures refused { MatchResult result (λ _. close_bar (state_at slot.old) ≡ None) (λ e.
         close_bar (state_at slot.old) ≡ Some e) }
     ensures unchanged { OnErr result (slot.new ≡ slot.old) }
@@ -148,7 +156,7 @@ pub(crate) fn close(slot: &mut Option<NodePort>) -> Result<Vec<(RecvToken, Reg)>
 }
 
 // Ends a port, whatever it holds, and hands all of it back.
-pub(crate) fn abandon(slot: &mut Option<NodePort>) -> Option<Wreck>
+pub(crate) fn abandon(slot: &mut Option<Port>) -> Option<Wreck>
     ensures open { is_some result ≡ is_some slot.old }
     ensures sending { IfSome result (λ w. IfSome slot.old (λ p.
         w.sending.items ≡ map (send_at p.host p.port) p.state.queue)) }
@@ -165,7 +173,7 @@ pub(crate) fn abandon(slot: &mut Option<NodePort>) -> Option<Wreck>
 }
 
 // The place of a token.
-pub(crate) fn place(slot: &Option<NodePort>, send: bool, number: u16) -> Option<TokenPlace>
+pub(crate) fn place(slot: &Option<Port>, send: bool, number: u16) -> Option<TokenPlace>
     ensures { result ≡ place_at (state_at slot.now) send number }
 {
     match slot {
@@ -175,7 +183,7 @@ pub(crate) fn place(slot: &Option<NodePort>, send: bool, number: u16) -> Option<
 }
 
 // Puts a port into an empty place.
-pub(crate) fn put_back(slot: &mut Option<NodePort>, port: NodePort)
+pub(crate) fn put_back(slot: &mut Option<Port>, port: Port)
     requires { slot.old ≡ None }
     ensures { slot.new ≡ Some port }
 {

@@ -7,4 +7,4 @@ use Rattle.gm_port.proofs.sends.SendQueue.has.Goals as goal
 pub returns : goal.returns
 returns c =
     c.has_send.ensures ∙ ap (λ (ps : List Place). is_held (slice_get ps c.from.result)) c.deref.ensures.value ∙ ap (λ (k : ℕ). is_held (slice_get c.self.inside.places.items k)) c.from.ensures
-    ∙ sym (has-seen _ _ c.self.inside.places.items c.self.inside.tickets c.self.inside.listed c.self.invariant c.args.self.now c.self.view_is c.args.number)
+    ∙ sym (has-seen _ _ c.self.inside.places.items c.self.inside.listed c.self.invariant c.args.self.now c.self.view_is c.args.number)

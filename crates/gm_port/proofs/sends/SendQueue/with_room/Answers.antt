@@ -1,9 +1,7 @@
-use Rattle.std.proofs.Common.{◌≡◌, ◌≤◌, List, [], length, sym, ap, subst, ◌∙◌, vec_capacity, arith}
-use Rattle.gm_defs.specs.Token.{Sending}
-use Rattle.gm_port.specs.Table.{Place, sends_of, AreTickets}
-use Rattle.gm_port.proofs.Queue.{same-sends, seen}
+use Rattle.std.proofs.Common.{◌≡◌, List, [], length, ◌∙◌, vec_capacity, arith}
+use Rattle.gm_port.specs.Table.{Place, sends_of}
+use Rattle.gm_port.proofs.Queue.{same-sends}
 use Rattle.gm_port.proofs.Tables.{free-table}
-use Rattle.gm_port.proofs.Tickets.{tickets-none}
 use Rattle.gm_port.proofs.sends.SendQueue.with_room.Goals as goal
 
 pub invariant_of-result : goal.invariant_of-result
@@ -11,12 +9,9 @@ invariant_of-result c =
     let ps : List Place = c.in-Ok.places.items in
     let free = free-table c.args.host c.args.port 0 ps c.in-Ok.ensures.free in
     let many : length ps ≡ c.from-limit.result = c.in-Ok.ensures.count in
-    let tickets : c.from-limit.result ≤ c.in_ok-tickets.tickets.capacity = c.in_ok-tickets.ensures.capacity in
     let list : vec_capacity c.in_ok-listed.listed ≡ c.from-limit.result = c.in_ok-listed.ensures.exact in
     record {
       table = free.0;
-      ticketed = subst (λ (ss : List Sending). AreTickets ss c.in_ok-tickets.tickets) (sym free.1) (tickets-none c.in_ok-tickets.tickets c.in_ok-tickets.ensures.empty);
-      ticket_room = omega arith;
       none_listed = c.in_ok-listed.ensures.items;
       list_room = omega arith;
     }
@@ -26,5 +21,4 @@ returns-in-Ok c =
     let ps : List Place = c.in-Ok.places.items in
     let free = free-table c.args.host c.args.port 0 ps c.in-Ok.ensures.free in
     let many : length ps ≡ c.args.limit = c.in-Ok.ensures.count ∙ c.from-limit.ensures in
-    let e = c.in_ok-tickets.ensures.empty in
-    same-sends c.args.host c.args.port (length ps) c.args.limit (sends_of ps) [] c.in_ok-tickets.tickets.slots many free.1 ∙ ap (λ (t : List _). seen c.args.host c.args.port c.args.limit [] t) e
+    same-sends c.args.host c.args.port (length ps) c.args.limit (sends_of ps) [] many free.1
