@@ -7,7 +7,7 @@ use native.Mathlib.Decide.{dec_lt}
 use Rattle.std.proofs.lemmas.List.{get_or-set_same, get_or-set_other}
 use Rattle.std.proofs.Math.ListN.{length-set, get_or-eq_default}
 use Rattle.link_defs.specs.Links.{Held}
-use Rattle.channel_slots.specs.Marks.{mark_at, IsWritten, IsNextMark}
+use Rattle.number_marks.specs.Marks.{mark_at, IsWritten, IsNextMark}
 use Rattle.channel_slots.proofs.Counting.{count-put, count-take}
 use Rattle.channel_slots.specs.Full.{full_of, full_from, IsIndexed}
 

@@ -1,4 +1,3 @@
 pub mod Counting
 pub mod Fullness
-pub mod Marking
 pub mod Passing

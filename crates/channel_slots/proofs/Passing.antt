@@ -5,7 +5,7 @@ use Rattle.std.proofs.lemmas.Bool.Decides.{Decides-eqb}
 use Rattle.std.proofs.lemmas.List.{get_or-set_same, get_or-set_other, get_or_default}
 use Rattle.std.proofs.Math.ListN.{length-set}
 use Rattle.link_defs.specs.Links.{Held}
-use Rattle.channel_slots.specs.Marks.{IsWritten}
+use Rattle.number_marks.specs.Marks.{IsWritten}
 use Rattle.channel_slots.specs.Full.{IsIndexed}
 use Rattle.channel_slots.specs.Passing.{HasTurn, stripped_slot, passed_on}
 use Rattle.channel_slots.proofs.Counting.{count-take, set-set}

@@ -3,7 +3,7 @@ use Rattle.std.specs.Prelude.{◌≡◌, ℕ, ◌+◌, ◌-◌, ◌*◌, ◌^◌
 use Rattle.std.specs.Prelude.{Some, None, is_some}
 use Rattle.std.specs.List.{range_with_len}
 use Rattle.link_defs.specs.Links.{Held}
-use Rattle.channel_slots.specs.Marks.{mark_at}
+use Rattle.number_marks.specs.Marks.{mark_at}
 
 -- a channel counts as one where it is full
 abbrev pub full_of : Option Held → ℕ

@@ -1,3 +1,2 @@
 pub mod Full
-pub mod Marks
 pub mod Passing

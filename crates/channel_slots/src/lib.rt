@@ -1,7 +1,7 @@
 //! What the channels of a fabric hold: a packet each, or none, with an index of the full ones.
 //!
 //! It knows no cable: where a packet goes is in `link_model`. `specs/Full.antt` says what the index holds,
-//! `specs/Marks.antt` what a mark is.
+//! `number_marks` what a mark is.
 //!
 //! ```text
 //!   channel   0   1   2   3   4   5  ..
@@ -10,7 +10,6 @@
 //! ```
 #![tactic(auto)]
 
-mod marks;
 mod slots;
 
 pub use slots::{Slot, Slots};

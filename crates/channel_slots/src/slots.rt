@@ -10,8 +10,8 @@ ghost use Rattle.link_defs.specs.Links.{Held};
 ghost use Rattle.channel_slots.specs.Full.{full_from};
 ghost use Rattle.channel_slots.specs.Passing.{HasTurn, stripped_slot, passed_on};
 
-use crate::marks::{bare, mark, next_marked, unmark};
 use myri_packet::Packet;
+use number_marks::{bare, mark, next_marked, unmark};
 use std::alloc::{AllocError, Global};
 use std::marker::Model;
 use std::mem;

@@ -1,6 +1,6 @@
 -- What a contract sees of all lanes of a host.
 use Rattle.std.specs.Prelude.{◌≡◌, ℕ, ◌+◌, ◌<◌, ◌≤◌, Bool, true, false, List, map, length, replicate, slice_index_or}
-use Rattle.std.specs.Prelude.{slice_set, is_some, Option, Some, None}
+use Rattle.std.specs.Prelude.{slice_set, is_some, nat_lt, Option, Some, None}
 use Rattle.gm_defs.specs.declared.frame.FrameHead.{FrameHead}
 use Rattle.gm_defs.specs.Connection.{connection, unacknowledged}
 use Rattle.world_defs.specs.Lane.{LaneState, new_lane, lane_expired}
@@ -76,3 +76,7 @@ owes_on h lane = (lane_in h lane).owes
 -- a frame is due on a lane
 abbrev pub has_due : HostLanes → ℕ → Bool
 has_due h lane = is_some (due_on h lane)
+
+-- something isn't acknowledged on a lane
+abbrev pub has_unacked : HostLanes → ℕ → Bool
+has_unacked h lane = nat_lt 0 (unacknowledged (lane_in h lane).sender)

@@ -9,30 +9,33 @@ ghost use Rattle.world_defs.specs.Node.{lane_count, lane_of};
 ghost use Rattle.world_defs.specs.Hearing.{message_of, frame_lane, ack_lane};
 ghost use Rattle.host_lanes.specs.Lane.{message_in, accept_refusal};
 ghost use Rattle.host_lanes.specs.Lanes.{all_unused, lane_in, held_lane, with_state, one_expired, both_expired};
-ghost use Rattle.host_lanes.specs.Lanes.{unacknowledged_to, owes_on, has_due, IsNext};
+ghost use Rattle.host_lanes.specs.Lanes.{unacknowledged_to, owes_on, has_due, has_unacked, IsNext};
 
 use crate::number::{lane_count, lane_of, peer_of, prio_of};
+use crate::sets::LaneSets;
 use crate::{Ack, Envelope, FrameHead, Lane, OfferRefusal, Took};
 use std::alloc::{AllocError, Global};
 use std::marker::Model;
 
 /// What a host sends to its peers and takes from them, by the numbers of its lanes. The host is among its peers, and
-/// sends nothing to itself.
+/// sends nothing to itself. Which lanes have something to be done is known without a look at each.
 #[derive(Drop)]
 pub struct Lanes {
     host: u16,
     hosts: u16,
     lanes: Vec<Lane>,
+    sets: LaneSets,
 }
 
 impl Model for Lanes {
-    ghost use Rattle.host_lanes.specs.Lanes.{HostLanes, AreOf, states};
+    ghost use Rattle.host_lanes.specs.Lanes.{HostLanes, states};
+    ghost use Rattle.host_lanes.specs.Sets.{AreTold};
 
     ghost Value = { HostLanes };
 
     ghost view = { λ p. record { host = p.host; hosts = p.hosts; lanes = states p.lanes.items } };
 
-    ghost invariant = { λ p. AreOf p.host p.hosts p.lanes.items };
+    ghost invariant = { λ p. AreTold p.host p.hosts p.lanes.items p.sets };
 }
 
 impl Lanes {
@@ -41,11 +44,17 @@ impl Lanes {
         ensures { IfOk result (λ p. p ≡ all_unused host hosts) }
     {
         let count = lane_count(hosts);
+        let sets = LaneSets::new(alloc, count)?;
         let mut lanes = Vec::with_capacity(alloc, count as usize)?;
         for lane in 0..count {
             lanes.push_reserved(Lane::new(alloc, host, peer_of(lane), prio_of(lane)));
         }
-        Ok(Lanes { host, hosts, lanes })
+        Ok(Lanes {
+            host,
+            hosts,
+            lanes,
+            sets,
+        })
     }
 
     /// How many hosts there are: one for each two lanes.
@@ -85,7 +94,9 @@ impl Lanes {
         requires due { IsSome (due (lane_in self.old lane).sender) }
         ensures { self.new ≡ with_state self.old lane (lane_sent_one (lane_in self.old lane)) }
     {
-        self.lanes[lane as usize].sent_one();
+        let at = &mut self.lanes[lane as usize];
+        at.sent_one();
+        self.sets.note(lane, at);
     }
 
     /// The acknowledgement of a lane was sent.
@@ -93,7 +104,9 @@ impl Lanes {
         requires { lane < length self.old.lanes }
         ensures { self.new ≡ with_state self.old lane (lane_answered (lane_in self.old lane)) }
     {
-        self.lanes[lane as usize].answered();
+        let at = &mut self.lanes[lane as usize];
+        at.answered();
+        self.sets.note(lane, at);
     }
 
     /// What a peer didn't acknowledge is sent again, of both priorities.
@@ -111,7 +124,9 @@ impl Lanes {
         ensures { self.new ≡ one_expired self.old (lane_of peer prio) }
     {
         let lane = self.number(peer, prio);
-        self.lanes[lane as usize].expire();
+        let at = &mut self.lanes[lane as usize];
+        at.expire();
+        self.sets.note(lane, at);
     }
 
     /// How many fragments to a peer aren't acknowledged, sent or not, of both priorities.
@@ -127,40 +142,21 @@ impl Lanes {
     pub fn next_owing(&self, from: u32) -> Option<u32>
         ensures { IsNext (owes_on self.now) from (length self.now.lanes) result }
     {
-        for lane in from..self.count() {
-            if self.owes(lane) {
-                return Some(lane);
-            }
-        }
-        None
+        self.sets.next_owing(from)
     }
 
     /// The least lane from one on with a fragment due, if there is one.
     pub fn next_due(&self, from: u32) -> Option<u32>
         ensures { IsNext (has_due self.now) from (length self.now.lanes) result }
     {
-        for lane in from..self.count() {
-            if self.has_due(lane) {
-                return Some(lane);
-            }
-        }
-        None
+        self.sets.next_due(from)
     }
 
-    // Whether a lane owes an acknowledgement.
-    fn owes(&self, lane: u32) -> bool
-        requires { lane < length self.now.lanes }
-        ensures { result ≡ owes_on self.now lane }
+    /// The least lane from one on with something unacknowledged, sent or not, if there is one.
+    pub fn next_unacked(&self, from: u32) -> Option<u32>
+        ensures { IsNext (has_unacked self.now) from (length self.now.lanes) result }
     {
-        self.at(lane).owes()
-    }
-
-    // Whether a fragment is due on a lane.
-    fn has_due(&self, lane: u32) -> bool
-        requires { lane < length self.now.lanes }
-        ensures { result ≡ has_due self.now lane }
-    {
-        self.at(lane).due().is_some()
+        self.sets.next_unacked(from)
     }
 
     /// Accepts a message for a peer, with the number of its port's token, in the lane of its priority. A refusal
@@ -186,7 +182,10 @@ impl Lanes {
         ensures err { OnErr result (self.new ≡ self.old) }
     {
         let lane = self.number(peer, e.prio);
-        self.lanes[lane as usize].accept(alloc, e, body, token)
+        let at = &mut self.lanes[lane as usize];
+        let accepted = at.accept(alloc, e, body, token);
+        self.sets.note(lane, at);
+        accepted
     }
 
     /// An acknowledgement came from a peer: the sends of its lane that it finishes wait no more.
@@ -196,7 +195,9 @@ impl Lanes {
             (lane_acknowledged (lane_in self.old (ack_lane a.now)) a.now.next) }
     {
         let lane = self.number(a.src, a.prio);
-        self.lanes[lane as usize].on_ack(a.next);
+        let at = &mut self.lanes[lane as usize];
+        at.on_ack(a.next);
+        self.sets.note(lane, at);
     }
 
     /// A frame came from a peer; `fits` says whether a token fits its message. Whatever is made of it, its lane owes
@@ -216,7 +217,10 @@ impl Lanes {
         ensures err { OnErr result (self.new ≡ self.old) }
     {
         let lane = self.number(h.src, h.prio);
-        self.lanes[lane as usize].on_frame(alloc, h, part, fits)
+        let at = &mut self.lanes[lane as usize];
+        let took = at.on_frame(alloc, h, part, fits);
+        self.sets.note(lane, at);
+        took
     }
 
     // The number of the lane of a peer and a priority.

@@ -1,8 +1,7 @@
 -- The cables that the walks tell of are taken: none of them is refused.
-use Rattle.std.proofs.Common.{◌≡◌, ◌≢◌, ◌<◌, ◌≤◌, ◌+◌, ◌^◌, ◌||◌, ◌⊎◌, inl, inr, ℕ, List, [], ◌∷◌, map, Bool, true, false, length, nat_lt, Option, Some, None, is_some, refl, ap, sym, ◌∙◌, subst, arith, if◌then◌else◌}
+use Rattle.std.proofs.Common.{◌≡◌, ◌≢◌, ◌<◌, ◌≤◌, ◌+◌, ◌^◌, ◌||◌, inl, inr, ℕ, List, [], ◌∷◌, map, Bool, true, false, length, nat_lt, Option, Some, None, is_some, refl, ap, sym, ◌∙◌, subst, arith, if◌then◌else◌}
 use Rattle.std.specs.Prelude.{ℤ, pos, ◌+ℤ◌, ◌-ℤ◌, slice_get}
 use Rattle.std.specs.Ordering.{int_eq}
-use Rattle.std.specs.List.{AllByRecursion}
 use Rattle.std.proofs.lemmas.Bool.{and_from, and_parts, false≢true, lt-ltb}
 use Rattle.std.proofs.lemmas.Bool.Decides.{Decides-int_eq}
 use Rattle.std.proofs.lemmas.Int.{ints}
@@ -10,14 +9,14 @@ use Rattle.std.proofs.lemmas.List.{length-append, length-map}
 use Rattle.std.proofs.lemmas.Option.{slice_get_within}
 use Rattle.net_defs.specs.declared.vertex.Cable.{Cable}
 use Rattle.net_defs.specs.declared.vertex.End.{End}
-use Rattle.net_defs.specs.Network.{Network, IsFabric, Apart, ends_of, far, far_end, has_port, same_end}
+use Rattle.net_defs.specs.Network.{Network, Apart, ends_of, far, far_end, has_port, same_end}
 use Rattle.net_defs.specs.Route.{host_port}
 use Rattle.net_defs.specs.Turn.{IsTurn, is_turn}
 use Rattle.net_defs.proofs.Cabling.{far-back, host-port}
 use Rattle.net_defs.proofs.Ends.{same_end-true}
 use Rattle.journal_defs.specs.declared.entry.Entry.{Entry}
 use Rattle.journal_defs.specs.Tree.{Node, host_of}
-use Rattle.journal_defs.specs.Truth.{IsTrueWhereFound, standing}
+use Rattle.journal_defs.specs.Truth.{standing}
 use Rattle.journal_defs.proofs.Members.{IsMember, member-place}
 use Rattle.journal_defs.proofs.Standing.{host-stands, leads-crosses, port-below, same_end-of, stand, turn-between}
 use Rattle.growth_laws.proofs.Crossing.{below-ports}

@@ -13,7 +13,7 @@ use Rattle.growth_laws.proofs.Pigeons.{no-more}
 use Rattle.map_defs.specs.declared.vertex.MapVertex.{MapVertex}
 use Rattle.map_defs.specs.declared.vertex.MapVertex.TheVariants.{Host, Switch}
 use Rattle.map_defs.specs.declared.vertex.MapCable.{MapCable}
-use Rattle.map_defs.specs.NetMap.{NetMap, MapPort, IsMap, IsCabled, IsNearPort, AreNearPorts, AreInOrder, first_end, second_end, same_port, far_port, map_far, map_ends, port_below}
+use Rattle.map_defs.specs.NetMap.{NetMap, MapPort, IsMap, IsCabled, IsNearPort, AreNearPorts, AreInOrder, first_end, second_end, far_port, map_far, map_ends, port_below}
 use Rattle.map_defs.specs.NetMap.{host_at, host_of_vertex, switch_at, is_switch_vertex}
 use Rattle.map_defs.specs.NetMap.IsCabled.{forth, back}
 use Rattle.map_defs.proofs.Leading.{far-end}

@@ -1,17 +1,20 @@
 //! The map of a journal.
 
-ghost use Rattle.std.specs.Prelude.{◌<◌, length, IfOk};
+ghost use Rattle.std.specs.Prelude.{◌≡◌, ◌<◌, length, IfOk};
+ghost use Rattle.journal_defs.specs.Tree.{nodes};
 ghost use Rattle.map_defs.specs.Quotient.{IsQuotient};
+ghost use Rattle.class_joins.specs.Nodes.{nodes_of};
 ghost use Rattle.class_joins.specs.Table.{StandsFor, IsTrueOfOne};
+ghost use Rattle.map_canon.specs.Numbering.{AreVertices};
 
 use crate::cables::add_in_order;
 use crate::found::found_walks;
 use crate::joining::join_all;
 use crate::naming::named;
-use crate::numbering::numbered;
+use crate::numbering::{Numbering, numbered};
 use crate::order::node_order;
 use fabric_map::FabricMap;
-use probe::Journal;
+use probe::{Journal, WalkIndex};
 use replicate_merge::Classes;
 use std::alloc::{AllocError, Global};
 
@@ -28,9 +31,28 @@ pub fn quotient(alloc: Global, j: &Journal, c: &Classes) -> Result<FabricMap, Al
     let walks = found_walks(alloc, j)?;
     let order = node_order(alloc, &walks)?;
     let numbering = numbered(alloc, c, &order)?;
-    let mut loose = named(alloc, j, &walks, &numbering.least)?;
-    join_all(&mut loose, &walks, c, &numbering.vertices)?;
-    let mut map = named(alloc, j, &walks, &numbering.least)?;
+    filled(alloc, j, c, &walks, &numbering)
+}
+
+// The map of a journal, from the walks that found something and the vertices of the classes.
+fn filled(
+    alloc: Global,
+    j: &Journal,
+    c: &Classes,
+    walks: &WalkIndex,
+    numbering: &Numbering,
+) -> Result<FabricMap, AllocError>
+    requires stands { StandsFor j.now.host j.now.entries c.now }
+    requires true_of_one { IsTrueOfOne j.now.host j.now.entries }
+    requires few { length j.now.entries < 4294967295 }
+    requires walked { nodes_of walks.now ≡ nodes j.now.entries }
+    requires numbered { AreVertices c.now numbering.now.least.items numbering.now.vertices.items }
+    ensures { IfOk result (λ m. IsQuotient j.now.host j.now.entries m) }
+{
+    let _once = j.entries();
+    let mut loose = named(alloc, j, walks, &numbering.least)?;
+    join_all(&mut loose, walks, c, &numbering.vertices)?;
+    let mut map = named(alloc, j, walks, &numbering.least)?;
     add_in_order(&mut map, &loose)?;
     Ok(map)
 }

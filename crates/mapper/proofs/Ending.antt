@@ -1,10 +1,9 @@
 -- What a journal that has grown is worth: it is short, its end tells whether it is closed, and memory may be wanted behind it.
-use Rattle.std.proofs.Common.{◌≡◌, ◌<◌, ◌≤◌, ◌+◌, ℕ, List, [], ◌∷◌, ◌++◌, length, Bool, true, false, if◌then◌else◌, subst, ap, refl, arith, ◌⊎◌, inl, inr}
+use Rattle.std.proofs.Common.{◌≡◌, ◌<◌, ◌≤◌, ℕ, List, [], ◌∷◌, ◌++◌, length, Bool, true, false, if◌then◌else◌, subst, ap, refl, arith, ◌⊎◌, inl, inr}
 use Rattle.std.specs.Prelude.{ℤ, nat_lt}
 use Rattle.std.proofs.lemmas.Bool.Decides.{nat_tests}
 use Rattle.net_defs.specs.declared.place.Answer.{Answer}
-use Rattle.net_defs.specs.declared.vertex.Vertex.TheVariants.{Host}
-use Rattle.net_defs.specs.Network.{Network, IsFabric, has_vertex}
+use Rattle.net_defs.specs.Network.{Network, IsFabric}
 use Rattle.journal_defs.specs.declared.entry.Entry.{Entry}
 use Rattle.journal_defs.specs.Depth.{IsSmallEnough, enough_depth}
 use Rattle.journal_defs.specs.Tree.{is_found, nodes}

@@ -1,6 +1,6 @@
 use Rattle.std.proofs.Common.{ap, ◌∙◌, subst, ◌≡◌, ◌≤◌, ℕ}
 use Rattle.std.specs.Option.{IfSome, IfNone}
-use Rattle.channel_slots.specs.Marks.{mark_at, IsNextMark}
+use Rattle.number_marks.specs.Marks.{mark_at, IsNextMark}
 use Rattle.channel_slots.specs.Full.{full_from}
 use Rattle.channel_slots.proofs.Fullness.{full-next}
 use Rattle.channel_slots.proofs.slots.Slots.next_full.Goals as goal

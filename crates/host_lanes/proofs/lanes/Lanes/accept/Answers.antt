@@ -2,18 +2,36 @@ use Rattle.world_defs.specs.Lane.{with_message}
 use Rattle.world_defs.specs.Node.{lane_of}
 use Rattle.host_lanes.specs.Lane.{message_in}
 use Rattle.host_lanes.proofs.Places.{changed-lanes, number-below, of-prio, on-ok}
+use Rattle.std.proofs.Common.{length, subst}
+use Rattle.net_defs.specs.Refusal.{Refuses}
+use Rattle.gm_conn.specs.declared.refusal.OfferRefusal.TheVariants.{NoMemory}
+use Rattle.host_lanes.specs.Lane.{accept_refusal}
+use Rattle.host_lanes.proofs.Places.{lane-is}
+use Rattle.host_lanes.proofs.Noted.{told-after, key-ok}
 use Rattle.host_lanes.proofs.lanes.Lanes.accept.Goals as goal
 
-pub accept-requires-clause-lane : goal.accept-requires-clause-lane
-accept-requires-clause-lane c =
-    of-prio c.args.self.now c.self.inside.host c.self.inside.hosts c.self.inside.lanes.items c.args.peer c.args.e.prio c.number-lane.result c.index_mut.result.now
-    c.self.view_is c.self.invariant c.requires.peer c.requires.prio c.number-lane.ensures.number c.index_mut.ensures.value
+pub accept-accepted-requires-clause-lane : goal.accept-accepted-requires-clause-lane
+accept-accepted-requires-clause-lane c =
+    of-prio c.args.self.now c.self.inside.host c.self.inside.hosts c.self.inside.lanes.items c.args.peer c.args.e.prio c.number-lane.result c.index_mut-at.result.now
+    c.self.view_is c.self.invariant.lanes c.requires.peer c.requires.prio c.number-lane.ensures.number c.index_mut-at.ensures.value
 
 pub returns-clause-ok : goal.returns-clause-ok
 returns-clause-ok c =
-    on-ok c.accept.result
-    (changed-lanes c.args.self.now c.self.inside.host c.self.inside.hosts c.self.inside.lanes.items (lane_of c.args.peer c.args.e.prio) c.number-lane.result c.index_mut.result.now c.accept.new.self
+    on-ok c.accept-accepted.result
+    (changed-lanes c.args.self.now c.self.inside.host c.self.inside.hosts c.self.inside.lanes.items (lane_of c.args.peer c.args.e.prio) c.number-lane.result c.index_mut-at.result.now c.accept-accepted.new.self
     (λ p. with_message p (message_in c.args.e c.args.body.now) (record { port = c.args.e.sport; token = c.args.token }))
-    c.self.view_is c.self.invariant (number-below c.args.self.now c.self.inside.host c.self.inside.hosts c.self.inside.lanes.items c.args.peer c.args.e.prio c.self.view_is c.self.invariant c.requires.peer)
-    c.number-lane.ensures.number c.index_mut.ensures.value)
-    c.accept.ensures.ok
+    c.self.view_is c.self.invariant.lanes (number-below c.args.self.now c.self.inside.host c.self.inside.hosts c.self.inside.lanes.items c.args.peer c.args.e.prio c.self.view_is c.self.invariant.lanes c.requires.peer)
+    c.number-lane.ensures.number c.index_mut-at.ensures.value)
+    c.accept-accepted.ensures.ok
+
+pub invariant_of-self : goal.invariant_of-self
+invariant_of-self c =
+    told-after c.args.self.now c.self.inside.host c.self.inside.hosts c.self.inside.lanes.items c.number-lane.result c.index_mut-at.result.now c.accept-accepted.new.self c.self.inside.sets c.note.new.self
+    c.self.view_is c.self.invariant c.number-lane.ensures.within c.index_mut-at.ensures.value (key-ok c.accept-accepted.result c.index_mut-at.result.now c.accept-accepted.new.self _ c.accept-accepted.ensures.ok c.accept-accepted.ensures.err) c.note.ensures
+
+pub returns-clause-refused : goal.returns-clause-refused
+returns-clause-refused c =
+    subst (λ p. Refuses (accept_refusal p.state (length c.args.body.now)) NoMemory c.accept-accepted.result)
+    (lane-is c.args.self.now c.self.inside.host c.self.inside.hosts c.self.inside.lanes.items (lane_of c.args.peer c.args.e.prio) c.number-lane.result c.index_mut-at.result.now c.self.view_is c.self.invariant.lanes
+    (number-below c.args.self.now c.self.inside.host c.self.inside.hosts c.self.inside.lanes.items c.args.peer c.args.e.prio c.self.view_is c.self.invariant.lanes c.requires.peer) c.number-lane.ensures.number c.index_mut-at.ensures.value)
+    c.accept-accepted.ensures.refused

@@ -1,5 +1,8 @@
-use Rattle.std.proofs.Common.{refl, ◌∙◌, sym, subst}
+use Rattle.std.proofs.Common.{refl, ◌≡◌, arith, ◌∙◌, sym, subst}
+use Rattle.world_defs.specs.Node.{lane_count}
+use Rattle.host_lanes.specs.Sets.{AreBare}
 use Rattle.host_lanes.proofs.Places.{AreFirst, first-none}
+use Rattle.host_lanes.proofs.Noted.{first-told}
 use Rattle.host_lanes.proofs.lanes.Lanes.new.Goals as goal
 
 pub loop-lane-init : goal.loop-lane-init
@@ -8,3 +11,12 @@ loop-lane-init c = record {
   len = c.in_ok-lanes.ensures.len;
   room = c.in_ok-lanes.ensures.exact ∙ refl;
 }
+
+pub invariant_of-result : goal.invariant_of-result
+invariant_of-result c =
+    let end = c.loop-lane.auto.lane-end in
+    let past = c.loop-lane-test.false in
+    let count = c.lane_count-count.ensures.number in
+    let all : c.loop-lane.lane ≡ lane_count c.args.hosts = omega (arith, end, past, count) in
+    first-told c.args.host c.args.hosts c.loop-lane.lane c.loop-lane.lanes.items c.in_ok-sets.sets all c.loop-lane.invariant.first
+    (subst (AreBare c.in_ok-sets.sets) (count ∙ sym all) c.in_ok-sets.ensures)

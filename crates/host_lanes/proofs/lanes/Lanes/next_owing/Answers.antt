@@ -1,15 +1,9 @@
-use Rattle.std.proofs.Common.{◌∙◌, sym, arith}
-use Rattle.host_lanes.specs.Lanes.IsNext.{next, nobody_left}
+use Rattle.std.proofs.Common.{refl}
+use Rattle.host_lanes.specs.Sets.{is_owing}
+use Rattle.host_lanes.proofs.Noted.{next-of}
 use Rattle.host_lanes.proofs.lanes.Lanes.next_owing.Goals as goal
-
-pub returns-then-owes : goal.returns-then-owes
-returns-then-owes c =
-    let count = c.count-lane-end.ensures in
-    let within = c.loop-lane-test.true in
-    next c.loop-lane.auto.lane (omega (arith, count, within)) (sym c.owes.ensures ∙ c.if-owes.true) c.loop-lane.invariant
 
 pub returns : goal.returns
 returns c =
-    let count = c.count-lane-end.ensures in
-    let beyond = c.loop-lane-test.false in
-    nobody_left (λ lane from below. c.loop-lane.invariant lane from (omega (arith, count, beyond, below)))
+    next-of is_owing c.args.self.now c.self.inside.host c.self.inside.hosts c.self.inside.lanes.items c.self.inside.sets.owing c.args.from c.next_owing.result refl
+    c.self.view_is c.self.invariant.lanes c.self.invariant.owing c.next_owing.ensures.next c.next_owing.ensures.none

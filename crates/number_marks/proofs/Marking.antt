@@ -8,7 +8,7 @@ use Rattle.std.proofs.lemmas.Nat.Bits.{bit_at-zero, bit_at_above, bit_at-trailin
 use Rattle.std.proofs.Math.ListN.{length-set}
 use Rattle.std.proofs.Math.Nat.{div-le_self}
 use native.Mathlib.Decide.{dec_lt}
-use Rattle.channel_slots.specs.Marks.{mark_at, IsWritten, IsLowestBit}
+use Rattle.number_marks.specs.Marks.{mark_at, IsWritten, IsLowestBit}
 
 -- ---- one mark
 within : (n : ℕ) → n % 64 < 64

@@ -1,5 +1,5 @@
-use Rattle.channel_slots.proofs.Marking.{unmarked}
-use Rattle.channel_slots.proofs.marks.unmark.Goals as goal
+use Rattle.number_marks.proofs.Marking.{unmarked}
+use Rattle.number_marks.proofs.words.unmark.Goals as goal
 
 pub returns : goal.returns
 returns c = unmarked c.args.words.now.items c.args.n c.index_mut-word.result.now c.requires c.index_mut-word.ensures.value

@@ -1,5 +1,5 @@
 use Rattle.std.proofs.Common.{◌≡◌, ◌≤◌, ◌-◌, replicate, length}
-use Rattle.channel_slots.proofs.marks.zeros.Given as goal
+use Rattle.number_marks.proofs.words.zeros.Given as goal
 
 abbrev pub invariant-loop-zeros : goal.invariant-loop-zeros
 invariant-loop-zeros l = (l.zeros.items ≡ replicate (length l.zeros.items) 0) × (length l.zeros.items ≤ l.words)

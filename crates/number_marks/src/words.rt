@@ -9,7 +9,7 @@
 ghost use Rattle.std.specs.Prelude.{◌≡◌, ◌+◌, ◌*◌, ◌/◌, ◌<◌, ◌≤◌, ◌^◌, ℕ, length, replicate, IfOk, IfSome, IfNone};
 ghost use Rattle.std.specs.Prelude.{vec_len};
 ghost use Rattle.std.specs.Int.{bit_at};
-ghost use Rattle.channel_slots.specs.Marks.{IsWritten, IsNextMark, IsLowestBit, mark_at};
+ghost use Rattle.number_marks.specs.Marks.{IsWritten, IsNextMark, IsLowestBit, mark_at};
 
 use std::alloc::{AllocError, Global};
 
@@ -17,7 +17,7 @@ use std::alloc::{AllocError, Global};
 const WORD: usize = 64;
 
 /// Words in which no number is marked, with room for so many numbers.
-pub(crate) fn bare(alloc: Global, numbers: usize) -> Result<Vec<u64>, AllocError>
+pub fn bare(alloc: Global, numbers: usize) -> Result<Vec<u64>, AllocError>
     ensures bare { IfOk result (λ v. (k : ℕ) → mark_at v.items k ≡ 0) }
     ensures size { IfOk result (λ v. vec_len v ≡ numbers / 64 + 1) }
 {
@@ -36,7 +36,7 @@ fn zeros(alloc: Global, words: usize) -> Result<Vec<u64>, AllocError>
 }
 
 /// Marks a number.
-pub(crate) fn mark(words: &mut Vec<u64>, n: usize)
+pub fn mark(words: &mut Vec<u64>, n: usize)
     requires { n < 64 * length words.old.items }
     ensures { IsWritten words.old.items words.new.items n 1 }
 {
@@ -45,7 +45,7 @@ pub(crate) fn mark(words: &mut Vec<u64>, n: usize)
 }
 
 /// Takes a number's mark away.
-pub(crate) fn unmark(words: &mut Vec<u64>, n: usize)
+pub fn unmark(words: &mut Vec<u64>, n: usize)
     requires { n < 64 * length words.old.items }
     ensures { IsWritten words.old.items words.new.items n 0 }
 {
@@ -54,7 +54,7 @@ pub(crate) fn unmark(words: &mut Vec<u64>, n: usize)
 }
 
 /// The least marked number that isn't below another.
-pub(crate) fn next_marked(words: &[u64], from: usize) -> Option<usize>
+pub fn next_marked(words: &[u64], from: usize) -> Option<usize>
     requires { length words.now ≤ 2 ^ 32 }
     ensures next { IfSome result (IsNextMark words.now from) }
     ensures none { IfNone result ((k : ℕ) → from ≤ k → mark_at words.now k ≡ 0) }
