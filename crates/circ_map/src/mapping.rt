@@ -3,6 +3,7 @@
 ghost use Rattle.std.specs.Prelude.{◌≡◌, ◌<◌, ◌≤◌, true, false, length, slice_get, Some, IfOk, OnOk};
 ghost use Rattle.journal_defs.specs.Tree.{IsJournal, is_asked};
 ghost use Rattle.probe.specs.Keeping.{with_entry};
+ghost use Rattle.map_defs.specs.Quotient.{IsQuotient};
 ghost use Rattle.class_joins.specs.Table.{IsTrueOfOne};
 ghost use Rattle.circ_map.specs.declared.mapping.CircEnd.{CircEnd};
 ghost use Rattle.circ_map.specs.Mapping.{HasInside, IsCoreWhereDeep, IsMappedBy, IsTreeMapped};
@@ -128,8 +129,18 @@ fn inside_of(alloc: Global, found: &Journal) -> Result<FabricMap, AllocError>
     requires few { length found.now.entries < 4294967295 }
     ensures { IfOk result (λ k. HasInside found.now.host found.now.entries k) }
 {
-    let classes = Classes::from_journal(alloc, found)?;
-    let mut map = quotient(alloc, found, &classes)?;
+    let mut map = map_of_all(alloc, found)?;
     mark_core(alloc, &mut map)?;
     without_outside(alloc, &map)
+}
+
+// The map of all that was found. Its classes end here: a proof goes through all their parts at each exit that they
+// live to.
+fn map_of_all(alloc: Global, found: &Journal) -> Result<FabricMap, AllocError>
+    requires true_of_one { IsTrueOfOne found.now.host found.now.entries }
+    requires few { length found.now.entries < 4294967295 }
+    ensures { IfOk result (λ m. IsQuotient found.now.host found.now.entries m) }
+{
+    let classes = Classes::from_journal(alloc, found)?;
+    quotient(alloc, found, &classes)
 }

@@ -4,7 +4,6 @@ use fabric_map::{FabricMap, MapCable, MapFault};
 use port_graph::{Route, RoutePush, RouteSet, Walk};
 use rank_cert::{CheckFault, RankEntry, Ranks, check};
 use std::alloc::{AllocError, Global};
-use std::test::Fail;
 
 const fn cable(v: u32, p: i8, w: u32, q: i8) -> MapCable {
     MapCable { v, p, w, q }
@@ -17,14 +16,24 @@ const fn rank(v: u32, p: i8, rank: u64) -> RankEntry {
 // Host 0 at #0, which leads by port -2 to #1, and host 1 at port -1 of that: a part of the ring of four.
 fn chain(alloc: Global) -> Result<FabricMap, MapFault> {
     let mut map = FabricMap::new(alloc);
+    put_vertices(&mut map)?;
+    put_cables(&mut map)?;
+    Ok(map)
+}
+
+fn put_vertices(map: &mut FabricMap) -> Result<(), MapFault> {
     map.add_host(0)?;
     map.add_switch(true)?;
     map.add_switch(true)?;
     map.add_host(1)?;
+    Ok(())
+}
+
+fn put_cables(map: &mut FabricMap) -> Result<(), MapFault> {
     map.add_cable(cable(0, 0, 1, 0))?;
     map.add_cable(cable(1, -2, 2, 0))?;
     map.add_cable(cable(2, -1, 3, 0))?;
-    Ok(map)
+    Ok(())
 }
 
 // A route from host 0 to host 1.
@@ -46,36 +55,40 @@ fn ranks(alloc: Global, last: u64) -> Result<Ranks, AllocError> {
     Ok(Ranks::new(entries))
 }
 
-#[test]
-fn a_rank_that_falls_is_named(rt: HostRuntime) -> Result<(), Fail> {
-    let alloc = rt.alloc();
-    let map = chain(alloc)?;
-    let routes = route(alloc, &[-2, -1])?;
-    assert_eq!(rt; check(&map, &routes, &ranks(alloc, 10)?), Ok(()));
-    assert_eq!(rt;
-        check(&map, &routes, &ranks(alloc, 5)?),
-        Err(CheckFault::BadRank {
-            c: (1, -2),
-            d: (2, -1),
-            rank_c: 8,
-            rank_d: 5,
-        })
-    );
-    Ok(())
+// What the check answers to the route of these turns under ranks.
+fn told(alloc: Global, turns: &[i8], ranks: &Ranks) -> Option<Result<(), CheckFault>> {
+    let map = chain(alloc).ok()?;
+    let routes = route(alloc, turns).ok()?;
+    Some(check(&map, &routes, ranks))
+}
+
+// The same under the ranks whose last is given.
+fn told_by_last(alloc: Global, turns: &[i8], last: u64) -> Option<Result<(), CheckFault>> {
+    let ranks = ranks(alloc, last).ok()?;
+    told(alloc, turns, &ranks)
+}
+
+// The same under no ranks.
+fn told_by_none(alloc: Global, turns: &[i8]) -> Option<Result<(), CheckFault>> {
+    told(alloc, turns, &Ranks::new(Vec::new(alloc)))
 }
 
 #[test]
-fn a_route_is_looked_at_before_its_ranks(rt: HostRuntime) -> Result<(), Fail> {
-    let alloc = rt.alloc();
-    let map = chain(alloc)?;
-    let none = Ranks::new(Vec::new(alloc));
-    assert_eq!(rt;
-        check(&map, &route(alloc, &[-2, -1])?, &none),
-        Err(CheckFault::NoRank { v: 0, p: 0 })
-    );
-    assert_eq!(rt;
-        check(&map, &route(alloc, &[])?, &none),
-        Err(CheckFault::BadRoute { from: 0, to: 1 })
-    );
-    Ok(())
+fn a_rank_that_falls_is_named(rt: HostRuntime) {
+    let fallen = CheckFault::BadRank {
+        c: (1, -2),
+        d: (2, -1),
+        rank_c: 8,
+        rank_d: 5,
+    };
+    assert!(rt; told_by_last(rt.alloc(), &[-2, -1], 10) == Some(Ok(())));
+    assert!(rt; told_by_last(rt.alloc(), &[-2, -1], 5) == Some(Err(fallen)));
+}
+
+#[test]
+fn a_route_is_looked_at_before_its_ranks(rt: HostRuntime) {
+    let unranked = CheckFault::NoRank { v: 0, p: 0 };
+    let astray = CheckFault::BadRoute { from: 0, to: 1 };
+    assert!(rt; told_by_none(rt.alloc(), &[-2, -1]) == Some(Err(unranked)));
+    assert!(rt; told_by_none(rt.alloc(), &[]) == Some(Err(astray)));
 }

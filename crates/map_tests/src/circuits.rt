@@ -1,27 +1,45 @@
 //! Where a walk ends over circuit links, and the paths of a core.
 
-use crate::fabrics::{SELF_CABLED, TWO_HOSTS};
-use circ_ears::ears;
+use crate::fabrics::{SELF_CABLED, TWO_HOSTS, fabric_of};
+use circ_ears::{EarList, ears};
 use circ_link::circ_place;
-use fabric_file::read_fabric;
 use net_defs::Place;
-use std::test::Fail;
+use std::alloc::Global;
 
-#[test]
-fn a_walk_that_crosses_a_cable_both_ways_is_held(rt: HostRuntime) -> Result<(), Fail> {
-    let read = read_fabric(rt.alloc(), SELF_CABLED.as_bytes())?;
-    let turns = [3, 1, -2];
-    assert_eq!(rt; read.fabric.walk(0, &turns), Place::Switch(0, 3));
-    assert_eq!(rt; circ_place(&read.fabric, 0, &turns), Place::Nothing);
-    Ok(())
+// Where a walk of host 0 ends, over links that let go and over circuit links.
+fn places(alloc: Global, text: &str, turns: &[i8]) -> Option<(Place, Place)> {
+    if turns.len() > 64 {
+        return None;
+    }
+    let fabric = fabric_of(alloc, text)?;
+    Some((fabric.walk(0, turns), circ_place(&fabric, 0, turns)))
 }
 
 #[test]
-fn the_second_host_is_found_by_the_way_there(rt: HostRuntime) -> Result<(), Fail> {
-    let read = read_fabric(rt.alloc(), TWO_HOSTS.as_bytes())?;
-    let list = ears(rt.alloc(), &read.fabric, 0)?;
-    assert_eq!(rt; list.len(), 2);
-    assert!(rt; list.path(0) == [0].as_slice() && list.back(0) == [0].as_slice());
-    assert!(rt; list.path(1) == [1].as_slice() && list.back(1) == [0, 1].as_slice());
-    Ok(())
+fn a_walk_that_crosses_a_cable_both_ways_is_held(rt: HostRuntime) {
+    let ends = places(rt.alloc(), SELF_CABLED, &[3, 1, -2]);
+    assert!(rt; ends == Some((Place::Switch(0, 3), Place::Nothing)));
+}
+
+// Whether paths are that of cable 0, and that of cable 1 with its way back.
+fn are_two_hosts(paths: &EarList) -> bool {
+    if paths.len() != 2 {
+        return false;
+    }
+    paths.path(0) == [0].as_slice()
+        && paths.back(0) == [0].as_slice()
+        && paths.path(1) == [1].as_slice()
+        && paths.back(1) == [0, 1].as_slice()
+}
+
+// Whether the paths of the core of a fabric's host 0 are these.
+fn has_two_hosts(alloc: Global, text: &str) -> Option<bool> {
+    let fabric = fabric_of(alloc, text)?;
+    let paths = ears(alloc, &fabric, 0).ok()?;
+    Some(are_two_hosts(&paths))
+}
+
+#[test]
+fn the_second_host_is_found_by_the_way_there(rt: HostRuntime) {
+    assert!(rt; has_two_hosts(rt.alloc(), TWO_HOSTS) == Some(true));
 }

@@ -5,14 +5,12 @@ ghost use Rattle.net_defs.specs.Route.{answer_at};
 ghost use Rattle.journal_defs.specs.Truth.{IsTrueWhereFound};
 ghost use Rattle.probe.specs.Keeping.{with_entry};
 
-use crate::fabrics::{ONE_CABLE, PARALLEL};
-use fabric_file::read_fabric;
+use crate::fabrics::{ONE_CABLE, PARALLEL, fabric_of};
 use net_defs::{Answer, Place, Walk};
 use port_graph::Fabric;
 use probe::{Entry, Journal};
 use replicate_merge::{Classes, aligned};
 use std::alloc::{AllocError, Global};
-use std::test::Fail;
 
 // What a mapper is told of a place.
 fn told(place: Place) -> Answer
@@ -101,6 +99,17 @@ fn parallel_classes(alloc: Global, fabric: &Fabric) -> Result<(u32, Option<i8>),
     Ok((classes.count(), apart))
 }
 
+// The same of the fabric of a text.
+fn parallel_classes_of(alloc: Global, text: &str) -> Option<(u32, Option<i8>)> {
+    let fabric = fabric_of(alloc, text)?;
+    parallel_classes(alloc, &fabric).ok()
+}
+
+#[test]
+fn two_cables_between_two_switches(rt: HostRuntime) {
+    assert!(rt; parallel_classes_of(rt.alloc(), PARALLEL) == Some((4, Some(-3))));
+}
+
 // How many classes there are of the empty walk over one cable, and the number of its node.
 fn cable_classes(alloc: Global, fabric: &Fabric) -> Result<(u32, u32), AllocError> {
     let classes = classes_of(alloc, fabric, &[&[]])?;
@@ -108,16 +117,13 @@ fn cable_classes(alloc: Global, fabric: &Fabric) -> Result<(u32, u32), AllocErro
     Ok((classes.count(), node))
 }
 
-#[test]
-fn two_cables_between_two_switches(rt: HostRuntime) -> Result<(), Fail> {
-    let read = read_fabric(rt.alloc(), PARALLEL.as_bytes())?;
-    assert_eq!(rt; parallel_classes(rt.alloc(), &read.fabric)?, (4, Some(-3)));
-    Ok(())
+// The same of the fabric of a text.
+fn cable_classes_of(alloc: Global, text: &str) -> Option<(u32, u32)> {
+    let fabric = fabric_of(alloc, text)?;
+    cable_classes(alloc, &fabric).ok()
 }
 
 #[test]
-fn two_hosts_on_one_cable(rt: HostRuntime) -> Result<(), Fail> {
-    let read = read_fabric(rt.alloc(), ONE_CABLE.as_bytes())?;
-    assert_eq!(rt; cable_classes(rt.alloc(), &read.fabric)?, (2, 1));
-    Ok(())
+fn two_hosts_on_one_cable(rt: HostRuntime) {
+    assert!(rt; cable_classes_of(rt.alloc(), ONE_CABLE) == Some((2, 1)));
 }

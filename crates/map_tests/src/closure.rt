@@ -5,9 +5,9 @@ ghost use Rattle.class_joins.specs.Table.{IsTrueOfOne};
 
 use crate::fabrics::{
     CHAIN, LONE_HOST, ONE_CABLE, PARALLEL, RING, RING_WITH_ONE_HOST, SELF_CABLED, TWO_HOSTS,
+    fabric_of,
 };
 use crate::plain::{Pair, replicates};
-use fabric_file::read_fabric;
 use mapper::grow;
 use net_defs::Answer;
 use port_align::ClassFrame;
@@ -15,7 +15,6 @@ use port_graph::Fabric;
 use probe::{FabricProber, Journal};
 use replicate_merge::Classes;
 use std::alloc::{AllocError, Global};
-use std::test::Fail;
 
 // The journal that grows from host 0 to a depth.
 fn journal_of(alloc: Global, fabric: &Fabric, depth: u8) -> Result<Option<Journal>, AllocError>
@@ -93,43 +92,56 @@ fn joined(alloc: Global, frames: &[ClassFrame]) -> Result<Vec<Pair>, AllocError>
     Ok(pairs)
 }
 
+// The frames of what a journal's walks found, by its classes.
+fn frames_of(alloc: Global, journal: &Journal) -> Result<Vec<ClassFrame>, AllocError>
+    requires { IsTrueOfOne journal.now.host journal.now.entries }
+{
+    if journal.entries().len() > 1000 {
+        return Err(AllocError);
+    }
+    let classes = Classes::from_journal(alloc, journal)?;
+    frames(alloc, journal, &classes)
+}
+
+// Whether these are the pairs of the plain closure.
+fn is_closure(alloc: Global, journal: &Journal, pairs: &[Pair]) -> Result<bool, AllocError> {
+    let walks = found_walks(alloc, journal)?;
+    let hosts = addresses(alloc, journal)?;
+    let plain = replicates(alloc, &walks, &hosts)?;
+    Ok(plain.len() == pairs.len() && plain.iter().all(|pair| pairs.contains(pair)))
+}
+
 // How many nodes a journal has, and how many pairs of them are in one class; none where the plain closure has other
 // pairs.
 fn compared(alloc: Global, journal: &Journal) -> Result<Option<(usize, usize)>, AllocError>
     requires { IsTrueOfOne journal.now.host journal.now.entries }
 {
-    if journal.entries().len() > 1000 {
-        return Ok(None);
-    }
-    let classes = Classes::from_journal(alloc, journal)?;
-    let frames = frames(alloc, journal, &classes)?;
+    let frames = frames_of(alloc, journal)?;
     let pairs = joined(alloc, &frames)?;
-    let plain = replicates(
-        alloc,
-        &found_walks(alloc, journal)?,
-        &addresses(alloc, journal)?,
-    )?;
-    if plain.len() == pairs.len() && plain.iter().all(|pair| pairs.contains(pair)) {
-        Ok(Some((frames.len(), pairs.len())))
-    } else {
-        Ok(None)
-    }
+    let counts = (frames.len(), pairs.len());
+    Ok(is_closure(alloc, journal, &pairs)?.then_some(counts))
 }
 
 // The journal of host 0 of a fabric, compared.
-fn compared_at(alloc: Global, text: &str, depth: u8) -> Result<Option<(usize, usize)>, Fail> {
-    if text.len() > 1000 {
-        return Ok(None);
-    }
-    let read = read_fabric(alloc, text.as_bytes())?;
-    match journal_of(alloc, &read.fabric, depth)? {
-        Some(journal) => Ok(compared(alloc, &journal)?),
+fn compared_in(
+    alloc: Global,
+    fabric: &Fabric,
+    depth: u8,
+) -> Result<Option<(usize, usize)>, AllocError> {
+    match journal_of(alloc, fabric, depth)? {
+        Some(journal) => compared(alloc, &journal),
         None => Ok(None),
     }
 }
 
+// The same of the fabric of a text.
+fn compared_at(alloc: Global, text: &str, depth: u8) -> Option<(usize, usize)> {
+    let fabric = fabric_of(alloc, text)?;
+    compared_in(alloc, &fabric, depth).ok()?
+}
+
 #[test]
-fn classes_of_grown_journals_are_the_plain_closure(rt: HostRuntime) -> Result<(), Fail> {
+fn classes_of_grown_journals_are_the_plain_closure(rt: HostRuntime) {
     for (text, depth, nodes, pairs) in [
         (LONE_HOST, 1, 1, 1),
         (ONE_CABLE, 2, 2, 2),
@@ -144,8 +156,7 @@ fn classes_of_grown_journals_are_the_plain_closure(rt: HostRuntime) -> Result<()
         (RING_WITH_ONE_HOST, 5, 10, 10),
         (RING_WITH_ONE_HOST, 6, 12, 30),
     ] {
-        let found = compared_at(rt.alloc(), text, depth)?;
-        assert_eq!(rt; found, Some((nodes, pairs)), "at depth {depth} of {text}");
+        let found = compared_at(rt.alloc(), text, depth);
+        assert!(rt; found == Some((nodes, pairs)), "at depth {depth} of {text}");
     }
-    Ok(())
 }

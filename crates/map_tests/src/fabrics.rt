@@ -1,4 +1,21 @@
 //! Fabrics, by their texts.
+//!
+//! A test is proved like all code. So each reads its text by a function to which the text is any: what stands in a
+//! literal would be worked out wherever the reading is spoken of. And its values live in functions that hand a plain
+//! one back, and no test holds any of them where it asserts.
+
+use fabric_file::read_fabric;
+use port_graph::Fabric;
+use std::alloc::Global;
+
+/// The fabric of a text; none where that is long, isn't accepted, or memory is wanting.
+pub(crate) fn fabric_of(alloc: Global, text: &str) -> Option<Fabric> {
+    if text.len() > 1000 {
+        return None;
+    }
+    let read = read_fabric(alloc, text.as_bytes()).ok()?;
+    Some(read.fabric)
+}
 
 pub(crate) const LONE_HOST: &str = "host a\nscript\n";
 

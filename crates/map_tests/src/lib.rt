@@ -2,10 +2,10 @@
 //!
 //! | module | has |
 //! |---|---|
-//! | `packets` | what a mapper is told by packets |
-//! | `growing` | journals grown over probers in memory, and the numbering of a map |
+//! | `drowning` | a prober whose chosen asks drown |
 //! | `classes` | the classes of two small journals |
 //! | `closure` | the classes of grown journals, compared with a plain closure, `plain` |
+//! | `numbering` | the numbering of a map |
 //! | `certificates` | what the check of a certificate answers |
 //! | `circuits` | a walk over circuit links, and the paths of a core |
 //! | `texts` | a fabric and a map, read and printed; the bridges of a map |
@@ -21,11 +21,11 @@ mod classes;
 #[cfg(test)]
 mod closure;
 #[cfg(test)]
+mod drowning;
+#[cfg(test)]
 mod fabrics;
 #[cfg(test)]
-mod growing;
-#[cfg(test)]
-mod packets;
+mod numbering;
 #[cfg(test)]
 mod plain;
 #[cfg(test)]

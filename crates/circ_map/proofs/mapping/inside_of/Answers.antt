@@ -1,11 +1,6 @@
 use Rattle.circ_map.proofs.Inward.{inside-ok, marked-core}
 use Rattle.circ_map.proofs.mapping.inside_of.Goals as goal
 
-pub quotient-requires-clause-stands : goal.quotient-requires-clause-stands
-quotient-requires-clause-stands c =
-    let k = c.in_ok-classes.ensures in
-    record { numbered = k.numbered; together = k.together; only = k.only; least = k.least; expanded = k.expanded; kept = k.kept }
-
 pub without_outside-requires : goal.without_outside-requires
 without_outside-requires c = marked-core c.in_ok-map.map c.mark_core.new.m c.in_ok-mark_core.ensures.marked
 
