@@ -1,2 +1,5 @@
+pub mod Acting
+pub mod Events
+pub mod OneHost
 pub mod Said
 pub mod Sound

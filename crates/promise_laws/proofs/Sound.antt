@@ -1,6 +1,5 @@
 -- Every moment is sound, and so every run keeps its promise.
-use Rattle.std.proofs.Common.{List, refl}
-use Rattle.net_defs.specs.Network.{Network, IsFabric}
+use Rattle.std.proofs.Common.{refl}
 use Rattle.world_defs.specs.World.{WorldState, new_world}
 use Rattle.act_defs.specs.Acts.{acted_all, IsReached}
 use Rattle.table_laws.proofs.Dependencies.{installed-no_cycle}

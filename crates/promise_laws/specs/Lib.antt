@@ -1,2 +1,5 @@
+pub mod CommandActs
+pub mod Events
+pub mod OneAction
 pub mod Promised
 pub mod Scripts

@@ -1,11 +1,23 @@
 //! The promise of a run, for every fabric and all commands, and of every script that is read without a fault.
 //!
 //! It runs nothing, and proves nothing of single hosts anew: it joins the laws of tables, order, owners, mappings and
-//! runs. Read `specs/Promised.antt` for a run, and `specs/Scripts.antt` for a script.
+//! runs. Read `specs/CommandActs.antt` first.
+//!
+//! | file of `specs/` | says |
+//! |---|---|
+//! | `Events` | which events a settle, asks in a row and an installation are |
+//! | `CommandActs` | which acts a command stands for, and that behind each prefix of them the world is sound |
+//! | `OneAction` | an act is of one host at most |
+//! | `Promised` | every moment is sound, and every run keeps its promise |
+//! | `Scripts` | what every script promises that is read without a fault |
 #![tactic(auto)]
 
+mod command_acts;
+mod event_lists;
 mod promises;
 mod scripts;
 
+pub use command_acts::{acts_of_commands, acts_of_one_host};
+pub use event_lists::events_in_order;
 pub use promises::{promises_of_runs, sound_moments};
 pub use scripts::{acts_of_scripts, maps_of_scripts};

@@ -23,7 +23,7 @@ use Rattle.run_defs.specs.Output.{Piece}
 use Rattle.run_defs.specs.Session.{SessionState, LastMap, LastRoutes, new_session, complete_map}
 use Rattle.run_defs.specs.Outcome.{Outcome, says_only, on_channel, event_of, stepped, step_or_idle, fault_of, adoption_of, install_done, install_now, install, map_refused, routes_refused, outcome}
 use Rattle.world_defs.specs.Table.{is_other}
-use Rattle.run_defs.specs.Run.{Does, Runs}
+use Rattle.run_defs.specs.Run.{Does, Runs, IsRun}
 use Rattle.run_defs.specs.Run.Does.{determined, maps, circuits, routes}
 use Rattle.run_defs.specs.Run.Runs.{ended, goes_on}
 use Rattle.act_defs.specs.Acts.{AreAdoptable}
@@ -47,7 +47,7 @@ command-of n (Plan ahead kind) is = is.1
 command-of n c is = tt
 
 -- a session whose last routes may be adopted
-abbrev LastAdoptable : Network → SessionState → Type 0
+abbrev pub LastAdoptable : Network → SessionState → Type 0
 LastAdoptable n s = (l : LastRoutes) → s.last_routes ≡ Some l → AreAdoptable n l.routes
 
 abbrev LeadsIn : SessionState → Option Outcome → Type 0
@@ -72,7 +72,7 @@ channel-bytes w at event low e is = by (channel_from (fabric_of w) at) refl is
 some-bytes : (d e : Event) → Some d ≡ Some e → IsByteEvent d → IsByteEvent e
 some-bytes d e p low = let one : d ≡ e = cc in subst IsByteEvent one low
 
-event-bytes : (w : WorldState) (line : StepLine) → IsByteStep line → (e : Event) → event_of w line ≡ Some e → IsByteEvent e
+pub event-bytes : (w : WorldState) (line : StepLine) → IsByteStep line → (e : Event) → event_of w line ≡ Some e → IsByteEvent e
 event-bytes w (Inject h) low e is = some-bytes (Event.Inject h) e is tt
 event-bytes w (GiveUp h) low e is = some-bytes (Event.GiveUp h) e is tt
 event-bytes w (Advance at) low e is = channel-bytes w at Event.Advance (λ c. tt) e is
@@ -128,11 +128,11 @@ outcome-leads n s Settle of_n net may = (settle-of Leads along-leads s.world, re
 outcome-leads n s Finish of_n net may = (leads-same s.world, refl)
 
 -- a session that a run of such commands leads to
-record IsLed (n : Network) (s : SessionState) : Type 0 where
-  session : IsSessionOf n s
-  holds : HoldsRight n s
-  leads : Leads (new_world n) s.world
-  adoptable : LastAdoptable n s
+pub record IsLed (n : Network) (s : SessionState) : Type 0 where
+  pub session : IsSessionOf n s
+  pub holds : HoldsRight n s
+  pub leads : Leads (new_world n) s.world
+  pub adoptable : LastAdoptable n s
 
 kept-adoptable : (n : Network) (r l : LastRoutes) → AreAdoptable n r.routes → Some r ≡ Some l → AreAdoptable n l.routes
 kept-adoptable n r l may e = let one : r ≡ l = cc in subst (λ (x : LastRoutes). AreAdoptable n x.routes) one may
@@ -162,10 +162,13 @@ runs-lead {s = s} n f all led (goes_on {next = next} {c = c} d r e) =
     let on = does-lead n f all.0 led d in
     runs-lead n f all.1 (led-on n s next (does-stays n f of_n led.session d) (does-hold n f of_n led.session led.holds d) led on.0 on.1) r
 
+pub run-led : (n : Network) (commands : List Command) (out : List Piece) (last : SessionState) → IsFabric n → AllByRecursion (IsActOf n) commands → IsRun n commands out last → IsLed n last
+run-led n commands out last f all r =
+    let start : IsLed n (new_session n) = record { session = new-session n; holds = new-holds n; leads = leads-same (new_world n); adoptable = λ l e. cc } in runs-lead n f all start r
+
 pub run_is_reached : RunIsReached
 run_is_reached n commands out last f all r =
-    let start : IsLed n (new_session n) = record { session = new-session n; holds = new-holds n; leads = leads-same (new_world n); adoptable = λ l e. cc } in
-    let led = runs-lead n f all start r in
+    let led = run-led n commands out last f all r in
     record { fabric = f; acts = led.leads.acts; may = led.leads.may; leads = led.leads.there }
 
 pub run_has_no_cycle : RunHasNoCycle

@@ -1,0 +1,91 @@
+-- The acts that a command stands for, in order: a list, which a map takes from the asks of its journal.
+use Rattle.std.specs.Prelude.{◌≡◌, ℕ, true, List, [], ◌∷◌, ◌++◌, map, not, if◌then◌else◌, Option, Some, None}
+use Rattle.std.specs.List.{AllByRecursion}
+use Rattle.net_defs.specs.Network.{Network, IsFabric}
+use Rattle.link_defs.specs.Links.{is_idle}
+use Rattle.journal_defs.specs.declared.entry.Entry.{Entry}
+use Rattle.map_defs.specs.NetMap.{NetMap}
+use Rattle.world_defs.specs.declared.event.Event.{Event}
+use Rattle.world_defs.specs.declared.event.Event.TheVariants.{Begin, Close, Provide, Send, Poll}
+use Rattle.world_defs.specs.Table.{is_other}
+use Rattle.world_defs.specs.World.{WorldState, adopted_by}
+use Rattle.world_defs.specs.Sound.{IsSound}
+use Rattle.act_defs.specs.Acts.{Act, Happens, Plans, Adopts, acted_all, MayActAll}
+use Rattle.run_defs.specs.declared.command.Command.{Command}
+use Rattle.run_defs.specs.declared.command.Command.TheVariants.{Walk, Map, Circuit, Routes, Install}
+use Rattle.run_defs.specs.declared.command.Command.TheVariants.{Begin as BeginCommand, Close as CloseCommand}
+use Rattle.run_defs.specs.declared.command.Command.TheVariants.{Poll as PollCommand, Tokens, Provide as ProvideCommand}
+use Rattle.run_defs.specs.declared.command.Command.TheVariants.{Send as SendCommand, Plan, Step, Settle, Finish}
+use Rattle.run_defs.specs.declared.line.MapWords.{MapWords}
+use Rattle.run_defs.specs.Mapped.{IsMapped}
+use Rattle.run_defs.specs.Output.{Piece}
+use Rattle.run_defs.specs.Session.{SessionState, LastRoutes}
+use Rattle.run_defs.specs.Outcome.{event_of, fault_of, adoption_of}
+use Rattle.run_defs.specs.Run.{Does, IsRun}
+use Rattle.run_laws.specs.Acts.{IsActOf}
+use Rattle.promise_laws.specs.Events.{asks_events, settle_events, install_events}
+
+-- an event that may be none, as acts
+abbrev pub step_acts : Option Event → List Act
+step_acts None = []
+step_acts (Some e) = Happens e ∷ []
+
+-- the acts of an installation that isn't refused: the last routes are adopted, and then distributed
+abbrev pub install_now_acts : WorldState → LastRoutes → ℕ → List Act
+install_now_acts w l tries = Adopts l.mapper l.routes
+    ∷ map Happens (install_events (adoption_of l) l.hosts tries (adopted_by w l.mapper l.routes))
+
+-- the acts of an installation: none where it is refused
+abbrev pub install_acts : WorldState → ℕ → Option LastRoutes → List Act
+install_acts w tries None = []
+install_acts w tries (Some l) =
+    if not (is_idle w.links) then [] else if is_other l.routes w.adopted then [] else install_now_acts w l tries
+
+-- The acts of a command, where its session determines them: those of all commands but a map that is made.
+abbrev pub acts_of : SessionState → Command → Option (List Act)
+acts_of s (Walk host walk) = Some []
+acts_of s (Map host depth tries) = if is_idle s.world.links then None else Some []
+acts_of s (Circuit host depth) = Some []
+acts_of s Routes = Some []
+acts_of s (Install tries) = Some (install_acts s.world tries s.last_routes)
+acts_of s (BeginCommand h port sends recvs) = Some (Happens (Begin h port sends recvs) ∷ [])
+acts_of s (CloseCommand h port) = Some (Happens (Close h port) ∷ [])
+acts_of s (PollCommand h port) = Some (Happens (Poll h port) ∷ [])
+acts_of s (Tokens h port) = Some []
+acts_of s (ProvideCommand h port size prio) = Some (Happens (Provide h port size prio) ∷ [])
+acts_of s (SendCommand h port dest dport prio len seed) = Some (Happens (Send h port dest dport prio len seed) ∷ [])
+acts_of s (Plan ahead kind) = Some (Plans ahead (fault_of kind) ∷ [])
+acts_of s (Step line) = Some (step_acts (event_of s.world line))
+acts_of s Settle = Some (map Happens (settle_events s.world))
+acts_of s Finish = Some []
+
+-- The acts that a command stands for in a session. Those of a map that is made are the events of its asks.
+pub data StandsFor (s : SessionState) : Command → List Act → Type 0 where
+  determined : {c : Command} {acts : List Act} → acts_of s c ≡ Some acts → StandsFor s c acts
+  asks : {host depth tries : ℕ} {acts : List Act} → (after : WorldState) (j : List Entry) (m : NetMap)
+      (words : MapWords)
+      → is_idle s.world.links ≡ true → IsMapped host depth tries s.world after j m words
+      → acts ≡ map Happens (asks_events host tries (map (λ e. e.walk) j) s.world)
+      → StandsFor s (Map host depth tries) acts
+
+-- What a command that is done stands for: acts, which are one list; they may happen one after another, they lead to
+-- the world behind it, and behind each prefix of them the world is sound.
+pub record HasSoundActs (s : SessionState) (c : Command) (next : SessionState) : Type 0 where
+  pub acts : List Act
+  pub are : StandsFor s c acts
+  pub one : (others : List Act) → StandsFor s c others → others ≡ acts
+  pub may : MayActAll s.world acts
+  pub leads : next.world ≡ acted_all s.world acts
+  pub sound : (prefix rest : List Act) → acts ≡ prefix ++ rest → IsSound (acted_all s.world prefix)
+
+-- every command that is done behind a run has such acts
+abbrev pub CommandsHaveSoundActs : Type 0
+CommandsHaveSoundActs =
+    (n : Network) (commands : List Command) (out printed : List Piece) (s next : SessionState) (c : Command)
+    → IsFabric n → AllByRecursion (IsActOf n) commands → IsActOf n c → IsRun n commands out s → Does s c printed next
+    → HasSoundActs s c next
+
+-- so the world behind every run is sound
+abbrev pub RunsEndSound : Type 0
+RunsEndSound = (n : Network) (commands : List Command) (out : List Piece) (last : SessionState) → IsFabric n
+    → AllByRecursion (IsActOf n) commands → IsRun n commands out last → IsSound last.world
