@@ -1,5 +1,6 @@
 -- What a contract sees of one lane of a host: its connections with a peer, of one priority.
-use Rattle.std.specs.Prelude.{◌≡◌, ℕ, ◌≤◌, List, length, if◌then◌else◌, Option, Some, None, option_map, option_and_then}
+use Rattle.std.specs.Prelude.{◌≡◌, ℕ, ◌+◌, ◌≤◌, List, length, map, if◌then◌else◌, Option, Some, None, option_map}
+use Rattle.std.specs.Prelude.{option_and_then}
 use Rattle.std.specs.List.{AllByRecursion}
 use Rattle.gm_defs.specs.declared.message.Message.{Message}
 use Rattle.gm_defs.specs.declared.frame.FrameHead.{FrameHead}
@@ -10,7 +11,7 @@ use Rattle.gm_defs.specs.Connection.{connection, due, is_spent}
 use Rattle.gm_conn.specs.declared.refusal.OfferRefusal.{OfferRefusal}
 use Rattle.gm_conn.specs.declared.refusal.OfferRefusal.TheVariants.{Spent}
 use Rattle.gm_conn.specs.Halves.{Outgoing, Incoming, WaitsFor}
-use Rattle.world_defs.specs.Lane.{LaneState, new_lane}
+use Rattle.world_defs.specs.Lane.{Ticket, LaneState, new_lane}
 use Rattle.host_lanes.specs.declared.due.DueFrame.{DueFrame}
 use Rattle.host_lanes.specs.declared.envelope.Envelope.{Envelope}
 
@@ -47,10 +48,13 @@ message_in e body = record { sport = e.sport; dport = e.dport; prio = e.prio; bo
 abbrev pub accept_refusal : LaneState → ℕ → Option OfferRefusal
 accept_refusal p total = if is_spent p.sender (piece_count total) then Some Spent else None
 
--- What the two halves and the messages keep: each message is one piece, so its place is its number; the descriptors
--- that wait are of the last messages; and what comes from the peer goes the other way.
-pub record IsLane (w : Outgoing) (r : Incoming) (sent : List Message) : Type 0 where
+-- What the two halves, the messages and the tickets keep: each message is one piece, so its place is its number; the
+-- descriptors that wait are of the last messages, as many as aren't acknowledged, and hold the tokens of the sends that
+-- aren't finished, in order; and what comes from the peer goes the other way.
+pub record IsLane (w : Outgoing) (r : Incoming) (sent : List Message) (pending : List Ticket) : Type 0 where
   pub numbered : length sent ≡ w.numbers.next
   pub short : AllByRecursion (λ m. length m.body ≤ piece) sent
   pub waits : WaitsFor w sent
+  pub unacknowledged : length w.waiting + w.numbers.base ≡ w.numbers.next
+  pub tickets : map (λ d. d.ticket) w.waiting ≡ map (λ t. t.token) pending
   pub way_back : r.key ≡ other_way w.key

@@ -1,6 +1,6 @@
 //! One lane of a host: its connections with one peer, of one priority.
 
-ghost use Rattle.std.specs.Prelude.{◌≡◌, ◌<◌, ◌≤◌, true, List, length, drop, slice_get, vec_len, vec_capacity};
+ghost use Rattle.std.specs.Prelude.{◌≡◌, ◌+◌, ◌<◌, ◌≤◌, true, List, length, drop, slice_get, vec_len, vec_capacity};
 ghost use Rattle.std.specs.Prelude.{IsSome, IfSome, OnOk, OnErr, IfOk, IfErr};
 ghost use Rattle.std.specs.Option.{option_copied};
 ghost use Rattle.std.specs.VecDeque.{deque_len, deque_capacity};
@@ -50,7 +50,7 @@ impl Model for Lane {
       };
     } };
 
-    ghost invariant = { λ p. IsLane p.sender p.receiver p.sent.items };
+    ghost invariant = { λ p. IsLane p.sender p.receiver p.sent.items p.pending.items };
 }
 
 impl Lane {
@@ -193,6 +193,7 @@ impl Lane {
     pub fn on_ack(&mut self, next: u32)
         ensures { self.new ≡ in_state self.old (lane_acknowledged self.old.state next) }
     {
+        self.sender.in_order();
         let finished = self.finished_by(next);
         let _messages = self.sender.on_ack(next);
         drop_tickets(&mut self.pending, finished);
@@ -314,8 +315,10 @@ fn drop_tickets(pending: &mut VecDeque<Ticket>, count: usize)
 
 // Takes so many finished descriptors out of a sender, which keeps its numbers.
 fn drop_finished(sender: &mut Sender, count: usize)
+    requires { count + unacknowledged sender.old.numbers ≤ length sender.old.waiting }
     ensures key { sender.new.key ≡ sender.old.key }
     ensures numbers { sender.new.numbers ≡ sender.old.numbers }
+    ensures fewer { sender.new.waiting ≡ drop count sender.old.waiting }
     ensures waits { (sent : List Message) → WaitsFor sender.old sent → WaitsFor sender.new sent }
 {
     for _ in 0..count {
