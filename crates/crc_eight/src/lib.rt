@@ -12,8 +12,7 @@
 //! ```
 #![tactic(auto)]
 
-ghost use Rattle.std.specs.Prelude.{◌≡◌, ◌<◌, ◌++◌};
-ghost use Rattle.packet_defs.specs.Bits.{bits_of_byte, remainder, zeros};
+ghost use Rattle.std.specs.Prelude.{◌≡◌, ◌%◌};
 ghost use Rattle.packet_defs.specs.Crc.{crc, contribution};
 
 mod folding;
@@ -22,9 +21,9 @@ mod tables;
 
 use folding::folded;
 use slices::crc_by_slices;
-use tables::power;
+use tables::{SLICE, near_contribution};
 
-// The powers of x repeat after so many.
+// The powers of x repeat after so many, and so do those of x^8.
 const PERIOD: usize = 127;
 
 // From so many bytes on it takes less time to fold them first.
@@ -43,24 +42,33 @@ pub fn crc(bytes: &[u8]) -> u8
 }
 
 /// What a byte adds to the CRC of so many bytes that follow it: the CRC of the byte followed by so many zero bytes. It
-/// takes the same work for any number of them.
+/// takes eight looks into a table at most, for any number of them, and one for fifteen or less.
 pub fn contribution(byte: u8, places: usize) -> u8
     ensures { result ≡ contribution byte places }
 {
-    sum_of_powers(byte, 8 * (places % PERIOD + 1) % PERIOD)
+    far_contribution(byte, round(places))
 }
 
-// The sum of the powers of x, from the first of these on, at the bits of a byte: what is left of the byte with so many
-// zero bits behind it.
-fn sum_of_powers(byte: u8, first: usize) -> u8
-    requires { first < PERIOD }
-    ensures { result ≡ remainder (bits_of_byte byte ++ zeros first) }
+// As many places, but for whole periods.
+fn round(places: usize) -> usize
+    ensures { result ≡ places % PERIOD }
 {
-    let mut sum = 0;
-    for bit in 0..8 {
-        if (byte >> bit) % 2 == 1 {
-            sum ^= power(first + bit);
-        }
+    if places < PERIOD {
+        places
+    } else {
+        places % PERIOD
     }
-    sum
+}
+
+// What a byte adds, by slices of zero bytes: what is left behind each takes the byte's place.
+fn far_contribution(byte: u8, places: usize) -> u8
+    ensures { result ≡ contribution byte places }
+{
+    let mut rest = byte;
+    let mut left = places;
+    while left >= SLICE {
+        rest = near_contribution(rest, SLICE - 1);
+        left -= SLICE;
+    }
+    near_contribution(rest, left)
 }

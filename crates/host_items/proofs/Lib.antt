@@ -1,2 +1,3 @@
 pub mod Sizes
 mod Hosts
+pub mod Ways

@@ -18,14 +18,6 @@ use Rattle.mapping_defs.specs.Mapping.{RouteEntry, RoutePart, mapping_bytes, is_
 use Rattle.mapping_defs.specs.Mapping.MappingBody.{Part}
 use Rattle.world_defs.specs.Node.{way_back}
 
--- the opposites of turns, from the last to the first
-reversed_onto : (turns acc : List ℤ) → reverse_aux (map neg_ℤ turns) (map neg_ℤ acc) ≡ map neg_ℤ (reverse_aux turns acc)
-reversed_onto [] acc = refl
-reversed_onto (t ∷ ts) acc = reversed_onto ts (t ∷ acc)
-
-pub reversed : (turns : List ℤ) → reverse (map neg_ℤ turns) ≡ way_back turns
-reversed turns = reversed_onto turns []
-
 opposite-turn : (t : ℤ) → is_turn t ≡ true → is_turn (neg_ℤ t) ≡ true
 opposite-turn t h = grind (arith, ints, nat_tests)
 

@@ -1,49 +1,55 @@
 //! The routes of probes.
 
-ghost use Rattle.std.specs.Prelude.{◌≡◌, ◌++◌, ◌∷◌, map, pos, neg_ℤ, None, All, IfOk, OnOk};
+ghost use Rattle.std.specs.Prelude.{◌≡◌, ◌<◌, ◌≤◌, ◌++◌, ◌∷◌, length, take, slice_index_or, pos, neg_ℤ, None, All, IfOk};
 ghost use Rattle.net_defs.specs.Turn.{IsTurn, walk_refusal};
 ghost use Rattle.world_defs.specs.Node.{way_back};
 
 use net_defs::{Walk, WalkFault};
 use std::alloc::{AllocError, Global};
 
+// The most turns of a walk.
+const MAX_TURNS: usize = 64;
+
 // The turn the other way.
+#[tactic(auto, using(crate::proofs::Ways::opposite_turn))]
 fn opposite(turn: i8) -> i8
     requires { IsTurn turn }
-    ensures { result ≡ neg_ℤ turn }
+    ensures value { result ≡ neg_ℤ turn }
+    ensures turn { IsTurn result }
 {
     -turn
 }
 
-// Adds the opposites of turns behind others.
-fn push_opposites(back: &mut Vec<i8>, turns: &[i8]) -> Result<(), AllocError>
-    requires { All IsTurn turns.now }
-    ensures { OnOk result (back.new.items ≡ back.old.items ++ map neg_ℤ turns.now) }
+// The turn at a place, the other way.
+fn opposite_at(turns: &[i8], at: usize) -> i8
+    requires there { at < length turns.now }
+    requires turns { All IsTurn turns.now }
+    ensures value { result ≡ neg_ℤ (slice_index_or turns.now at (pos 0)) }
+    ensures turn { IsTurn result }
 {
-    for turn in turns {
-        back.push(opposite(*turn))?;
-    }
-    Ok(())
+    opposite(turns[at])
 }
 
-// The way back of turns.
-#[tactic(auto, using(crate::proofs::Sizes::reversed))]
-fn turns_back(alloc: Global, turns: &[i8]) -> Result<Vec<i8>, AllocError>
-    requires { All IsTurn turns.now }
-    ensures { IfOk result (λ back. back.items ≡ way_back turns.now) }
+// The way back of turns, and zeros behind it.
+fn turns_back(turns: &[i8]) -> [i8; MAX_TURNS]
+    requires few { length turns.now ≤ MAX_TURNS }
+    requires turns { All IsTurn turns.now }
+    ensures { take (length turns.now) result ≡ way_back turns.now }
 {
-    let mut back = Vec::with_capacity(alloc, turns.len())?;
-    push_opposites(&mut back, turns)?;
-    back.reverse();
-    Ok(back)
+    let mut back = [0; MAX_TURNS];
+    for place in 0..turns.len() {
+        back[place] = opposite_at(turns, turns.len() - 1 - place);
+    }
+    back
 }
 
 /// The way back of a walk. It is a walk, so memory alone can be wanting.
 pub(crate) fn way_back(alloc: Global, walk: &Walk) -> Result<Walk, AllocError>
     ensures { IfOk result (λ back. back ≡ way_back walk.now) }
 {
-    let back = turns_back(alloc, walk.turns())?;
-    walk_of(alloc, &back)
+    let turns = walk.turns();
+    let back = turns_back(turns);
+    walk_of(alloc, &back[..turns.len()])
 }
 
 // The walk of turns that are one.
@@ -64,10 +70,10 @@ pub(crate) fn there_and_back(alloc: Global, walk: &Walk) -> Result<Vec<i8>, Allo
     ensures { IfOk result (λ route. route.items ≡ walk.now ++ pos 0 ∷ way_back walk.now) }
 {
     let turns = walk.turns();
-    let back = turns_back(alloc, turns)?;
+    let back = turns_back(turns);
     let mut route = Vec::with_capacity(alloc, 2 * turns.len() + 1)?;
     route.extend_from_slice(turns)?;
     route.push(0)?;
-    route.extend_from_slice(&back)?;
+    route.extend_from_slice(&back[..turns.len()])?;
     Ok(route)
 }

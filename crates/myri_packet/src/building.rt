@@ -1,6 +1,6 @@
 //! Building a packet.
 
-ghost use Rattle.std.specs.Prelude.{◌≡◌, ◌≤◌, ◌++◌, map, length, IfOk, OnOk, OnErr};
+ghost use Rattle.std.specs.Prelude.{◌≡◌, ◌≤◌, ◌++◌, map, take, length, IfOk, OnOk, OnErr};
 ghost use Rattle.packet_defs.specs.Packet.{packet_of, head_of, with_crc, type_of};
 ghost use Rattle.packet_defs.specs.RouteByte.{route_byte};
 
@@ -10,6 +10,9 @@ use bytes::BytesMut;
 use crc_eight::crc;
 use packet_defs::Kind;
 use std::alloc::{AllocError, Global};
+
+// The most turns of a route.
+const MAX_ROUTE: usize = 64;
 
 /// The packet of a route, a kind and a payload, with the CRC that is due. Its turns are from -15 to 15: another has
 /// no route byte, and its byte stops the packet, or turns it elsewhere.
@@ -29,12 +32,23 @@ pub fn encode(alloc: Global, route: &[i8], kind: Kind, payload: &[u8]) -> Result
 
 // Puts the route bytes of turns behind what is there.
 fn put_route(bytes: &mut Vec<u8>, route: &[i8]) -> Result<(), AllocError>
+    requires { length route.now ≤ MAX_ROUTE }
     ensures { OnOk result (bytes.new.items ≡ bytes.old.items ++ map route_byte route.now) }
 {
-    for turn in route {
-        bytes.push(route_byte(*turn))?;
+    let front = route_bytes(route);
+    bytes.extend_from_slice(&front[..route.len()])
+}
+
+// The route bytes of turns, and zeros behind them.
+fn route_bytes(route: &[i8]) -> [u8; MAX_ROUTE]
+    requires { length route.now ≤ MAX_ROUTE }
+    ensures { take (length route.now) result ≡ map route_byte route.now }
+{
+    let mut bytes = [0; MAX_ROUTE];
+    for (place, turn) in route.iter().enumerate() {
+        bytes[place] = route_byte(*turn);
     }
-    Ok(())
+    bytes
 }
 
 // The type number of a kind.

@@ -1,6 +1,6 @@
 //! Routes within a body: the number of turns, then one byte for each.
 
-ghost use Rattle.std.specs.Prelude.{◌≡◌, ◌≤◌, ◌++◌, ◌∷◌, length, map, All, IfOk, OnOk};
+ghost use Rattle.std.specs.Prelude.{◌≡◌, ◌≤◌, ◌++◌, ◌∷◌, length, map, take, All, IfOk, OnOk};
 ghost use Rattle.net_defs.specs.Turn.{IsTurn};
 ghost use Rattle.net_defs.specs.Refusal.{Refuses};
 ghost use Rattle.packet_defs.specs.RouteByte.{route_byte, turn_of, turns_of};
@@ -47,10 +47,21 @@ pub fn push_route(bytes: &mut Vec<u8>, turns: &[i8]) -> Result<(), AllocError>
     ensures { OnOk result (bytes.new.items ≡ bytes.old.items ++ length turns.now ∷ map route_byte turns.now) }
 {
     bytes.push(turns.len() as u8)?;
-    for turn in turns {
-        bytes.push(route_byte(*turn))?;
+    let front = route_bytes(turns);
+    bytes.extend_from_slice(&front[..turns.len()])
+}
+
+// The bytes that stand for turns, and zeros behind them.
+fn route_bytes(turns: &[i8]) -> [u8; MAX_TURNS]
+    requires short { length turns.now ≤ MAX_TURNS }
+    requires in_range { All IsTurn turns.now }
+    ensures { take (length turns.now) result ≡ map route_byte turns.now }
+{
+    let mut bytes = [0; MAX_TURNS];
+    for (place, turn) in turns.iter().enumerate() {
+        bytes[place] = route_byte(*turn);
     }
-    Ok(())
+    bytes
 }
 
 /// The turns of at most 64 route bytes. `Malformed` exactly where another byte is among them; memory is taken once

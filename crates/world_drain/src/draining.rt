@@ -1,12 +1,12 @@
 //! Many events in a row: all packets run out.
 
-ghost use Rattle.std.specs.Prelude.{◌≡◌, ◌<◌, ◌≤◌, ◌∷◌, [], length, IfOk, IfSome, OnOk, OnErr};
+ghost use Rattle.std.specs.Prelude.{◌≡◌, ◌<◌, ◌≤◌, ◌+◌, ◌^◌, ◌∷◌, [], length, IfOk, IfSome, OnOk, OnErr};
 ghost use Rattle.world_defs.specs.World.{fabric_of, host_count};
 ghost use Rattle.world_defs.specs.declared.event.Event.TheVariants.{Advance};
 ghost use Rattle.world_defs.specs.Step.{step};
 ghost use Rattle.world_defs.specs.Drain.{changes, pass, drain};
 ghost use Rattle.fab_world.specs.Held.{IsLater};
-ghost use Rattle.world_drain.specs.Watch.{seen_in};
+ghost use Rattle.world_drain.specs.Watch.{seen_in, seen_then};
 
 use crate::seen::{Seen, Watch};
 use fab_world::{Event, Hop, World};
@@ -62,19 +62,28 @@ fn pass(alloc: Global, w: &mut World, watch: &Watch) -> Result<Seen, AllocError>
     let mut seen = watch.nothing();
     let mut from = 0;
     while let Some(c) = w.next_full(from) {
-        let one = advance(alloc, w, watch, c)?;
-        seen = seen.then(one);
+        let all = advance(alloc, w, watch, c, seen)?;
+        seen = all;
         from = c + 1;
     }
     Ok(seen)
 }
 
-// An advance of one channel, with what is seen of it. Most packets go on into another channel, which shows nothing.
-fn advance(alloc: Global, w: &mut World, watch: &Watch, c: u16) -> Result<Seen, AllocError>
+// What was seen, and then an advance of one channel. Most packets go on into another channel, which shows nothing
+// more than a change.
+fn advance(
+    alloc: Global,
+    w: &mut World,
+    watch: &Watch,
+    c: u16,
+    seen: Seen,
+) -> Result<Seen, AllocError>
     requires there { c < length w.old.links.channels }
-    ensures seen { IfOk result (λ s. s ≡ seen_in watch.now ((step w.old (Advance c)).0 ∷ [])) }
-    ensures few { IfOk result (λ s. s.changes ≤ 1) }
-    ensures heard { IfOk result (λ s. IfSome s.probed (λ h. h < host_count w.old)) }
+    requires few { seen.changes + 1 < 2 ^ 64 }
+    ensures seen { IfOk result (λ s. s ≡ seen_then seen (seen_in watch.now ((step w.old (Advance c)).0 ∷ []))) }
+    ensures few { IfOk result (λ _. (seen_in watch.now ((step w.old (Advance c)).0 ∷ [])).changes ≤ 1) }
+    ensures heard { IfOk result (λ _. IfSome (seen_in watch.now ((step w.old (Advance c)).0 ∷ [])).probed
+        (λ h. h < host_count w.old)) }
     ensures after { OnOk result (w.new ≡ (step w.old (Advance c)).1) }
     ensures err { OnErr result (IsLater w.old w.new) }
     ensures fabric { fabric_of w.new ≡ fabric_of w.old }
@@ -82,9 +91,12 @@ fn advance(alloc: Global, w: &mut World, watch: &Watch, c: u16) -> Result<Seen, 
     ensures channels { length w.new.links.channels ≡ length w.old.links.channels }
 {
     match w.hop(c) {
-        Hop::Moved(_) => Ok(watch.one_change()),
-        Hop::Blocked(_) => Ok(watch.nothing()),
-        Hop::Untried => advance_whole(alloc, w, watch, c),
+        Hop::Moved(_) => Ok(seen.then(watch.one_change())),
+        Hop::Blocked(_) => Ok(seen.then(watch.nothing())),
+        Hop::Untried => {
+            let one = advance_whole(alloc, w, watch, c)?;
+            Ok(seen.then(one))
+        }
     }
 }
 

@@ -1,6 +1,7 @@
-use Rattle.std.proofs.Common.{sym, ◌∙◌}
-use Rattle.crc_eight.proofs.Powers.{contribution-power}
+use Rattle.std.proofs.Common.{◌∙◌, ap}
+use Rattle.packet_defs.specs.Crc.{contribution}
+use Rattle.crc_eight.proofs.Powers.{contribution-round}
 use Rattle.crc_eight.proofs.contribution.Goals as goal
 
 pub returns : goal.returns
-returns c = c.sum_of_powers.ensures ∙ sym (contribution-power c.args.byte c.args.places c.ranges.byte.fits)
+returns c = c.far_contribution.ensures ∙ ap (contribution c.args.byte) c.round.ensures ∙ contribution-round c.args.byte c.args.places

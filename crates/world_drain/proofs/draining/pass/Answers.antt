@@ -1,3 +1,7 @@
+use Rattle.std.proofs.Common.{◌∷◌, [], refl}
+use Rattle.world_defs.specs.declared.event.Event.TheVariants.{Advance}
+use Rattle.world_defs.specs.Step.{step}
+use Rattle.world_drain.specs.Watch.{seen_in}
 use Rattle.world_drain.proofs.Later.{later-both, on-any}
 use Rattle.world_drain.proofs.Passed.{passed-none, passed-on, passed-all}
 use Rattle.world_drain.proofs.draining.pass.Goals as goal
@@ -8,12 +12,13 @@ loop-c-init c = passed-none c.args.watch.now c.args.w.now c.nothing-seen.result 
 pub loop-c-preserved : goal.loop-c-preserved
 loop-c-preserved c =
     let f = c.in-Some.ensures.found in
-    let one = c.in_ok-one.ensures in
-    passed-on c.args.watch.now c.args.w.now c.loop-c.w c.advance.new.w c.loop-c.from c.in-Some.c c.loop-c.seen c.in_ok-one.one c.then-seen.result
-    c.loop-c.invariant f.above f.there f.passed one.seen one.few one.heard one.after one.fabric one.hosts one.channels c.then-seen.ensures
+    let all = c.in_ok-all.ensures in
+    let one = seen_in c.args.watch.now ((step c.loop-c.w (Advance c.in-Some.c)).0 ∷ []) in
+    passed-on c.args.watch.now c.args.w.now c.loop-c.w c.advance.new.w c.loop-c.from c.in-Some.c c.loop-c.seen one c.in_ok-all.all
+    c.loop-c.invariant f.above f.there f.passed refl all.few all.heard all.after all.fabric all.hosts all.channels all.seen
 
-pub returns-in_err-one-clause-err : goal.returns-in_err-one-clause-err
-returns-in_err-one-clause-err c = on-any c.from_residual.result (later-both c.args.w.now c.loop-c.w c.advance.new.w c.loop-c.invariant.later c.in_err-one.ensures.err)
+pub returns-in_err-all-clause-err : goal.returns-in_err-all-clause-err
+returns-in_err-all-clause-err c = on-any c.from_residual.result (later-both c.args.w.now c.loop-c.w c.advance.new.w c.loop-c.invariant.later c.in_err-all.ensures.err)
 
 pub returns-clause-seen : goal.returns-clause-seen
 returns-clause-seen c =
