@@ -34,6 +34,7 @@ use Rattle.mapping_laws.proofs.Printed.{circuit_maps_are_true, deep_circuit_maps
 use Rattle.print_laws.proofs.Pieces.{complete_maps_read_back, circuit_maps_read_back}
 use Rattle.promise_laws.proofs.Said.{said-command, said-act}
 use Rattle.promise_laws.proofs.Sound.{always_promised}
+use Rattle.promise_laws.proofs.Acting.{commands_have_sound_acts, runs_end_sound}
 use Rattle.fabric_run.specs.Reading.{AcceptedText, reading_from, reading}
 use Rattle.fabric_run.specs.Promise.{IsPromised, DeepMapsAreComplete, InstalledLinesAreTrue}
 
@@ -134,6 +135,9 @@ text_promised text a e =
           let some : 1 ≤ tries = is.0 in
           (installed k out rest s next tries acked total r at does).unharmed (omega (arith, some)) left same;
       settled = λ k out rest s next rounds resets unacked r at does. settled-true n (take k cs) out rest s next rounds resets unacked o.fabric (acts k) r does;
+      behind = λ k out last r. runs_end_sound n (take k cs) out last o.fabric (acts k) r;
+      acts = λ k out printed s next c r at does.
+          commands_have_sound_acts n (take k cs) out printed s next c o.fabric (acts k) (said-act n c (all-nth (IsSaid n) cs k c o.said at)) r does;
       sound = (promised 0).sound;
       no_cycle = λ k out last r. run_has_no_cycle n (take k cs) out last o.fabric (acts k) r;
     }

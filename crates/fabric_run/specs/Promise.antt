@@ -7,10 +7,11 @@ use Rattle.map_defs.specs.NetMap.{NetMap}
 use Rattle.map_defs.specs.Sameness.{IsMapOfPart}
 use Rattle.net_defs.specs.Dependencies.{IsBefore, HasNoCycle}
 use Rattle.world_defs.specs.World.{WorldState, last_count}
-use Rattle.world_defs.specs.Sound.{installed_channels}
+use Rattle.world_defs.specs.Sound.{IsSound, installed_channels}
 use Rattle.circ_defs.specs.PathList.{Ear, most_back}
 use Rattle.circ_defs.specs.Cores.{ArePathsOfCore}
 use Rattle.circ_defs.specs.CircuitMap.{IsMapOfCore}
+use Rattle.run_defs.specs.declared.command.Command.{Command}
 use Rattle.run_defs.specs.declared.command.Command.TheVariants.{Map, Install, Settle}
 use Rattle.run_defs.specs.declared.line.Line.TheVariants.{Circuit as CircuitLine, Installed, Settle as SettleLine}
 use Rattle.run_defs.specs.declared.line.MapWords.{MapWords}
@@ -27,6 +28,7 @@ use Rattle.map_text.specs.Reading.{map_reading}
 use Rattle.mapping_laws.specs.Circuits.{HasPrintedCircuit}
 use Rattle.install_laws.specs.Runs.{IsInstalledLine}
 use Rattle.settle_line_laws.specs.Lines.{IsSettledLine}
+use Rattle.promise_laws.specs.CommandActs.{HasSoundActs}
 use Rattle.fabric_run.specs.Reading.{AcceptedText}
 
 -- A map is the mapper's part of the fabric, and its lines are read as that map.
@@ -89,6 +91,19 @@ SettledLinesAreTrue a =
     → Does s Settle (OneLine (SettleLine rounds resets unacked) ∷ rest) next
     → IsSettledLine s next rounds resets unacked
 
+-- behind first commands of a text the world is sound
+abbrev pub WorldsAreSound : AcceptedText → Type 0
+WorldsAreSound a = (count : ℕ) (out : List Piece) (last : SessionState)
+    → IsRun a.network (take count a.commands) out last → IsSound last.world
+
+-- behind first commands of a text, the next one, once it is done, has been acts that lead to the world behind it, and
+-- behind each prefix of these acts the world is sound
+abbrev pub CommandsHaveSoundActs : AcceptedText → Type 0
+CommandsHaveSoundActs a =
+    (count : ℕ) (out printed : List Piece) (s next : SessionState) (c : Command)
+    → IsRun a.network (take count a.commands) out s → slice_get a.commands count ≡ Some c → Does s c printed next
+    → HasSoundActs s c next
+
 -- A map of circuit links is the circuit map of the fabric to its depth, after so many asks. It is the core, up to each
 -- switch's offset, where the depth is at least the most cables in a return walk of some path list of the core; and its
 -- lines are read as that map.
@@ -105,8 +120,10 @@ CircuitMapsAreTrue a =
     → IsCircuitRight a.network host depth asks m
 
 -- The promise of an accepted text: its maps under the word complete are true, deep maps of a quiet fabric say so, its
--- maps of circuit links are true, each count of installed hosts has its cause, each settle ends settled, every moment
--- is sound, and the installed routes have no cycle.
+-- maps of circuit links are true, each count of installed hosts has its cause, and each settle ends settled. The world
+-- is sound behind its first commands, and behind each prefix of the acts of the next one: the installed routes have no
+-- cycle, what was got is a prefix of what was sent, for each sender, receiver and priority, and each token has one
+-- owner. So it is at every moment, whatever happens before it.
 pub record IsPromised (a : AcceptedText) : Type 0 where
   pub complete : CompleteMapsAreTrue a
   pub deep : DeepMapsAreComplete a
@@ -115,5 +132,7 @@ pub record IsPromised (a : AcceptedText) : Type 0 where
   pub installed : InstalledLinesAreTrue a
   pub unharmed : UnharmedInstallationsCountAll a
   pub settled : SettledLinesAreTrue a
+  pub behind : WorldsAreSound a
+  pub acts : CommandsHaveSoundActs a
   pub sound : AlwaysSound a.network
   pub no_cycle : RoutesHaveNoCycle a
