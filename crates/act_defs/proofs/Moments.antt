@@ -21,7 +21,7 @@ use Rattle.world_defs.specs.Settle.{round_pass, round, settle}
 use Rattle.world_defs.specs.Asking.{sends, host_try, loop_try, ask}
 use Rattle.world_defs.specs.Install.{part_try, installed}
 use Rattle.world_defs.specs.Traffic.{sent_on, got_on}
-use Rattle.world_defs.specs.Sound.{IsSound, IsFront, AreOwned, installed_channels}
+use Rattle.world_defs.specs.Sound.{IsSound, IsPrefix, AreOwned, installed_channels}
 use Rattle.world_defs.proofs.Moments.{rank, rises, both_ways, all-at, same-at, unowned, front_of_none}
 use Rattle.world_defs.specs.Examples.{setup_routes}
 use Rattle.act_defs.specs.Acts.{AreAdoptable, MayActAll}
@@ -76,13 +76,13 @@ delivered_past : (h : ℕ) → (node_at delivered_world (suc (suc h))).lanes ≡
 unfolding sends host_try loop_try ask begun closed provided_by sent_by polled_by pass drain clear hear part_try installed to_send packet_for after_sending round_pass round settle lost was_reset repeated held flipped replayed asked part_staged planned_strikes sent_out injected advanced expired gave_up applied
 delivered_past h = refl
 
-same_front : (got sent ms : List Message) → got ≡ ms → sent ≡ ms → IsFront got sent
+same_front : (got sent ms : List Message) → got ≡ ms → sent ≡ ms → IsPrefix got sent
 same_front got sent ms e f = record { rest = []; both = f ∙ sym (append-nil ms) ∙ ap (λ g. g ++ []) (sym e) }
 
-delivered_front : (c : ConnectionKey) → IsFront (got_on delivered_world c) (sent_on delivered_world c)
+delivered_front : (c : ConnectionKey) → IsPrefix (got_on delivered_world c) (sent_on delivered_world c)
 delivered_front c = by c.src c.dst c.prio
   where
-    by : (a b prio : ℕ) → IsFront (got_on delivered_world (connection a b prio)) (sent_on delivered_world (connection a b prio))
+    by : (a b prio : ℕ) → IsPrefix (got_on delivered_world (connection a b prio)) (sent_on delivered_world (connection a b prio))
     by a zero prio = front_of_none _ _ (all-at (λ (l : LaneState). l.got ≡ []) (node_at delivered_world 0).lanes (lane_of a prio) new_lane delivered_none refl)
     by zero (suc zero) zero = same_front _ _ _ delivered_got delivered_sent
     by zero (suc zero) (suc prio) = front_of_none _ _ (delivered_others (lane_of 0 (suc prio)) (λ e. omega (arith, e)))

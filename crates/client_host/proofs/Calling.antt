@@ -29,7 +29,7 @@ unless n c (Some cause) call = refused n (Some c) cause
 -- a token is provided
 abbrev pub provided_call : NodeState → ℕ → ℕ → ℕ → ClientState → ℕ → Called
 provided_call n port size prio c t =
-    left n port (option_map (λ p. provided_with p (record { token = t; size = size; prio = prio; buffer = empty_buffer size })) (port_at n port)) (Some (record c { recvs = drop 1 c.recvs })) (Token t)
+    left n port (option_map (λ p. provided_with p (record { token = t; size = size; prio = prio; filling = None; buffer = empty_buffer size })) (port_at n port)) (Some (record c { recvs = drop 1 c.recvs })) (Token t)
 
 provide-none : (n : NodeState) (port size prio : ℕ) (p : PortState) (c : ClientState) (ts : List ℕ) → slice_get ts 0 ≡ None → provide_with n port size prio p c ts ≡ refused n (Some c) NoToken
 provide-none n port size prio p c [] e = refl
@@ -44,14 +44,14 @@ providing-none host hosts n port size prio c tied e =
 
 provide-some : (n : NodeState) (port size prio : ℕ) (p : PortState) (c : ClientState) (ts : List ℕ) (t : ℕ) → slice_get ts 0 ≡ Some t
     → provide_with n port size prio p c ts ≡ unless n c (size_cause size prio)
-    (left n port (Some (provided_with p (record { token = t; size = size; prio = prio; buffer = empty_buffer size }))) (Some (record c { recvs = drop 1 ts })) (Token t))
+    (left n port (Some (provided_with p (record { token = t; size = size; prio = prio; filling = None; buffer = empty_buffer size }))) (Some (record c { recvs = drop 1 ts })) (Token t))
 provide-some n port size prio p c [] t e = absurd (none-some t e)
 provide-some n port size prio p c (k ∷ ks) t e =
-    subst (λ x. provide_with n port size prio p c (k ∷ ks) ≡ unless n c (size_cause size prio) (left n port (Some (provided_with p (record { token = x; size = size; prio = prio; buffer = empty_buffer size }))) (Some (record c { recvs = ks })) (Token x)))
+    subst (λ x. provide_with n port size prio p c (k ∷ ks) ≡ unless n c (size_cause size prio) (left n port (Some (provided_with p (record { token = x; size = size; prio = prio; filling = None; buffer = empty_buffer size }))) (Some (record c { recvs = ks })) (Token x)))
     (same_Some k t e) (by (is_bad_size size prio))
   where
     call : Called
-    call = left n port (Some (provided_with p (record { token = k; size = size; prio = prio; buffer = empty_buffer size }))) (Some (record c { recvs = ks })) (Token k)
+    call = left n port (Some (provided_with p (record { token = k; size = size; prio = prio; filling = None; buffer = empty_buffer size }))) (Some (record c { recvs = ks })) (Token k)
 
     by : (b : Bool) → (if b then refused n (Some c) BadSize else call) ≡ unless n c (if b then Some BadSize else None) call
     by true = refl
@@ -64,7 +64,7 @@ providing-some host hosts n port size prio c t tied e =
     let o = open-is host hosts port (port_at n port) c tied in
     ap (provide_open n port size prio (Some c.held)) o.is
     ∙ provide-some n port size prio o.state c.held c.held.recvs t e
-    ∙ ap (λ x. unless n c.held (size_cause size prio) (left n port (option_map (λ p. provided_with p (record { token = t; size = size; prio = prio; buffer = empty_buffer size })) x) (Some (record c.held { recvs = drop 1 c.held.recvs })) (Token t))) (sym o.is)
+    ∙ ap (λ x. unless n c.held (size_cause size prio) (left n port (option_map (λ p. provided_with p (record { token = t; size = size; prio = prio; filling = None; buffer = empty_buffer size })) x) (Some (record c.held { recvs = drop 1 c.held.recvs })) (Token t))) (sym o.is)
 
 -- a message is sent
 abbrev pub sent_call : NodeState → Wanted → ClientState → ℕ → Called

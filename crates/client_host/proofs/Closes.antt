@@ -1,22 +1,23 @@
 -- What the closing of a port comes to.
-use Rattle.std.proofs.Common.{◌≡◌, ◌<◌, ◌^◌, ◌++◌, ℕ, Bool, true, false, List, length, map, nat_eq, nat_lt, Option, Some, None, option_map, refl, sym, ap, subst, ◌∙◌, arith, if◌then◌else◌}
+use Rattle.std.proofs.Common.{◌≡◌, ◌<◌, ◌≤◌, ◌^◌, ◌++◌, ℕ, Bool, true, false, List, [], ◌∷◌, length, map, nat_lt, Option, Some, None, option_map, refl, sym, ap, subst, ◌∙◌, arith, if◌then◌else◌}
 use Rattle.std.specs.Prelude.{is_some, IfSome}
-use Rattle.std.proofs.lemmas.Bool.Decides.{nat_tests}
+use Rattle.std.specs.List.{filter}
 use Rattle.std.proofs.lemmas.List.{length-map}
 use Rattle.std.proofs.lemmas.Option.{same_Some, none-some}
 use Rattle.gm_defs.specs.Token.{PortState}
-use Rattle.gm_defs.specs.Port.{unfinished, unread}
+use Rattle.gm_defs.specs.Port.{unfinished, unread, filling_count}
 use Rattle.gm_tokens.specs.Token.{Token}
 use Rattle.gm_port.specs.declared.ask.CloseRefusal.{CloseRefusal}
 use Rattle.gm_port.specs.Held.{receive_at}
 use Rattle.host_ports.specs.declared.ask.PortClose.{PortClose}
-use Rattle.host_ports.specs.declared.ask.PortClose.TheVariants.{NotOpen as NothingToClose, Busy as CloseBusy, Unread as CloseUnread}
+use Rattle.host_ports.specs.declared.ask.PortClose.TheVariants.{NotOpen as NothingToClose, Busy as CloseBusy, Unread as CloseUnread, Filling as CloseFilling}
 use Rattle.host_ports.specs.Refusal.{close_bar, close_word}
-use Rattle.world_defs.specs.declared.client.ClientCause.TheVariants.{NotOpen, Busy, Unread}
+use Rattle.world_defs.specs.declared.client.ClientCause.TheVariants.{NotOpen, Busy, Unread, Filling}
 use Rattle.world_defs.specs.declared.effect.Said.TheVariants.{Count}
 use Rattle.world_defs.specs.Node.{NodeState, port_at}
 use Rattle.world_defs.specs.Sound.{IsEachOnce}
-use Rattle.world_defs.specs.Client.{ClientState, Called, refused, left, close_open, closed}
+use Rattle.world_defs.specs.Client.{ClientState, refused, left, close_refusal, close_unless, close_open, closed}
+use Rattle.world_defs.proofs.Calls.{IsClosable, not_refused-closable}
 use Rattle.port_client.specs.Held.{OpenClient}
 use Rattle.client_host.specs.Back.{numbers_with, AreOwnWith}
 use Rattle.client_host.specs.Telling.{close_cause, IsCounted}
@@ -34,47 +35,51 @@ closing-closed host hosts n port c tied e =
     ap (λ x. close_open n port (held_of x) (port_at n port)) e
     ∙ ap (close_open n port None) (not-open host hosts port (port_at n port) (subst (IsTied host hosts port (port_at n port)) e tied))
 
--- a port is closed
-closes : {A : Type 0} (u r : ℕ) (a b busy unread : Bool) → nat_eq u 0 ≡ a → nat_eq r 0 ≡ b → nat_lt 0 u ≡ busy → nat_lt 0 r ≡ unread → (x y z : A)
-    → option_map close_word (if busy then Some (CloseRefusal.Busy u) else if unread then Some (CloseRefusal.Unread r) else None) ≡ None → ((if a then if b then x else y else z) ≡ x) × (u ≡ 0) × (r ≡ 0)
-closes u r a b true unread ea eb eu er x y z e = absurd (none-some _ (sym e))
-closes u r a b false true ea eb eu er x y z e = absurd (none-some _ (sym e))
-closes u r true true false false ea eb eu er x y z e = (refl, grind (arith, nat_tests), grind (arith, nat_tests))
-closes u r false b false false ea eb eu er x y z e = absurd (grind (arith, nat_tests))
-closes u r true false false false ea eb eu er x y z e = absurd (grind (arith, nat_tests))
+-- the port's refusal, as the client is told of it, is the one of the world
+same-cause : (u r f : ℕ) (a b c : Bool)
+    → (if a then Some (Busy u) else if b then Some (Unread r) else if c then Some (Filling f) else None)
+    ≡ option_map close_cause (option_map close_word (if a then Some (CloseRefusal.Busy u) else if b then Some (CloseRefusal.Unread r) else if c then Some (CloseRefusal.Filling f) else None))
+same-cause u r f true b c = refl
+same-cause u r f false true c = refl
+same-cause u r f false false true = refl
+same-cause u r f false false false = refl
 
+refusal-is : (p : PortState) → close_refusal p ≡ option_map close_cause (close_bar (Some p))
+refusal-is p = same-cause (unfinished p) (unread p) (filling_count p) (nat_lt 0 (unfinished p)) (nat_lt 0 (unread p)) (nat_lt 0 (filling_count p))
+
+-- a port is closed
 pub closing-open : (n : NodeState) (port : ℕ) (c : Option ClientState) (p : PortState) → port_at n port ≡ Some p → close_bar (port_at n port) ≡ None
-    → (closed n port c ≡ left n port None None (Count (length p.provided))) × (unfinished p ≡ 0) × (unread p ≡ 0)
+    → (closed n port c ≡ left n port None None (Count (length p.provided))) × IsClosable p
 unfolding closed
 closing-open n port c p is bar =
-    let k = closes (unfinished p) (unread p) (nat_eq (unfinished p) 0) (nat_eq (unread p) 0) (nat_lt 0 (unfinished p)) (nat_lt 0 (unread p)) refl refl refl refl
-    (left n port None None (Count (length p.provided))) (refused n c (Unread (unread p))) (refused n c (Busy (unfinished p))) (subst (λ o. close_bar o ≡ None) is bar) in
-    (ap (close_open n port c) is ∙ k.0, k.1, k.2)
-
-refuses : (n : NodeState) (c : Option ClientState) (u r : ℕ) (a b busy unread : Bool) → nat_eq u 0 ≡ a → nat_eq r 0 ≡ b → nat_lt 0 u ≡ busy → nat_lt 0 r ≡ unread → (x : Called) (e : PortClose)
-    → option_map close_word (if busy then Some (CloseRefusal.Busy u) else if unread then Some (CloseRefusal.Unread r) else None) ≡ Some e → (if a then if b then x else refused n c (Unread r) else refused n c (Busy u)) ≡ refused n c (close_cause e)
-refuses n c u r true b true unread ea eb eu er x e is = absurd (grind (arith, nat_tests))
-refuses n c u r false b true unread ea eb eu er x e is = ap (λ k. refused n c (close_cause k)) (same_Some (CloseBusy u) e is)
-refuses n c u r true false false true ea eb eu er x e is = ap (λ k. refused n c (close_cause k)) (same_Some (CloseUnread r) e is)
-refuses n c u r true true false true ea eb eu er x e is = absurd (grind (arith, nat_tests))
-refuses n c u r false b false true ea eb eu er x e is = absurd (grind (arith, nat_tests))
-refuses n c u r a b false false ea eb eu er x e is = absurd (none-some e is)
+    let none : close_refusal p ≡ None = refusal-is p ∙ ap (option_map close_cause) (subst (λ o. close_bar o ≡ None) is bar) in
+    (ap (close_open n port c) is ∙ ap (close_unless n port c p) none, not_refused-closable p none)
 
 close-bar : (n : NodeState) (port : ℕ) (c : Option ClientState) (o : Option PortState) (e : PortClose) → close_bar o ≡ Some e → close_open n port c o ≡ refused n c (close_cause e)
 close-bar n port c None e is = ap (λ k. refused n c (close_cause k)) (same_Some NothingToClose e is)
-close-bar n port c (Some p) e is =
-    refuses n c (unfinished p) (unread p) (nat_eq (unfinished p) 0) (nat_eq (unread p) 0) (nat_lt 0 (unfinished p)) (nat_lt 0 (unread p)) refl refl refl refl (left n port None None (Count (length p.provided))) e is
+close-bar n port c (Some p) e is = ap (close_unless n port c p) (refusal-is p ∙ ap (option_map close_cause) is)
 
 pub closing-refused : (n : NodeState) (port : ℕ) (c : Option ClientState) (e : PortClose) → close_bar (port_at n port) ≡ Some e → closed n port c ≡ refused n c (close_cause e)
 unfolding closed
 closing-refused n port c e is = close-bar n port c (port_at n port) e is
 
 -- the counts of a refusal are of 32 bits, since a port has no more tokens than 16 bits count
-counts : (u r : ℕ) (busy unread : Bool) (e : PortClose) → option_map close_word (if busy then Some (CloseRefusal.Busy u) else if unread then Some (CloseRefusal.Unread r) else None) ≡ Some e
-    → u < 2 ^ 32 → r < 2 ^ 32 → IsCounted e
-counts u r true unread e is a b = subst IsCounted (same_Some (CloseBusy u) e is) a
-counts u r false true e is a b = subst IsCounted (same_Some (CloseUnread r) e is) b
-counts u r false false e is a b = absurd (none-some e is)
+counts : (u r f : ℕ) (a b c : Bool) (e : PortClose)
+    → option_map close_word (if a then Some (CloseRefusal.Busy u) else if b then Some (CloseRefusal.Unread r) else if c then Some (CloseRefusal.Filling f) else None) ≡ Some e
+    → u < 2 ^ 32 → r < 2 ^ 32 → f < 2 ^ 32 → IsCounted e
+counts u r f true b c e is x y z = subst IsCounted (same_Some (CloseBusy u) e is) x
+counts u r f false true c e is x y z = subst IsCounted (same_Some (CloseUnread r) e is) y
+counts u r f false false true e is x y z = subst IsCounted (same_Some (CloseFilling f) e is) z
+counts u r f false false false e is x y z = absurd (none-some e is)
+
+-- no more tokens are filling than are provided
+filter-few : {A : Type 0} (test : A → Bool) (xs : List A) → length (filter test xs) ≤ length xs
+filter-few test [] = omega arith
+filter-few test (x ∷ xs) = by (test x) (filter-few test xs)
+  where
+    by : (b : Bool) → length (filter test xs) ≤ length xs → length (if b then x ∷ filter test xs else filter test xs) ≤ length (x ∷ xs)
+    by true few = omega (arith, few)
+    by false few = omega (arith, few)
 
 pub bar-counted : (host hosts port : ℕ) (o : Option PortState) (c : OpenClient) (e : PortClose) → IsTied host hosts port o (Some c) → c.minted_sends < 65536 → c.minted_recvs < 65536
     → close_bar o ≡ Some e → IsCounted e
@@ -85,7 +90,9 @@ bar-counted host hosts port (Some p) c e tied sends recvs is =
     let l = events-counted p.events in
     let s = tied.minted_sends in
     let r = tied.minted_recvs in
-    counts (unfinished p) (unread p) (nat_lt 0 (unfinished p)) (nat_lt 0 (unread p)) e is (omega (arith, a, s, sends)) (omega (arith, a, b, l, s, r, sends, recvs))
+    let f = filter-few (λ x. is_some x.filling) p.provided in
+    counts (unfinished p) (unread p) (filling_count p) (nat_lt 0 (unfinished p)) (nat_lt 0 (unread p)) (nat_lt 0 (filling_count p)) e is
+    (omega (arith, a, s, sends)) (omega (arith, a, b, l, s, r, sends, recvs)) (omega (arith, b, r, f, recvs))
 
 -- each token count of a client is of 16 bits
 abbrev pub IsFew : OpenClient → Type 0
@@ -108,8 +115,8 @@ module _ (host hosts port : ℕ) (provided : List (Token × List ℕ)) where
   closing-last o None tied there few bar given = absurd (grind arith)
   closing-last None (Some c) tied there few bar given = absurd tied
   closing-last (Some p) (Some c) tied there few bar given =
-      let k = closes {A = ℕ} (unfinished p) (unread p) (nat_eq (unfinished p) 0) (nat_eq (unread p) 0) (nat_lt 0 (unfinished p)) (nat_lt 0 (unread p)) refl refl refl refl 0 0 0 bar in
-      let own = closed-owners host hosts port p c provided tied k.1 k.2 given in
+      let k = not_refused-closable p (refusal-is p ∙ ap (option_map close_cause) bar) in
+      let own = closed-owners host hosts port p c provided tied k.finished k.read given in
       let n = recvs-counted p c.held tied.owners in
       let l = ap length given ∙ length-map p.provided (receive_at host port) in
       let m = tied.minted_recvs in

@@ -1,5 +1,5 @@
 -- What a host hears, and all that it sends, leaves each port tied to its client: a frame is heard only from one of the hosts.
-use Rattle.std.proofs.Common.{◌≡◌, ℕ, ◌<◌, Bool, true, false, ◌&&◌, List, [], ◌∷◌, ◌++◌, length, nat_eq, Option, Some, None, option_map, refl, sym, ◌∙◌, Result, Ok, Err, arith}
+use Rattle.std.proofs.Common.{◌≡◌, ℕ, ◌<◌, Bool, true, false, ◌&&◌, List, [], ◌∷◌, ◌++◌, length, nat_eq, Option, Some, None, option_map, refl, sym, ◌∙◌, Result, Ok, Err, arith, if◌then◌else◌}
 use Rattle.std.specs.List.{AllByRecursion}
 use Rattle.std.proofs.lemmas.Bool.Decides.{nat_tests}
 use Rattle.std.proofs.lemmas.List.{length-set}
@@ -12,12 +12,12 @@ use Rattle.gm_defs.specs.declared.frame.GmBody.{GmBody}
 use Rattle.gm_defs.specs.declared.frame.GmBody.TheVariants.{Frame, Ack as Acknowledges}
 use Rattle.gm_defs.specs.declared.frame.Malformed.{Malformed as NoBody}
 use Rattle.gm_defs.specs.declared.token.Took.{Took}
-use Rattle.gm_defs.specs.declared.token.Took.TheVariants.{NotNext as TookNotNext, NoToken as TookNoToken, Whole}
-use Rattle.gm_defs.specs.Body.{decode, part_in}
+use Rattle.gm_defs.specs.declared.token.Took.TheVariants.{NotNext as TookNotNext, NoToken as TookNoToken, Part as TookPart, Whole}
+use Rattle.gm_defs.specs.Body.{is_last, decode, part_in}
 use Rattle.mapping_defs.specs.Mapping.{RoutePart, MappingBody, decode_mapping}
 use Rattle.mapping_defs.specs.Mapping.MappingBody.{HostProbe, HostReply, Loopback, Part, PartAck}
-use Rattle.gm_defs.specs.Token.{Sending, Provided, PortState, PortEvent, Sent, Received, fitting}
-use Rattle.gm_defs.specs.Port.{send_of, ended_by, taken_by, filled, delivered, finished}
+use Rattle.gm_defs.specs.Token.{Sending, Provided, PortState, PortEvent, Sent, Received, taker}
+use Rattle.gm_defs.specs.Port.{send_of, ended_by, ended_with, going_on_with, taken_by, filled, delivered, finished}
 use Rattle.world_defs.specs.declared.applied.Applied.{Applied}
 use Rattle.world_defs.specs.declared.applied.Applied.TheVariants.{Part as OnePart, Active, Old}
 use Rattle.world_defs.specs.declared.heard.Heard.{Heard}
@@ -85,14 +85,19 @@ delivered-tied : (hosts : ℕ) (h : FrameHead) (part : List ℕ) (o : Option Por
 delivered-tied hosts h part None among = port-same hosts None
 delivered-tied hosts h part (Some p) among = record { tied = by }
   where
+    takes-by : (host port : ℕ) (c : OpenClient) (r : Provided) (b : Bool) → IsServing host hosts port p c
+        → (if b then ended_with p h part r else going_on_with p h part r).sends ≡ p.sends × (if b then ended_with p h part r else going_on_with p h part r).recvs ≡ p.recvs × AllByRecursion (IsEventFrom hosts) (if b then ended_with p h part r else going_on_with p h part r).events
+    takes-by host port c r true is = (refl, refl, all-more hosts p.events (Received r.token (filled r.buffer h.offset part) h.src h.sport h.prio h.total) is.senders among)
+    takes-by host port c r false is = (refl, refl, is.senders)
+
     takes : (host port : ℕ) (c : OpenClient) (o : Option Provided) → IsServing host hosts port p c → (taken_by p h part o).sends ≡ p.sends × (taken_by p h part o).recvs ≡ p.recvs × AllByRecursion (IsEventFrom hosts) (taken_by p h part o).events
     takes host port c None is = (refl, refl, is.senders)
-    takes host port c (Some r) is = (refl, refl, all-more hosts p.events (Received r.token (filled r.buffer part) h.src h.sport h.prio h.total) is.senders among)
+    takes host port c (Some r) is = takes-by host port c r (is_last h.total h.offset) is
 
     by : (host port : ℕ) (c : Option OpenClient) → IsTied host hosts port (Some p) c → IsTied host hosts port (Some (delivered p h part)) c
     by host port None is = is
     by host port (Some c) is =
-        let k = takes host port c (fitting p h.total h.prio) is in
+        let k = takes host port c (taker p h) is in
         record {
           own_host = is.own_host;
           own_port = is.own_port;
@@ -127,6 +132,8 @@ hear_mapping_body-tied host hosts n (Some b) = hear_mapping-tied host hosts n b
 delivered_after-tied : (hosts : ℕ) (n : NodeState) (h : FrameHead) (part : List ℕ) (t : Took) → h.src < hosts → NodeTied hosts n (delivered_after n h part t)
 delivered_after-tied hosts n h part TookNotNext among = node-same hosts n n refl
 delivered_after-tied hosts n h part TookNoToken among = node-same hosts n n refl
+delivered_after-tied hosts n h part TookPart among =
+    with_port-tied hosts n h.dport (option_map (λ p. delivered p h part) (port_at n h.dport)) (delivered-tied hosts h part (port_at n h.dport) among)
 delivered_after-tied hosts n h part Whole among =
     with_port-tied hosts n h.dport (option_map (λ p. delivered p h part) (port_at n h.dport)) (delivered-tied hosts h part (port_at n h.dport) among)
 

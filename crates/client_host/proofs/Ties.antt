@@ -4,13 +4,13 @@ use Rattle.std.specs.Prelude.{drop, slice_get}
 use Rattle.std.specs.List.{AllByRecursion}
 use Rattle.std.proofs.lemmas.List.{set-get_or}
 use Rattle.gm_defs.specs.Token.{PortState, PortEvent, Sent, Received, opened, sent_tokens, received_tokens}
-use Rattle.gm_defs.specs.Port.{is_bad_size, sent_with, provided_with, polled, unfinished, unread}
+use Rattle.gm_defs.specs.Port.{is_bad_size, sent_with, provided_with, polled}
 use Rattle.world_defs.specs.declared.client.ClientCause.{ClientCause}
-use Rattle.world_defs.specs.declared.client.ClientCause.TheVariants.{BadSize, Busy, Unread}
+use Rattle.world_defs.specs.declared.client.ClientCause.TheVariants.{BadSize}
 use Rattle.world_defs.specs.declared.effect.Said.{Said}
 use Rattle.world_defs.specs.declared.effect.Said.TheVariants.{Count, Token}
 use Rattle.world_defs.specs.Node.{NodeState, port_at}
-use Rattle.world_defs.specs.Client.{ClientState, Called, Wanted, client_bytes, empty_buffer, refused, left, begin_at, begun, close_open, closed, provide_with, provide_open, provided_by, send_refusal, send_unless, send_with, send_open, sent_by, handed_out, poll_open, polled_by}
+use Rattle.world_defs.specs.Client.{ClientState, Called, Wanted, client_bytes, empty_buffer, refused, left, begin_at, begun, close_refusal, close_unless, close_open, closed, provide_with, provide_open, provided_by, send_refusal, send_unless, send_with, send_open, sent_by, handed_out, poll_open, polled_by}
 use Rattle.world_defs.specs.Sound.{IsEachOnce}
 use Rattle.owner_laws.proofs.Moves.{owned-new, owned-provided, owned-sending, once-handed}
 use Rattle.port_client.specs.Held.{OpenClient, opened_client}
@@ -63,17 +63,16 @@ unfolding begun
 begun-tied host hosts n port sends recvs c is = begin_at-tied host hosts n port sends recvs c (port_at n port) is is
 
 -- one is closed
-close_if-tied : (host hosts : ℕ) (n : NodeState) (port : ℕ) (c : OpenClient) (p : PortState) (a b : Bool) → IsTied host hosts port (port_at n port) (Some c)
-    → Keeps host hosts n port (Some c) (if a then (if b then left n port None None (Count (length p.provided)) else refused n (Some c.held) (Unread (unread p))) else refused n (Some c.held) (Busy (unfinished p)))
-close_if-tied host hosts n port c p true true is = changes host hosts n n port None None _ refl tt
-close_if-tied host hosts n port c p true false is = keeps host hosts n port (Some c) _ is
-close_if-tied host hosts n port c p false b is = keeps host hosts n port (Some c) _ is
+close_unless-tied : (host hosts : ℕ) (n : NodeState) (port : ℕ) (c : OpenClient) (p : PortState) (o : Option ClientCause) → IsTied host hosts port (port_at n port) (Some c)
+    → Keeps host hosts n port (Some c) (close_unless n port (Some c.held) p o)
+close_unless-tied host hosts n port c p None is = changes host hosts n n port None None _ refl tt
+close_unless-tied host hosts n port c p (Some cause) is = keeps host hosts n port (Some c) _ is
 
 close_open-tied : (host hosts : ℕ) (n : NodeState) (port : ℕ) (c : Option OpenClient) (o : Option PortState) → IsTied host hosts port (port_at n port) c → IsTied host hosts port o c
     → Keeps host hosts n port c (close_open n port (held_of c) o)
 close_open-tied host hosts n port c None is own = keeps host hosts n port c _ is
 close_open-tied host hosts n port None (Some p) is own = absurd own
-close_open-tied host hosts n port (Some c) (Some p) is own = close_if-tied host hosts n port c p (nat_eq (unfinished p) 0) (nat_eq (unread p) 0) is
+close_open-tied host hosts n port (Some c) (Some p) is own = close_unless-tied host hosts n port c p (close_refusal p) is
 
 pub closed-tied : (host hosts : ℕ) (n : NodeState) (port : ℕ) (c : Option OpenClient) → IsTied host hosts port (port_at n port) c → Keeps host hosts n port c (closed n port (held_of c))
 unfolding closed
@@ -89,13 +88,13 @@ provide_with-tied : (host hosts : ℕ) (n : NodeState) (port size prio : ℕ) (p
     → IsServing host hosts port p c → Keeps host hosts n port (Some c) (provide_with n port size prio p c.held ts)
 provide_with-tied host hosts n port size prio p c [] e is own = keeps host hosts n port (Some c) _ is
 provide_with-tied host hosts n port size prio p c (t ∷ ts) e is own =
-    provide_if-tied host hosts n port c (record c.held { recvs = ts }) (provided_with p (record { token = t; size = size; prio = prio; buffer = empty_buffer size })) (is_bad_size size prio) BadSize (Token t) is
+    provide_if-tied host hosts n port c (record c.held { recvs = ts }) (provided_with p (record { token = t; size = size; prio = prio; filling = None; buffer = empty_buffer size })) (is_bad_size size prio) BadSize (Token t) is
     (record {
       own_host = own.own_host;
       own_port = own.own_port;
       minted_sends = own.minted_sends;
       minted_recvs = own.minted_recvs;
-      owners = owned-provided p c.held (record { token = t; size = size; prio = prio; buffer = empty_buffer size }) ts e own.owners;
+      owners = owned-provided p c.held (record { token = t; size = size; prio = prio; filling = None; buffer = empty_buffer size }) ts e own.owners;
       senders = own.senders;
     })
 

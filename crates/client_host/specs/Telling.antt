@@ -3,26 +3,28 @@ use Rattle.std.specs.Prelude.{ℕ, ◌<◌, ◌^◌, Option, Some, None, if◌th
 use Rattle.gm_defs.specs.Port.{is_bad_size}
 use Rattle.host_ports.specs.declared.ask.PortClose.{PortClose}
 use Rattle.host_ports.specs.declared.ask.PortClose.TheVariants.{NotOpen as NothingToClose, Busy as CloseBusy}
-use Rattle.host_ports.specs.declared.ask.PortClose.TheVariants.{Unread as CloseUnread}
+use Rattle.host_ports.specs.declared.ask.PortClose.TheVariants.{Unread as CloseUnread, Filling as CloseFilling}
 use Rattle.nic_node.specs.declared.refusal.NodeSend.{NodeSend}
 use Rattle.nic_node.specs.declared.refusal.NodeSend.TheVariants.{NotOpen as NothingSends, TooLong as SendTooLong}
 use Rattle.nic_node.specs.declared.refusal.NodeSend.TheVariants.{BufferShort, NoRoute as SendNoRoute}
 use Rattle.nic_node.specs.declared.refusal.NodeSend.TheVariants.{Spent as SendSpent, NoMemory}
 use Rattle.world_defs.specs.declared.client.ClientCause.{ClientCause}
 use Rattle.world_defs.specs.declared.client.ClientCause.TheVariants.{NotOpen, TooLong, NoRoute, Spent, Busy, Unread}
-use Rattle.world_defs.specs.declared.client.ClientCause.TheVariants.{BadSize}
+use Rattle.world_defs.specs.declared.client.ClientCause.TheVariants.{BadSize, Filling}
 
 -- a refusal to close, as the client is told of it
 abbrev pub close_cause : PortClose → ClientCause
 close_cause NothingToClose = NotOpen
 close_cause (CloseBusy n) = Busy n
 close_cause (CloseUnread n) = Unread n
+close_cause (CloseFilling n) = Filling n
 
 -- the count of a refusal to close is of 32 bits
 abbrev pub IsCounted : PortClose → Type 0
 IsCounted NothingToClose = Unit {0}
 IsCounted (CloseBusy n) = n < 2 ^ 32
 IsCounted (CloseUnread n) = n < 2 ^ 32
+IsCounted (CloseFilling n) = n < 2 ^ 32
 
 -- a buffer isn't provided for its size or its priority
 abbrev pub size_cause : ℕ → ℕ → Option ClientCause

@@ -27,6 +27,7 @@ pub(crate) fn close_cause(refusal: PortClose) -> ClientCause
         PortClose::NotOpen => ClientCause::NotOpen,
         PortClose::Busy(n) => ClientCause::Busy(n as u32),
         PortClose::Unread(n) => ClientCause::Unread(n as u32),
+        PortClose::Filling(n) => ClientCause::Filling(n as u32),
     }
 }
 

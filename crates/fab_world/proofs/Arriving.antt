@@ -7,11 +7,11 @@ use Rattle.link_defs.specs.Step.{Step}
 use Rattle.world_defs.specs.declared.arrival.Arrival.{Arrival}
 use Rattle.world_defs.specs.Node.{NodeState, port_at}
 use Rattle.world_defs.specs.declared.client.ClientCause.{ClientCause}
-use Rattle.world_defs.specs.declared.client.ClientCause.TheVariants.{BadSize, Busy, Unread}
+use Rattle.world_defs.specs.declared.client.ClientCause.TheVariants.{BadSize}
 use Rattle.world_defs.specs.declared.effect.Said.TheVariants.{Token, Count}
-use Rattle.world_defs.specs.Client.{Called, ClientState, Wanted, refused, left, begin_at, begun, close_at, close_open, closed, empty_buffer, provide_with, provide_open, provided_by, send_refusal, send_unless, send_with, send_open, sent_by}
+use Rattle.world_defs.specs.Client.{Called, ClientState, Wanted, refused, left, begin_at, begun, close_refusal, close_unless, close_at, close_open, closed, empty_buffer, provide_with, provide_open, provided_by, send_refusal, send_unless, send_with, send_open, sent_by}
 use Rattle.gm_defs.specs.Token.{PortState}
-use Rattle.gm_defs.specs.Port.{is_bad_size, provided_with, unfinished, unread}
+use Rattle.gm_defs.specs.Port.{is_bad_size, provided_with}
 use Rattle.world_defs.specs.World.{WorldState, fabric_of, host_count, node_at, client_at}
 use Rattle.world_defs.specs.Step.{wanted, step}
 use Rattle.world_defs.proofs.Views.{LinksChange, HostChange, CallChange, ArrivalChange, Change, view}
@@ -50,12 +50,11 @@ unfolding begun
 begun-hosts k n port sends recvs c = begin_at-hosts k n port sends recvs c (port_at n port)
 
 close_at-hosts : (k : ℕ) (n : NodeState) (port : ℕ) (c : Option ClientState) (p : PortState) → IsFromHosts k (close_at n port c p).said
-close_at-hosts k n port c p = by (nat_eq (unfinished p) 0) (nat_eq (unread p) 0)
+close_at-hosts k n port c p = by (close_refusal p)
   where
-    by : (a b : Bool) → IsFromHosts k (if a then if b then left n port None None (Count (length p.provided)) else refused n c (Unread (unread p)) else refused n c (Busy (unfinished p))).said
-    by true true = tt
-    by true false = tt
-    by false b = tt
+    by : (o : Option ClientCause) → IsFromHosts k (close_unless n port c p o).said
+    by (Some cause) = tt
+    by None = tt
 
 close_open-hosts : (k : ℕ) (n : NodeState) (port : ℕ) (c : Option ClientState) (o : Option PortState) → IsFromHosts k (close_open n port c o).said
 close_open-hosts k n port c None = tt
@@ -70,7 +69,7 @@ provide_with-hosts k n port size prio p c [] = tt
 provide_with-hosts k n port size prio p c (t ∷ ts) = by (is_bad_size size prio)
   where
     by : (b : Bool)
-        → IsFromHosts k (if b then refused n (Some c) BadSize else left n port (Some (provided_with p (record { token = t; size = size; prio = prio; buffer = empty_buffer size }))) (Some (record c { recvs = ts })) (Token t)).said
+        → IsFromHosts k (if b then refused n (Some c) BadSize else left n port (Some (provided_with p (record { token = t; size = size; prio = prio; filling = None; buffer = empty_buffer size }))) (Some (record c { recvs = ts })) (Token t)).said
     by true = tt
     by false = tt
 

@@ -15,9 +15,9 @@ pub enum Status {
     Refused { line: u32, kind: FaultKind },
     /// A read failed. Nothing was written.
     ReadFault,
-    /// A write failed. The sink took a front part of what was due.
+    /// A write failed. The sink took a prefix of what was due.
     WriteFault,
-    /// Want of memory. The sink took a front part of what was due.
+    /// Want of memory. The sink took a prefix of what was due.
     NoMemory,
     /// More than 1,048,576 bytes came. Nothing was written.
     TooLong,

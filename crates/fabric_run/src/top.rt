@@ -98,7 +98,7 @@ pub fn run<S: Source, K: Sink>(alloc: Global, words: &[Word], input: &mut S, out
     // Where no command may have run, no session is handed back.
     ensures no_session { may_hold result.status ≡ false → result.session ≡ None }
 
-    // Every accepted text, and so every front part of its script, keeps the promise: a map under the word complete is
+    // Every accepted text, and so every prefix of its script, keeps the promise: a map under the word complete is
     // right, a deep one of a quiet fabric says so, a map of circuit links is the circuit map to its depth, each count
     // of installed hosts has its cause, each settle ends settled, every moment is sound, and the installed routes have
     // no cycle.

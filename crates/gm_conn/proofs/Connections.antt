@@ -1,20 +1,20 @@
 -- One connection: the numbers of its two halves, and the messages that were sent over it. Each event keeps it sound and lets it only grow, and what was honest stays so while it grows. A world of many connections replaces one of them by a sound one that has grown.
-use Rattle.std.proofs.Common.{◌≡◌, ◌≤◌, ◌<◌, ◌+◌, ℕ, zero, suc, Bool, true, false, ◌&&◌, nat_eq, nat_lt, max, List, [], ◌∷◌, ◌++◌, length, take, Some, option_map, refl, sym, ap, ◌∙◌, append_assoc, arith, if◌then◌else◌}
+use Rattle.std.proofs.Common.{◌≡◌, ◌≤◌, ◌<◌, ◌+◌, ℕ, zero, suc, Bool, true, false, ◌&&◌, nat_eq, nat_lt, max, List, [], ◌∷◌, ◌++◌, length, Some, option_map, refl, sym, ap, ◌∙◌, arith, if◌then◌else◌}
 use Rattle.std.specs.Prelude.{slice_get}
 use Rattle.std.proofs.lemmas.Bool.Decides.{nat_tests}
 use Rattle.std.proofs.lemmas.List.{length-append, append-nil}
 use Rattle.std.proofs.lemmas.Option.{same_Some, none-some}
-use Rattle.net_defs.proofs.Distinct.{all-push}
 use Rattle.gm_defs.specs.declared.message.Message.{Message}
 use Rattle.gm_defs.specs.declared.frame.FrameHead.{FrameHead}
 use Rattle.gm_defs.specs.declared.frame.Ack.{Ack}
 use Rattle.gm_defs.specs.declared.frame.ConnectionKey.{ConnectionKey}
-use Rattle.gm_defs.specs.declared.token.Took.TheVariants.{NotNext, NoToken, Whole}
-use Rattle.gm_defs.specs.Body.{piece, number_limit}
-use Rattle.gm_defs.specs.Fragment.{pieces, fragments, piece_count, whole_below, head_of, frame_of}
-use Rattle.gm_defs.specs.Connection.{SenderState, IsSender, window, due, sent_one, is_taken, acknowledged, expired, is_spent, offered, took, taken_after}
+use Rattle.gm_defs.specs.declared.token.Took.TheVariants.{NotNext, NoToken}
+use Rattle.gm_defs.specs.Body.{number_limit}
+use Rattle.gm_defs.specs.Fragment.{Fragment, fragments, piece_count, head_of, frame_of}
+use Rattle.gm_defs.specs.Connection.{SenderState, IsSender, window, due, sent_one, is_taken, acknowledged, expired, is_spent, offered, took, taken_as, taken_after}
 use Rattle.gm_defs.proofs.Choices.{both, if-some, map-some}
-use Rattle.gm_conn.proofs.Messages.{IsShort, all-at, within, take-next, whole_of, length-fragments, whole_below-short, fragment-short, one_piece}
+use Rattle.gm_defs.proofs.Numbers.{fragments-append, length-fragments}
+use Rattle.gm_conn.proofs.Messages.{within}
 
 -- A connection: its key, its sender's numbers, how many fragments its receiver has taken, and the messages that were sent.
 pub record Conn : Type 0 where
@@ -29,7 +29,6 @@ pub record IsSound (c : Conn) : Type 0 where
   pub base_below : c.numbers.base ≤ c.received
   pub received_below : c.received ≤ c.numbers.top
   pub counted : c.numbers.next ≡ length (fragments c.sent)
-  pub short : IsShort c.sent
 
 -- The same connection later.
 pub record Grows (c d : Conn) : Type 0 where
@@ -50,10 +49,6 @@ pub record IsSentFrame (c : Conn) (h : FrameHead) (part : List ℕ) : Type 0 whe
   pub sent : h.seq < c.numbers.top
 
 -- ---- what was honest stays so
-
-pub fragments-append : (ms ns : List Message) → fragments (ms ++ ns) ≡ fragments ms ++ fragments ns
-fragments-append [] ns = refl
-fragments-append (m ∷ ms) ns = ap (λ l. pieces m ++ l) (fragments-append ms ns) ∙ sym (append_assoc (pieces m) (fragments ms) (fragments ns))
 
 pub get-append : {X : Type 0} (xs ys : List X) (k : ℕ) (x : X) → slice_get xs k ≡ Some x → slice_get (xs ++ ys) k ≡ Some x
 get-append [] ys k x e = absurd (none-some x e)
@@ -85,23 +80,20 @@ pub grows-same : (c : Conn) (numbers : SenderState) (received : ℕ) → c.numbe
 grows-same c numbers received t r = record { key = refl; more = []; sent = sym (append-nil c.sent); top = t; received = r }
 
 -- a message is offered
-pub offer-keeps : (c : Conn) (m : Message) → IsSound c → length m.body ≤ piece → is_spent c.numbers (piece_count (length m.body)) ≡ false
+pub offer-keeps : (c : Conn) (m : Message) → IsSound c → is_spent c.numbers (piece_count (length m.body)) ≡ false
     → Kept c (record c { numbers = offered c.numbers (piece_count (length m.body)); sent = c.sent ++ m ∷ [] })
-offer-keeps c m s h e =
+offer-keeps c m s e =
     let o = s.sender in
-    let one : piece_count (length m.body) ≡ 1 = one_piece (length m.body) h in
     let room : c.numbers.next + piece_count (length m.body) ≤ number_limit = grind (arith, nat_tests) in
-    let short : IsShort (c.sent ++ m ∷ []) = all-push (λ x. length x.body ≤ piece) c.sent m s.short h in
-    let many : length (fragments (c.sent ++ m ∷ [])) ≡ length (c.sent ++ m ∷ []) = length-fragments (c.sent ++ m ∷ []) short in
-    let before : length (fragments c.sent) ≡ length c.sent = length-fragments c.sent s.short in
-    let longer : length (c.sent ++ m ∷ []) ≡ length c.sent + 1 = length-append c.sent (m ∷ []) in
+    let longer : length (fragments (c.sent ++ m ∷ [])) ≡ length (fragments c.sent) + length (fragments (m ∷ [])) =
+    ap length (fragments-append c.sent (m ∷ [])) ∙ length-append (fragments c.sent) (fragments (m ∷ [])) in
+    let alone : length (fragments (m ∷ [])) ≡ piece_count (length m.body) + 0 = length-fragments m [] in
     record {
       sound = record {
         sender = record { base_below = o.base_below; cursor_below = o.cursor_below; top_below = let t = o.top_below in omega arith; in_range = room };
         base_below = s.base_below;
         received_below = s.received_below;
-        counted = let k = s.counted in omega (arith, k, one, many, before, longer);
-        short = short;
+        counted = let k = s.counted in omega (arith, k, longer, alone);
       };
       grows = record { key = refl; more = m ∷ []; sent = refl; top = omega arith; received = omega arith };
     }
@@ -138,34 +130,24 @@ send-keeps c n s e =
         base_below = s.base_below;
         received_below = omega arith;
         counted = s.counted;
-        short = s.short;
       };
       grows = grows-same c (sent_one c.numbers) c.received (omega arith) (omega arith);
     }
 
--- and its frame is that of a message
-pub record IsFrameOf (c : Conn) (n : ℕ) (m : Message) : Type 0 where
-  pub message : slice_get c.sent n ≡ Some m
-  pub short : length m.body ≤ piece
-  pub frame : frame_of c.key c.sent n ≡ Some (head_of c.key n (whole_of m), m.body)
+-- and its frame is that of a fragment
+pub record IsFrameOf (c : Conn) (n : ℕ) (f : Fragment) : Type 0 where
+  pub fragment : slice_get (fragments c.sent) n ≡ Some f
+  pub frame : frame_of c.key c.sent n ≡ Some (head_of c.key n f, f.part)
 
-pub frame-at : (c : Conn) (n : ℕ) → IsSound c → n < c.numbers.next → (m : Message) × IsFrameOf c n m
+pub frame-at : (c : Conn) (n : ℕ) → IsSound c → n < c.numbers.next → (f : Fragment) × IsFrameOf c n f
 frame-at c n s h =
-    let all : length (fragments c.sent) ≡ length c.sent = length-fragments c.sent s.short in
     let k = s.counted in
-    let w = within c.sent n (omega (arith, all, k)) in
-    let f : slice_get (fragments c.sent) n ≡ Some (whole_of w.0) = fragment-short c.sent n w.0 s.short w.1 in (
-      w.0,
-      record {
-        message = w.1;
-        short = all-at (λ m. length m.body ≤ piece) c.sent n w.0 s.short w.1;
-        frame = ap (option_map (λ f. (head_of c.key n f, f.part))) f;
-      },
-    )
+    let w = within (fragments c.sent) n (omega (arith, h, k)) in
+    (w.0, record { fragment = w.1; frame = ap (option_map (λ f. (head_of c.key n f, f.part))) w.1 })
 
-pub due-sent : (c : Conn) (n : ℕ) (m : Message) → IsSound c → due c.numbers ≡ Some n → IsFrameOf c n m
-    → IsSentFrame (record c { numbers = sent_one c.numbers }) (head_of c.key n (whole_of m)) m.body
-due-sent c n m s e f = record { honest = f.frame; sent = let d = (due-some c.numbers n e).number in omega (arith, d) }
+pub due-sent : (c : Conn) (n : ℕ) (f : Fragment) → IsSound c → due c.numbers ≡ Some n → IsFrameOf c n f
+    → IsSentFrame (record c { numbers = sent_one c.numbers }) (head_of c.key n f) f.part
+due-sent c n f s e k = record { honest = k.frame; sent = let d = (due-some c.numbers n e).number in omega (arith, d) }
 
 -- an honest acknowledgement arrives
 pub hear-keeps : (c : Conn) (n : ℕ) → IsSound c → n ≤ c.received → Kept c (record c { numbers = acknowledged c.numbers n })
@@ -182,7 +164,6 @@ hear-keeps c n s h = by (is_taken c.numbers n) refl
             base_below = h;
             received_below = r;
             counted = s.counted;
-            short = s.short;
           };
           grows = grows-same c (record c.numbers { base = n; cursor = max c.numbers.cursor n }) c.received (omega arith) (omega arith);
         }
@@ -200,14 +181,13 @@ expire-keeps c s =
         base_below = s.base_below;
         received_below = s.received_below;
         counted = s.counted;
-        short = s.short;
       };
       grows = grows-same c (expired c.numbers) c.received (omega arith) (omega arith);
     }
 
 -- an emitted frame arrives
-pub take-keeps : (c : Conn) (h : FrameHead) (part : List ℕ) (fits : Bool) → IsSound c → IsSentFrame c h part → Kept c (record c { received = taken_after c.received (took c.received h.seq fits) })
-take-keeps c h part fits s f = by (nat_eq h.seq c.received) refl fits
+pub take-keeps : (c : Conn) (h : FrameHead) (part : List ℕ) (fits last : Bool) → IsSound c → IsSentFrame c h part → Kept c (record c { received = taken_after c.received (took c.received h.seq fits last) })
+take-keeps c h part fits last s f = by (nat_eq h.seq c.received) refl fits last
   where
     same : Kept c (record c { received = c.received })
     same = record { sound = s; grows = grows-same c c.numbers c.received (omega arith) (omega arith) }
@@ -218,35 +198,29 @@ take-keeps c h part fits s f = by (nat_eq h.seq c.received) refl fits
         let b = s.base_below in
         let t = f.sent in
         record {
-          sound = record { sender = o; base_below = omega arith; received_below = omega (arith, e); counted = s.counted; short = s.short };
+          sound = record { sender = o; base_below = omega arith; received_below = omega (arith, e); counted = s.counted };
           grows = grows-same c c.numbers (c.received + 1) (omega arith) (omega arith);
         }
 
-    by : (t : Bool) → nat_eq h.seq c.received ≡ t → (fits : Bool) → Kept c (record c { received = taken_after c.received (if t then if fits then Whole else NoToken else NotNext) })
-    by true e true = next (grind (arith, nat_tests))
-    by true e false = same
-    by false e fits = same
+    by : (t : Bool) → nat_eq h.seq c.received ≡ t → (fits last : Bool) → Kept c (record c { received = taken_after c.received (if t then if fits then taken_as last else NoToken else NotNext) })
+    by true e true true = next (grind (arith, nat_tests))
+    by true e true false = next (grind (arith, nat_tests))
+    by true e false last = same
+    by false e fits last = same
 
--- the message of an honest frame
-pub frame-message : (c : Conn) (h : FrameHead) (part : List ℕ) → IsSound c → IsSentFrame c h part → (m : Message) × (IsFrameOf c h.seq m × (h ≡ head_of c.key h.seq (whole_of m)) × (part ≡ m.body))
-frame-message c h part s f =
+-- the fragment of an honest frame
+pub frame-fragment : (c : Conn) (h : FrameHead) (part : List ℕ) → IsSound c → IsSentFrame c h part → (f : Fragment) × (IsFrameOf c h.seq f × (h ≡ head_of c.key h.seq f) × (part ≡ f.part))
+frame-fragment c h part s f =
     let o = s.sender in
     let t = f.sent in
-    let w = frame-at c h.seq s (let a = o.top_below in omega arith) in
-    let same : (h, part) ≡ (head_of c.key h.seq (whole_of w.0), w.0.body) = same_Some (h, part) (head_of c.key h.seq (whole_of w.0), w.0.body) (sym f.honest ∙ w.1.frame) in
+    let w = frame-at c h.seq s (let a = o.top_below in omega (arith, a, t)) in
+    let same : (h, part) ≡ (head_of c.key h.seq w.0, w.0.part) = same_Some (h, part) (head_of c.key h.seq w.0, w.0.part) (sym f.honest ∙ w.1.frame) in
     (w.0, (w.1, ap (λ x. x.0) same, ap (λ x. x.1) same))
 
--- where it is taken, the messages taken are one more
-pub taken-next : (c : Conn) (h : FrameHead) (part : List ℕ) (m : Message) → IsFrameOf c h.seq m → h.seq ≡ c.received → take (c.received + 1) c.sent ≡ take c.received c.sent ++ m ∷ []
-taken-next c h part m f e = take-next c.sent c.received m (ap (slice_get c.sent) (sym e) ∙ f.message)
-
--- as many are whole below the number of fragments taken
-pub whole-received : (c : Conn) → IsSound c → whole_below c.sent c.received ≡ c.received
-whole-received c s =
-    let all = whole_below-short c.sent c.received s.short in
-    let many = length-fragments c.sent s.short in
+-- the fragments taken are among those that were sent
+pub received-within : (c : Conn) → IsSound c → c.received ≤ length (fragments c.sent)
+received-within c s =
     let k = s.counted in
-    let o = s.sender in
     let r = s.received_below in
-    let t = o.top_below in
-    omega (arith, all, many, k)
+    let t = s.sender.top_below in
+    omega (arith, k, r, t)

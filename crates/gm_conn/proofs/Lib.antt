@@ -1,4 +1,5 @@
 pub mod Connections
+pub mod Finished
 pub mod Messages
 pub mod Pairs
 pub mod Sent

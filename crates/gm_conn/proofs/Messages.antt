@@ -1,14 +1,12 @@
--- Messages of one piece each: their fragments are they themselves, in order.
-use Rattle.std.proofs.Common.{◌≡◌, ◌≤◌, ◌<◌, ◌+◌, ◌-◌, ℕ, zero, suc, Bool, true, false, nat_le, min, List, [], ◌∷◌, ◌++◌, map, length, take, Some, option_map, refl, ap, ◌∙◌, subst, arith, if◌then◌else◌}
+-- Lists by their places, and the messages that descriptors stand for.
+use Rattle.std.proofs.Common.{◌≡◌, ◌<◌, ◌+◌, ℕ, zero, suc, List, [], ◌∷◌, ◌++◌, length, take, drop, Some, None, refl, sym, ap, ◌∙◌, subst, arith}
 use Rattle.std.specs.Prelude.{slice_get}
 use Rattle.std.specs.List.{AllByRecursion}
-use Rattle.std.proofs.lemmas.Bool.Decides.{nat_tests}
-use Rattle.std.proofs.lemmas.List.{length-map}
-use Rattle.std.proofs.lemmas.Option.{same_Some, none-some, slice_get-map}
-use Rattle.gm_defs.specs.declared.message.Message.{Message}
-use Rattle.gm_defs.specs.Body.{piece}
-use Rattle.gm_defs.specs.Fragment.{Fragment, fragments, piece_count, whole_below}
-use Rattle.gm_defs.proofs.Pieces.{short-pieces}
+use Rattle.std.proofs.lemmas.List.{length-replicate}
+use Rattle.std.proofs.lemmas.Option.{same_Some, none-some}
+use Rattle.gm_defs.specs.Fragment.{piece_count}
+use Rattle.gm_conn.specs.declared.desc.Desc.{Desc}
+use Rattle.gm_conn.specs.Halves.{message_of}
 
 -- what holds of each element holds of one
 pub all-at : {X : Type 0} (P : X → Type 0) (xs : List X) (k : ℕ) (x : X) → AllByRecursion P xs → slice_get xs k ≡ Some x → P x
@@ -30,36 +28,23 @@ take-next (y ∷ xs) (suc k) x e =
     let more : suc k + 1 ≡ suc (k + 1) = omega arith in
     ap (λ n. take n (y ∷ xs)) more ∙ ap (λ l. y ∷ l) (take-next xs k x e)
 
--- each message is one piece
-abbrev pub IsShort : List Message → Type 0
-IsShort ms = AllByRecursion (λ m. length m.body ≤ piece) ms
+-- and what is left from there on
+pub drop-at : {X : Type 0} (xs : List X) (k : ℕ) (x : X) → slice_get xs k ≡ Some x → drop k xs ≡ x ∷ drop (k + 1) xs
+drop-at [] k x e = absurd (none-some x e)
+drop-at (y ∷ xs) zero x e = ap (λ z. z ∷ xs) (same_Some y x e)
+drop-at (y ∷ xs) (suc k) x e =
+    let more : suc (k + 1) ≡ suc k + 1 = omega arith in
+    drop-at xs k x e ∙ ap (λ n. x ∷ drop n (y ∷ xs)) more
 
-abbrev pub whole_of : Message → Fragment
-whole_of m = record { message = m; offset = 0; part = m.body }
+pub drop-past : {X : Type 0} (xs : List X) (k : ℕ) → slice_get xs k ≡ None → drop k xs ≡ []
+drop-past [] zero e = refl
+drop-past [] (suc k) e = refl
+drop-past (y ∷ xs) zero e = absurd (none-some y (sym e))
+drop-past (y ∷ xs) (suc k) e = drop-past xs k e
 
-pub fragments-short : (ms : List Message) → IsShort ms → fragments ms ≡ map whole_of ms
-fragments-short [] h = refl
-fragments-short (m ∷ ms) h = λ i. short-pieces m h.0 i ++ fragments-short ms h.1 i
+-- how long the message of a descriptor is, and how many fragments it has
+pub long-of : (d : Desc) → length (message_of d).body ≡ d.total
+long-of d = length-replicate {A = ℕ} d.total 0
 
-pub length-fragments : (ms : List Message) → IsShort ms → length (fragments ms) ≡ length ms
-length-fragments ms h = ap length (fragments-short ms h) ∙ length-map ms whole_of
-
-pub one_piece : (n : ℕ) → n ≤ piece → piece_count n ≡ 1
-one_piece n h = grind (arith)
-
--- so as many are whole below a number as there are
-pub whole_below-short : (ms : List Message) (k : ℕ) → IsShort ms → whole_below ms k ≡ min k (length ms)
-whole_below-short [] k h = omega arith
-whole_below-short (m ∷ ms) k h = by (nat_le (piece_count (length m.body)) k) refl (whole_below-short ms (k - piece_count (length m.body)) h.1)
-  where
-    one : piece_count (length m.body) ≡ 1
-    one = one_piece (length m.body) h.0
-
-    by : (t : Bool) → nat_le (piece_count (length m.body)) k ≡ t → whole_below ms (k - piece_count (length m.body)) ≡ min (k - piece_count (length m.body)) (length ms)
-        → (if t then 1 + whole_below ms (k - piece_count (length m.body)) else 0) ≡ min k (suc (length ms))
-    by true t e = let room : piece_count (length m.body) ≤ k = grind (arith, nat_tests) in let o = one in omega (arith, e, o)
-    by false t e = let room : k < piece_count (length m.body) = grind (arith, nat_tests) in let o = one in omega (arith, o)
-
--- the fragment of a number
-pub fragment-short : (ms : List Message) (k : ℕ) (m : Message) → IsShort ms → slice_get ms k ≡ Some m → slice_get (fragments ms) k ≡ Some (whole_of m)
-fragment-short ms k m h e = ap (λ l. slice_get l k) (fragments-short ms h) ∙ slice_get-map whole_of ms k ∙ ap (option_map whole_of) e
+pub pieces-of : (d : Desc) → piece_count (length (message_of d).body) ≡ piece_count d.total
+pieces-of d = ap piece_count (long-of d)

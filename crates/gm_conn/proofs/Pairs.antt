@@ -1,5 +1,5 @@
 -- A pair is sound after every event, so its messages arrive in order.
-use Rattle.std.proofs.Common.{◌≡◌, ◌≤◌, ◌+◌, ℕ, Bool, true, false, ◌&&◌, nat_eq, nat_le, List, [], ◌∷◌, ◌++◌, length, replicate, take, drop, Option, Some, None, option_map, refl, sym, ap, ◌∙◌, subst, arith, if◌then◌else◌}
+use Rattle.std.proofs.Common.{◌≡◌, ◌≤◌, ◌+◌, ℕ, Bool, true, false, ◌&&◌, nat_eq, nat_le, List, [], ◌∷◌, ◌++◌, length, take, drop, Option, Some, None, option_map, refl, sym, ap, ◌∙◌, subst, arith, if◌then◌else◌}
 use Rattle.std.specs.Prelude.{slice_get}
 use Rattle.std.specs.List.{AllByRecursion}
 use Rattle.std.proofs.lemmas.Bool.Decides.{nat_tests}
@@ -11,20 +11,24 @@ use Rattle.gm_defs.specs.declared.frame.FrameHead.{FrameHead}
 use Rattle.gm_defs.specs.declared.frame.ConnectionKey.{ConnectionKey}
 use Rattle.gm_defs.specs.declared.frame.GmBody.{GmBody}
 use Rattle.gm_defs.specs.declared.frame.GmBody.TheVariants.{Frame, Ack as Acknowledges}
-use Rattle.gm_defs.specs.declared.token.Took.TheVariants.{NotNext, NoToken, Whole}
-use Rattle.gm_defs.specs.Body.{message_limit, is_prio, is_head}
-use Rattle.gm_defs.specs.Fragment.{piece_count, head_of, frame_of}
-use Rattle.gm_defs.specs.Connection.{SenderState, ack_on, due, sent_one, acknowledged, expired, unacknowledged, is_spent, offered, took, taken_after}
+use Rattle.gm_defs.specs.declared.token.Took.{Took}
+use Rattle.gm_defs.specs.declared.token.Took.TheVariants.{NotNext, NoToken}
+use Rattle.gm_defs.specs.Body.{message_limit, is_prio, is_head, is_offset, is_last}
+use Rattle.gm_defs.specs.Fragment.{Fragment, piece_count, whole_below, head_of, frame_of}
+use Rattle.gm_defs.specs.Connection.{SenderState, ack_on, due, sent_one, acknowledged, expired, unacknowledged, is_spent, offered, took, taken_as, taken_after}
+use Rattle.gm_defs.specs.Laws.{ComesNext}
 use Rattle.gm_defs.proofs.Choices.{map-some}
+use Rattle.gm_defs.proofs.Numbers.{next-fragment, more-below, below-few}
+use Rattle.gm_conn.specs.declared.desc.Desc.{Desc}
 use Rattle.gm_conn.specs.declared.event.PairMsg.{PairMsg}
 use Rattle.gm_conn.specs.declared.event.PairEvent.{PairEvent}
 use Rattle.gm_conn.specs.declared.event.PairEvent.TheVariants.{Offer, Emit, EmitAck, Deliver, Expire}
 use Rattle.gm_conn.specs.Halves.{message_of, is_desc, head_for}
-use Rattle.gm_conn.specs.Pair.{PairState, desc_of, messages_of, new_pair, offer, frame_packet, emit, emit_ack, hear_frame, deliver, expire, step, after_all, IsFair, IsReached, IsInOrder}
+use Rattle.gm_conn.specs.Pair.{PairState, desc_of, messages_of, new_pair, offer, frame_packet, emit, emit_ack, whole_message, hear_frame, deliver, expire, step, after_all, IsFair, IsReached, IsInOrder}
 use Rattle.gm_conn.specs.Laws.{PairInOrder}
-use Rattle.gm_conn.proofs.Messages.{all-at, take-next, whole_of, length-fragments}
-use Rattle.gm_conn.proofs.Waiting.{head-by_rules}
-use Rattle.gm_conn.proofs.Connections.{Conn, IsSound, Grows, Kept, IsSentFrame, frame-grows, ack-grows, offer-keeps, due-some, send-keeps, frame-at, due-sent, hear-keeps, expire-keeps, take-keeps, frame-message, whole-received}
+use Rattle.gm_conn.proofs.Messages.{all-at, take-next, long-of}
+use Rattle.gm_conn.proofs.Waiting.{head-is, head-by_rules}
+use Rattle.gm_conn.proofs.Connections.{Conn, IsSound, Grows, Kept, IsSentFrame, frame-grows, ack-grows, offer-keeps, due-some, send-keeps, frame-at, due-sent, hear-keeps, expire-keeps, take-keeps, frame-fragment, received-within}
 
 -- the connection of a pair
 abbrev pub conn_of : PairState → Conn
@@ -48,7 +52,7 @@ pub record IsSoundPair (p : PairState) : Type 0 where
   pub prio : is_prio p.key.prio ≡ true
   pub by_rules : AreByRules p.key p.offered
   pub carried : AllByRecursion (IsCarried (conn_of p)) p.packets
-  pub taken : p.taken ≡ take p.received p.offered
+  pub taken : p.taken ≡ take (whole_below (messages_of p.key p.offered) p.received) p.offered
 
 carried-later : (c d : Conn) (bs : List GmBody) → Grows c d → AllByRecursion (IsCarried c) bs → AllByRecursion (IsCarried d) bs
 carried-later c d bs g all = all-weaker (IsCarried c) (IsCarried d) bs (λ b k. carried-grows c d b g k) all
@@ -69,7 +73,6 @@ new-sound c prio = record {
     base_below = omega arith;
     received_below = omega arith;
     counted = refl;
-    short = tt;
   };
   prio = prio;
   by_rules = tt;
@@ -81,35 +84,36 @@ new-sound c prio = record {
 abbrev with_message : PairState → PairMsg → PairState
 with_message p m = record p { numbers = offered p.numbers (piece_count m.total); offered = p.offered ++ m ∷ [] }
 
-message-kept : (p : PairState) (m : PairMsg) → IsSoundPair p → m.total ≤ message_limit → is_spent p.numbers (piece_count m.total) ≡ false → Kept (conn_of p) (conn_of (with_message p m))
-message-kept p m s t e =
+message-kept : (p : PairState) (m : PairMsg) → IsSoundPair p → is_spent p.numbers (piece_count m.total) ≡ false → Kept (conn_of p) (conn_of (with_message p m))
+message-kept p m s e =
     let c : Conn = conn_of p in
     let message : Message = message_of (desc_of p.key m) in
     let long : length message.body ≡ m.total = length-replicate {A = ℕ} m.total 0 in
     let kept : Kept c (record c { numbers = offered c.numbers (piece_count (length message.body)); sent = c.sent ++ message ∷ [] }) =
-    offer-keeps c message s.conn (omega (arith, long)) (ap (λ n. is_spent p.numbers (piece_count n)) long ∙ e) in
+    offer-keeps c message s.conn (ap (λ n. is_spent p.numbers (piece_count n)) long ∙ e) in
     let sent : c.sent ++ message ∷ [] ≡ messages_of p.key (p.offered ++ m ∷ []) = sym (map-append (λ x. message_of (desc_of p.key x)) p.offered (m ∷ [])) in
     let P : SenderState × List Message → Type 0 = λ x. Kept c (record c { numbers = x.0; sent = x.1 }) in
     subst P (λ i. (offered c.numbers (piece_count (long i)), sent i)) kept
 
-received-within : (p : PairState) → IsSoundPair p → p.received ≤ length p.offered
-received-within p s =
-    let all = length-fragments (messages_of p.key p.offered) s.conn.short in
-    let many = length-messages p.key p.offered in
-    let k = s.conn.counted in
-    let r = s.conn.received_below in
-    let t = s.conn.sender.top_below in
-    omega (arith, all, many, k)
+-- as many are whole below what was taken where one more is offered, and no more than were
+whole-more : (p : PairState) (m : PairMsg) → IsSoundPair p → whole_below (messages_of p.key (p.offered ++ m ∷ [])) p.received ≡ whole_below (messages_of p.key p.offered) p.received
+whole-more p m s =
+    ap (λ l. whole_below l p.received) (map-append (λ x. message_of (desc_of p.key x)) p.offered (m ∷ []))
+    ∙ (more-below (messages_of p.key p.offered) (message_of (desc_of p.key m) ∷ []) p.received (received-within (conn_of p) s.conn)).0
+
+whole-few : (p : PairState) → whole_below (messages_of p.key p.offered) p.received ≤ length p.offered
+whole-few p = let few = below-few (messages_of p.key p.offered) p.received in let many = length-messages p.key p.offered in omega (arith, few, many)
 
 message-sound : (p : PairState) (m : PairMsg) → IsSoundPair p → m.total ≤ message_limit → is_spent p.numbers (piece_count m.total) ≡ false → IsSoundPair (with_message p m)
 message-sound p m s t e =
-    let kept = message-kept p m s t e in
+    let kept = message-kept p m s e in
     record {
       conn = kept.sound;
       prio = s.prio;
       by_rules = all-push (λ x. is_desc p.key (desc_of p.key x) ≡ true) p.offered m s.by_rules (fair-desc p.key m t s.prio);
       carried = carried-later (conn_of p) (conn_of (with_message p m)) p.packets kept.grows s.carried;
-      taken = s.taken ∙ sym (take-append-le p.received p.offered (m ∷ []) (received-within p s));
+      taken = s.taken ∙ sym (take-append-le (whole_below (messages_of p.key p.offered) p.received) p.offered (m ∷ []) (whole-few p))
+          ∙ ap (λ n. take n (p.offered ++ m ∷ [])) (sym (whole-more p m s));
     }
 
 -- one of two outcomes
@@ -133,10 +137,10 @@ emit-sound p n s e =
     let at = after.number in
     let more = after.offered_already in
     let f = frame-at c n s.conn (omega (arith, at, more)) in
-    let packet : frame_packet (frame_of p.key (messages_of p.key p.offered) n) ≡ Frame (head_of p.key n (whole_of f.0)) ∷ [] = ap frame_packet f.1.frame in
-    let here : IsCarried d (Frame (head_of p.key n (whole_of f.0))) = (f.0.body, due-sent c n f.0 s.conn e f.1) in
-    let all : AllByRecursion (IsCarried d) (p.packets ++ Frame (head_of p.key n (whole_of f.0)) ∷ []) =
-    all-push (IsCarried d) p.packets (Frame (head_of p.key n (whole_of f.0))) (carried-later c d p.packets kept.grows s.carried) here in
+    let packet : frame_packet (frame_of p.key (messages_of p.key p.offered) n) ≡ Frame (head_of p.key n f.0) ∷ [] = ap frame_packet f.1.frame in
+    let here : IsCarried d (Frame (head_of p.key n f.0)) = (f.0.part, due-sent c n f.0 s.conn e f.1) in
+    let all : AllByRecursion (IsCarried d) (p.packets ++ Frame (head_of p.key n f.0) ∷ []) =
+    all-push (IsCarried d) p.packets (Frame (head_of p.key n f.0)) (carried-later c d p.packets kept.grows s.carried) here in
     record {
       conn = kept.sound;
       prio = s.prio;
@@ -162,38 +166,77 @@ ack-sound p s = record {
   taken = s.taken;
 }
 
--- the message of a frame that is taken
-frame-taken : (p : PairState) (h : FrameHead) (part : List ℕ) → IsSoundPair p → IsSentFrame (conn_of p) h part
-    → (m : PairMsg) × ((slice_get p.offered h.seq ≡ Some m) × (h ≡ head_for p.key h.seq (desc_of p.key m)))
-frame-taken p h part s f =
-    let w = frame-message (conn_of p) h part s.conn f in
-    let there : option_map (λ m. message_of (desc_of p.key m)) (slice_get p.offered h.seq) ≡ Some w.0 = sym (slice_get-map (λ m. message_of (desc_of p.key m)) p.offered h.seq) ∙ w.1.0.message in
-    let m = map-some (λ m. message_of (desc_of p.key m)) (slice_get p.offered h.seq) w.0 there in
-    let long : length (replicate m.0.total 0) ≡ m.0.total = length-replicate {A = ℕ} m.0.total 0 in
-    let head : h ≡ head_of p.key h.seq (whole_of (message_of (desc_of p.key m.0))) = w.1.1 ∙ ap (λ x. head_of p.key h.seq (whole_of x)) (sym m.1.1) in
-    (m.0, (m.1.0, head ∙ ap (λ l. record (head_for p.key h.seq (desc_of p.key m.0)) { total = l; len = l }) long))
+-- The fragment of a frame that was emitted, and the message that was offered of which it is.
+record IsOfOffered (p : PairState) (h : FrameHead) : Type 0 where
+  fragment : Fragment
+  message : PairMsg
+  comes : ComesNext (messages_of p.key p.offered) h.seq fragment
+  there : slice_get p.offered (whole_below (messages_of p.key p.offered) h.seq) ≡ Some message
+  same : message_of (desc_of p.key message) ≡ fragment.message
+  head : h ≡ head_of p.key h.seq fragment
+
+frame-offered : (p : PairState) (h : FrameHead) (part : List ℕ) → IsSoundPair p → IsSentFrame (conn_of p) h part → IsOfOffered p h
+frame-offered p h part s f =
+    let w = frame-fragment (conn_of p) h part s.conn f in
+    let sent : List Message = messages_of p.key p.offered in
+    let c : ComesNext sent h.seq w.0 = next-fragment sent h.seq w.0 w.1.0.fragment in
+    let there : option_map (λ m. message_of (desc_of p.key m)) (slice_get p.offered (whole_below sent h.seq)) ≡ Some w.0.message =
+    sym (slice_get-map (λ m. message_of (desc_of p.key m)) p.offered (whole_below sent h.seq)) ∙ c.there in
+    let m = map-some (λ m. message_of (desc_of p.key m)) (slice_get p.offered (whole_below sent h.seq)) w.0.message there in
+    record { fragment = w.0; message = m.0; comes = c; there = m.1.0; same = m.1.1; head = w.1.1 }
+
+-- it says how long the message is, and whether it is its last
+offered-long : (p : PairState) (h : FrameHead) (o : IsOfOffered p h) → h.total ≡ o.message.total
+offered-long p h o = ap (λ x. x.total) o.head ∙ ap (λ m. length m.body) (sym o.same) ∙ long-of (desc_of p.key o.message)
+
+offered-last : (p : PairState) (h : FrameHead) (o : IsOfOffered p h) (last : Bool) → is_last h.total h.offset ≡ last → is_last (length o.fragment.message.body) o.fragment.offset ≡ last
+offered-last p h o last e = sym (ap (λ x. is_last x.total x.offset) o.head) ∙ e
 
 -- a frame arrives
-hear-sound : (p : PairState) (h : FrameHead) (part : List ℕ) (fits : Bool) → IsSoundPair p → IsSentFrame (conn_of p) h part → IsSoundPair (hear_frame p h (took p.received h.seq fits))
-hear-sound p h part fits s f = by (nat_eq h.seq p.received) refl fits (take-keeps (conn_of p) h part fits s.conn f)
+hear-sound : (p : PairState) (h : FrameHead) (part : List ℕ) (fits : Bool) → IsSoundPair p → IsSentFrame (conn_of p) h part
+    → IsSoundPair (hear_frame p h (took p.received h.seq fits (is_last h.total h.offset)))
+hear-sound p h part fits s f = by (nat_eq h.seq p.received) refl fits (is_last h.total h.offset) refl (take-keeps (conn_of p) h part fits (is_last h.total h.offset) s.conn f)
   where
-    by : (t : Bool) → nat_eq h.seq p.received ≡ t → (fits : Bool)
-        → Kept (conn_of p) (record (conn_of p) { received = taken_after p.received (if t then if fits then Whole else NoToken else NotNext) })
-        → IsSoundPair (hear_frame p h (if t then if fits then Whole else NoToken else NotNext))
-    by true e true kept =
-        let m = frame-taken p h part s f in
+    same : (t : Took) → whole_message h t ≡ [] → taken_after p.received t ≡ p.received → IsSoundPair (hear_frame p h t)
+    same t none number = record {
+      conn = subst (λ n. IsSound (record (conn_of p) { received = n })) (sym number) s.conn;
+      prio = s.prio;
+      by_rules = s.by_rules;
+      carried = subst (λ n. AllByRecursion (IsCarried (record (conn_of p) { received = n })) p.packets) (sym number) s.carried;
+      taken = ap (λ l. p.taken ++ l) none ∙ append-nil p.taken ∙ s.taken ∙ ap (λ n. take (whole_below (messages_of p.key p.offered) n) p.offered) (sym number);
+    }
+
+    by : (t : Bool) → nat_eq h.seq p.received ≡ t → (fits last : Bool) → is_last h.total h.offset ≡ last
+        → Kept (conn_of p) (record (conn_of p) { received = taken_after p.received (if t then if fits then taken_as last else NoToken else NotNext) })
+        → IsSoundPair (hear_frame p h (if t then if fits then taken_as last else NoToken else NotNext))
+    by true e true true l kept =
+        let o = frame-offered p h part s f in
         let here : h.seq ≡ p.received = grind (arith, nat_tests) in
-        let there : slice_get p.offered p.received ≡ Some m.0 = ap (slice_get p.offered) (sym here) ∙ m.1.0 in
-        let whole : record { total = h.total } ≡ m.0 = ap (λ x. record { total = x.total }) m.1.1 in
+        let sent : List Message = messages_of p.key p.offered in
+        let rose : whole_below sent (p.received + 1) ≡ whole_below sent p.received + 1 = subst (λ n. whole_below sent (n + 1) ≡ whole_below sent n + 1) here (o.comes.last (offered-last p h o true l)).0 in
+        let there : slice_get p.offered (whole_below sent p.received) ≡ Some o.message = ap (λ n. slice_get p.offered (whole_below sent n)) (sym here) ∙ o.there in
+        let whole : record { total = h.total } ≡ o.message = ap (λ n. record { total = n }) (offered-long p h o) in
         record {
           conn = kept.sound;
           prio = s.prio;
           by_rules = s.by_rules;
           carried = carried-later (conn_of p) (record (conn_of p) { received = p.received + 1 }) p.packets kept.grows s.carried;
-          taken = (λ i. s.taken i ++ whole i ∷ []) ∙ sym (take-next p.offered p.received m.0 there);
+          taken = (λ i. s.taken i ++ whole i ∷ []) ∙ sym (take-next p.offered (whole_below sent p.received) o.message there) ∙ ap (λ n. take n p.offered) (sym rose);
         }
-    by true e false kept = record { conn = s.conn; prio = s.prio; by_rules = s.by_rules; carried = s.carried; taken = append-nil p.taken ∙ s.taken }
-    by false e fits kept = record { conn = s.conn; prio = s.prio; by_rules = s.by_rules; carried = s.carried; taken = append-nil p.taken ∙ s.taken }
+    by true e true false l kept =
+        let o = frame-offered p h part s f in
+        let here : h.seq ≡ p.received = grind (arith, nat_tests) in
+        let sent : List Message = messages_of p.key p.offered in
+        let stays : whole_below sent (p.received + 1) ≡ whole_below sent p.received = subst (λ n. whole_below sent (n + 1) ≡ whole_below sent n) here (o.comes.earlier (offered-last p h o false l)).0 in
+        record {
+          conn = kept.sound;
+          prio = s.prio;
+          by_rules = s.by_rules;
+          carried = carried-later (conn_of p) (record (conn_of p) { received = p.received + 1 }) p.packets kept.grows s.carried;
+          taken = append-nil p.taken ∙ s.taken ∙ ap (λ n. take n p.offered) (sym stays);
+        }
+    by true e false last l kept = same NoToken refl refl
+    by false e fits last l kept = same NotNext refl refl
 
 deliver-sound : (p : PairState) (packet : ℕ) (fits : Bool) → IsSoundPair p → IsSoundPair (deliver p fits (slice_get p.packets packet)).1
 deliver-sound p packet fits s = by (slice_get p.packets packet) refl
@@ -253,8 +296,10 @@ sound-in_order p s =
       top_below = o.top_below;
       base_below_cursor = o.base_below;
       cursor_below = o.cursor_below;
-      prefix = (drop p.received p.offered, sym (take-append-drop p.received p.offered) ∙ ap (λ l. l ++ drop p.received p.offered) (sym s.taken));
-      whole = s.taken ∙ ap (λ n. take n p.offered) (sym (whole-received (conn_of p) s.conn));
+      prefix =
+          let n : ℕ = whole_below (messages_of p.key p.offered) p.received in
+          (drop n p.offered, sym (take-append-drop n p.offered) ∙ ap (λ l. l ++ drop n p.offered) (sym s.taken));
+      whole = s.taken;
     }
 
 pub pair-in_order : PairInOrder
@@ -264,13 +309,17 @@ pair-in_order c events prio fair = sound-in_order (after_all (new_pair c) events
 pub packet-by_rules : (p : PairState) (packet : ℕ) (h : FrameHead) → IsSoundPair p → slice_get p.packets packet ≡ Some (Frame h) → is_head h ≡ true
 packet-by_rules p packet h s e =
     let k : IsCarried (conn_of p) (Frame h) = all-at (IsCarried (conn_of p)) p.packets packet (Frame h) s.carried e in
-    let m = frame-taken p h k.0 s k.1 in
-    let rules : is_desc p.key (desc_of p.key m.0) ≡ true = all-at (λ x. is_desc p.key (desc_of p.key x) ≡ true) p.offered h.seq m.0 s.by_rules m.1.0 in
+    let o = frame-offered p h k.0 s k.1 in
+    let d : Desc = desc_of p.key o.message in
+    let rules : is_desc p.key d ≡ true =
+    all-at (λ x. is_desc p.key (desc_of p.key x) ≡ true) p.offered (whole_below (messages_of p.key p.offered) h.seq) o.message s.by_rules o.there in
     let sent = k.1.sent in
-    let o = s.conn.sender in
-    let t = o.top_below in
-    let r = o.in_range in
-    subst (λ x. is_head x ≡ true) (sym m.1.1) (head-by_rules p.key h.seq (desc_of p.key m.0) rules (omega arith))
+    let t = s.conn.sender.top_below in
+    let r = s.conn.sender.in_range in
+    let total : length o.fragment.message.body ≡ o.message.total = ap (λ m. length m.body) (sym o.same) ∙ long-of d in
+    let begins = subst (λ n. is_offset n o.fragment.offset ≡ true) total o.comes.begins in
+    let head : h ≡ head_for p.key h.seq d o.fragment.offset = o.head ∙ head-is p.key h.seq o.fragment d o.fragment.offset o.same refl o.comes.long in
+    subst (λ x. is_head x ≡ true) (sym head) (head-by_rules p.key h.seq d o.fragment.offset rules begins (omega (arith, sent, t, r)))
 
 -- one event more
 after_all-push : (p : PairState) (events : List PairEvent) (e : PairEvent) → after_all p (events ++ e ∷ []) ≡ (step (after_all p events) e).1

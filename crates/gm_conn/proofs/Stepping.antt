@@ -3,7 +3,7 @@ use Rattle.std.proofs.Common.{◌≡◌, ◌<◌, ◌-◌, ℕ, Bool, true, fals
 use Rattle.std.specs.Prelude.{slice_get, option_and_then}
 use Rattle.std.proofs.lemmas.Bool.Decides.{nat_tests}
 use Rattle.std.proofs.lemmas.List.{length-map, map-append}
-use Rattle.std.proofs.lemmas.Option.{same_Some, none-some}
+use Rattle.std.proofs.lemmas.Option.{same_Some, none-some, slice_get_within}
 use Rattle.gm_defs.specs.declared.message.Message.{Message}
 use Rattle.gm_defs.specs.declared.frame.FrameHead.{FrameHead}
 use Rattle.gm_defs.specs.declared.frame.Ack.{Ack}
@@ -11,9 +11,11 @@ use Rattle.gm_defs.specs.declared.frame.ConnectionKey.{ConnectionKey}
 use Rattle.gm_defs.specs.declared.frame.GmBody.{GmBody}
 use Rattle.gm_defs.specs.declared.frame.GmBody.TheVariants.{Frame, Ack as Acknowledges}
 use Rattle.gm_defs.specs.declared.token.Took.{Took}
-use Rattle.gm_defs.specs.Body.{is_prio, is_head}
+use Rattle.gm_defs.specs.Body.{is_prio, is_head, is_last}
 use Rattle.gm_defs.specs.Fragment.{fragments, piece_count, whole_below, head_of, frame_of}
 use Rattle.gm_defs.specs.Connection.{IsSender, ack_on, due, sent_one, expired, unacknowledged, is_spent, offered, took, taken_after}
+use Rattle.gm_defs.specs.Laws.{ComesNext}
+use Rattle.gm_defs.proofs.Numbers.{next-fragment}
 use Rattle.gm_conn.specs.declared.desc.Due.{Due}
 use Rattle.gm_conn.specs.declared.refusal.OfferRefusal.TheVariants.{Spent}
 use Rattle.gm_conn.specs.declared.event.PairMsg.{PairMsg}
@@ -21,7 +23,7 @@ use Rattle.gm_conn.specs.declared.event.PairEvent.{PairEvent}
 use Rattle.gm_conn.specs.declared.event.PairEvent.TheVariants.{Offer, Emit, EmitAck, Deliver, Expire}
 use Rattle.gm_conn.specs.Halves.{Outgoing, Incoming, is_desc, message_of, messages, first, due_at, due_frame, heard_ack, offer_refusal, with_offer}
 use Rattle.gm_conn.specs.Pair.{PairState, desc_of, messages_of, new_pair, pair_of, frame_packet, emit, whole_message, deliver, expire, step, IsFair, IsReached, IsPair, IsInOrder}
-use Rattle.gm_conn.proofs.Messages.{within, whole_of, whole_below-short, fragment-short, length-fragments}
+use Rattle.gm_conn.proofs.Messages.{within}
 use Rattle.gm_conn.proofs.Connections.{due-some, frame-at}
 use Rattle.gm_conn.proofs.Pairs.{IsSoundPair, conn_of, fair-desc, reached-sound, reached-step, sound-in_order, packet-by_rules}
 
@@ -133,16 +135,14 @@ due-frame w r ps os ts n k e =
     let more = d.offered_already in
     let below : n < w.numbers.next = omega (arith, number, more) in
     let f = frame-at (conn_of p) n s.conn below in
-    let all : length (fragments sent) ≡ length sent = length-fragments sent s.conn.short in
     let counted : w.numbers.next ≡ length (fragments sent) = s.conn.counted in
     let zero_first : first w ≡ 0 = let x : length (fragments (messages w)) ≡ length (fragments sent) = ap (λ l. length (fragments l)) same in omega (arith, x, counted) in
     let at : n - first w ≡ n = omega (arith, zero_first) in
     let many : length sent ≡ length os = length-map os (λ m. message_of (desc_of w.key m)) in
     let held : length w.waiting ≡ length os = ap length k.waiting ∙ length-map os (desc_of w.key) in
-    let holder = within w.waiting n (omega (arith, all, counted, many, held, below)) in
-    let fragment : slice_get (fragments sent) n ≡ Some (whole_of f.0) = fragment-short sent n f.0 s.conn.short f.1.message in
-    let whole : whole_below sent n ≡ n = let x = whole_below-short sent n s.conn.short in omega (arith, x, all, counted, below) in
-    let out : ℕ → Option Due = λ i. option_map (λ x. record { head = head_of w.key n (whole_of f.0); ticket = x.ticket }) (slice_get w.waiting i) in
+    let comes : ComesNext sent n f.0 = next-fragment sent n f.0 f.1.fragment in
+    let inside = slice_get_within sent (whole_below sent n) f.0.message comes.there in
+    let holder = within w.waiting (whole_below sent n) (omega (arith, inside, many, held)) in
     let by_messages : due_at w n
     ≡ option_and_then
     (λ g. option_map (λ x. record { head = head_of w.key n g; ticket = x.ticket }) (slice_get w.waiting (whole_below sent n)))
@@ -150,14 +150,14 @@ due-frame w r ps os ts n k e =
     λ i. option_and_then (λ g. option_map (λ x. record { head = head_of w.key n g; ticket = x.ticket }) (slice_get w.waiting (whole_below (same i) (at i)))) (slice_get (fragments (same i)) (at i)) in
     let by_fragment : option_and_then
     (λ g. option_map (λ x. record { head = head_of w.key n g; ticket = x.ticket }) (slice_get w.waiting (whole_below sent n)))
-    (slice_get (fragments sent) n) ≡ out (whole_below sent n) =
-    ap (option_and_then (λ g. option_map (λ x. record { head = head_of w.key n g; ticket = x.ticket }) (slice_get w.waiting (whole_below sent n)))) fragment in
-    let by_holder : out n ≡ Some (record { head = head_of w.key n (whole_of f.0); ticket = holder.0.ticket }) =
-    ap (option_map (λ x. record { head = head_of w.key n (whole_of f.0); ticket = x.ticket })) holder.1 in
+    (slice_get (fragments sent) n) ≡ option_map (λ x. record { head = head_of w.key n f.0; ticket = x.ticket }) (slice_get w.waiting (whole_below sent n)) =
+    ap (option_and_then (λ g. option_map (λ x. record { head = head_of w.key n g; ticket = x.ticket }) (slice_get w.waiting (whole_below sent n)))) f.1.fragment in
+    let by_holder : option_map (λ x. record { head = head_of w.key n f.0; ticket = x.ticket }) (slice_get w.waiting (whole_below sent n)) ≡ Some (record { head = head_of w.key n f.0; ticket = holder.0.ticket }) =
+    ap (option_map (λ x. record { head = head_of w.key n f.0; ticket = x.ticket })) holder.1 in
     record {
       ticket = holder.0.ticket;
-      head = head_of w.key n (whole_of f.0);
-      stated = by_messages ∙ by_fragment ∙ ap out whole ∙ by_holder;
+      head = head_of w.key n f.0;
+      stated = by_messages ∙ by_fragment ∙ by_holder;
       packet = ap frame_packet f.1.frame;
     }
 
@@ -217,11 +217,11 @@ ack-kept w r ps bs os ts k more =
 -- ---- a packet arrives
 
 pub hear-kept : (w : Outgoing) (r q : Incoming) (ps : List GmBody) (os ts ns : List PairMsg) (packet : ℕ) (h : FrameHead) (fits : Bool) (t : Took) → IsPair w r ps os ts
-    → slice_get ps packet ≡ Some (Frame h) → t ≡ took r.taken h.seq fits → q ≡ record r { taken = taken_after r.taken t } → ns ≡ ts ++ whole_message h t → IsPair w q ps os ns
+    → slice_get ps packet ≡ Some (Frame h) → t ≡ took r.taken h.seq fits (is_last h.total h.offset) → q ≡ record r { taken = taken_after r.taken t } → ns ≡ ts ++ whole_message h t → IsPair w q ps os ns
 hear-kept w r q ps os ts ns packet h fits t k e made later more =
     let before : PairState = pair_of w r ps os ts in
-    let taken : ts ++ whole_message h (took r.taken h.seq fits) ≡ ns = ap (λ x. ts ++ whole_message h x) (sym made) ∙ sym more in
-    let number : record r { taken = taken_after r.taken (took r.taken h.seq fits) } ≡ q = ap (λ x. record r { taken = taken_after r.taken x }) (sym made) ∙ sym later in
+    let taken : ts ++ whole_message h (took r.taken h.seq fits (is_last h.total h.offset)) ≡ ns = ap (λ x. ts ++ whole_message h x) (sym made) ∙ sym more in
+    let number : record r { taken = taken_after r.taken (took r.taken h.seq fits (is_last h.total h.offset)) } ≡ q = ap (λ x. record r { taken = taken_after r.taken x }) (sym made) ∙ sym later in
     kept w w r q ps ps os os ts ns (Deliver packet fits) k tt
     (ap (λ o. (deliver before fits o).1) e ∙ (λ i. pair_of w (number i) ps os (taken i)))
     k.waiting (ap (λ x. x.key) later ∙ k.key)

@@ -30,3 +30,12 @@ late = record { ticket = 8; sport = 2; dport = 3; prio = 1; total = 1016 }
 -- the sender with both
 abbrev pub half_done : Outgoing
 half_done = outgoing (connection 0 1 1) (record { base = 1; cursor = 1; top = 2; next = 2 }) (done ∷ late ∷ []) 0
+
+-- the first fragment of a message of two was sent and the second is due; both were sent before
+abbrev pub two_pieces : Outgoing
+two_pieces = outgoing (connection 0 1 1) (record { base = 0; cursor = 1; top = 2; next = 2 })
+    (record { ticket = 9; sport = 0; dport = 1; prio = 1; total = 1017 } ∷ []) 0
+
+-- a pair whose only message has two fragments, both emitted
+abbrev pub long_emitted : PairState
+long_emitted = after_all (new_pair (connection 0 1 1)) (Offer 1017 ∷ Emit ∷ Emit ∷ [])

@@ -1,13 +1,13 @@
 -- The two halves of a connection, as their contracts see them. Their numbers and their rules are those of `gm_defs`.
 use Rattle.std.specs.Prelude.{◌≡◌, ℕ, ◌+◌, ◌-◌, ◌≤◌, Bool, true, ◌&&◌, nat_eq, nat_lt, nat_le, List, [], ◌∷◌, ◌++◌, map}
-use Rattle.std.specs.Prelude.{length, replicate, slice_get, drop, if◌then◌else◌, Option, Some, None, option_map}
-use Rattle.std.specs.Prelude.{option_and_then}
+use Rattle.std.specs.Prelude.{length, replicate, slice_get, take, drop, min, if◌then◌else◌, Option, Some, None}
+use Rattle.std.specs.Prelude.{option_map, option_and_then}
 use Rattle.std.specs.List.{AllByRecursion}
 use Rattle.gm_defs.specs.declared.message.Message.{Message}
 use Rattle.gm_defs.specs.declared.frame.Ack.{Ack}
 use Rattle.gm_defs.specs.declared.frame.FrameHead.{FrameHead}
 use Rattle.gm_defs.specs.declared.frame.ConnectionKey.{ConnectionKey}
-use Rattle.gm_defs.specs.Body.{message_limit, is_prio}
+use Rattle.gm_defs.specs.Body.{piece, message_limit, is_prio}
 use Rattle.gm_defs.specs.Fragment.{fragments, piece_count, whole_below, head_of}
 use Rattle.gm_defs.specs.Connection.{SenderState, IsSender, ack_on, due, acknowledged, is_spent, offered}
 use Rattle.gm_conn.specs.declared.desc.Desc.{Desc}
@@ -85,9 +85,9 @@ with_offer w d = record w {
   spare = w.spare - 1;
 }
 
--- the head of a message's only frame
-abbrev pub head_for : ConnectionKey → ℕ → Desc → FrameHead
-head_for c seq d = record {
+-- the head of a message's fragment at an offset
+abbrev pub head_for : ConnectionKey → ℕ → Desc → ℕ → FrameHead
+head_for c seq d offset = record {
   src = c.src;
   dst = c.dst;
   sport = d.sport;
@@ -95,8 +95,8 @@ head_for c seq d = record {
   prio = d.prio;
   seq = seq;
   total = d.total;
-  offset = 0;
-  len = d.total;
+  offset = offset;
+  len = min piece (d.total - offset);
 }
 
 -- a message is refused where it needs a number above the greatest
@@ -106,9 +106,28 @@ offer_refusal w total = if is_spent w.numbers (piece_count total) then Some Spen
 -- What a sender keeps: its numbers are in order, and each message of which not all is acknowledged waits.
 pub record IsOutgoing (w : Outgoing) : Type 0 where
   pub sender : IsSender w.numbers
-  pub counted : length w.waiting ≤ w.numbers.next
-  pub waits : w.numbers.next - length w.waiting ≤ w.numbers.base
+  pub counted : length (fragments (messages w)) ≤ w.numbers.next
+  pub waits : first w ≤ w.numbers.base
   pub by_rules : AllByRecursion (λ d. is_desc w.key d ≡ true) w.waiting
+
+-- It keeps so, and keeps the number of the first fragment that waits.
+pub record IsOutgoingFrom (from : ℕ) (w : Outgoing) : Type 0 where
+  pub kept : IsOutgoing w
+  pub begins : from + length (fragments (messages w)) ≡ w.numbers.next
+
+-- how many of the messages that wait lie wholly below a number
+abbrev pub place_below : Outgoing → ℕ → ℕ
+place_below w n = whole_below (messages w) (n - first w)
+
+-- and the number of the first fragment behind them
+abbrev pub first_below : Outgoing → ℕ → ℕ
+first_below w n = first w + length (fragments (take (place_below w n) (messages w)))
+
+-- how many pieces the message of a place that waits has, where it has no more than so many
+abbrev pub whole_at : Outgoing → ℕ → ℕ → Option ℕ
+whole_at w place most =
+    option_and_then (λ d. if nat_le (piece_count d.total) most then Some (piece_count d.total) else None)
+    (slice_get w.waiting place)
 
 -- the acknowledgement that a receiver owes: of the next number, back to the sender
 abbrev pub ack_of : Incoming → Ack
@@ -130,4 +149,4 @@ AreOf (d ∷ ds) (m ∷ ms) = Describes d m × AreOf ds ms
 
 -- the descriptors that wait are of the last messages that were sent
 abbrev pub WaitsFor : Outgoing → List Message → Type 0
-WaitsFor w sent = AreOf w.waiting (drop (w.numbers.next - length w.waiting) sent)
+WaitsFor w sent = AreOf w.waiting (drop (length sent - length w.waiting) sent)

@@ -9,8 +9,8 @@ use Rattle.gm_defs.specs.declared.frame.ConnectionKey.{ConnectionKey}
 use Rattle.gm_defs.specs.declared.frame.GmBody.{GmBody}
 use Rattle.gm_defs.specs.declared.frame.GmBody.TheVariants.{Frame, Ack as Acknowledges}
 use Rattle.gm_defs.specs.declared.token.Took.{Took}
-use Rattle.gm_defs.specs.declared.token.Took.TheVariants.{NotNext, NoToken, Whole}
-use Rattle.gm_defs.specs.Body.{message_limit, is_prio}
+use Rattle.gm_defs.specs.declared.token.Took.TheVariants.{NotNext, NoToken, Part, Whole}
+use Rattle.gm_defs.specs.Body.{message_limit, is_prio, is_last}
 use Rattle.gm_defs.specs.Fragment.{piece_count, whole_below, frame_of}
 use Rattle.gm_defs.specs.Connection.{SenderState, ack_on, starting, due, sent_one, acknowledged, expired}
 use Rattle.gm_defs.specs.Connection.{unacknowledged, is_spent, offered, took, taken_after}
@@ -71,6 +71,7 @@ emit_ack p = record p { packets = p.packets ++ Acknowledges (ack_on p.key p.rece
 -- the message of a frame, where it was taken whole
 abbrev pub whole_message : FrameHead → Took → List PairMsg
 whole_message h Whole = record { total = h.total } ∷ []
+whole_message h Part = []
 whole_message h NoToken = []
 whole_message h NotNext = []
 
@@ -81,7 +82,7 @@ hear_frame p h t = record p { received = taken_after p.received t; taken = p.tak
 -- a packet arrives, if there is one of that place
 abbrev pub deliver : PairState → Bool → Option GmBody → Bool × PairState
 deliver p fits None = (false, p)
-deliver p fits (Some (Frame h)) = (true, hear_frame p h (took p.received h.seq fits))
+deliver p fits (Some (Frame h)) = (true, hear_frame p h (took p.received h.seq fits (is_last h.total h.offset)))
 deliver p fits (Some (Acknowledges a)) = (true, record p { numbers = acknowledged p.numbers a.next })
 
 -- what isn't acknowledged is to be sent again, if anything is unacknowledged

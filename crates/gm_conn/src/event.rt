@@ -19,7 +19,7 @@ pub enum PairEvent {
     Emit,
     /// The acknowledgement of what was taken is emitted.
     EmitAck,
-    /// The packet of this place among all that were emitted arrives; `fits` says whether a token fits its message.
+    /// The packet of this place among all that were emitted arrives; `fits` says whether a token takes its fragment.
     Deliver {
         packet: u32,
         fits: bool,

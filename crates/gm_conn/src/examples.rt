@@ -7,6 +7,7 @@ ghost use Rattle.gm_conn.specs.Halves.{due_frame, finished, heard_ack, oldest_fi
 ghost use Rattle.gm_conn.specs.Halves.{offer_refusal};
 ghost use Rattle.gm_conn.specs.Pair.{step, after_all};
 ghost use Rattle.gm_conn.specs.Examples.{first_message, second_message, two_emitted, done, late, half_done};
+ghost use Rattle.gm_conn.specs.Examples.{two_pieces, long_emitted};
 
 /// Of two emitted frames the second comes first, a frame comes twice, no token fits, and an acknowledgement comes.
 pub fn events_of_a_pair()
@@ -21,6 +22,30 @@ pub fn events_of_a_pair()
     ensures no_packet { step two_emitted (Deliver 2 true) ≡ (false, two_emitted) }
     ensures expired { (after_all two_emitted (Expire ∷ [])).numbers
         ≡ record { base = 0; cursor = 0; top = 2; next = 2 } }
+{}
+
+/// Of a message of two fragments the second is due; the message is finished, and taken whole, with its last fragment.
+pub fn message_of_two_fragments()
+    ensures due { due_frame two_pieces ≡ Some record {
+      head = record {
+        src = 0;
+        dst = 1;
+        sport = 0;
+        dport = 1;
+        prio = 1;
+        seq = 1;
+        total = 1017;
+        offset = 1016;
+        len = 1;
+      };
+      ticket = 9;
+    } }
+    ensures in_part { finished (heard_ack two_pieces 1) ≡ 0 }
+    ensures whole { finished (heard_ack two_pieces 2) ≡ 1 }
+    ensures begun { (after_all long_emitted (Deliver 0 true ∷ [])).received ≡ 1 }
+    ensures none_taken { (after_all long_emitted (Deliver 0 true ∷ [])).taken ≡ [] }
+    ensures taken { (after_all long_emitted (Deliver 0 true ∷ Deliver 1 true ∷ [])).taken
+        ≡ record { total = 1017 } ∷ [] }
 {}
 
 /// Of two messages the first is finished and the second is due again.

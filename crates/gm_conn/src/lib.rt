@@ -18,11 +18,12 @@ mod laws;
 mod pair;
 mod receiver;
 mod refusal;
+mod ring;
 mod sender;
 
 pub use desc::{Desc, Due};
 pub use event::{PairEvent, PairMsg};
-pub use examples::{events_of_a_pair, messages_of_a_sender};
+pub use examples::{events_of_a_pair, message_of_two_fragments, messages_of_a_sender};
 pub use gm_defs::{Ack, ConnectionKey, FrameHead, GmBody, Took};
 pub use laws::{due_is_of_message, pair_in_order};
 pub use pair::Pair;

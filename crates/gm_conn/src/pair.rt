@@ -147,8 +147,11 @@ impl Pair {
         match packet_at(&self.packets, packet) {
             Some(GmBody::Frame(h)) => {
                 self.taken.reserve(1)?;
-                if let Took::Whole = self.receiver.on_frame(&h, fits) {
-                    self.taken.push_reserved(PairMsg { total: h.total });
+                match self.receiver.on_frame(&h, fits) {
+                    Took::Whole => self.taken.push_reserved(PairMsg { total: h.total }),
+                    Took::Part => {}
+                    Took::NoToken => {}
+                    Took::NotNext => {}
                 }
                 Ok(true)
             }

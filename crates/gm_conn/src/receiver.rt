@@ -1,7 +1,7 @@
 //! The receiving half.
 
 ghost use Rattle.std.specs.Prelude.{◌≡◌, true};
-ghost use Rattle.gm_defs.specs.Body.{is_head};
+ghost use Rattle.gm_defs.specs.Body.{is_head, is_last};
 ghost use Rattle.gm_defs.specs.Connection.{connection, took, taken_after};
 ghost use Rattle.gm_conn.specs.Halves.{ack_of};
 
@@ -34,10 +34,11 @@ impl Receiver {
         }
     }
 
-    /// A frame of this connection arrives; `fits` says whether a token fits its message.
+    /// A frame of this connection arrives; `fits` says whether a token takes its fragment. Part is answered where that
+    /// isn't the last of its message.
     pub fn on_frame(&mut self, h: &FrameHead, fits: bool) -> Took
         requires { is_head h.now ≡ true }
-        ensures took { result ≡ took self.old.taken h.now.seq fits }
+        ensures took { result ≡ took self.old.taken h.now.seq fits (is_last h.now.total h.now.offset) }
         ensures taken { self.new ≡ record self.old { taken = taken_after self.old.taken result } }
     {
         if h.seq != self.taken {
@@ -47,7 +48,7 @@ impl Receiver {
             return Took::NoToken;
         }
         self.taken += 1;
-        Took::Whole
+        if h.is_last() { Took::Whole } else { Took::Part }
     }
 
     /// The acknowledgement of what was taken.

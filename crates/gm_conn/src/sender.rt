@@ -1,27 +1,27 @@
 //! The sending half.
 
-ghost use Rattle.std.specs.Prelude.{◌≡◌, ◌<◌, ◌≤◌, ◌-◌, ◌+◌, [], true, false, nat_lt, length, slice_get, IsTrue};
+ghost use Rattle.std.specs.Prelude.{◌≡◌, ◌<◌, ◌≤◌, ◌-◌, ◌+◌, [], true, false, nat_lt, length};
 ghost use Rattle.std.specs.Prelude.{IsSome, IfSome, OnOk, OnErr};
-ghost use Rattle.std.specs.VecDeque.{deque_len, deque_capacity};
 ghost use Rattle.net_defs.specs.Refusal.{Refuses};
 ghost use Rattle.gm_defs.specs.declared.frame.GmBody.TheVariants.{Frame};
-ghost use Rattle.gm_defs.specs.Body.{is_head, message_limit};
+ghost use Rattle.gm_defs.specs.Body.{is_head, is_offset, message_limit};
 ghost use Rattle.gm_defs.specs.Fragment.{piece_count};
 ghost use Rattle.gm_defs.specs.Connection.{connection, key_of, starting, due, sent_one, is_taken, expired};
 ghost use Rattle.gm_defs.specs.Connection.{unacknowledged, is_spent};
 ghost use Rattle.gm_conn.specs.Halves.{IsOutgoing, outgoing, is_desc, due_frame, finished, heard_ack, oldest_finished};
-ghost use Rattle.gm_conn.specs.Halves.{without_finished, offer_refusal, with_offer, head_for};
+ghost use Rattle.gm_conn.specs.Halves.{without_finished, offer_refusal, with_offer, head_for, first, place_below};
+ghost use Rattle.gm_conn.specs.Halves.{first_below, whole_at};
 
+use crate::ring::DescRing;
 use crate::{Desc, Due, OfferRefusal};
-use gm_defs::{ConnectionKey, FrameHead};
+use gm_defs::{ConnectionKey, FrameHead, PIECE, piece_count};
 use std::alloc::Global;
-use std::collections::VecDeque;
 use std::marker::Model;
 
 // The most fragments that are sent and not acknowledged.
 const WINDOW: u32 = 8;
 
-/// The sending half of a connection. Its messages have one fragment each.
+/// The sending half of a connection. The descriptors of its messages wait in a ring.
 ///
 /// `reserve` makes the room for a message and `offer` takes none.
 #[derive(Drop)]
@@ -31,13 +31,13 @@ pub struct Sender {
     cursor: u32,
     top: u32,
     next: u32,
-    waiting: VecDeque<Desc>,
+    // The number of the first fragment of the oldest message that waits.
+    first: u32,
+    waiting: DescRing,
 }
 
 impl Model for Sender {
-    ghost use Rattle.std.specs.Prelude.{◌-◌};
-    ghost use Rattle.std.specs.VecDeque.{deque_len, deque_capacity};
-    ghost use Rattle.gm_conn.specs.Halves.{Outgoing, IsOutgoing, outgoing};
+    ghost use Rattle.gm_conn.specs.Halves.{Outgoing, IsOutgoingFrom, outgoing};
 
     ghost Value = { Outgoing };
 
@@ -46,15 +46,15 @@ impl Model for Sender {
       cursor = s.cursor;
       top = s.top;
       next = s.next;
-    }) s.waiting.items (deque_capacity s.waiting - deque_len s.waiting) };
+    }) s.waiting.items s.waiting.spare };
 
     ghost invariant = { λ s.
-        IsOutgoing (outgoing s.key (record {
+        IsOutgoingFrom s.first (outgoing s.key (record {
           base = s.base;
           cursor = s.cursor;
           top = s.top;
           next = s.next;
-        }) s.waiting.items (deque_capacity s.waiting - deque_len s.waiting)) };
+        }) s.waiting.items s.waiting.spare) };
 }
 
 impl Sender {
@@ -75,7 +75,8 @@ impl Sender {
             cursor: first,
             top: first,
             next: first,
-            waiting: VecDeque::new(alloc),
+            first,
+            waiting: DescRing::new(alloc),
         }
     }
 
@@ -87,10 +88,10 @@ impl Sender {
         ensures stays { self.new ≡ record self.old { spare = self.new.spare } }
         ensures err { OnErr result (self.new ≡ self.old) }
     {
-        if self.next == u32::MAX {
+        if u32::MAX - self.next < piece_count(total) {
             return Err(OfferRefusal::Spent);
         }
-        if make_room(&mut self.waiting) {
+        if self.waiting.make_room() {
             Ok(())
         } else {
             Err(OfferRefusal::NoMemory)
@@ -108,7 +109,7 @@ impl Sender {
     {
         let first = self.next;
         self.waiting.push_back_reserved(d);
-        self.next += 1;
+        self.next += piece_count(d.total);
         first
     }
 
@@ -119,11 +120,14 @@ impl Sender {
         ensures connection { IfSome result (λ d. key_of (Frame d.head) ≡ self.now.key) }
     {
         if self.cursor < self.next && self.cursor - self.base < WINDOW {
-            let d = desc_at(&self.waiting, (self.cursor - self.first()) as usize);
-            Some(Due {
-                head: head_for(self.key, self.cursor, &d),
-                ticket: d.ticket,
-            })
+            let (place, first) = self.below(self.cursor);
+            match self.waiting.get(place) {
+                Some(d) => Some(Due {
+                    head: head_for(self.key, self.cursor, d, (self.cursor - first) * PIECE),
+                    ticket: d.ticket,
+                }),
+                None => unreachable!(),
+            }
         } else {
             None
         }
@@ -143,13 +147,24 @@ impl Sender {
         ensures new { self.new ≡ heard_ack self.old next }
         ensures messages { result + finished self.old ≡ finished self.new }
     {
-        if next <= self.base || self.top < next {
-            return 0;
+        let messages = self.finished_by(next);
+        if self.takes(next) {
+            self.base = next;
+            self.cursor = self.cursor.max(next);
         }
-        let messages = next - self.base;
-        self.base = next;
-        self.cursor = self.cursor.max(next);
         messages
+    }
+
+    /// How many messages an acknowledgement of this number finishes: those whose last fragment it is the first to
+    /// acknowledge.
+    pub fn finished_by(&self, next: u32) -> u32
+        ensures { result + finished self.now ≡ finished (heard_ack self.now next) }
+    {
+        if self.takes(next) {
+            (self.below(next).0 - self.below(self.base).0) as u32
+        } else {
+            0
+        }
     }
 
     /// Whether an acknowledgement of this number is taken: it says more than is known, and no more than was sent.
@@ -159,15 +174,26 @@ impl Sender {
         self.base < next && next <= self.top
     }
 
+    /// How many of the messages that wait don't lie wholly below a number.
+    pub fn left_from(&self, n: u32) -> usize
+        requires { first self.now ≤ n }
+        ensures { result ≡ length self.now.waiting - place_below self.now n }
+    {
+        let (place, _first) = self.below(n);
+        self.waiting.len() - place
+    }
+
     /// The descriptor of the oldest message that is finished and not taken out yet.
     pub fn take_finished(&mut self) -> Option<Desc>
         ensures oldest { result ≡ oldest_finished self.old }
         ensures new { self.new ≡ without_finished self.old }
     {
-        if self.first() < self.base {
-            self.waiting.pop_front()
-        } else {
-            None
+        match self.whole_at(0, self.base - self.first) {
+            Some(pieces) => {
+                self.first += pieces;
+                self.waiting.pop_front()
+            }
+            None => None,
         }
     }
 
@@ -201,42 +227,41 @@ impl Sender {
         let _ = &self.base;
     }
 
-    // The number of the oldest message that waits.
-    fn first(&self) -> u32
-        ensures first { result ≡ self.now.numbers.next - length self.now.waiting }
-        ensures kept { IsOutgoing self.now }
+    // How many of the messages that wait lie wholly below a number, and the number of the first fragment behind them.
+    fn below(&self, n: u32) -> (usize, u32)
+        requires { first self.now ≤ n }
+        ensures place { result.0 ≡ place_below self.now n }
+        ensures first { result.1 ≡ first_below self.now n }
+        ensures within { result.1 ≤ n }
     {
-        self.next - self.waiting.len() as u32
+        let mut place = 0;
+        let mut first = self.first;
+        while let Some(pieces) = self.whole_at(place, n - first) {
+            first += pieces;
+            place += 1;
+        }
+        (place, first)
+    }
+
+    // How many pieces the message of a place has, where it has no more than so many.
+    fn whole_at(&self, place: usize, most: u32) -> Option<u32>
+        ensures { result ≡ whole_at self.now place most }
+    {
+        match self.waiting.get(place) {
+            Some(d) => {
+                let pieces = piece_count(d.total);
+                if pieces <= most { Some(pieces) } else { None }
+            }
+            None => None,
+        }
     }
 }
 
-// Makes room for one more, twice as much as before where there is none. False for want of memory, which leaves the
-// room as it was.
-fn make_room(waiting: &mut VecDeque<Desc>) -> bool
-    ensures items { waiting.new.items ≡ waiting.old.items }
-    ensures len { deque_len waiting.new ≡ deque_len waiting.old }
-    ensures room { IsTrue result → deque_len waiting.new < deque_capacity waiting.new }
-    ensures none { result ≡ false → deque_capacity waiting.new ≡ deque_capacity waiting.old }
-{
-    if waiting.len() < waiting.capacity() {
-        return true;
-    }
-    let more = waiting.len().max(4);
-    waiting.reserve_exact(more).is_ok()
-}
-
-// The descriptor at a place.
-fn desc_at(waiting: &VecDeque<Desc>, place: usize) -> Desc
-    requires { place < length waiting.now.items }
-    ensures { slice_get waiting.now.items place ≡ Some result }
-{
-    waiting[place]
-}
-
-// The head of a message's only frame.
-fn head_for(key: ConnectionKey, seq: u32, d: &Desc) -> FrameHead
-    requires { is_desc key d.now ≡ true }
-    ensures { result ≡ head_for key seq d.now }
+// The head of a message's fragment at an offset.
+fn head_for(key: ConnectionKey, seq: u32, d: &Desc, offset: u32) -> FrameHead
+    requires desc { is_desc key d.now ≡ true }
+    requires offset { is_offset d.now.total offset ≡ true }
+    ensures { result ≡ head_for key seq d.now offset }
 {
     FrameHead {
         src: key.src,
@@ -246,7 +271,7 @@ fn head_for(key: ConnectionKey, seq: u32, d: &Desc) -> FrameHead
         prio: d.prio,
         seq,
         total: d.total,
-        offset: 0,
-        len: d.total as u16,
+        offset,
+        len: PIECE.min(d.total - offset) as u16,
     }
 }

@@ -1,4 +1,7 @@
 pub mod Bodies
 pub mod Choices
+pub mod Found
+pub mod Numbers
 pub mod Pieces
 pub mod Sizes
+pub mod Takers

@@ -15,7 +15,7 @@ piece = 1016
 
 -- the most bytes of a message
 abbrev pub message_limit : ℕ
-message_limit = 1016
+message_limit = 65528
 
 -- one more than the greatest number of a fragment
 abbrev pub number_limit : ℕ
@@ -59,6 +59,10 @@ ack_bytes a = 2 ∷ version ∷ to_be_bytes w16 a.src ++ to_be_bytes w16 a.dst +
 -- a fragment begins at a multiple of the piece: at 0 in an empty message, else within it
 abbrev pub is_offset : ℕ → ℕ → Bool
 is_offset total offset = nat_eq (offset % piece) 0 && (if nat_eq total 0 then nat_eq offset 0 else nat_lt offset total)
+
+-- the fragment that begins at an offset is its message's last: no more than a piece is left from there on
+abbrev pub is_last : ℕ → ℕ → Bool
+is_last total offset = nat_le (total - offset) piece
 
 -- the rules of a frame's head
 abbrev pub is_head : FrameHead → Bool

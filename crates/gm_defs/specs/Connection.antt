@@ -6,7 +6,7 @@ use Rattle.gm_defs.specs.declared.frame.ConnectionKey.{ConnectionKey}
 use Rattle.gm_defs.specs.declared.frame.GmBody.{GmBody}
 use Rattle.gm_defs.specs.declared.frame.GmBody.TheVariants.{Frame, Ack as Acknowledges}
 use Rattle.gm_defs.specs.declared.token.Took.{Took}
-use Rattle.gm_defs.specs.declared.token.Took.TheVariants.{NotNext, NoToken, Whole}
+use Rattle.gm_defs.specs.declared.token.Took.TheVariants.{NotNext, NoToken, Part, Whole}
 use Rattle.gm_defs.specs.Body.{number_limit}
 
 -- a connection by its hosts and its priority
@@ -78,12 +78,18 @@ is_spent s count = nat_lt number_limit (s.next + count)
 abbrev pub offered : SenderState → ℕ → SenderState
 offered s count = record s { next = s.next + count }
 
--- a receiver that has taken so many fragments makes this of a number, with or without a token that fits
-abbrev pub took : ℕ → ℕ → Bool → Took
-took taken seq fits = if nat_eq seq taken then if fits then Whole else NoToken else NotNext
+-- what was taken, by whether it was the last fragment of its message
+abbrev pub taken_as : Bool → Took
+taken_as last = if last then Whole else Part
+
+-- a receiver that has taken so many fragments makes this of a number, with or without a token that takes the fragment,
+-- and with the last fragment of its message or with an earlier one
+abbrev pub took : ℕ → ℕ → Bool → Bool → Took
+took taken seq fits last = if nat_eq seq taken then if fits then taken_as last else NoToken else NotNext
 
 -- how many it has taken then
 abbrev pub taken_after : ℕ → Took → ℕ
 taken_after taken Whole = taken + 1
+taken_after taken Part = taken + 1
 taken_after taken NoToken = taken
 taken_after taken NotNext = taken

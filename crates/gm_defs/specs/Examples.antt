@@ -1,9 +1,10 @@
 -- Messages and bodies for worked examples.
-use Rattle.std.specs.Prelude.{ℕ, List, [], ◌∷◌, map, codes, replicate}
+use Rattle.std.specs.Prelude.{ℕ, List, [], ◌∷◌, map, codes, replicate, None}
 use Rattle.gm_defs.specs.declared.message.Message.{Message}
 use Rattle.gm_defs.specs.declared.frame.FrameHead.{FrameHead}
 use Rattle.gm_defs.specs.declared.frame.Ack.{Ack}
-use Rattle.gm_defs.specs.Token.{PortState, PortEvent, Sent, Received}
+use Rattle.gm_defs.specs.Token.{PortState, PortEvent, Sent, Received, opened}
+use Rattle.gm_defs.specs.Port.{provided_with, delivered}
 
 -- a message of these bytes, from port 0 to port 1
 abbrev pub message : List ℕ → Message
@@ -23,7 +24,7 @@ busy_port = record {
   sends = 3;
   recvs = 2;
   queue = record { token = 1; buffer = codes "ABC" } ∷ [];
-  provided = record { token = 0; size = 4; prio = 0; buffer = replicate 8 0 } ∷ [];
+  provided = record { token = 0; size = 4; prio = 0; filling = None; buffer = replicate 8 0 } ∷ [];
   events = Sent 0 [] ∷ Received 1 (codes "hello...") 1 0 0 5 ∷ [];
 }
 
@@ -47,3 +48,26 @@ events_of p = map token_of p.events
 -- a message's token with its buffer
 abbrev pub sent_event : ℕ → List ℕ → PortEvent
 sent_event t b = Sent t b
+
+-- a message of 1,017 sevens in its two fragments: the first has all but the last byte
+abbrev pub first_part : FrameHead
+first_part = record abc { total = 1017; len = 1016 }
+
+-- the second has the last byte
+abbrev pub last_part : FrameHead
+last_part = record abc { seq = 1; total = 1017; offset = 1016; len = 1 }
+
+-- a port with two buffers of 2,040 zeros
+abbrev pub roomy_port : PortState
+roomy_port =
+    provided_with (provided_with (opened 0 2)
+    (record { token = 0; size = 11; prio = 0; filling = None; buffer = replicate 2040 0 }))
+    (record { token = 1; size = 11; prio = 0; filling = None; buffer = replicate 2040 0 })
+
+-- it took the first fragment
+abbrev pub filling_port : PortState
+filling_port = delivered roomy_port first_part (replicate 1016 7)
+
+-- and the second
+abbrev pub filled_port : PortState
+filled_port = delivered filling_port last_part (7 ∷ [])

@@ -1,5 +1,5 @@
 -- Messages in pieces, and what makes a frame or an acknowledgement honest.
-use Rattle.std.specs.Prelude.{◌≡◌, ℕ, zero, suc, ◌+◌, ◌-◌, ◌/◌, ◌≤◌, List, [], ◌∷◌, ◌++◌, length, take, drop, max}
+use Rattle.std.specs.Prelude.{◌≡◌, ℕ, zero, suc, ◌+◌, ◌-◌, ◌*◌, ◌/◌, ◌≤◌, List, [], ◌∷◌, ◌++◌, length, take, drop, max}
 use Rattle.std.specs.Prelude.{nat_le, slice_get, if◌then◌else◌, Option, Some, option_map}
 use Rattle.gm_defs.specs.declared.message.Message.{Message}
 use Rattle.gm_defs.specs.declared.frame.FrameHead.{FrameHead}
@@ -42,6 +42,12 @@ abbrev pub whole_below : List Message → ℕ → ℕ
 whole_below [] n = 0
 whole_below (m ∷ ms) n = if nat_le (piece_count (length m.body)) n
     then 1 + whole_below ms (n - piece_count (length m.body)) else 0
+
+-- the bytes below a number of the message that isn't wholly below it: those of its fragments below the number
+abbrev pub begun_below : List Message → ℕ → List ℕ
+begun_below [] n = []
+begun_below (m ∷ ms) n = if nat_le (piece_count (length m.body)) n
+    then begun_below ms (n - piece_count (length m.body)) else take (n * piece) m.body
 
 -- the head of the frame that carries a fragment, by its number, on a connection
 abbrev pub head_of : ConnectionKey → ℕ → Fragment → FrameHead

@@ -1,16 +1,17 @@
 -- What holds of every body, every connection and every message.
-use Rattle.std.specs.Prelude.{◌≡◌, ◌↔◌, ℕ, ◌<◌, ◌≤◌, ◌^◌, true, false, nat_eq, List, [], ◌∷◌, length, slice_index, Some}
-use Rattle.std.specs.Prelude.{None, Ok}
+use Rattle.std.specs.Prelude.{◌≡◌, ◌↔◌, ℕ, ◌+◌, ◌-◌, ◌<◌, ◌≤◌, ◌^◌, true, false, nat_eq, min, List, [], ◌∷◌, ◌++◌, length}
+use Rattle.std.specs.Prelude.{slice_index, slice_get, is_some, Some, None, Ok, ◌⊎◌}
 use Rattle.std.specs.List.{AllByRecursion, list_any}
 use Rattle.gm_defs.specs.declared.message.Message.{Message}
 use Rattle.gm_defs.specs.declared.frame.FrameHead.{FrameHead}
 use Rattle.gm_defs.specs.declared.frame.Ack.{Ack}
 use Rattle.gm_defs.specs.declared.frame.GmBody.TheVariants.{Frame, Ack as Acknowledges}
-use Rattle.gm_defs.specs.Fragment.{pieces, joined}
-use Rattle.gm_defs.specs.Body.{piece, is_prio, is_head, frame_bytes, ack_bytes, part_in, decode, number_limit}
+use Rattle.gm_defs.specs.Fragment.{Fragment, pieces, fragments, whole_below, begun_below, joined}
+use Rattle.gm_defs.specs.Body.{piece, is_prio, is_offset, is_last, is_head, frame_bytes, ack_bytes, part_in, decode, number_limit}
 use Rattle.gm_defs.specs.Connection.{SenderState, IsSender, starting, due, sent_one, acknowledged, expired, is_spent}
 use Rattle.gm_defs.specs.Connection.{offered}
-use Rattle.gm_defs.specs.Token.{sizes, room, size_for_length}
+use Rattle.gm_defs.specs.declared.token.Filling.{Filling}
+use Rattle.gm_defs.specs.Token.{sizes, room, size_for_length, Provided, PortState, has_begun, fitting, can_take}
 
 -- a frame by the rules is read as what it is
 abbrev pub FrameIsRead : Type 0
@@ -94,3 +95,58 @@ PiecesMakeMessage = (m : Message) → joined (pieces m) ≡ m.body
 abbrev pub ShortIsOnePiece : Type 0
 ShortIsOnePiece = (m : Message) → length m.body ≤ piece
     → pieces m ≡ record { message = m; offset = 0; part = m.body } ∷ []
+
+-- What is known of the fragment of a number. Its message is the first that isn't wholly below the number, and what is
+-- begun of that message is all that comes before the fragment. The last fragment makes the message whole, and an earlier
+-- one is begun with it.
+pub record ComesNext (ms : List Message) (n : ℕ) (f : Fragment) : Type 0 where
+  pub there : slice_get ms (whole_below ms n) ≡ Some f.message
+  pub begins : is_offset (length f.message.body) f.offset ≡ true
+  pub before : length (begun_below ms n) ≡ f.offset
+  pub long : length f.part ≡ min piece (length f.message.body - f.offset)
+  pub last : is_last (length f.message.body) f.offset ≡ true → (whole_below ms (n + 1) ≡ whole_below ms n + 1)
+      × ((begun_below ms (n + 1) ≡ []) × (begun_below ms n ++ f.part ≡ f.message.body))
+  pub earlier : is_last (length f.message.body) f.offset ≡ false → (whole_below ms (n + 1) ≡ whole_below ms n)
+      × (begun_below ms (n + 1) ≡ begun_below ms n ++ f.part)
+
+-- so each fragment comes next to what is whole and begun below its number
+abbrev pub NextFragment : Type 0
+NextFragment = (ms : List Message) (n : ℕ) (f : Fragment) → slice_get (fragments ms) n ≡ Some f → ComesNext ms n f
+
+-- nothing is whole and nothing begun below the first number
+abbrev pub NoneBelowFirst : Type 0
+NoneBelowFirst = (ms : List Message) → (whole_below ms 0 ≡ 0) × (begun_below ms 0 ≡ [])
+
+-- further messages change nothing below a number that the fragments before them reach
+abbrev pub MoreIsSent : Type 0
+MoreIsSent =
+    (ms more : List Message) (n : ℕ) → n ≤ length (fragments ms)
+    → (whole_below (ms ++ more) n ≡ whole_below ms n) × (begun_below (ms ++ more) n ≡ begun_below ms n)
+
+-- all messages are whole below the number behind their last fragment
+abbrev pub AllBelowLast : Type 0
+AllBelowLast = (ms : List Message) → whole_below ms (length (fragments ms)) ≡ length ms
+
+-- A fragment is a message's first, no token is filling for its host and priority, and one that isn't filling fits.
+pub record BeginsThere (p : PortState) (h : FrameHead) : Type 0 where
+  pub first : h.offset ≡ 0
+  pub not_begun : has_begun p h.src h.prio ≡ false
+  pub free : is_some (fitting p h.total h.prio) ≡ true
+
+-- A fragment is a later one, and a token is filling for its host and priority, with a message of its length of which the
+-- token holds exactly what comes before the fragment.
+pub record GoesOnThere (p : PortState) (h : FrameHead) : Type 0 where
+  pub later : 0 < h.offset
+  pub place : ℕ
+  pub token : Provided
+  pub message : Filling
+  pub there : slice_get p.provided place ≡ Some token
+  pub filling : token.filling ≡ Some message
+  pub src : message.src ≡ h.src
+  pub prio : token.prio ≡ h.prio
+  pub total : message.total ≡ h.total
+  pub held : message.held ≡ h.offset
+
+-- a port takes a fragment exactly in these two cases
+abbrev pub TakenInTwoCases : Type 0
+TakenInTwoCases = (p : PortState) (h : FrameHead) → (can_take p h ≡ true) ↔ (BeginsThere p h ⊎ GoesOnThere p h)

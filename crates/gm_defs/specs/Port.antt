@@ -1,15 +1,21 @@
 -- What each call makes of an open port. Each is to be made only where its premise holds; where a send or a fitting
 -- token is missing, the port stays as it is.
-use Rattle.std.specs.Prelude.{ℕ, Bool, ◌||◌, List, [], ◌∷◌, ◌++◌, length, drop, find, nat_eq, nat_lt, slice_get}
-use Rattle.std.specs.Prelude.{if◌then◌else◌, Option, Some, None}
+use Rattle.std.specs.Prelude.{ℕ, ◌+◌, Bool, ◌||◌, List, [], ◌∷◌, ◌++◌, length, take, drop, find, nat_eq, nat_lt}
+use Rattle.std.specs.Prelude.{slice_get, is_some, if◌then◌else◌, Option, Some, None}
+use Rattle.std.specs.List.{filter}
 use Rattle.gm_defs.specs.declared.frame.FrameHead.{FrameHead}
-use Rattle.gm_defs.specs.Body.{message_limit}
-use Rattle.gm_defs.specs.Token.{fits, Sending, Provided, PortEvent, Sent, Received, PortState, fitting}
+use Rattle.gm_defs.specs.Body.{message_limit, is_last}
+use Rattle.gm_defs.specs.Token.{Sending, Provided, PortEvent, Sent, Received, PortState, takes_at, taker}
 
 -- the first that passes a test is taken out
 abbrev pub without_first : {A : Type 0} → (A → Bool) → List A → List A
 without_first test [] = []
 without_first test (x ∷ xs) = if test x then xs else x ∷ without_first test xs
+
+-- the first that passes a test is replaced
+abbrev pub with_first : {A : Type 0} → (A → Bool) → A → List A → List A
+with_first test y [] = []
+with_first test y (x ∷ xs) = if test x then y ∷ xs else x ∷ with_first test y xs
 
 -- a send joins others, which stand by the rising numbers of their tokens
 abbrev pub with_send : Sending → List Sending → List Sending
@@ -57,21 +63,36 @@ ended_by p token (Some s) = record p {
 abbrev pub finished : PortState → ℕ → PortState
 finished p token = ended_by p token (send_of p token)
 
--- a buffer begins with a message, and its other bytes are as before
-abbrev pub filled : List ℕ → List ℕ → List ℕ
-filled buffer message = message ++ drop (length message) buffer
+-- a buffer has these bytes from an offset on, and its other bytes are as before
+abbrev pub filled : List ℕ → ℕ → List ℕ → List ℕ
+filled buffer offset part = take offset buffer ++ part ++ drop (offset + length part) buffer
 
--- a message was taken whole by the token that fits and was provided first: token and buffer are in an event
-abbrev pub taken_by : PortState → FrameHead → List ℕ → Option Provided → PortState
-taken_by p h part None = p
-taken_by p h part (Some r) = record p {
-  provided = without_first (λ x. fits x.size x.prio h.total h.prio) p.provided;
-  events = p.events ++ Received r.token (filled r.buffer part) h.src h.sport h.prio h.total ∷ [];
+-- the last fragment of a message came: token and buffer are in an event
+abbrev pub ended_with : PortState → FrameHead → List ℕ → Provided → PortState
+ended_with p h part r = record p {
+  provided = without_first (takes_at p h) p.provided;
+  events = p.events ++ Received r.token (filled r.buffer h.offset part) h.src h.sport h.prio h.total ∷ [];
 }
 
--- a message was taken by the token that fits it
+-- a token that holds a message up to the end of a fragment
+abbrev pub filling_with : FrameHead → List ℕ → Provided → Provided
+filling_with h part r = record r {
+  filling = Some (record { src = h.src; total = h.total; held = h.offset + length part });
+  buffer = filled r.buffer h.offset part;
+}
+
+-- an earlier fragment came: the token is filling, in its place
+abbrev pub going_on_with : PortState → FrameHead → List ℕ → Provided → PortState
+going_on_with p h part r = record p { provided = with_first (takes_at p h) (filling_with h part r) p.provided }
+
+-- a fragment was taken by a token
+abbrev pub taken_by : PortState → FrameHead → List ℕ → Option Provided → PortState
+taken_by p h part None = p
+taken_by p h part (Some r) = if is_last h.total h.offset then ended_with p h part r else going_on_with p h part r
+
+-- a fragment was taken by the token that takes it
 abbrev pub delivered : PortState → FrameHead → List ℕ → PortState
-delivered p h part = taken_by p h part (fitting p h.total h.prio)
+delivered p h part = taken_by p h part (taker p h)
 
 -- the event that was put in first
 abbrev pub next_event : PortState → Option PortEvent
@@ -81,10 +102,15 @@ next_event p = slice_get p.events 0
 abbrev pub polled : PortState → PortState
 polled p = record p { events = drop 1 p.events }
 
--- how many sends aren't finished, and how many events wait: a port is closed only where both are 0
+-- how many sends aren't finished, how many events wait, and how many tokens are filling: a port is closed only where
+-- all are 0
 abbrev pub unfinished : PortState → ℕ
 unfinished p = length p.queue
 
 -- how many events wait
 abbrev pub unread : PortState → ℕ
 unread p = length p.events
+
+-- how many tokens are filling
+abbrev pub filling_count : PortState → ℕ
+filling_count p = length (filter (λ r. is_some r.filling) p.provided)

@@ -1,8 +1,10 @@
 -- Sizes of buffers, and where the tokens of a port are.
-use Rattle.std.specs.Prelude.{ℕ, ◌-◌, ◌<◌, ◌^◌, Bool, false, ◌&&◌, List, [], ◌∷◌, ◌++◌, map, find, nat_eq, nat_le}
-use Rattle.std.specs.Prelude.{is_some, if◌then◌else◌, Option, Some, None}
-use Rattle.std.specs.List.{list_any, AllByRecursion}
+use Rattle.std.specs.Prelude.{◌≡◌, ℕ, ◌-◌, ◌<◌, ◌≤◌, ◌^◌, Bool, true, false, ◌&&◌, not, List, [], ◌∷◌, ◌++◌, map, find}
+use Rattle.std.specs.Prelude.{length, nat_eq, nat_le, is_some, is_none, if◌then◌else◌, Option, Some, None, IfSome}
+use Rattle.std.specs.List.{list_any, filter, AllByRecursion}
 use Rattle.net_defs.specs.Network.{Apart}
+use Rattle.gm_defs.specs.declared.frame.FrameHead.{FrameHead}
+use Rattle.gm_defs.specs.declared.token.Filling.{Filling}
 use Rattle.gm_defs.specs.declared.token.TokenPlace.{TokenPlace}
 use Rattle.gm_defs.specs.declared.token.TokenPlace.TheVariants.{Queue, Provided as WithBuffer, Event}
 
@@ -32,11 +34,12 @@ pub record Sending : Type 0 where
   pub token : ℕ
   pub buffer : List ℕ
 
--- A provided token, with its buffer.
+-- A provided token, with its buffer. It is filling where its buffer holds a part of a message.
 pub record Provided : Type 0 where
   pub token : ℕ
   pub size : ℕ
   pub prio : ℕ
+  pub filling : Option Filling
   pub buffer : List ℕ
 
 -- An event of a port's queue: a message was acknowledged, or one was received.
@@ -102,10 +105,64 @@ place_of_recv p t =
     else if has_number (received_tokens p.events) t then Some Event
     else None
 
--- of the provided tokens that fit a message, the first provided
-abbrev pub fitting : PortState → ℕ → ℕ → Option Provided
-fitting p len prio = find (λ r. fits r.size r.prio len prio) p.provided
+-- What holds of a token that is filling: it fits the message, holds some of it and not all, and has room for all.
+pub record IsFilling (r : Provided) (f : Filling) : Type 0 where
+  pub right_size : fits r.size r.prio f.total r.prio ≡ true
+  pub begun : 0 < f.held
+  pub not_whole : f.held < f.total
+  pub roomy : f.total ≤ length r.buffer
 
--- some provided token fits a message of this length and priority
-abbrev pub can_take : PortState → ℕ → ℕ → Bool
-can_take p len prio = is_some (fitting p len prio)
+-- where a token is filling, that holds
+abbrev pub IsFillingRight : Provided → Type 0
+IsFillingRight r = IfSome r.filling (IsFilling r)
+
+-- a message is from a host
+abbrev pub is_from : ℕ → Option Filling → Bool
+is_from src None = false
+is_from src (Some f) = nat_eq f.src src
+
+-- a token is filling for a host and a priority: with a message that this host sends with this priority
+abbrev pub is_filling_for : ℕ → ℕ → Provided → Bool
+is_filling_for src prio r = is_from src r.filling && nat_eq r.prio prio
+
+-- some token of a port is
+abbrev pub has_begun : PortState → ℕ → ℕ → Bool
+has_begun p src prio = list_any (is_filling_for src prio) p.provided
+
+-- What holds of the filling tokens of a port: each is filling right, and of two not both with messages of one host and
+-- one priority.
+pub record AreFilling (p : PortState) : Type 0 where
+  pub right : AllByRecursion IsFillingRight p.provided
+  pub once : (src prio : ℕ) → length (filter (is_filling_for src prio) p.provided) ≤ 1
+
+-- a token isn't filling, and fits a message of this length and priority
+abbrev pub is_free_for : ℕ → ℕ → Provided → Bool
+is_free_for len prio r = is_none r.filling && fits r.size r.prio len prio
+
+-- of the provided tokens that aren't filling and fit a message, the first provided
+abbrev pub fitting : PortState → ℕ → ℕ → Option Provided
+fitting p len prio = find (is_free_for len prio) p.provided
+
+-- a buffer holds exactly what comes before a fragment, of the fragment's message
+abbrev pub holds_before : FrameHead → Option Filling → Bool
+holds_before h None = false
+holds_before h (Some f) = nat_eq f.src h.src && nat_eq f.total h.total && nat_eq f.held h.offset
+
+-- A token takes a fragment of a port where a token for its message has begun or hasn't: a message's first fragment where
+-- none has and the token is free for the message, a later one where the token holds exactly what comes before it.
+abbrev pub takes : FrameHead → Bool → Provided → Bool
+takes h begun r =
+    if nat_eq h.offset 0 then not begun && is_free_for h.total h.prio r
+    else holds_before h r.filling && nat_eq r.prio h.prio
+
+-- the same by the port
+abbrev pub takes_at : PortState → FrameHead → Provided → Bool
+takes_at p h = takes h (has_begun p h.src h.prio)
+
+-- the token that takes a fragment: of several the one provided first
+abbrev pub taker : PortState → FrameHead → Option Provided
+taker p h = find (takes_at p h) p.provided
+
+-- some provided token takes a fragment
+abbrev pub can_take : PortState → FrameHead → Bool
+can_take p h = is_some (taker p h)

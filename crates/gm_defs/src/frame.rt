@@ -1,5 +1,21 @@
 //! What a body of type 0x0008 says.
 
+ghost use Rattle.std.specs.Prelude.{◌≡◌, ◌≤◌};
+ghost use Rattle.gm_defs.specs.Body.{message_limit, is_last};
+ghost use Rattle.gm_defs.specs.Fragment.{piece_count};
+
+/// The most bytes of a fragment.
+pub const PIECE: u32 = 1_016;
+
+/// How many fragments a message of so many bytes has: at most 65, and an empty one has one.
+pub fn piece_count(total: u32) -> u32
+    requires { total ≤ message_limit }
+    ensures exact { result ≡ piece_count total }
+    ensures few { result ≤ 65 }
+{
+    ((total + (PIECE - 1)) / PIECE).max(1)
+}
+
 /// A frame but for its bytes: one fragment of a message.
 #[derive(Clone, Copy, Debug, PartialEq, Eq)]
 pub struct FrameHead {
@@ -21,6 +37,15 @@ pub struct FrameHead {
     pub offset: u32,
     /// The length of the fragment.
     pub len: u16,
+}
+
+impl FrameHead {
+    /// Whether the fragment is the last of its message.
+    pub fn is_last(&self) -> bool
+        ensures { result ≡ is_last self.now.total self.now.offset }
+    {
+        self.total.saturating_sub(self.offset) <= PIECE
+    }
 }
 
 /// An acknowledgement: all fragments of its priority below `next` were taken.

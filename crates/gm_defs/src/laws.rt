@@ -2,7 +2,8 @@
 
 ghost use Rattle.gm_defs.specs.Laws.{FrameIsRead, AckIsRead, FrameWasWritten, AckWasWritten, StartingIsSender};
 ghost use Rattle.gm_defs.specs.Laws.{SendingStays, AcknowledgingStays, ExpiringStays, OfferingStays, SizeIsLeast};
-ghost use Rattle.gm_defs.specs.Laws.{NoSizeAbove, PiecesMakeMessage, ShortIsOnePiece};
+ghost use Rattle.gm_defs.specs.Laws.{NoSizeAbove, PiecesMakeMessage, ShortIsOnePiece, NextFragment, NoneBelowFirst};
+ghost use Rattle.gm_defs.specs.Laws.{MoreIsSent, AllBelowLast, TakenInTwoCases};
 
 /// Bytes that were written are read as what they are.
 pub fn bodies_are_read()
@@ -35,4 +36,17 @@ pub fn sizes_are_least()
 pub fn messages_of_pieces()
     ensures whole { PiecesMakeMessage }
     ensures one { ShortIsOnePiece }
+{}
+
+/// What lies below a number of a connection: messages that are whole, the beginning of the next, and nothing else.
+pub fn fragments_by_number()
+    ensures next { NextFragment }
+    ensures none { NoneBelowFirst }
+    ensures more { MoreIsSent }
+    ensures all { AllBelowLast }
+{}
+
+/// A port takes a fragment where it begins a message with a token that is free for it, or goes on with one.
+pub fn fragments_at_ports()
+    ensures { TakenInTwoCases }
 {}

@@ -26,12 +26,13 @@ mod token;
 
 pub use blob::Blob;
 pub use examples::{
-    bodies_of_frames, connections_of_bodies, numbers_of_a_connection, pieces_of_messages,
-    ports_after_calls, sizes_of_tokens,
+    bodies_of_frames, connections_of_bodies, message_in_two_fragments, numbers_of_a_connection,
+    pieces_of_messages, ports_after_calls, sizes_of_tokens,
 };
-pub use frame::{Ack, ConnectionKey, FrameHead, GmBody, Malformed};
+pub use frame::{Ack, ConnectionKey, FrameHead, GmBody, Malformed, PIECE, piece_count};
 pub use laws::{
-    bodies_are_read, bodies_were_written, messages_of_pieces, senders_stay, sizes_are_least,
+    bodies_are_read, bodies_were_written, fragments_at_ports, fragments_by_number,
+    messages_of_pieces, senders_stay, sizes_are_least,
 };
 pub use message::Message;
-pub use token::{TokenPlace, Took};
+pub use token::{Filling, TokenPlace, Took};

@@ -16,8 +16,21 @@ pub enum TokenPlace {
 pub enum Took {
     /// Its number isn't the next.
     NotNext,
-    /// No provided token fits its message.
+    /// No provided token takes it.
     NoToken,
+    /// It was taken, and its message isn't whole.
+    Part,
     /// It was taken, and its message is whole.
     Whole,
+}
+
+/// The message of which a provided token's buffer holds a part. Its priority is the token's.
+#[derive(Clone, Copy, Debug, PartialEq, Eq)]
+pub struct Filling {
+    /// The host that sends it.
+    pub src: u16,
+    /// The length of the whole message.
+    pub total: u32,
+    /// How many of its bytes the buffer holds, from the first on.
+    pub held: u32,
 }

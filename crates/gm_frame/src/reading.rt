@@ -7,11 +7,8 @@ ghost use Rattle.gm_defs.specs.Body.{is_frame, is_ack, decode};
 ghost use Rattle.gm_frame.specs.Written.{IsWritten};
 
 use crate::{ACK, ACK_LENGTH, FRAME, FRAME_LENGTH, VERSION};
-use gm_defs::{Ack, FrameHead, GmBody, Malformed, bodies_were_written};
+use gm_defs::{Ack, FrameHead, GmBody, Malformed, PIECE, bodies_were_written};
 use gm_tokens::MESSAGE_LIMIT;
-
-// The most bytes of a fragment.
-const PIECE: u32 = 1016;
 
 /// What a body says. `Malformed` exactly where it is outside the grammar.
 pub fn decode(b: &[u8]) -> Result<GmBody, Malformed>

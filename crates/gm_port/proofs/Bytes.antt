@@ -1,10 +1,12 @@
 -- What comes back in a send's buffer, and in a received one.
-use Rattle.std.proofs.Common.{◌≡◌, ℕ, Bool, true, false, ◌||◌, List, [], ◌∷◌, ◌++◌, length, map, take, drop, nat_eq, nat_lt, Some, refl, ap, ◌∙◌, true≢false, arith, length-append, length-drop}
+use Rattle.std.proofs.Common.{◌≡◌, ◌+◌, ℕ, Bool, true, false, ◌||◌, List, [], ◌∷◌, ◌++◌, length, map, take, drop, nat_eq, nat_lt, Some, refl, ap, ◌∙◌, true≢false, arith, append_assoc, length-append, length-drop}
 use Rattle.std.specs.Prelude.{find}
 use Rattle.std.proofs.lemmas.Bool.Decides.{nat_tests}
 use Rattle.gm_defs.specs.Token.{Sending, Sent, has_number}
-use Rattle.gm_defs.specs.Port.{with_send, without_first, sent_with, finished, ended_by}
-use Rattle.gm_port.specs.Laws.{BufferComesBack, MessageStandsInFront}
+use Rattle.gm_defs.specs.Port.{with_send, without_first, sent_with, finished, ended_by, filled}
+use Rattle.gm_defs.proofs.Found.{joined-front}
+use Rattle.gm_defs.proofs.Numbers.{length-take}
+use Rattle.gm_port.specs.Laws.{BufferComesBack, FragmentStandsInPlace}
 use Rattle.gm_port.proofs.Owner.{send-free}
 
 -- a send that joins others of other tokens is found by its token, and leaves them as they were
@@ -39,12 +41,19 @@ drop-front : (m rest : List ℕ) → drop (length m) (m ++ rest) ≡ rest
 drop-front [] rest = refl
 drop-front (x ∷ m) rest = drop-front m rest
 
-pub message-front : MessageStandsInFront
-message-front b m lt =
-    let all = length-append m (drop (length m) b) in
-    let rest = length-drop (length m) b in
+pub fragment-in-place : FragmentStandsInPlace
+fragment-in-place b m o lt =
+    let front : List ℕ = take o b in
+    let rest : List ℕ = drop (o + length m) b in
+    let long : o ≡ length front = let k = length-take o b in omega (arith, k, lt) in
+    let past : o + length m ≡ length (front ++ m) = let k = length-append front m in omega (arith, k, long) in
+    let at_end : filled b o m ≡ (front ++ m) ++ rest = joined-front front m rest in
+    let at_start : filled b o m ≡ front ++ (m ++ rest) = at_end ∙ append_assoc front m rest in
+    let a = length-append (front ++ m) rest in
+    let c = length-drop (o + length m) b in
     record {
-      same_length = omega (arith, all, rest, lt);
-      in_front = take-front m (drop (length m) b);
-      others = drop-front m (drop (length m) b);
+      same_length = ap length at_end ∙ omega (arith, a, c, past, lt);
+      in_place = ap (λ l. take (length m) (drop o l)) at_start ∙ ap (λ k. take (length m) (drop k (front ++ (m ++ rest)))) long ∙ ap (take (length m)) (drop-front front (m ++ rest)) ∙ take-front m rest;
+      in_front = ap (take o) at_start ∙ ap (λ k. take k (front ++ (m ++ rest))) long ∙ take-front front (m ++ rest);
+      others = ap (drop (o + length m)) at_end ∙ ap (λ k. drop k ((front ++ m) ++ rest)) past ∙ drop-front (front ++ m) rest;
     }

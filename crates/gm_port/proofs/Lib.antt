@@ -4,3 +4,5 @@ pub mod Owner
 pub mod Listed
 pub mod Ports
 pub mod Bytes
+pub mod Heads
+pub mod Filling

@@ -1,17 +1,18 @@
 -- The lists of provided tokens and of events, as contracts see them.
-use Rattle.std.proofs.Common.{◌≡◌, ℕ, zero, suc, ◌+◌, ◌<◌, Bool, true, false, ◌||◌, List, [], ◌∷◌, length, map, nat_eq, get_or, Option, Some, None, IsSome, refl, sym, ap, subst, ◌∙◌, true≢false, arith}
+use Rattle.std.proofs.Common.{◌≡◌, ℕ, zero, suc, ◌+◌, ◌<◌, Bool, true, false, ◌||◌, List, [], ◌∷◌, length, map, nat_eq, get_or, set, Option, Some, None, IsSome, refl, sym, ap, subst, ◌∙◌, true≢false, arith, if◌then◌else◌}
 use Rattle.std.specs.Prelude.{find, position, slice_get, option_map, is_some}
-use Rattle.std.specs.List.{AllByRecursion, list_any, remove, position_from}
+use Rattle.std.specs.List.{AllByRecursion, filter, list_any, remove, position_from}
 use Rattle.std.proofs.lemmas.Option.{slice_get_read}
 use Rattle.std.proofs.lemmas.Iterator.Adapters.{position_from-zero}
-use Rattle.gm_tokens.specs.Token.{Token}
-use Rattle.gm_defs.specs.Token.{Provided, has_number, sent_tokens, received_tokens, fits}
-use Rattle.gm_defs.specs.Port.{without_first}
+use Rattle.gm_tokens.specs.Token.{Token, token_at}
+use Rattle.gm_defs.specs.declared.frame.FrameHead.{FrameHead}
+use Rattle.gm_defs.specs.Token.{Provided, has_number, sent_tokens, received_tokens, is_filling_for, takes}
+use Rattle.gm_defs.specs.Port.{without_first, with_first, filling_with}
 use Rattle.gm_port.specs.declared.event.PortEvent.{PortEvent as Event}
 use Rattle.gm_port.specs.declared.event.PortEvent.TheVariants.{Sent as SentEvent, Received as ReceivedEvent}
 use Rattle.gm_port.specs.declared.event.ProvidedToken.{ProvidedToken}
-use Rattle.gm_port.specs.Held.{Buffers, provided_at, provided_of, receive_at, event_at, event_of}
-use Rattle.gm_port.specs.Lists.{AreOwnTokens, AreOwnEvents, takes, is_sent, is_received}
+use Rattle.gm_port.specs.Held.{Buffers, provided_at, provided_at_token, provided_of, receive_at, event_at, event_of}
+use Rattle.gm_port.specs.Lists.{AreOwnTokens, AreOwnEvents, taking, taking_here, filled_by, filled_in, is_sent, is_received}
 
 module _ {A : Type 0} (test : A → Bool) where
   abbrev FoundAt : List A → ℕ → ℕ → Type 0
@@ -115,45 +116,125 @@ own-list host port (r ∷ rs) own =
     let first : P r ≡ receive_at host port (provided_of r) = sym (ap P own.0) in
     cc (first, own-list host port rs own.1)
 
--- a provided token fits exactly where one is found
-abbrev fit : ℕ → ℕ → ProvidedToken → Bool
-fit len prio r = fits r.size r.prio len prio
+-- the test of a token as the port holds it
+abbrev by_begun : FrameHead → Bool → ProvidedToken → Bool
+by_begun h b r = takes h b (provided_of r)
 
-pub can-take : (len prio : ℕ) (rs : List ProvidedToken) → is_some (position (λ r. fits r.size r.prio len prio) rs) ≡ is_some (find (takes len prio) (map provided_of rs))
-can-take len prio rs =
-    ap is_some (position_from-zero (fit len prio) rs) ∙ sym (is_found (fit len prio) rs 0) ∙ is_some-map (find (fit len prio) rs) ∙ ap is_some (sym (find-map provided_of (takes len prio) rs))
+any-map : {A B : Type 0} (f : A → B) (test : B → Bool) (xs : List A) → list_any (λ x. test (f x)) xs ≡ list_any test (map f xs)
+any-map f test [] = refl
+any-map f test (x ∷ xs) = ap (λ (b : Bool). test (f x) || b) (any-map f test xs)
+
+begun-same : (h : FrameHead) (rs : List ProvidedToken) → list_any (λ x. is_filling_for h.src h.prio (provided_of x)) rs ≡ list_any (is_filling_for h.src h.prio) (map provided_of rs)
+begun-same h rs = any-map provided_of (is_filling_for h.src h.prio) rs
+
+-- a token takes a fragment exactly where one is found
+find-taking : (h : FrameHead) (rs : List ProvidedToken) → find (taking h (map provided_of rs)) (map provided_of rs) ≡ option_map provided_of (find (taking_here h rs) rs)
+find-taking h rs = find-map provided_of (taking h (map provided_of rs)) rs ∙ ap (λ (b : Bool). option_map provided_of (find (by_begun h b) rs)) (sym (begun-same h rs))
+
+pub can-take : (h : FrameHead) (rs : List ProvidedToken) → is_some (position (taking_here h rs) rs) ≡ is_some (find (taking h (map provided_of rs)) (map provided_of rs))
+can-take h rs =
+    ap is_some (position_from-zero (taking_here h rs) rs) ∙ sym (is_found (taking_here h rs) rs 0) ∙ is_some-map (find (taking_here h rs) rs) ∙ ap is_some (sym (find-taking h rs))
   where
     is_some-map : (o : Option ProvidedToken) → is_some o ≡ is_some (option_map provided_of o)
     is_some-map None = refl
     is_some-map (Some r) = refl
 
-pub none-fits : (len prio : ℕ) (rs : List ProvidedToken) → position (λ r. fits r.size r.prio len prio) rs ≡ None → IsSome (find (takes len prio) (map provided_of rs)) → ⊥
-none-fits len prio rs none some =
-    let at : position_from (fit len prio) 0 rs ≡ None = sym (position_from-zero (fit len prio) rs) ∙ none in
-    let found : find (takes len prio) (map provided_of rs) ≡ None = find-map provided_of (takes len prio) rs ∙ ap (option_map provided_of) (not-found (fit len prio) rs 0 at) in
+pub none-takes : (h : FrameHead) (rs : List ProvidedToken) → position (taking_here h rs) rs ≡ None → IsSome (find (taking h (map provided_of rs)) (map provided_of rs)) → ⊥
+none-takes h rs none some =
+    let at : position_from (taking_here h rs) 0 rs ≡ None = sym (position_from-zero (taking_here h rs) rs) ∙ none in
+    let found : find (taking h (map provided_of rs)) (map provided_of rs) ≡ None = find-taking h rs ∙ ap (option_map provided_of) (not-found (taking_here h rs) rs 0 at) in
     true≢false (sym some ∙ ap is_some found)
 
--- the first that fits is taken, and the others stay
-first-at : (len prio : ℕ) (rs : List ProvidedToken) (j : ℕ) → position (λ r. fits r.size r.prio len prio) rs ≡ Some j → (find (fit len prio) rs ≡ slice_get rs j) × (without_first (fit len prio) rs ≡ remove rs j) × (j < length rs)
-first-at len prio rs j e =
-    let at : position_from (fit len prio) 0 rs ≡ Some j = sym (position_from-zero (fit len prio) rs) ∙ e in
-    let found = found-at (fit len prio) rs 0 j at in
+-- the first that takes it is taken out, and the others stay
+first-at : (h : FrameHead) (rs : List ProvidedToken) (j : ℕ) → position (taking_here h rs) rs ≡ Some j → (find (taking_here h rs) rs ≡ slice_get rs j) × (without_first (taking_here h rs) rs ≡ remove rs j) × (j < length rs)
+first-at h rs j e =
+    let at : position_from (taking_here h rs) 0 rs ≡ Some j = sym (position_from-zero (taking_here h rs) rs) ∙ e in
+    let found = found-at (taking_here h rs) rs 0 j at in
     let same : j ≡ found.0 = omega (arith, found.1) in
     let lt : found.0 < length rs = found.4 in
     (found.2 ∙ ap (slice_get rs) (sym same), found.3 ∙ ap (remove rs) (sym same), omega arith)
 
-pub taken-first : (host port len prio : ℕ) (rs : List ProvidedToken) (j : ℕ) (r : ProvidedToken) → AreOwnTokens host port rs → position (λ r. fits r.size r.prio len prio) rs ≡ Some j → r ≡ get_or rs j r → option_map (provided_at host port) (find (takes len prio) (map provided_of rs)) ≡ Some r
-taken-first host port len prio rs j r own e value =
-    let first = first-at len prio rs j e in
+pub taken-found : (host port : ℕ) (h : FrameHead) (rs : List ProvidedToken) (j : ℕ) (r : ProvidedToken) → AreOwnTokens host port rs → position (taking_here h rs) rs ≡ Some j → r ≡ get_or rs j r → (find (taking h (map provided_of rs)) (map provided_of rs) ≡ Some (provided_of r)) × (provided_at host port (provided_of r) ≡ r)
+taken-found host port h rs j r own e value =
+    let first = first-at h rs j e in
     let at : slice_get rs j ≡ Some r = slice_get_read rs (length rs) j r refl first.2 value in
-    let mine : provided_at host port (provided_of r) ≡ r = all-at (fit len prio) (λ x. provided_at host port (provided_of x) ≡ x) rs j r own at in
-    let found : find (takes len prio) (map provided_of rs) ≡ Some (provided_of r) = find-map provided_of (takes len prio) rs ∙ ap (option_map provided_of) (first.0 ∙ at) in
-    ap (option_map (provided_at host port)) found ∙ ap (λ (x : ProvidedToken). Some x) mine
+    (find-taking h rs ∙ ap (option_map provided_of) (first.0 ∙ at), all-at (taking_here h rs) (λ x. provided_at host port (provided_of x) ≡ x) rs j r own at)
 
-pub taken-rest : (len prio : ℕ) (rs after : List ProvidedToken) (j : ℕ) → position (λ r. fits r.size r.prio len prio) rs ≡ Some j → after ≡ remove rs j → map provided_of after ≡ without_first (takes len prio) (map provided_of rs)
-taken-rest len prio rs after j e rest =
-    let first = first-at len prio rs j e in
-    ap (map provided_of) (rest ∙ sym first.1) ∙ sym (without_first-map provided_of (takes len prio) rs)
+pub taken-first : (host port : ℕ) (h : FrameHead) (rs : List ProvidedToken) (j : ℕ) (r : ProvidedToken) → AreOwnTokens host port rs → position (taking_here h rs) rs ≡ Some j → r ≡ get_or rs j r → option_map (provided_at host port) (find (taking h (map provided_of rs)) (map provided_of rs)) ≡ Some r
+taken-first host port h rs j r own e value =
+    let it = taken-found host port h rs j r own e value in
+    ap (option_map (provided_at host port)) it.0 ∙ ap (λ (x : ProvidedToken). Some x) it.1
+
+pub taken-rest : (h : FrameHead) (rs after : List ProvidedToken) (j : ℕ) → position (taking_here h rs) rs ≡ Some j → after ≡ remove rs j → map provided_of after ≡ without_first (taking h (map provided_of rs)) (map provided_of rs)
+taken-rest h rs after j e rest =
+    let first = first-at h rs j e in
+    ap (map provided_of) (rest ∙ sym first.1)
+    ∙ ap (λ (b : Bool). map provided_of (without_first (by_begun h b) rs)) (begun-same h rs)
+    ∙ sym (without_first-map provided_of (taking h (map provided_of rs)) rs)
+
+-- it is replaced in its place
+module _ {A : Type 0} (test : A → Bool) where
+  replaced-at : (xs : List A) (k j : ℕ) (y : A) → position_from test k xs ≡ Some j → (i : ℕ) × (j ≡ k + i) × (with_first test y xs ≡ set xs i y)
+  replaced-at [] k j y e = cc
+  replaced-at (x ∷ xs) k j y e = by (test x) refl (replaced-at xs (k + 1) j y)
+    where
+      by : (b : Bool) → test x ≡ b → (position_from test (k + 1) xs ≡ Some j → (i : ℕ) × (j ≡ (k + 1) + i) × (with_first test y xs ≡ set xs i y)) → (i : ℕ) × (j ≡ k + i) × (with_first test y (x ∷ xs) ≡ set (x ∷ xs) i y)
+      by true t r =
+          let g : position_from test k (x ∷ xs) ≡ Some k = rw t refl in
+          let same : k ≡ j = cc in
+          (zero, omega arith, rw t refl)
+      by false t r =
+          let g : position_from test k (x ∷ xs) ≡ position_from test (k + 1) xs = rw t refl in
+          let more = r (sym g ∙ e) in
+          (suc more.0, omega (arith, more.1), ap (λ (b : Bool). if b then y ∷ xs else x ∷ with_first test y xs) t ∙ ap (λ (ys : List A). x ∷ ys) more.2)
+
+module _ {A B : Type 0} (f : A → B) (test : B → Bool) where
+  with_first-map : (xs : List A) (y : A) → with_first test (f y) (map f xs) ≡ map f (with_first (λ x. test (f x)) y xs)
+  with_first-map [] y = refl
+  with_first-map (x ∷ xs) y = by (test (f x)) refl (with_first-map xs y)
+    where
+      by : (b : Bool) → test (f x) ≡ b → with_first test (f y) (map f xs) ≡ map f (with_first (λ z. test (f z)) y xs) → with_first test (f y) (map f (x ∷ xs)) ≡ map f (with_first (λ z. test (f z)) y (x ∷ xs))
+      by true t r = rw t refl
+      by false t r = rw t (ap (λ (ys : List B). f x ∷ ys) r)
+
+pub filled-rest : (host port : ℕ) (h : FrameHead) (part : List ℕ) (rs after : List ProvidedToken) (j : ℕ) (r y : ProvidedToken) → AreOwnTokens host port rs → position (taking_here h rs) rs ≡ Some j → r ≡ get_or rs j r → after ≡ set rs j y → provided_of y ≡ filling_with h part (provided_of r)
+    → map provided_of after ≡ filled_in h part (map provided_of rs)
+filled-rest host port h part rs after j r y own e value rest new =
+    let at : position_from (taking_here h rs) 0 rs ≡ Some j = sym (position_from-zero (taking_here h rs) rs) ∙ e in
+    let place = replaced-at (taking_here h rs) rs 0 j y at in
+    let same : j ≡ place.0 = omega (arith, place.1) in
+    let it = (taken-found host port h rs j r own e value).0 in
+    ap (map provided_of) (rest ∙ ap (λ i. set rs i y) same ∙ sym place.2)
+    ∙ ap (λ (b : Bool). map provided_of (with_first (by_begun h b) y rs)) (begun-same h rs)
+    ∙ sym (with_first-map provided_of (taking h (map provided_of rs)) rs y)
+    ∙ ap (λ (x : Provided). with_first (taking h (map provided_of rs)) x (map provided_of rs)) new
+    ∙ sym (ap (filled_by h part (map provided_of rs)) it)
+
+-- as many tokens are filling
+pub filling-counted : (rs : List ProvidedToken) → length (filter (λ r. is_some r.filling) rs) ≡ length (filter (λ r. is_some r.filling) (map provided_of rs))
+filling-counted [] = refl
+filling-counted (r ∷ rs) = by (is_some r.filling) (filling-counted rs)
+  where
+    by : (b : Bool) → length (filter (λ r. is_some r.filling) rs) ≡ length (filter (λ r. is_some r.filling) (map provided_of rs))
+        → length (if b then r ∷ filter (λ r. is_some r.filling) rs else filter (λ r. is_some r.filling) rs) ≡ length (if b then provided_of r ∷ filter (λ r. is_some r.filling) (map provided_of rs) else filter (λ r. is_some r.filling) (map provided_of rs))
+    by true e = ap suc e
+    by false e = e
+
+-- a token was put in the place of another, and the list is as before otherwise
+pub own-set : (host port : ℕ) (rs : List ProvidedToken) (i : ℕ) (r : ProvidedToken) → AreOwnTokens host port rs → provided_at host port (provided_of r) ≡ r → AreOwnTokens host port (set rs i r)
+own-set host port [] i r own e = tt
+own-set host port (x ∷ rs) zero r own e = (e, own.1)
+own-set host port (x ∷ rs) (suc i) r own e = (own.0, own-set host port rs i r own.1 e)
+
+-- a token that took a fragment is of this port as before
+pub own-filled : (host port : ℕ) (h : FrameHead) (part : List ℕ) (r y : ProvidedToken) → provided_at host port (provided_of r) ≡ r → y ≡ provided_at_token r.token (filling_with h part (provided_of r)) → provided_at host port (provided_of y) ≡ y
+own-filled host port h part r y own e =
+    let token : token_at host port r.token.number ≡ r.token = ap (λ x. x.token) own in
+    ap (λ x. provided_at host port (provided_of x)) e ∙ (λ i. provided_at_token (token i) (filling_with h part (provided_of r))) ∙ sym e
+
+-- the place of one that takes it is within the list
+pub taken-within : (h : FrameHead) (rs : List ProvidedToken) (j : ℕ) → position (taking_here h rs) rs ≡ Some j → j < length rs
+taken-within h rs j e = (first-at h rs j e).2
 
 -- what contracts see of a list of tokens, by its parts
 abbrev pub listed : (host port limit : ℕ) → List Provided → Buffers

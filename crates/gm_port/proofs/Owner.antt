@@ -10,8 +10,10 @@ use Rattle.net_defs.specs.Network.{Apart}
 use Rattle.net_defs.proofs.Distinct.{all-push, apart-push, all-insert, apart-insert}
 use Rattle.gm_defs.specs.declared.token.TokenPlace.TheVariants.{Queue, Provided as WithBuffer, Event}
 use Rattle.gm_defs.specs.declared.frame.FrameHead.{FrameHead}
-use Rattle.gm_defs.specs.Token.{Sending, Provided, PortEvent, Sent, Received, PortState, HasOneOwner, sent_tokens, received_tokens, sends_out, recvs_out, has_number, place_of_send, place_of_recv, fits, fitting}
-use Rattle.gm_defs.specs.Port.{with_send, without_first, sent_with, provided_with, send_of, finished, ended_by, filled, delivered, taken_by, polled}
+use Rattle.gm_defs.specs.Token.{Sending, Provided, PortEvent, Sent, Received, PortState, HasOneOwner, sent_tokens, received_tokens, sends_out, recvs_out, has_number, place_of_send, place_of_recv, takes_at}
+use Rattle.gm_defs.specs.Port.{with_send, without_first, with_first, sent_with, provided_with, send_of, finished, ended_by, filled, filling_with, delivered, polled}
+use Rattle.gm_defs.proofs.Found.{same-numbers}
+use Rattle.gm_defs.proofs.Takers.{Delivery, delivery}
 
 -- a number that is none of these differs from each
 numbers-new : (t : ℕ) (ts : List ℕ) → has_number ts t ≡ false → AllByRecursion (λ u. t ≢ u) ts
@@ -215,21 +217,30 @@ finished-one p t one = by (send_of p t) refl
           recvs_below = subst (λ (us : List ℕ). AllByRecursion (λ u. u < p.recvs) (old ++ us)) (sym more.1) one.recvs_below;
         }
 
--- and so does the token of a message that came
+-- and so does the token of a message that came; one that is filling stays where it is
 pub delivered-one : (p : PortState) (h : FrameHead) (part : List ℕ) → HasOneOwner p → HasOneOwner (delivered p h part)
-delivered-one p h part one = by (fitting p h.total h.prio) refl
+delivered-one p h part one = by (delivery p h part)
   where
-    by : (o : Option Provided) → fitting p h.total h.prio ≡ o → HasOneOwner (taken_by p h part o)
-    by None e = one
-    by (Some r) e =
-        let more = received_tokens-push p.events r.token (filled r.buffer part) h.src h.sport h.prio h.total in
+    by : {q : PortState} → Delivery p h part q → HasOneOwner q
+    by (Delivery.missed e) = one
+    by (Delivery.ends r e t) =
+        let buffer : List ℕ = filled r.buffer h.offset part in
+        let more = received_tokens-push p.events r.token buffer h.src h.sport h.prio h.total in
         let old : List ℕ = map (λ (x : Sending). x.token) p.queue in
-        let front : List ℕ = map (λ (x : Provided). x.token) (without_first (λ x. fits x.size x.prio h.total h.prio) p.provided) in
+        let front : List ℕ = map (λ (x : Provided). x.token) (without_first (takes_at p h) p.provided) in
         record {
           sends_once = subst (λ (us : List ℕ). Apart (old ++ us)) (sym more.0) one.sends_once;
-          recvs_once = subst (λ (us : List ℕ). Apart (front ++ us)) (sym more.1) (apart-moved (λ (x : Provided). x.token) (λ x. fits x.size x.prio h.total h.prio) p.provided (received_tokens p.events) r e one.recvs_once);
+          recvs_once = subst (λ (us : List ℕ). Apart (front ++ us)) (sym more.1) (apart-moved (λ (x : Provided). x.token) (takes_at p h) p.provided (received_tokens p.events) r e one.recvs_once);
           sends_below = subst (λ (us : List ℕ). AllByRecursion (λ u. u < p.sends) (old ++ us)) (sym more.0) one.sends_below;
-          recvs_below = subst (λ (us : List ℕ). AllByRecursion (λ u. u < p.recvs) (front ++ us)) (sym more.1) (all-moved (λ (x : Provided). x.token) (λ x. fits x.size x.prio h.total h.prio) (λ u. u < p.recvs) p.provided (received_tokens p.events) r e one.recvs_below);
+          recvs_below = subst (λ (us : List ℕ). AllByRecursion (λ u. u < p.recvs) (front ++ us)) (sym more.1) (all-moved (λ (x : Provided). x.token) (takes_at p h) (λ u. u < p.recvs) p.provided (received_tokens p.events) r e one.recvs_below);
+        }
+    by (Delivery.goes_on r e t) =
+        let same : map (λ (x : Provided). x.token) (with_first (takes_at p h) (filling_with h part r) p.provided) ≡ map (λ (x : Provided). x.token) p.provided = same-numbers (λ (x : Provided). x.token) (takes_at p h) p.provided r (filling_with h part r) e refl in
+        record {
+          sends_once = one.sends_once;
+          recvs_once = subst (λ (ts : List ℕ). Apart (ts ++ received_tokens p.events)) (sym same) one.recvs_once;
+          sends_below = one.sends_below;
+          recvs_below = subst (λ (ts : List ℕ). AllByRecursion (λ u. u < p.recvs) (ts ++ received_tokens p.events)) (sym same) one.recvs_below;
         }
 
 -- a polled event's token is the client's

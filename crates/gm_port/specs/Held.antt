@@ -32,9 +32,19 @@ pub record Events : Type 0 where
 abbrev pub send_at : ℕ → ℕ → Sending → Token × List ℕ
 send_at host port s = (token_at host port s.token, s.buffer)
 
--- a provided token with its buffer, and alone
+-- a provided token with its buffer, as the port holds it under a token
+abbrev pub provided_at_token : Token → Provided → ProvidedToken
+provided_at_token token r = record {
+  token = token;
+  buffer = r.buffer;
+  size = r.size;
+  prio = r.prio;
+  filling = r.filling;
+}
+
+-- the same by whose port it is
 abbrev pub provided_at : ℕ → ℕ → Provided → ProvidedToken
-provided_at host port r = record { token = token_at host port r.token; buffer = r.buffer; size = r.size; prio = r.prio }
+provided_at host port r = provided_at_token (token_at host port r.token) r
 
 -- a provided token with its buffer
 abbrev pub receive_at : ℕ → ℕ → Provided → Token × List ℕ
@@ -42,7 +52,13 @@ receive_at host port r = (token_at host port r.token, r.buffer)
 
 -- a provided token by its number
 abbrev pub provided_of : ProvidedToken → Provided
-provided_of r = record { token = r.token.number; size = r.size; prio = r.prio; buffer = r.buffer }
+provided_of r = record {
+  token = r.token.number;
+  size = r.size;
+  prio = r.prio;
+  filling = r.filling;
+  buffer = r.buffer;
+}
 
 -- an event with its token
 abbrev pub event_at : ℕ → ℕ → PortEvent → Event

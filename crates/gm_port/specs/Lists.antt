@@ -1,8 +1,10 @@
 -- What the lists of provided tokens and of events hold besides what contracts see.
-use Rattle.std.specs.Prelude.{◌≡◌, ℕ, ◌≤◌, Bool, false, List, [], length, nat_eq}
-use Rattle.std.specs.List.{AllByRecursion}
+use Rattle.std.specs.Prelude.{◌≡◌, ℕ, ◌≤◌, Bool, false, List, [], length, find, nat_eq, Option, Some, None}
+use Rattle.std.specs.List.{AllByRecursion, list_any}
 use Rattle.gm_tokens.specs.Token.{Token}
-use Rattle.gm_defs.specs.Token.{Provided, fits}
+use Rattle.gm_defs.specs.declared.frame.FrameHead.{FrameHead}
+use Rattle.gm_defs.specs.Token.{Provided, is_filling_for, takes}
+use Rattle.gm_defs.specs.Port.{with_first, filling_with}
 use Rattle.gm_port.specs.declared.event.PortEvent.{PortEvent as Event}
 use Rattle.gm_port.specs.declared.event.PortEvent.TheVariants.{Sent as SentEvent, Received as ReceivedEvent}
 use Rattle.gm_port.specs.declared.event.ProvidedToken.{ProvidedToken}
@@ -26,9 +28,22 @@ pub record AreBuffers (host port limit : ℕ) (provided : List ProvidedToken) (r
   pub none_listed : listed ≡ []
   pub list_roomy : limit ≤ list_room
 
--- a provided token fits a message of this length and priority
-abbrev pub takes : ℕ → ℕ → Provided → Bool
-takes len prio r = fits r.size r.prio len prio
+-- a provided token of a list takes a fragment
+abbrev pub taking : FrameHead → List Provided → Provided → Bool
+taking h rs = takes h (list_any (is_filling_for h.src h.prio) rs)
+
+-- the same of tokens as a port holds them
+abbrev pub taking_here : FrameHead → List ProvidedToken → ProvidedToken → Bool
+taking_here h rs r = takes h (list_any (λ x. is_filling_for h.src h.prio (provided_of x)) rs) (provided_of r)
+
+-- provided tokens, of which the one that takes a fragment holds it too, in its place
+abbrev pub filled_by : FrameHead → List ℕ → List Provided → Option Provided → List Provided
+filled_by h part rs None = rs
+filled_by h part rs (Some r) = with_first (taking h rs) (filling_with h part r) rs
+
+-- the provided tokens once an earlier fragment of a message came
+abbrev pub filled_in : FrameHead → List ℕ → List Provided → List Provided
+filled_in h part rs = filled_by h part rs (find (taking h rs) rs)
 
 -- an event has this send token, or this receive token
 abbrev pub is_sent : ℕ → Event → Bool

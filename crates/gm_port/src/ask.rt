@@ -38,4 +38,6 @@ pub enum CloseRefusal {
     Busy(usize),
     /// So many events wait.
     Unread(usize),
+    /// So many provided tokens hold a part of a message.
+    Filling(usize),
 }

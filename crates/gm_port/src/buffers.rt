@@ -1,14 +1,15 @@
 //! The provided tokens of a port, with their buffers.
 
-ghost use Rattle.std.specs.Prelude.{◌≡◌, ◌<◌, ◌≤◌, ◌++◌, ◌∷◌, [], length, map, find, position, nat_eq, is_some, Some};
-ghost use Rattle.std.specs.Prelude.{IsSome, IfOk, option_map, vec_capacity};
-ghost use Rattle.std.specs.List.{list_any};
-ghost use Rattle.gm_defs.specs.Token.{has_number, fits as token_fits};
-ghost use Rattle.gm_defs.specs.Port.{without_first};
-ghost use Rattle.gm_port.specs.Held.{provided_at, provided_of, receive_at};
-ghost use Rattle.gm_port.specs.Lists.{takes};
+ghost use Rattle.std.specs.Prelude.{◌≡◌, ◌<◌, ◌≤◌, ◌+◌, ◌++◌, ◌∷◌, [], length, map, find, position, nat_eq, is_some};
+ghost use Rattle.std.specs.Prelude.{Some, IsSome, IfSome, IfOk, option_map, vec_capacity};
+ghost use Rattle.std.specs.List.{list_any, filter, count_by};
+ghost use Rattle.gm_defs.specs.Token.{has_number, is_from, is_filling_for, is_free_for, takes, holds_before};
+ghost use Rattle.gm_defs.specs.Port.{without_first, filling_with};
+ghost use Rattle.gm_port.specs.Held.{provided_at, provided_at_token, provided_of, receive_at};
+ghost use Rattle.gm_port.specs.Lists.{taking, taking_here, filled_in};
 
 use crate::event::ProvidedToken;
+use gm_defs::{Filling, FrameHead};
 use gm_tokens::{RecvToken, fits};
 use reg_mem::Reg;
 use std::alloc::{AllocError, Global};
@@ -78,11 +79,18 @@ impl BufferList {
         has_token(&self.provided, number)
     }
 
-    /// Whether a token fits a message of this length and priority.
-    pub(crate) fn can_take(&self, len: u32, prio: u8) -> bool
-        ensures { result ≡ is_some (find (takes len prio) self.now.provided) }
+    /// Whether a token takes a fragment.
+    pub(crate) fn can_take(&self, h: &FrameHead) -> bool
+        ensures { result ≡ is_some (find (taking h.now self.now.provided) self.now.provided) }
     {
-        first_fitting(&self.provided, len, prio).is_some()
+        first_taking(&self.provided, h).is_some()
+    }
+
+    /// How many tokens are filling.
+    pub(crate) fn filling(&self) -> usize
+        ensures { result ≡ length (filter (λ r. is_some r.filling) self.now.provided) }
+    {
+        count_filling(&self.provided)
     }
 
     /// Takes a token in, behind the others.
@@ -94,20 +102,37 @@ impl BufferList {
         self.provided.push_back_reserved(r);
     }
 
-    /// Takes the first token out that fits a message of this length and priority.
-    pub(crate) fn take(&mut self, len: u32, prio: u8) -> ProvidedToken
-        requires { IsSome (find (takes len prio) self.old.provided) }
-        ensures taken { option_map (provided_at self.old.host self.old.port) (find (takes len prio) self.old.provided)
-            ≡ Some result }
-        ensures rest { self.new ≡ record self.old { provided = without_first (takes len prio) self.old.provided } }
+    /// Takes the token out that takes a fragment.
+    pub(crate) fn take(&mut self, h: &FrameHead) -> ProvidedToken
+        requires { IsSome (find (taking h.now self.old.provided) self.old.provided) }
+        ensures taken { option_map (provided_at self.old.host self.old.port)
+            (find (taking h.now self.old.provided) self.old.provided) ≡ Some result }
+        ensures rest { self.new ≡ record self.old {
+          provided = without_first (taking h.now self.old.provided) self.old.provided;
+        } }
     {
-        let Some(at) = first_fitting(&self.provided, len, prio) else {
+        let Some(at) = first_taking(&self.provided, h) else {
             unreachable!();
         };
         match self.provided.remove(at) {
             Some(taken) => taken,
             None => unreachable!(),
         }
+    }
+
+    /// Writes a fragment that isn't its message's last into the buffer of the token that takes it, which is filling
+    /// from then on and stays in its place.
+    pub(crate) fn fill(&mut self, h: &FrameHead, part: &[u8])
+        requires taken { IsSome (find (taking h.now self.old.provided) self.old.provided) }
+        requires room { IfSome (find (taking h.now self.old.provided) self.old.provided) (λ r.
+            h.now.offset + length part.now ≤ length r.buffer) }
+        requires within { h.now.offset + length part.now ≤ h.now.total }
+        ensures { self.new ≡ record self.old { provided = filled_in h.now part.now self.old.provided } }
+    {
+        let Some(at) = first_taking(&self.provided, h) else {
+            unreachable!();
+        };
+        fill_token(&mut self.provided[at], h, part);
     }
 
     /// All tokens with their buffers, first provided first. Takes no memory.
@@ -132,13 +157,85 @@ fn has_token(provided: &VecDeque<ProvidedToken>, number: u16) -> bool
     provided.iter().any(|r| number == r.token.number())
 }
 
-// The place of the first token that fits a message of this length and priority.
-fn first_fitting(provided: &VecDeque<ProvidedToken>, len: u32, prio: u8) -> Option<usize>
-    ensures { result ≡ position (λ r. token_fits r.size r.prio len prio) provided.now.items }
+// The place of the token that takes a fragment: of several the one provided first.
+fn first_taking(provided: &VecDeque<ProvidedToken>, h: &FrameHead) -> Option<usize>
+    ensures { result ≡ position (taking_here h.now provided.now.items) provided.now.items }
 {
-    provided
-        .iter()
-        .position(|r| fits(r.size, r.prio, len, prio))
+    let begun = has_begun(provided, h.src, h.prio);
+    provided.iter().position(|r| takes(r, h, begun))
+}
+
+// Whether a token is filling for a host and a priority.
+fn has_begun(provided: &VecDeque<ProvidedToken>, src: u16, prio: u8) -> bool
+    ensures { result ≡ list_any (λ r. is_filling_for src prio (provided_of r)) provided.now.items }
+{
+    provided.iter().any(|r| is_filling_for(r, src, prio))
+}
+
+// Whether this token is.
+fn is_filling_for(r: &ProvidedToken, src: u16, prio: u8) -> bool
+    ensures { result ≡ is_filling_for src prio (provided_of r.now) }
+{
+    is_from(&r.filling, src) && r.prio == prio
+}
+
+// Whether a token is filling with a message of a host.
+fn is_from(filling: &Option<Filling>, src: u16) -> bool
+    ensures { result ≡ is_from src filling.now }
+{
+    match filling {
+        Some(f) => f.src == src,
+        None => false,
+    }
+}
+
+// Whether a token takes a fragment, where a message of its host and priority has begun or not.
+fn takes(r: &ProvidedToken, h: &FrameHead, begun: bool) -> bool
+    ensures { result ≡ takes h.now begun (provided_of r.now) }
+{
+    if h.offset == 0 {
+        !begun && is_free_for(r, h.total, h.prio)
+    } else {
+        holds_before(&r.filling, h) && r.prio == h.prio
+    }
+}
+
+// Whether a token is free for a message: it isn't filling, and fits.
+fn is_free_for(r: &ProvidedToken, len: u32, prio: u8) -> bool
+    ensures { result ≡ is_free_for len prio (provided_of r.now) }
+{
+    r.filling.is_none() && fits(r.size, r.prio, len, prio)
+}
+
+// Whether a token holds exactly what comes before a fragment.
+fn holds_before(filling: &Option<Filling>, h: &FrameHead) -> bool
+    ensures { result ≡ holds_before h.now filling.now }
+{
+    match filling {
+        Some(f) => f.src == h.src && f.total == h.total && f.held == h.offset,
+        None => false,
+    }
+}
+
+// How many tokens are filling.
+fn count_filling(provided: &VecDeque<ProvidedToken>) -> usize
+    ensures { result ≡ count_by (λ r. is_some r.filling) provided.now.items }
+{
+    provided.iter().filter(|r| r.filling.is_some()).count()
+}
+
+// A fragment goes into the buffer of its token.
+fn fill_token(r: &mut ProvidedToken, h: &FrameHead, part: &[u8])
+    requires room { h.now.offset + length part.now ≤ length r.old.buffer }
+    requires within { h.now.offset + length part.now ≤ h.now.total }
+    ensures { r.new ≡ provided_at_token r.old.token (filling_with h.now part.now (provided_of r.old)) }
+{
+    r.buffer.fill(h.offset as usize, part);
+    r.filling = Some(Filling {
+        src: h.src,
+        total: h.total,
+        held: h.offset + part.len() as u32,
+    });
 }
 
 // Moves all tokens into a list, in their order.
@@ -156,6 +253,7 @@ fn list_provided(
             buffer,
             size: _,
             prio: _,
+            filling: _,
         } = taken;
         listed.push_reserved((token, buffer));
     }

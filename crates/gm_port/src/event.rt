@@ -1,5 +1,6 @@
 //! What a port hands out, and what it holds of a provided token.
 
+use gm_defs::Filling;
 use gm_tokens::{RecvToken, SendToken};
 use reg_mem::Reg;
 
@@ -24,16 +25,17 @@ pub enum PortEvent {
 pub struct Wreck {
     /// The sends that weren't finished, by the rising numbers of their tokens.
     pub sending: Vec<(SendToken, Reg)>,
-    /// The provided tokens, first provided first.
+    /// The provided tokens, first provided first. The buffer of one that is filling begins with what it took.
     pub provided: Vec<(RecvToken, Reg)>,
     /// The events that nobody polled, first put in first.
     pub events: Vec<PortEvent>,
 }
 
-// A provided token with its buffer.
+// A provided token with its buffer, and what it is filling with.
 pub(crate) struct ProvidedToken {
     pub(crate) token: RecvToken,
     pub(crate) buffer: Reg,
     pub(crate) size: u8,
     pub(crate) prio: u8,
+    pub(crate) filling: Option<Filling>,
 }

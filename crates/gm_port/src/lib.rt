@@ -10,6 +10,8 @@
 //!   client ----------> queue  ------------> events ----------> client
 //!              provide            deliver              poll
 //!   client ----------> provided ----------> events ----------> client
+//!                      |      ^
+//!                      '------'  deliver, before the last fragment: the token is filling
 //! ```
 //!
 //! | module | has |
@@ -34,5 +36,5 @@ mod sends;
 pub use ask::{CloseRefusal, ProvideRefusal, SendAsk, SendRefusal};
 pub use event::{PortEvent, Wreck};
 pub use gm_tokens::NoMemory;
-pub use laws::{buffers_keep_their_bytes, tokens_have_one_owner};
+pub use laws::{buffers_keep_their_bytes, tokens_fill_right, tokens_have_one_owner};
 pub use port::Port;

@@ -2,8 +2,8 @@
 
 ghost use Rattle.std.specs.Prelude.{◌≡◌, ◌<◌, length, map, find, false, true, is_some, IsSome, Some, None, IfOk};
 ghost use Rattle.std.specs.Prelude.{IfErr, OnErr, OnOk, MatchResult, option_map, slice_get};
-ghost use Rattle.gm_defs.specs.Body.{is_head};
-ghost use Rattle.gm_defs.specs.Token.{opened, HasOneOwner, place_of_send, place_of_recv, can_take};
+ghost use Rattle.gm_defs.specs.Body.{is_head, is_last};
+ghost use Rattle.gm_defs.specs.Token.{opened, HasOneOwner, AreFilling, place_of_send, place_of_recv, can_take};
 ghost use Rattle.gm_defs.specs.Port.{sent_with, provided_with, send_of, finished, delivered, next_event, polled};
 ghost use Rattle.gm_tokens.specs.Token.{token_at};
 ghost use Rattle.gm_port.specs.Held.{send_at, receive_at, event_at};
@@ -126,7 +126,7 @@ impl Port {
         ensures unchanged { OnErr result (self.new ≡ self.old) }
         ensures provided { OnOk result (self.new ≡ record self.old {
           state = provided_with self.old.state
-              (record { token = t.number; size = size; prio = prio; buffer = b });
+              (record { token = t.number; size = size; prio = prio; filling = None; buffer = b });
         }) }
         ensures one_owner { HasOneOwner self.new.state }
     {
@@ -138,6 +138,7 @@ impl Port {
                     buffer: b,
                     size,
                     prio,
+                    filling: None,
                 });
                 Ok(())
             }
@@ -162,29 +163,50 @@ impl Port {
         self.events.push(PortEvent::Sent(token, buffer));
     }
 
-    /// Whether a provided token fits a message of this length and priority.
-    pub fn can_take(&self, len: u32, prio: u8) -> bool
-        ensures { result ≡ can_take self.now.state len prio }
+    /// Whether a provided token takes a fragment: at offset 0 where no token is filling for its host and priority and one
+    /// that isn't filling fits; above it where a token is filling with its message and holds exactly what comes before.
+    pub fn can_take(&self, h: &FrameHead) -> bool
+        ensures { result ≡ can_take self.now.state h.now }
     {
-        self.buffers.can_take(len, prio)
+        self.buffers.can_take(h)
     }
 
-    /// A message came whole. Of the tokens that fit, the one provided first takes it: its buffer begins with the
-    /// message, its other bytes stay, and both go into an event.
+    /// A fragment came. A message's first goes to the token provided first of those that fit and aren't filling, a later
+    /// one to the token that is filling with its message. It stands at its offset of the buffer, whose other bytes stay.
+    /// With the last one token and buffer go into an event; before, the token is filling.
     pub fn deliver(&mut self, h: &FrameHead, part: &[u8])
-        requires taken { can_take self.old.state h.now.total h.now.prio ≡ true }
+        requires taken { can_take self.old.state h.now ≡ true }
         requires head { is_head h.now ≡ true }
         requires part { length part.now ≡ h.now.len }
         ensures delivered { self.new ≡ record self.old { state = delivered self.old.state h.now part.now } }
         ensures one_owner { HasOneOwner self.new.state }
+        ensures filling { AreFilling self.new.state }
+    {
+        if h.is_last() {
+            self.end(h, part);
+        } else {
+            self.buffers.fill(h, part);
+        }
+    }
+
+    // The last fragment of a message came: its token goes into an event.
+    fn end(&mut self, h: &FrameHead, part: &[u8])
+        requires taken { can_take self.old.state h.now ≡ true }
+        requires head { is_head h.now ≡ true }
+        requires part { length part.now ≡ h.now.len }
+        requires last { is_last h.now.total h.now.offset ≡ true }
+        ensures delivered { self.new ≡ record self.old { state = delivered self.old.state h.now part.now } }
+        ensures one_owner { HasOneOwner self.new.state }
+        ensures filling { AreFilling self.new.state }
     {
         let ProvidedToken {
             token,
             mut buffer,
             size: _,
             prio: _,
-        } = self.buffers.take(h.total, h.prio);
-        buffer.fill(0, part);
+            filling: _,
+        } = self.buffers.take(h);
+        buffer.fill(h.offset as usize, part);
         self.events.push(PortEvent::Received {
             token,
             buffer,
@@ -205,19 +227,16 @@ impl Port {
     }
 
     /// Closes the port, and hands each provided token back with its buffer, first provided first. A refusal hands the
-    /// port back: Busy where sends aren't finished, then Unread where events wait.
+    /// port back: Busy where sends aren't finished, then Unread where events wait, then Filling where provided tokens
+    /// hold a part of a message.
     pub fn close(self) -> Result<Vec<(RecvToken, Reg)>, (Port, CloseRefusal)>
         ensures refused { MatchResult result (λ _. close_refusal self.state ≡ None) (λ e.
             close_refusal self.state ≡ Some e.1) }
         ensures handed_back { IfErr result (λ e. e.0 ≡ self) }
         ensures provided { IfOk result (λ v. v.items ≡ map (receive_at self.host self.port) self.state.provided) }
     {
-        let (unfinished, unread) = (self.sends.len(), self.events.len());
-        if unfinished > 0 {
-            return Err((self, CloseRefusal::Busy(unfinished)));
-        }
-        if unread > 0 {
-            return Err((self, CloseRefusal::Unread(unread)));
+        if let Some(refusal) = self.refuse_close() {
+            return Err((self, refusal));
         }
         let Port {
             sends,
@@ -229,7 +248,28 @@ impl Port {
         Ok(buffers.into_list())
     }
 
-    /// Ends the port, whatever it holds, and hands all of it back.
+    // Why the port is not closed.
+    fn refuse_close(&self) -> Option<CloseRefusal>
+        ensures { result ≡ close_refusal self.now.state }
+    {
+        let (unfinished, unread, filling) = (
+            self.sends.len(),
+            self.events.len(),
+            self.buffers.filling(),
+        );
+        if unfinished > 0 {
+            Some(CloseRefusal::Busy(unfinished))
+        } else if unread > 0 {
+            Some(CloseRefusal::Unread(unread))
+        } else if filling > 0 {
+            Some(CloseRefusal::Filling(filling))
+        } else {
+            None
+        }
+    }
+
+    /// Ends the port, whatever it holds, and hands all of it back. The buffer of a token that is filling begins with what
+    /// it took, and its other bytes are as they were provided.
     pub fn abandon(self) -> Wreck
         ensures sending { result.sending.items ≡ map (send_at self.host self.port) self.state.queue }
         ensures provided { result.provided.items ≡ map (receive_at self.host self.port) self.state.provided }
@@ -247,10 +287,12 @@ impl Port {
         }
     }
 
-    /// The place of a send token or of a receive token, by its number. None where the client has it.
+    /// The place of a send token or of a receive token, by its number. None where the client has it. A token that is
+    /// filling is provided.
     pub fn place(&self, send: bool, number: u16) -> Option<TokenPlace>
         ensures place { result ≡ place_of self.now.state send number }
         ensures one_owner { HasOneOwner self.now.state }
+        ensures filling { AreFilling self.now.state }
     {
         if send {
             self.place_of_send(number)
@@ -262,6 +304,7 @@ impl Port {
     fn place_of_send(&self, number: u16) -> Option<TokenPlace>
         ensures place { result ≡ place_of_send self.now.state number }
         ensures one_owner { HasOneOwner self.now.state }
+        ensures filling { AreFilling self.now.state }
     {
         if self.sends.has(number) {
             Some(TokenPlace::Queue)
@@ -275,6 +318,7 @@ impl Port {
     fn place_of_recv(&self, number: u16) -> Option<TokenPlace>
         ensures place { result ≡ place_of_recv self.now.state number }
         ensures one_owner { HasOneOwner self.now.state }
+        ensures filling { AreFilling self.now.state }
     {
         if self.buffers.has(number) {
             Some(TokenPlace::Provided)

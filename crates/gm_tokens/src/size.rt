@@ -5,7 +5,7 @@ ghost use Rattle.gm_defs.specs.Token.{size_for_length as least_size, fits as tok
 ghost use Rattle.gm_defs.specs.Port.{is_too_long};
 
 /// The most bytes of a message.
-pub const MESSAGE_LIMIT: u32 = 1_016;
+pub const MESSAGE_LIMIT: u32 = 65_528;
 
 /// Whether a message of this length has more bytes than a message may.
 pub fn is_too_long(len: u32) -> bool

@@ -1,5 +1,5 @@
--- What a host's connections with a peer come to where each message is one piece.
-use Rattle.std.proofs.Common.{◌≡◌, ◌<◌, ◌≤◌, ◌+◌, ◌-◌, ℕ, suc, Bool, true, false, ◌&&◌, nat_eq, nat_lt, nat_le, max, List, [], ◌∷◌, ◌++◌, length, drop, get_or, Option, Some, None, option_map, refl, sym, ap, ◌∙◌, subst, arith, length-append, map, if◌then◌else◌}
+-- What a host's connections with a peer come to: which message is due, and which are finished.
+use Rattle.std.proofs.Common.{◌≡◌, ◌<◌, ◌≤◌, ◌+◌, ◌-◌, ℕ, zero, suc, Bool, true, false, ◌&&◌, nat_eq, nat_lt, nat_le, min, max, List, [], ◌∷◌, ◌++◌, length, take, drop, get_or, Option, Some, None, option_map, refl, sym, ap, ◌∙◌, subst, arith, length-append, map, if◌then◌else◌}
 use Rattle.std.specs.Prelude.{slice_get, option_and_then}
 use Rattle.std.proofs.lemmas.Bool.Decides.{nat_tests}
 use Rattle.std.proofs.lemmas.List.{drop-append-le, drop-drop, drop-map, length-drop, map_push}
@@ -7,115 +7,145 @@ use Rattle.std.proofs.lemmas.Option.{same_Some, none-some, slice_get-get_or, sli
 use Rattle.net_defs.proofs.Distinct.{all-push}
 use Rattle.gm_defs.specs.declared.message.Message.{Message}
 use Rattle.gm_defs.specs.Body.{piece, message_limit, is_prio}
-use Rattle.gm_defs.specs.Fragment.{piece_count, whole_below, head_of, frame_of}
-use Rattle.gm_defs.specs.Connection.{SenderState, due, is_taken, acknowledged, unacknowledged}
+use Rattle.gm_defs.specs.Fragment.{Fragment, fragments, piece_count, whole_below, head_of, frame_of}
+use Rattle.gm_defs.specs.Connection.{SenderState, due, is_taken, acknowledged}
+use Rattle.gm_defs.specs.Laws.{ComesNext}
 use Rattle.gm_defs.proofs.Choices.{both}
+use Rattle.gm_defs.proofs.Numbers.{length-fragments, fragments-append, next-fragment, part-of, take-there, offset-within}
 use Rattle.gm_conn.specs.declared.desc.Desc.{Desc}
 use Rattle.gm_conn.specs.declared.desc.Due.{Due}
-use Rattle.gm_conn.specs.Halves.{Outgoing, Incoming, IsOutgoing, WaitsFor, AreOf, Describes, is_desc, due_at, due_frame, finished, without_finished}
-use Rattle.gm_conn.proofs.Messages.{IsShort, within, whole_of, one_piece, whole_below-short, fragment-short}
+use Rattle.gm_conn.specs.Halves.{Outgoing, Incoming, IsOutgoing, WaitsFor, AreOf, Describes, is_desc, first, place_below, due_at, due_frame, finished, heard_ack, without_finished}
+use Rattle.gm_conn.proofs.Messages.{within}
 use Rattle.gm_conn.proofs.Connections.{due-some}
-use Rattle.gm_conn.proofs.Waiting.{base-below, is-finished}
-use Rattle.gm_conn.proofs.Sent.{of-push, of-drop, due-of-message}
+use Rattle.gm_conn.proofs.Finished.{heard-finished, heard-none, finished-less, finished-pushed}
+use Rattle.gm_conn.proofs.Sent.{of-push, of-drop, of-count, waits-last, below-waiting, due-of-message}
 use Rattle.world_defs.specs.Lane.{Ticket}
 use Rattle.host_lanes.specs.Lane.{other_way, IsLane}
 
--- as many are whole below a number as it says, up to their number
-whole-is : (ms : List Message) (n : ℕ) → IsShort ms → n ≤ length ms → whole_below ms n ≡ n
-whole-is ms n short h = let all = whole_below-short ms n short in omega (arith, all)
+-- ---- what is finished
 
-taken-within : (s : SenderState) (n : ℕ) → is_taken s n ≡ true → n ≤ s.top
-taken-within s n e = let b = both (nat_lt s.base n) (nat_le n s.top) e in let t = b.1 in grind (arith, nat_tests)
+taken-above : (s : SenderState) (n : ℕ) → is_taken s n ≡ true → s.base < n
+taken-above s n e = let b = (both (nat_lt s.base n) (nat_le n s.top) e).0 in grind (arith, nat_tests)
 
--- how many messages an acknowledgement finishes
-pub finished-is : (w : Outgoing) (ms : List Message) (n : ℕ) → IsOutgoing w → length ms ≡ w.numbers.next → IsShort ms
-    → whole_below ms (acknowledged w.numbers n).base - whole_below ms w.numbers.base ≡ (if is_taken w.numbers n then n - w.numbers.base else 0)
-finished-is w ms n kept numbered short = by (is_taken w.numbers n) refl
+-- an acknowledgement finishes as many of all messages as of those that wait
+pub finished-lane : (w : Outgoing) (ms : List Message) (n answer : ℕ) → IsOutgoing w → WaitsFor w ms → length (fragments ms) ≡ w.numbers.next → answer + finished w ≡ finished (heard_ack w n)
+    → answer ≡ whole_below ms (acknowledged w.numbers n).base - whole_below ms w.numbers.base
+finished-lane w ms n answer kept waits numbered is = by (is_taken w.numbers n) refl
   where
-    by : (t : Bool) → is_taken w.numbers n ≡ t
-        → whole_below ms (if t then record w.numbers { base = n; cursor = max w.numbers.cursor n } else w.numbers).base - whole_below ms w.numbers.base ≡ (if t then n - w.numbers.base else 0)
-    by true e =
-        let u = kept.sender.top_below in
-        let t = taken-within w.numbers n e in
-        let b = base-below w kept in
-        let new = whole-is ms n short (omega arith) in
-        let old = whole-is ms w.numbers.base short (omega arith) in
-        omega (arith, new, old)
-    by false e = omega arith
+    low : first w ≤ w.numbers.base
+    low = kept.waits
 
-pub finished-taken : (w : Outgoing) (ms : List Message) (n : ℕ) → IsOutgoing w → length ms ≡ w.numbers.next → IsShort ms → is_taken w.numbers n ≡ true
-    → whole_below ms (acknowledged w.numbers n).base - whole_below ms w.numbers.base ≡ n - w.numbers.base
-finished-taken w ms n kept numbered short e = finished-is w ms n kept numbered short ∙ ap (λ t. if t then n - w.numbers.base else 0) e
+    old : whole_below ms w.numbers.base ≡ length ms - length w.waiting + finished w
+    old = below-waiting w ms w.numbers.base kept waits numbered low
+
+    by : (t : Bool) → is_taken w.numbers n ≡ t → answer ≡ whole_below ms (if t then record w.numbers { base = n; cursor = max w.numbers.cursor n } else w.numbers).base - whole_below ms w.numbers.base
+    by true e =
+        let up = taken-above w.numbers n e in
+        let l = low in
+        let new : whole_below ms n ≡ length ms - length w.waiting + place_below w n = below-waiting w ms n kept waits numbered (omega (arith, up, l)) in
+        let all = heard-finished w n e in
+        let o = old in
+        omega (arith, is, new, o, all)
+    by false e = let none = heard-none w n e in omega (arith, is, none)
+
+-- ---- what is due
 
 -- What is due, beside its message.
 pub record IsDueOf (w : Outgoing) (ms : List Message) (d : Due) : Type 0 where
-  pub message : Message
-  pub there : slice_get ms d.head.seq ≡ Some message
-  pub frame : option_and_then (λ seq. frame_of w.key ms seq) (due w.numbers) ≡ Some (d.head, message.body)
-  pub total : length message.body ≡ d.head.len
+  pub fragment : Fragment
+  pub there : slice_get ms (length ms - (length w.waiting - place_below w d.head.seq)) ≡ Some fragment.message
+  pub low : first w ≤ d.head.seq
+  pub part : fragment.part ≡ take d.head.len (drop d.head.offset fragment.message.body)
+  pub inside : d.head.offset + d.head.len ≤ length fragment.message.body
+  pub long : length fragment.part ≡ d.head.len
+  pub frame : option_and_then (λ seq. frame_of w.key ms seq) (due w.numbers) ≡ Some (d.head, fragment.part)
 
-due-at-number : (w : Outgoing) (ms : List Message) (n : ℕ) → IsOutgoing w → length ms ≡ w.numbers.next → due w.numbers ≡ Some n → (m : Message) × (slice_get ms n ≡ Some m)
-due-at-number w ms n kept numbered e =
+due-at-number : (w : Outgoing) (ms : List Message) (n : ℕ) → length (fragments ms) ≡ w.numbers.next → due w.numbers ≡ Some n → (f : Fragment) × (slice_get (fragments ms) n ≡ Some f)
+due-at-number w ms n numbered e =
     let d = due-some w.numbers n e in
     let a = d.number in
     let b = d.offered_already in
-    within ms n (omega arith)
+    within (fragments ms) n (omega (arith, a, b, numbered))
 
-pub due-is : (w : Outgoing) (ms : List Message) (d : Due) → IsOutgoing w → length ms ≡ w.numbers.next → IsShort ms → WaitsFor w ms → Some d ≡ due_frame w → IsDueOf w ms d
-due-is w ms d kept numbered short waits e = by (due w.numbers) refl
+-- the bytes of a fragment, as its head says them
+part-by-head : (ms : List Message) (n : ℕ) (f : Fragment) → slice_get (fragments ms) n ≡ Some f → f.part ≡ take (length f.part) (drop f.offset f.message.body)
+part-by-head ms n f e =
+    let c : ComesNext ms n f = next-fragment ms n f e in
+    let is = part-of ms n f e in
+    let left = length-drop f.offset f.message.body in
+    let long : length f.part ≡ min piece (length (drop f.offset f.message.body)) = c.long ∙ ap (min piece) (sym left) in
+    is ∙ sym (take-there piece (drop f.offset f.message.body)) ∙ ap (λ k. take k (drop f.offset f.message.body)) (sym long)
+
+pub due-is : (w : Outgoing) (ms : List Message) (d : Due) → IsOutgoing w → length (fragments ms) ≡ w.numbers.next → WaitsFor w ms → Some d ≡ due_frame w → IsDueOf w ms d
+due-is w ms d kept numbered waits e = by (due w.numbers) refl
   where
     by : (o : Option ℕ) → due w.numbers ≡ o → IsDueOf w ms d
     by None none = absurd (none-some d (sym (e ∙ ap (option_and_then (due_at w)) none)))
     by (Some n) some =
-        let m = due-at-number w ms n kept numbered some in
-        let of = due-of-message w ms n m.0 kept waits some m.1 in
-        let same : d ≡ record { head = head_of w.key n (whole_of m.0); ticket = of.0 } = same_Some d (record { head = head_of w.key n (whole_of m.0); ticket = of.0 }) (e ∙ of.1) in
-        let fragment = fragment-short ms n m.0 short m.1 in
-        let stated : option_and_then (λ seq. frame_of w.key ms seq) (due w.numbers) ≡ Some (head_of w.key n (whole_of m.0), m.0.body) =
-        ap (option_and_then (λ seq. frame_of w.key ms seq)) some ∙ ap (option_map (λ f. (head_of w.key n f, f.part))) fragment in
+        let f = due-at-number w ms n numbered some in
+        let of = due-of-message w ms n f.0 kept waits numbered some f.1 in
+        let same : d ≡ record { head = head_of w.key n f.0; ticket = of.0.ticket } = same_Some d (record { head = head_of w.key n f.0; ticket = of.0.ticket }) (e ∙ of.2) in
+        let c : ComesNext ms n f.0 = next-fragment ms n f.0 f.1 in
+        let number = (due-some w.numbers n some).number in
+        let up = kept.sender.base_below in
+        let below = kept.waits in
+        let low : first w ≤ n = omega (arith, number, up, below) in
+        let l = waits-last w ms kept waits numbered in
+        let few = l.few in
+        let place : whole_below ms n ≡ length ms - length w.waiting + place_below w n = below-waiting w ms n kept waits numbered low in
+        let here = slice_get_within ms (whole_below ms n) f.0.message c.there in
+        let at : length ms - (length w.waiting - place_below w n) ≡ whole_below ms n = omega (arith, place, few, here) in
+        let within_message = offset-within (length f.0.message.body) f.0.offset c.begins in
+        let long = c.long in
+        let end : f.0.offset + length f.0.part ≤ length f.0.message.body = omega (arith, within_message, long) in
+        let frame : option_and_then (λ seq. frame_of w.key ms seq) (due w.numbers) ≡ Some (head_of w.key n f.0, f.0.part) =
+        ap (option_and_then (λ seq. frame_of w.key ms seq)) some ∙ ap (option_map (λ g. (head_of w.key n g, g.part))) f.1 in
         record {
-          message = m.0;
-          there = ap (λ x. slice_get ms x.head.seq) same ∙ m.1;
-          frame = stated ∙ ap (λ x. Some (x.head, m.0.body)) (sym same);
-          total = ap (λ x. x.head.len) (sym same);
+          fragment = f.0;
+          there = ap (λ x. slice_get ms (length ms - (length w.waiting - place_below w x.head.seq))) same ∙ ap (slice_get ms) at ∙ c.there;
+          low = subst (λ x. first w ≤ x.head.seq) (sym same) low;
+          part = part-by-head ms n f.0 f.1 ∙ ap (λ x. take x.head.len (drop x.head.offset f.0.message.body)) (sym same);
+          inside = subst (λ x. x.head.offset + x.head.len ≤ length f.0.message.body) (sym same) end;
+          long = ap (λ x. x.head.len) (sym same);
+          frame = frame ∙ ap (λ x. Some (x.head, f.0.part)) (sym same);
         }
 
-pub none-is : (w : Outgoing) (ms : List Message) → IsOutgoing w → length ms ≡ w.numbers.next → IsShort ms → WaitsFor w ms → None ≡ due_frame w
+pub none-is : (w : Outgoing) (ms : List Message) → IsOutgoing w → length (fragments ms) ≡ w.numbers.next → WaitsFor w ms → None ≡ due_frame w
     → option_and_then (λ seq. frame_of w.key ms seq) (due w.numbers) ≡ None
-none-is w ms kept numbered short waits e = by (due w.numbers) refl
+none-is w ms kept numbered waits e = by (due w.numbers) refl
   where
     by : (o : Option ℕ) → due w.numbers ≡ o → option_and_then (λ seq. frame_of w.key ms seq) (due w.numbers) ≡ None
     by None none = ap (option_and_then (λ seq. frame_of w.key ms seq)) none
     by (Some n) some =
-        let m = due-at-number w ms n kept numbered some in
-        let of = due-of-message w ms n m.0 kept waits some m.1 in
-        absurd (none-some (record { head = head_of w.key n (whole_of m.0); ticket = of.0 }) (e ∙ of.1))
+        let f = due-at-number w ms n numbered some in
+        let of = due-of-message w ms n f.0 kept waits numbered some f.1 in
+        absurd (none-some (record { head = head_of w.key n f.0; ticket = of.0.ticket }) (e ∙ of.2))
 
 -- an element that was read is the one at its place
 pub read-is : (ms : List Message) (k : ℕ) (m x : Message) → slice_get ms k ≡ Some m → x ≡ get_or ms k x → x ≡ m
 read-is ms k m x e same = same ∙ same_Some (get_or ms k x) m (sym (slice_get-get_or ms k x (slice_get_within ms k m e)) ∙ e)
 
--- a message is accepted
-pub accepted-is : (v w : Outgoing) (r : Incoming) (ms : List Message) (ts : List Ticket) (d : Desc) (m : Message) (t : Ticket) → IsOutgoing v → IsLane v r ms ts → Describes d m → d.ticket ≡ t.token → length m.body ≤ piece
+-- ---- a message is accepted
+pub accepted-is : (v w : Outgoing) (r : Incoming) (ms : List Message) (ts : List Ticket) (d : Desc) (m : Message) (t : Ticket) → IsOutgoing v → IsLane v r ms ts → Describes d m → d.ticket ≡ t.token → length m.body ≤ message_limit
     → w.key ≡ v.key → w.numbers.base ≡ v.numbers.base → w.numbers.next ≡ v.numbers.next + piece_count d.total → w.waiting ≡ v.waiting ++ d ∷ [] → IsLane w r (ms ++ m ∷ []) (ts ++ t ∷ [])
 accepted-is v w r ms ts d m t kept peer of token small key base next waiting =
-    let total = of.total in
-    let one : piece_count d.total ≡ 1 = one_piece d.total (omega arith) in
-    let counted = kept.counted in
+    let total : piece_count d.total ≡ piece_count (length m.body) = ap piece_count of.total in
     let numbered = peer.numbered in
-    let unacked = peer.unacknowledged in
     let longer : length (ms ++ m ∷ []) ≡ length ms + 1 = length-append ms (m ∷ []) in
+    let fragments_more : length (fragments (ms ++ m ∷ [])) ≡ length (fragments ms) + length (fragments (m ∷ [])) = ap length (fragments-append ms (m ∷ [])) ∙ length-append (fragments ms) (fragments (m ∷ [])) in
+    let alone : length (fragments (m ∷ [])) ≡ piece_count (length m.body) + 0 = length-fragments m [] in
     let more : length w.waiting ≡ length v.waiting + 1 = ap length waiting ∙ length-append v.waiting (d ∷ []) in
-    let k = v.numbers.next - length v.waiting in
-    let at : w.numbers.next - length w.waiting ≡ k = omega (arith, one, next, more) in
-    let split : drop (w.numbers.next - length w.waiting) (ms ++ m ∷ []) ≡ drop k ms ++ m ∷ [] = ap (λ n. drop n (ms ++ m ∷ [])) at ∙ drop-append-le k ms (m ∷ []) (omega arith) in
+    let k = length ms - length v.waiting in
+    let few = (waits-last v ms kept peer.waits peer.numbered).few in
+    let at : length (ms ++ m ∷ []) - length w.waiting ≡ k = omega (arith, longer, more, few) in
+    let split : drop (length (ms ++ m ∷ []) - length w.waiting) (ms ++ m ∷ []) ≡ drop k ms ++ m ∷ [] = ap (λ n. drop n (ms ++ m ∷ [])) at ∙ drop-append-le k ms (m ∷ []) (omega arith) in
     let all : AreOf (v.waiting ++ d ∷ []) (drop k ms ++ m ∷ []) = of-push v.waiting (drop k ms) d m peer.waits of in
     let waits : AreOf w.waiting (drop k ms ++ m ∷ []) = subst (λ ds. AreOf ds (drop k ms ++ m ∷ [])) (sym waiting) all in
     record {
-      numbered = omega (arith, longer, next, one, numbered);
-      short = all-push (λ x. length x.body ≤ piece) ms m peer.short small;
+      numbered = omega (arith, fragments_more, alone, next, total, numbered);
+      short = all-push (λ x. length x.body ≤ message_limit) ms m peer.short small;
       waits = subst (λ xs. AreOf w.waiting xs) (sym split) waits;
-      unacknowledged = omega (arith, unacked, more, next, one, base);
+      unfinished = finished-pushed v w d kept base next waiting ∙ peer.unfinished;
       tickets = ap (map (λ x. x.ticket)) waiting ∙ map_push (λ x. x.ticket) v.waiting d ∙ ap (λ xs. xs ++ d.ticket ∷ []) peer.tickets
           ∙ ap (λ n. map (λ x. x.token) ts ++ n ∷ []) token ∙ sym (map_push (λ x. x.token) ts t);
       way_back = peer.way_back ∙ ap other_way (sym key);
@@ -135,21 +165,23 @@ described v w d e a b p q t =
 pub roomier-lane : (v w : Outgoing) (r : Incoming) (ms : List Message) (ts : List Ticket) → w ≡ record v { spare = w.spare } → IsLane v r ms ts → IsLane w r ms ts
 roomier-lane v w r ms ts e peer =
     subst (λ x. IsLane x r ms ts) (sym e)
-    (record { numbered = peer.numbered; short = peer.short; waits = peer.waits; unacknowledged = peer.unacknowledged; tickets = peer.tickets; way_back = peer.way_back })
+    (record { numbered = peer.numbered; short = peer.short; waits = peer.waits; unfinished = peer.unfinished; tickets = peer.tickets; way_back = peer.way_back })
 
 -- the oldest finished descriptor is taken out
-fewer-waits : (ds : List Desc) (ms : List Message) (next : ℕ) → length ds ≤ next → AreOf ds (drop (next - length ds) ms) → AreOf (drop 1 ds) (drop (next - length (drop 1 ds)) ms)
-fewer-waits [] ms next h all = all
-fewer-waits (d ∷ ds) ms next h all =
-    let at : next - length ds ≡ next - suc (length ds) + 1 = omega arith in
-    let eq : drop (next - length ds) ms ≡ drop 1 (drop (next - suc (length ds)) ms) = ap (λ n. drop n ms) at ∙ sym (drop-drop 1 (next - suc (length ds)) ms) in
-    subst (λ xs. AreOf ds xs) (sym eq) (of-drop (d ∷ ds) (drop (next - suc (length ds)) ms) all)
+fewer-waits : (ds : List Desc) (ms : List Message) → AreOf ds (drop (length ms - length ds) ms) → AreOf (drop 1 ds) (drop (length ms - length (drop 1 ds)) ms)
+fewer-waits [] ms all = all
+fewer-waits (d ∷ ds) ms all =
+    let count = of-count (d ∷ ds) (drop (length ms - suc (length ds)) ms) all in
+    let left = length-drop (length ms - suc (length ds)) ms in
+    let at : length ms - length ds ≡ length ms - suc (length ds) + 1 = omega (arith, count, left) in
+    let eq : drop (length ms - length ds) ms ≡ drop 1 (drop (length ms - suc (length ds)) ms) = ap (λ n. drop n ms) at ∙ sym (drop-drop 1 (length ms - suc (length ds)) ms) in
+    subst (λ xs. AreOf ds xs) (sym eq) (of-drop (d ∷ ds) (drop (length ms - suc (length ds)) ms) all)
 
-pub without-waits : (w : Outgoing) (ms : List Message) → IsOutgoing w → WaitsFor w ms → WaitsFor (without_finished w) ms
-without-waits w ms kept waits = by (nat_lt 0 (finished w))
+pub without-waits : (w : Outgoing) (ms : List Message) → WaitsFor w ms → WaitsFor (without_finished w) ms
+without-waits w ms waits = by (nat_lt 0 (finished w))
   where
     by : (t : Bool) → WaitsFor (if t then record w { waiting = drop 1 w.waiting; spare = w.spare + 1 } else w) ms
-    by true = fewer-waits w.waiting ms w.numbers.next kept.counted waits
+    by true = fewer-waits w.waiting ms waits
     by false = waits
 
 -- a sender's other fields stay
@@ -183,91 +215,49 @@ pub record SameBut (k : ℕ) (v w : Outgoing) : Type 0 where
   pub key : w.key ≡ v.key
   pub numbers : w.numbers ≡ v.numbers
   pub fewer : w.waiting ≡ drop k v.waiting
+  pub left : finished w + k ≡ finished v
   pub waits : (ms : List Message) → WaitsFor v ms → WaitsFor w ms
 
 pub same-at-first : (v : Outgoing) → SameBut 0 v v
-same-at-first v = record { key = refl; numbers = refl; fewer = refl; waits = λ ms h. h }
+same-at-first v = record { key = refl; numbers = refl; fewer = refl; left = omega arith; waits = λ ms h. h }
 
--- while more descriptors wait than aren't acknowledged, the oldest is finished
-more-finished : (k n : ℕ) (v w : Outgoing) → SameBut k v w → IsOutgoing w → k < n → n + unacknowledged v.numbers ≤ length v.waiting → nat_lt 0 (finished w) ≡ true
-more-finished k n v w same kept h enough =
-    let left : length w.waiting ≡ length v.waiting - k = ap length same.fewer ∙ length-drop k v.waiting in
-    let base : w.numbers.base ≡ v.numbers.base = ap (λ s. s.base) same.numbers in
-    let next : w.numbers.next ≡ v.numbers.next = ap (λ s. s.next) same.numbers in
-    let below = base-below w kept in
-    let counted = kept.counted in
-    is-finished w w refl kept (omega (arith, left, base, next))
-
-pub same-without : (k n : ℕ) (v w u : Outgoing) → SameBut k v w → IsOutgoing w → k < n → n + unacknowledged v.numbers ≤ length v.waiting → u ≡ without_finished w → SameBut (k + 1) v u
-same-without k n v w u same kept h enough e = record {
-  key = ap (λ x. x.key) e ∙ without-key w ∙ same.key;
-  numbers = ap (λ x. x.numbers) e ∙ without-numbers w ∙ same.numbers;
-  fewer = ap (λ x. x.waiting) e ∙ without-waiting w (more-finished k n v w same kept h enough) ∙ ap (drop 1) same.fewer ∙ drop-drop 1 k v.waiting;
-  waits = λ ms h. subst (λ x. WaitsFor x ms) (sym e) (without-waits w ms kept (same.waits ms h));
-}
-
--- an acknowledgement moves the base by the messages that it finishes, up to the next number
-taken-above : (s : SenderState) (n : ℕ) → is_taken s n ≡ true → s.base < n
-taken-above s n e = let b = both (nat_lt s.base n) (nat_le n s.top) e in let t = b.0 in grind (arith, nat_tests)
-
-moved : (w : Outgoing) (n : ℕ) → IsOutgoing w → (b : Bool) → is_taken w.numbers n ≡ b
-    → ((if b then record w.numbers { base = n; cursor = max w.numbers.cursor n } else w.numbers).base ≡ w.numbers.base + (if b then n - w.numbers.base else 0))
-    × ((if b then record w.numbers { base = n; cursor = max w.numbers.cursor n } else w.numbers).base ≤ w.numbers.next)
-moved w n kept true e =
-    let u = kept.sender.top_below in
-    let t = taken-within w.numbers n e in
-    let a = taken-above w.numbers n e in
-    (omega arith, omega arith)
-moved w n kept false e = let b = base-below w kept in (omega arith, b)
-
--- What is known of a lane's sender whose acknowledgement was heard, where it finished so many messages.
-record IsHeard (v w : Outgoing) (k : ℕ) : Type 0 where
-  pub base : w.numbers.base ≡ v.numbers.base + k
-  pub within : w.numbers.base ≤ v.numbers.next
-  pub next : w.numbers.next ≡ v.numbers.next
-  pub waiting : w.waiting ≡ v.waiting
-
-heard : (v w : Outgoing) (ms : List Message) (n k : ℕ) → IsOutgoing v → length ms ≡ v.numbers.next → IsShort ms → w ≡ record v { numbers = acknowledged v.numbers n }
-    → k ≡ whole_below ms (acknowledged v.numbers n).base - whole_below ms v.numbers.base → IsHeard v w k
-heard v w ms n k kept numbered short e is =
-    let m = moved v n kept (is_taken v.numbers n) refl in
-    let base : w.numbers.base ≡ (acknowledged v.numbers n).base = ap (λ x. x.numbers.base) e in
+pub same-without : (k n : ℕ) (v w u : Outgoing) → SameBut k v w → IsOutgoing w → k < n → n ≤ finished v → u ≡ without_finished w → SameBut (k + 1) v u
+same-without k n v w u same kept h enough e =
+    let left = same.left in
+    let up : 0 < finished w = omega (arith, left, h, enough) in
+    let some : nat_lt 0 (finished w) ≡ true = grind (arith, nat_tests) in
+    let less : finished (without_finished w) + 1 ≡ finished w = finished-less w kept some in
+    let gone : finished u ≡ finished (without_finished w) = ap finished e in
     record {
-      base = base ∙ m.0 ∙ ap (λ i. v.numbers.base + i) (sym (is ∙ finished-is v ms n kept numbered short));
-      within = let h = m.1 in omega (arith, base, h);
-      next = ap (λ x. x.numbers.next) e ∙ next-stays v.numbers n;
-      waiting = ap (λ x. x.waiting) e;
+      key = ap (λ x. x.key) e ∙ without-key w ∙ same.key;
+      numbers = ap (λ x. x.numbers) e ∙ without-numbers w ∙ same.numbers;
+      fewer = ap (λ x. x.waiting) e ∙ without-waiting w some ∙ ap (drop 1) same.fewer ∙ drop-drop 1 k v.waiting;
+      left = omega (arith, left, less, gone);
+      waits = λ ms h. subst (λ x. WaitsFor x ms) (sym e) (without-waits w ms (same.waits ms h));
     }
 
--- as many descriptors as it finished are to be taken out
-pub heard-enough : (v w : Outgoing) (r : Incoming) (ms : List Message) (ts : List Ticket) (n k : ℕ) → IsOutgoing v → IsLane v r ms ts → w ≡ record v { numbers = acknowledged v.numbers n }
-    → k ≡ whole_below ms (acknowledged v.numbers n).base - whole_below ms v.numbers.base → k + unacknowledged w.numbers ≤ length w.waiting
-heard-enough v w r ms ts n k kept peer e is =
-    let h = heard v w ms n k kept peer.numbered peer.short e is in
-    let base = h.base in
-    let within = h.within in
-    let next = h.next in
-    let many = ap length h.waiting in
-    let unacked = peer.unacknowledged in
-    omega (arith, base, within, next, many, unacked)
+-- where none was finished before, an acknowledgement finishes as many messages as descriptors
+pub heard-all : (v w : Outgoing) (r : Incoming) (ms : List Message) (ts : List Ticket) (n k messages : ℕ) → IsOutgoing v → IsLane v r ms ts → w ≡ record v { numbers = acknowledged v.numbers n }
+    → messages + finished v ≡ finished w → k ≡ whole_below ms (acknowledged v.numbers n).base - whole_below ms v.numbers.base → k ≡ finished w
+heard-all v w r ms ts n k messages kept peer e all is =
+    let none = peer.unfinished in
+    let same : messages ≡ finished w = omega (arith, none, all) in
+    is ∙ sym (finished-lane v ms n messages kept peer.waits peer.numbered (all ∙ ap finished e)) ∙ same
 
 -- an acknowledgement was heard, and what it finished is taken out
-pub heard-lane : (v w u : Outgoing) (r : Incoming) (ms : List Message) (ts : List Ticket) (n k : ℕ) → IsOutgoing v → IsLane v r ms ts → w ≡ record v { numbers = acknowledged v.numbers n }
-    → k ≡ whole_below ms (acknowledged v.numbers n).base - whole_below ms v.numbers.base → SameBut k w u → IsLane u r ms (drop k ts)
-heard-lane v w u r ms ts n k kept peer e is same =
-    let h = heard v w ms n k kept peer.numbered peer.short e is in
-    let waits : WaitsFor w ms = subst (λ ds. AreOf ds (drop (w.numbers.next - length ds) ms)) (sym h.waiting) (subst (λ i. AreOf v.waiting (drop (i - length v.waiting) ms)) (sym h.next) peer.waits) in
-    let fewer : u.waiting ≡ drop k v.waiting = same.fewer ∙ ap (drop k) h.waiting in
-    let left : length u.waiting ≡ length v.waiting - k = ap length fewer ∙ length-drop k v.waiting in
-    let base : u.numbers.base ≡ v.numbers.base + k = ap (λ s. s.base) same.numbers ∙ h.base in
-    let next : u.numbers.next ≡ v.numbers.next = ap (λ s. s.next) same.numbers ∙ h.next in
-    let low : v.numbers.base + k ≤ v.numbers.next = subst (λ b. b ≤ v.numbers.next) h.base h.within in
-    let unacked = peer.unacknowledged in
+pub heard-lane : (v w u : Outgoing) (r : Incoming) (ms : List Message) (ts : List Ticket) (n k : ℕ) → IsLane v r ms ts → w ≡ record v { numbers = acknowledged v.numbers n } → k ≡ finished w → SameBut k w u
+    → IsLane u r ms (drop k ts)
+heard-lane v w u r ms ts n k peer e all same =
+    let next : w.numbers.next ≡ v.numbers.next = ap (λ x. x.numbers.next) e ∙ next-stays v.numbers n in
+    let waiting : w.waiting ≡ v.waiting = ap (λ x. x.waiting) e in
+    let waits : WaitsFor w ms = subst (λ ds. AreOf ds (drop (length ms - length ds) ms)) (sym waiting) peer.waits in
+    let fewer : u.waiting ≡ drop k v.waiting = same.fewer ∙ ap (drop k) waiting in
+    let left = same.left in
     record {
-      numbered = peer.numbered ∙ sym next;
+      numbered = peer.numbered ∙ sym (ap (λ x. x.next) same.numbers ∙ next);
       short = peer.short;
       waits = same.waits ms waits;
-      unacknowledged = omega (arith, left, base, next, low, unacked);
+      unfinished = omega (arith, left, all);
       tickets = ap (map (λ d. d.ticket)) fewer ∙ sym (drop-map (λ (d : Desc). d.ticket) k v.waiting) ∙ ap (drop k) peer.tickets ∙ drop-map (λ (t : Ticket). t.token) k ts;
       way_back = peer.way_back ∙ ap other_way (sym (same.key ∙ ap (λ x. x.key) e));
     }

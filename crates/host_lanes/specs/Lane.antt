@@ -1,16 +1,16 @@
 -- What a contract sees of one lane of a host: its connections with a peer, of one priority.
-use Rattle.std.specs.Prelude.{◌≡◌, ℕ, ◌+◌, ◌≤◌, List, length, map, if◌then◌else◌, Option, Some, None, option_map}
+use Rattle.std.specs.Prelude.{◌≡◌, ℕ, ◌≤◌, List, length, map, if◌then◌else◌, Option, Some, None, option_map}
 use Rattle.std.specs.Prelude.{option_and_then}
 use Rattle.std.specs.List.{AllByRecursion}
 use Rattle.gm_defs.specs.declared.message.Message.{Message}
 use Rattle.gm_defs.specs.declared.frame.FrameHead.{FrameHead}
 use Rattle.gm_defs.specs.declared.frame.ConnectionKey.{ConnectionKey}
-use Rattle.gm_defs.specs.Body.{piece}
-use Rattle.gm_defs.specs.Fragment.{piece_count, frame_of}
+use Rattle.gm_defs.specs.Body.{message_limit}
+use Rattle.gm_defs.specs.Fragment.{fragments, piece_count, frame_of}
 use Rattle.gm_defs.specs.Connection.{connection, due, is_spent}
 use Rattle.gm_conn.specs.declared.refusal.OfferRefusal.{OfferRefusal}
 use Rattle.gm_conn.specs.declared.refusal.OfferRefusal.TheVariants.{Spent}
-use Rattle.gm_conn.specs.Halves.{Outgoing, Incoming, WaitsFor}
+use Rattle.gm_conn.specs.Halves.{Outgoing, Incoming, WaitsFor, finished}
 use Rattle.world_defs.specs.Lane.{Ticket, LaneState, new_lane}
 use Rattle.host_lanes.specs.declared.due.DueFrame.{DueFrame}
 use Rattle.host_lanes.specs.declared.envelope.Envelope.{Envelope}
@@ -48,13 +48,13 @@ message_in e body = record { sport = e.sport; dport = e.dport; prio = e.prio; bo
 abbrev pub accept_refusal : LaneState → ℕ → Option OfferRefusal
 accept_refusal p total = if is_spent p.sender (piece_count total) then Some Spent else None
 
--- What the two halves, the messages and the tickets keep: each message is one piece, so its place is its number; the
--- descriptors that wait are of the last messages, as many as aren't acknowledged, and hold the tokens of the sends that
--- aren't finished, in order; and what comes from the peer goes the other way.
+-- What the two halves, the messages and the tickets keep: the fragments of the messages have the numbers up to the next;
+-- the descriptors that wait are of the last messages, none of them is finished, and they hold the tokens of the sends
+-- that aren't finished, in order; and what comes from the peer goes the other way.
 pub record IsLane (w : Outgoing) (r : Incoming) (sent : List Message) (pending : List Ticket) : Type 0 where
-  pub numbered : length sent ≡ w.numbers.next
-  pub short : AllByRecursion (λ m. length m.body ≤ piece) sent
+  pub numbered : length (fragments sent) ≡ w.numbers.next
+  pub short : AllByRecursion (λ m. length m.body ≤ message_limit) sent
   pub waits : WaitsFor w sent
-  pub unacknowledged : length w.waiting + w.numbers.base ≡ w.numbers.next
+  pub unfinished : finished w ≡ 0
   pub tickets : map (λ d. d.ticket) w.waiting ≡ map (λ t. t.token) pending
   pub way_back : r.key ≡ other_way w.key

@@ -1,16 +1,17 @@
 //! One lane of a host: its connections with one peer, of one priority.
 
-ghost use Rattle.std.specs.Prelude.{◌≡◌, ◌+◌, ◌<◌, ◌≤◌, true, List, length, drop, slice_get, vec_len, vec_capacity};
+ghost use Rattle.std.specs.Prelude.{◌≡◌, ◌<◌, ◌≤◌, ◌+◌, ◌++◌, true, List, length, take, drop, slice_get, vec_len};
+ghost use Rattle.std.specs.Prelude.{vec_capacity};
 ghost use Rattle.std.specs.Prelude.{IsSome, IfSome, OnOk, OnErr, IfOk, IfErr};
 ghost use Rattle.std.specs.Option.{option_copied};
 ghost use Rattle.std.specs.VecDeque.{deque_len, deque_capacity};
 ghost use Rattle.net_defs.specs.Refusal.{Refuses};
-ghost use Rattle.gm_defs.specs.Body.{is_prio, is_head, message_limit};
+ghost use Rattle.gm_defs.specs.Body.{is_prio, is_head, is_last, message_limit};
 ghost use Rattle.gm_defs.specs.Connection.{connection, ack_on, due, unacknowledged, took};
 ghost use Rattle.gm_defs.specs.declared.message.Message.{Message};
-ghost use Rattle.gm_conn.specs.Halves.{WaitsFor};
+ghost use Rattle.gm_conn.specs.Halves.{WaitsFor, finished};
 ghost use Rattle.world_defs.specs.Lane.{with_message, finished_by, lane_acknowledged, lane_expired, lane_sent_one};
-ghost use Rattle.world_defs.specs.Lane.{lane_answered, got_after, lane_after};
+ghost use Rattle.world_defs.specs.Lane.{lane_answered, got_after, coming_after, lane_after};
 ghost use Rattle.world_defs.specs.Hearing.{message_of};
 ghost use Rattle.host_lanes.specs.Lane.{in_state, other_way, unused, due_frame, frame_shown, message_in};
 ghost use Rattle.host_lanes.specs.Lane.{accept_refusal};
@@ -21,6 +22,7 @@ use gm_defs::{Blob, Message};
 use std::alloc::{AllocError, Global};
 use std::collections::VecDeque;
 use std::marker::Model;
+use std::mem;
 
 /// What a host sends to a peer of one priority, and what it takes from there. The messages on both sides are kept.
 #[derive(Drop)]
@@ -30,6 +32,8 @@ pub struct Lane {
     pending: VecDeque<Ticket>,
     receiver: Receiver,
     got: Vec<Message>,
+    // The bytes that came so far of the message that is taken in part.
+    coming: Vec<u8>,
     owes: bool,
 }
 
@@ -45,6 +49,7 @@ impl Model for Lane {
         sent = p.sent.items;
         pending = p.pending.items;
         got = p.got.items;
+        coming = p.coming.items;
         taken = p.receiver.taken;
         owes = p.owes;
       };
@@ -64,6 +69,7 @@ impl Lane {
             pending: VecDeque::new(alloc),
             receiver: Receiver::new(peer, host, prio),
             got: Vec::new(alloc),
+            coming: Vec::new(alloc),
             owes: false,
         }
     }
@@ -76,10 +82,14 @@ impl Lane {
     {
         self.sender.in_order();
         match self.sender.due() {
-            Some(due) => Some(DueFrame {
-                head: due.head,
-                part: self.sent[due.head.seq as usize].body.bytes(),
-            }),
+            Some(due) => {
+                let place = self.sent.len() - self.sender.left_from(due.head.seq);
+                let part = part_at(self.sent[place].body.bytes(), due.head.offset, due.head.len);
+                Some(DueFrame {
+                    head: due.head,
+                    part,
+                })
+            }
             None => None,
         }
     }
@@ -175,11 +185,7 @@ impl Lane {
         ensures { result ≡ finished_by self.now.state next }
     {
         self.sender.in_order();
-        if self.sender.takes(next) {
-            next as usize - (self.sent().len() - self.sender.unacked() as usize)
-        } else {
-            0
-        }
+        self.sender.finished_by(next) as usize
     }
 
     /// The ticket at a place among those that wait, the one that waits longest at 0.
@@ -200,7 +206,7 @@ impl Lane {
         drop_finished(&mut self.sender, finished);
     }
 
-    /// A frame came; `fits` says whether a token fits its message. Whatever is made of it, an acknowledgement is
+    /// A frame came; `fits` says whether a token takes its fragment. Whatever is made of it, an acknowledgement is
     /// owed. Want of memory changes nothing.
     pub fn on_frame(
         &mut self,
@@ -210,13 +216,14 @@ impl Lane {
         fits: bool,
     ) -> Result<Took, AllocError>
         requires head { is_head h.now ≡ true }
-        ensures took { IfOk result (λ t. t ≡ took self.old.state.taken h.now.seq fits) }
+        ensures took { IfOk result (λ t. t ≡ took self.old.state.taken h.now.seq fits
+            (is_last h.now.total h.now.offset)) }
         ensures ok { IfOk result (λ t. self.new ≡ in_state self.old
             (lane_after self.old.state t (message_of h.now part.now))) }
         ensures err { OnErr result (self.new ≡ self.old) }
     {
-        let took = took_of(self.receiver.ack().next, h.seq, fits);
-        keep(alloc, &mut self.got, took, h, part)?;
+        let took = took_of(self.receiver.ack().next, h, fits);
+        keep(alloc, &mut self.got, &mut self.coming, took, h, part)?;
         self.owes = true;
         Ok(self.receiver.on_frame(h, fits))
     }
@@ -236,17 +243,28 @@ impl Lane {
     }
 }
 
-// What is made of a frame's number where so many were taken.
-fn took_of(taken: u32, seq: u32, fits: bool) -> Took
-    ensures { result ≡ took taken seq fits }
+// What is made of a frame where so many were taken.
+fn took_of(taken: u32, h: &FrameHead, fits: bool) -> Took
+    ensures { result ≡ took taken h.now.seq fits (is_last h.now.total h.now.offset) }
 {
-    if seq != taken {
+    if h.seq != taken {
         Took::NotNext
-    } else if fits {
+    } else if !fits {
+        Took::NoToken
+    } else if h.is_last() {
         Took::Whole
     } else {
-        Took::NoToken
+        Took::Part
     }
+}
+
+// So many bytes of a message from an offset on.
+fn part_at(body: &[u8], offset: u32, len: u16) -> &[u8]
+    requires { offset + len ≤ length body.now }
+    ensures { result.now ≡ take len (drop offset body.now) }
+{
+    let from = offset as usize;
+    &body[from..from + usize::from(len)]
 }
 
 // Makes room for one message and one ticket more.
@@ -280,28 +298,49 @@ fn message_in(alloc: Global, e: Envelope, body: &[u8]) -> Result<Message, OfferR
     }
 }
 
-// The message of a frame joins those that were got, where it was taken whole.
+// The bytes of a fragment come behind those of its message that came before. With the last the message joins those
+// that were got.
 fn keep(
     alloc: Global,
     got: &mut Vec<Message>,
+    coming: &mut Vec<u8>,
     took: Took,
     h: &FrameHead,
     part: &[u8],
 ) -> Result<(), AllocError>
-    ensures ok { OnOk result (got.new.items ≡ got_after got.old.items took (message_of h.now part.now)) }
+    ensures got { OnOk result (got.new.items ≡
+        got_after got.old.items coming.old.items took (message_of h.now part.now)) }
+    ensures coming { OnOk result (coming.new.items ≡ coming_after coming.old.items took (message_of h.now part.now)) }
     ensures err { OnErr result (got.new.items ≡ got.old.items) }
+    ensures none_came { OnErr result (coming.new.items ≡ coming.old.items) }
 {
-    if let Took::Whole = took {
-        let body = part.to_vec(alloc)?;
-        got.reserve(1)?;
-        got.push_reserved(Message {
-            sport: h.sport,
-            dport: h.dport,
-            prio: h.prio,
-            body: Blob::new(body),
-        });
+    match took {
+        Took::Whole => {
+            got.reserve(1)?;
+            append(coming, h, part)?;
+            let mut body = Vec::new(alloc);
+            mem::swap(coming, &mut body);
+            got.push_reserved(Message {
+                sport: h.sport,
+                dport: h.dport,
+                prio: h.prio,
+                body: Blob::new(body),
+            });
+            Ok(())
+        }
+        Took::Part => append(coming, h, part),
+        Took::NoToken => Ok(()),
+        Took::NotNext => Ok(()),
     }
-    Ok(())
+}
+
+// Puts the bytes of a fragment behind those that came of its message. A first one makes room for all of them.
+fn append(coming: &mut Vec<u8>, h: &FrameHead, part: &[u8]) -> Result<(), AllocError>
+    ensures ok { OnOk result (coming.new.items ≡ coming.old.items ++ part.now) }
+    ensures err { OnErr result (coming.new.items ≡ coming.old.items) }
+{
+    coming.reserve(h.total.saturating_sub(h.offset) as usize)?;
+    coming.extend_from_slice(part)
 }
 
 // Drops so many tickets in front.
@@ -315,10 +354,11 @@ fn drop_tickets(pending: &mut VecDeque<Ticket>, count: usize)
 
 // Takes so many finished descriptors out of a sender, which keeps its numbers.
 fn drop_finished(sender: &mut Sender, count: usize)
-    requires { count + unacknowledged sender.old.numbers ≤ length sender.old.waiting }
+    requires { count ≤ finished sender.old }
     ensures key { sender.new.key ≡ sender.old.key }
     ensures numbers { sender.new.numbers ≡ sender.old.numbers }
     ensures fewer { sender.new.waiting ≡ drop count sender.old.waiting }
+    ensures left { finished sender.new + count ≡ finished sender.old }
     ensures waits { (sent : List Message) → WaitsFor sender.old sent → WaitsFor sender.new sent }
 {
     for _ in 0..count {

@@ -2,7 +2,7 @@
 
 ghost use Rattle.std.specs.Prelude.{◌≡◌, ◌<◌, ◌≤◌, ◌^◌, length, true, IfOk, OnOk, OnErr, IsSome};
 ghost use Rattle.net_defs.specs.Refusal.{Refuses};
-ghost use Rattle.gm_defs.specs.Body.{is_head, message_limit};
+ghost use Rattle.gm_defs.specs.Body.{is_head, is_last, message_limit};
 ghost use Rattle.gm_defs.specs.Connection.{due, took};
 ghost use Rattle.world_defs.specs.Lane.{with_message, lane_acknowledged, lane_sent_one, lane_answered, lane_after};
 ghost use Rattle.world_defs.specs.Node.{lane_count, lane_of};
@@ -200,7 +200,7 @@ impl Lanes {
         self.sets.note(lane, at);
     }
 
-    /// A frame came from a peer; `fits` says whether a token fits its message. Whatever is made of it, its lane owes
+    /// A frame came from a peer; `fits` says whether a token takes its fragment. Whatever is made of it, its lane owes
     /// an acknowledgement. Want of memory changes nothing.
     pub fn on_frame(
         &mut self,
@@ -211,7 +211,8 @@ impl Lanes {
     ) -> Result<Took, AllocError>
         requires peer { h.now.src < self.old.hosts }
         requires head { is_head h.now ≡ true }
-        ensures took { IfOk result (λ t. t ≡ took (lane_in self.old (frame_lane h.now)).taken h.now.seq fits) }
+        ensures took { IfOk result (λ t. t ≡ took (lane_in self.old (frame_lane h.now)).taken h.now.seq fits
+            (is_last h.now.total h.now.offset)) }
         ensures ok { IfOk result (λ t. self.new ≡ with_state self.old (frame_lane h.now)
             (lane_after (lane_in self.old (frame_lane h.now)) t (message_of h.now part.now))) }
         ensures err { OnErr result (self.new ≡ self.old) }

@@ -12,7 +12,8 @@
 //!
 //!   accept ---> sent     [ finished | on their way | not yet sent ]
 //!                                   '- a ticket each: pending ----'
-//!   on_frame -> got      [ taken whole, in order ]
+//!   on_frame -> coming   [ the first bytes of the next ]
+//!            -> got      [ taken whole, in order ]
 //! ```
 #![tactic(auto)]
 

@@ -1,8 +1,9 @@
 -- What a contract sees of the ports of a host.
 use Rattle.std.specs.Prelude.{◌≡◌, ℕ, Bool, List, map, length, replicate, slice_index_or, slice_set, Option, Some, None}
-use Rattle.std.specs.Prelude.{option_map}
+use Rattle.std.specs.Prelude.{option_map, option_and_then}
 use Rattle.gm_defs.specs.declared.token.TokenPlace.{TokenPlace}
-use Rattle.gm_defs.specs.Token.{PortState}
+use Rattle.gm_defs.specs.Token.{Sending, PortState}
+use Rattle.gm_defs.specs.Port.{send_of}
 use Rattle.gm_port.specs.Opened.{OpenPort, place_of}
 use Rattle.world_defs.specs.Node.{port_count}
 
@@ -26,6 +27,14 @@ with_open h port p = record h { ports = slice_set h.ports port p }
 -- a port that may be open changes so where it is
 abbrev pub changed : HostPorts → ℕ → (PortState → PortState) → HostPorts
 changed h port f = with_open h port (option_map f (open_at h port))
+
+-- the unfinished send of a token
+abbrev pub unfinished_of : Option PortState → ℕ → Option Sending
+unfinished_of p token = option_and_then (λ s. send_of s token) p
+
+-- the unfinished send of a port and a token
+abbrev pub unfinished_at : HostPorts → ℕ → ℕ → Option Sending
+unfinished_at h port token = unfinished_of (open_at h port) token
 
 -- the states of ports
 abbrev pub state_at : Option OpenPort → Option PortState

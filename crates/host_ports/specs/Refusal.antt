@@ -6,7 +6,7 @@ use Rattle.gm_port.specs.declared.ask.SendRefusal.TheVariants.{TooLong, BufferSh
 use Rattle.gm_port.specs.declared.ask.ProvideRefusal.{ProvideRefusal}
 use Rattle.gm_port.specs.declared.ask.ProvideRefusal.TheVariants.{BadSize, BufferShort as Short}
 use Rattle.gm_port.specs.declared.ask.CloseRefusal.{CloseRefusal}
-use Rattle.gm_port.specs.declared.ask.CloseRefusal.TheVariants.{Busy, Unread}
+use Rattle.gm_port.specs.declared.ask.CloseRefusal.TheVariants.{Busy, Unread, Filling}
 use Rattle.gm_port.specs.Refusal.{send_refusal, provide_refusal, close_refusal}
 use Rattle.host_ports.specs.declared.ask.PortBegin.{PortBegin}
 use Rattle.host_ports.specs.declared.ask.PortBegin.TheVariants.{Already}
@@ -18,7 +18,7 @@ use Rattle.host_ports.specs.declared.ask.PortProvide.TheVariants.{NotOpen as NoP
 use Rattle.host_ports.specs.declared.ask.PortProvide.TheVariants.{BufferShort as ProvideShort}
 use Rattle.host_ports.specs.declared.ask.PortClose.{PortClose}
 use Rattle.host_ports.specs.declared.ask.PortClose.TheVariants.{NotOpen as NothingToClose, Busy as CloseBusy}
-use Rattle.host_ports.specs.declared.ask.PortClose.TheVariants.{Unread as CloseUnread}
+use Rattle.host_ports.specs.declared.ask.PortClose.TheVariants.{Unread as CloseUnread, Filling as CloseFilling}
 
 -- a port is not opened where it is open
 abbrev pub begin_bar : Option PortState → Option PortBegin
@@ -39,6 +39,7 @@ provide_word Short = ProvideShort
 abbrev pub close_word : CloseRefusal → PortClose
 close_word (Busy n) = CloseBusy n
 close_word (Unread n) = CloseUnread n
+close_word (Filling n) = CloseFilling n
 
 -- a send of so many bytes of a buffer is refused
 abbrev pub send_bar : Option PortState → ℕ → List ℕ → Option PortSend

@@ -40,6 +40,8 @@ pub enum PortClose {
     Busy(usize),
     /// So many events wait.
     Unread(usize),
+    /// So many provided tokens hold the beginning of a message.
+    Filling(usize),
 }
 
 /// The port isn't open.

@@ -1,7 +1,7 @@
 //! The ports of a host.
 
 ghost use Rattle.std.specs.Prelude.{◌≡◌, ◌<◌, map, length, true, is_some, None, Some, IfOk, IfErr, IfNone, IfSome};
-ghost use Rattle.std.specs.Prelude.{OnOk, OnErr, OnSome, MatchResult, MatchOption, option_map};
+ghost use Rattle.std.specs.Prelude.{OnOk, OnErr, OnSome, MatchResult, MatchOption, option_map, IsSome};
 ghost use Rattle.std.specs.Option.{ForSome};
 ghost use Rattle.net_defs.specs.Refusal.{Refuses};
 ghost use Rattle.gm_defs.specs.Body.{is_head};
@@ -10,7 +10,7 @@ ghost use Rattle.gm_defs.specs.Port.{sent_with, provided_with, finished, deliver
 ghost use Rattle.gm_tokens.specs.Token.{token_at};
 ghost use Rattle.gm_port.specs.Held.{send_at, receive_at, event_at};
 ghost use Rattle.world_defs.specs.Hearing.{port_takes};
-ghost use Rattle.host_ports.specs.Held.{none_open, open_at, with_open, changed, place_at};
+ghost use Rattle.host_ports.specs.Held.{none_open, open_at, with_open, changed, place_at, unfinished_at};
 ghost use Rattle.host_ports.specs.Refusal.{begin_bar, send_bar, provide_bar, close_bar};
 
 use crate::ask::{NotOpen, PortBegin, PortClose, PortProvide, PortSend};
@@ -93,12 +93,13 @@ impl Ports {
         }
     }
 
-    /// Whether the port is open and a provided token of it fits a message.
-    pub fn can_take(&self, port: u8, len: u32, prio: u8) -> bool
-        requires { port < 8 }
-        ensures { result ≡ port_takes (open_at self.now port) len prio }
+    /// Whether the fragment's port is open and takes it: it is the first of a message that a token fits, or goes on
+    /// where the token that is filling for its host and priority stands.
+    pub fn can_take(&self, h: &FrameHead) -> bool
+        requires { h.now.dport < 8 }
+        ensures { result ≡ port_takes (open_at self.now h.now.dport) h.now }
     {
-        slot::can_take(&self.ports[usize::from(port)], len, prio)
+        slot::can_take(&self.ports[usize::from(h.dport)], h)
     }
 
     /// Why a send of so many bytes of a buffer is refused: NotOpen, TooLong above the greatest length of a message,
@@ -144,20 +145,30 @@ impl Ports {
         ensures handed_back { IfErr result (λ e. (e.0 ≡ t) × (e.1 ≡ b)) }
         ensures unchanged { OnErr result (self.new ≡ self.old) }
         ensures provided { OnOk result (self.new ≡ changed self.old port (λ s.
-            provided_with s (record { token = t.number; size = size; prio = prio; buffer = b }))) }
+            provided_with s (record { token = t.number; size = size; prio = prio; filling = None; buffer = b }))) }
     {
         slot::provide(&mut self.ports[usize::from(port)], t, b, size, prio)
     }
 
-    /// A message came whole, and goes into the buffer of the token that fits and was provided first.
+    /// A fragment came, and goes into a buffer at its offset: of a token that fits its message and was provided first,
+    /// or of the one that is filling. The last one makes an event.
     pub fn deliver(&mut self, h: &FrameHead, part: &[u8])
         requires port { h.now.dport < 8 }
-        requires taken { port_takes (open_at self.old h.now.dport) h.now.total h.now.prio ≡ true }
+        requires taken { port_takes (open_at self.old h.now.dport) h.now ≡ true }
         requires head { is_head h.now ≡ true }
         requires part { length part.now ≡ h.now.len }
         ensures { self.new ≡ changed self.old h.now.dport (λ s. delivered s h.now part.now) }
     {
         slot::deliver(&mut self.ports[usize::from(h.dport)], h, part);
+    }
+
+    /// The bytes of the buffer of an unfinished send, by its port and the number of its token.
+    pub fn sending(&self, port: u8, token: u16) -> &[u8]
+        requires port { port < 8 }
+        requires unfinished { IsSome (unfinished_at self.now port token) }
+        ensures { option_map (λ s. s.buffer) (unfinished_at self.now port token) ≡ Some result.now }
+    {
+        slot::sending(&self.ports[usize::from(port)], token)
     }
 
     /// Hands out the event that was put in first. None exactly where no event waits, NotOpen exactly where the port
@@ -174,7 +185,7 @@ impl Ports {
     }
 
     /// Closes a port, and hands each provided token back with its buffer, first provided first. A refusal changes
-    /// nothing: NotOpen, Busy where sends aren't finished, Unread where events wait.
+    /// nothing: NotOpen, Busy where sends aren't finished, Unread where events wait, Filling where tokens are filling.
     pub fn close(&mut self, port: u8) -> Result<Vec<(RecvToken, Reg)>, PortClose>
         requires { port < 8 }
         ensures refused { MatchResult result (λ _. close_bar (open_at self.old port) ≡ None) (λ e.

@@ -1,7 +1,7 @@
 //! The place of one port, where it may be open.
 
 ghost use Rattle.std.specs.Prelude.{◌≡◌, ◌<◌, ℕ, map, true, None, length, is_some, Some, IfOk, IfErr, IfSome, OnOk};
-ghost use Rattle.std.specs.Prelude.{OnErr, MatchResult, MatchOption, option_map};
+ghost use Rattle.std.specs.Prelude.{OnErr, MatchResult, MatchOption, option_map, IsSome};
 ghost use Rattle.std.specs.Option.{ForSome};
 ghost use Rattle.gm_defs.specs.Body.{is_head};
 ghost use Rattle.gm_defs.specs.Token.{place_of_send, place_of_recv};
@@ -9,7 +9,7 @@ ghost use Rattle.gm_defs.specs.Port.{sent_with, provided_with, send_of, finished
 ghost use Rattle.gm_tokens.specs.Token.{token_at};
 ghost use Rattle.gm_port.specs.Held.{send_at, receive_at, event_at};
 ghost use Rattle.world_defs.specs.Hearing.{port_takes};
-ghost use Rattle.host_ports.specs.Held.{state_at, changed_port, place_at};
+ghost use Rattle.host_ports.specs.Held.{state_at, changed_port, place_at, unfinished_of};
 ghost use Rattle.host_ports.specs.Refusal.{send_bar, provide_bar, close_bar, close_word};
 
 use crate::ask::{NotOpen, PortClose, PortProvide, PortSend};
@@ -68,7 +68,7 @@ pub(crate) fn provide(
     ensures handed_back { IfErr result (λ e. (e.0 ≡ t) × (e.1 ≡ b)) }
     ensures unchanged { OnErr result (slot.new ≡ slot.old) }
     ensures provided { OnOk result (slot.new ≡ changed_port slot.old (λ s.
-        provided_with s (record { token = t.number; size = size; prio = prio; buffer = b }))) }
+        provided_with s (record { token = t.number; size = size; prio = prio; filling = None; buffer = b }))) }
 {
     match slot {
         Some(port) => match port.provide(t, b, size, prio) {
@@ -98,25 +98,36 @@ fn is_unfinished(port: &Port, number: u16) -> bool
     port.place(true, number) == Some(TokenPlace::Queue)
 }
 
-// Whether a provided token fits a message.
-pub(crate) fn can_take(slot: &Option<Port>, len: u32, prio: u8) -> bool
-    ensures { result ≡ port_takes (state_at slot.now) len prio }
+// Whether the port is open and takes a fragment.
+pub(crate) fn can_take(slot: &Option<Port>, h: &FrameHead) -> bool
+    ensures { result ≡ port_takes (state_at slot.now) h.now }
 {
     match slot {
-        Some(port) => port.can_take(len, prio),
+        Some(port) => port.can_take(h),
         None => false,
     }
 }
 
-// A message came whole.
+// A fragment came that the port takes.
 pub(crate) fn deliver(slot: &mut Option<Port>, h: &FrameHead, part: &[u8])
-    requires taken { port_takes (state_at slot.old) h.now.total h.now.prio ≡ true }
+    requires taken { port_takes (state_at slot.old) h.now ≡ true }
     requires head { is_head h.now ≡ true }
     requires part { length part.now ≡ h.now.len }
     ensures { slot.new ≡ changed_port slot.old (λ s. delivered s h.now part.now) }
 {
     match slot {
         Some(port) => port.deliver(h, part),
+        None => unreachable!(),
+    }
+}
+
+// The bytes of the buffer of an unfinished send.
+pub(crate) fn sending(slot: &Option<Port>, token: u16) -> &[u8]
+    requires { IsSome (unfinished_of (state_at slot.now) token) }
+    ensures { option_map (λ s. s.buffer) (unfinished_of (state_at slot.now) token) ≡ Some result.now }
+{
+    match slot {
+        Some(port) => port.sending(usize::from(token)),
         None => unreachable!(),
     }
 }
@@ -198,5 +209,6 @@ fn word_of(refusal: CloseRefusal) -> PortClose
     match refusal {
         CloseRefusal::Busy(n) => PortClose::Busy(n),
         CloseRefusal::Unread(n) => PortClose::Unread(n),
+        CloseRefusal::Filling(n) => PortClose::Filling(n),
     }
 }

@@ -28,7 +28,7 @@ node_expired-own Fair routes host n peer is = record { staged = is.staged; reply
 pub call-own : (Fair : Type 0) (routes : List Route) (host : ℕ) {n : NodeState} {c : Option ClientState} {port : ℕ} {call : Called} → Call n c port call → IsOwn Fair routes host n → IsOwn Fair routes host call.node
 call-own Fair routes host Call.rests is = is
 call-own Fair routes host (Call.opens sends recvs d) is = record { staged = is.staged; reply = is.reply; ack = is.ack }
-call-own Fair routes host (Call.closes p d e f) is = record { staged = is.staged; reply = is.reply; ack = is.ack }
+call-own Fair routes host (Call.closes p d e) is = record { staged = is.staged; reply = is.reply; ack = is.ack }
 call-own Fair routes host (Call.provides size prio t ts p d e f g k) is = record { staged = is.staged; reply = is.reply; ack = is.ack }
 call-own Fair routes host (Call.accepts s t ts p d e f g k) is = record { staged = is.staged; reply = is.reply; ack = is.ack }
 call-own Fair routes host (Call.hands_sent t buffer p d e f g) is = record { staged = is.staged; reply = is.reply; ack = is.ack }

@@ -11,7 +11,7 @@ use Rattle.gm_defs.specs.declared.frame.GmBody.{GmBody}
 use Rattle.gm_defs.specs.declared.frame.GmBody.TheVariants.{Frame, Ack as Acknowledges}
 use Rattle.gm_defs.specs.declared.frame.Malformed.{Malformed as NoBody}
 use Rattle.gm_defs.specs.declared.token.Took.{Took}
-use Rattle.gm_defs.specs.declared.token.Took.TheVariants.{NotNext as TookNotNext, NoToken as TookNoToken, Whole}
+use Rattle.gm_defs.specs.declared.token.Took.TheVariants.{NotNext as TookNotNext, NoToken as TookNoToken, Part as TookPart, Whole}
 use Rattle.gm_defs.specs.Body.{decode, part_in}
 use Rattle.mapping_defs.specs.Mapping.{RoutePart, MappingBody, is_route, is_mapping, decode_mapping}
 use Rattle.mapping_defs.specs.Mapping.MappingBody.{HostProbe, HostReply, Loopback, Part, PartAck}
@@ -75,6 +75,7 @@ all_finished-own Fair routes host n (t ∷ ts) is =
 delivered_after-own : (Fair : Type 0) (routes : List Route) (host : ℕ) (n : NodeState) (h : FrameHead) (part : List ℕ) (t : Took) → IsOwn Fair routes host n → IsOwn Fair routes host (delivered_after n h part t)
 delivered_after-own Fair routes host n h part TookNotNext is = is
 delivered_after-own Fair routes host n h part TookNoToken is = is
+delivered_after-own Fair routes host n h part TookPart is = record { staged = is.staged; reply = is.reply; ack = is.ack }
 delivered_after-own Fair routes host n h part Whole is = record { staged = is.staged; reply = is.reply; ack = is.ack }
 
 lane-own : (Fair : Type 0) (routes : List Route) (host : ℕ) (n : NodeState) (lane : ℕ) (p : LaneState) → IsOwn Fair routes host n → IsOwn Fair routes host (with_lane n lane p)

@@ -1,5 +1,5 @@
 -- What is printed of circuit links is what the definition tells of them.
-use Rattle.std.proofs.Common.{◌≡◌, ◌<◌, ◌++◌, ℕ, List, [], ◌∷◌, length, sym, subst, ap, append-nil, refl, arith, Result, Ok, Err, IfOk}
+use Rattle.std.proofs.Common.{◌≡◌, ◌<◌, ℕ, [], ◌∷◌, length, sym, subst, ap, arith, Result, Ok, Err, IfOk}
 use Rattle.std.proofs.lemmas.Bool.Decides.{nat_tests}
 use Rattle.net_defs.specs.Network.{Network, IsFabric}
 use Rattle.map_defs.specs.NetMap.{NetMap}
@@ -10,15 +10,12 @@ use Rattle.circ_map.specs.declared.mapping.CircMapped.{CircMapped}
 use Rattle.circ_map.specs.declared.mapping.CircEnd.{CircEnd}
 use Rattle.circ_map.specs.declared.mapping.CircEnd.TheVariants.{Whole, Nodes}
 use Rattle.circ_map.specs.Mapping.{IsMappedBy}
-use Rattle.run_defs.specs.declared.line.Line.{Line}
 use Rattle.run_defs.specs.declared.line.Line.TheVariants.{Circuit, CircuitNodes}
 use Rattle.run_defs.specs.Circuit.{IsCircuitTold}
 use Rattle.run_defs.specs.Circuit.IsCircuitTold.{whole, too_many_nodes}
 use Rattle.run_defs.specs.Output.{OneLine, MapLines}
-use Rattle.run_defs.specs.LineText.{map_text}
 use Rattle.fab_report.specs.Printed.{PrintedState, printed_of}
 use Rattle.fab_report.specs.There.{IsHost}
-use Rattle.fab_report.proofs.Printing.{followed}
 use Rattle.map_text.specs.Printing.{AreOfFabric}
 use Rattle.map_text.proofs.OfFabric.{each-of_fabric, host-of_fabric}
 use Rattle.map_making.specs.Circuit.{circuit_pieces, IsCircuitPrinted}
@@ -35,11 +32,6 @@ told n host depth m asks Nodes p = too_many_nodes p.0.journal p.0.growing p.0.pa
 
 pub circuit_told : (n : Network) (host depth : ℕ) (m : NetMap) (asks : ℕ) (end : CircEnd) (p : PrintedState) → IsMappedBy n host depth m asks end → p ≡ printed_of n (circuit_pieces host depth m asks end) → IsCircuitPrinted n host depth p
 circuit_told n host depth m asks end p is e = record { output = circuit_pieces host depth m asks end; is_told = told n host depth m asks end is; printed = e }
-
--- the line of the map, and the map's lines behind it
-pub circuit_followed : (n : Network) (l : Line) (m : NetMap) (before now : PrintedState) → before ≡ printed_of n (OneLine l ∷ []) → now ≡ record { text = before.text ++ map_text n m; figures = before.figures }
-    → now ≡ printed_of n (OneLine l ∷ MapLines m ∷ [])
-circuit_followed n l m before now e f = followed n (OneLine l ∷ []) (MapLines m ∷ []) before now (map_text n m) e (sym (append-nil (map_text n m))) refl f
 
 -- the hosts of the map are hosts of the fabric; without a map there are none
 pub circuit_of_fabric : (n : Network) (host depth : ℕ) (m : NetMap) (asks : ℕ) (end : CircEnd) → IsFabric n → host < length n.hosts → IsMappedBy n host depth m asks end → AreOfFabric n m

@@ -7,9 +7,9 @@ ghost use Rattle.fab_report.specs.There.{IsHost};
 ghost use Rattle.map_text.specs.Printing.{AreOfFabric};
 ghost use Rattle.map_making.specs.Circuit.{circuit_pieces, IsCircuitPrinted};
 
+use crate::lines::print_with_map;
 use circ_map::{CircEnd, CircFabric, CircMapped, map_circuit};
 use fab_report::Printed;
-use map_text::print_map;
 use port_graph::Fabric;
 use run_defs::Line;
 use std::alloc::{AllocError, Global};
@@ -43,7 +43,6 @@ fn make_circuit(alloc: Global, f: &Fabric, host: u16, depth: u8) -> Result<CircM
 }
 
 // The line of a map of circuit links, and its map unless the tree had too many nodes.
-#[tactic(auto, using(crate::proofs::CircuitLinks::circuit_followed))]
 fn circuit_text(
     alloc: Global,
     f: &Fabric,
@@ -57,13 +56,7 @@ fn circuit_text(
 {
     let asks = m.asks;
     match m.end {
-        CircEnd::Whole => {
-            let line = Line::Circuit { host, depth, asks };
-            let mut printed = Printed::line(alloc, &line, f)?;
-            let lines = print_map(alloc, &m.map, f)?;
-            printed.follow(&lines)?;
-            Ok(printed)
-        }
+        CircEnd::Whole => { print_with_map(alloc, &Line::Circuit { host, depth, asks }, &m.map, f) }
         CircEnd::Nodes => Printed::line(alloc, &Line::CircuitNodes { host, asks }, f),
     }
 }

@@ -21,12 +21,15 @@
 //! |---|---|
 //! | `circuits` | the map of circuit links, with its text |
 //! | `making` | the map of one host, with its words |
+//! | `lines` | the line of a map, and its lines |
 #![tactic(auto)]
 
 mod circuits;
+mod lines;
 mod making;
 
 pub use circuits::print_circuit;
 pub use fabric_map::FabricMap;
+pub use lines::print_made;
 pub use making::{MadeMap, make_map};
 pub use run_defs::MapWords;

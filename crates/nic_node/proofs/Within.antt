@@ -9,7 +9,7 @@ use Rattle.gm_defs.specs.declared.frame.Malformed.{Malformed}
 use Rattle.gm_defs.specs.declared.frame.GmBody.{GmBody}
 use Rattle.gm_defs.specs.declared.frame.GmBody.TheVariants.{Frame, Ack as Acknowledges}
 use Rattle.gm_defs.specs.declared.token.Took.{Took}
-use Rattle.gm_defs.specs.declared.token.Took.TheVariants.{NotNext, NoToken, Whole}
+use Rattle.gm_defs.specs.declared.token.Took.TheVariants.{NotNext, NoToken, Part, Whole}
 use Rattle.gm_defs.specs.Port.{finished}
 use Rattle.gm_defs.specs.Body.{is_frame, is_ack, head_in, ack_in, decode}
 use Rattle.world_defs.specs.Lane.{Ticket, finished_by, tickets_finished, lane_acknowledged}
@@ -76,6 +76,7 @@ frame-is body h e = by (is_frame body) (is_ack body) refl e
 pub delivered-host : (p : HostPorts) (h : FrameHead) (part : List ℕ) (t : Took) → (delivered_in p h part t).host ≡ p.host
 delivered-host p h part NotNext = refl
 delivered-host p h part NoToken = refl
+delivered-host p h part Part = refl
 delivered-host p h part Whole = refl
 
 pub finished-host : (p : HostPorts) (ts : List Ticket) → (finished_in p ts).host ≡ p.host

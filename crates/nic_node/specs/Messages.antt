@@ -2,7 +2,7 @@
 use Rattle.std.specs.Prelude.{ℕ, List, [], ◌∷◌}
 use Rattle.gm_defs.specs.declared.frame.FrameHead.{FrameHead}
 use Rattle.gm_defs.specs.declared.token.Took.{Took}
-use Rattle.gm_defs.specs.declared.token.Took.TheVariants.{NotNext, NoToken, Whole}
+use Rattle.gm_defs.specs.declared.token.Took.TheVariants.{NotNext, NoToken, Part, Whole}
 use Rattle.gm_defs.specs.Port.{delivered, finished}
 use Rattle.world_defs.specs.Lane.{Ticket}
 use Rattle.world_defs.specs.Node.{NodeState}
@@ -13,10 +13,11 @@ use Rattle.host_lanes.specs.Lanes.{HostLanes}
 abbrev pub with_messages : NodeState → HostLanes → HostPorts → NodeState
 with_messages n lanes ports = record n { lanes = lanes.lanes; ports = ports.ports }
 
--- a message that was taken whole is in an event of its port
+-- a fragment that was taken is at its port
 abbrev pub delivered_in : HostPorts → FrameHead → List ℕ → Took → HostPorts
 delivered_in p h part NotNext = p
 delivered_in p h part NoToken = p
+delivered_in p h part Part = changed p h.dport (λ s. delivered s h part)
 delivered_in p h part Whole = changed p h.dport (λ s. delivered s h part)
 
 -- the sends of tickets are finished at their ports

@@ -119,7 +119,7 @@ fn take(
     ensures lanes { OnErr result (lanes.new ≡ lanes.old) }
     ensures ports { OnErr result (ports.new ≡ ports.old) }
 {
-    let fits = ports.can_take(h.dport, h.total, h.prio);
+    let fits = ports.can_take(h);
     let took = lanes.on_frame(alloc, h, part, fits)?;
     deliver(ports, took, h, part);
     Ok(word_of(took))
@@ -140,9 +140,10 @@ fn acknowledge(lanes: &mut Lanes, ports: &mut Ports, a: &Ack)
     lanes.on_ack(a);
 }
 
-// A message that was taken whole goes into an event of its port.
+// A fragment that was taken goes to its port.
 fn deliver(ports: &mut Ports, took: Took, h: &FrameHead, part: &[u8])
-    requires taken { took ≡ Took.Whole → port_takes (open_at ports.old h.now.dport) h.now.total h.now.prio ≡ true }
+    requires whole { took ≡ Took.Whole → port_takes (open_at ports.old h.now.dport) h.now ≡ true }
+    requires part_taken { took ≡ Took.Part → port_takes (open_at ports.old h.now.dport) h.now ≡ true }
     requires head { is_head h.now ≡ true }
     requires part { length part.now ≡ h.now.len }
     ensures delivered { ports.new ≡ delivered_in ports.old h.now part.now took }
@@ -150,6 +151,7 @@ fn deliver(ports: &mut Ports, took: Took, h: &FrameHead, part: &[u8])
 {
     match took {
         Took::Whole => ports.deliver(h, part),
+        Took::Part => ports.deliver(h, part),
         Took::NoToken => {}
         Took::NotNext => {}
     }
@@ -173,6 +175,7 @@ fn word_of(took: Took) -> Heard
 {
     match took {
         Took::Whole => Heard::Message,
+        Took::Part => Heard::Fragment,
         Took::NoToken => Heard::NoToken,
         Took::NotNext => Heard::NotNext,
     }

@@ -42,7 +42,8 @@ impl NicNode {
     }
 
     /// Closes a port, and hands each provided token back with its buffer, first provided first. A refusal changes
-    /// nothing: NotOpen, Busy where sends aren't finished, Unread where events wait.
+    /// nothing: NotOpen, Busy where sends aren't finished, Unread where events wait, Filling where
+    /// provided tokens hold the beginning of a message.
     pub fn close(&mut self, port: u8) -> Result<Vec<(RecvToken, Reg)>, PortClose>
         requires { port < 8 }
         ensures refused { MatchResult result (λ _. close_bar (port_at self.old.state port) ≡ None) (λ e.
@@ -76,7 +77,7 @@ impl NicNode {
         ensures unchanged { OnErr result (self.new ≡ self.old) }
         ensures provided { OnOk result (self.new ≡ in_state self.old
             (with_port self.old.state port (option_map (λ s.
-            provided_with s (record { token = t.number; size = size; prio = prio; buffer = b }))
+            provided_with s (record { token = t.number; size = size; prio = prio; filling = None; buffer = b }))
             (port_at self.old.state port)))) }
     {
         self.ports.provide(port, t, b, size, prio)

@@ -18,9 +18,9 @@ use Rattle.gm_defs.specs.declared.frame.GmBody.{GmBody}
 use Rattle.gm_defs.specs.declared.frame.GmBody.TheVariants.{Frame, Ack as Acknowledges}
 use Rattle.gm_defs.specs.declared.frame.Malformed.{Malformed as NoBody}
 use Rattle.gm_defs.specs.declared.token.Took.{Took}
-use Rattle.gm_defs.specs.declared.token.Took.TheVariants.{NotNext as TookNotNext, NoToken as TookNoToken, Whole}
-use Rattle.gm_defs.specs.Body.{piece, number_limit, decode, part_in, frame_bytes, ack_bytes}
-use Rattle.gm_defs.specs.Fragment.{frame_of, piece_count, IsHonestFrame}
+use Rattle.gm_defs.specs.declared.token.Took.TheVariants.{NotNext as TookNotNext, NoToken as TookNoToken, Part as TookPart, Whole}
+use Rattle.gm_defs.specs.Body.{message_limit, number_limit, decode, part_in, frame_bytes, ack_bytes}
+use Rattle.gm_defs.specs.Fragment.{fragments, frame_of, piece_count, IsHonestFrame}
 use Rattle.gm_defs.specs.Connection.{key_of, ack_on, due, is_spent}
 use Rattle.mapping_defs.specs.Mapping.{RoutePart, MappingBody, decode_mapping, mapping_bytes}
 use Rattle.mapping_defs.specs.Mapping.MappingBody.{HostProbe, HostReply, Loopback, Part, PartAck}
@@ -39,7 +39,7 @@ use Rattle.world_defs.proofs.Lists.{each-set}
 use Rattle.world_defs.proofs.Calls.{Call, not_refused-acceptable}
 use Rattle.table_laws.specs.Packets.{Built}
 use Rattle.order_laws.specs.Says.{SaysTrue}
-use Rattle.order_laws.proofs.Lanes.{IsNumbered, LaneNext, lane-same, lane-then, sent_one-next, answered-next, expired-next, acknowledged-next, message-next, frame-message, frame-next}
+use Rattle.order_laws.proofs.Lanes.{IsNumbered, LaneNext, lane-same, lane-then, sent_one-next, answered-next, expired-next, acknowledged-next, message-next, frame-next}
 use Rattle.order_laws.proofs.Frames.{on, frame-says, ack-says}
 
 -- a host's address and its peers' fit into two bytes, and its lanes are numbered
@@ -94,6 +94,7 @@ all_finished-lanes n (t ∷ ts) = all_finished-lanes (with_port n t.port (option
 delivered_after-lanes : (n : NodeState) (h : FrameHead) (part : List ℕ) (t : Took) → (delivered_after n h part t).lanes ≡ n.lanes
 delivered_after-lanes n h part TookNotNext = refl
 delivered_after-lanes n h part TookNoToken = refl
+delivered_after-lanes n h part TookPart = refl
 delivered_after-lanes n h part Whole = refl
 
 for_host : (a b : ℕ) (c : Bool) → (nat_eq a b && c) ≡ true → a ≡ b
@@ -106,7 +107,7 @@ hear_frame-next T host n h part e good =
     let l : LaneState = lane_at n lane in
     let q : LaneState = lane_after l (frame_took n h) (message_of h part) in
     let sent : on T c ≡ facing T host lane = sym (facing-taking T c) ∙ ap (λ d. facing T d lane) e in
-    let here : LaneNext (on T c) (prio_of lane) l q = frame-next (on T c) (prio_of lane) c l h part (port_takes (port_at n h.dport) h.total h.prio) good in
+    let here : LaneNext (on T c) (prio_of lane) l q = frame-next (on T c) (prio_of lane) c l h part (port_takes (port_at n h.dport) h) good in
     let m : NodeState = with_lane n lane q in
     then-kept (facing T host) n m (delivered_after m h part (frame_took n h))
     (lane-node (facing T host) n lane q (subst (λ s. LaneNext s (prio_of lane) l q) sent here))
@@ -158,7 +159,7 @@ node_expired-next S n peer = node-then S n (with_expired n (lane_of peer 0)) (no
 
 -- what its clients call for
 -- a message is accepted
-not_long : (len : ℕ) → is_too_long len ≡ false → len ≤ piece
+not_long : (len : ℕ) → is_too_long len ≡ false → len ≤ message_limit
 not_long len e = grind (arith, nat_tests)
 
 client-length : (len seed : ℕ) → length (client_bytes len seed) ≡ len
@@ -167,7 +168,7 @@ client-length len seed = length-map (range_with_len 0 len) (λ i. (seed + i) % 2
 pub call-next : (S : ℕ → List Message) {n : NodeState} {c : Option ClientState} {port : ℕ} {call : Called} → Call n c port call → NodeNext S n call.node
 call-next S {n = n} Call.rests = node-kept S n _ refl
 call-next S {n = n} (Call.opens sends recvs d) = node-kept S n _ refl
-call-next S {n = n} (Call.closes p d e f) = node-kept S n _ refl
+call-next S {n = n} (Call.closes p d e) = node-kept S n _ refl
 call-next S {n = n} (Call.provides size prio t ts p d e f g k) = node-kept S n _ refl
 call-next S {n = n} (Call.accepts s t ts p d e f g k) =
     let free = not_refused-acceptable n s k in
@@ -175,7 +176,7 @@ call-next S {n = n} (Call.accepts s t ts p d e f g k) =
     let lane : ℕ = wanted_lane s in
     let here : LaneNext (S lane) (prio_of lane) (lane_at n lane) (with_message (lane_at n lane) (wanted_message s) (record { port = s.port; token = t })) =
     message-next (S lane) (prio_of lane) (lane_at n lane) (wanted_message s) (record { port = s.port; token = t })
-    (subst (λ l. l ≤ piece) (sym long) (not_long s.len free.short))
+    (subst (λ l. l ≤ message_limit) (sym long) (not_long s.len free.short))
     (sym (prio_of-lane s.dest s.prio))
     (ap (λ l. is_spent (lane_at n lane).sender (piece_count l)) long ∙ free.numbered) in
     then-kept S n _ _ (lane-node S n lane _ here) refl
@@ -227,11 +228,11 @@ due-says : (T : ℕ → ℕ → List Message) (host lane : ℕ) (l : LaneState) 
 due-says T host lane l f is same a b e =
     let c : ConnectionKey = sends_on host lane in
     let d = then-some (λ seq. frame_of c l.sent seq) (due l.sender) f e in
-    let few = subst (λ ms. length ms ≤ number_limit) (sym same) is.few in
-    let short = subst (AllByRecursion (λ m. length m.body ≤ piece)) (sym same) is.short in
+    let few = subst (λ ms. length (fragments ms) ≤ number_limit) (sym same) is.few in
+    let short = subst (AllByRecursion (λ m. length m.body ≤ message_limit)) (sym same) is.short in
     let of_prio = subst (AllByRecursion (λ m. prio_place m.prio ≡ prio_of lane)) (sym same) is.of_prio in
     let it : frame_of c (T host lane) d.0 ≡ Some f = ap (λ ms. frame_of c ms d.0) same ∙ d.1.1 in
-    frame-says T host lane d.0 f few of_prio a b it (frame-message c d.0 (T host lane) d.0 f short it)
+    frame-says T host lane d.0 f few short of_prio a b it
 
 due-out : (T : ℕ → ℕ → List Message) (host : ℕ) (n : NodeState) (lane : ℕ) (x : Outgoing) → IsHost host n → T host lane ≡ (lane_at n lane).sent → lane < length n.lanes → due_on host n lane ≡ Some x → IsOut (on T) x
 due-out T host n lane x is same low e =

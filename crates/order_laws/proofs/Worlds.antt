@@ -1,10 +1,11 @@
--- Every act keeps what was got on each connection a front part of what was sent on it, and the frames on their way the fragments of their numbers.
-use Rattle.std.proofs.Common.{◌≡◌, ◌+◌, ◌≤◌, ◌<◌, ℕ, zero, suc, List, length, replicate, get_or, IfSome, refl, subst, arith}
+-- Every act keeps what was got on each connection a prefix of what was sent on it, and the frames on their way the fragments of their numbers.
+use Rattle.std.proofs.Common.{◌≡◌, ◌+◌, ◌≤◌, ◌<◌, ℕ, zero, suc, List, length, replicate, get_or, IfSome, refl, sym, subst, arith}
 use Rattle.std.specs.List.{AllByRecursion}
 use Rattle.std.proofs.lemmas.List.{length-replicate}
 use Rattle.net_defs.specs.Network.{Network, IsFabric}
 use Rattle.packet_defs.specs.declared.kind.Kind.TheVariants.{Gm}
 use Rattle.link_defs.specs.Links.{Held}
+use Rattle.gm_defs.specs.declared.frame.ConnectionKey.{ConnectionKey}
 use Rattle.gm_defs.specs.declared.message.Message.{Message}
 use Rattle.world_defs.specs.declared.event.Event.{Event}
 use Rattle.world_defs.specs.declared.effect.Effect.{Effect}
@@ -13,12 +14,13 @@ use Rattle.world_defs.specs.Lane.{new_lane}
 use Rattle.world_defs.specs.Node.{NodeState, lane_count, prio_place, peer_of, prio_of, lane_of, sending_lane, taking_lane, lane_at, packet_for, new_node}
 use Rattle.world_defs.proofs.Lanes.{facing, facing-taking, prio_of-lane, peer_of-below}
 use Rattle.world_defs.specs.World.{WorldState, fabric_of, host_count, new_world, node_at}
-use Rattle.world_defs.specs.Sound.{IsFront}
-use Rattle.world_defs.specs.Traffic.{sent_on, got_on}
+use Rattle.world_defs.specs.Sound.{IsPrefix}
+use Rattle.world_defs.specs.Traffic.{sent_on, got_on, coming_on, taken_on}
 use Rattle.act_defs.specs.Acts.{Act, acted, IsByteAct, IsReached}
 use Rattle.order_laws.specs.Says.{SaysTrue}
-use Rattle.order_laws.specs.Order.{GotIsFrontOfSent, GotIsAsLongAsTaken, SentIsOfPriority, FramesAreHonest}
-use Rattle.order_laws.proofs.Lanes.{IsNumbered, InOrder, front-then}
+use Rattle.order_laws.specs.Order.{GotIsFrontOfSent, HasCome, TakenHasCome, SentIsOfPriority, FramesAreHonest}
+use Rattle.gm_defs.proofs.Numbers.{none-below}
+use Rattle.order_laws.proofs.Lanes.{IsNumbered, InOrder, order-more}
 use Rattle.order_laws.proofs.Frames.{says-more}
 use Rattle.world_defs.proofs.Views.{HostChange}
 use Rattle.world_defs.proofs.Calls.{call_view}
@@ -66,6 +68,10 @@ pub record IsOrdered (w : WorldState) : Type 0 where
   pub hosts : (h : ℕ) → IsHost h (node_at w h)
   pub order : (h lane : ℕ) → InOrder (to_host w h lane) (lane_at (node_at w h) lane)
 
+-- what each host has sent by each lane only grows
+pub lanes-grow : (w : WorldState) (a : Act) → IsOrdered w → (h lane : ℕ) → IsPrefix (sent_by_lane w h lane) (sent_by_lane (acted w a) h lane)
+lanes-grow w a is h lane = (((acted-goes w a is.links).nodes h).lanes lane).grows
+
 host-next : (h : ℕ) (S : ℕ → List Message) (n m : NodeState) → IsHost h n → NodeNext S n m → IsHost h m
 host-next h S n m is k = record {
   fits = λ lane low. is.fits lane (subst (λ l. lane < l) k.count low);
@@ -77,7 +83,7 @@ acted-ordered w a low is =
     let v : WorldState = acted w a in
     let F : ℕ → Held → Type 0 = λ c. IsHonest (SaysTrue (sent_on w)) in
     let g : Goes w v = acted-goes w a is.links in
-    let grows : (h lane : ℕ) → IsFront (sent_by_lane w h lane) (sent_by_lane v h lane) = λ h lane. ((g.nodes h).lanes lane).grows in
+    let grows : (h lane : ℕ) → IsPrefix (sent_by_lane w h lane) (sent_by_lane v h lane) = λ h lane. ((g.nodes h).lanes lane).grows in
     let links : Holds F v.links = acted-holds F w (carries-honest (fabric_of w) (SaysTrue (sent_on w))) is.links is.plan a low
     (λ h c out i. new-honest (SaysTrue (sent_on w)) (packet_for h (w.injected + 1) out) (sent-built (sent_by_lane w) h (w.injected + 1) (node_at w h) out (is.hosts h) (λ lane. refl) i.sends)) in
     record {
@@ -87,8 +93,7 @@ acted-ordered w a low is =
       order = λ h lane.
           let peer : ℕ = peer_of lane in
           let back : ℕ = lane_of h (prio_of lane) in
-          let o = ((g.nodes h).lanes lane).order ((is.hosts peer).lanes back).short (is.order h lane) in
-          record { front = front-then (lane_at (node_at v h) lane).got (to_host w h lane) (to_host v h lane) o.front (grows peer back); count = o.count };
+          order-more (to_host w h lane) (to_host v h lane) (lane_at (node_at v h) lane) (grows peer back) (((g.nodes h).lanes lane).order (is.order h lane));
     }
 
 -- the new world
@@ -111,7 +116,7 @@ new-host h k few low = record {
 }
 
 new-order : (from : List Message) → InOrder from new_lane
-new-order from = record { front = record { rest = from; both = refl }; count = refl }
+new-order from = let none = none-below from in record { front = record { rest = from; both = refl }; count = sym none.0; coming = sym none.1; within = omega arith }
 
 pub new-ordered : (n : Network) → IsFabric n → IsOrdered (new_world n)
 new-ordered n f =
@@ -131,10 +136,16 @@ pub reached-ordered : (n : Network) (w : WorldState) → IsReached n w → IsOrd
 reached-ordered n w is = reached-has IsOrdered n (new-ordered n is.fabric) (λ w a r may. acted-ordered w a (may-byte w a may)) w is
 
 pub got-front : GotIsFrontOfSent
-got-front n w is c = subst (IsFront (got_on w c)) (facing-taking (sent_by_lane w) c) ((reached-ordered n w is).order c.dst (taking_lane c)).front
+got-front n w is c = subst (IsPrefix (got_on w c)) (facing-taking (sent_by_lane w) c) ((reached-ordered n w is).order c.dst (taking_lane c)).front
 
-pub got-count : GotIsAsLongAsTaken
-got-count n w is c = ((reached-ordered n w is).order c.dst (taking_lane c)).count
+-- what came of the fragments that were taken on a connection
+pub ordered-come : (w : WorldState) (c : ConnectionKey) → IsOrdered w → HasCome (sent_on w c) (got_on w c) (coming_on w c) (taken_on w c)
+ordered-come w c is =
+    let i = is.order c.dst (taking_lane c) in
+    subst (λ ms. HasCome ms (got_on w c) (coming_on w c) (taken_on w c)) (facing-taking (sent_by_lane w) c) (record { whole = i.count; begun = i.coming; within = i.within })
+
+pub taken-come : TakenHasCome
+taken-come n w is c = ordered-come w c (reached-ordered n w is)
 
 pub sent-of_priority : SentIsOfPriority
 sent-of_priority n w is c =

@@ -1,4 +1,4 @@
-//! What was got on each connection is a front part of what was sent on it, after every list of acts that may happen:
+//! What was got on each connection is a prefix of what was sent on it, after every list of acts that may happen:
 //! from each host to each other, for each priority by itself.
 //!
 //! It sends nothing, and says nothing of how much is got: that is `window_laws`. Read `specs/Order.antt` first.

@@ -1,12 +1,12 @@
 //! The messages of a connection: `specs/Order.antt` has the statements.
 
-ghost use Rattle.order_laws.specs.Order.{GotIsFrontOfSent, GotIsAsLongAsTaken, SentIsOfPriority, FramesAreHonest};
+ghost use Rattle.order_laws.specs.Order.{GotIsFrontOfSent, TakenHasCome, SentIsOfPriority, FramesAreHonest};
 
 /// On each connection, so between two hosts for each priority, no message comes twice or out of order, and none is
 /// left out before one that came.
 pub fn messages_in_order()
     ensures front { GotIsFrontOfSent }
-    ensures count { GotIsAsLongAsTaken }
+    ensures taken { TakenHasCome }
 {}
 
 /// A message is sent on the connection of its priority.

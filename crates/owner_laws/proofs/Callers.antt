@@ -36,9 +36,9 @@ both-owned {o = o} p d e f is = subst (λ q. AreOwned q (Some d)) e (subst (λ b
 pub call-owned : {n : NodeState} {c : Option ClientState} {port : ℕ} {call : Called} → Call n c port call → AreOwned (port_at n port) c → CallOwned n port call
 call-owned {n = n} {c = c} (Call.rests {port = port}) is = stays n port c _ is
 call-owned {n = n} (Call.opens {port = port} sends recvs e) is = changes n n port (Some (opened sends recvs)) (Some (new_client sends recvs)) _ refl (owned-new sends recvs)
-call-owned {n = n} (Call.closes {port = port} p e f g) is = changes n n port None None _ refl tt
+call-owned {n = n} (Call.closes {port = port} p e f) is = changes n n port None None _ refl tt
 call-owned {n = n} (Call.provides {port = port} size prio t ts p d e f g k) is =
-    let q : Provided = record { token = t; size = size; prio = prio; buffer = empty_buffer size } in
+    let q : Provided = record { token = t; size = size; prio = prio; filling = None; buffer = empty_buffer size } in
     changes n n port (Some (provided_with p q)) (Some (record d { recvs = ts })) (Token t) refl (owned-provided p d q ts g (both-owned p d e f is))
 call-owned {n = n} (Call.accepts s t ts p d e f g k) is =
     record { at_port = Some (sent_with p t (client_bytes s.len s.seed)); ports = refl; owned = owned-sending p d t (client_bytes s.len s.seed) ts g (both-owned p d e f is) }

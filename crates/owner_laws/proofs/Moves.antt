@@ -1,10 +1,12 @@
 -- Each token goes from one place to another: by a call of the client, by an acknowledgement, and by a message.
-use Rattle.std.proofs.Common.{◌≡◌, ℕ, Bool, true, false, List, [], ◌∷◌, ◌++◌, map, nat_eq, nat_lt, Option, Some, None, refl, sym, ap, subst, arith, if◌then◌else◌}
+use Rattle.std.proofs.Common.{◌≡◌, ℕ, Bool, true, false, List, [], ◌∷◌, ◌++◌, map, nat_eq, nat_lt, Option, Some, None, refl, sym, ap, ◌∙◌, subst, arith, if◌then◌else◌}
 use Rattle.std.specs.Prelude.{find}
 use Rattle.std.proofs.lemmas.Bool.Decides.{nat_tests}
 use Rattle.gm_defs.specs.declared.frame.FrameHead.{FrameHead}
-use Rattle.gm_defs.specs.Token.{Sending, Provided, PortEvent, Sent, Received, PortState, opened, sent_tokens, received_tokens, fits, fitting}
-use Rattle.gm_defs.specs.Port.{without_first, with_send, sent_with, provided_with, send_of, ended_by, finished, filled, taken_by, delivered}
+use Rattle.gm_defs.specs.Token.{Sending, Provided, PortEvent, Sent, Received, PortState, opened, sent_tokens, received_tokens, takes_at}
+use Rattle.gm_defs.specs.Port.{without_first, with_first, with_send, sent_with, provided_with, send_of, ended_by, finished, filled, filling_with, delivered}
+use Rattle.gm_defs.proofs.Found.{same-numbers}
+use Rattle.gm_defs.proofs.Takers.{Delivery, delivery}
 use Rattle.world_defs.specs.Client.{ClientState, new_client}
 use Rattle.world_defs.specs.Sound.{IsEachOnce, HasOwners}
 use Rattle.owner_laws.proofs.Places.{Into, here, behind, into-left, into-right, into-end, once-moved, once-new}
@@ -138,17 +140,22 @@ owned-finished p c token is = by (send_of p token) refl
           recvs = subst (λ es. IsEachOnce p.recvs (c.recvs ++ (providing p ++ es))) (sym (received-same token s.buffer p.events)) is.recvs;
         }
 
--- a message is taken
+-- a fragment is taken
 pub owned-delivered : (p : PortState) (c : ClientState) (h : FrameHead) (part : List ℕ) → HasOwners p c → HasOwners (delivered p h part) c
-owned-delivered p c h part is = by (fitting p h.total h.prio) refl
+owned-delivered p c h part is = by (delivery p h part)
   where
-    by : (o : Option Provided) → fitting p h.total h.prio ≡ o → HasOwners (taken_by p h part o) c
-    by None e = is
-    by (Some r) e =
-        let test : Provided → Bool = λ x. fits x.size x.prio h.total h.prio in
+    by : {q : PortState} → Delivery p h part q → HasOwners q c
+    by (Delivery.missed e) = is
+    by (Delivery.ends r e t) =
+        let test : Provided → Bool = takes_at p h in
+        let buffer : List ℕ = filled r.buffer h.offset part in
         let left : List ℕ = map (λ x. x.token) (without_first test p.provided) in
-        let now : List PortEvent = p.events ++ Received r.token (filled r.buffer part) h.src h.sport h.prio h.total ∷ [] in
+        let now : List PortEvent = p.events ++ Received r.token buffer h.src h.sport h.prio h.total ∷ [] in
         record {
-          sends = subst (λ es. IsEachOnce p.sends (c.sends ++ (sending p ++ es))) (sym (sent-same r.token (filled r.buffer part) h.src h.sport h.prio h.total p.events)) is.sends;
-          recvs = once-ended p.recvs r.token c.recvs (providing p) left (received_tokens p.events) (received_tokens now) (into-found test (λ x. x.token) p.provided r e) (into-received r.token (filled r.buffer part) h.src h.sport h.prio h.total p.events) is.recvs;
+          sends = subst (λ es. IsEachOnce p.sends (c.sends ++ (sending p ++ es))) (sym (sent-same r.token buffer h.src h.sport h.prio h.total p.events)) is.sends;
+          recvs = once-ended p.recvs r.token c.recvs (providing p) left (received_tokens p.events) (received_tokens now) (into-found test (λ x. x.token) p.provided r e) (into-received r.token buffer h.src h.sport h.prio h.total p.events) is.recvs;
         }
+    by (Delivery.goes_on r e t) =
+        let test : Provided → Bool = takes_at p h in
+        let same : map (λ x. x.token) (with_first test (filling_with h part r) p.provided) ≡ providing p = same-numbers (λ x. x.token) test p.provided r (filling_with h part r) e refl in
+        record { sends = is.sends; recvs = subst (λ ts. IsEachOnce p.recvs (c.recvs ++ (ts ++ received_tokens p.events))) (sym same) is.recvs }

@@ -58,3 +58,18 @@ fn frames_are_taken_in_order_and_once(rt: HostRuntime) -> Result<(), Fail> {
     assert_eq!(rt; counts, (0, 1, 1));
     Ok(())
 }
+
+#[test]
+fn a_message_of_two_fragments_is_taken_with_its_last(rt: HostRuntime) -> Result<(), Fail> {
+    let mut pair = Pair::new(rt.alloc(), 0, 1, 0);
+    pair.step(PairEvent::Offer { total: 1_017 })?;
+    pair.step(PairEvent::Emit)?;
+    pair.step(PairEvent::Emit)?;
+    let counts = (
+        taken(&mut pair, 1)?,
+        taken(&mut pair, 0)?,
+        taken(&mut pair, 1)?,
+    );
+    assert_eq!(rt; counts, (0, 0, 1));
+    Ok(())
+}

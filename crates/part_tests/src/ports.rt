@@ -69,7 +69,7 @@ fn ask(len: u32) -> SendAsk
 
 #[test]
 fn refused_calls_hand_everything_back(rt: HostRuntime) {
-    let long = register([0; 1_017].to_vec(rt.alloc()).expect(&rt, "memory"));
+    let long = register([0; 65_529].to_vec(rt.alloc()).expect(&rt, "memory"));
     let short = register([0; 2].to_vec(rt.alloc()).expect(&rt, "memory"));
     let eight = register([0; 8].to_vec(rt.alloc()).expect(&rt, "memory"));
     let Minted {
@@ -78,7 +78,7 @@ fn refused_calls_hand_everything_back(rt: HostRuntime) {
         mut recvs,
     } = Bank::mint(rt.alloc(), 1, 1, 1, 1).expect(&rt, "memory");
     let mut port = Port::begin(rt.alloc(), 1, 1, 1, 1).expect(&rt, "memory");
-    let Err((send, long, too_long)) = port.send(take_send(&mut sends), long, ask(1_017)) else {
+    let Err((send, long, too_long)) = port.send(take_send(&mut sends), long, ask(65_529)) else {
         panic!(rt; "taken");
     };
     let Err((send, short, too_short)) = port.send(send, short, ask(3)) else {
@@ -109,7 +109,7 @@ fn refused_calls_hand_everything_back(rt: HostRuntime) {
     assert_eq!(rt; deregister(eight).as_slice(), [0; 8].as_slice());
     assert_eq!(rt;
         (deregister(long).len(), deregister(short).len()),
-        (1_017, 2)
+        (65_529, 2)
     );
     retire(&rt, bank, sends, recvs, send, receive);
 }

@@ -23,7 +23,7 @@ use Rattle.world_defs.specs.declared.effect.Said.TheVariants.{Done, Count, Token
 use Rattle.world_defs.specs.declared.effect.Said.TheVariants.{Refused as SaidRefused}
 use Rattle.world_defs.specs.declared.client.ClientCause.{ClientCause}
 use Rattle.world_defs.specs.declared.client.ClientCause.TheVariants.{Already, NotOpen, NoToken, TooLong, NoRoute, Spent}
-use Rattle.world_defs.specs.declared.client.ClientCause.TheVariants.{BadSize, Busy, Unread}
+use Rattle.world_defs.specs.declared.client.ClientCause.TheVariants.{BadSize, Busy, Unread, Filling}
 use Rattle.world_defs.specs.declared.heard.Heard.{Heard}
 use Rattle.world_defs.specs.declared.heard.Heard.TheVariants.{Probe, Reply, Loop, Routes as HeardRoutes, RoutesAck}
 use Rattle.world_defs.specs.declared.heard.Heard.TheVariants.{Message, Fragment, NotNext, NoToken as NoTokenFits, Ack}
@@ -102,7 +102,8 @@ call_word Send = codes "send"
 call_word Poll = codes "poll"
 call_word TokensCall = codes "tokens"
 
--- why a client's call was refused; `busy` with the unfinished sends, `unread` with the waiting events
+-- why a client's call was refused; `busy` with the unfinished sends, `unread` with the waiting events, `filling` with
+-- the provided tokens that hold the beginning of a message
 abbrev pub client_cause : ClientCause → List (List ℕ)
 client_cause Already = codes "already" ∷ []
 client_cause NotOpen = codes "notopen" ∷ []
@@ -113,6 +114,7 @@ client_cause Spent = codes "spent" ∷ []
 client_cause BadSize = codes "badsize" ∷ []
 client_cause (Busy n) = codes "busy" ∷ decimal n ∷ []
 client_cause (Unread n) = codes "unread" ∷ decimal n ∷ []
+client_cause (Filling n) = codes "filling" ∷ decimal n ∷ []
 
 -- what a client's call said: that it was done, the token that it gave up, the event that it took, or its refusal
 abbrev pub said_words : Network → Said → List (List ℕ)

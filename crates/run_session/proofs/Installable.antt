@@ -15,7 +15,7 @@ use Rattle.map_defs.specs.declared.vertex.MapVertex.TheVariants.{Host as MapHost
 use Rattle.map_defs.specs.NetMap.{NetMap, MapPort, host_at, host_of_vertex, hosts_of}
 use Rattle.map_defs.specs.Orientation.{order_of}
 use Rattle.map_defs.specs.Routing.{AreRoutesOf, IsLeastLegal, LeadsTo, led_to, vertex_of_host}
-use Rattle.net_defs.specs.RouteSet.{HasRoute, channels_of_all}
+use Rattle.net_defs.specs.RouteSet.{HasRoute}
 use Rattle.map_defs.specs.Sameness.{IsMapOfPart, address_of}
 use Rattle.map_laws.proofs.Listed.{member-host}
 use Rattle.world_defs.specs.Table.{Adoption, is_other}

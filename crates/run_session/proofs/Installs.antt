@@ -1,24 +1,19 @@
 -- That an installation of the last routes is p, and so obeyed.
-use Rattle.std.proofs.Common.{◌≡◌, ℕ, ◌∷◌, [], ◌++◌, List, length, map, Bool, true, false, not, Option, Some, None, refl, sym, ◌∙◌, ap, subst, if◌then◌else◌}
-use Rattle.std.specs.Prelude.{flat_map, IfSome}
-use Rattle.net_defs.specs.Network.{Network}
+use Rattle.std.proofs.Common.{◌≡◌, ℕ, ◌∷◌, [], List, length, map, Bool, true, false, not, Option, Some, None, refl, sym, ◌∙◌, ap, subst, if◌then◌else◌}
+use Rattle.std.specs.Prelude.{IfSome}
 use Rattle.link_defs.specs.Links.{is_idle}
 use Rattle.world_defs.specs.World.{WorldState, fabric_of, adopted_by}
 use Rattle.world_defs.specs.Table.{Adoption, is_other}
 use Rattle.world_defs.specs.Install.{installed}
 use Rattle.run_defs.specs.declared.command.Command.TheVariants.{Install}
-use Rattle.run_defs.specs.declared.line.Line.{Line}
 use Rattle.run_defs.specs.declared.line.Line.TheVariants.{Installed, InstallRefused}
 use Rattle.run_defs.specs.declared.line.InstallCause.{InstallCause}
 use Rattle.run_defs.specs.declared.line.InstallCause.TheVariants.{NoRoutes, Busy, Installed as OtherInstalled}
-use Rattle.run_defs.specs.LineText.{line_text, output_text}
 use Rattle.run_defs.specs.Output.{OneLine, lines}
-use Rattle.run_defs.specs.Summary.{figures_in}
 use Rattle.run_defs.specs.Outcome.{Outcome, adoption_of, install, install_done, install_now, says_only, table_line}
 use Rattle.run_defs.specs.Run.{Does}
 use Rattle.run_defs.specs.Session.{SessionState, LastMap, LastRoutes}
 use Rattle.fab_report.specs.Printed.{PrintedState, printed_of}
-use Rattle.fab_report.proofs.Printing.{followed}
 use Rattle.world_commands.specs.Done.{session_of}
 use Rattle.run_session.specs.Obeyed.{IsObeyed}
 use Rattle.run_session.specs.Told.{AreInstalledTold, IsInstallTold}
@@ -67,22 +62,6 @@ installed_told w mid after l tries p idle other is told = record {
         ap (λ b. choice (session_of w made (Some l)) l tries b (is_other l.routes w.adopted)) idle
         ∙ ap (choice (session_of w made (Some l)) l tries true) other
         ∙ ap (install_done (session_of w made (Some l)) l.hosts) counted
-
--- the lines of tables, one after another
-tables-text : (n : Network) (w : WorldState) (hosts : List ℕ) → flat_map (λ h. line_text n (table_line w h)) hosts ≡ output_text n (lines (map (table_line w) hosts))
-tables-text n w [] = refl
-tables-text n w (h ∷ hosts) = ap (λ t. line_text n (table_line w h) ++ t) (tables-text n w hosts)
-
-tables-none : (w : WorldState) (hosts : List ℕ) → figures_in (lines (map (table_line w) hosts)) ≡ []
-tables-none w [] = refl
-tables-none w (h ∷ hosts) = tables-none w hosts
-
--- a line, and the tables behind it
-pub tables-told : (n : Network) (w : WorldState) (l : Line) (hosts tables : List ℕ) (before after : PrintedState) → before ≡ printed_of n (OneLine l ∷ [])
-    → tables ≡ flat_map (λ h. line_text n (table_line w h)) hosts → after ≡ record { text = before.text ++ tables; figures = before.figures }
-    → after ≡ printed_of n (lines (l ∷ map (table_line w) hosts))
-tables-told n w l hosts tables before after first rest behind =
-    followed n (OneLine l ∷ []) (lines (map (table_line w) hosts)) before after tables first (rest ∙ tables-text n w hosts) (tables-none w hosts) behind
 
 -- an installation that was counted is told
 pub counted-told : (w after : WorldState) (l : LastRoutes) (tries acked total : ℕ) (hosts : List ℕ) (p : PrintedState) → w.adopted ≡ Some (adoption_of l) → IfSome w.adopted (λ a. installed a hosts tries w ≡ (acked, after)) → total ≡ length hosts → hosts ≡ l.hosts → fabric_of after ≡ fabric_of w → p ≡ printed_of (fabric_of after) (lines (Installed acked total ∷ map (table_line after) hosts)) → AreInstalledTold w l tries after p

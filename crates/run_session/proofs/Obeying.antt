@@ -1,8 +1,6 @@
 -- That each command is obeyed, by what it printed.
-use Rattle.std.proofs.Common.{◌≡◌, ℕ, min, ◌∷◌, [], List, length, Option, Some, None, true, false, ◌++◌, refl, sym, ◌∙◌, ap, append-nil, if◌then◌else◌}
-use Rattle.net_defs.specs.Network.{Network}
+use Rattle.std.proofs.Common.{◌≡◌, ℕ, min, ◌∷◌, [], List, length, Option, Some, None, true, false, refl, sym, ◌∙◌, ap, if◌then◌else◌}
 use Rattle.link_defs.specs.Links.{is_idle}
-use Rattle.map_defs.specs.NetMap.{NetMap}
 use Rattle.map_defs.specs.Orientation.{order_of}
 use Rattle.map_defs.specs.Routing.{AreRoutesOf}
 use Rattle.world_defs.specs.World.{WorldState, fabric_of, last_count}
@@ -11,20 +9,19 @@ use Rattle.run_defs.specs.declared.command.Command.{Command}
 use Rattle.run_defs.specs.declared.command.Command.TheVariants.{Map, Circuit, Routes, Settle}
 use Rattle.run_defs.specs.declared.line.Line.{Line}
 use Rattle.run_defs.specs.declared.line.Line.TheVariants.{Map as MapLine, MapBusy, NoMap, Settle as SettleLine}
-use Rattle.run_defs.specs.Output.{OneLine, MapLines, lines}
+use Rattle.run_defs.specs.Output.{OneLine, lines}
 use Rattle.run_defs.specs.Session.{SessionState, LastMap, LastRoutes, complete_map}
 use Rattle.run_defs.specs.Outcome.{outcome, says_only, routes_refused}
 use Rattle.run_defs.specs.Run.{Does, hosts_by_address, map_pieces, routes_lines}
-use Rattle.run_defs.specs.LineText.{map_text}
 use Rattle.fab_report.specs.Printed.{PrintedState, printed_of}
-use Rattle.fab_report.proofs.Printing.{followed}
 use Rattle.map_making.specs.declared.making.MadeMap.{MadeMap}
 use Rattle.map_making.specs.Circuit.{IsCircuitPrinted}
+use Rattle.map_making.specs.Lines.{map_lines}
 use Rattle.world_commands.specs.Done.{IsDone, session_of}
 use Rattle.world_commands.proofs.Done.{one}
 use Rattle.run_session.specs.declared.mapping.MapOrder.{MapOrder}
 use Rattle.run_session.specs.Obeyed.{IsObeyed}
-use Rattle.run_session.specs.Told.{AreRoutesTold, IsMadeOver, map_lines, map_of}
+use Rattle.run_session.specs.Told.{AreRoutesTold, IsMadeOver, map_of}
 
 -- what was done over the world of a session
 pub done_so : (c d : Command) (w v : WorldState) (made : Option LastMap) (found : Option LastRoutes) (p : PrintedState) → IsDone d w v p → d ≡ c → IsObeyed (session_of w made found) c (session_of v made found) p
@@ -49,11 +46,6 @@ only s c l p is e = record { output = lines (l ∷ []); does = Does.determined i
 pub busy_so : (s : SessionState) (host depth tries : ℕ) (p : PrintedState) → is_idle s.world.links ≡ false → p ≡ printed_of (fabric_of s.world) (OneLine (MapBusy host) ∷ []) → IsObeyed s (Map host depth tries) s p
 busy_so s host depth tries p busy e =
     only s (Map host depth tries) (MapBusy host) p (ap (λ b. if b then None else Some (says_only s (MapBusy host ∷ []))) busy) e
-
--- the line of a map, and the map's lines behind it
-pub map_followed : (n : Network) (l : Line) (m : NetMap) (before now : PrintedState) → before ≡ printed_of n (OneLine l ∷ []) → now ≡ record { text = before.text ++ map_text n m; figures = before.figures }
-    → now ≡ printed_of n (OneLine l ∷ MapLines m ∷ [])
-map_followed n l m before now e f = followed n (OneLine l ∷ []) (MapLines m ∷ []) before now (map_text n m) e (sym (append-nil (map_text n m))) refl f
 
 -- a map that was made is the last one
 pub mapped_so : (w v : WorldState) (order : MapOrder) (m : MadeMap) (packets : ℕ) (last now : Option LastMap) (p : PrintedState) → is_idle w.links ≡ true → IsMadeOver order w v m packets

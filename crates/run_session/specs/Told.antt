@@ -8,10 +8,10 @@ use Rattle.world_defs.specs.World.{WorldState, fabric_of}
 use Rattle.world_defs.specs.Install.{installed}
 use Rattle.run_defs.specs.declared.command.Command.{Command}
 use Rattle.run_defs.specs.declared.command.Command.TheVariants.{Map as MapCommand}
-use Rattle.run_defs.specs.declared.line.Line.TheVariants.{Map, Installed}
+use Rattle.run_defs.specs.declared.line.Line.TheVariants.{Installed}
 use Rattle.run_defs.specs.Mapped.{IsMapped}
-use Rattle.run_defs.specs.Output.{Piece, OneLine, lines}
-use Rattle.run_defs.specs.Run.{map_pieces, routes_lines, hosts_by_address}
+use Rattle.run_defs.specs.Output.{lines}
+use Rattle.run_defs.specs.Run.{routes_lines, hosts_by_address}
 use Rattle.run_defs.specs.Outcome.{adoption_of, install, table_line}
 use Rattle.run_defs.specs.Session.{LastMap, LastRoutes}
 use Rattle.fab_report.specs.Printed.{PrintedState, printed_of}
@@ -29,10 +29,6 @@ pub record IsMadeOver (order : MapOrder) (before after : WorldState) (m : MadeMa
   pub mapped : IsMapped order.host order.depth order.tries before after journal m.map m.words
   pub asks : m.asks ≡ length journal
   pub injected : packets ≡ after.injected - before.injected
-
--- the line of a map that was made, and its lines
-abbrev pub map_lines : ℕ → MadeMap → ℕ → List Piece
-map_lines host m packets = OneLine (Map host m.words m.asks packets) ∷ map_pieces m.words m.map
 
 -- Routes were computed of a map and are told: they are the last ones, with the map's mapper and its hosts by address.
 pub record AreRoutesTold (w : WorldState) (l : LastMap) (found : Option LastRoutes) (told : PrintedState) : Type 0 where

@@ -20,9 +20,7 @@ use fab_world::World;
 use link_model::Links;
 use run_defs::Command;
 use std::alloc::{AllocError, Global};
-use world_commands::{
-    PortAt, SendRequest, close, finish, open, plan, poll, provide, send, step, tokens, walk,
-};
+use world_commands::do_one;
 
 /// Does a command over the parts of a session: the world then, and what it printed, unless memory was wanting.
 pub(crate) fn obey(
@@ -77,48 +75,11 @@ fn obey_here(
     ensures err { OnErr result (last_routes.new ≡ last_routes.old) }
 {
     match c {
-        Command::Walk { host, walk: taken } => walk(alloc, w, links, *host, taken.turns()),
         Command::Map { host, .. } => busy_text(alloc, w, *host),
         Command::Circuit { host, depth } => circuit(alloc, w, *host, *depth),
         Command::Routes => routes(alloc, w, last_map, last_routes),
         Command::Install { tries } => install_text(alloc, w, last_routes, *tries),
-        Command::Begin {
-            host,
-            port,
-            sends,
-            recvs,
-        } => open(alloc, w, PortAt::new(*host, *port), *sends, *recvs),
-        Command::Close { host, port } => close(alloc, w, PortAt::new(*host, *port)),
-        Command::Poll { host, port } => poll(alloc, w, PortAt::new(*host, *port)),
-        Command::Tokens { host, port } => tokens(alloc, w, PortAt::new(*host, *port)),
-        Command::Provide {
-            host,
-            port,
-            size,
-            prio,
-        } => provide(alloc, w, PortAt::new(*host, *port), *size, *prio),
-        Command::Send {
-            host,
-            port,
-            dest,
-            dport,
-            prio,
-            len,
-            seed,
-        } => send(
-            alloc,
-            w,
-            PortAt::new(*host, *port),
-            SendRequest {
-                to: PortAt::new(*dest, *dport),
-                prio: *prio,
-                len: *len,
-                seed: *seed,
-            },
-        ),
-        Command::Plan { ahead, kind } => plan(alloc, w, *ahead, *kind),
-        Command::Step(line) => step(alloc, w, *line),
-        Command::Finish => finish(alloc, w),
         Command::Settle => settle_text(alloc, w),
+        _ => do_one(alloc, w, links, c),
     }
 }

@@ -1,27 +1,24 @@
 //! An installation of the last routes, and what it prints.
 
-ghost use Rattle.std.specs.Prelude.{◌≡◌, ◌≤◌, ◌++◌, ◌∷◌, [], true, false, not, map, length, flat_map, Some};
-ghost use Rattle.std.specs.Prelude.{if◌then◌else◌, IfOk, OnOk, OnErr};
-ghost use Rattle.std.specs.List.{AllByRecursion};
+ghost use Rattle.std.specs.Prelude.{◌≡◌, ◌≤◌, ◌∷◌, [], true, not, Some, if◌then◌else◌, IfOk, OnErr};
 ghost use Rattle.link_defs.specs.Links.{is_idle};
-ghost use Rattle.world_defs.specs.World.{fabric_of, host_count, adopted_by};
-ghost use Rattle.run_defs.specs.LineText.{line_text};
-ghost use Rattle.run_defs.specs.Output.{OneLine, lines};
-ghost use Rattle.run_defs.specs.Outcome.{adoption_of, table_line};
+ghost use Rattle.world_defs.specs.World.{fabric_of, adopted_by};
+ghost use Rattle.run_defs.specs.Output.{OneLine};
+ghost use Rattle.run_defs.specs.Outcome.{adoption_of};
 ghost use Rattle.world_defs.specs.Table.{is_other};
 ghost use Rattle.run_defs.specs.Session.{LastRoutes};
-ghost use Rattle.run_defs.specs.declared.line.Line.TheVariants.{Installed as InstalledLine, InstallRefused};
+ghost use Rattle.run_defs.specs.declared.line.Line.TheVariants.{InstallRefused};
 ghost use Rattle.fab_report.specs.Printed.{printed_of};
-ghost use Rattle.fab_world.specs.Events.{IsHostOf};
 ghost use Rattle.run_session.specs.Kept.{AreKeptRoutes};
 ghost use Rattle.run_session.specs.Told.{AreInstalledTold, IsInstallTold};
 
 use crate::last::LastFound;
-use fab_drive::{Installed, install};
-use fab_report::{Printed, print_line};
+use fab_drive::install;
+use fab_report::Printed;
 use fab_world::{AdoptRefusal, World};
 use run_defs::{InstallCause, Line};
 use std::alloc::{AllocError, Global};
+use world_commands::print_tables;
 
 /// Installs the last routes, unless that is refused: no routes were computed, a channel holds a packet, or other
 /// routes are adopted.
@@ -127,55 +124,5 @@ fn install_adopted(
 {
     w.moment();
     let installed = install(alloc, w, &l.hosts, tries)?;
-    installed_text(alloc, w, &l.hosts, installed)
-}
-
-// How many hosts have acknowledged all their parts, and each host's table.
-fn installed_text(
-    alloc: Global,
-    w: &World,
-    hosts: &[u16],
-    installed: Installed,
-) -> Result<Printed, AllocError>
-    requires hosts { AllByRecursion (IsHostOf w.now) hosts.now }
-    ensures { IfOk result (λ p. p ≡ printed_of (fabric_of w.now)
-        (lines (InstalledLine installed.acked installed.of ∷ map (table_line w.now) hosts.now))) }
-{
-    let line = Line::Installed {
-        acked: installed.acked,
-        of: installed.of,
-    };
-    let mut printed = Printed::line(alloc, &line, w.fabric())?;
-    let mut tables = Vec::new(alloc);
-    append_tables(alloc, &mut tables, w, hosts)?;
-    printed.follow(&tables)?;
-    Ok(printed)
-}
-
-// A line for each of these hosts: whether its table is active.
-fn append_tables(
-    alloc: Global,
-    text: &mut Vec<u8>,
-    w: &World,
-    hosts: &[u16],
-) -> Result<(), AllocError>
-    requires { AllByRecursion (IsHostOf w.now) hosts.now }
-    ensures { OnOk result (text.new.items ≡ text.old.items
-        ++ flat_map (λ h. line_text (fabric_of w.now) (table_line w.now h)) hosts.now) }
-{
-    for host in hosts {
-        append_table(alloc, text, w, *host)?;
-    }
-    Ok(())
-}
-
-// The line of a host's table.
-fn append_table(alloc: Global, text: &mut Vec<u8>, w: &World, host: u16) -> Result<(), AllocError>
-    requires { IsHostOf w.now host }
-    ensures { OnOk result (text.new.items ≡ text.old.items ++ line_text (fabric_of w.now) (table_line w.now host)) }
-{
-    w.moment();
-    let active = w.table(host).is_some();
-    let line = print_line(alloc, &Line::Table { host, active }, w.fabric())?;
-    text.extend_from_slice(&line)
+    print_tables(alloc, w, &l.hosts, installed.acked, installed.of)
 }

@@ -13,18 +13,18 @@ ghost use Rattle.run_defs.specs.declared.line.MapWords.TheVariants.{Complete};
 ghost use Rattle.fab_report.specs.Printed.{printed_of};
 ghost use Rattle.fab_report.specs.There.{IsHost};
 ghost use Rattle.fab_script.specs.Ranges.{IsCommandOf};
+ghost use Rattle.map_making.specs.Lines.{map_lines};
 ghost use Rattle.world_commands.specs.Done.{session_of};
 ghost use Rattle.run_session.specs.Kept.{IsKeptMap, IsLastMap};
 ghost use Rattle.run_session.specs.Obeyed.{IsObeyed};
-ghost use Rattle.run_session.specs.Told.{IsMadeOver, map_lines, map_of};
+ghost use Rattle.run_session.specs.Told.{IsMadeOver, map_of};
 
 use crate::last::LastMade;
 use fab_drive::WorldProber;
 use fab_report::Printed;
 use fab_world::{Fabric, World};
-use map_making::{MadeMap, make_map};
-use map_text::print_map;
-use run_defs::{Command, Line, MapWords};
+use map_making::{MadeMap, make_map, print_made};
+use run_defs::{Command, Line};
 use std::alloc::{AllocError, Global};
 
 /// A map to be made: from which host, to how many cables, and how often a probe of each kind is tried.
@@ -146,35 +146,11 @@ fn keep_map(
     ensures kept { IsLastMap f.now last_map.new }
     ensures err { OnErr result (last_map.new ≡ last_map.old) }
 {
-    let text = mapping_text(alloc, f, host, &mapping)?;
+    let text = print_made(alloc, f, host, &mapping.made, mapping.packets)?;
     *last_map = Some(LastMade {
         mapper: host,
         words: mapping.made.words,
         made: mapping.made.map,
     });
     Ok(text)
-}
-
-// The line of a map, and the lines of the map itself, unless the tree had too many nodes.
-#[tactic(auto, using(crate::proofs::Obeying::map_followed))]
-fn mapping_text(alloc: Global, f: &Fabric, host: u16, m: &Mapping) -> Result<Printed, AllocError>
-    requires there { IsHost f.now host }
-    requires hosts { AreOfFabric f.now m.now.made.map }
-    ensures { IfOk result (λ p. p ≡ printed_of f.now (map_lines host m.now.made m.now.packets)) }
-{
-    let line = Line::Map {
-        host,
-        words: m.made.words,
-        asks: m.made.asks,
-        packets: m.packets,
-    };
-    let mut printed = Printed::line(alloc, &line, f)?;
-    match m.made.words {
-        MapWords::IncompleteNodes => Ok(printed),
-        MapWords::Complete | MapWords::Doubtful(_) | MapWords::IncompleteDepth => {
-            let lines = print_map(alloc, &m.made.map, f)?;
-            printed.follow(&lines)?;
-            Ok(printed)
-        }
-    }
 }

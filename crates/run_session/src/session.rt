@@ -48,14 +48,19 @@ impl Session {
     pub fn new(alloc: Global, fabric: Fabric) -> Result<Session, AllocError>
         ensures { IfOk result (λ s. s ≡ new_session fabric) }
     {
-        let links = Links::new(alloc, &fabric)?;
         let world = World::new(alloc, fabric)?;
-        Ok(Session {
-            world,
-            links,
-            last_map: None,
-            last_routes: None,
-        })
+        match Links::new(alloc, world.fabric()) {
+            Ok(links) => Ok(Session {
+                world,
+                links,
+                last_map: None,
+                last_routes: None,
+            }),
+            Err(wanting) => {
+                world.end();
+                Err(wanting)
+            }
+        }
     }
 
     /// Does a command over its fabric: the session then, and the text of what it printed. Where memory is wanting,

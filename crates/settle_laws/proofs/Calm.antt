@@ -5,15 +5,15 @@ use Rattle.std.proofs.lemmas.Bool.Decides.{nat_tests}
 use Rattle.gm_defs.specs.declared.message.Message.{Message}
 use Rattle.gm_defs.specs.declared.frame.FrameHead.{FrameHead}
 use Rattle.gm_defs.specs.declared.token.Took.{Took}
-use Rattle.gm_defs.specs.declared.token.Took.TheVariants.{NotNext, NoToken, Whole}
-use Rattle.gm_defs.specs.Body.{part_in}
+use Rattle.gm_defs.specs.declared.token.Took.TheVariants.{NotNext, NoToken, Part, Whole}
+use Rattle.gm_defs.specs.Body.{part_in, is_last}
 use Rattle.gm_defs.specs.Connection.{SenderState, is_taken, acknowledged}
-use Rattle.gm_defs.specs.Token.{PortState, Provided, Sending, fits}
-use Rattle.gm_defs.specs.Port.{without_first, send_of, ended_by, finished, taken_by, delivered}
+use Rattle.gm_defs.specs.Token.{PortState, Provided, Sending, is_free_for, takes_at}
+use Rattle.gm_defs.specs.Port.{without_first, with_first, filling_with, ended_with, going_on_with, send_of, ended_by, finished, taken_by, delivered}
 use Rattle.gm_defs.proofs.Choices.{both}
 use Rattle.world_defs.specs.Lane.{LaneState, Ticket, new_lane, lane_acknowledged, tickets_finished, lane_after}
 use Rattle.world_defs.specs.Node.{NodeState, lane_at, with_lane, port_at, with_port, given_up}
-use Rattle.world_defs.specs.Hearing.{port_takes, message_of, frame_lane, ack_lane, delivered_after, frame_heard, frame_took, all_finished, hear}
+use Rattle.world_defs.specs.Hearing.{port_fits, message_of, frame_lane, ack_lane, delivered_after, frame_heard, frame_took, all_finished, hear}
 use Rattle.world_laws.proofs.Lists.{at-set}
 use Rattle.window_laws.proofs.Heard.{IsHeard, quietly, of_frame, of_ack, hear-is}
 
@@ -27,9 +27,9 @@ pub data TakerCalm (p q : LaneState) : Type 0 where
   keeps : q.taken ≡ p.taken → (p.owes ≡ true → q.owes ≡ true) → TakerCalm p q
   takes : p.taken < q.taken → q.owes ≡ true → TakerCalm p q
 
--- what no port took before, none takes then
+-- what no token that isn't filling fitted before, none fits then
 abbrev pub PortCalm : Option PortState → Option PortState → Type 0
-PortCalm o r = (len prio : ℕ) → port_takes o len prio ≡ false → port_takes r len prio ≡ false
+PortCalm o r = (len prio : ℕ) → port_fits o len prio ≡ false → port_fits r len prio ≡ false
 
 -- a host's connections and ports
 pub record NodeCalm (n m : NodeState) : Type 0 where
@@ -92,9 +92,23 @@ fewer f g (r ∷ rs) e = by (f r) (g r) refl e (fewer f g rs)
     by false true t d rest = d
     by false false t d rest = rw t (rest d)
 
+-- or makes one filling, which fits no message then
+filled-fewer : (f g : Provided → Bool) (y : Provided) (rs : List Provided) → f y ≡ false → is_some (find f rs) ≡ false → is_some (find f (with_first g y rs)) ≡ false
+filled-fewer f g y [] d e = refl
+filled-fewer f g y (r ∷ rs) d e = by (f r) (g r) refl e (filled-fewer f g y rs d)
+  where
+    by : (a b : Bool) → f r ≡ a → is_some (if a then Some r else find f rs) ≡ false → (is_some (find f rs) ≡ false → is_some (find f (with_first g y rs)) ≡ false) → is_some (find f (if b then y ∷ rs else r ∷ with_first g y rs)) ≡ false
+    by true b t k rest = absurd (true≢false k)
+    by false true t k rest = rw d k
+    by false false t k rest = rw t (rest k)
+
 taken_by-calm : (p : PortState) (h : FrameHead) (part : List ℕ) (o : Option Provided) → PortCalm (Some p) (Some (taken_by p h part o))
 taken_by-calm p h part None len prio e = e
-taken_by-calm p h part (Some r) len prio e = fewer (λ r. fits r.size r.prio len prio) (λ x. fits x.size x.prio h.total h.prio) p.provided e
+taken_by-calm p h part (Some r) len prio e = by (is_last h.total h.offset)
+  where
+    by : (b : Bool) → port_fits (Some (if b then ended_with p h part r else going_on_with p h part r)) len prio ≡ false
+    by true = fewer (is_free_for len prio) (takes_at p h) p.provided e
+    by false = filled-fewer (is_free_for len prio) (takes_at p h) (filling_with h part r) p.provided refl e
 
 delivered-calm : (h : FrameHead) (part : List ℕ) (o : Option PortState) → PortCalm o (option_map (λ p. delivered p h part) o)
 delivered-calm h part None len prio e = e
@@ -113,11 +127,13 @@ finished-calm token (Some p) len prio e = ended-calm p token (send_of p token) l
 took-calm : (p : LaneState) (t : Took) (m : Message) → TakerCalm p (lane_after p t m)
 took-calm p NotNext m = TakerCalm.keeps refl (λ o. refl)
 took-calm p NoToken m = TakerCalm.keeps refl (λ o. refl)
+took-calm p Part m = TakerCalm.takes (omega arith) refl
 took-calm p Whole m = TakerCalm.takes (omega arith) refl
 
 delivered_after-calm : (n : NodeState) (h : FrameHead) (part : List ℕ) (t : Took) → NodeCalm n (delivered_after n h part t)
 delivered_after-calm n h part NotNext = node-quiet n n refl refl
 delivered_after-calm n h part NoToken = node-quiet n n refl refl
+delivered_after-calm n h part Part = port-calm n h.dport (option_map (λ p. delivered p h part) (port_at n h.dport)) (delivered-calm h part (port_at n h.dport))
 delivered_after-calm n h part Whole = port-calm n h.dport (option_map (λ p. delivered p h part) (port_at n h.dport)) (delivered-calm h part (port_at n h.dport))
 
 frame-calm : (n : NodeState) (h : FrameHead) (part : List ℕ) (t : Took) → NodeCalm n (frame_heard n h part t).1

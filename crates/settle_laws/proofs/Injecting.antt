@@ -1,5 +1,5 @@
 -- An injection behind a give-up: the fragment stays, or its frame or an acknowledgement of it begins its way.
-use Rattle.std.proofs.Common.{◌≡◌, ◌≢◌, ◌<◌, ◌≤◌, ◌+◌, ℕ, Bool, true, false, ℤ, List, length, get_or, set, nat_eq, Some, None, refl, sym, ap, ◌∙◌, subst, arith}
+use Rattle.std.proofs.Common.{◌≡◌, ◌≢◌, ◌<◌, ◌≤◌, ◌+◌, ℕ, Bool, true, false, ℤ, List, length, get_or, set, nat_eq, Some, None, option_map, refl, sym, ap, ◌∙◌, subst, arith}
 use Rattle.std.proofs.lemmas.Bool.Decides.{nat_tests}
 use Rattle.std.proofs.lemmas.List.{get_or-set_other}
 use Rattle.std.proofs.lemmas.Option.{same_Some}
@@ -9,17 +9,16 @@ use Rattle.packet_defs.specs.declared.kind.Kind.TheVariants.{Gm}
 use Rattle.packet_defs.specs.Packet.{packet_of}
 use Rattle.link_defs.specs.Links.{Held, packet_in, with_packet}
 use Rattle.link_defs.proofs.Ends.{channel_from-ends}
-use Rattle.gm_defs.specs.declared.message.Message.{Message}
 use Rattle.gm_defs.specs.declared.frame.FrameHead.{FrameHead}
 use Rattle.gm_defs.specs.declared.frame.ConnectionKey.{ConnectionKey}
 use Rattle.gm_defs.specs.Body.{frame_bytes, ack_bytes}
-use Rattle.gm_defs.specs.Fragment.{frame_of}
+use Rattle.gm_defs.specs.Fragment.{Fragment as FragmentOf, head_of, frame_of}
 use Rattle.gm_defs.specs.Connection.{connection, ack_on}
 use Rattle.world_defs.specs.declared.effect.Effect.{Effect}
 use Rattle.world_defs.specs.Table.{table_route}
 use Rattle.world_defs.specs.Lane.{LaneState, new_lane, lane_sent_one, lane_answered}
 use Rattle.world_defs.specs.Node.{NodeState, peer_of, prio_of, prio_place, lane_of, sending_lane, taking_lane, sends_on, takes_from, lane_route, Outgoing, Probe, TablePart, Reply, PartAnswer, FrameAnswer, Fragment, lane_at, with_lane, port_at, new_node, packet_for, after_sending}
-use Rattle.world_defs.specs.Hearing.{port_takes}
+use Rattle.world_defs.specs.Hearing.{port_fits}
 use Rattle.world_defs.specs.World.{WorldState, fabric_of, node_at}
 use Rattle.world_defs.specs.Traffic.{sender_on, sent_on, taken_on}
 use Rattle.world_defs.proofs.Lanes.{peer_of-lane, prio_of-lane}
@@ -32,9 +31,8 @@ use Rattle.settle_laws.proofs.Ways.{OnWay, keep-there, new-there, still-way}
 use Rattle.settle_laws.proofs.Staged.{IsOwed, IsDueOn, IsToPeer, to_send-peer, IsBare}
 use Rattle.world_defs.proofs.Strikes.{injection-nodes}
 use Rattle.settle_laws.proofs.Routes.{route-leads}
-use Rattle.settle_laws.proofs.Frames.{head_for, frame-there}
 use Rattle.settle_laws.proofs.Still.{Still}
-use Rattle.settle_laws.proofs.Facts.{Facts, short-of, slots-of}
+use Rattle.settle_laws.proofs.Facts.{Facts, slots-of}
 use Rattle.settle_laws.proofs.Lively.{Lively, frame_payload, ack_payload}
 
 -- what sending leaves of a host
@@ -91,7 +89,7 @@ same-number x y e = grind (arith, nat_tests)
 other-number : (x y : ℕ) → nat_eq x y ≡ false → y ≢ x
 other-number x y e = grind (arith, nat_tests)
 
-module _ (n : Network) (key : ConnectionKey) (k : ℕ) (m : Message) (w v : WorldState) (f : Facts n key k m w) (h c : ℕ) (out : Outgoing) (chan : channel_from (fabric_of w) (host_port h) ≡ Some c) (none : packet_in w.links c ≡ None) (nodes : v.nodes ≡ set w.nodes h (after_sending (node_at w h) out)) (links : v.links ≡ with_packet w.links c (Some (record { wire = packet_for h (w.injected + 1) out; marked = false }))) where
+module _ (n : Network) (key : ConnectionKey) (k : ℕ) (fragment : FragmentOf) (w v : WorldState) (f : Facts n key k fragment w) (h c : ℕ) (out : Outgoing) (chan : channel_from (fabric_of w) (host_port h) ≡ Some c) (none : packet_in w.links c ≡ None) (nodes : v.nodes ≡ set w.nodes h (after_sending (node_at w h) out)) (links : v.links ≡ with_packet w.links c (Some (record { wire = packet_for h (w.injected + 1) out; marked = false }))) where
   net : fabric_of v ≡ fabric_of w
   net = ap (λ l. l.net) links
 
@@ -117,7 +115,7 @@ module _ (n : Network) (key : ConnectionKey) (k : ℕ) (m : Message) (w v : Worl
       let at : channel_from n (host_port h) ≡ Some c = subst (λ x. channel_from x (host_port h) ≡ Some c) f.net chan in
       let leads : LeadsTo n payload to walk c = place-leads n h to c walk payload led.1 at led.0 in
       let low = (channel_from-ends n (host_port h) c at).2 in
-      let slots = slots-of n key k m w f in
+      let slots = slots-of n key k fragment w f in
       let new : Held = record { wire = packet_for h (w.injected + 1) out; marked = false } in
       record {
         channel = c;
@@ -132,18 +130,18 @@ module _ (n : Network) (key : ConnectionKey) (k : ℕ) (m : Message) (w v : Worl
   taken-same = (calm key.dst).taken (taking_lane key)
 
   -- what doesn't hang on what is sent
-  risen-sent : k < (sender_on w key).base → Still key k m v
+  risen-sent : k < (sender_on w key).base → Still key k fragment v
   risen-sent r = let e = (calm key.src).base (sending_lane key) in Still.risen (omega (arith, r, e))
 
-  waits-sent : taken_on w key ≡ k → port_takes (port_at (node_at w key.dst) m.dport) (length m.body) m.prio ≡ false → Still key k m v
-  waits-sent t p = Still.waits (taken-same ∙ t) (ap (λ l. port_takes (get_or l m.dport None) (length m.body) m.prio) (calm key.dst).ports ∙ p)
+  waits-sent : taken_on w key ≡ k → fragment.offset ≡ 0 → port_fits (port_at (node_at w key.dst) fragment.message.dport) (length fragment.message.body) fragment.message.prio ≡ false → Still key k fragment v
+  waits-sent t o p = Still.waits (taken-same ∙ t) o (ap (λ l. port_fits (get_or l fragment.message.dport None) (length fragment.message.body) fragment.message.prio) (calm key.dst).ports ∙ p)
 
   -- the route of a lane of the connection
   route-to : (lane peer prio : ℕ) (by : List ℤ) → lane ≡ lane_of peer prio → lane_route (node_at w h) lane ≡ Some by → table_route (node_at w h).table peer ≡ Some by
   route-to lane peer prio by to e = subst (λ x. table_route (node_at w h).table x ≡ Some by) (ap peer_of to ∙ peer_of-lane peer prio) e
 
   -- an acknowledgement is sent
-  answer-here : (lane next : ℕ) (by : List ℤ) → out ≡ FrameAnswer lane next by → IsOwed (node_at w h) lane next by → h ≡ key.dst → lane ≡ taking_lane key → k < taken_on w key → Lively key k m v
+  answer-here : (lane next : ℕ) (by : List ℤ) → out ≡ FrameAnswer lane next by → IsOwed (node_at w h) lane next by → h ≡ key.dst → lane ≡ taking_lane key → k < taken_on w key → Lively key k fragment v
   answer-here lane next by e is at to t =
       let count : next ≡ taken_on w key = is.count ∙ (ap (λ x. (lane_at (node_at w x) lane).taken) at ∙ ap (λ x. (lane_at (node_at w key.dst) x).taken) to) in
       let peer : peer_of lane ≡ key.src = ap peer_of to ∙ peer_of-lane key.src key.prio in
@@ -153,72 +151,72 @@ module _ (n : Network) (key : ConnectionKey) (k : ℕ) (m : Message) (w v : Worl
       ap (packet_for h (w.injected + 1)) e ∙ (answer-wire h (w.injected + 1) lane next by ∙ ap (λ x. packet_of by Gm (ack_bytes (ack_on x next))) answers) in
       Lively.ack next (omega (arith, count, t)) (omega (arith, count, taken-same)) (new-way (ack_payload key next) key.src by wire (route-to lane key.src key.prio by to is.route))
 
-  answer-owed : (lane next : ℕ) (by : List ℤ) → out ≡ FrameAnswer lane next by → IsOwed (node_at w h) lane next by → k < taken_on w key → (lane_at (node_at w key.dst) (taking_lane key)).owes ≡ true → Lively key k m v
+  answer-owed : (lane next : ℕ) (by : List ℤ) → out ≡ FrameAnswer lane next by → IsOwed (node_at w h) lane next by → k < taken_on w key → (lane_at (node_at w key.dst) (taking_lane key)).owes ≡ true → Lively key k fragment v
   answer-owed lane next by e is t o = cases (nat_eq h key.dst) (nat_eq lane (taking_lane key)) refl refl
     where
       p : ℕ
       p = taking_lane key
 
-      still : (lane_at (node_at v key.dst) p).owes ≡ (lane_at (node_at w key.dst) p).owes → Lively key k m v
+      still : (lane_at (node_at v key.dst) p).owes ≡ (lane_at (node_at w key.dst) p).owes → Lively key k fragment v
       still same = Lively.still (Still.owed (omega (arith, t, taken-same)) (same ∙ o))
 
-      cases : (x y : Bool) → nat_eq h key.dst ≡ x → nat_eq lane p ≡ y → Lively key k m v
+      cases : (x y : Bool) → nat_eq h key.dst ≡ x → nat_eq lane p ≡ y → Lively key k fragment v
       cases true true d g = answer-here lane next by e is (same-number h key.dst d) (same-number lane p g) t
       cases false y d g = still (ap (λ x. (lane_at x p).owes) (unmoved key.dst (other-number h key.dst d)))
       cases true false d g =
           still (over (λ x y. (lane_at y p).owes ≡ (lane_at x p).owes) (λ x. refl) (subst (λ z. (lane_at (after_sending (node_at w h) z) p).owes ≡ (lane_at (node_at w h) p).owes) (sym e) (answered-other (node_at w h) lane next by p (other-number lane p g))) key.dst)
 
-  answer-again : (lane next : ℕ) (by : List ℤ) → out ≡ FrameAnswer lane next by → (sender_on w key).cursor ≡ k → Still key k m v
+  answer-again : (lane next : ℕ) (by : List ℤ) → out ≡ FrameAnswer lane next by → (sender_on w key).cursor ≡ k → Still key k fragment v
   answer-again lane next by e g =
       let p : ℕ = sending_lane key in
       let same : sender_on v key ≡ sender_on w key = over (λ x y. (lane_at y p).sender ≡ (lane_at x p).sender) (λ x. refl) (subst (λ z. (lane_at (after_sending (node_at w h) z) p).sender ≡ (lane_at (node_at w h) p).sender) (sym e) (answered-sender (node_at w h) lane next by p)) key.src in
       Still.again (ap (λ s. s.cursor) same ∙ g)
 
-  answer-lively : (lane next : ℕ) (by : List ℤ) → out ≡ FrameAnswer lane next by → IsOwed (node_at w h) lane next by → Still key k m w → Lively key k m v
+  answer-lively : (lane next : ℕ) (by : List ℤ) → out ≡ FrameAnswer lane next by → IsOwed (node_at w h) lane next by → Still key k fragment w → Lively key k fragment v
   answer-lively lane next by e is (Still.risen r) = Lively.still (risen-sent r)
-  answer-lively lane next by e is (Still.waits t p) = Lively.still (waits-sent t p)
+  answer-lively lane next by e is (Still.waits t o p) = Lively.still (waits-sent t o p)
   answer-lively lane next by e is (Still.owed t o) = answer-owed lane next by e is t o
   answer-lively lane next by e is (Still.again g) = Lively.still (answer-again lane next by e g)
 
   -- a fragment is sent
-  fragment-here : (lane : ℕ) (head : FrameHead) (part : List ℕ) (by : List ℤ) → out ≡ Fragment lane head part by → IsDueOn h (node_at w h) lane head part by → h ≡ key.src → lane ≡ sending_lane key → (sender_on w key).cursor ≡ k → Lively key k m v
+  fragment-here : (lane : ℕ) (head : FrameHead) (part : List ℕ) (by : List ℤ) → out ≡ Fragment lane head part by → IsDueOn h (node_at w h) lane head part by → h ≡ key.src → lane ≡ sending_lane key → (sender_on w key).cursor ≡ k → Lively key k fragment v
   fragment-here lane head part by e is at to g =
       let d : IsDueOn key.src (node_at w key.src) (sending_lane key) head part by = subst (λ y. IsDueOn key.src (node_at w key.src) y head part by) to (subst (λ x. IsDueOn x (node_at w x) lane head part by) at is) in
       let number : d.number ≡ k = (due-number (sender_on w key) d.number d.due).is ∙ g in
       let mine : sends_on key.src (sending_lane key) ≡ connection key.src key.dst (prio_place key.prio) = λ i. connection key.src (peer_of-lane key.dst key.prio i) (prio_of-lane key.dst key.prio i) in
       let frame : frame_of key (sent_on w key) k ≡ Some (head, part) = subst (λ x. frame_of key (sent_on w key) x ≡ Some (head, part)) number (sym (ap (λ x. frame_of x (sent_on w key) d.number) mine) ∙ d.frame) in
-      let same : (head, part) ≡ (head_for key k m, m.body) = same_Some (head, part) (head_for key k m, m.body) (sym frame ∙ frame-there key k (sent_on w key) k m (short-of n key k m w f) f.there) in
-      let wire : packet_for h (w.injected + 1) out ≡ packet_of by Gm (frame_payload key k m) = ap (packet_for h (w.injected + 1)) e ∙ (fragment-wire h (w.injected + 1) lane head part by ∙ ap (λ x. packet_of by Gm (frame_bytes x.0 x.1)) same) in
-      Lively.frame (new-way (frame_payload key k m) key.dst by wire (route-to lane key.dst key.prio by to is.route))
+      let same : (head, part) ≡ (head_of key k fragment, fragment.part) = same_Some (head, part) (head_of key k fragment, fragment.part) (sym frame ∙ ap (option_map (λ g. (head_of key k g, g.part))) f.there) in
+      let wire : packet_for h (w.injected + 1) out ≡ packet_of by Gm (frame_payload key k fragment) = ap (packet_for h (w.injected + 1)) e ∙ (fragment-wire h (w.injected + 1) lane head part by ∙ ap (λ x. packet_of by Gm (frame_bytes x.0 x.1)) same) in
+      Lively.frame (new-way (frame_payload key k fragment) key.dst by wire (route-to lane key.dst key.prio by to is.route))
 
-  fragment-again : (lane : ℕ) (head : FrameHead) (part : List ℕ) (by : List ℤ) → out ≡ Fragment lane head part by → IsDueOn h (node_at w h) lane head part by → (sender_on w key).cursor ≡ k → Lively key k m v
+  fragment-again : (lane : ℕ) (head : FrameHead) (part : List ℕ) (by : List ℤ) → out ≡ Fragment lane head part by → IsDueOn h (node_at w h) lane head part by → (sender_on w key).cursor ≡ k → Lively key k fragment v
   fragment-again lane head part by e is g = cases (nat_eq h key.src) (nat_eq lane (sending_lane key)) refl refl
     where
       p : ℕ
       p = sending_lane key
 
-      still : sender_on v key ≡ sender_on w key → Lively key k m v
+      still : sender_on v key ≡ sender_on w key → Lively key k fragment v
       still same = Lively.still (Still.again (ap (λ s. s.cursor) same ∙ g))
 
-      cases : (x y : Bool) → nat_eq h key.src ≡ x → nat_eq lane p ≡ y → Lively key k m v
+      cases : (x y : Bool) → nat_eq h key.src ≡ x → nat_eq lane p ≡ y → Lively key k fragment v
       cases true true d i = fragment-here lane head part by e is (same-number h key.src d) (same-number lane p i) g
       cases false y d i = still (ap (λ x. (lane_at x p).sender) (unmoved key.src (other-number h key.src d)))
       cases true false d i =
           still (over (λ x y. (lane_at y p).sender ≡ (lane_at x p).sender) (λ x. refl) (subst (λ z. (lane_at (after_sending (node_at w h) z) p).sender ≡ (lane_at (node_at w h) p).sender) (sym e) (sent-other (node_at w h) lane head part by p (other-number lane p i))) key.src)
 
-  fragment-owed : (lane : ℕ) (head : FrameHead) (part : List ℕ) (by : List ℤ) → out ≡ Fragment lane head part by → k < taken_on w key → (lane_at (node_at w key.dst) (taking_lane key)).owes ≡ true → Still key k m v
+  fragment-owed : (lane : ℕ) (head : FrameHead) (part : List ℕ) (by : List ℤ) → out ≡ Fragment lane head part by → k < taken_on w key → (lane_at (node_at w key.dst) (taking_lane key)).owes ≡ true → Still key k fragment v
   fragment-owed lane head part by e t o =
       let p : ℕ = taking_lane key in
       let same = over (λ x y. (lane_at y p).owes ≡ (lane_at x p).owes) (λ x. refl) (subst (λ z. (lane_at (after_sending (node_at w h) z) p).owes ≡ (lane_at (node_at w h) p).owes) (sym e) (sent-owes (node_at w h) lane head part by p)) key.dst in
       Still.owed (omega (arith, t, taken-same)) (same ∙ o)
 
-  fragment-lively : (lane : ℕ) (head : FrameHead) (part : List ℕ) (by : List ℤ) → out ≡ Fragment lane head part by → IsDueOn h (node_at w h) lane head part by → Still key k m w → Lively key k m v
+  fragment-lively : (lane : ℕ) (head : FrameHead) (part : List ℕ) (by : List ℤ) → out ≡ Fragment lane head part by → IsDueOn h (node_at w h) lane head part by → Still key k fragment w → Lively key k fragment v
   fragment-lively lane head part by e is (Still.risen r) = Lively.still (risen-sent r)
-  fragment-lively lane head part by e is (Still.waits t p) = Lively.still (waits-sent t p)
+  fragment-lively lane head part by e is (Still.waits t o p) = Lively.still (waits-sent t o p)
   fragment-lively lane head part by e is (Still.owed t o) = Lively.still (fragment-owed lane head part by e t o)
   fragment-lively lane head part by e is (Still.again g) = fragment-again lane head part by e is g
 
-  still-sent : (x : Outgoing) → out ≡ x → IsToPeer h (node_at w h) x → Still key k m w → Lively key k m v
+  still-sent : (x : Outgoing) → out ≡ x → IsToPeer h (node_at w h) x → Still key k fragment w → Lively key k fragment v
   still-sent (FrameAnswer lane next by) e is s = answer-lively lane next by e is s
   still-sent (Fragment lane head part by) e is s = fragment-lively lane head part by e is s
   still-sent (Probe walk looped) e is s = absurd is
@@ -226,16 +224,16 @@ module _ (n : Network) (key : ConnectionKey) (k : ℕ) (m : Message) (w v : Worl
   still-sent (Reply r) e is s = absurd is
   still-sent (PartAnswer r) e is s = absurd is
 
-  sent-lively : IsToPeer h (node_at w h) out → Lively key k m w → Lively key k m v
+  sent-lively : IsToPeer h (node_at w h) out → Lively key k fragment w → Lively key k fragment v
   sent-lively is (Lively.still s) = still-sent out refl is s
-  sent-lively is (Lively.frame o) = Lively.frame (other-way (frame_payload key k m) key.dst o)
+  sent-lively is (Lively.frame o) = Lively.frame (other-way (frame_payload key k fragment) key.dst o)
   sent-lively is (Lively.ack next more most o) = Lively.ack next more (omega (arith, most, taken-same)) (other-way (ack_payload key next) key.src o)
 
 -- an injection that no planned fault strikes
-pub inject-lively : (n : Network) (key : ConnectionKey) (k : ℕ) (m : Message) (w : WorldState) (h : ℕ) (r : Effect × WorldState) → Facts n key k m w → IsBare w → InjectOf w h r → r.1.struck ≤ w.struck → Lively key k m w → Lively key k m r.1
-inject-lively n key k m w h r f bare (InjectOf.idle e s) t l = subst (Lively key k m) (sym s) l
-inject-lively n key k m w h r f bare (InjectOf.sends c out chan e none x s) t l =
+pub inject-lively : (n : Network) (key : ConnectionKey) (k : ℕ) (fragment : FragmentOf) (w : WorldState) (h : ℕ) (r : Effect × WorldState) → Facts n key k fragment w → IsBare w → InjectOf w h r → r.1.struck ≤ w.struck → Lively key k fragment w → Lively key k fragment r.1
+inject-lively n key k fragment w h r f bare (InjectOf.idle e s) t l = subst (Lively key k fragment) (sym s) l
+inject-lively n key k fragment w h r f bare (InjectOf.sends c out chan e none x s) t l =
     let v : WorldState = planned_strikes (sent_out w h c out) c in
     let few : v.struck ≤ w.struck = subst (λ z. z.struck ≤ w.struck) s t in
-    subst (Lively key k m) (sym s)
-    (sent-lively n key k m w v f h c out chan none (injection-nodes w h c out) (unstruck-links w h c out none few) (to_send-peer h (node_at w h) (bare.each h) out e) l)
+    subst (Lively key k fragment) (sym s)
+    (sent-lively n key k fragment w v f h c out chan none (injection-nodes w h c out) (unstruck-links w h c out none few) (to_send-peer h (node_at w h) (bare.each h) out e) l)

@@ -1,7 +1,7 @@
 -- The events of a settle keep what is known of a connection.
 use Rattle.std.proofs.Common.{ℕ, ◌∙◌, arith}
 use Rattle.net_defs.specs.Network.{Network}
-use Rattle.gm_defs.specs.declared.message.Message.{Message}
+use Rattle.gm_defs.specs.Fragment.{Fragment as FragmentOf}
 use Rattle.gm_defs.specs.declared.frame.ConnectionKey.{ConnectionKey}
 use Rattle.world_defs.specs.declared.event.Event.{Event}
 use Rattle.world_defs.specs.declared.event.Event.TheVariants.{Inject, Advance, Replay, Reset, Expire, GiveUp}
@@ -38,8 +38,8 @@ along-going = record { same = follows-going.same; both = follows-going.both; eve
 pub along-reached : (n : Network) → Along (λ w v. IsReached n w → IsReached n v) IsOfSettle
 along-reached n = record { same = λ w r. r; both = λ u v w f g r. g (f r); event = λ w e q r. reached-next n w (Happens e) r (settle-byte e q).0 }
 
-event-facts : (n : Network) (key : ConnectionKey) (k : ℕ) (m : Message) (w : WorldState) (e : Event) → IsOfSettle e → Facts n key k m w → Facts n key k m (step w e).1
-event-facts n key k m w e q f =
+event-facts : (n : Network) (key : ConnectionKey) (k : ℕ) (fragment : FragmentOf) (w : WorldState) (e : Event) → IsOfSettle e → Facts n key k fragment w → Facts n key k fragment (step w e).1
+event-facts n key k fragment w e q f =
     let g : Going w (step w e).1 = event-going w e q in
     let count = g.nodes.count in
     let h = f.host in
@@ -52,8 +52,8 @@ event-facts n key k m w e q f =
       host = omega (arith, h, count);
       peer = omega (arith, p, count);
       low = omega (arith, low, up);
-      there = sent-place (node_at w key.src) (sending_lane key) k (sent_on w key) (sent_on (step w e).1 key) m ((acted-says n w (Happens e) f.reached key.src).sent (sending_lane key)) f.there;
+      there = sent-place (node_at w key.src) (sending_lane key) k (sent_on w key) (sent_on (step w e).1 key) fragment ((acted-says n w (Happens e) f.reached key.src).sent (sending_lane key)) f.there;
     }
 
-pub along-facts : (n : Network) (key : ConnectionKey) (k : ℕ) (m : Message) → Along (λ w v. Facts n key k m w → Facts n key k m v) IsOfSettle
-along-facts n key k m = record { same = λ w f. f; both = λ u v w f g x. g (f x); event = event-facts n key k m }
+pub along-facts : (n : Network) (key : ConnectionKey) (k : ℕ) (fragment : FragmentOf) → Along (λ w v. Facts n key k fragment w → Facts n key k fragment v) IsOfSettle
+along-facts n key k fragment = record { same = λ w f. f; both = λ u v w f g x. g (f x); event = event-facts n key k fragment }

@@ -2,7 +2,7 @@
 use Rattle.std.proofs.Common.{◌≡◌, ◌≤◌, ℕ, true, List, [], ◌∷◌, map, Some, None, sym, ap, ◌∙◌, subst, arith}
 use Rattle.net_defs.specs.Network.{Network}
 use Rattle.link_defs.specs.Links.{is_idle}
-use Rattle.gm_defs.specs.declared.message.Message.{Message}
+use Rattle.gm_defs.specs.Fragment.{Fragment as FragmentOf}
 use Rattle.gm_defs.specs.declared.frame.ConnectionKey.{ConnectionKey}
 use Rattle.world_defs.specs.declared.event.Event.{Event}
 use Rattle.world_defs.specs.declared.event.Event.TheVariants.{Inject, Advance, Replay, Reset, GiveUp}
@@ -39,27 +39,27 @@ inject-bare w h r (InjectOf.idle e s) is = subst IsBare (sym s) is
 inject-bare w h r (InjectOf.sends c out chan e none x s) is = subst IsBare (sym s) (sending-bare w (planned_strikes (sent_out w h c out) c) h out (injection-nodes w h c out) is)
 
 -- while hosts inject
-record Sending (n : Network) (key : ConnectionKey) (k : ℕ) (m : Message) (w : WorldState) : Type 0 where
-  facts : Facts n key k m w
+record Sending (n : Network) (key : ConnectionKey) (k : ℕ) (fragment : FragmentOf) (w : WorldState) : Type 0 where
+  facts : Facts n key k fragment w
   bare : IsBare w
   plain : IsPlain w.links
-  lively : Lively key k m w
+  lively : Lively key k fragment w
 
 -- while packets run out
-record Draining (n : Network) (key : ConnectionKey) (k : ℕ) (m : Message) (w : WorldState) : Type 0 where
-  facts : Facts n key k m w
-  lively : Lively key k m w
+record Draining (n : Network) (key : ConnectionKey) (k : ℕ) (fragment : FragmentOf) (w : WorldState) : Type 0 where
+  facts : Facts n key k fragment w
+  lively : Lively key k fragment w
 
-module _ (flows : PlainDrainsIdle) (n : Network) (key : ConnectionKey) (k : ℕ) (m : Message) (readable : IsReadable m) where
-  one-sending : (w : WorldState) (h : ℕ) → (step w (Inject h)).1.struck ≤ w.struck → Sending n key k m w → Sending n key k m (step w (Inject h)).1
+module _ (flows : PlainDrainsIdle) (n : Network) (key : ConnectionKey) (k : ℕ) (fragment : FragmentOf) (readable : IsReadable fragment.message) where
+  one-sending : (w : WorldState) (h : ℕ) → (step w (Inject h)).1.struck ≤ w.struck → Sending n key k fragment w → Sending n key k fragment (step w (Inject h)).1
   one-sending w h few s = record {
-    facts = (along-facts n key k m).event w (Inject h) tt s.facts;
+    facts = (along-facts n key k fragment).event w (Inject h) tt s.facts;
     bare = inject-bare w h (step w (Inject h)) (inject-is w h) s.bare;
     plain = inject-plain w h (step w (Inject h)) s.bare (inject-is w h) few s.plain;
-    lively = inject-lively n key k m w h (step w (Inject h)) s.facts s.bare (inject-is w h) few s.lively;
+    lively = inject-lively n key k fragment w h (step w (Inject h)) s.facts s.bare (inject-is w h) few s.lively;
   }
 
-  all-sending : (w : WorldState) (hs : List ℕ) → (steps w (map Inject hs)).1.struck ≤ w.struck → Sending n key k m w → Sending n key k m (steps w (map Inject hs)).1
+  all-sending : (w : WorldState) (hs : List ℕ) → (steps w (map Inject hs)).1.struck ≤ w.struck → Sending n key k fragment w → Sending n key k fragment (steps w (map Inject hs)).1
   all-sending w [] few s = s
   all-sending w (h ∷ hs) few s =
       let next : WorldState = (step w (Inject h)).1 in
@@ -67,44 +67,44 @@ module _ (flows : PlainDrainsIdle) (n : Network) (key : ConnectionKey) (k : ℕ)
       let more = (steps-along Going IsOfSettle along-going next (map Inject hs) (all-map IsOfSettle Inject (λ j. tt) hs)).rises in
       all-sending next hs (omega (arith, few, up)) (one-sending w h (omega (arith, few, more)) s)
 
-  advance-draining : (w : WorldState) (e : Event) → IsOfDrain e → Draining n key k m w → Draining n key k m (step w e).1
+  advance-draining : (w : WorldState) (e : Event) → IsOfDrain e → Draining n key k fragment w → Draining n key k fragment (step w e).1
   advance-draining w (Advance c) q d = record {
-    facts = (along-facts n key k m).event w (Advance c) tt d.facts;
-    lively = advance-lively n key k m w (step w (Advance c)).1 d.facts readable c (advance-is w c) (event-calm w (Advance c) tt) (step-kept w (Advance c)).net d.lively;
+    facts = (along-facts n key k fragment).event w (Advance c) tt d.facts;
+    lively = advance-lively n key k fragment w (step w (Advance c)).1 d.facts readable c (advance-is w c) (event-calm w (Advance c) tt) (step-kept w (Advance c)).net d.lively;
   }
   advance-draining w _ q d = absurd q
 
-  along-draining : Along (λ w v. Draining n key k m w → Draining n key k m v) IsOfDrain
+  along-draining : Along (λ w v. Draining n key k fragment w → Draining n key k fragment v) IsOfDrain
   along-draining = record { same = λ w d. d; both = λ u v w f g d. g (f d); event = advance-draining }
 
-  drained : (w : WorldState) → Draining n key k m w → Draining n key k m (drain w).1
-  drained w d = drain-along (λ w v. Draining n key k m w → Draining n key k m v) IsOfDrain along-draining (λ c. tt) w d
+  drained : (w : WorldState) → Draining n key k fragment w → Draining n key k fragment (drain w).1
+  drained w d = drain-along (λ w v. Draining n key k fragment w → Draining n key k fragment v) IsOfDrain along-draining (λ c. tt) w d
 
   -- nothing is on its way in idle links
   no-way : (payload : List ℕ) (to : ℕ) (w : WorldState) → is_idle w.links ≡ true → OnWay payload to w → ⊥
   no-way payload to w idle o = let bad : None ≡ Some o.held = sym (idle-empty w.links.channels idle o.channel) ∙ o.there in cc
 
-  settled-down : (w : WorldState) → is_idle w.links ≡ true → Lively key k m w → Still key k m w
+  settled-down : (w : WorldState) → is_idle w.links ≡ true → Lively key k fragment w → Still key k fragment w
   settled-down w idle (Lively.still s) = s
   settled-down w idle (Lively.frame o) = absurd (no-way _ key.dst w idle o)
   settled-down w idle (Lively.ack next more most o) = absurd (no-way _ key.src w idle o)
 
-  clear-still : (w : WorldState) → Sending n key k m w → Still key k m (clear w).1
+  clear-still : (w : WorldState) → Sending n key k fragment w → Still key k fragment (clear w).1
   unfolding clear
   clear-still w s =
       let d : WorldState = (drain w).1 in
       let idle : is_idle d.links ≡ true = flows n w s.facts.reached s.plain in
       let down = drained w (record { facts = s.facts; lively = s.lively }) in
       let calm = steps-along WorldCalm IsCalm along-calm d (resets_of d) (all-map IsCalm Reset (λ c. tt) (channels_of d)) in
-      calm-still key k m d (steps d (resets_of d)).1 calm down.facts.low (settled-down d idle down.lively)
+      calm-still key k fragment d (steps d (resets_of d)).1 calm down.facts.low (settled-down d idle down.lively)
 
-  clear-facts : (w : WorldState) → Facts n key k m w → Facts n key k m (clear w).1
-  clear-facts w f = clear-along (λ w v. Facts n key k m w → Facts n key k m v) IsOfSettle (along-facts n key k m) settles-of.clears w f
+  clear-facts : (w : WorldState) → Facts n key k fragment w → Facts n key k fragment (clear w).1
+  clear-facts w f = clear-along (λ w v. Facts n key k fragment w → Facts n key k fragment v) IsOfSettle (along-facts n key k fragment) settles-of.clears w f
 
-  pub pass-facts : (w : WorldState) → Facts n key k m w → Facts n key k m (round_pass w).world
-  pass-facts w f = round_pass-along (λ w v. Facts n key k m w → Facts n key k m v) IsOfSettle (along-facts n key k m) settles-of w f
+  pub pass-facts : (w : WorldState) → Facts n key k fragment w → Facts n key k fragment (round_pass w).world
+  pass-facts w f = round_pass-along (λ w v. Facts n key k fragment w → Facts n key k fragment v) IsOfSettle (along-facts n key k fragment) settles-of w f
 
-  pub pass-still : (w : WorldState) → is_idle w.links ≡ true → (round_pass w).world.struck ≤ w.struck → Facts n key k m w → Still key k m w → Still key k m (round_pass w).world
+  pub pass-still : (w : WorldState) → is_idle w.links ≡ true → (round_pass w).world.struck ≤ w.struck → Facts n key k fragment w → Still key k fragment w → Still key k fragment (round_pass w).world
   unfolding round_pass
   pass-still w idle few f s =
       let t : WorldState = after_all w (map GiveUp (addresses w)) in
@@ -115,15 +115,15 @@ module _ (flows : PlainDrainsIdle) (n : Network) (key : ConnectionKey) (k : ℕ)
       let first = (after_all-along Going IsOfSettle along-going w (map GiveUp (addresses w)) (all-map IsOfSettle GiveUp (λ h. tt) (addresses w))).rises in
       let mid = (clear-along Going IsOfSettle along-going settles-of.clears u).rises in
       let end = (replay_each-going (serials v) v).rises in
-      let start : Sending n key k m t = record {
-        facts = after_all-along (λ w v. Facts n key k m w → Facts n key k m v) IsOfSettle (along-facts n key k m) w (map GiveUp (addresses w)) (all-map IsOfSettle GiveUp (λ h. tt) (addresses w)) f;
+      let start : Sending n key k fragment t = record {
+        facts = after_all-along (λ w v. Facts n key k fragment w → Facts n key k fragment v) IsOfSettle (along-facts n key k fragment) w (map GiveUp (addresses w)) (all-map IsOfSettle GiveUp (λ h. tt) (addresses w)) f;
         bare = given_up-bare w;
         plain = idle-plain t.links (ap is_idle (given_up-links w (addresses w)) ∙ idle);
-        lively = Lively.still (calm-still key k m w t calm f.low s);
+        lively = Lively.still (calm-still key k fragment w t calm f.low s);
       } in
-      let sent : Sending n key k m u = all-sending t (addresses w) (omega (arith, few, first, mid, end)) start in
+      let sent : Sending n key k fragment u = all-sending t (addresses w) (omega (arith, few, first, mid, end)) start in
       let low = (clear-facts u sent.facts).low in
-      calm-still key k m v last (replay_each-calm (serials v) v) low (clear-still u sent)
+      calm-still key k fragment v last (replay_each-calm (serials v) v) low (clear-still u sent)
     where
       replay_each-going : (ss : List ℕ) (x : WorldState) → Going x (replay_each ss x).world
       replay_each-going [] x = along-going.same x

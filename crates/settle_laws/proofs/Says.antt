@@ -7,14 +7,15 @@ use Rattle.gm_defs.specs.declared.message.Message.{Message}
 use Rattle.gm_defs.specs.declared.frame.FrameHead.{FrameHead}
 use Rattle.gm_defs.specs.declared.frame.GmBody.TheVariants.{Frame, Ack as Acknowledges}
 use Rattle.gm_defs.specs.declared.token.Took.{Took}
-use Rattle.gm_defs.specs.declared.token.Took.TheVariants.{NotNext, NoToken, Whole}
-use Rattle.gm_defs.specs.Body.{piece, message_limit, number_limit, frame_length, head_in, ack_in, part_in, begins_with, is_offset, is_head, is_frame, is_ack, decode}
-use Rattle.gm_defs.specs.Token.{PortState, Provided, Sending, fits}
-use Rattle.gm_defs.specs.Port.{without_first, send_of, ended_by, finished, taken_by, delivered}
+use Rattle.gm_defs.specs.declared.token.Took.TheVariants.{NotNext, NoToken, Part, Whole}
+use Rattle.gm_defs.specs.Body.{piece, message_limit, number_limit, is_last, frame_length, head_in, ack_in, part_in, begins_with, is_offset, is_head, is_frame, is_ack, decode}
+use Rattle.gm_defs.specs.Token.{PortState, Provided, Sending, takes_at, taker}
+use Rattle.gm_defs.specs.Port.{filling_with, ended_with, going_on_with, send_of, ended_by, finished, taken_by, delivered}
 use Rattle.gm_defs.proofs.Choices.{chosen}
+use Rattle.gm_defs.proofs.Found.{all-left, all-replaced}
 use Rattle.world_defs.specs.declared.client.ClientCause.TheVariants.{TooLong, NoRoute, Spent}
 use Rattle.world_defs.specs.Table.{table_route}
-use Rattle.world_defs.specs.Lane.{LaneState, Ticket, new_lane, with_message, lane_acknowledged, lane_expired, lane_sent_one, lane_answered, tickets_finished, got_after, lane_after}
+use Rattle.world_defs.specs.Lane.{LaneState, Ticket, new_lane, with_message, lane_acknowledged, lane_expired, lane_sent_one, lane_answered, tickets_finished, ending, got_after, lane_after}
 use Rattle.world_defs.specs.Node.{NodeState, Outgoing, Probe, TablePart, Reply, PartAnswer, FrameAnswer, Fragment, lane_of, lane_at, lane_route, with_lane, port_at, with_port, after_sending, with_expired, node_expired}
 use Rattle.world_defs.specs.Hearing.{message_of, frame_lane, ack_lane, delivered_after, frame_heard, frame_took, all_finished, hear}
 use Rattle.world_defs.specs.Client.{ClientState, Called, Wanted, wanted_message, wanted_lane}
@@ -73,30 +74,28 @@ pub port-fits : (n : NodeState) (k : ℕ) (o : Option PortState) → (PortFits (
 port-fits n k o f port fit = at-set (λ a b. PortFits a → PortFits b) (λ a x. x) n.ports k port o None f fit
 
 -- a frame
-without-fits : (test : Provided → Bool) (rs : List Provided) → AllByRecursion (λ r. r.prio < 2) rs → AllByRecursion (λ r. r.prio < 2) (without_first test rs)
-without-fits test [] all = tt
-without-fits test (r ∷ rs) all = by (test r) (without-fits test rs all.1)
-  where
-    by : (b : Bool) → AllByRecursion (λ r. r.prio < 2) (without_first test rs) → AllByRecursion (λ r. r.prio < 2) (if b then rs else r ∷ without_first test rs)
-    by true rest = all.1
-    by false rest = (all.0, rest)
-
-taken_by-fits : (p : PortState) (h : FrameHead) (part : List ℕ) (o : Option Provided) → PortFits (Some p) → PortFits (Some (taken_by p h part o))
-taken_by-fits p h part None fit = fit
-taken_by-fits p h part (Some r) fit = without-fits (λ x. fits x.size x.prio h.total h.prio) p.provided fit
-
 delivered-fits : (h : FrameHead) (part : List ℕ) (o : Option PortState) → PortFits o → PortFits (option_map (λ p. delivered p h part) o)
 delivered-fits h part None fit = tt
-delivered-fits h part (Some p) fit = taken_by-fits p h part _ fit
+delivered-fits h part (Some p) fit = by (taker p h) refl
+  where
+    taken : (r : Provided) (b : Bool) → taker p h ≡ Some r → PortFits (Some (if b then ended_with p h part r else going_on_with p h part r))
+    taken r true e = all-left (λ x. x.prio < 2) (takes_at p h) p.provided fit
+    taken r false e = all-replaced (λ x. x.prio < 2) (takes_at p h) p.provided r (filling_with h part r) e (λ low. low) fit
+
+    by : (o : Option Provided) → taker p h ≡ o → PortFits (Some (taken_by p h part o))
+    by None e = fit
+    by (Some r) e = taken r (is_last h.total h.offset) e
 
 delivered_after-fits : (n : NodeState) (h : FrameHead) (part : List ℕ) (t : Took) (port : ℕ) → PortFits (port_at n port) → PortFits (port_at (delivered_after n h part t) port)
 delivered_after-fits n h part NotNext port fit = fit
 delivered_after-fits n h part NoToken port fit = fit
+delivered_after-fits n h part Part port fit = port-fits n h.dport (option_map (λ p. delivered p h part) (port_at n h.dport)) (delivered-fits h part (port_at n h.dport)) port fit
 delivered_after-fits n h part Whole port fit = port-fits n h.dport (option_map (λ p. delivered p h part) (port_at n h.dport)) (delivered-fits h part (port_at n h.dport)) port fit
 
 delivered_after-same : (n : NodeState) (h : FrameHead) (part : List ℕ) (t : Took) → (delivered_after n h part t).lanes ≡ n.lanes
 delivered_after-same n h part NotNext = refl
 delivered_after-same n h part NoToken = refl
+delivered_after-same n h part Part = refl
 delivered_after-same n h part Whole = refl
 
 -- parts of a conjunction
@@ -131,15 +130,16 @@ head-for h part e =
     let prio : nat_lt h.prio 2 ≡ true = prio-part (nat_lt h.sport 8) (nat_lt h.dport 8) (nat_lt h.prio 2) (nat_lt h.seq number_limit) (nat_le h.total message_limit) (is_offset h.total h.offset) (nat_eq h.len (min piece (h.total - h.offset))) e in
     record { port = grind (arith, nat_tests); priority = grind (arith, nat_tests) }
 
-got-for : (got : List Message) (t : Took) (m : Message) → IsFor m → AllByRecursion IsFor got → AllByRecursion IsFor (got_after got t m)
-got-for got NotNext m is all = all
-got-for got NoToken m is all = all
-got-for got Whole m is all = all-push IsFor got m all is
+got-for : (got : List Message) (coming : List ℕ) (t : Took) (m : Message) → IsFor m → AllByRecursion IsFor got → AllByRecursion IsFor (got_after got coming t m)
+got-for got coming NotNext m is all = all
+got-for got coming NoToken m is all = all
+got-for got coming Part m is all = all
+got-for got coming Whole m is all = all-push IsFor got (ending coming m) all (record { port = is.port; priority = is.priority })
 
 frame-says : (n : NodeState) (h : FrameHead) (part : List ℕ) (t : Took) → is_head h ≡ true → NodeSays n (frame_heard n h part t).1
 frame-says n h part t e =
     let q : LaneState = lane_after (lane_at n (frame_lane h)) t (message_of h part) in
-    says-lane n _ (frame_lane h) q (delivered_after-same (with_lane n (frame_lane h) q) h part t) refl (got-for (lane_at n (frame_lane h)).got t (message_of h part) (head-for h part e)) (delivered_after-fits (with_lane n (frame_lane h) q) h part t)
+    says-lane n _ (frame_lane h) q (delivered_after-same (with_lane n (frame_lane h) q) h part t) refl (got-for (lane_at n (frame_lane h)).got (lane_at n (frame_lane h)).coming t (message_of h part) (head-for h part e)) (delivered_after-fits (with_lane n (frame_lane h) q) h part t)
 
 -- an acknowledgement
 ended-fits : (p : PortState) (token : ℕ) (o : Option Sending) → PortFits (Some p) → PortFits (Some (ended_by p token o))
@@ -222,7 +222,7 @@ route-there n s false false spent e d = by (table_route n.table s.dest) e
 pub call-says : {n : NodeState} {c : Option ClientState} {port : ℕ} {call : Called} → Call n c port call → NodeSays n call.node
 call-says {n = n} Call.rests = says-quiet n _ refl refl
 call-says {n = n} (Call.opens {port = port} sends recvs d) = says-port n _ refl (port-fits n port _ (λ fit. tt))
-call-says {n = n} (Call.closes {port = port} p d e f) = says-port n _ refl (port-fits n port None (λ fit. tt))
+call-says {n = n} (Call.closes {port = port} p d e) = says-port n _ refl (port-fits n port None (λ fit. tt))
 call-says {n = n} (Call.provides {port = port} size prio t ts p d e f g k) =
     let low : prio < 2 = grind (arith, nat_tests) in
     says-port n _ refl (port-fits n port _ (λ fit. all-push (λ r. r.prio < 2) p.provided _ (subst PortFits e fit) low))

@@ -1,5 +1,5 @@
 -- After every list of acts: messages were sent from ports to hosts with a route, those that were got name a port and a priority, and provided tokens have priorities.
-use Rattle.std.proofs.Common.{◌≡◌, ◌<◌, ℕ, Bool, true, false, List, [], ◌∷◌, length, nat_lt, Some, None, is_some, refl, sym, ap, ◌∙◌, subst, arith}
+use Rattle.std.proofs.Common.{◌≡◌, ◌<◌, ℕ, Bool, true, false, List, [], ◌∷◌, ◌++◌, length, nat_lt, Some, None, is_some, refl, sym, ap, ◌∙◌, subst, arith}
 use Rattle.std.specs.Prelude.{slice_get}
 use Rattle.std.specs.List.{AllByRecursion}
 use Rattle.std.proofs.lemmas.Bool.Decides.{nat_tests}
@@ -8,6 +8,8 @@ use Rattle.net_defs.specs.Network.{Network}
 use Rattle.net_defs.proofs.Distinct.{all-push}
 use Rattle.gm_defs.specs.declared.message.Message.{Message}
 use Rattle.gm_defs.specs.declared.frame.ConnectionKey.{ConnectionKey}
+use Rattle.gm_defs.specs.Fragment.{Fragment, fragments}
+use Rattle.gm_defs.proofs.Numbers.{fragments-append}
 use Rattle.world_defs.specs.Table.{table_route}
 use Rattle.world_defs.specs.Lane.{new_lane}
 use Rattle.world_defs.specs.Node.{NodeState, lane_count, sending_lane, taking_lane, lane_at, port_at, new_node, port_count}
@@ -38,10 +40,11 @@ says-rules w = record {
 pub acted-says : (n : Network) (w : WorldState) (a : Act) → IsReached n w → (h : ℕ) → NodeSays (node_at w h) (node_at (acted w a) h)
 acted-says n w a is h = (acted-goes w (numbers_of w) (λ h. NodeSays) (says-rules w) a (reached-windowed n w is).links).nodes h
 
--- messages that were sent stay at their places
-pub sent-place : (n : NodeState) (lane k : ℕ) (old new : List Message) (m : Message) → SentSo n lane old new → slice_get old k ≡ Some m → slice_get new k ≡ Some m
-sent-place n lane k old new m (SentSo.same e) there = ap (λ l. slice_get l k) e ∙ there
-sent-place n lane k old new m (SentSo.more x e low route) there = ap (λ l. slice_get l k) e ∙ get-front old (x ∷ []) k m there
+-- fragments that were sent stay at their places
+pub sent-place : (n : NodeState) (lane k : ℕ) (old new : List Message) (fragment : Fragment) → SentSo n lane old new → slice_get (fragments old) k ≡ Some fragment → slice_get (fragments new) k ≡ Some fragment
+sent-place n lane k old new fragment (SentSo.same e) there = ap (λ l. slice_get (fragments l) k) e ∙ there
+sent-place n lane k old new fragment (SentSo.more x e low route) there =
+    ap (λ l. slice_get (fragments l) k) e ∙ ap (λ l. slice_get l k) (fragments-append old (x ∷ [])) ∙ get-front (fragments old) (fragments (x ∷ [])) k fragment there
 
 -- the invariant
 pub record IsSaid (w : WorldState) : Type 0 where

@@ -8,7 +8,7 @@ use Rattle.net_defs.specs.Network.{Network}
 use Rattle.net_defs.specs.Route.{place, host_port, channel_from}
 use Rattle.link_defs.specs.Links.{is_idle}
 use Rattle.link_defs.proofs.LonePackets.{no_channel-place}
-use Rattle.gm_defs.specs.declared.message.Message.{Message}
+use Rattle.gm_defs.specs.Fragment.{Fragment as FragmentOf, fragments, whole_below}
 use Rattle.gm_defs.specs.declared.frame.ConnectionKey.{ConnectionKey}
 use Rattle.net_defs.specs.RouteSet.{HasRoute}
 use Rattle.world_defs.specs.Table.{ActiveTable, table_route}
@@ -34,7 +34,7 @@ use Rattle.settle_laws.specs.Settles.{SentHasRoute, SettleEndsSettled}
 use Rattle.world_defs.proofs.Kept.{step-adopted}
 use Rattle.settle_laws.proofs.Routes.{table-route, has-active, route-leads, route-in, in-route}
 use Rattle.settle_laws.proofs.Still.{Still}
-use Rattle.settle_laws.proofs.Facts.{Facts, IsReadable, at-place, place-below, peer-low}
+use Rattle.settle_laws.proofs.Facts.{Facts, IsReadable, at-place, place-below, comes-of, peer-low}
 use Rattle.settle_laws.proofs.Sents.{reached-said}
 use Rattle.settle_laws.proofs.Kept.{along-going, along-reached, along-facts}
 use Rattle.settle_laws.proofs.Passing.{PlainDrainsIdle, pass-facts, pass-still, pass-idle}
@@ -56,22 +56,22 @@ passes-idle p w s (RoundPasses.last_pass e) = pass-idle w
 passes-idle p w s (RoundPasses.another_pass {n = j} {s = rest} e more c d) = ap (λ t. is_idle t.world.links) d ∙ passes-idle j (round_pass w).world rest more
 
 -- a connection behind the last pass of a round
-record Ended (n : Network) (key : ConnectionKey) (k : ℕ) (m : Message) (z : WorldState) : Type 0 where
-  facts : Facts n key k m z
-  still : Still key k m z
+record Ended (n : Network) (key : ConnectionKey) (k : ℕ) (fragment : FragmentOf) (z : WorldState) : Type 0 where
+  facts : Facts n key k fragment z
+  still : Still key k fragment z
   host_done : to_send key.src (node_at z key.src) ≡ None
   peer_done : to_send key.dst (node_at z key.dst) ≡ None
 
-module _ (flows : PlainDrainsIdle) (n : Network) (key : ConnectionKey) (k : ℕ) (m : Message) (readable : IsReadable m) (from : is_some (channel_from n (host_port key.src)) ≡ true) (to : is_some (channel_from n (host_port key.dst)) ≡ true) where
+module _ (flows : PlainDrainsIdle) (n : Network) (key : ConnectionKey) (k : ℕ) (fragment : FragmentOf) (readable : IsReadable fragment.message) (from : is_some (channel_from n (host_port key.src)) ≡ true) (to : is_some (channel_from n (host_port key.dst)) ≡ true) where
   cable : (h : ℕ) (w : WorldState) → fabric_of w ≡ n → is_some (channel_from n (host_port h)) ≡ true → is_some (channel_from (fabric_of w) (host_port h)) ≡ true
   cable h w net e = ap (λ x. is_some (channel_from x (host_port h))) net ∙ e
 
-  passes-end : (p : ℕ) (w : WorldState) (s : Stretch) → RoundPasses p w s → is_idle w.links ≡ true → s.world.struck ≤ w.struck → s.world.injected < last_count → Facts n key k m w → Still key k m w → Ended n key k m s.world
+  passes-end : (p : ℕ) (w : WorldState) (s : Stretch) → RoundPasses p w s → is_idle w.links ≡ true → s.world.struck ≤ w.struck → s.world.injected < last_count → Facts n key k fragment w → Still key k fragment w → Ended n key k fragment s.world
   passes-end p w s (RoundPasses.last_pass e) idle few left f still =
-      let then_f = pass-facts flows n key k m readable w f in
+      let then_f = pass-facts flows n key k fragment readable w f in
       record {
         facts = then_f;
-        still = pass-still flows n key k m readable w idle few f still;
+        still = pass-still flows n key k fragment readable w idle few f still;
         host_done = nothing-left w key.src idle e f.host then_f.host (cable key.src w f.net from) left;
         peer_done = nothing-left w key.dst idle e f.peer then_f.peer (cable key.dst w f.net to) left;
       }
@@ -81,8 +81,8 @@ module _ (flows : PlainDrainsIdle) (n : Network) (key : ConnectionKey) (k : ℕ)
       let on = (passes-going j mid rest more).rises in
       let few_all : rest.world.struck ≤ w.struck = subst (λ t. t.world.struck ≤ w.struck) d few in
       let left_all : rest.world.injected < last_count = subst (λ t. t.world.injected < last_count) d left in
-      subst (λ t. Ended n key k m t.world) (sym d)
-      (passes-end j mid rest more (pass-idle w) (omega (arith, few_all, up)) left_all (pass-facts flows n key k m readable w f) (pass-still flows n key k m readable w idle (omega (arith, few_all, on)) f still))
+      subst (λ t. Ended n key k fragment t.world) (sym d)
+      (passes-end j mid rest more (pass-idle w) (omega (arith, few_all, up)) left_all (pass-facts flows n key k fragment readable w f) (pass-still flows n key k fragment readable w idle (omega (arith, few_all, on)) f still))
 
 -- a route from a host needs its cable
 has-cable : (n : Network) (h to : ℕ) (walk : List ℤ) → place n h walk ≡ AtHostPlace to → is_some (channel_from n (host_port h)) ≡ true
@@ -129,49 +129,49 @@ module _ (flows : PlainDrainsIdle) (n : Network) (w : WorldState) (s : Stretch) 
   next-same : (sender_on z key).next ≡ (sender_on w key).next
   next-same = ((going.nodes.each key.src).senders (sending_lane key)).next
 
-  message : (m : Message) × (slice_get (sent_on w key) k ≡ Some m)
-  message = let long = (((reached-ordered n w is).hosts key.src).lanes (sending_lane key)).numbered in place-there (sent_on w key) k (omega (arith, some, long))
+  found : (x : FragmentOf) × (slice_get (fragments (sent_on w key)) k ≡ Some x)
+  found = let long = (((reached-ordered n w is).hosts key.src).lanes (sending_lane key)).numbered in place-there (fragments (sent_on w key)) k (omega (arith, some, long))
 
-  abbrev m : Message
-  m = message.0
+  abbrev fragment : FragmentOf
+  fragment = found.0
 
-  first : Facts n key k m w
-  first = record { reached = is; net = net; host = low; peer = below; low = omega arith; there = message.1 }
+  first : Facts n key k fragment w
+  first = record { reached = is; net = net; host = low; peer = below; low = omega arith; there = found.1 }
 
-  last : Facts n key k m z
-  last = round-along (λ w v. Facts n key k m w → Facts n key k m v) IsOfSettle (along-facts n key k m) settles-of w s round first
+  last : Facts n key k fragment z
+  last = round-along (λ w v. Facts n key k fragment w → Facts n key k fragment v) IsOfSettle (along-facts n key k fragment) settles-of w s round first
 
-  start : Facts n key k m u
-  start = expiries-along (λ w v. Facts n key k m w → Facts n key k m v) IsOfSettle (along-facts n key k m) (λ h p. tt) w first
+  start : Facts n key k fragment u
+  start = expiries-along (λ w v. Facts n key k fragment w → Facts n key k fragment v) IsOfSettle (along-facts n key k fragment) (λ h p. tt) w first
 
-  expired-first : Still key k m u
-  expired-first = Still.again (expiries-again w key low below (peer-low n key k m w first) some)
+  expired-first : Still key k fragment u
+  expired-first = Still.again (expiries-again w key low below (peer-low n key k fragment w first) some)
 
   there : is_some (table_route (node_at z key.src).table key.dst) ≡ true
-  there = let long = place-below (sent_on z key) k m last.there in (reached-said n z reached-end).routed key (omega (arith, long))
+  there = let long = place-below (sent_on z key) (whole_below (sent_on z key) k) fragment.message (comes-of n key k fragment z last).there in (reached-said n z reached-end).routed key (omega (arith, long))
 
-  waits : IsReadable m → is_some (node_at z key.dst).table.active ≡ true → IsSettledConnection z key
+  waits : IsReadable fragment.message → is_some (node_at z key.dst).table.active ≡ true → IsSettledConnection z key
   waits readable active =
       let back = route-back n z key.src key.dst reached-end joined there (has-active (node_at z key.src).table key.dst there) active in
       let from = table-cable n z key.src key.dst reached-end there in
       let to = table-cable n z key.dst key.src reached-end back in
       let up = (expiries-along Going IsOfSettle along-going (λ h p. tt) w).rises in
-      let e = passes-end flows n key k m readable from to round.passes u s round.through (ap is_idle (expiries-links w) ∙ idle) (omega (arith, few, up)) left start expired-first in
-      IsSettledConnection.waiting (still-waiting n key k m z e.facts same (omega (arith, some, next-same)) there back e.host_done e.peer_done e.still)
+      let e = passes-end flows n key k fragment readable from to round.passes u s round.through (ap is_idle (expiries-links w) ∙ idle) (omega (arith, few, up)) left start expired-first in
+      IsSettledConnection.waiting (still-waiting n key k fragment z e.facts same readable.priority (omega (arith, some, next-same)) there back e.host_done e.peer_done e.still)
 
-  readable-by : (t v : Bool) → nat_lt m.dport 8 ≡ t → nat_lt m.prio 2 ≡ v → is_some (node_at z key.dst).table.active ≡ true → IsSettledConnection z key
+  readable-by : (t v : Bool) → nat_lt fragment.message.dport 8 ≡ t → nat_lt fragment.message.prio 2 ≡ v → is_some (node_at z key.dst).table.active ≡ true → IsSettledConnection z key
   readable-by true true t v active =
-      let port = at-place (λ x. x.sport < 8) (sent_on w key) k m ((reached-said n w is).from_ports key) message.1 in
+      let port = at-place (λ x. x.sport < 8) (sent_on w key) (whole_below (sent_on w key) k) fragment.message ((reached-said n w is).from_ports key) (comes-of n key k fragment w first).there in
       waits (record { from_port = port; to_port = grind (arith, nat_tests); priority = grind (arith, nat_tests) }) active
-  readable-by false v t y active = IsSettledConnection.waiting (unreadable n key k m z last same false v t y refl)
-  readable-by true false t y active = IsSettledConnection.waiting (unreadable n key k m z last same true false t y refl)
+  readable-by false v t y active = IsSettledConnection.waiting (unreadable n key k fragment z last same false v t y refl)
+  readable-by true false t y active = IsSettledConnection.waiting (unreadable n key k fragment z last same true false t y refl)
 
   connection-settled : IsSettledConnection z key
   connection-settled = by (node_at z key.dst).table.active refl
     where
       by : (o : Option ActiveTable) → (node_at z key.dst).table.active ≡ o → IsSettledConnection z key
       by None e = IsSettledConnection.no_table (ap (option_map (λ (t : ActiveTable). t.epoch)) e)
-      by (Some t) e = readable-by (nat_lt m.dport 8) (nat_lt m.prio 2) refl refl (ap is_some e)
+      by (Some t) e = readable-by (nat_lt fragment.message.dport 8) (nat_lt fragment.message.prio 2) refl refl (ap is_some e)
 
 -- a round that didn't help
 no-help : (x y : Bool) → (x || not y) ≡ true → x ≡ false → y ≡ false

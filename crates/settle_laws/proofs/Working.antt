@@ -59,4 +59,4 @@ pub bare-waits : MessageWaitsForToken
 unfolding to_send packet_for after_sending hear begun provided_by sent_by was_reset replayed planned_strikes sent_out injected advanced expired gave_up pass drain clear round_pass round settle
 bare-waits =
     let none : length (got_on (settle bare_world).world (connection 0 1 0)) ≡ 0 = refl in
-    (refl, record { place = 0; message = ten; first = refl; there = refl; not_taken = omega (arith, none); no_token = refl })
+    (refl, record { place = 0; message = ten; first = refl; there = refl; not_taken = omega (arith, none); not_begun = refl; no_token = refl })

@@ -13,7 +13,7 @@ use Rattle.gm_defs.specs.declared.frame.GmBody.{GmBody}
 use Rattle.gm_defs.specs.declared.frame.GmBody.TheVariants.{Frame, Ack as Acknowledges}
 use Rattle.gm_defs.specs.declared.frame.Malformed.{Malformed as NoBody}
 use Rattle.gm_defs.specs.declared.token.Took.{Took}
-use Rattle.gm_defs.specs.declared.token.Took.TheVariants.{NotNext as TookNotNext, NoToken as TookNoToken, Whole}
+use Rattle.gm_defs.specs.declared.token.Took.TheVariants.{NotNext as TookNotNext, NoToken as TookNoToken, Part as TookPart, Whole}
 use Rattle.gm_defs.specs.Body.{decode, part_in, frame_bytes, ack_bytes}
 use Rattle.gm_defs.specs.Connection.{ack_on}
 use Rattle.mapping_defs.specs.Mapping.{RoutePart, MappingBody, Front, decode_mapping, mapping_bytes, is_mapping, by_the_rules, whole, two_front, route_front, byte_front, route_bytes}
@@ -75,6 +75,7 @@ all_finished-host o host n (t ∷ ts) is =
 delivered_after-host : (o : Option Adoption) (host : ℕ) (n : NodeState) (h : FrameHead) (part : List ℕ) (t : Took) → IsHostOf o host n → IsHostOf o host (delivered_after n h part t)
 delivered_after-host o host n h part TookNotNext is = is
 delivered_after-host o host n h part TookNoToken is = is
+delivered_after-host o host n h part TookPart is = record { staged = is.staged; table = is.table }
 delivered_after-host o host n h part Whole is = record { staged = is.staged; table = is.table }
 
 lane-host : (o : Option Adoption) (host : ℕ) (n : NodeState) (lane : ℕ) (l : LaneState) → IsHostOf o host n → IsHostOf o host (with_lane n lane l)
@@ -264,7 +265,7 @@ node_expired-host o host n peer is =
 pub call-host : (o : Option Adoption) (host : ℕ) {n : NodeState} {c : Option ClientState} {port : ℕ} {call : Called} → Call n c port call → IsHostOf o host n → IsHostOf o host call.node
 call-host o host Call.rests is = is
 call-host o host (Call.opens sends recvs d) is = record { staged = is.staged; table = is.table }
-call-host o host (Call.closes p d e f) is = record { staged = is.staged; table = is.table }
+call-host o host (Call.closes p d e) is = record { staged = is.staged; table = is.table }
 call-host o host (Call.provides size prio t ts p d e f g k) is = record { staged = is.staged; table = is.table }
 call-host o host (Call.accepts s t ts p d e f g k) is = record { staged = is.staged; table = is.table }
 call-host o host (Call.hands_sent t buffer p d e f g) is = record { staged = is.staged; table = is.table }

@@ -12,7 +12,7 @@ use Rattle.world_defs.specs.Node.{Outgoing, to_send, packet_for}
 use Rattle.world_defs.specs.World.{WorldState, new_world, node_at}
 use Rattle.act_defs.specs.Acts.{Act, acted_all, IsByteAct}
 
--- a moment of acts: the world after a front part of them
+-- a moment of acts: the world after a prefix of them
 abbrev pub moment : Network → List Act → WorldState
 moment n before = acted_all (new_world n) before
 

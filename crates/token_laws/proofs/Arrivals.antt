@@ -1,9 +1,9 @@
 -- Every act leaves the received events of each port of messages that were got.
-use Rattle.std.proofs.Common.{◌≡◌, ◌<◌, ◌≤◌, ℕ, Bool, true, false, List, [], ◌∷◌, ◌++◌, length, get_or, set, nat_eq, nat_lt, Option, Some, None, option_map, Ok, refl, sym, ap, ◌∙◌, subst, arith, if◌then◌else◌}
+use Rattle.std.proofs.Common.{◌≡◌, ◌<◌, ◌≤◌, ◌+◌, ℕ, Bool, true, false, List, [], ◌∷◌, ◌++◌, length, take, drop, get_or, set, nat_eq, nat_lt, Option, Some, None, option_map, Ok, refl, sym, ap, ◌∙◌, subst, arith, append_assoc, length-append, true≢false, if◌then◌else◌}
 use Rattle.std.specs.Prelude.{find, slice_get}
 use Rattle.std.specs.List.{AllByRecursion}
 use Rattle.std.proofs.lemmas.Bool.Decides.{nat_tests}
-use Rattle.std.proofs.lemmas.List.{get_or_past}
+use Rattle.std.proofs.lemmas.List.{get_or_past, drop-drop}
 use Rattle.net_defs.specs.Network.{Network}
 use Rattle.packet_defs.specs.declared.kind.Kind.{Kind}
 use Rattle.packet_defs.specs.declared.kind.Kind.TheVariants.{Gm}
@@ -11,28 +11,31 @@ use Rattle.packet_defs.specs.Host.{decode as decode_packet}
 use Rattle.gm_defs.specs.declared.message.Message.{Message}
 use Rattle.gm_defs.specs.declared.frame.FrameHead.{FrameHead}
 use Rattle.gm_defs.specs.declared.token.Took.{Took}
-use Rattle.gm_defs.specs.declared.token.Took.TheVariants.{NotNext, NoToken, Whole}
-use Rattle.gm_defs.specs.Body.{piece, part_in}
+use Rattle.gm_defs.specs.declared.token.Took.TheVariants.{NotNext, NoToken, Part, Whole}
+use Rattle.gm_defs.specs.Body.{is_last, decode, part_in}
 use Rattle.gm_defs.specs.declared.frame.ConnectionKey.{ConnectionKey}
 use Rattle.gm_defs.specs.declared.frame.GmBody.TheVariants.{Frame}
 use Rattle.gm_defs.specs.Fragment.{IsHonestFrame}
-use Rattle.gm_defs.specs.Connection.{key_of}
-use Rattle.gm_defs.specs.Token.{Provided, PortEvent, Sent, Received, PortState, is_size, size_for_length, fits, fitting}
+use Rattle.gm_defs.specs.Connection.{key_of, taken_as, took}
+use Rattle.gm_defs.specs.Token.{Provided, PortEvent, Sent, Received, PortState, is_size, size_for_length, fits, takes_at, taker}
 use Rattle.gm_defs.specs.Port.{finished, filled, delivered, sent_with}
 use Rattle.gm_defs.proofs.Choices.{both}
-use Rattle.world_defs.specs.Lane.{LaneState, Ticket, new_lane, with_message, lane_acknowledged, tickets_finished, lane_expired, lane_sent_one, lane_answered, lane_after}
+use Rattle.gm_defs.proofs.Takers.{IsFound, found, passes-taker}
+use Rattle.world_defs.specs.Lane.{LaneState, Ticket, new_lane, ending, with_message, lane_acknowledged, tickets_finished, lane_expired, lane_sent_one, lane_answered, lane_after}
 use Rattle.world_defs.specs.Node.{NodeState, Outgoing, Probe, TablePart, Reply, PartAnswer, FrameAnswer, Fragment, lane_count, lane_of, sending_lane, lane_at, with_lane, port_at, with_port, after_sending, with_expired, node_expired, new_node, port_count}
-use Rattle.world_defs.specs.Hearing.{message_of, frame_lane, ack_lane, delivered_after, frame_took, all_finished}
+use Rattle.world_defs.specs.Hearing.{port_takes, message_of, frame_lane, ack_lane, delivered_after, frame_took, all_finished}
 use Rattle.world_defs.specs.Client.{ClientState, Called, Wanted, wanted_message, wanted_lane, client_bytes, empty_buffer, send_accepted}
 use Rattle.world_defs.specs.World.{WorldState, host_count, new_world, node_at}
-use Rattle.world_defs.specs.Sound.{IsFront}
+use Rattle.world_defs.specs.Sound.{IsPrefix}
 use Rattle.world_defs.specs.Traffic.{sent_on}
 use Rattle.act_defs.specs.Acts.{Act, acted, IsReached}
 use Rattle.order_laws.specs.Says.{SaysTrue}
-use Rattle.order_laws.proofs.Lanes.{front-same, frame-message}
+use Rattle.order_laws.proofs.Lanes.{front-same}
+use Rattle.order_laws.proofs.Worlds.{to_host}
+use Rattle.gm_defs.proofs.Found.{joined, joined-front}
+use Rattle.filling_laws.proofs.Worlds.{IsNext, read-prio, reached-next, reached-held}
 use Rattle.world_defs.proofs.Lists.{each-set, each-replicate}
 use Rattle.world_defs.proofs.Lanes.{lane_of-below}
-use Rattle.owner_laws.proofs.Moves.{found-passes}
 use Rattle.window_laws.proofs.Heard.{IsHeard, quietly, of_frame, of_ack, hear-is}
 use Rattle.window_laws.proofs.Hosts.{Rules, Goes, acted-goes}
 use Rattle.window_laws.proofs.Numbers.{all_finished-lanes}
@@ -43,7 +46,7 @@ use Rattle.token_laws.specs.Received.{IsOfMessage, ReceivedEventsAreOfMessages}
 use Rattle.token_laws.proofs.Calls.{IsCall, CallDoes, call-does}
 use Rattle.token_laws.proofs.Hosts.{lane-new}
 use Rattle.token_laws.proofs.Events.{AreAll, all-more, PortStill, port-same, called-still, finished-still, delivered-still, event-at, ports-same, ports-set}
-use Rattle.token_laws.proofs.Buffers.{provided-untouched}
+use Rattle.token_laws.proofs.Buffers.{least-size, HoldsFront, taker-holds, read-within, read-last, provided-untouched}
 use Rattle.token_laws.proofs.Reaching.{reached-count, reached-known}
 use Rattle.order_laws.proofs.Frames.{get-front}
 use Rattle.token_laws.proofs.Lists.{get-last}
@@ -57,7 +60,7 @@ abbrev AreOf : (ℕ → List Message) → ℕ → Option PortState → Type 0
 AreOf got port o = AreAll (IsEventOf got port) o
 
 -- more is got
-event-more : (G H : ℕ → List Message) (port : ℕ) → ((k : ℕ) → IsFront (G k) (H k)) → (e : PortEvent) → IsEventOf G port e → IsEventOf H port e
+event-more : (G H : ℕ → List Message) (port : ℕ) → ((k : ℕ) → IsPrefix (G k) (H k)) → (e : PortEvent) → IsEventOf G port e → IsEventOf H port e
 event-more G H port more (Sent t b) is = tt
 event-more G H port more (Received t b from sport prio len) is = record {
   place = is.place;
@@ -81,23 +84,23 @@ record AllOf (n : NodeState) : Type 0 where
 
 -- more is got, and each port goes on so
 record HostGoes (n m : NodeState) : Type 0 where
-  more : (k : ℕ) → IsFront (got_at n k) (got_at m k)
+  more : (k : ℕ) → IsPrefix (got_at n k) (got_at m k)
   ports : (port : ℕ) → PortStill (IsEventOf (got_at m) port) (port_at n port) (port_at m port)
 
 all-of : (n m : NodeState) → HostGoes n m → AllOf n → AllOf m
 all-of n m g is = record { each = λ port. (g.ports port).still (all-more (IsEventOf (got_at n) port) (IsEventOf (got_at m) port) (event-more (got_at n) (got_at m) port g.more) (port_at n port) (is.each port)) }
 
-got-same : (n m : NodeState) → m.lanes ≡ n.lanes → (k : ℕ) → IsFront (got_at n k) (got_at m k)
-got-same n m e k = subst (λ l. IsFront (got_at n k) (get_or l k new_lane).got) (sym e) (front-same (got_at n k))
+got-same : (n m : NodeState) → m.lanes ≡ n.lanes → (k : ℕ) → IsPrefix (got_at n k) (got_at m k)
+got-same n m e k = subst (λ l. IsPrefix (got_at n k) (get_or l k new_lane).got) (sym e) (front-same (got_at n k))
 
-got-set : (n m : NodeState) (k : ℕ) (q : LaneState) → m.lanes ≡ set n.lanes k q → IsFront (got_at n k) q.got → (j : ℕ) → IsFront (got_at n j) (got_at m j)
+got-set : (n m : NodeState) (k : ℕ) (q : LaneState) → m.lanes ≡ set n.lanes k q → IsPrefix (got_at n k) q.got → (j : ℕ) → IsPrefix (got_at n j) (got_at m j)
 got-set n m k q e here j =
-    subst (λ l. IsFront (got_at n j) (get_or l j new_lane).got) (sym e) (each-set (λ i x. IsFront (got_at n i) x.got) n.lanes k j q new_lane here (λ i. front-same (got_at n i)))
+    subst (λ l. IsPrefix (got_at n j) (get_or l j new_lane).got) (sym e) (each-set (λ i x. IsPrefix (got_at n i) x.got) n.lanes k j q new_lane here (λ i. front-same (got_at n i)))
 
 quiet-goes : (n m : NodeState) → m.lanes ≡ n.lanes → m.ports ≡ n.ports → HostGoes n m
 quiet-goes n m e f = record { more = got-same n m e; ports = ports-same (IsEventOf (got_at m)) n m f }
 
-lane-goes : (n : NodeState) (k : ℕ) (q : LaneState) → IsFront (got_at n k) q.got → HostGoes n (with_lane n k q)
+lane-goes : (n : NodeState) (k : ℕ) (q : LaneState) → IsPrefix (got_at n k) q.got → HostGoes n (with_lane n k q)
 lane-goes n k q here = record { more = got-set n (with_lane n k q) k q refl here; ports = ports-same (IsEventOf (got_at (with_lane n k q))) n (with_lane n k q) refl }
 
 all-finished : (got : ℕ → List Message) (n : NodeState) (ts : List Ticket) (port : ℕ) → PortStill (IsEventOf got port) (port_at n port) (port_at (all_finished n ts) port)
@@ -117,29 +120,61 @@ found-all P test (x ∷ xs) y all e = by (test x) (found-all P test xs y all.1) 
     by true rest d = let same : x ≡ y = cc in subst P same all.0
     by false rest d = rest d
 
-least-size : (size : ℕ) (o : Option ℕ) → is_size size o ≡ true → o ≡ Some size
-least-size size None e = cc
-least-size size (Some least) e = ap Some (same e)
-  where
-    same : nat_eq size least ≡ true → least ≡ size
-    same t = grind (arith, nat_tests)
-
 -- each provided buffer of a host's ports is untouched
 abbrev HasUntouched : NodeState → Type 0
 HasUntouched n = (port : ℕ) (p : PortState) → port_at n port ≡ Some p → AllByRecursion IsUntouched p.provided
 
+-- What is known of a fragment that the port of a host takes: what came before it stands in the buffer of the token that takes it.
+record IsCarried (n : NodeState) (h : FrameHead) (part : List ℕ) : Type 0 where
+  within : h.offset + length part ≤ h.total
+  last : is_last h.total h.offset ≡ true → h.offset + length part ≡ h.total
+  before : length (lane_at n (frame_lane h)).coming ≡ h.offset
+  held : (p : PortState) (r : Provided) → port_at n h.dport ≡ Some p → taker p h ≡ Some r → take h.offset r.buffer ≡ (lane_at n (frame_lane h)).coming
+
+-- what a receiver made of a fragment says whether it is its message's last
+not-whole : (taken seq : ℕ) (fits last : Bool) → took taken seq fits last ≡ Whole → (seq ≡ taken) × (last ≡ true)
+not-whole taken seq fits last e = by (nat_eq seq taken) fits last refl e
+  where
+    by : (a b c : Bool) → nat_eq seq taken ≡ a → (if a then if b then taken_as c else NoToken else NotNext) ≡ Whole → (seq ≡ taken) × (c ≡ true)
+    by true true true d f = (grind (arith, nat_tests), refl)
+    by true true false d f = cc
+    by true false c d f = cc
+    by false b c d f = cc
+
+not-part : (taken seq : ℕ) (fits last : Bool) → took taken seq fits last ≡ Part → last ≡ false
+not-part taken seq fits last e = by (nat_eq seq taken) fits last e
+  where
+    by : (a b c : Bool) → (if a then if b then taken_as c else NoToken else NotNext) ≡ Part → c ≡ false
+    by true true true f = cc
+    by true true false f = refl
+    by true false c f = cc
+    by false b c f = cc
+
 module _ (n : NodeState) (hosts : ℕ) (long : length n.lanes ≡ lane_count hosts) (untouched : HasUntouched n) where
-  -- a frame that carries a whole message
-  frame-goes : (h : FrameHead) (part : List ℕ) (t : Took) → h.src < hosts → length part ≡ h.total → HostGoes n (delivered_after (with_lane n (frame_lane h) (lane_after (lane_at n (frame_lane h)) t (message_of h part))) h part t)
-  frame-goes h part NotNext low whole = lane-goes n (frame_lane h) (lane_after (lane_at n (frame_lane h)) NotNext (message_of h part)) (front-same (got_at n (frame_lane h)))
-  frame-goes h part NoToken low whole = lane-goes n (frame_lane h) (lane_after (lane_at n (frame_lane h)) NoToken (message_of h part)) (front-same (got_at n (frame_lane h)))
-  frame-goes h part Whole low whole = record {
-    more = got-set n m (frame_lane h) q refl (record { rest = message_of h part ∷ []; both = refl });
-    ports = ports-set (IsEventOf (got_at m)) n m h.dport (option_map (λ p. delivered p h part) (port_at n h.dport)) refl (delivered-still (IsEventOf (got_at m) h.dport) h part (port_at n h.dport) new);
+  -- a fragment that ends a message
+  frame-goes : (h : FrameHead) (part : List ℕ) (t : Took) → h.src < hosts → (t ≡ Part → is_last h.total h.offset ≡ false) → (t ≡ Whole → (is_last h.total h.offset ≡ true) × IsCarried n h part) → HostGoes n (delivered_after (with_lane n (frame_lane h) (lane_after (lane_at n (frame_lane h)) t (message_of h part))) h part t)
+  frame-goes h part NotNext low earlier whole = lane-goes n (frame_lane h) (lane_after (lane_at n (frame_lane h)) NotNext (message_of h part)) (front-same (got_at n (frame_lane h)))
+  frame-goes h part NoToken low earlier whole = lane-goes n (frame_lane h) (lane_after (lane_at n (frame_lane h)) NoToken (message_of h part)) (front-same (got_at n (frame_lane h)))
+  frame-goes h part Part low earlier whole = record {
+    more = got-set n m (frame_lane h) q refl (front-same (got_at n (frame_lane h)));
+    ports = ports-set (IsEventOf (got_at m)) n m h.dport (option_map (λ p. delivered p h part) (port_at n h.dport)) refl (delivered-still (IsEventOf (got_at m) h.dport) h part (port_at n h.dport) (λ p r e f t. absurd (true≢false (sym t ∙ earlier refl))));
   }
     where
       q : LaneState
-      q = lane_after (lane_at n (frame_lane h)) Whole (message_of h part)
+      q = lane_after (lane_at n (frame_lane h)) Part (message_of h part)
+
+      m : NodeState
+      m = delivered_after (with_lane n (frame_lane h) q) h part Part
+  frame-goes h part Whole low earlier whole = record {
+    more = got-set n m (frame_lane h) q refl (record { rest = message ∷ []; both = refl });
+    ports = ports-set (IsEventOf (got_at m)) n m h.dport (option_map (λ p. delivered p h part) (port_at n h.dport)) refl (delivered-still (IsEventOf (got_at m) h.dport) h part (port_at n h.dport) new);
+  }
+    where
+      l : LaneState
+      l = lane_at n (frame_lane h)
+
+      q : LaneState
+      q = lane_after l Whole (message_of h part)
 
       m : NodeState
       m = delivered_after (with_lane n (frame_lane h) q) h part Whole
@@ -147,38 +182,48 @@ module _ (n : NodeState) (hosts : ℕ) (long : length n.lanes ≡ lane_count hos
       k : ℕ
       k = frame_lane h
 
-      now : got_at m k ≡ got_at n k ++ message_of h part ∷ []
+      message : Message
+      message = ending l.coming (message_of h part)
+
+      now : got_at m k ≡ got_at n k ++ message ∷ []
       now = ap (λ x. x.got) (lane-new n m k q refl (subst (λ count. k < count) (sym long) (lane_of-below hosts h.src h.prio low)))
 
-      new : (p : PortState) (r : Provided) → port_at n h.dport ≡ Some p → fitting p h.total h.prio ≡ Some r → IsOfMessage (λ a. got_at m (lane_of a h.prio)) h.dport (filled r.buffer part) h.src h.sport h.prio h.total
-      new p r e f =
-          let test : Provided → Bool = λ x. fits x.size x.prio h.total h.prio in
-          let passes : fits r.size r.prio h.total h.prio ≡ true = found-passes test (λ x. x.token) p.provided r f in
-          let clean : r.buffer ≡ empty_buffer r.size = found-all IsUntouched test p.provided r (untouched h.dport p e) f in
+      carried : IsCarried n h part
+      carried = (whole refl).1
+
+      total : length (l.coming ++ part) ≡ h.total
+      total = let a = length-append l.coming part in let b = carried.before in let c = carried.last (whole refl).0 in omega (arith, a, b, c)
+
+      new : (p : PortState) (r : Provided) → port_at n h.dport ≡ Some p → taker p h ≡ Some r → is_last h.total h.offset ≡ true → IsOfMessage (λ a. got_at m (lane_of a h.prio)) h.dport (filled r.buffer h.offset part) h.src h.sport h.prio h.total
+      new p r e f t =
+          let it = found (takes_at p h) p.provided r f in
+          let clean : IsUntouched r = found-all IsUntouched (takes_at p h) p.provided r (untouched h.dport p e) f in
+          let k : HoldsFront h r = taker-holds p h r (passes-taker p h r it.passes) clean in
+          let front : take h.offset r.buffer ≡ l.coming = carried.held p r e f in
+          let rest : drop (h.offset + length part) r.buffer ≡ drop (h.offset + length part) (empty_buffer r.size) =
+          sym (drop-drop (length part) h.offset r.buffer) ∙ ap (drop (length part)) (ap (λ i. drop i r.buffer) (sym k.held) ∙ clean.others ∙ ap (λ i. drop i (empty_buffer r.size)) k.held) ∙ drop-drop (length part) h.offset (empty_buffer r.size) in
+          let end : h.offset + length part ≡ 0 + length (l.coming ++ part) = let c = carried.last t in omega (arith, c, total) in
           record {
-            place = length (got_at n k);
-            message = message_of h part;
+            place = length (got_at n (frame_lane h));
+            message = message;
             size = r.size;
-            there = ap (λ l. slice_get l (length (got_at n k))) now ∙ get-last (got_at n k) (message_of h part);
+            there = ap (λ l. slice_get l (length (got_at n (frame_lane h)))) now ∙ get-last (got_at n (frame_lane h)) message;
             to_port = refl;
             from_port = refl;
             priority = refl;
-            long = whole;
-            least = least-size r.size (size_for_length h.total) (both (is_size r.size (size_for_length h.total)) (nat_eq r.prio h.prio) passes).0;
-            bytes = ap (λ b. filled b part) clean;
+            long = total;
+            least = least-size r.size (size_for_length h.total) (both (is_size r.size (size_for_length h.total)) (nat_eq r.prio h.prio) k.fitting).0;
+            bytes = (λ i. joined (front i) part (rest i)) ∙ joined-front l.coming part (drop (h.offset + length part) (empty_buffer r.size)) ∙ ap (λ i. (l.coming ++ part) ++ drop i (empty_buffer r.size)) end;
           }
 
-  -- all that is read is so, of messages of one fragment
-  heard-goes : (S : ConnectionKey → List Message) (host : ℕ) (wire : List ℕ) (m : NodeState) → ((c : ConnectionKey) → AllByRecursion (λ x. length x.body ≤ piece) (S c)) → ((k : Kind) (body : List ℕ) → decode_packet wire ≡ Ok (k, body) → SaysTrue S k body) → IsHeard host hosts n wire m → HostGoes n m
-  heard-goes S host wire m short good (quietly e f) = quiet-goes n m e f
-  heard-goes S host wire m short good (of_frame body h e d mine low now) =
-      let c : ConnectionKey = key_of (Frame h) in
-      let frame : IsHonestFrame S h (part_in body) = good Gm body e h d in
-      let carried = frame-message c h.seq (S c) h.seq (h, part_in body) (short c) frame in
-      let total : h.total ≡ length carried.message.body = ap (λ x. x.0.total) carried.is in
-      let bytes : length (part_in body) ≡ length carried.message.body = ap (λ x. length x.1) carried.is in
-      subst (HostGoes n) (sym now) (frame-goes h (part_in body) (frame_took n h) low (bytes ∙ sym total))
-  heard-goes S host wire m short good (of_ack body a e d mine low now) =
+  -- all that is read is so
+  heard-goes : (host : ℕ) (wire : List ℕ) (m : NodeState) → ((body : List ℕ) (h : FrameHead) → decode_packet wire ≡ Ok (Gm, body) → decode body ≡ Ok (Frame h) → h.dst ≡ host → h.seq ≡ (lane_at n (frame_lane h)).taken → IsCarried n h (part_in body)) → IsHeard host hosts n wire m → HostGoes n m
+  heard-goes host wire m good (quietly e f) = quiet-goes n m e f
+  heard-goes host wire m good (of_frame body h e d mine low now) =
+      subst (HostGoes n) (sym now)
+      (frame-goes h (part_in body) (frame_took n h) low (not-part (lane_at n (frame_lane h)).taken h.seq (port_takes (port_at n h.dport) h) (is_last h.total h.offset))
+      (λ t. let k = not-whole (lane_at n (frame_lane h)).taken h.seq (port_takes (port_at n h.dport) h) (is_last h.total h.offset) t in (k.1, good body h e d mine k.0)))
+  heard-goes host wire m good (of_ack body a e d mine low now) =
       let v : NodeState = with_lane n (ack_lane a) (lane_acknowledged (lane_at n (ack_lane a)) a.next) in
       let gone : List Ticket = tickets_finished (lane_at n (ack_lane a)) a.next in
       let after : NodeState = all_finished v gone in
@@ -230,10 +275,19 @@ record Still (count h : ℕ) (n m : NodeState) : Type 0 where
 abbrev StillOf : Network → ℕ → NodeState → NodeState → Type 0
 StillOf n h a b = Still (length n.hosts) h a b
 
+carried : (n : Network) (w : WorldState) → IsReached n w → (host : ℕ) (body : List ℕ) (h : FrameHead) → IsHonestFrame (sent_on w) h (part_in body) → decode body ≡ Ok (Frame h) → h.dst ≡ host → h.seq ≡ (lane_at (node_at w host) (frame_lane h)).taken → IsCarried (node_at w host) h (part_in body)
+carried n w is host body h honest d mine seq =
+    let k : IsNext (to_host w host (frame_lane h)) (lane_at (node_at w host) (frame_lane h)) h (part_in body) = reached-next n w is host h (part_in body) honest mine seq in
+    record { within = read-within body h d; last = read-last body h d; before = k.offset; held = reached-held n w is host h (part_in body) (read-prio body h d) honest mine seq }
+
 event-rules : (n : Network) (w : WorldState) → IsReached n w → Rules w (SaysTrue (sent_on w)) (StillOf n)
 event-rules n w is = record {
   quiet = λ h m e f. record { still = λ low. all-of (node_at w h) m (quiet-goes (node_at w h) m e f) };
-  hears = λ h wire good. record { still = λ low. all-of (node_at w h) _ (heard-goes (node_at w h) (host_count w) (reached-known n w h is low).lanes (provided-untouched n w is h) (sent_on w) h wire _ (λ c. (((reached-windowed n w is).ordered.hosts c.src).lanes (sending_lane c)).short) good (hear-is h (host_count w) (node_at w h) wire)) };
+  hears = λ h wire good. record {
+    still = λ low.
+        all-of (node_at w h) _
+        (heard-goes (node_at w h) (host_count w) (reached-known n w h is low).lanes (provided-untouched n w is h) h wire _ (λ body x e d mine seq. carried n w is h body x (good Gm body e x d) d mine seq) (hear-is h (host_count w) (node_at w h) wire));
+  };
   sends = λ h out e. record { still = λ low. all-of (node_at w h) _ (sending-goes (node_at w h) out) };
   expires = λ h peer. record { still = λ low. expires-kept (node_at w h) peer };
   calls = λ h port call k. record { still = λ low. all-of (node_at w h) _ (called-goes (node_at w h) (call-does k)) };

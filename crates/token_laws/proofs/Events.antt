@@ -1,11 +1,13 @@
 -- What a change of a port leaves of its events, of each of which something holds.
-use Rattle.std.proofs.Common.{◌≡◌, ℕ, zero, suc, List, [], ◌∷◌, drop, set, get_or, Option, Some, None, IfSome, option_map, refl, sym, subst}
+use Rattle.std.proofs.Common.{◌≡◌, ℕ, zero, suc, true, List, [], ◌∷◌, drop, set, get_or, Option, Some, None, IfSome, option_map, refl, sym, subst}
 use Rattle.std.specs.Prelude.{slice_get}
 use Rattle.std.specs.List.{AllByRecursion}
 use Rattle.net_defs.proofs.Distinct.{all-push, all-weaker}
 use Rattle.gm_defs.specs.declared.frame.FrameHead.{FrameHead}
-use Rattle.gm_defs.specs.Token.{Sending, Provided, PortEvent, Sent, Received, PortState, fitting}
-use Rattle.gm_defs.specs.Port.{send_of, ended_by, finished, filled, taken_by, delivered}
+use Rattle.gm_defs.specs.Body.{is_last}
+use Rattle.gm_defs.specs.Token.{Sending, Provided, PortEvent, Sent, Received, PortState, taker}
+use Rattle.gm_defs.specs.Port.{send_of, ended_by, finished, filled, delivered}
+use Rattle.gm_defs.proofs.Takers.{Delivery, delivery}
 use Rattle.world_defs.specs.Node.{NodeState, port_at}
 use Rattle.world_defs.proofs.Lists.{each-set}
 use Rattle.token_laws.proofs.Calls.{PortCalled, stays, opens, closes, provides, polls}
@@ -46,14 +48,15 @@ module _ (E : PortEvent → Type 0) where
       by None e a = a
       by (Some s) e a = all-push E p.events (Sent t s.buffer) a (new p s refl e)
 
-  -- a message is taken, by a buffer that was provided
-  pub delivered-still : (h : FrameHead) (part : List ℕ) (o : Option PortState) → ((p : PortState) (r : Provided) → o ≡ Some p → fitting p h.total h.prio ≡ Some r → E (Received r.token (filled r.buffer part) h.src h.sport h.prio h.total)) → PortStill E o (option_map (λ p. delivered p h part) o)
+  -- a fragment is taken, by a buffer that was provided; the last one of a message ends in an event
+  pub delivered-still : (h : FrameHead) (part : List ℕ) (o : Option PortState) → ((p : PortState) (r : Provided) → o ≡ Some p → taker p h ≡ Some r → is_last h.total h.offset ≡ true → E (Received r.token (filled r.buffer h.offset part) h.src h.sport h.prio h.total)) → PortStill E o (option_map (λ p. delivered p h part) o)
   delivered-still h part None new = port-same E None
-  delivered-still h part (Some p) new = record { still = by (fitting p h.total h.prio) refl }
+  delivered-still h part (Some p) new = record { still = by (delivery p h part) }
     where
-      by : (f : Option Provided) → fitting p h.total h.prio ≡ f → AllByRecursion E p.events → AllByRecursion E (taken_by p h part f).events
-      by None e a = a
-      by (Some r) e a = all-push E p.events (Received r.token (filled r.buffer part) h.src h.sport h.prio h.total) a (new p r refl e)
+      by : {q : PortState} → Delivery p h part q → AllByRecursion E p.events → AllByRecursion E q.events
+      by (Delivery.missed e) a = a
+      by (Delivery.ends r e d) a = all-push E p.events (Received r.token (filled r.buffer h.offset part) h.src h.sport h.prio h.total) a (new p r refl e d)
+      by (Delivery.goes_on r e d) a = a
 
   pub event-at : (es : List PortEvent) (i : ℕ) (e : PortEvent) → AllByRecursion E es → slice_get es i ≡ Some e → E e
   event-at [] i e all d = cc

@@ -7,7 +7,7 @@ use Rattle.net_defs.specs.Network.{Apart}
 use Rattle.gm_defs.specs.declared.message.Message.{Message}
 use Rattle.gm_defs.specs.declared.frame.FrameHead.{FrameHead}
 use Rattle.gm_defs.specs.declared.token.Took.{Took}
-use Rattle.gm_defs.specs.declared.token.Took.TheVariants.{NotNext, NoToken, Whole}
+use Rattle.gm_defs.specs.declared.token.Took.TheVariants.{NotNext, NoToken, Part, Whole}
 use Rattle.gm_defs.specs.Body.{part_in}
 use Rattle.gm_defs.specs.Fragment.{whole_below}
 use Rattle.gm_defs.specs.Connection.{SenderState, IsSender, is_taken, acknowledged}
@@ -24,7 +24,7 @@ use Rattle.world_defs.specs.Sound.{HasOwners, AreOwned}
 use Rattle.order_laws.proofs.Lanes.{IsNumbered}
 use Rattle.window_laws.proofs.Heard.{IsHeard, quietly, of_frame, of_ack, hear-is}
 use Rattle.window_laws.proofs.Numbers.{all_finished-lanes, delivered_after-lanes}
-use Rattle.window_laws.proofs.Taken.{whole-below}
+use Rattle.gm_defs.proofs.Numbers.{more-below, below-up, below-few}
 use Rattle.token_laws.specs.Unfinished.{send_at, tickets_on}
 use Rattle.token_laws.proofs.Matching.{same-or, OneAfter, the_one, another, tickets-long, matched-same, matched-accepted}
 use Rattle.token_laws.proofs.Sendings.{under, tokens, under-none, under-joined, under-new}
@@ -91,6 +91,8 @@ module _ (n : NodeState) where
   delivered-same : (m : NodeState) (h : FrameHead) (part : List ℕ) (t : Took) → m.ports ≡ n.ports → (x : Ticket) → send_at (delivered_after m h part t) x ≡ send_at n x
   delivered-same m h part NotNext e x = ap (λ ps. send_in (get_or ps x.port None) x.token) e
   delivered-same m h part NoToken e x = ap (λ ps. send_in (get_or ps x.port None) x.token) e
+  delivered-same m h part Part e x =
+      set-sends m (delivered_after m h part Part) h.dport (option_map (λ p. delivered p h part) (port_at m h.dport)) refl (delivered-sends h part (port_at m h.dport)) x ∙ ap (λ ps. send_in (get_or ps x.port None) x.token) e
   delivered-same m h part Whole e x =
       set-sends m (delivered_after m h part Whole) h.dport (option_map (λ p. delivered p h part) (port_at m h.dport)) refl (delivered-sends h part (port_at m h.dport)) x ∙ ap (λ ps. send_in (get_or ps x.port None) x.token) e
 
@@ -121,9 +123,9 @@ lane-expired n lane = lane-matched n lane (lane_expired (lane_at n lane)) (recor
 pub expired-same : (n : NodeState) (peer : ℕ) → HostMatched n → HostMatched (node_expired n peer)
 expired-same n peer is = lane-expired (with_expired n (lane_of peer 0)) (lane_of peer 1) (lane-expired n (lane_of peer 0) is)
 
--- An acknowledgement of a lane finishes as many sends as it raises the first number that isn't acknowledged, and as many tickets wait at least.
+-- An acknowledgement of a lane finishes as many sends as messages more lie wholly below the first number that isn't acknowledged, and as many tickets wait at least.
 pub record IsFinishing (n : NodeState) (k next : ℕ) : Type 0 where
-  pub counted : (lane_at n k).sender.base + finished_by (lane_at n k) next ≡ (acknowledged (lane_at n k).sender next).base
+  pub counted : whole_below (lane_at n k).sent (lane_at n k).sender.base + finished_by (lane_at n k) next ≡ whole_below (lane_at n k).sent (acknowledged (lane_at n k).sender next).base
   pub many : length (take (finished_by (lane_at n k) next) (lane_at n k).pending) ≡ finished_by (lane_at n k) next
   pub there : k < length n.lanes
 
@@ -147,26 +149,16 @@ module _ (n : NodeState) (client : ℕ → Option ClientState) (hosts : ℕ) (kn
       rise : IsRaised p.sender base
       rise = raised p.sender next (known.senders k)
 
-      counted : p.sender.base + count ≡ base
-      counted =
-          let numbers = known.numbered k in
-          let long = numbers.numbered in
-          let top = (known.senders k).top_below in
-          let up = rise.up in
-          let below = rise.below in
-          let a : whole_below p.sent base ≡ base = whole-below p.sent base numbers.short (omega (arith, below, top, long)) in
-          let b : whole_below p.sent p.sender.base ≡ p.sender.base = whole-below p.sent p.sender.base numbers.short (omega (arith, up, below, top, long)) in
-          omega (arith, a, b, up)
+      counted : whole_below p.sent p.sender.base + count ≡ whole_below p.sent base
+      counted = let up = below-up p.sent p.sender.base base rise.up in omega (arith, up)
 
       many : length (take count p.pending) ≡ count
       many =
           let as_many = tickets-long (send_at n) p.pending (left_on n k) (is.of_messages k) in
-          let fewer = length-drop p.sender.base p.sent in
-          let long = (known.numbered k).numbered in
-          let top = (known.senders k).top_below in
-          let below = rise.below in
+          let fewer = length-drop (whole_below p.sent p.sender.base) p.sent in
+          let few = below-few p.sent base in
           let all = counted in
-          length-take-le count p.pending (omega (arith, as_many, fewer, long, top, below, all))
+          length-take-le count p.pending (omega (arith, as_many, fewer, few, all))
 
       there : k < length n.lanes
       there = subst (λ count. k < count) (sym known.lanes) low
@@ -230,12 +222,12 @@ module _ (n : NodeState) (client : ℕ → Option ClientState) (hosts : ℕ) (kn
           here =
               let all = known_here.counted in
               let long = known_here.many in
-              let sum : p.sender.base + length gone ≡ base = omega (arith, all, long) in
-              ap (λ x. drop x.sender.base x.sent) now ∙ sym (drop-drop (length gone) p.sender.base p.sent ∙ ap (λ i. drop i p.sent) sum)
+              let sum : whole_below p.sent p.sender.base + length gone ≡ whole_below p.sent base = omega (arith, all, long) in
+              ap (λ x. drop (whole_below x.sent x.sender.base) x.sent) now ∙ sym (drop-drop (length gone) (whole_below p.sent p.sender.base) p.sent ∙ ap (λ i. drop i p.sent) sum)
 
           by : (j ≡ k) ⊎ (j ≢ k) → left_on m j ≡ at k rest (left_on n) j
           by (inl same) = ap (left_on m) same ∙ (here ∙ (sym (at-here k rest (left_on n)) ∙ ap (at k rest (left_on n)) (sym same)))
-          by (inr other) = ap (λ x. drop x.sender.base x.sent) (lane-old n m k q lanes j other) ∙ sym (at-other k rest (left_on n) j other)
+          by (inr other) = ap (λ x. drop (whole_below x.sent x.sender.base) x.sent) (lane-old n m k q lanes j other) ∙ sym (at-other k rest (left_on n) j other)
 
   heard-matched : (host : ℕ) (wire : List ℕ) (m : NodeState) → IsHeard host hosts n wire m → HostMatched n → HostMatched m
   heard-matched host wire m (quietly e f) is = quiet-same n m e f is
@@ -293,13 +285,16 @@ module _ (n : NodeState) (client : ℕ → Option ClientState) (hosts : ℕ) (kn
           let a = (known.senders k).base_below in
           let b = (known.senders k).cursor_below in
           let d = (known.senders k).top_below in
-          ap (λ x. drop x.sender.base x.sent) now ∙ drop-append-le (lane_at n k).sender.base (lane_at n k).sent (message ∷ []) (omega (arith, long, a, b, d))
+          let l : LaneState = lane_at n k in
+          let same = (more-below l.sent (message ∷ []) l.sender.base (omega (arith, long, a, b, d))).0 in
+          ap (λ x. drop (whole_below x.sent x.sender.base) x.sent) now ∙ ap (λ i. drop i (l.sent ++ message ∷ [])) same
+          ∙ drop-append-le (whole_below l.sent l.sender.base) l.sent (message ∷ []) (below-few l.sent l.sender.base)
 
       others : (j : ℕ) → j ≢ k → tickets_on m j ≡ tickets_on n j
       others j other = ap (λ x. x.pending) (lane-old n m k q refl j other)
 
       others_too : (j : ℕ) → j ≢ k → left_on m j ≡ left_on n j
-      others_too j other = ap (λ x. drop x.sender.base x.sent) (lane-old n m k q refl j other)
+      others_too j other = ap (λ x. drop (whole_below x.sent x.sender.base) x.sent) (lane-old n m k q refl j other)
 
       -- the client had the token
       apart : AllByRecursion (λ y. t ≢ y) (tokens p.queue)

@@ -8,11 +8,11 @@ use Rattle.world_defs.specs.Node.{NodeState, lane_count, lane_at, port_at, new_n
 use Rattle.world_defs.specs.World.{WorldState, host_count, new_world, node_at, client_at}
 use Rattle.act_defs.specs.Acts.{Act, acted, IsReached}
 use Rattle.window_laws.proofs.Hosts.{Rules, Goes, acted-goes}
-use Rattle.window_laws.proofs.Taken.{whole-below}
+use Rattle.gm_defs.specs.Fragment.{whole_below}
 use Rattle.act_defs.proofs.Reaching.{reached-has}
-use Rattle.window_laws.proofs.Windows.{IsWindowed, numbers_of, reached-windowed}
+use Rattle.window_laws.proofs.Windows.{numbers_of, reached-windowed}
 use Rattle.token_laws.specs.Tickets.{AreMatched}
-use Rattle.token_laws.specs.Unfinished.{send_at, tickets_on, unfinished_on, QueueIsUnfinished, EachSendHasOneTicket}
+use Rattle.token_laws.specs.Unfinished.{send_at, tickets_on, QueueIsUnfinished, EachSendHasOneTicket}
 use Rattle.token_laws.proofs.Matching.{matched-same}
 use Rattle.token_laws.proofs.Sendings.{under-some}
 use Rattle.token_laws.proofs.Calls.{call-does}
@@ -55,7 +55,7 @@ new-matched k =
     let lane : (j : ℕ) → lane_at (new_node k) j ≡ new_lane = λ j. each-replicate (λ x. x ≡ new_lane) (lane_count k) j new_lane new_lane refl refl in
     let port : (j : ℕ) → port_at (new_node k) j ≡ None = λ j. each-replicate (λ o. o ≡ None) port_count j None None refl refl in
     matched-same (λ (t : Ticket). None) (send_at (new_node k)) (λ j. []) (tickets_on (new_node k)) (λ j. []) (left_on (new_node k)) (λ x. ap (λ o. send_in o x.token) (port x.port)) (λ j. ap (λ p. p.pending) (lane j))
-    (λ j. ap (λ p. drop p.sender.base p.sent) (lane j)) none-matched
+    (λ j. ap (λ p. drop (whole_below p.sent p.sender.base) p.sent) (lane j)) none-matched
 
 new-world-matched : (n : Network) → IsMatched n (new_world n)
 new-world-matched n =
@@ -75,23 +75,8 @@ reached-matched n w is h = by (nat_lt h (length n.hosts)) refl
         let past : length n.hosts ≤ h = grind (arith, nat_tests) in
         subst HostMatched (sym (get_or_past w.nodes h (new_node 0) (omega (arith, count, past)))) (new-matched 0)
 
--- as many messages lie wholly below the first number that isn't acknowledged as it says
-unfinished-left : (n : Network) (w : WorldState) (h k : ℕ) → IsReached n w → unfinished_on (node_at w h) k ≡ left_on (node_at w h) k
-unfinished-left n w h k is =
-    let r : IsWindowed w = reached-windowed n w is in
-    let numbers = (r.ordered.hosts h).lanes k in
-    let long = numbers.numbered in
-    let s = r.senders.in_order h k in
-    let a = s.base_below in
-    let b = s.cursor_below in
-    let c = s.top_below in
-    let p = lane_at (node_at w h) k in
-    ap (λ i. drop i p.sent) (whole-below p.sent p.sender.base numbers.short (omega (arith, long, a, b, c)))
-
 pub queue-unfinished : QueueIsUnfinished
-queue-unfinished n w is h =
-    let m : NodeState = node_at w h in
-    matched-same (send_at m) (send_at m) (tickets_on m) (tickets_on m) (left_on m) (unfinished_on m) (λ x. refl) (λ k. refl) (λ k. unfinished-left n w h k is) (reached-matched n w is h)
+queue-unfinished n w is h = reached-matched n w is h
 
 pub each-once : EachSendHasOneTicket
 each-once n w is h port place p s e d =

@@ -6,8 +6,10 @@ use Rattle.std.proofs.lemmas.List.{get_or-set_same, get_or-set_other, get_or_pas
 use Rattle.net_defs.specs.Network.{Apart}
 use Rattle.gm_defs.specs.declared.message.Message.{Message}
 use Rattle.gm_defs.specs.declared.frame.FrameHead.{FrameHead}
-use Rattle.gm_defs.specs.Token.{Sending, Provided, PortState, fitting}
-use Rattle.gm_defs.specs.Port.{send_of, ended_by, finished, taken_by, delivered}
+use Rattle.gm_defs.specs.Fragment.{whole_below}
+use Rattle.gm_defs.specs.Token.{Sending, PortState}
+use Rattle.gm_defs.specs.Port.{send_of, ended_by, finished, delivered}
+use Rattle.gm_defs.proofs.Takers.{Delivery, delivery}
 use Rattle.world_defs.specs.Lane.{LaneState, Ticket, new_lane}
 use Rattle.world_defs.specs.Node.{NodeState, lane_at, port_at, with_port}
 use Rattle.world_defs.specs.Hearing.{all_finished}
@@ -31,11 +33,12 @@ sends-same o = record { each = λ t. refl }
 
 pub delivered-sends : (h : FrameHead) (part : List ℕ) (o : Option PortState) → SameSends o (option_map (λ p. delivered p h part) o)
 delivered-sends h part None = sends-same None
-delivered-sends h part (Some p) = by (fitting p h.total h.prio)
+delivered-sends h part (Some p) = by (delivery p h part)
   where
-    by : (f : Option Provided) → SameSends (Some p) (Some (taken_by p h part f))
-    by None = sends-same (Some p)
-    by (Some r) = record { each = λ t. refl }
+    by : {q : PortState} → Delivery p h part q → SameSends (Some p) (Some q)
+    by (Delivery.missed e) = sends-same (Some p)
+    by (Delivery.ends r e d) = record { each = λ t. refl }
+    by (Delivery.goes_on r e d) = record { each = λ t. refl }
 
 pub called-sends : (o r : Option PortState) → PortCalled o r → SameSends o r
 called-sends o r (stays e) = record { each = λ t. ap (λ z. send_in z t) e }
@@ -54,10 +57,10 @@ set-sends n m port o e same x =
     let now : SameSends (port_at n x.port) (get_or (set n.ports port o) x.port None) = at-set SameSends sends-same n.ports port x.port o None same in
     ap (λ ps. send_in (get_or ps x.port None) x.token) e ∙ now.each x.token
 
--- a lane with the same tickets, and as many messages that aren't acknowledged
+-- a lane with the same tickets and the same messages that aren't finished
 pub record SameTickets (p q : LaneState) : Type 0 where
   pub tickets : q.pending ≡ p.pending
-  pub messages : drop q.sender.base q.sent ≡ drop p.sender.base p.sent
+  pub messages : drop (whole_below q.sent q.sender.base) q.sent ≡ drop (whole_below p.sent p.sender.base) p.sent
 
 pub tickets-same : (p : LaneState) → SameTickets p p
 tickets-same p = record { tickets = refl; messages = refl }
@@ -70,9 +73,9 @@ lanes-set n m k q e here j =
     let now : SameTickets (lane_at n j) (get_or (set n.lanes k q) j new_lane) = at-set SameTickets tickets-same n.lanes k j q new_lane here in
     subst (λ l. SameTickets (lane_at n j) (get_or l j new_lane)) (sym e) now
 
--- the messages of a lane from the first that isn't acknowledged on
+-- the messages of a lane that aren't finished
 abbrev pub left_on : NodeState → ℕ → List Message
-left_on n k = drop (lane_at n k).sender.base (lane_at n k).sent
+left_on n k = drop (whole_below (lane_at n k).sent (lane_at n k).sender.base) (lane_at n k).sent
 
 abbrev pub HostMatched : NodeState → Type 0
 HostMatched n = AreMatched (send_at n) (tickets_on n) (left_on n)

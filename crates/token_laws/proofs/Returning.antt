@@ -7,18 +7,19 @@ use Rattle.net_defs.specs.Network.{Network}
 use Rattle.gm_defs.specs.declared.message.Message.{Message}
 use Rattle.gm_defs.specs.declared.frame.FrameHead.{FrameHead}
 use Rattle.gm_defs.specs.declared.token.Took.{Took}
-use Rattle.gm_defs.specs.declared.token.Took.TheVariants.{NotNext, NoToken, Whole}
+use Rattle.gm_defs.specs.declared.token.Took.TheVariants.{NotNext, NoToken, Part, Whole}
 use Rattle.gm_defs.specs.Body.{part_in}
 use Rattle.gm_defs.specs.Fragment.{whole_below}
 use Rattle.gm_defs.specs.Connection.{acknowledged}
 use Rattle.gm_defs.specs.Token.{Sending, PortEvent, Sent, Received, PortState}
 use Rattle.gm_defs.specs.Port.{send_of, finished, delivered, sent_with}
+use Rattle.gm_defs.proofs.Numbers.{below-up, below-more}
 use Rattle.world_defs.specs.Lane.{LaneState, Ticket, new_lane, with_message, finished_by, lane_acknowledged, lane_expired, lane_sent_one, lane_answered, lane_after}
 use Rattle.world_defs.specs.Node.{NodeState, Outgoing, Probe, TablePart, Reply, PartAnswer, FrameAnswer, Fragment, lane_count, lane_of, sending_lane, sends_on, lane_at, with_lane, port_at, after_sending, with_expired, node_expired, new_node, port_count}
 use Rattle.world_defs.specs.Hearing.{message_of, frame_lane, ack_lane, delivered_after, frame_took, all_finished}
 use Rattle.world_defs.specs.Client.{ClientState, Called, Wanted, wanted_message, wanted_lane, client_bytes, send_accepted}
 use Rattle.world_defs.specs.World.{WorldState, host_count, new_world, node_at, client_at}
-use Rattle.world_defs.specs.Sound.{IsFront}
+use Rattle.world_defs.specs.Sound.{IsPrefix}
 use Rattle.act_defs.specs.Acts.{Act, acted, IsReached}
 use Rattle.order_laws.proofs.Lanes.{front-same}
 use Rattle.world_defs.proofs.Lists.{each-set, each-replicate}
@@ -27,8 +28,7 @@ use Rattle.window_laws.proofs.Heard.{IsHeard, quietly, of_frame, of_ack, hear-is
 use Rattle.window_laws.proofs.Hosts.{Rules, Goes, acted-goes}
 use Rattle.window_laws.proofs.Numbers.{all_finished-lanes}
 use Rattle.act_defs.proofs.Reaching.{reached-has}
-use Rattle.window_laws.proofs.Taken.{whole-below}
-use Rattle.window_laws.proofs.Windows.{IsWindowed, numbers_of, reached-windowed}
+use Rattle.window_laws.proofs.Windows.{numbers_of, reached-windowed}
 use Rattle.token_laws.specs.Tickets.{IsTicketOf, AreTicketsOf, AreMatched}
 use Rattle.token_laws.specs.Unfinished.{send_at, tickets_on}
 use Rattle.token_laws.specs.Returned.{IsReturned, SentEventsAreOfMessages}
@@ -52,21 +52,22 @@ get-drop (suc b) (y ∷ xs) i x e = let s : suc b + i ≡ suc (b + i) = omega ar
 
 -- more is sent, and more is acknowledged
 record LaneUp (p q : LaneState) : Type 0 where
-  sent : IsFront p.sent q.sent
-  base : p.sender.base ≤ q.sender.base
+  sent : IsPrefix p.sent q.sent
+  done : whole_below p.sent p.sender.base ≤ whole_below q.sent q.sender.base
 
 up-same : (p q : LaneState) → q.sent ≡ p.sent → q.sender.base ≡ p.sender.base → LaneUp p q
-up-same p q e d = record { sent = subst (IsFront p.sent) (sym e) (front-same p.sent); base = omega (arith, d) }
+up-same p q e d = let same : whole_below q.sent q.sender.base ≡ whole_below p.sent p.sender.base = λ i. whole_below (e i) (d i) in record { sent = subst (IsPrefix p.sent) (sym e) (front-same p.sent); done = omega (arith, same) }
 
 abbrev sent_at : NodeState → ℕ → List Message
 sent_at n k = (lane_at n k).sent
 
-abbrev base_at : NodeState → ℕ → ℕ
-base_at n k = (lane_at n k).sender.base
+-- how many messages of a lane are acknowledged whole
+abbrev done_at : NodeState → ℕ → ℕ
+done_at n k = whole_below (lane_at n k).sent (lane_at n k).sender.base
 
 -- an event of a host's port
 abbrev IsOf : NodeState → ℕ → PortEvent → Type 0
-IsOf n port e = IsReturnOf (sent_at n) (base_at n) port e
+IsOf n port e = IsReturnOf (sent_at n) (done_at n) port e
 
 record AllOf (n : NodeState) : Type 0 where
   each : (port : ℕ) → AreAll (IsOf n port) (port_at n port)
@@ -82,7 +83,7 @@ event-more n m more port (Sent t b) is = record {
   place = is.place;
   message = is.message;
   there = ap (λ l. slice_get l is.place) (more is.lane).sent.both ∙ get-front (sent_at n is.lane) (more is.lane).sent.rest is.place is.message is.there;
-  acknowledged = let low = is.acknowledged in let up = (more is.lane).base in omega (arith, low, up);
+  acknowledged = let low = is.acknowledged in let up = (more is.lane).done in omega (arith, low, up);
   from_port = is.from_port;
   bytes = is.bytes;
 }
@@ -167,18 +168,19 @@ module _ (n : NodeState) (client : ℕ → Option ClientState) (hosts : ℕ) (kn
       now = lane-new n m k q lanes f.there
 
       up : LaneUp p q
-      up = record { sent = front-same p.sent; base = (raised p.sender next (known.senders k)).up }
+      up = record { sent = front-same p.sent; done = below-up p.sent p.sender.base (acknowledged p.sender next).base (raised p.sender next (known.senders k)).up }
 
-      returned : (i : ℕ) (x : Message) (t : ℕ) → i < length gone → slice_get (left_on n k) i ≡ Some x → IsReturned (sent_at m) (base_at m) x.sport x.body
+      returned : (i : ℕ) (x : Message) (t : ℕ) → i < length gone → slice_get (left_on n k) i ≡ Some x → IsReturned (sent_at m) (done_at m) x.sport x.body
       returned i x t below e =
-          let base : base_at m k ≡ (acknowledged p.sender next).base = ap (λ z. z.sender.base) now in
+          let base : done_at m k ≡ whole_below p.sent (acknowledged p.sender next).base = ap (λ z. whole_below z.sent z.sender.base) now in
+          let done : ℕ = whole_below p.sent p.sender.base in
           let all = f.counted in
           let many = f.many in
           record {
             lane = k;
-            place = p.sender.base + i;
+            place = done + i;
             message = x;
-            there = ap (λ z. slice_get z.sent (p.sender.base + i)) now ∙ get-drop p.sender.base p.sent i x e;
+            there = ap (λ z. slice_get z.sent (done + i)) now ∙ get-drop done p.sent i x e;
             acknowledged = omega (arith, below, base, all, many);
             from_port = refl;
             bytes = refl;
@@ -190,12 +192,19 @@ module _ (n : NodeState) (client : ℕ → Option ClientState) (hosts : ℕ) (kn
   frame-goes : (h : FrameHead) (part : List ℕ) (t : Took) → HostGoes n (delivered_after (with_lane n (frame_lane h) (lane_after (lane_at n (frame_lane h)) t (message_of h part))) h part t)
   frame-goes h part NotNext = lane-goes n (frame_lane h) (lane_after (lane_at n (frame_lane h)) NotNext (message_of h part)) (up-same (lane_at n (frame_lane h)) (lane_after (lane_at n (frame_lane h)) NotNext (message_of h part)) refl refl)
   frame-goes h part NoToken = lane-goes n (frame_lane h) (lane_after (lane_at n (frame_lane h)) NoToken (message_of h part)) (up-same (lane_at n (frame_lane h)) (lane_after (lane_at n (frame_lane h)) NoToken (message_of h part)) refl refl)
+  frame-goes h part Part =
+      let q : LaneState = lane_after (lane_at n (frame_lane h)) Part (message_of h part) in
+      let m : NodeState = delivered_after (with_lane n (frame_lane h) q) h part Part in
+      record {
+        more = lanes-set n m (frame_lane h) q refl (up-same (lane_at n (frame_lane h)) q refl refl);
+        ports = ports-set (IsOf m) n m h.dport (option_map (λ p. delivered p h part) (port_at n h.dport)) refl (delivered-still (IsOf m h.dport) h part (port_at n h.dport) (λ p r e d t. tt));
+      }
   frame-goes h part Whole =
       let q : LaneState = lane_after (lane_at n (frame_lane h)) Whole (message_of h part) in
       let m : NodeState = delivered_after (with_lane n (frame_lane h) q) h part Whole in
       record {
         more = lanes-set n m (frame_lane h) q refl (up-same (lane_at n (frame_lane h)) q refl refl);
-        ports = ports-set (IsOf m) n m h.dport (option_map (λ p. delivered p h part) (port_at n h.dport)) refl (delivered-still (IsOf m h.dport) h part (port_at n h.dport) (λ p r e d. tt));
+        ports = ports-set (IsOf m) n m h.dport (option_map (λ p. delivered p h part) (port_at n h.dport)) refl (delivered-still (IsOf m h.dport) h part (port_at n h.dport) (λ p r e d t. tt));
       }
 
   heard-goes : (host : ℕ) (wire : List ℕ) (m : NodeState) → HostMatched n → IsHeard host hosts n wire m → HostGoes n m
@@ -221,7 +230,7 @@ module _ (n : NodeState) where
       let m : NodeState = (send_accepted n s p c t ts).node in
       let q : LaneState = with_message (lane_at n (wanted_lane s)) (wanted_message s) (record { port = s.port; token = t }) in
       record {
-        more = lanes-set n m (wanted_lane s) q refl (record { sent = record { rest = wanted_message s ∷ []; both = refl }; base = omega arith });
+        more = lanes-set n m (wanted_lane s) q refl (record { sent = record { rest = wanted_message s ∷ []; both = refl }; done = below-more (lane_at n (wanted_lane s)).sent (wanted_message s ∷ []) (lane_at n (wanted_lane s)).sender.base });
         ports = ports-set (IsOf m) n m s.port (Some (sent_with p t (client_bytes s.len s.seed))) refl (record { still = λ a. subst (AreAll (IsOf m s.port)) e a });
       }
 
@@ -288,24 +297,15 @@ reached-of n w is h = by (nat_lt h (length n.hosts)) refl
 pub sent-events : SentEventsAreOfMessages
 sent-events n w is h port place p t buffer e d =
     let m : NodeState = node_at w h in
-    let here : IsReturned (sent_at m) (base_at m) port buffer = event-at (IsOf m port) p.events place (Sent t buffer) (subst (AreAll (IsOf m port)) e ((reached-of n w is h).each port)) d in
+    let here : IsReturned (sent_at m) (done_at m) port buffer = event-at (IsOf m port) p.events place (Sent t buffer) (subst (AreAll (IsOf m port)) e ((reached-of n w is h).each port)) d in
     let k : ℕ = here.lane in
-    let r : IsWindowed w = reached-windowed n w is in
-    let numbers = (r.ordered.hosts h).lanes k in
-    let long = numbers.numbered in
-    let s = r.senders.in_order h k in
-    let a = s.base_below in
-    let b = s.cursor_below in
-    let c = s.top_below in
-    let whole : whole_below (sent_at m k) (base_at m k) ≡ base_at m k = whole-below (sent_at m k) (base_at m k) numbers.short (omega (arith, long, a, b, c)) in
-    let low : here.place < whole_below (sent_at m k) (base_at m k) = subst (λ x. here.place < x) (sym whole) here.acknowledged in
     let same : lane_at m k ≡ lane_at m (sending_lane (sends_on h k)) = ap (lane_at m) (sym (lane_of-parts k)) in
     record {
       lane = k;
       place = here.place;
       message = here.message;
       there = subst (λ l. slice_get l.sent here.place ≡ Some here.message) same here.there;
-      acknowledged = subst (λ l. here.place < whole_below l.sent l.sender.base) same low;
+      acknowledged = subst (λ l. here.place < whole_below l.sent l.sender.base) same here.acknowledged;
       from_port = here.from_port;
       bytes = here.bytes;
     }

@@ -52,7 +52,7 @@ SendIsFinished =
 abbrev pub BufferIsProvided : Type 0
 BufferIsProvided =
     option_map (λ p. p.provided) (port_at (node_at busy_world 0) 3)
-    ≡ Some (record { token = 0; size = 6; prio = 0; buffer = empty_buffer 6 } ∷ [])
+    ≡ Some (record { token = 0; size = 6; prio = 0; filling = None; buffer = empty_buffer 6 } ∷ [])
 
 -- a world in which host 0 has provided a buffer, and sent nothing
 abbrev pub provided_world : WorldState

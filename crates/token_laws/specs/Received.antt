@@ -24,7 +24,7 @@ pub record IsOfMessage (got : ℕ → List Message) (port : ℕ) (buffer : List 
   pub priority : message.prio ≡ prio
   pub long : length message.body ≡ len
   pub least : size_for_length len ≡ Some size
-  pub bytes : buffer ≡ filled (empty_buffer size) message.body
+  pub bytes : buffer ≡ filled (empty_buffer size) 0 message.body
 
 -- each received event that waits at an open port is of a message
 abbrev pub ReceivedEventsAreOfMessages : Type 0

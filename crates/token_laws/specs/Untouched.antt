@@ -1,19 +1,28 @@
 -- What stands in provided buffers, after every list of acts.
-use Rattle.std.specs.Prelude.{◌≡◌, ℕ, length, Some}
+use Rattle.std.specs.Prelude.{◌≡◌, ℕ, true, length, drop, Option, Some, None, IfSome}
 use Rattle.std.specs.List.{AllByRecursion}
 use Rattle.net_defs.specs.Network.{Network}
-use Rattle.gm_defs.specs.Token.{Provided, PortState}
+use Rattle.gm_defs.specs.declared.token.Filling.{Filling}
+use Rattle.gm_defs.specs.Token.{room, fits, Provided, PortState}
 use Rattle.world_defs.specs.declared.effect.Said.TheVariants.{Count}
 use Rattle.world_defs.specs.Node.{port_at}
 use Rattle.world_defs.specs.Client.{empty_buffer, closed}
 use Rattle.world_defs.specs.World.{WorldState, node_at, client_at}
 use Rattle.act_defs.specs.Acts.{IsReached}
 
--- a provided buffer is as its client provided it: zero bytes, as many as its size has room for
-abbrev pub IsUntouched : Provided → Type 0
-IsUntouched r = r.buffer ≡ empty_buffer r.size
+-- how many bytes of a message a token holds
+abbrev pub held_in : Option Filling → ℕ
+held_in None = 0
+held_in (Some f) = f.held
 
--- each provided buffer of an open port is untouched
+-- A provided buffer is as its client provided it, zero bytes, as many as its size has room for, but for the bytes of a
+-- message that it holds in front; and such a message fits the token.
+pub record IsUntouched (r : Provided) : Type 0 where
+  pub long : length r.buffer ≡ room r.size
+  pub others : drop (held_in r.filling) r.buffer ≡ drop (held_in r.filling) (empty_buffer r.size)
+  pub fitting : IfSome r.filling (λ f. fits r.size r.prio f.total r.prio ≡ true)
+
+-- each provided buffer of an open port is untouched, where it holds nothing of a message
 abbrev pub ProvidedBuffersAreUntouched : Type 0
 ProvidedBuffersAreUntouched =
     (n : Network) (w : WorldState) → IsReached n w → (h port : ℕ) (p : PortState)
@@ -24,7 +33,7 @@ pub record HandsBack (w : WorldState) (h port count : ℕ) : Type 0 where
   pub port_state : PortState
   pub was_open : port_at (node_at w h) port ≡ Some port_state
   pub as_many : length port_state.provided ≡ count
-  pub untouched : AllByRecursion IsUntouched port_state.provided
+  pub untouched : AllByRecursion (λ r. r.buffer ≡ empty_buffer r.size) port_state.provided
 
 -- a close that says how many buffers it hands back hands back untouched ones
 abbrev pub ClosedBuffersAreUntouched : Type 0

@@ -10,9 +10,9 @@ use Rattle.gm_defs.specs.declared.frame.ConnectionKey.{ConnectionKey}
 use Rattle.gm_defs.specs.declared.frame.GmBody.{GmBody}
 use Rattle.gm_defs.specs.declared.frame.GmBody.TheVariants.{Frame, Ack as Acknowledges}
 use Rattle.gm_defs.specs.declared.token.Took.{Took}
-use Rattle.gm_defs.specs.declared.token.Took.TheVariants.{NotNext, NoToken, Whole}
+use Rattle.gm_defs.specs.declared.token.Took.TheVariants.{NotNext, NoToken, Part, Whole}
 use Rattle.gm_defs.specs.Body.{decode, part_in}
-use Rattle.gm_defs.specs.Connection.{SenderState, key_of, window, due, is_taken, acknowledged, took, taken_after}
+use Rattle.gm_defs.specs.Connection.{SenderState, key_of, window, due, is_taken, acknowledged, taken_as, took, taken_after}
 use Rattle.gm_defs.specs.Port.{finished}
 use Rattle.gm_defs.proofs.Choices.{both}
 use Rattle.world_defs.specs.Lane.{LaneState, Ticket, new_lane, with_message, lane_acknowledged, tickets_finished, lane_expired, lane_sent_one, lane_answered, lane_after}
@@ -106,17 +106,18 @@ acknowledged-goes top taken p n low = by (is_taken p.sender n) refl
         let up : s.base ≤ (acknowledged s n).base = subst (λ t. s.base ≤ t.base) (sym same) (rises b e) in
         sender-goes top taken p (lane_acknowledged p n) refl lower (omega (arith, tops)) (λ f. omega (arith, f, tops, up))
 
-took-goes : (taken seq top : ℕ) (fits : Bool) → seq < top → (taken ≤ taken_after taken (took taken seq fits)) × (taken_after taken (took taken seq fits) ≤ max taken top)
-took-goes taken seq top fits low = by (nat_eq seq taken) fits refl
+took-goes : (taken seq top : ℕ) (fits last : Bool) → seq < top → (taken ≤ taken_after taken (took taken seq fits last)) × (taken_after taken (took taken seq fits last) ≤ max taken top)
+took-goes taken seq top fits last low = by (nat_eq seq taken) fits last refl
   where
-    by : (a b : Bool) → nat_eq seq taken ≡ a → (taken ≤ taken_after taken (if a then if b then Whole else NoToken else NotNext)) × (taken_after taken (if a then if b then Whole else NoToken else NotNext) ≤ max taken top)
-    by true true e = let same : seq ≡ taken = grind (arith, nat_tests) in (omega arith, omega (arith, same, low))
-    by true false e = (omega arith, omega arith)
-    by false b e = (omega arith, omega arith)
+    by : (a b c : Bool) → nat_eq seq taken ≡ a → (taken ≤ taken_after taken (if a then if b then taken_as c else NoToken else NotNext)) × (taken_after taken (if a then if b then taken_as c else NoToken else NotNext) ≤ max taken top)
+    by true true true e = let same : seq ≡ taken = grind (arith, nat_tests) in (omega arith, omega (arith, same, low))
+    by true true false e = let same : seq ≡ taken = grind (arith, nat_tests) in (omega arith, omega (arith, same, low))
+    by true false c e = (omega arith, omega arith)
+    by false b c e = (omega arith, omega arith)
 
-frame-goes : (top taken : ℕ) (p : LaneState) (seq : ℕ) (fits : Bool) (m : Message) → seq < top → LaneGoes top taken p (lane_after p (took p.taken seq fits) m)
-frame-goes top taken p seq fits m low =
-    let t = took-goes p.taken seq top fits low in
+frame-goes : (top taken : ℕ) (p : LaneState) (seq : ℕ) (fits last : Bool) (m : Message) → seq < top → LaneGoes top taken p (lane_after p (took p.taken seq fits last) m)
+frame-goes top taken p seq fits last m low =
+    let t = took-goes p.taken seq top fits last low in
     record { base = omega arith; top_rises = omega arith; few = λ f. f; taken_rises = t.0; below = t.1 }
 
 -- what a change of a host keeps, by its lanes
@@ -140,6 +141,7 @@ all_finished-lanes n (t ∷ ts) = all_finished-lanes (with_port n t.port (option
 pub delivered_after-lanes : (n : NodeState) (h : FrameHead) (part : List ℕ) (t : Took) → (delivered_after n h part t).lanes ≡ n.lanes
 delivered_after-lanes n h part NotNext = refl
 delivered_after-lanes n h part NoToken = refl
+delivered_after-lanes n h part Part = refl
 delivered_after-lanes n h part Whole = refl
 
 -- what each host has by the lanes on which it sends, and by those from which it takes, for a connection
@@ -164,7 +166,7 @@ module _ (tops takens : ℕ → ℕ → ℕ) (host hosts : ℕ) (n : NodeState) 
           let low : h.seq < facing tops host lane = omega (arith, here, other) in
           let q : LaneState = lane_after (lane_at n lane) (frame_took n h) (message_of h (part_in body)) in
           lane-node (facing tops host) (facing takens host) n m lane q
-          (frame-goes (facing tops host lane) (facing takens host lane) (lane_at n lane) h.seq _ (message_of h (part_in body)) low)
+          (frame-goes (facing tops host lane) (facing takens host lane) (lane_at n lane) h.seq _ _ (message_of h (part_in body)) low)
           (ap (λ x. x.lanes) is ∙ delivered_after-lanes (with_lane n lane q) h (part_in body) (frame_took n h))
       by m (of_ack body a e d mine there is) =
           let c : ConnectionKey = key_of (Acknowledges a) in
@@ -218,7 +220,7 @@ expires-goes top taken n peer =
 pub call-goes : (top taken : ℕ → ℕ) {n : NodeState} {c : Option ClientState} {port : ℕ} {call : Called} → Call n c port call → NodeGoes top taken n call.node
 call-goes top taken {n = n} Call.rests = node-same top taken n _ refl
 call-goes top taken {n = n} (Call.opens sends recvs d) = node-same top taken n _ refl
-call-goes top taken {n = n} (Call.closes p d e f) = node-same top taken n _ refl
+call-goes top taken {n = n} (Call.closes p d e) = node-same top taken n _ refl
 call-goes top taken {n = n} (Call.provides size prio t ts p d e f g k) = node-same top taken n _ refl
 call-goes top taken {n = n} (Call.accepts s t ts p d e f g k) =
     let lane : ℕ = wanted_lane s in

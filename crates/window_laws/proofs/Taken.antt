@@ -1,19 +1,18 @@
--- How much of what was sent is got: as much as was taken, since each message is one fragment.
+-- How much of what was sent is got: the messages that lie wholly below the number of fragments taken.
 use Rattle.std.proofs.Common.{◌≡◌, ◌+◌, ◌-◌, ◌≤◌, ◌<◌, ℕ, zero, suc, Bool, true, false, List, [], ◌∷◌, map, length, take, nat_le, nat_lt, refl, sym, ap, ◌∙◌, subst, arith, if◌then◌else◌}
-use Rattle.std.specs.List.{AllByRecursion, range_with_len}
+use Rattle.std.specs.List.{range_with_len}
 use Rattle.std.proofs.lemmas.Bool.Decides.{nat_tests}
 use Rattle.std.proofs.lemmas.List.{get_or_past, take_all}
 use Rattle.std.proofs.Math.Seq.{take-append_seam}
 use Rattle.net_defs.specs.Network.{Network}
-use Rattle.gm_defs.specs.declared.message.Message.{Message}
-use Rattle.gm_defs.specs.Body.{piece}
-use Rattle.gm_defs.specs.Fragment.{piece_count, whole_below}
+use Rattle.gm_defs.specs.Fragment.{fragments, whole_below}
+use Rattle.gm_defs.proofs.Numbers.{all-below}
 use Rattle.gm_defs.specs.declared.frame.ConnectionKey.{ConnectionKey}
 use Rattle.world_defs.specs.Lane.{new_lane}
 use Rattle.world_defs.specs.Node.{sending_lane, taking_lane, lane_at, new_node, unacknowledged_to}
 use Rattle.world_defs.proofs.Lanes.{facing-taking, lane-within}
 use Rattle.world_defs.specs.World.{WorldState, host_count, node_at, sum_of}
-use Rattle.world_defs.specs.Sound.{IsFront}
+use Rattle.world_defs.specs.Sound.{IsPrefix}
 use Rattle.world_defs.specs.Traffic.{sender_on, sent_on, got_on, taken_on}
 use Rattle.world_defs.specs.Settle.{unacknowledged_from, unacknowledged_in}
 use Rattle.world_laws.specs.Shape.{IsWorld}
@@ -21,53 +20,32 @@ use Rattle.world_laws.proofs.Shapes.{step-kept, new-world, adopted-world, planne
 use Rattle.act_defs.specs.Acts.{Act, Happens, Plans, Adopts, acted, IsReached}
 use Rattle.window_laws.specs.Got.{GotIsWholeBelowTaken, AllAcknowledgedIsAllGot, NoneUnacknowledgedIsAllGot}
 use Rattle.act_defs.proofs.Reaching.{reached-has}
-use Rattle.order_laws.proofs.Worlds.{sent_by_lane}
+use Rattle.order_laws.proofs.Worlds.{sent_by_lane, got-front, ordered-come, taken-come}
 use Rattle.window_laws.proofs.Windows.{IsWindowed, reached-windowed}
 
-one-piece : (len : ℕ) → len ≤ piece → piece_count len ≡ 1
-one-piece len h = grind (arith)
-
--- of messages of one fragment, as many lie below a number as it says
-pub whole-below : (ms : List Message) (n : ℕ) → AllByRecursion (λ m. length m.body ≤ piece) ms → n ≤ length ms → whole_below ms n ≡ n
-whole-below [] n short low = omega (arith, low)
-whole-below (m ∷ ms) n short low = by n low (whole-below ms) refl
-  where
-    by : (k : ℕ) → k ≤ length (m ∷ ms) → ((j : ℕ) → AllByRecursion (λ m. length m.body ≤ piece) ms → j ≤ length ms → whole_below ms j ≡ j) → n ≡ k → whole_below (m ∷ ms) k ≡ k
-    by zero l rest e = ap (λ c. if nat_le c 0 then 1 + whole_below ms (0 - c) else 0) (one-piece (length m.body) short.0)
-    by (suc k) l rest e =
-        ap (λ c. if nat_le c (suc k) then 1 + whole_below ms (suc k - c) else 0) (one-piece (length m.body) short.0)
-        ∙ one (rest k short.1 (omega (arith, l)))
-      where
-        one : whole_below ms k ≡ k → (if nat_le 1 (suc k) then 1 + whole_below ms (suc k - 1) else 0) ≡ suc k
-        one r = let t : nat_le 1 (suc k) ≡ true = grind (arith, nat_tests) in let s : suc k - 1 ≡ k = omega arith in rw t (rw s (omega (arith, r)))
-
-front-take : {X : Type 0} (got sent : List X) → IsFront got sent → got ≡ take (length got) sent
+front-take : {X : Type 0} (got sent : List X) → IsPrefix got sent → got ≡ take (length got) sent
 front-take got sent f = sym (ap (take (length got)) f.both ∙ take-append_seam got f.rest)
 
--- a front part that is as long is all
-front-all : {X : Type 0} (got sent : List X) → IsFront got sent → length sent ≤ length got → got ≡ sent
+-- a prefix that is as long is all
+front-all : {X : Type 0} (got sent : List X) → IsPrefix got sent → length sent ≤ length got → got ≡ sent
 front-all got sent f long = front-take got sent f ∙ take_all (length got) sent long
 
-windowed-front : (w : WorldState) (c : ConnectionKey) → IsWindowed w → IsFront (got_on w c) (sent_on w c)
-windowed-front w c r = subst (IsFront (got_on w c)) (facing-taking (sent_by_lane w) c) (r.ordered.order c.dst (taking_lane c)).front
-
 pub got-below : GotIsWholeBelowTaken
-got-below n w is c =
-    let r : IsWindowed w = reached-windowed n w is in
-    let numbers = (r.ordered.hosts c.src).lanes (sending_lane c) in
-    let count = (r.ordered.order c.dst (taking_lane c)).count in
-    let taken = (r.connections c).taken_below in
-    let top = (r.senders.in_order c.src (sending_lane c)).top_below in
-    let all = numbers.numbered in
-    let whole : whole_below (sent_on w c) (taken_on w c) ≡ taken_on w c = whole-below (sent_on w c) (taken_on w c) numbers.short (omega (arith, taken, top, all)) in
-    front-take (got_on w c) (sent_on w c) (windowed-front w c r) ∙ ap (λ k. take k (sent_on w c)) (sym (whole ∙ count))
+got-below n w is c = front-take (got_on w c) (sent_on w c) (got-front n w is c) ∙ ap (λ k. take k (sent_on w c)) (taken-come n w is c).whole
+
+windowed-front : (w : WorldState) (c : ConnectionKey) → IsWindowed w → IsPrefix (got_on w c) (sent_on w c)
+windowed-front w c r = subst (IsPrefix (got_on w c)) (facing-taking (sent_by_lane w) c) (r.ordered.order c.dst (taking_lane c)).front
 
 windowed-all : (w : WorldState) (c : ConnectionKey) → IsWindowed w → (sender_on w c).base ≡ (sender_on w c).next → got_on w c ≡ sent_on w c
 windowed-all w c r e =
-    let count = (r.ordered.order c.dst (taking_lane c)).count in
+    let come = ordered-come w c r.ordered in
     let base = (r.connections c).base_below in
+    let taken = (r.connections c).taken_below in
+    let top = (r.senders.in_order c.src (sending_lane c)).top_below in
     let all = ((r.ordered.hosts c.src).lanes (sending_lane c)).numbered in
-    front-all (got_on w c) (sent_on w c) (windowed-front w c r) (omega (arith, e, count, base, all))
+    let last : taken_on w c ≡ length (fragments (sent_on w c)) = omega (arith, e, base, taken, top, all) in
+    let whole : length (got_on w c) ≡ length (sent_on w c) = come.whole ∙ ap (whole_below (sent_on w c)) last ∙ all-below (sent_on w c) in
+    front-all (got_on w c) (sent_on w c) (windowed-front w c r) (omega (arith, whole))
 
 pub acknowledged-got : AllAcknowledgedIsAllGot
 acknowledged-got n w is c e = windowed-all w c (reached-windowed n w is) e

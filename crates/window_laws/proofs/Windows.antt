@@ -14,7 +14,7 @@ use Rattle.gm_defs.specs.declared.frame.GmBody.TheVariants.{Frame, Ack as Acknow
 use Rattle.gm_defs.specs.Body.{is_prio, head_in, ack_in, ack_length, frame_bytes, ack_bytes, begins_with, is_frame, is_ack}
 use Rattle.mapping_defs.specs.Mapping.{mapping_bytes}
 use Rattle.mapping_defs.specs.Mapping.MappingBody.{HostProbe, HostReply, Loopback, Part, PartAck}
-use Rattle.gm_defs.specs.Fragment.{head_of}
+use Rattle.gm_defs.specs.Fragment.{whole_below, head_of}
 use Rattle.gm_defs.specs.Connection.{SenderState, connection, key_of, ack_on, window}
 use Rattle.gm_defs.proofs.Choices.{both, chosen}
 use Rattle.world_defs.specs.Lane.{LaneState, new_lane, lane_sent_one}
@@ -27,7 +27,8 @@ use Rattle.act_defs.specs.Acts.{Act, Happens, Plans, Adopts, acted, MayAct, IsRe
 use Rattle.table_laws.specs.Packets.{Built, IsHonest}
 use Rattle.table_laws.proofs.Medium.{Holds, weaker-holds, empty-holds, carries-honest}
 use Rattle.world_defs.proofs.Lanes.{lane_of-parts, lane_of-place, facing, facing-taking, facing-sending}
-use Rattle.order_laws.proofs.Lanes.{frame-message}
+use Rattle.gm_defs.proofs.Numbers.{next-fragment}
+use Rattle.order_laws.proofs.Lanes.{frame-fragment}
 use Rattle.order_laws.proofs.Frames.{at-place}
 use Rattle.order_laws.proofs.Worlds.{IsOrdered, acted-ordered, new-ordered}
 use Rattle.window_laws.specs.Windows.{WindowsHold}
@@ -161,10 +162,11 @@ packet-within w v h number (Fragment lane head part by) is more out e =
     let now = d.is in
     let offered = d.offered in
     let range = (is.senders.in_order h lane).in_range in
-    let k = frame-message c out.number l.sent out.number (head, part) numbered.short out.frame in
-    let hd : FrameHead = head_of c out.number (record { message = k.message; offset = 0; part = k.message.body }) in
+    let k = frame-fragment c l.sent out.number (head, part) out.frame in
+    let x = next-fragment l.sent out.number k.fragment k.there in
+    let hd : FrameHead = head_of c out.number k.fragment in
     let same : head ≡ hd = ap (λ x. x.0) k.is in
-    let mine : lane_of (peer_of lane) k.message.prio ≡ lane = lane_of-place lane k.message.prio (at-place (λ m. prio_place m.prio ≡ prio_of lane) l.sent out.number k.message numbered.of_prio k.there) in
+    let mine : lane_of (peer_of lane) k.fragment.message.prio ≡ lane = lane_of-place lane k.fragment.message.prio (at-place (λ m. prio_place m.prio ≡ prio_of lane) l.sent (whole_below l.sent out.number) k.fragment.message numbered.of_prio x.there) in
     let there : lane_at (node_at v h) lane ≡ lane_sent_one l = lane-after w v h lane (lane_sent_one l) out.low e in
     let top : sending (tops v) (key_of (Frame hd)) ≡ max s.top (s.cursor + 1) = ap (tops v h) mine ∙ ap (λ x. x.sender.top) there in
     record {

@@ -1,5 +1,5 @@
 -- That commands are done over a world, by what they print.
-use Rattle.std.proofs.Common.{◌≡◌, ℕ, ℤ, List, [], ◌∷◌, Option, Some, None, refl, sym, ◌∙◌, ap}
+use Rattle.std.proofs.Common.{◌≡◌, ℕ, ℤ, List, [], ◌∷◌, Option, Some, None, refl, sym, ◌∙◌, ap, subst}
 use Rattle.net_defs.specs.Route.{place}
 use Rattle.world_defs.specs.declared.event.Event.{Event}
 use Rattle.world_defs.specs.declared.effect.Effect.{Effect}
@@ -7,7 +7,7 @@ use Rattle.world_defs.specs.Node.{port_at}
 use Rattle.world_defs.specs.Step.{step}
 use Rattle.world_defs.specs.World.{WorldState, fabric_of, node_at, planned}
 use Rattle.run_defs.specs.declared.command.Command.{Command}
-use Rattle.run_defs.specs.declared.command.Command.TheVariants.{Walk, Tokens, Plan, Step, Finish}
+use Rattle.run_defs.specs.declared.command.Command.TheVariants.{Walk, Map, Circuit, Routes, Install, Begin, Close, Poll, Tokens, Provide, Send, Plan, Step, Settle, Finish}
 use Rattle.run_defs.specs.declared.command.PlanKind.{PlanKind}
 use Rattle.run_defs.specs.declared.command.StepLine.{StepLine}
 use Rattle.run_defs.specs.declared.line.ClientCall.{ClientCall}
@@ -19,7 +19,7 @@ use Rattle.run_defs.specs.Output.{OneLine, lines}
 use Rattle.run_defs.specs.Session.{LastMap, LastRoutes}
 use Rattle.fab_report.specs.Printed.{PrintedState, printed_of}
 use Rattle.world_commands.specs.declared.requests.PortAt.{PortAt}
-use Rattle.world_commands.specs.Done.{IsCall, IsDone, session_of}
+use Rattle.world_commands.specs.Done.{IsCall, IsDone, IsOneEvent, session_of}
 
 -- a command whose outcome is one line
 pub one : (c : Command) (l : Line) (w v : WorldState) (told : PrintedState)
@@ -73,3 +73,25 @@ stepped_so w v line event told is same e = stepped-to (Step line) (step w event)
 -- a step on a port without cable
 pub idle_so : (w : WorldState) (line : StepLine) (told : PrintedState) → event_of w line ≡ None → told ≡ printed_of (fabric_of w) (OneLine (StepOutput Idle) ∷ []) → IsDone (Step line) w w told
 idle_so w line told none e = one (Step line) (StepOutput Idle) w w told (λ made found. ap (λ (o : Option Event). Some (step_or_idle (session_of w made found) o)) none) e
+
+-- what was done by the command that it is
+pub done_as : (c d : Command) (w v : WorldState) (told : PrintedState) → IsDone d w v told → d ≡ c → IsDone c w v told
+done_as c d w v told done same = subst (λ x. IsDone x w v told) same done
+
+-- a command that is none of the others is of one event at most
+pub one-event : (c : Command) → ((host depth tries : ℕ) → c ≡ Map host depth tries → ⊥) → ((host depth : ℕ) → c ≡ Circuit host depth → ⊥) → (c ≡ Routes → ⊥) → ((tries : ℕ) → c ≡ Install tries → ⊥) → (c ≡ Settle → ⊥) → IsOneEvent c
+one-event (Map host depth tries) m k r i s = m host depth tries refl
+one-event (Circuit host depth) m k r i s = k host depth refl
+one-event Routes m k r i s = r refl
+one-event (Install tries) m k r i s = i tries refl
+one-event Settle m k r i s = s refl
+one-event (Walk host walk) m k r i s = tt
+one-event (Begin host port sends recvs) m k r i s = tt
+one-event (Close host port) m k r i s = tt
+one-event (Poll host port) m k r i s = tt
+one-event (Tokens host port) m k r i s = tt
+one-event (Provide host port size prio) m k r i s = tt
+one-event (Send host port dest dport prio len seed) m k r i s = tt
+one-event (Plan ahead kind) m k r i s = tt
+one-event (Step line) m k r i s = tt
+one-event Finish m k r i s = tt

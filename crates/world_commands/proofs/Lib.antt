@@ -3,3 +3,4 @@ pub mod Calls
 pub mod Done
 pub mod Naming
 pub mod Steps
+pub mod TableLines

@@ -1,10 +1,10 @@
 -- That a command was done over a world, whatever else a session holds, and what it printed.
-use Rattle.std.specs.Prelude.{◌≡◌, ℕ, List, Option, Some}
+use Rattle.std.specs.Prelude.{◌≡◌, List, Option, Some}
 use Rattle.world_defs.specs.declared.event.Event.{Event}
 use Rattle.world_defs.specs.Step.{step}
 use Rattle.world_defs.specs.World.{WorldState, fabric_of}
 use Rattle.run_defs.specs.declared.command.Command.{Command}
-use Rattle.run_defs.specs.declared.command.Command.TheVariants.{Send}
+use Rattle.run_defs.specs.declared.command.Command.TheVariants.{Map, Circuit, Routes, Install, Send, Settle}
 use Rattle.run_defs.specs.declared.line.ClientCall.{ClientCall}
 use Rattle.run_defs.specs.Outcome.{called, outcome}
 use Rattle.run_defs.specs.Output.{Piece}
@@ -33,3 +33,12 @@ IsCall c call at event = (s : SessionState) → outcome s c ≡ Some (called s c
 -- the command that sends a message from a port
 abbrev pub sending : PortAt → SendRequest → Command
 sending at m = Send at.host at.port m.to.host m.to.port m.prio m.len m.seed
+
+-- a command is of one event at most: it makes no map, no routes, no installation and no settle
+abbrev pub IsOneEvent : Command → Type 0
+IsOneEvent (Map host depth tries) = ⊥
+IsOneEvent (Circuit host depth) = ⊥
+IsOneEvent Routes = ⊥
+IsOneEvent (Install tries) = ⊥
+IsOneEvent Settle = ⊥
+IsOneEvent _ = Unit {0}

@@ -1,6 +1,7 @@
 //! The commands that a world alone is needed for: at most one event each, and the text of what came of it.
 //!
-//! It drives nothing: a map, an installation and a settle are many events, and stand above. `specs/Done.antt` says
+//! It drives nothing: a map, an installation and a settle are many events, and stand above; of an installation it has
+//! the text alone. `specs/Done.antt` says
 //! what it is for a command to be done over a world; `specs/Outcome.antt` of `run_defs` says what each command prints
 //! and leaves.
 //!
@@ -21,17 +22,23 @@
 //! | `places` | where each token of a port is |
 //! | `stepping` | a single event, in a report's words |
 //! | `telling` | a walk, a plan, and the end |
+//! | `doing` | every command of these |
+//! | `tables` | what an installation prints |
 #![tactic(auto)]
 
 mod answers;
 mod clients;
+mod doing;
 mod places;
 mod requests;
 mod stepping;
+mod tables;
 mod telling;
 
 pub use clients::{close, open, poll, provide, send};
+pub use doing::do_one;
 pub use places::tokens;
 pub use requests::{PortAt, SendRequest};
 pub use stepping::step;
+pub use tables::print_tables;
 pub use telling::{finish, plan, walk};

@@ -25,7 +25,7 @@ use Rattle.gm_defs.specs.Examples.{message, abc}
 use Rattle.world_defs.specs.Table.{applied, active_epoch}
 use Rattle.world_defs.specs.Lane.{LaneState, new_lane}
 use Rattle.world_defs.specs.Node.{lane_of, sending_lane, taking_lane, lane_at, to_send, packet_for, after_sending, port_at}
-use Rattle.world_defs.specs.Hearing.{hear, port_takes}
+use Rattle.world_defs.specs.Hearing.{hear, port_fits}
 use Rattle.world_defs.specs.Client.{ClientState, begun, closed, provided_by, sent_by, polled_by}
 use Rattle.world_defs.specs.World.{new_world, fabric_of, host_count, node_at, client_at}
 use Rattle.world_defs.specs.Step.{lost, was_reset, repeated, held, flipped, replayed, asked, part_staged, planned_strikes, sent_out, injected, advanced, expired, gave_up}
@@ -36,7 +36,7 @@ use Rattle.world_defs.specs.Settled.IsSettledConnection.{all_acknowledged, no_ta
 use Rattle.world_defs.specs.Asking.{sends, host_try, loop_try, ask}
 use Rattle.world_defs.specs.Install.{part_try, installed}
 use Rattle.world_defs.specs.Traffic.{IsLawful, IsLawfulTraffic, IsHonest, IsHonestTraffic, adopted_routes, channels_ahead, sender_on, sent_on, got_on, taken_on, unrouted}
-use Rattle.world_defs.specs.Sound.{IsSound, IsFront, AreOwned, installed_channels}
+use Rattle.world_defs.specs.Sound.{IsSound, IsPrefix, AreOwned, installed_channels}
 use Rattle.world_defs.specs.Examples.{on_its_way, abc_frame, further_on, abc_further_on, spoiled, forged, unserved}
 
 -- an element of a list of which all holds
@@ -92,7 +92,7 @@ rises c d b = by b.place b.there
     by (suc (suc k)) e = cc
 
 -- of nothing, everything begins with it
-pub front_of_none : (got sent : List Message) → got ≡ [] → IsFront got sent
+pub front_of_none : (got sent : List Message) → got ≡ [] → IsPrefix got sent
 front_of_none [] sent e = record { rest = sent; both = refl }
 front_of_none (m ∷ ms) sent e = cc
 
@@ -102,7 +102,7 @@ first_lane zero lane = same-at new_lane 4 lane
 first_lane (suc zero) lane = same-at new_lane 4 lane
 first_lane (suc (suc h)) lane = same-at new_lane 0 lane
 
-first_front : (c : ConnectionKey) → IsFront (got_on (new_world two_hosts) c) (sent_on (new_world two_hosts) c)
+first_front : (c : ConnectionKey) → IsPrefix (got_on (new_world two_hosts) c) (sent_on (new_world two_hosts) c)
 first_front c = front_of_none _ _ (ap (λ l. l.got) (first_lane c.dst (taking_lane c)))
 
 first_owned : (h port : ℕ) → AreOwned (port_at (node_at (new_world two_hosts) h) port) (client_at (new_world two_hosts) h port)
@@ -123,7 +123,7 @@ way_got zero = (refl, (refl, (refl, (refl, tt))))
 way_got (suc zero) = (refl, (refl, (refl, (refl, tt))))
 way_got (suc (suc h)) = tt
 
-way_front : (c : ConnectionKey) → IsFront (got_on on_its_way c) (sent_on on_its_way c)
+way_front : (c : ConnectionKey) → IsPrefix (got_on on_its_way c) (sent_on on_its_way c)
 way_front c = front_of_none _ _ (all-at (λ (l : LaneState). l.got ≡ []) (node_at on_its_way c.dst).lanes (taking_lane c) new_lane (way_got c.dst) refl)
 
 way_owned : (h port : ℕ) → AreOwned (port_at (node_at on_its_way h) port) (client_at on_its_way h port)
@@ -151,7 +151,7 @@ forged_sent : sent_on forged (connection 0 1 0) ≡ message (codes "ABC") ∷ []
 unfolding sends host_try loop_try ask begun closed provided_by sent_by polled_by pass drain clear hear part_try installed to_send packet_for after_sending round_pass round settle lost was_reset repeated held flipped replayed asked part_staged planned_strikes sent_out injected advanced expired gave_up applied
 forged_sent = refl
 
-no_front : (got sent : List Message) → got ≡ message [] ∷ [] → sent ≡ message (codes "ABC") ∷ [] → ¬ IsFront got sent
+no_front : (got sent : List Message) → got ≡ message [] ∷ [] → sent ≡ message (codes "ABC") ∷ [] → ¬ IsPrefix got sent
 no_front got sent e f front =
     let both : message (codes "ABC") ∷ [] ≡ message [] ∷ front.rest = sym f ∙ (front.both ∙ ap (λ g. g ++ front.rest) e) in
     let one : message (codes "ABC") ≡ message [] = cc in
@@ -292,7 +292,7 @@ first_is_settled = record { connections = λ c l m. all_acknowledged (first_numb
 
 unserved_waits : IsWaiting unserved (connection 0 1 0)
 unfolding sends host_try loop_try ask begun closed provided_by sent_by polled_by pass drain clear hear part_try installed to_send packet_for after_sending round_pass round settle lost was_reset repeated held flipped replayed asked part_staged planned_strikes sent_out injected advanced expired gave_up applied
-unserved_waits = record { place = 0; message = message (1 ∷ 2 ∷ []); first = refl; there = refl; not_taken = omega arith; no_token = refl }
+unserved_waits = record { place = 0; message = message (1 ∷ 2 ∷ []); first = refl; there = refl; not_taken = omega arith; not_begun = refl; no_token = refl }
 
 two : host_count unserved ≡ 2
 unfolding sends host_try loop_try ask begun closed provided_by sent_by polled_by pass drain clear hear part_try installed to_send packet_for after_sending round_pass round settle lost was_reset repeated held flipped replayed asked part_staged planned_strikes sent_out injected advanced expired gave_up applied
@@ -344,7 +344,7 @@ way_sent : sent_on on_its_way (connection 0 1 0) ≡ message (codes "ABC") ∷ [
 unfolding sends host_try loop_try ask begun closed provided_by sent_by polled_by pass drain clear hear part_try installed to_send packet_for after_sending round_pass round settle lost was_reset repeated held flipped replayed asked part_staged planned_strikes sent_out injected advanced expired gave_up applied
 way_sent = refl
 
-way_fits : port_takes (port_at (node_at on_its_way 1) 1) 3 0 ≡ true
+way_fits : port_fits (port_at (node_at on_its_way 1) 1) 3 0 ≡ true
 unfolding sends host_try loop_try ask begun closed provided_by sent_by polled_by pass drain clear hear part_try installed to_send packet_for after_sending round_pass round settle lost was_reset repeated held flipped replayed asked part_staged planned_strikes sent_out injected advanced expired gave_up applied
 way_fits = refl
 
@@ -364,8 +364,8 @@ first_message m n e = cc
 pub way_is_not_settled : ¬ IsSettled on_its_way
 way_is_not_settled s = by (s.connections (connection 0 1 0) (subst (λ n. 0 < n) (sym way_hosts) (omega arith)) (subst (λ n. 1 < n) (sym way_hosts) (omega arith)))
   where
-    takes : (m : Message) → message (codes "ABC") ≡ m → port_takes (port_at (node_at on_its_way 1) m.dport) (length m.body) m.prio ≡ false → ⊥
-    takes m e f = let z : true ≡ false = sym way_fits ∙ subst (λ (x : Message). port_takes (port_at (node_at on_its_way 1) x.dport) (length x.body) x.prio ≡ false) (sym e) f in cc
+    takes : (m : Message) → message (codes "ABC") ≡ m → port_fits (port_at (node_at on_its_way 1) m.dport) (length m.body) m.prio ≡ false → ⊥
+    takes m e f = let z : true ≡ false = sym way_fits ∙ subst (λ (x : Message). port_fits (port_at (node_at on_its_way 1) x.dport) (length x.body) x.prio ≡ false) (sym e) f in cc
 
     by : IsSettledConnection on_its_way (connection 0 1 0) → ⊥
     by (all_acknowledged e) = zero_one _ _ way_base way_next e

@@ -4,7 +4,7 @@ use Rattle.std.specs.Prelude.{replicate}
 use Rattle.world_defs.specs.Table.{applied}
 use Rattle.world_defs.specs.Node.{to_send, packet_for, after_sending}
 use Rattle.world_defs.specs.Hearing.{hear}
-use Rattle.world_defs.specs.Client.{begun, closed, provided_by, sent_by, polled_by}
+use Rattle.world_defs.specs.Client.{client_bytes, begun, closed, provided_by, sent_by, polled_by}
 use Rattle.world_defs.specs.Step.{lost, was_reset, repeated, held, flipped, replayed, asked, part_staged, planned_strikes, sent_out, injected, advanced, expired, gave_up}
 use Rattle.world_defs.specs.Drain.{pass, drain, clear}
 use Rattle.world_defs.specs.Settle.{round_pass, round, settle, unacknowledged_in}
@@ -15,7 +15,8 @@ use Rattle.link_defs.specs.Links.{packet_in}
 use Rattle.world_defs.specs.declared.effect.Effect.{Effect}
 use Rattle.world_defs.specs.declared.effect.Said.{Said}
 use Rattle.world_defs.specs.declared.heard.Heard.{Heard}
-use Rattle.world_defs.specs.Examples.{setup_map, setup_install, received, three_calls, three_plans, three_settled, three_polls, abc_injected, abc_settled, abc_polls, waiting, provided_late, served, served_poll, received_of, two_priorities, priorities_settled, priorities_polls, stepwise, stepwise_settled, stepwise_polls}
+use Rattle.world_defs.specs.declared.client.ClientCause.{ClientCause}
+use Rattle.world_defs.specs.Examples.{setup_map, setup_install, received, long_calls, long_settled, long_polls, three_calls, three_plans, three_settled, three_polls, abc_injected, abc_settled, abc_polls, waiting, provided_late, served, served_poll, received_of, two_priorities, priorities_settled, priorities_polls, stepwise, stepwise_settled, stepwise_polls}
 
 pub asks_of_the_map_answers : setup_map.0 ≡ Answer.Switch ∷ replicate 17 Answer.Nothing ++ Answer.Host 1 ∷ replicate 12 Answer.Nothing
 unfolding sends host_try loop_try ask begun closed provided_by sent_by polled_by pass drain clear hear part_try installed to_send packet_for after_sending round_pass round settle lost was_reset repeated held flipped replayed asked part_staged planned_strikes sent_out injected advanced expired gave_up applied
@@ -192,3 +193,27 @@ step_by_step_injections = refl
 pub step_by_step_drops : stepwise_polls.1.dropped ≡ 59
 unfolding sends host_try loop_try ask begun closed provided_by sent_by polled_by pass drain clear hear part_try installed to_send packet_for after_sending round_pass round settle lost was_reset repeated held flipped replayed asked part_staged planned_strikes sent_out injected advanced expired gave_up applied
 step_by_step_drops = refl
+
+pub message_of_two_fragments_calls : long_calls.0 ≡ Effect.Said Said.Done ∷ Effect.Said Said.Done ∷ Effect.Said (Said.Token 0) ∷ Effect.Said (Said.Token 0) ∷ Effect.Injected 3 ∷ Effect.Moved 3 ∷ Effect.Arrived 1 Heard.Fragment ∷ Effect.Said (Said.Refused (ClientCause.Filling 1)) ∷ []
+unfolding sends host_try loop_try ask begun closed provided_by sent_by polled_by pass drain clear hear part_try installed to_send packet_for after_sending round_pass round settle lost was_reset repeated held flipped replayed asked part_staged planned_strikes sent_out injected advanced expired gave_up applied
+message_of_two_fragments_calls = refl
+
+pub message_of_two_fragments_rounds : long_settled.rounds ≡ 1
+unfolding sends host_try loop_try ask begun closed provided_by sent_by polled_by pass drain clear hear part_try installed to_send packet_for after_sending round_pass round settle lost was_reset repeated held flipped replayed asked part_staged planned_strikes sent_out injected advanced expired gave_up applied
+message_of_two_fragments_rounds = refl
+
+pub message_of_two_fragments_resets : long_settled.resets ≡ 0
+unfolding sends host_try loop_try ask begun closed provided_by sent_by polled_by pass drain clear hear part_try installed to_send packet_for after_sending round_pass round settle lost was_reset repeated held flipped replayed asked part_staged planned_strikes sent_out injected advanced expired gave_up applied
+message_of_two_fragments_resets = refl
+
+pub message_of_two_fragments_acknowledged : unacknowledged_in long_settled.world ≡ 0
+unfolding sends host_try loop_try ask begun closed provided_by sent_by polled_by pass drain clear hear part_try installed to_send packet_for after_sending round_pass round settle lost was_reset repeated held flipped replayed asked part_staged planned_strikes sent_out injected advanced expired gave_up applied
+message_of_two_fragments_acknowledged = refl
+
+pub message_of_two_fragments_message : long_polls.0 ≡ received 0 (client_bytes 1017 5) ∷ []
+unfolding sends host_try loop_try ask begun closed provided_by sent_by polled_by pass drain clear hear part_try installed to_send packet_for after_sending round_pass round settle lost was_reset repeated held flipped replayed asked part_staged planned_strikes sent_out injected advanced expired gave_up applied
+message_of_two_fragments_message = refl
+
+pub message_of_two_fragments_injections : long_polls.1.injected ≡ 8
+unfolding sends host_try loop_try ask begun closed provided_by sent_by polled_by pass drain clear hear part_try installed to_send packet_for after_sending round_pass round settle lost was_reset repeated held flipped replayed asked part_staged planned_strikes sent_out injected advanced expired gave_up applied
+message_of_two_fragments_injections = refl

@@ -2,7 +2,7 @@
 use Rattle.std.proofs.Common.{◌≡◌, ℕ, List, [], ◌∷◌, Option, option_map, refl}
 use Rattle.gm_defs.specs.declared.frame.FrameHead.{FrameHead}
 use Rattle.gm_defs.specs.declared.token.Took.{Took}
-use Rattle.gm_defs.specs.declared.token.Took.TheVariants.{NotNext as TookNotNext, NoToken as TookNoToken, Whole}
+use Rattle.gm_defs.specs.declared.token.Took.TheVariants.{NotNext as TookNotNext, NoToken as TookNoToken, Part as TookPart, Whole}
 use Rattle.mapping_defs.specs.Mapping.{RoutePart}
 use Rattle.gm_defs.specs.Port.{finished}
 use Rattle.world_defs.specs.declared.applied.Applied.{Applied}
@@ -17,7 +17,7 @@ use Rattle.world_defs.proofs.Calls.{Call}
 pub call-table : {n : NodeState} {c : Option ClientState} {port : ℕ} {call : Called} → Call n c port call → call.node.table ≡ n.table
 call-table Call.rests = refl
 call-table (Call.opens sends recvs d) = refl
-call-table (Call.closes p d e f) = refl
+call-table (Call.closes p d e) = refl
 call-table (Call.provides size prio t ts p d e f g k) = refl
 call-table (Call.accepts s t ts p d e f g k) = refl
 call-table (Call.hands_sent t buffer p d e f g) = refl
@@ -44,4 +44,5 @@ all_finished-table n (t ∷ ts) = all_finished-table (with_port n t.port (option
 pub delivered_after-table : (n : NodeState) (h : FrameHead) (part : List ℕ) (t : Took) → (delivered_after n h part t).table ≡ n.table
 delivered_after-table n h part TookNotNext = refl
 delivered_after-table n h part TookNoToken = refl
+delivered_after-table n h part TookPart = refl
 delivered_after-table n h part Whole = refl

@@ -1,5 +1,5 @@
 -- The client of a host's port: the tokens that it holds, and its calls.
-use Rattle.std.specs.Prelude.{ℕ, ◌+◌, ◌%◌, List, [], ◌∷◌, ◌++◌, map, length, take, replicate, is_none, nat_eq}
+use Rattle.std.specs.Prelude.{ℕ, ◌+◌, ◌%◌, List, [], ◌∷◌, ◌++◌, map, length, take, replicate, is_none, nat_lt}
 use Rattle.std.specs.Prelude.{if◌then◌else◌, Option, Some, None}
 use Rattle.std.specs.List.{range_with_len}
 use Rattle.gm_defs.specs.declared.message.Message.{Message}
@@ -7,10 +7,10 @@ use Rattle.gm_defs.specs.Fragment.{piece_count}
 use Rattle.gm_defs.specs.Connection.{is_spent}
 use Rattle.gm_defs.specs.Token.{PortState, PortEvent, Sent, Received, opened, room}
 use Rattle.gm_defs.specs.Port.{is_too_long, is_bad_size, sent_with, provided_with, next_event, polled, unfinished}
-use Rattle.gm_defs.specs.Port.{unread}
+use Rattle.gm_defs.specs.Port.{unread, filling_count}
 use Rattle.world_defs.specs.declared.client.ClientCause.{ClientCause}
 use Rattle.world_defs.specs.declared.client.ClientCause.TheVariants.{Already, NotOpen, NoToken, TooLong, NoRoute, Spent}
-use Rattle.world_defs.specs.declared.client.ClientCause.TheVariants.{BadSize, Busy, Unread}
+use Rattle.world_defs.specs.declared.client.ClientCause.TheVariants.{BadSize, Busy, Unread, Filling}
 use Rattle.world_defs.specs.declared.effect.Said.{Said}
 use Rattle.world_defs.specs.declared.effect.Said.TheVariants.{Done, Count, Token, Sent as SaidSent}
 use Rattle.world_defs.specs.declared.effect.Said.TheVariants.{Received as SaidReceived, Nothing, Refused}
@@ -50,21 +50,30 @@ begin_at n port sends recvs c None = left n port (Some (opened sends recvs)) (So
 unfoldable pub begun : NodeState → ℕ → ℕ → ℕ → Option ClientState → Called
 begun n port sends recvs c = begin_at n port sends recvs c (port_at n port)
 
--- an open port closes where no send is unfinished and no event waits: refused as busy first, then as unread
+-- why an open port isn't closed: busy first, then unread, then filling
+abbrev pub close_refusal : PortState → Option ClientCause
+close_refusal p =
+    if nat_lt 0 (unfinished p) then Some (Busy (unfinished p))
+    else if nat_lt 0 (unread p) then Some (Unread (unread p))
+    else if nat_lt 0 (filling_count p) then Some (Filling (filling_count p))
+    else None
+
+-- a port is closed where nothing refuses it
+abbrev pub close_unless : NodeState → ℕ → Option ClientState → PortState → Option ClientCause → Called
+close_unless n port c p (Some cause) = refused n c cause
+close_unless n port c p None = left n port None None (Count (length p.provided))
+
+-- an open port closes where no send is unfinished, no event waits and no token is filling
 abbrev pub close_at : NodeState → ℕ → Option ClientState → PortState → Called
-close_at n port c p =
-    if nat_eq (unfinished p) 0
-    then if nat_eq (unread p) 0 then left n port None None (Count (length p.provided))
-    else refused n c (Unread (unread p))
-    else refused n c (Busy (unfinished p))
+close_at n port c p = close_unless n port c p (close_refusal p)
 
 -- a port that isn't open isn't closed
 abbrev pub close_open : NodeState → ℕ → Option ClientState → Option PortState → Called
 close_open n port c None = refused n c NotOpen
 close_open n port c (Some p) = close_at n port c p
 
--- an open port is closed, where no send is unfinished and no event waits: its provided tokens come back, and all
--- tokens end
+-- an open port is closed, where no send is unfinished, no event waits and no token is filling: its provided tokens
+-- come back, and all tokens end
 unfoldable pub closed : NodeState → ℕ → Option ClientState → Called
 closed n port c = close_open n port c (port_at n port)
 
@@ -81,6 +90,7 @@ provide_with n port size prio p c (t ∷ ts) =
       token = t;
       size = size;
       prio = prio;
+      filling = None;
       buffer = empty_buffer size;
     }))) (Some (record c { recvs = ts })) (Token t)
 

@@ -9,7 +9,7 @@ use Rattle.gm_defs.specs.Body.{frame_bytes}
 use Rattle.gm_defs.specs.Examples.{message, abc}
 use Rattle.world_defs.specs.declared.event.Event.{Event}
 use Rattle.world_defs.specs.declared.event.Event.TheVariants.{Inject, Advance, Lose as LoseEvent, Flip as FlipEvent}
-use Rattle.world_defs.specs.declared.event.Event.TheVariants.{Begin, Provide, Send, Poll}
+use Rattle.world_defs.specs.declared.event.Event.TheVariants.{Begin, Close, Provide, Send, Poll}
 use Rattle.world_defs.specs.declared.effect.Effect.{Effect}
 use Rattle.world_defs.specs.declared.effect.Effect.TheVariants.{Said}
 use Rattle.world_defs.specs.declared.effect.Said.TheVariants.{Received}
@@ -208,3 +208,17 @@ forged = with_node on_its_way 1 (with_lane (node_at on_its_way 1) (lane_of 0 0)
 -- a message waits for a token that fits, behind a settle
 abbrev pub unserved : WorldState
 unserved = (settle (after_all ready (opened 1 2 (provide 1 ∷ send 2 1 ∷ [])))).world
+
+-- A message of two fragments and a buffer of 2,040 bytes for it: its first fragment comes, and host 1 would close its
+-- port.
+abbrev pub long_calls : List Effect × WorldState
+long_calls = steps ready
+    (opened 1 1 (Provide 1 1 11 0 ∷ send 1017 5 ∷ Inject 0 ∷ Advance 0 ∷ Advance 3 ∷ Close 1 1 ∷ []))
+
+-- its settle
+abbrev pub long_settled : Rounds
+long_settled = settle long_calls.1
+
+-- host 1 takes it
+abbrev pub long_polls : List Effect × WorldState
+long_polls = steps long_settled.world (poll_receiver ∷ [])

@@ -1,6 +1,6 @@
 -- What a host makes of a packet that reaches it.
 use Rattle.std.specs.Prelude.{ℕ, Bool, true, false, ◌&&◌, List, [], ◌∷◌, nat_eq, nat_lt, Option, Some, None, option_map}
-use Rattle.std.specs.Prelude.{Result, Ok, Err}
+use Rattle.std.specs.Prelude.{is_some, Result, Ok, Err}
 use Rattle.std.specs.List.{list_all}
 use Rattle.packet_defs.specs.declared.kind.Kind.{Kind}
 use Rattle.packet_defs.specs.declared.kind.Kind.TheVariants.{Mapping, Gm}
@@ -14,18 +14,18 @@ use Rattle.gm_defs.specs.declared.frame.GmBody.{GmBody}
 use Rattle.gm_defs.specs.declared.frame.GmBody.TheVariants.{Frame, Ack as Acknowledges}
 use Rattle.gm_defs.specs.declared.frame.Malformed.{Malformed as NoBody}
 use Rattle.gm_defs.specs.declared.token.Took.{Took}
-use Rattle.gm_defs.specs.declared.token.Took.TheVariants.{NotNext as TookNotNext, NoToken as TookNoToken, Whole}
-use Rattle.gm_defs.specs.Body.{decode, part_in}
+use Rattle.gm_defs.specs.declared.token.Took.TheVariants.{NotNext as TookNotNext, NoToken as TookNoToken, Part as TookPart, Whole}
+use Rattle.gm_defs.specs.Body.{is_last, decode, part_in}
 use Rattle.mapping_defs.specs.Mapping.{RoutePart, MappingBody, decode_mapping}
 use Rattle.mapping_defs.specs.Mapping.MappingBody.{HostProbe, HostReply, Loopback, Part, PartAck}
 use Rattle.gm_defs.specs.Connection.{key_of, took}
-use Rattle.gm_defs.specs.Token.{PortState, can_take}
+use Rattle.gm_defs.specs.Token.{PortState, fitting, has_begun, can_take}
 use Rattle.gm_defs.specs.Port.{delivered, finished}
 use Rattle.world_defs.specs.declared.applied.Applied.{Applied}
 use Rattle.world_defs.specs.declared.applied.Applied.TheVariants.{Part as OnePart, Active, Old}
 use Rattle.world_defs.specs.declared.heard.Heard.{Heard}
 use Rattle.world_defs.specs.declared.heard.Heard.TheVariants.{Probe, Reply, Loop, Routes, RoutesAck}
-use Rattle.world_defs.specs.declared.heard.Heard.TheVariants.{Message as WholeMessage, NotNext, NoToken}
+use Rattle.world_defs.specs.declared.heard.Heard.TheVariants.{Message as WholeMessage, Fragment, NotNext, NoToken}
 use Rattle.world_defs.specs.declared.heard.Heard.TheVariants.{Ack as AckHeard}
 use Rattle.world_defs.specs.declared.arrival.Arrival.{Arrival}
 use Rattle.world_defs.specs.declared.arrival.Arrival.TheVariants.{Heard as Hears, Dropped, NotMine}
@@ -73,12 +73,22 @@ abbrev pub hear_mapping_body : ℕ → ℕ → NodeState → Option MappingBody 
 hear_mapping_body host hosts n None = (Dropped Malformed, n)
 hear_mapping_body host hosts n (Some body) = hear_mapping host hosts n body
 
--- a provided token of an open port fits a message
-abbrev pub port_takes : Option PortState → ℕ → ℕ → Bool
-port_takes None len prio = false
-port_takes (Some p) len prio = can_take p len prio
+-- a provided token of an open port takes a fragment
+abbrev pub port_takes : Option PortState → FrameHead → Bool
+port_takes None h = false
+port_takes (Some p) h = can_take p h
 
--- the message of a frame that has all of it
+-- a provided token of an open port, filling ones left aside, fits a message
+abbrev pub port_fits : Option PortState → ℕ → ℕ → Bool
+port_fits None len prio = false
+port_fits (Some p) len prio = is_some (fitting p len prio)
+
+-- a provided token of an open port is filling with a message of a host and of a priority
+abbrev pub port_has_begun : Option PortState → ℕ → ℕ → Bool
+port_has_begun None src prio = false
+port_has_begun (Some p) src prio = has_begun p src prio
+
+-- the message of a frame, with the bytes of its fragment alone
 abbrev pub message_of : FrameHead → List ℕ → Message
 message_of h part = record { sport = h.sport; dport = h.dport; prio = h.prio; body = part }
 
@@ -86,12 +96,14 @@ message_of h part = record { sport = h.sport; dport = h.dport; prio = h.prio; bo
 abbrev pub took_word : Took → Heard
 took_word TookNotNext = NotNext
 took_word TookNoToken = NoToken
+took_word TookPart = Fragment
 took_word Whole = WholeMessage
 
--- the message goes to its port where it was taken whole
+-- a fragment goes to its port where it was taken
 abbrev pub delivered_after : NodeState → FrameHead → List ℕ → Took → NodeState
 delivered_after n h part TookNotNext = n
 delivered_after n h part TookNoToken = n
+delivered_after n h part TookPart = with_port n h.dport (option_map (λ p. delivered p h part) (port_at n h.dport))
 delivered_after n h part Whole = with_port n h.dport (option_map (λ p. delivered p h part) (port_at n h.dport))
 
 -- the lane of a frame's connection at the host that takes it
@@ -110,9 +122,10 @@ frame_heard n h part t = (
       (lane_after (lane_at n (frame_lane h)) t (message_of h part))) h part t,
 )
 
--- what is made of a frame: its number must be the next of its lane, and a token must fit its message
+-- what is made of a frame: its number must be the next of its lane, and a token must take its fragment
 abbrev pub frame_took : NodeState → FrameHead → Took
-frame_took n h = took (lane_at n (frame_lane h)).taken h.seq (port_takes (port_at n h.dport) h.total h.prio)
+frame_took n h =
+    took (lane_at n (frame_lane h)).taken h.seq (port_takes (port_at n h.dport) h) (is_last h.total h.offset)
 
 -- the sends of tickets are finished at their ports
 abbrev pub all_finished : NodeState → List Ticket → NodeState

@@ -5,19 +5,20 @@ use Rattle.gm_defs.specs.declared.frame.ConnectionKey.{ConnectionKey}
 use Rattle.gm_defs.specs.Fragment.{whole_below}
 use Rattle.world_defs.specs.Table.{active_epoch}
 use Rattle.world_defs.specs.Node.{port_at}
-use Rattle.world_defs.specs.Hearing.{port_takes}
+use Rattle.world_defs.specs.Hearing.{port_fits, port_has_begun}
 use Rattle.world_defs.specs.World.{WorldState, host_count, node_at}
 use Rattle.world_defs.specs.Traffic.{sender_on, sent_on, got_on}
 
--- The message that holds the first fragment that isn't acknowledged waits: it wasn't taken, and no provided token of
--- an open port fits it.
+-- The message that holds the first fragment that isn't acknowledged waits: it wasn't taken whole, no token is filling
+-- with it, and no provided token of an open port, filling ones left aside, fits it.
 pub record IsWaiting (w : WorldState) (c : ConnectionKey) : Type 0 where
   pub place : ℕ
   pub message : Message
   pub first : place ≡ whole_below (sent_on w c) (sender_on w c).base
   pub there : slice_get (sent_on w c) place ≡ Some message
   pub not_taken : length (got_on w c) ≤ place
-  pub no_token : port_takes (port_at (node_at w c.dst) message.dport) (length message.body) message.prio ≡ false
+  pub not_begun : port_has_begun (port_at (node_at w c.dst) message.dport) c.src message.prio ≡ false
+  pub no_token : port_fits (port_at (node_at w c.dst) message.dport) (length message.body) message.prio ≡ false
 
 -- a connection is settled where all is acknowledged, where the receiver has no active table, or where a message waits
 -- for a token

@@ -1,5 +1,5 @@
 -- What holds at every moment of a run: no cycle among the installed routes, the messages got on each connection a
--- front part of those sent, one owner for each token.
+-- prefix of those sent, one owner for each token.
 use Rattle.std.specs.Prelude.{◌≡◌, ℕ, ◌<◌, List, [], ◌∷◌, ◌++◌, map, length, Option, Some, None}
 use Rattle.std.specs.List.{AllByRecursion}
 use Rattle.net_defs.specs.Network.{Apart}
@@ -32,8 +32,8 @@ channels_from_all w (h ∷ hs) = channels_from w h ++ channels_from_all w hs
 abbrev pub installed_channels : WorldState → List (List ℕ)
 installed_channels w = channels_from_all w (addresses w)
 
--- a list is a front part of another
-pub record IsFront {A : Type 0} (front whole : List A) : Type 0 where
+-- a list is a prefix of another
+pub record IsPrefix {A : Type 0} (front whole : List A) : Type 0 where
   pub rest : List A
   pub both : whole ≡ front ++ rest
 
@@ -58,5 +58,5 @@ AreOwned _ _ = ⊥
 -- A moment is sound.
 pub record IsSound (w : WorldState) : Type 0 where
   pub no_cycle : HasNoCycle (IsBefore (installed_channels w))
-  pub in_order : (c : ConnectionKey) → IsFront (got_on w c) (sent_on w c)
+  pub in_order : (c : ConnectionKey) → IsPrefix (got_on w c) (sent_on w c)
   pub one_owner : (h port : ℕ) → AreOwned (port_at (node_at w h) port) (client_at w h port)

@@ -69,6 +69,10 @@ sent_on w c = (lane_at (node_at w c.src) (sending_lane c)).sent
 abbrev pub got_on : WorldState → ConnectionKey → List Message
 got_on w c = (lane_at (node_at w c.dst) (taking_lane c)).got
 
+-- the bytes that came so far of the message that is taken in part from a connection
+abbrev pub coming_on : WorldState → ConnectionKey → List ℕ
+coming_on w c = (lane_at (node_at w c.dst) (taking_lane c)).coming
+
 -- how many fragments were taken from a connection
 abbrev pub taken_on : WorldState → ConnectionKey → ℕ
 taken_on w c = (lane_at (node_at w c.dst) (taking_lane c)).taken

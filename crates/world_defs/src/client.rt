@@ -21,4 +21,6 @@ pub enum ClientCause {
     Busy(u32),
     /// So many events wait.
     Unread(u32),
+    /// So many provided tokens hold a part of a message.
+    Filling(u32),
 }

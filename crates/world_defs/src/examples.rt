@@ -21,7 +21,9 @@ ghost use Rattle.world_defs.specs.Examples.{unserved, setup_map, setup_install, 
 ghost use Rattle.world_defs.specs.Examples.{three_settled, three_polls, abc_injected, abc_settled, abc_polls, waiting};
 ghost use Rattle.world_defs.specs.Examples.{provided_late, served, served_poll, received_of, two_priorities};
 ghost use Rattle.world_defs.specs.Examples.{priorities_settled, priorities_polls, stepwise, stepwise_settled};
-ghost use Rattle.world_defs.specs.Examples.{stepwise_polls};
+ghost use Rattle.world_defs.specs.Examples.{stepwise_polls, long_calls, long_settled, long_polls};
+ghost use Rattle.world_defs.specs.declared.client.ClientCause.{ClientCause};
+ghost use Rattle.world_defs.specs.Client.{client_bytes};
 
 /// A mapper asks 31 walks over the two hosts at one switch: 62 packets, of which three aren't dropped.
 #[tactic(auto, using(crate::proofs::Rows::asks_of_the_map_answers, crate::proofs::Rows::asks_of_the_map_injections, crate::proofs::Rows::asks_of_the_map_drops))]
@@ -108,6 +110,19 @@ pub fn priority_passes()
     ensures polls { priorities_polls.0 ≡ received_of 1 0 (2 ∷ []) ∷ Effect.Said Said.Nothing ∷ [] }
     ensures injections { priorities_polls.1.injected ≡ 70 }
     ensures drops { priorities_polls.1.dropped ≡ 59 }
+{}
+
+/// A message of two fragments fills one buffer: between them the port isn't closed, and the settle brings the rest.
+#[tactic(auto, using(crate::proofs::Rows::message_of_two_fragments_calls, crate::proofs::Rows::message_of_two_fragments_rounds, crate::proofs::Rows::message_of_two_fragments_resets, crate::proofs::Rows::message_of_two_fragments_acknowledged, crate::proofs::Rows::message_of_two_fragments_message, crate::proofs::Rows::message_of_two_fragments_injections))]
+pub fn message_of_two_fragments()
+    ensures calls { long_calls.0 ≡ Effect.Said Said.Done ∷ Effect.Said Said.Done ∷ Effect.Said (Said.Token 0)
+        ∷ Effect.Said (Said.Token 0) ∷ Effect.Injected 3 ∷ Effect.Moved 3 ∷ Effect.Arrived 1 Heard.Fragment
+        ∷ Effect.Said (Said.Refused (ClientCause.Filling 1)) ∷ [] }
+    ensures rounds { long_settled.rounds ≡ 1 }
+    ensures resets { long_settled.resets ≡ 0 }
+    ensures acknowledged { unacknowledged_in long_settled.world ≡ 0 }
+    ensures message { long_polls.0 ≡ received 0 (client_bytes 1017 5) ∷ [] }
+    ensures injections { long_polls.1.injected ≡ 8 }
 {}
 
 /// Two frames step by step: a host's channel that is full takes no packet, a packet waits for another, and a lost one

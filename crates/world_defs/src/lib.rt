@@ -38,9 +38,9 @@ pub use client::ClientCause;
 pub use effect::{Cause, Effect, Said};
 pub use event::Event;
 pub use examples::{
-    asks_of_the_map, flipped_route_byte, installation, lanes_of_peers, message_waits_for_a_token,
-    plans_for_one_injection, priority_passes, settled_worlds, soundness_of_moments, step_by_step,
-    three_messages, traffic_of_one_frame,
+    asks_of_the_map, flipped_route_byte, installation, lanes_of_peers, message_of_two_fragments,
+    message_waits_for_a_token, plans_for_one_injection, priority_passes, settled_worlds,
+    soundness_of_moments, step_by_step, three_messages, traffic_of_one_frame,
 };
 pub use fault::Fault;
 pub use heard::Heard;

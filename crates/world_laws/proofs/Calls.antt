@@ -67,7 +67,7 @@ accepted-kept n s p b c t ts e long =
 pub call-kept : {n : NodeState} {c : Option ClientState} {port : ℕ} {call : Called} → Call n c port call → CallKept n port c call
 call-kept {n = n} {c = c} (Call.rests {port = port}) = stays n port c _
 call-kept {n = n} {c = c} (Call.opens {port = port} sends recvs d) = left-kept n port c _ _ _ refl
-call-kept {n = n} {c = c} (Call.closes {port = port} p d e f) = left-kept n port c None None _ refl
+call-kept {n = n} {c = c} (Call.closes {port = port} p d e) = left-kept n port c None None _ refl
 call-kept {n = n} {c = c} (Call.provides {port = port} size prio t ts p d e f g k) = left-kept n port c _ _ _ refl
 call-kept {n = n} {c = c} (Call.accepts s t ts p d e f g k) =
     accepted-kept n s p c d t ts (not_refused-acceptable n s k).numbered (length-map-range_with_len (λ i. (s.seed + i) % 256) 0 s.len)

@@ -9,7 +9,7 @@ use Rattle.gm_defs.specs.declared.frame.GmBody.{GmBody}
 use Rattle.gm_defs.specs.declared.frame.GmBody.TheVariants.{Frame, Ack as Acknowledges}
 use Rattle.gm_defs.specs.declared.frame.Malformed.{Malformed as NoBody}
 use Rattle.gm_defs.specs.declared.token.Took.{Took}
-use Rattle.gm_defs.specs.declared.token.Took.TheVariants.{NotNext as TookNotNext, NoToken as TookNoToken, Whole}
+use Rattle.gm_defs.specs.declared.token.Took.TheVariants.{NotNext as TookNotNext, NoToken as TookNoToken, Part as TookPart, Whole}
 use Rattle.gm_defs.specs.Body.{decode, part_in}
 use Rattle.mapping_defs.specs.Mapping.{RoutePart, MappingBody, decode_mapping}
 use Rattle.mapping_defs.specs.Mapping.MappingBody.{HostProbe, HostReply, Loopback, Part, PartAck}
@@ -148,6 +148,8 @@ hear_mapping_body-kept host hosts n (Some b) = hear_mapping-kept host hosts n b
 delivered_after-kept : (n : NodeState) (h : FrameHead) (part : List ℕ) (t : Took) → NodeKept n (delivered_after n h part t)
 delivered_after-kept n h part TookNotNext = node_same n
 delivered_after-kept n h part TookNoToken = node_same n
+delivered_after-kept n h part TookPart =
+    with_port-kept n h.dport (option_map (λ p. delivered p h part) (port_at n h.dport)) (option_map-some (λ p. delivered p h part) (port_at n h.dport))
 delivered_after-kept n h part Whole =
     with_port-kept n h.dport (option_map (λ p. delivered p h part) (port_at n h.dport)) (option_map-some (λ p. delivered p h part) (port_at n h.dport))
 

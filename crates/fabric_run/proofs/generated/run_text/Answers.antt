@@ -1,10 +1,5 @@
-use Rattle.std.proofs.Common.{◌≡◌, ℕ, List, Result, Ok, Err, ap, sym, subst, ◌∙◌}
-use Rattle.fab_text.specs.Fault.{FirstFault, TextGives}
-use Rattle.fab_text.specs.declared.fault.FaultKind.{FaultKind}
-use Rattle.fab_text.specs.declared.fault.TextFault.{TextFault}
-use Rattle.fab_text.specs.declared.fault.TextFault.TheVariants.{At}
-use Rattle.fabric_run.specs.Reading.{AcceptedText, reading}
-use Rattle.fabric_run.proofs.Counting.{generated-accepted, never-refused}
+use Rattle.std.proofs.Common.{◌∙◌}
+use Rattle.fabric_run.proofs.Counting.{never-refused}
 use Rattle.fabric_run.proofs.generated.run_text.Goals as goal
 
 pub unreachable-requires : goal.unreachable-requires

@@ -19,8 +19,8 @@ install-requires c =
     kept-installable c.args.w.now c.args.l.now c.deref.result.now c.args.tries c.requires.adopted c.requires.idle c.requires.kept c.requires.some c.requires.few
     (c.deref.ensures.value ∙ hosts)
 
-pub installed_text-requires : goal.installed_text-requires
-installed_text-requires c =
+pub print_tables-requires : goal.print_tables-requires
+print_tables-requires c =
     let hosts : c.l.inside.hosts.items ≡ c.args.l.now.hosts = cc in
     let there = hosts-there c.args.w.now c.args.l.now c.moment.ensures.kept c.requires.kept in
     record {
@@ -35,10 +35,10 @@ returns-clause-told c =
     let x = c.in_ok-installed.installed in
     let hosts : c.l.inside.hosts.items ≡ c.args.l.now.hosts = cc in
     let one : c.deref.result.now ≡ c.deref-2.result.now = c.deref.ensures.value ∙ sym c.deref-2.ensures.value in
-    if-ok c.installed_text.result
+    if-ok c.print_tables.result
     (λ p. p ≡ printed_of (fabric_of after) (lines (Installed x.acked x.of ∷ map (table_line after) c.deref-2.result.now)))
     (λ p. AreInstalledTold w c.args.l.now c.args.tries after p)
     (λ p e. counted-told w after c.args.l.now c.args.tries x.acked x.of c.deref.result.now p c.requires.adopted c.in_ok-installed.ensures.acked c.in_ok-installed.ensures.of
     (c.deref.ensures.value ∙ hosts) c.in_ok-installed.ensures.fabric
     (subst (λ (hs : List ℕ). p ≡ printed_of (fabric_of after) (lines (Installed x.acked x.of ∷ map (table_line after) hs))) (sym one) e))
-    c.installed_text.ensures
+    c.print_tables.ensures

@@ -5,10 +5,11 @@ use Rattle.run_defs.specs.Session.{LastRoutes}
 use Rattle.world_defs.specs.World.{fabric_of}
 use Rattle.fab_report.specs.Printed.{printed_of}
 use Rattle.world_commands.specs.Done.{session_of}
+use Rattle.map_making.specs.Lines.{map_lines}
 use Rattle.run_session.proofs.Answered.{if-ok-on}
 use Rattle.run_session.specs.Kept.{IsKeptMap, IsLastMap}
 use Rattle.run_session.specs.Obeyed.{IsObeyed}
-use Rattle.run_session.specs.Told.{map_lines, map_of}
+use Rattle.run_session.specs.Told.{map_of}
 use Rattle.run_session.proofs.Keeping.{kept-made}
 use Rattle.run_session.proofs.Obeying.{mapped_so}
 use Rattle.run_session.proofs.mapping.map.Goals as goal

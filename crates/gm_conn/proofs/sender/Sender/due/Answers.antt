@@ -1,29 +1,49 @@
-use Rattle.std.proofs.Common.{◌≡◌, ◌-◌, true, length, sym, ap, ◌∙◌, subst, arith}
-use Rattle.std.specs.Prelude.{slice_get}
-use Rattle.gm_defs.specs.declared.frame.GmBody.TheVariants.{Frame}
-use Rattle.gm_defs.specs.Body.{is_head}
-use Rattle.gm_defs.specs.Connection.{key_of}
-use Rattle.gm_conn.specs.Halves.{is_desc}
-use Rattle.gm_conn.proofs.Messages.{all-at}
-use Rattle.gm_conn.proofs.Waiting.{due-some, head-by_rules, head-key}
+use Rattle.std.proofs.Common.{◌≤◌, sym, ap, ◌∙◌, subst, arith}
+use Rattle.std.specs.Option.{option_copied}
+use Rattle.gm_conn.specs.Halves.{first, due_frame, place_below, first_below}
+use Rattle.gm_conn.proofs.Waiting.{first-low, held-there, waits-rules, due-head, due-offset}
 use Rattle.gm_conn.proofs.sender.Sender.due.Goals as goal
 
-pub returns-then-self-lt-WINDOW-clause-exact : goal.returns-then-self-lt-WINDOW-clause-exact
-returns-then-self-lt-WINDOW-clause-exact c =
-    let items = c.self.inside.waiting.items in
-    let first : c.first.result ≡ c.self.inside.next - length items = c.first.ensures.first ∙ ap (λ x. x.numbers.next - length x.waiting) (sym c.self.view_is) in
-    due-some _ _ c.desc_at-d.result c.head_for.result c.self.view_is c.self.invariant (omega arith) (omega arith)
-    (ap (λ f. slice_get items (c.self.inside.cursor - f)) (sym first) ∙ c.desc_at-d.ensures) c.head_for.ensures
+pub below-place-requires : goal.below-place-requires
+below-place-requires c = subst (λ w. first w ≤ c.self.inside.cursor) c.self.view_is (first-low _ c.self.invariant.kept)
 
-pub returns-then-self-lt-WINDOW-clause-by_rules : goal.returns-then-self-lt-WINDOW-clause-by_rules
-returns-then-self-lt-WINDOW-clause-by_rules c =
-    let s = c.self.invariant.sender in
-    let t = s.in_range in
-    let u = s.top_below in
-    let rules : is_desc c.self.inside.key c.desc_at-d.result ≡ true = all-at (λ d. is_desc c.self.inside.key d ≡ true) _ _ c.desc_at-d.result c.self.invariant.by_rules c.desc_at-d.ensures in
-    subst (λ h. is_head h ≡ true) (sym c.head_for.ensures) (head-by_rules c.self.inside.key c.self.inside.cursor c.desc_at-d.result rules (omega arith))
+pub unreachable-requires : goal.unreachable-requires
+unreachable-requires c =
+    held-there _ c.below-place.result.0 c.self.invariant.kept (grind arith) (c.below-place.ensures.place ∙ ap (λ x. place_below x c.self.inside.cursor) (sym c.self.view_is))
+    (sym c.get.ensures ∙ ap option_copied c.in-None.is)
 
-pub returns-then-self-lt-WINDOW-clause-connection : goal.returns-then-self-lt-WINDOW-clause-connection
-returns-then-self-lt-WINDOW-clause-connection c =
-    let rules : is_desc c.self.inside.key c.desc_at-d.result ≡ true = all-at (λ d. is_desc c.self.inside.key d ≡ true) _ _ c.desc_at-d.result c.self.invariant.by_rules c.desc_at-d.ensures in
-    ap (λ h. key_of (Frame h)) c.head_for.ensures ∙ head-key c.self.inside.key c.self.inside.cursor c.desc_at-d.result rules ∙ ap (λ x. x.key) c.self.view_is
+pub head_for-requires-clause-desc : goal.head_for-requires-clause-desc
+head_for-requires-clause-desc c = waits-rules _ c.below-place.result.0 c.in-Some.d.now c.self.invariant.kept (sym c.get.ensures ∙ ap option_copied c.in-Some.is)
+
+pub head_for-requires-clause-offset : goal.head_for-requires-clause-offset
+head_for-requires-clause-offset c =
+    (due-offset _ c.below-place.result.0 c.below-place.result.1 _ c.self.invariant.kept (grind arith)
+    (c.below-place.ensures.place ∙ ap (λ x. place_below x c.self.inside.cursor) (sym c.self.view_is))
+    (c.below-place.ensures.first ∙ ap (λ x. first_below x c.self.inside.cursor) (sym c.self.view_is)) (sym c.get.ensures ∙ ap option_copied c.in-Some.is)).0
+
+pub returns-in-Some-clause-exact : goal.returns-in-Some-clause-exact
+returns-in-Some-clause-exact c =
+    (due-head _ c.below-place.result.0 c.below-place.result.1 _ c.head_for.result c.self.invariant.kept (grind arith) (grind arith)
+    (c.below-place.ensures.place ∙ ap (λ x. place_below x c.self.inside.cursor) (sym c.self.view_is))
+    (c.below-place.ensures.first ∙ ap (λ x. first_below x c.self.inside.cursor) (sym c.self.view_is)) (sym c.get.ensures ∙ ap option_copied c.in-Some.is) c.head_for.ensures).exact
+    ∙ ap due_frame c.self.view_is
+
+pub returns-in-Some-clause-by_rules : goal.returns-in-Some-clause-by_rules
+returns-in-Some-clause-by_rules c =
+    (due-head _ c.below-place.result.0 c.below-place.result.1 _ c.head_for.result c.self.invariant.kept (grind arith) (grind arith)
+    (c.below-place.ensures.place ∙ ap (λ x. place_below x c.self.inside.cursor) (sym c.self.view_is))
+    (c.below-place.ensures.first ∙ ap (λ x. first_below x c.self.inside.cursor) (sym c.self.view_is)) (sym c.get.ensures ∙ ap option_copied c.in-Some.is) c.head_for.ensures).by_rules
+
+pub returns-in-Some-clause-connection : goal.returns-in-Some-clause-connection
+returns-in-Some-clause-connection c =
+    (due-head _ c.below-place.result.0 c.below-place.result.1 _ c.head_for.result c.self.invariant.kept (grind arith) (grind arith)
+    (c.below-place.ensures.place ∙ ap (λ x. place_below x c.self.inside.cursor) (sym c.self.view_is))
+    (c.below-place.ensures.first ∙ ap (λ x. first_below x c.self.inside.cursor) (sym c.self.view_is)) (sym c.get.ensures ∙ ap option_copied c.in-Some.is) c.head_for.ensures).connection
+    ∙ ap (λ x. x.key) c.self.view_is
+
+pub overflow_mul-self-inside : goal.overflow_mul-self-inside
+overflow_mul-self-inside c =
+    let small = (due-offset _ c.below-place.result.0 c.below-place.result.1 _ c.self.invariant.kept (grind arith)
+    (c.below-place.ensures.place ∙ ap (λ x. place_below x c.self.inside.cursor) (sym c.self.view_is))
+    (c.below-place.ensures.first ∙ ap (λ x. first_below x c.self.inside.cursor) (sym c.self.view_is)) (sym c.get.ensures ∙ ap option_copied c.in-Some.is)).1 in
+    omega (arith, small)

@@ -3,6 +3,7 @@ use Rattle.world_defs.specs.Hearing.{message_of, frame_lane}
 use Rattle.host_lanes.proofs.Places.{changed-lanes, number-below, if-ok}
 use Rattle.std.proofs.Common.{◌≡◌, subst}
 use Rattle.std.specs.Prelude.{IfOk}
+use Rattle.gm_defs.specs.Body.{is_last}
 use Rattle.gm_defs.specs.Connection.{took}
 use Rattle.host_lanes.proofs.Places.{lane-is}
 use Rattle.host_lanes.proofs.Noted.{told-after, key-if-ok}
@@ -24,7 +25,7 @@ invariant_of-self c =
 
 pub returns-clause-took : goal.returns-clause-took
 returns-clause-took c =
-    subst (λ p. IfOk c.on_frame-took.result (λ t. t ≡ took p.state.taken c.args.h.now.seq c.args.fits))
+    subst (λ p. IfOk c.on_frame-took.result (λ t. t ≡ took p.state.taken c.args.h.now.seq c.args.fits (is_last c.args.h.now.total c.args.h.now.offset)))
     (lane-is c.args.self.now c.self.inside.host c.self.inside.hosts c.self.inside.lanes.items (frame_lane c.args.h.now) c.number-lane.result c.index_mut-at.result.now c.self.view_is c.self.invariant.lanes
     (number-below c.args.self.now c.self.inside.host c.self.inside.hosts c.self.inside.lanes.items c.args.h.now.src c.args.h.now.prio c.self.view_is c.self.invariant.lanes c.requires.peer) c.number-lane.ensures.number c.index_mut-at.ensures.value)
     c.on_frame-took.ensures.took

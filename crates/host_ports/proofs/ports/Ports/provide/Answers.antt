@@ -1,4 +1,4 @@
-use Rattle.std.proofs.Common.{◌≡◌, ◌∙◌, sym, ap}
+use Rattle.std.proofs.Common.{◌≡◌, ◌∙◌, None, sym, ap}
 use Rattle.gm_defs.specs.Port.{provided_with}
 use Rattle.gm_tokens.specs.Token.{token_at}
 use Rattle.host_ports.specs.Held.{state_at}
@@ -20,12 +20,12 @@ provide-requires-clause-minted c = λ p e.
 pub invariant_of-self : goal.invariant_of-self
 invariant_of-self c =
     kept-either c.provide.result c.self.inside.host c.self.inside.ports.items c.args.port c.from.result c.index_mut.result.now c.provide.new.slot
-    (λ s. provided_with s (record { token = c.args.t.number; size = c.args.size; prio = c.args.prio; buffer = c.args.b }))
+    (λ s. provided_with s (record { token = c.args.t.number; size = c.args.size; prio = c.args.prio; filling = None; buffer = c.args.b }))
     c.self.invariant c.requires.port c.from.ensures c.index_mut.ensures.value c.provide.ensures.provided c.provide.ensures.unchanged
 
 pub returns-clause-provided : goal.returns-clause-provided
 returns-clause-provided c =
     on-ok c.provide.result
     (changed-ports c.args.self.now c.self.inside.host c.self.inside.ports.items c.args.port c.from.result c.index_mut.result.now c.provide.new.slot
-    (λ s. provided_with s (record { token = c.args.t.number; size = c.args.size; prio = c.args.prio; buffer = c.args.b })) c.self.view_is c.self.invariant c.requires.port c.from.ensures c.index_mut.ensures.value)
+    (λ s. provided_with s (record { token = c.args.t.number; size = c.args.size; prio = c.args.prio; filling = None; buffer = c.args.b })) c.self.view_is c.self.invariant c.requires.port c.from.ensures c.index_mut.ensures.value)
     c.provide.ensures.provided

@@ -6,14 +6,13 @@ use Rattle.run_defs.specs.Outcome.{table_line}
 use Rattle.run_defs.specs.Output.{OneLine}
 use Rattle.world_defs.specs.World.{fabric_of}
 use Rattle.fab_report.specs.Printed.{printed_of}
-use Rattle.run_session.proofs.Installs.{tables-told}
-use Rattle.run_session.proofs.installing.installed_text.Goals as goal
+use Rattle.world_commands.proofs.TableLines.{tables-told}
+use Rattle.world_commands.proofs.tables.print_tables.Goals as goal
 
 pub returns : goal.returns
 returns c =
     let w = c.args.w.now in
-    let x = c.args.installed in
-    tables-told (fabric_of w) w (Installed x.acked x.of) c.args.hosts.now c.append_tables.new.text.items c.in_ok-printed.printed c.follow.new.self
-    (c.in_ok-printed.ensures.printed ∙ ap (λ n. printed_of n (OneLine (Installed x.acked x.of) ∷ [])) c.fabric.ensures)
+    tables-told (fabric_of w) w (Installed c.args.acked c.args.of) c.args.hosts.now c.append_tables.new.text.items c.in_ok-printed.printed c.follow.new.self
+    (c.in_ok-printed.ensures.printed ∙ ap (λ n. printed_of n (OneLine (Installed c.args.acked c.args.of) ∷ [])) c.fabric.ensures)
     (c.in_ok-append_tables.ensures ∙ ap (λ (t : List ℕ). t ++ flat_map (λ h. line_text (fabric_of w) (table_line w h)) c.args.hosts.now) c.new-tables.ensures.items)
     (c.in_ok-follow.ensures ∙ ap (λ (t : List ℕ). record { text = c.in_ok-printed.printed.text ++ t; figures = c.in_ok-printed.printed.figures }) c.deref.ensures.value)

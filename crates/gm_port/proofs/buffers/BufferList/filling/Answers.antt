@@ -1,0 +1,11 @@
+use Rattle.std.proofs.Common.{length, is_some, sym, ap, ◌∙◌}
+use Rattle.std.specs.List.{filter}
+use Rattle.std.proofs.lemmas.List.Sums.{length-filter}
+use Rattle.gm_port.specs.Held.{Buffers}
+use Rattle.gm_port.proofs.Listed.{filling-counted}
+use Rattle.gm_port.proofs.buffers.BufferList.filling.Goals as goal
+
+pub returns : goal.returns
+returns c =
+    c.count_filling.ensures ∙ sym (length-filter (λ r. is_some r.filling) c.self.inside.provided.items) ∙ filling-counted c.self.inside.provided.items
+    ∙ ap (λ (b : Buffers). length (filter (λ r. is_some r.filling) b.provided)) c.self.view_is

@@ -1,0 +1,80 @@
+//! Every command of one event at most.
+
+ghost use Rattle.std.specs.Prelude.{◌≡◌, IfOk};
+ghost use Rattle.link_defs.specs.Links.{empty_links};
+ghost use Rattle.world_defs.specs.World.{fabric_of};
+ghost use Rattle.fab_script.specs.Ranges.{IsCommandOf};
+ghost use Rattle.world_commands.specs.Done.{IsDone, IsOneEvent};
+
+use crate::clients::{close, open, poll, provide, send};
+use crate::places::tokens;
+use crate::requests::{PortAt, SendRequest};
+use crate::stepping::step;
+use crate::telling::{finish, plan, walk};
+use fab_report::Printed;
+use fab_world::World;
+use link_model::Links;
+use run_defs::Command;
+use std::alloc::{AllocError, Global};
+
+/// Does a command of one event at most. Where memory is wanting, the event may have happened.
+#[tactic(auto, using(crate::proofs::Done::done_as))]
+pub fn do_one(
+    alloc: Global,
+    w: &mut World,
+    links: &mut Links,
+    c: &Command,
+) -> Result<Printed, AllocError>
+    requires one_event { IsOneEvent c.now }
+    requires command { IsCommandOf (fabric_of w.old) c.now }
+    requires links { links.old ≡ empty_links (fabric_of w.old) }
+    ensures done { IfOk result (λ p. IsDone c.now w.old w.new p) }
+    ensures links { links.new ≡ links.old }
+    ensures fabric { fabric_of w.new ≡ fabric_of w.old }
+{
+    match c {
+        Command::Walk { host, walk: taken } => walk(alloc, w, links, *host, taken.turns()),
+        Command::Begin {
+            host,
+            port,
+            sends,
+            recvs,
+        } => open(alloc, w, PortAt::new(*host, *port), *sends, *recvs),
+        Command::Close { host, port } => close(alloc, w, PortAt::new(*host, *port)),
+        Command::Poll { host, port } => poll(alloc, w, PortAt::new(*host, *port)),
+        Command::Tokens { host, port } => tokens(alloc, w, PortAt::new(*host, *port)),
+        Command::Provide {
+            host,
+            port,
+            size,
+            prio,
+        } => provide(alloc, w, PortAt::new(*host, *port), *size, *prio),
+        Command::Send {
+            host,
+            port,
+            dest,
+            dport,
+            prio,
+            len,
+            seed,
+        } => send(
+            alloc,
+            w,
+            PortAt::new(*host, *port),
+            SendRequest {
+                to: PortAt::new(*dest, *dport),
+                prio: *prio,
+                len: *len,
+                seed: *seed,
+            },
+        ),
+        Command::Plan { ahead, kind } => plan(alloc, w, *ahead, *kind),
+        Command::Step(line) => step(alloc, w, *line),
+        Command::Finish => finish(alloc, w),
+        Command::Map { .. } => unreachable!(),
+        Command::Circuit { .. } => unreachable!(),
+        Command::Routes => unreachable!(),
+        Command::Install { .. } => unreachable!(),
+        Command::Settle => unreachable!(),
+    }
+}
