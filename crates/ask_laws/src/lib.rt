@@ -1,6 +1,6 @@
 //! What a mapper's ask comes to, over every world of a fabric whose links are idle.
 //!
-//! It asks nothing: the asks of a program are in `fab_drive`. Read `specs/Truth.antt` first, with
+//! It asks nothing: the asks of a program are in `world_asking`. Read `specs/Truth.antt` first, with
 //! `specs/Premises.antt`.
 //!
 //! | file of `specs/` | says |

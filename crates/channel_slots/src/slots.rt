@@ -70,7 +70,7 @@ impl Slot {
         requires { IsSome (front_turn self.old.wire) }
         ensures { self.new ≡ record self.old { wire = stripped self.old.wire } }
     {
-        self.packet.strip();
+        self.packet.strip_turn();
     }
 
     /// The packet after a flip, and whether the flip met it: a marked packet is flipped no more.

@@ -12,7 +12,7 @@ use Rattle.port_align.specs.declared.frame.ClassFrame.{ClassFrame}
 use Rattle.growth_laws.proofs.Keeping.{Keeps}
 use Rattle.class_joins.specs.declared.heads.Head.{Head}
 use Rattle.class_joins.specs.declared.meeting.HostNode.{HostNode}
-use Rattle.class_joins.specs.declared.meeting.NodePort.{NodePort}
+use Rattle.port_table.specs.declared.end.NodePort.{NodePort}
 use Rattle.class_joins.specs.declared.way.Spot.{Spot}
 use Rattle.class_joins.specs.declared.way.Spot.TheVariants.{Address, Port}
 use Rattle.class_joins.specs.declared.way.Way.{Way}
@@ -22,7 +22,7 @@ use Rattle.class_joins.specs.Work.{Knows}
 use Rattle.class_joins.specs.Ends.{place_of}
 use Rattle.class_joins.specs.Adding.{known_at}
 use Rattle.class_joins.specs.Heads.{HasExpandedNode, HasHeads, MarksNames, head_at, own_head}
-use Rattle.class_joins.specs.Places.{AddsPlaces}
+use Rattle.port_table.specs.Ends.{AddsPlaces}
 use Rattle.class_joins.specs.Rounds.{IsSettling}
 use Rattle.class_joins.proofs.Lists.{get-last, get-left, item-last, item-left}
 use Rattle.class_joins.proofs.Longer.{add-node, frame-last, frame-left, node-last, node-left}

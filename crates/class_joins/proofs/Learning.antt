@@ -5,7 +5,7 @@ use Rattle.std.proofs.lemmas.Bool.Decides.{Decides-eqb}
 use Rattle.journal_defs.specs.declared.entry.Entry.{Entry}
 use Rattle.journal_defs.specs.Tree.{Node}
 use Rattle.port_align.specs.declared.frame.ClassFrame.{ClassFrame}
-use Rattle.class_joins.specs.declared.meeting.NodePort.{NodePort}
+use Rattle.port_table.specs.declared.end.NodePort.{NodePort}
 use Rattle.class_joins.specs.declared.meeting.Meeting.{Meeting}
 use Rattle.class_joins.specs.declared.meeting.HostNode.{HostNode}
 use Rattle.class_joins.specs.declared.way.Spot.{Spot}

@@ -15,7 +15,7 @@ use Rattle.class_joins.specs.declared.way.Way.{Way}
 use Rattle.class_joins.specs.declared.way.Way.TheVariants.{Host, Cable}
 use Rattle.class_joins.specs.declared.way.Spot.{Spot}
 use Rattle.class_joins.specs.declared.way.Spot.TheVariants.{Port}
-use Rattle.class_joins.specs.declared.meeting.NodePort.{NodePort}
+use Rattle.port_table.specs.declared.end.NodePort.{NodePort}
 use Rattle.class_joins.specs.declared.meeting.Meeting.{Meeting}
 use Rattle.class_joins.specs.Ways.{AreSound, AreWays, Has, IsWay, begins_at, frame_at, node_at, own_frame}
 use Rattle.class_joins.specs.Work.{Among, Agrees, HasEnd, IsMeeting, IsSeen, Knows, class_at, far_end}

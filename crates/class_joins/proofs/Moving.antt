@@ -6,7 +6,7 @@ use Rattle.std.proofs.lemmas.Bool.{and_from}
 use Rattle.std.proofs.lemmas.Bool.Decides.{Decides-int_eq, nat_tests}
 use Rattle.std.proofs.lemmas.Int.{ints}
 use Rattle.net_defs.specs.Turn.{is_turn, IsTurn}
-use Rattle.class_joins.specs.declared.meeting.NodePort.{NodePort}
+use Rattle.port_table.specs.declared.end.NodePort.{NodePort}
 use Rattle.class_joins.specs.declared.meeting.Meeting.{Meeting}
 use Rattle.class_joins.specs.declared.way.Spot.{Spot}
 use Rattle.class_joins.specs.declared.way.Spot.TheVariants.{Address, Port}

@@ -1,5 +1,5 @@
 -- Nodes reached along the rings of classes, and two rings made one.
-use Rattle.std.proofs.Common.{◌≡◌, ◌≢◌, ◌<◌, ◌⊎◌, inl, inr, ℕ, zero, suc, ◌+◌, List, [], ◌∷◌, ◌++◌, true, false, length, set, get_or, refl, ap, sym, ◌∙◌, subst, arith, nat_eq, if◌then◌else◌, length-append, get_or-set_other, get_or-set_same}
+use Rattle.std.proofs.Common.{◌≡◌, ◌≢◌, ◌<◌, ◌⊎◌, inl, inr, ℕ, zero, suc, ◌+◌, List, [], ◌∷◌, ◌++◌, true, false, length, set, refl, ap, sym, ◌∙◌, subst, arith, nat_eq, if◌then◌else◌, length-append, get_or-set_other, get_or-set_same}
 use Rattle.std.specs.Prelude.{ℤ}
 use Rattle.std.proofs.Math.ListN.{length-set}
 use Rattle.std.proofs.lemmas.Bool.{cases_eq}

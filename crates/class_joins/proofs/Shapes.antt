@@ -13,7 +13,7 @@ use Rattle.journal_defs.proofs.Standing.{offsets_are_turns}
 use Rattle.port_align.specs.declared.frame.ClassFrame.{ClassFrame}
 use Rattle.class_joins.specs.declared.heads.Head.{Head}
 use Rattle.class_joins.specs.declared.meeting.HostNode.{HostNode}
-use Rattle.class_joins.specs.declared.meeting.NodePort.{NodePort}
+use Rattle.port_table.specs.declared.end.NodePort.{NodePort}
 use Rattle.class_joins.specs.declared.way.Way.{Way}
 use Rattle.class_joins.specs.Asked.{CountsAsked}
 use Rattle.class_joins.specs.Heads.{head_at, seen_frame}

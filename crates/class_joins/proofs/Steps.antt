@@ -9,7 +9,7 @@ use Rattle.journal_defs.specs.Replicates.{Replicates}
 use Rattle.journal_defs.specs.Replicates.Replicates.{turned as other_way, along}
 use Rattle.journal_defs.proofs.Standing.{offsets_are_turns}
 use Rattle.port_align.specs.declared.frame.ClassFrame.{ClassFrame}
-use Rattle.class_joins.specs.declared.meeting.NodePort.{NodePort}
+use Rattle.port_table.specs.declared.end.NodePort.{NodePort}
 use Rattle.class_joins.specs.declared.meeting.Meeting.{Meeting}
 use Rattle.class_joins.specs.declared.meeting.HostNode.{HostNode}
 use Rattle.class_joins.specs.declared.way.Spot.{Spot}

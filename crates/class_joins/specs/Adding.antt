@@ -1,7 +1,7 @@
 -- Ways added one after another to what is known of where ways begin.
 use Rattle.std.specs.Prelude.{◌≡◌, ℕ, pos, nat_eq, if◌then◌else◌, List, [], ◌∷◌, ◌++◌, Option, Some, None}
 use Rattle.net_defs.specs.Turn.{IsTurn}
-use Rattle.class_joins.specs.declared.meeting.NodePort.{NodePort}
+use Rattle.port_table.specs.declared.end.NodePort.{NodePort}
 use Rattle.class_joins.specs.declared.meeting.Meeting.{Meeting}
 use Rattle.class_joins.specs.declared.meeting.HostNode.{HostNode}
 use Rattle.class_joins.specs.declared.way.Spot.{Spot}

@@ -2,7 +2,7 @@
 use Rattle.std.specs.Prelude.{◌≡◌, ◌≢◌, ◌⊎◌, ℕ, ◌+◌, ◌*◌, ℤ, pos, ◌+ℤ◌, ◌-ℤ◌, ◌<ℤ◌, ◌≤ℤ◌, nat_abs, if◌then◌else◌, List}
 use Rattle.std.specs.Prelude.{[], ◌∷◌, ◌++◌, slice_index_or, Option, Some, None}
 use Rattle.net_defs.specs.Turn.{is_turn}
-use Rattle.class_joins.specs.declared.meeting.NodePort.{NodePort}
+use Rattle.port_table.specs.declared.end.NodePort.{NodePort}
 use Rattle.class_joins.specs.declared.meeting.Meeting.{Meeting}
 use Rattle.class_joins.specs.declared.way.Spot.{Spot}
 use Rattle.class_joins.specs.declared.way.Spot.TheVariants.{Address, Port}

@@ -5,7 +5,7 @@ use Rattle.journal_defs.specs.Tree.{Node}
 use Rattle.port_align.specs.declared.frame.ClassFrame.{ClassFrame}
 use Rattle.class_joins.specs.declared.heads.Head.{Head}
 use Rattle.class_joins.specs.declared.meeting.HostNode.{HostNode}
-use Rattle.class_joins.specs.declared.meeting.NodePort.{NodePort}
+use Rattle.port_table.specs.declared.end.NodePort.{NodePort}
 use Rattle.class_joins.specs.declared.way.Way.{Way}
 use Rattle.class_joins.specs.Ways.{AreWays, frame_at}
 use Rattle.class_joins.specs.Rounds.{IsSettling}

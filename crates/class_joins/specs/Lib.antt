@@ -7,7 +7,6 @@ pub mod Heads
 pub mod Kept
 pub mod Longer
 pub mod Nodes
-pub mod Places
 pub mod Rings
 pub mod Rounds
 pub mod Spots

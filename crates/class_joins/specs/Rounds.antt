@@ -6,7 +6,7 @@ use Rattle.port_align.specs.declared.frame.ClassFrame.{ClassFrame}
 use Rattle.class_joins.specs.declared.heads.Head.{Head}
 use Rattle.class_joins.specs.declared.meeting.HostNode.{HostNode}
 use Rattle.class_joins.specs.declared.meeting.Meeting.{Meeting}
-use Rattle.class_joins.specs.declared.meeting.NodePort.{NodePort}
+use Rattle.port_table.specs.declared.end.NodePort.{NodePort}
 use Rattle.class_joins.specs.declared.way.Way.{Way}
 use Rattle.class_joins.specs.declared.settling.Joined.{Joined}
 use Rattle.class_joins.specs.Truth.{IsTrueOfOne}

@@ -1,5 +1,5 @@
 -- What one step changes of the tables of joined classes: a node, ways or a mark more.
-use Rattle.std.specs.Prelude.{◌≡◌, ℕ, ◌+◌, ◌<◌, ◌≤◌, Bool, true, List, [], ◌∷◌, ◌++◌, length, set, vec_len}
+use Rattle.std.specs.Prelude.{◌≡◌, ℕ, ◌<◌, Bool, true, List, [], ◌∷◌, ◌++◌, length, set, vec_len}
 use Rattle.std.specs.Prelude.{vec_capacity}
 use Rattle.journal_defs.specs.declared.entry.Entry.{Entry}
 use Rattle.journal_defs.specs.Tree.{Node}
@@ -7,14 +7,14 @@ use Rattle.class_joins.specs.declared.settling.Joined.{Joined}
 use Rattle.class_joins.specs.declared.way.Way.{Way}
 use Rattle.class_joins.specs.Ways.{Has, IsWay, frame_at, own_frame}
 use Rattle.class_joins.specs.Heads.{head_at, own_head}
-use Rattle.class_joins.specs.Places.{AddsPlaces}
 use Rattle.class_joins.specs.Rings.{HasFrameRoom}
+use Rattle.port_table.specs.Ends.{AddsPlaces, HasRoomForNumber}
 use Rattle.class_joins.specs.Rounds.{IsSettlingIn}
 
 -- There is room for one node more.
 pub record HasRoomForNode (t : Joined) : Type 0 where
   pub frames : HasFrameRoom t.frames
-  pub ends : vec_len t.ends + 31 ≤ vec_capacity t.ends
+  pub ends : HasRoomForNumber t.ends
   pub heads : vec_len t.heads.heads < vec_capacity t.heads.heads
   pub names : vec_len t.heads.names < vec_capacity t.heads.names
   pub marks : vec_len t.heads.marks < vec_capacity t.heads.marks

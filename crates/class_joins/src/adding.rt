@@ -6,12 +6,13 @@ ghost use Rattle.class_joins.specs.Ends.{place_of};
 ghost use Rattle.class_joins.specs.Adding.{AddsEnd, known_at, node_of_host};
 ghost use Rattle.class_joins.specs.Work.{far_end};
 ghost use Rattle.class_joins.specs.declared.meeting.HostNode.{HostNode};
-ghost use Rattle.class_joins.specs.declared.meeting.NodePort.{NodePort};
+ghost use Rattle.port_table.specs.declared.end.NodePort.{NodePort};
 ghost use Rattle.class_joins.specs.declared.way.Spot.TheVariants.{Address, Port};
 
 use crate::ends::{end_at, set_end};
-use crate::meeting::{HostNode, Meeting, NodePort};
+use crate::meeting::{HostNode, Meeting};
 use crate::way::Way;
+use port_table::{NodePort, PortTable};
 
 /// The port of a node at which a way ends.
 pub(crate) fn far_end(way: &Way) -> NodePort
@@ -60,7 +61,7 @@ pub(crate) fn add_host(hosts: &mut Vec<HostNode>, todo: &mut Vec<Meeting>, addre
 
 /// Adds a way from a port of a class to a port of a node.
 pub(crate) fn add_end(
-    ends: &mut Vec<Option<NodePort>>,
+    ends: &mut PortTable,
     todo: &mut Vec<Meeting>,
     class: u32,
     port: i16,

@@ -4,11 +4,11 @@ ghost use Rattle.std.specs.Prelude.{◌≡◌, ◌≢◌, ◌+◌, ◌*◌, ◌<
 ghost use Rattle.std.specs.Prelude.{None, Some};
 ghost use Rattle.net_defs.specs.Turn.{IsTurn};
 ghost use Rattle.class_joins.specs.Ends.{place_of, end_at, known_ends, Puts, MovesEnd};
-ghost use Rattle.class_joins.specs.Places.{AddsPlaces};
 ghost use Rattle.class_joins.specs.Work.{MovesEnds};
 ghost use Rattle.class_joins.specs.declared.way.Spot.TheVariants.{Port};
 
-use crate::meeting::{Meeting, NodePort};
+use crate::meeting::Meeting;
+use port_table::{NodePort, PortTable};
 
 /// The places of a class, one for each port from -15 to 15.
 pub(crate) const PLACES: usize = 31;
@@ -43,49 +43,27 @@ fn port_moved(port: i16, by: i16) -> i16
 }
 
 /// The far end that is known of a port of a class.
-pub(crate) fn end_at(ends: &Vec<Option<NodePort>>, class: u32, port: i16) -> Option<NodePort>
+pub(crate) fn end_at(ends: &PortTable, class: u32, port: i16) -> Option<NodePort>
     requires turn { IsTurn port }
     requires inside { place_of class port < length ends.now.items }
     ensures { result ≡ end_at ends.now.items class port }
 {
-    ends[place_of(class, port)]
+    ends.at(place_of(class, port))
 }
 
 /// Keeps the far end of a port, or that none is known.
-pub(crate) fn set_end(
-    ends: &mut Vec<Option<NodePort>>,
-    class: u32,
-    port: i16,
-    end: Option<NodePort>,
-)
+pub(crate) fn set_end(ends: &mut PortTable, class: u32, port: i16, end: Option<NodePort>)
     requires turn { IsTurn port }
     requires inside { place_of class port < length ends.old.items }
     ensures puts { Puts (known_ends ends.old.items) (known_ends ends.new.items) (Port class port) end }
     ensures same { length ends.new.items ≡ length ends.old.items }
 {
-    ends[place_of(class, port)] = end;
-}
-
-/// Adds the places of the next class. There is room for them.
-pub(crate) fn add_places(ends: &mut Vec<Option<NodePort>>)
-    requires room { vec_len ends.old + 31 ≤ vec_capacity ends.old }
-    ensures { AddsPlaces ends.old.items ends.new.items }
-{
-    for place in 0..PLACES {
-        let _place = place;
-        ends.push_reserved(None);
-    }
+    ends.set(place_of(class, port), end);
 }
 
 /// Moves the ends of one class to another, whose ports lie so far from its own. Where both have one, the two are to
 /// be one port.
-pub(crate) fn move_ends(
-    ends: &mut Vec<Option<NodePort>>,
-    todo: &mut Vec<Meeting>,
-    from: u32,
-    to: u32,
-    by: i16,
-)
+pub(crate) fn move_ends(ends: &mut PortTable, todo: &mut Vec<Meeting>, from: u32, to: u32, by: i16)
     requires two { from ≢ to }
     requires first { 31 * from + 31 ≤ length ends.old.items }
     requires second { 31 * to + 31 ≤ length ends.old.items }
@@ -105,14 +83,7 @@ pub(crate) fn move_ends(
 }
 
 // Moves the end of one port to a port of another class.
-fn move_end(
-    ends: &mut Vec<Option<NodePort>>,
-    todo: &mut Vec<Meeting>,
-    from: u32,
-    port: i16,
-    to: u32,
-    into: i16,
-)
+fn move_end(ends: &mut PortTable, todo: &mut Vec<Meeting>, from: u32, port: i16, to: u32, into: i16)
     requires two { from ≢ to }
     requires first { 31 * from + 31 ≤ length ends.old.items }
     requires second { 31 * to + 31 ≤ length ends.old.items }

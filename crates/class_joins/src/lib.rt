@@ -31,6 +31,7 @@ mod way;
 
 pub use frames::Frames;
 pub use heads::{Head, Heads};
-pub use meeting::{HostNode, Meeting, NodePort};
+pub use meeting::{HostNode, Meeting};
+pub use port_table::{NodePort, PortTable};
 pub use settling::Joined;
 pub use way::{Spot, Way};

@@ -1,13 +1,6 @@
 //! Ports of nodes, and pairs of ports that are one.
 
-/// A port of a node, which is given by its number.
-#[derive(Clone, Copy, Debug)]
-pub struct NodePort {
-    /// The node's number.
-    pub node: u32,
-    /// The port, from -15 to 15.
-    pub port: i8,
-}
+use port_table::NodePort;
 
 /// Two ports that are one port of one switch, so their nodes are replicates.
 #[derive(Clone, Copy, Debug)]

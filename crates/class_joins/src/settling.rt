@@ -16,12 +16,13 @@ ghost use Rattle.class_joins.specs.HeadSteps.{IsJoinedByHeads, IsJoinedByMarks};
 ghost use Rattle.class_joins.specs.Adding.{AddsEnd, IsTurnSpot, known_at};
 
 use crate::adding::{add_end, add_host, far_end};
-use crate::ends::{PLACES, add_places, move_ends};
+use crate::ends::{PLACES, move_ends};
 use crate::frames::Frames;
 use crate::heads::{Head, Heads};
-use crate::meeting::{HostNode, Meeting, NodePort};
+use crate::meeting::{HostNode, Meeting};
 use crate::way::{Spot, Way, begins_at};
 use port_align::ClassFrame;
+use port_table::PortTable;
 use probe::WalkIndex;
 use std::alloc::{AllocError, Global};
 
@@ -31,7 +32,7 @@ pub struct Joined {
     /// The frame of each node: its class, by the node that names it, and its offset there.
     pub frames: Frames,
     /// The far end that is known of each port of a class, 31 ports a node that may name one.
-    pub ends: Vec<Option<NodePort>>,
+    pub ends: PortTable,
     /// The node that is known of each host's address.
     pub hosts: Vec<HostNode>,
     /// Pairs of ports that are to be one.
@@ -47,7 +48,7 @@ impl Joined {
     {
         Joined {
             frames: Frames::new(alloc),
-            ends: Vec::new(alloc),
+            ends: PortTable::new(alloc),
             hosts: Vec::new(alloc),
             todo: Vec::new(alloc),
             heads: Heads {
@@ -70,7 +71,7 @@ impl Joined {
     {
         let classes = self.heads.names.len();
         self.frames.reserve()?;
-        self.ends.reserve(PLACES)?;
+        self.ends.reserve()?;
         self.hosts.reserve(ways)?;
         self.heads.heads.reserve(1)?;
         self.heads.names.reserve(1)?;
@@ -87,7 +88,7 @@ impl Joined {
         ensures { AddsNode marked self.old self.new }
     {
         self.frames.add();
-        add_places(&mut self.ends);
+        self.ends.add();
         self.heads.add(marked);
     }
 

@@ -9,8 +9,8 @@ use Rattle.gm_defs.specs.Port.{unfinished, unread, filling_count}
 use Rattle.gm_tokens.specs.Token.{Token}
 use Rattle.gm_port.specs.declared.ask.CloseRefusal.{CloseRefusal}
 use Rattle.gm_port.specs.Held.{receive_at}
-use Rattle.host_ports.specs.declared.ask.PortClose.{PortClose}
-use Rattle.host_ports.specs.declared.ask.PortClose.TheVariants.{NotOpen as NothingToClose, Busy as CloseBusy, Unread as CloseUnread, Filling as CloseFilling}
+use Rattle.host_ports.specs.declared.ask.NodeClose.{NodeClose}
+use Rattle.host_ports.specs.declared.ask.NodeClose.TheVariants.{NotOpen as NothingToClose, Busy as CloseBusy, Unread as CloseUnread, Filling as CloseFilling}
 use Rattle.host_ports.specs.Refusal.{close_bar, close_word}
 use Rattle.world_defs.specs.declared.client.ClientCause.TheVariants.{NotOpen, Busy, Unread, Filling}
 use Rattle.world_defs.specs.declared.effect.Said.TheVariants.{Count}
@@ -55,16 +55,16 @@ closing-open n port c p is bar =
     let none : close_refusal p ≡ None = refusal-is p ∙ ap (option_map close_cause) (subst (λ o. close_bar o ≡ None) is bar) in
     (ap (close_open n port c) is ∙ ap (close_unless n port c p) none, not_refused-closable p none)
 
-close-bar : (n : NodeState) (port : ℕ) (c : Option ClientState) (o : Option PortState) (e : PortClose) → close_bar o ≡ Some e → close_open n port c o ≡ refused n c (close_cause e)
+close-bar : (n : NodeState) (port : ℕ) (c : Option ClientState) (o : Option PortState) (e : NodeClose) → close_bar o ≡ Some e → close_open n port c o ≡ refused n c (close_cause e)
 close-bar n port c None e is = ap (λ k. refused n c (close_cause k)) (same_Some NothingToClose e is)
 close-bar n port c (Some p) e is = ap (close_unless n port c p) (refusal-is p ∙ ap (option_map close_cause) is)
 
-pub closing-refused : (n : NodeState) (port : ℕ) (c : Option ClientState) (e : PortClose) → close_bar (port_at n port) ≡ Some e → closed n port c ≡ refused n c (close_cause e)
+pub closing-refused : (n : NodeState) (port : ℕ) (c : Option ClientState) (e : NodeClose) → close_bar (port_at n port) ≡ Some e → closed n port c ≡ refused n c (close_cause e)
 unfolding closed
 closing-refused n port c e is = close-bar n port c (port_at n port) e is
 
 -- the counts of a refusal are of 32 bits, since a port has no more tokens than 16 bits count
-counts : (u r f : ℕ) (a b c : Bool) (e : PortClose)
+counts : (u r f : ℕ) (a b c : Bool) (e : NodeClose)
     → option_map close_word (if a then Some (CloseRefusal.Busy u) else if b then Some (CloseRefusal.Unread r) else if c then Some (CloseRefusal.Filling f) else None) ≡ Some e
     → u < 2 ^ 32 → r < 2 ^ 32 → f < 2 ^ 32 → IsCounted e
 counts u r f true b c e is x y z = subst IsCounted (same_Some (CloseBusy u) e is) x
@@ -81,7 +81,7 @@ filter-few test (x ∷ xs) = by (test x) (filter-few test xs)
     by true few = omega (arith, few)
     by false few = omega (arith, few)
 
-pub bar-counted : (host hosts port : ℕ) (o : Option PortState) (c : OpenClient) (e : PortClose) → IsTied host hosts port o (Some c) → c.minted_sends < 65536 → c.minted_recvs < 65536
+pub bar-counted : (host hosts port : ℕ) (o : Option PortState) (c : OpenClient) (e : NodeClose) → IsTied host hosts port o (Some c) → c.minted_sends < 65536 → c.minted_recvs < 65536
     → close_bar o ≡ Some e → IsCounted e
 bar-counted host hosts port None c e tied sends recvs is = absurd tied
 bar-counted host hosts port (Some p) c e tied sends recvs is =
@@ -98,7 +98,7 @@ bar-counted host hosts port (Some p) c e tied sends recvs is =
 abbrev pub IsFew : OpenClient → Type 0
 IsFew c = (c.minted_sends < 65536) × (c.minted_recvs < 65536)
 
-pub bar-few : (host hosts port : ℕ) (o : Option PortState) (x : Option OpenClient) (e : PortClose) → IsTied host hosts port o x → is_some x ≡ true → IfSome x IsFew → close_bar o ≡ Some e → IsCounted e
+pub bar-few : (host hosts port : ℕ) (o : Option PortState) (x : Option OpenClient) (e : NodeClose) → IsTied host hosts port o x → is_some x ≡ true → IfSome x IsFew → close_bar o ≡ Some e → IsCounted e
 bar-few host hosts port o None e tied there few is = absurd (grind arith)
 bar-few host hosts port o (Some c) e tied there few is = bar-counted host hosts port o c e tied few.0 few.1 is
 

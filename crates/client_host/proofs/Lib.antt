@@ -6,3 +6,4 @@ pub mod Calling
 pub mod Sends
 pub mod Returns
 pub mod Closes
+pub mod NewHosts

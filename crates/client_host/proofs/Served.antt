@@ -1,20 +1,21 @@
 -- A host and its clients stay tied, whatever one of them does.
-use Rattle.std.proofs.Common.{◌≡◌, ◌<◌, ◌≤◌, ℕ, zero, suc, Bool, true, false, List, [], ◌∷◌, length, map, set, get_or, replicate, nat_eq, Option, Some, None, refl, sym, ap, subst, ◌∙◌, arith}
+use Rattle.std.proofs.Common.{◌≡◌, ◌<◌, ◌≤◌, ◌≢◌, ◌+◌, ◌++◌, ℕ, zero, suc, Bool, true, false, List, [], ◌∷◌, length, map, set, get_or, replicate, nat_eq, nat_lt, Option, Some, None, refl, sym, ap, subst, ◌∙◌, arith}
 use Rattle.std.specs.Prelude.{slice_index_or, slice_set, Result, Ok, Err, IfOk, OnOk, OnErr}
 use Rattle.std.proofs.Math.ListN.{get_or-map}
 use Rattle.std.proofs.lemmas.Bool.Decides.{nat_tests}
-use Rattle.std.proofs.lemmas.List.{map-set, length-set, get_or-set_same, get_or-set_other, set-get_or}
+use Rattle.std.proofs.lemmas.List.{map-set, length-append, length-set, get_or-set_same, get_or-set_other, get_or_past, get_or_at, get_or_append_left, set-get_or}
 use Rattle.gm_defs.specs.Token.{PortState}
 use Rattle.world_defs.specs.declared.arrival.Arrival.{Arrival}
 use Rattle.world_defs.specs.Hearing.{hear}
 use Rattle.world_defs.specs.Node.{NodeState, port_at, port_count, to_send}
 use Rattle.world_defs.specs.Client.{ClientState, Called}
+use Rattle.host_ports.specs.Held.{HostPorts, none_open, open_at, with_open}
 use Rattle.port_client.specs.Held.{OpenClient}
 use Rattle.nic_node.specs.Held.{HostNode, in_state}
 use Rattle.nic_node.specs.Sending.{after_first}
 use Rattle.world_defs.specs.declared.effect.Said.{Said}
 use Rattle.client_host.specs.Held.{ServedHost, client_in, after_call, IsFromHosts}
-use Rattle.client_host.specs.Tied.{held_of, IsTied, IsServed, served}
+use Rattle.client_host.specs.Tied.{held_of, IsTied, IsServed, IsEnding, served}
 use Rattle.client_host.proofs.Ties.{CallTied}
 use Rattle.client_host.proofs.Hearing.{NodeTied, hear-tied, once_sent-tied}
 
@@ -101,11 +102,10 @@ node-served n m cs s host hosts k = record {
 pub in-served : (n m : HostNode) (cs : List (Option OpenClient)) (st : NodeState) → IsServed n cs → m ≡ in_state n st → NodeTied n.hosts n.state st → IsServed m cs
 in-served n m cs st s e k = subst (λ y. IsServed y cs) (sym e) (node-served n (in_state n st) cs s refl refl k)
 
--- the clients that are left, while they end one after the other from the last
-pub record IsEnding (n : HostNode) (cs : List (Option OpenClient)) : Type 0 where
-  pub ports : length n.state.ports ≡ port_count
-  pub few : length cs ≤ port_count
-  pub tied : (port : ℕ) → IsTied n.host n.hosts port (port_at n.state port) (slice_index_or cs port None)
+-- ---- the end
+-- the ports of a host that is taken apart
+pub left-ending : (n : HostNode) (cs : List (Option OpenClient)) (p : HostPorts) → IsServed n cs → p ≡ record { host = n.host; ports = n.state.ports } → IsEnding p cs
+left-ending n cs p s e = subst (λ q. IsEnding q cs) (sym e) (record { hosts = n.hosts; counted = s.ports; few = let c = s.clients in omega (arith, c); tied = s.tied })
 
 closed-port : (host hosts port : ℕ) (p : Option PortState) → IsTied host hosts port p None → p ≡ None
 closed-port host hosts port None is = refl
@@ -118,9 +118,68 @@ all-none [] (suc k) l h = absurd (omega (arith, l))
 all-none (p ∷ ps) zero l h = absurd (omega (arith, l))
 all-none (p ∷ ps) (suc k) l h = ap (λ x. x ∷ ps) (h 0) ∙ ap (λ xs. None ∷ xs) (all-none ps k (omega (arith, l)) (λ j. h (suc j)))
 
-pub ended : (n : HostNode) (cs : List (Option OpenClient)) → cs ≡ [] → IsEnding n cs → n.state.ports ≡ replicate port_count None
-ended n cs e s = all-none n.state.ports port_count s.ports
-    (λ j. closed-port n.host n.hosts j (port_at n.state j) (subst (λ l. IsTied n.host n.hosts j (port_at n.state j) (get_or l j None)) e (s.tied j)))
+pub ended : (p : HostPorts) (cs : List (Option OpenClient)) → cs ≡ [] → IsEnding p cs → p ≡ none_open p.host
+ended p cs e s =
+    let none : p.ports ≡ replicate port_count None = all-none p.ports port_count s.counted (λ j. closed-port p.host s.hosts j (open_at p j) (subst (λ l. IsTied p.host s.hosts j (open_at p j) (get_or l j None)) e (s.tied j))) in
+    λ i. record { host = p.host; ports = none i }
+
+-- a client less is left, and no port is open in its place
+ending-of : (p q : HostPorts) (cs ds : List (Option OpenClient)) (x : Option OpenClient) → cs ≡ ds ++ x ∷ [] → IsEnding p cs → q.host ≡ p.host → length q.ports ≡ length p.ports → ((j : ℕ) → j ≢ length ds → open_at q j ≡ open_at p j)
+    → open_at q (length ds) ≡ None → IsEnding q ds
+ending-of p q cs ds x split s host long others none = record {
+  hosts = s.hosts;
+  counted = long ∙ s.counted;
+  few = let all : length cs ≡ length ds + 1 = ap length split ∙ length-append ds (x ∷ []) in let few = s.few in omega (arith, all, few);
+  tied = λ j. subst (λ h. IsTied h s.hosts j (open_at q j) (slice_index_or ds j None)) (sym host) (by j (nat_eq j (length ds)) refl);
+}
+  where
+    same : (j : ℕ) → j ≢ length ds → get_or ds j None ≡ get_or cs j None
+    same j other = at (nat_lt j (length ds)) refl
+      where
+        at : (b : Bool) → nat_lt j (length ds) ≡ b → get_or ds j None ≡ get_or cs j None
+        at true e = sym (ap (λ l. get_or l j None) split ∙ get_or_append_left ds (x ∷ []) None j (grind (arith, nat_tests)))
+        at false e =
+            let past : length ds ≤ j = grind (arith, nat_tests) in
+            let all : length cs ≡ length ds + 1 = ap length split ∙ length-append ds (x ∷ []) in
+            let more : length ds < j = strict j past other in
+            get_or_past ds j None past ∙ sym (get_or_past cs j None (omega (arith, all, more)))
+          where
+            strict : (j : ℕ) → length ds ≤ j → j ≢ length ds → length ds < j
+            strict j a b = le (nat_lt (length ds) j) refl
+              where
+                le : (t : Bool) → nat_lt (length ds) j ≡ t → length ds < j
+                le true f = grind (arith, nat_tests)
+                le false f = absurd (b (grind (arith, nat_tests)))
+
+    by : (j : ℕ) (t : Bool) → nat_eq j (length ds) ≡ t → IsTied p.host s.hosts j (open_at q j) (slice_index_or ds j None)
+    by j true t =
+        let f : j ≡ length ds = grind (arith, nat_tests) in
+        let closed : open_at q j ≡ None = ap (open_at q) f ∙ none in
+        let gone : slice_index_or ds j None ≡ None = get_or_past ds j None (omega (arith, f)) in
+        subst (λ o. IsTied p.host s.hosts j o (slice_index_or ds j None)) (sym closed) (subst (λ y. IsTied p.host s.hosts j None y) (sym gone) tt)
+    by j false t =
+        let differs : j ≢ length ds = λ f. absurd (grind (arith, nat_tests)) in
+        subst (λ o. IsTied p.host s.hosts j o (slice_index_or ds j None)) (sym (others j differs)) (subst (λ y. IsTied p.host s.hosts j (open_at p j) y) (sym (same j differs)) (s.tied j))
+
+last-of : (ds cs : List (Option OpenClient)) (x : Option OpenClient) → cs ≡ ds ++ x ∷ [] → get_or cs (length ds) None ≡ x
+last-of ds cs x split = ap (λ l. get_or l (length ds) None) split ∙ get_or_at ds x [] None (length ds) refl
+
+-- the last place had no client
+pub ending-none : (p : HostPorts) (cs ds : List (Option OpenClient)) → cs ≡ ds ++ None ∷ [] → IsEnding p cs → IsEnding p ds
+ending-none p cs ds split s =
+    ending-of p p cs ds None split s refl refl (λ j other. refl)
+    (closed-port p.host s.hosts (length ds) (open_at p (length ds)) (subst (IsTied p.host s.hosts (length ds) (open_at p (length ds))) (last-of ds cs None split) (s.tied (length ds))))
+
+-- its client ended, and its port with it
+pub ending-closed : (p q : HostPorts) (cs ds : List (Option OpenClient)) (x : Option OpenClient) (port : ℕ) → cs ≡ ds ++ x ∷ [] → port ≡ length ds → q ≡ with_open p port None → IsEnding p cs → IsEnding q ds
+ending-closed p q cs ds x port split at e s =
+    let all : length cs ≡ length ds + 1 = ap length split ∙ length-append ds (x ∷ []) in
+    let few = s.few in
+    let many = s.counted in
+    let new : q ≡ with_open p (length ds) None = e ∙ ap (λ k. with_open p k None) at in
+    ending-of p q cs ds x split s (ap (λ h. h.host) new) (ap (λ h. length h.ports) new ∙ length-set p.ports (length ds) None)
+    (λ j other. ap (λ h. open_at h j) new ∙ get_or-set_other p.ports (length ds) j None None other)
+    (ap (λ h. open_at h (length ds)) new ∙ get_or-set_same p.ports (length ds) None None (omega (arith, all, few, many)))
 
 -- a packet that was heard, or not for want of memory
 pub packet-served : {E : Type 0} (n m : HostNode) (cs : List (Option OpenClient)) (wire : List ℕ) (r : Result Arrival E) → IsServed n cs → IfOk r (λ arrival. hear n.host n.hosts n.state wire ≡ (arrival, m.state))

@@ -1,5 +1,5 @@
 -- A call leaves its port tied to its client.
-use Rattle.std.proofs.Common.{◌≡◌, ℕ, Bool, true, false, List, [], ◌∷◌, ◌++◌, length, map, set, nat_eq, Option, Some, None, refl, sym, ap, subst, if◌then◌else◌}
+use Rattle.std.proofs.Common.{◌≡◌, ℕ, Bool, true, false, List, [], ◌∷◌, ◌++◌, map, set, Option, Some, None, refl, sym, ap, subst, if◌then◌else◌}
 use Rattle.std.specs.Prelude.{drop, slice_get}
 use Rattle.std.specs.List.{AllByRecursion}
 use Rattle.std.proofs.lemmas.List.{set-get_or}
@@ -8,7 +8,7 @@ use Rattle.gm_defs.specs.Port.{is_bad_size, sent_with, provided_with, polled}
 use Rattle.world_defs.specs.declared.client.ClientCause.{ClientCause}
 use Rattle.world_defs.specs.declared.client.ClientCause.TheVariants.{BadSize}
 use Rattle.world_defs.specs.declared.effect.Said.{Said}
-use Rattle.world_defs.specs.declared.effect.Said.TheVariants.{Count, Token}
+use Rattle.world_defs.specs.declared.effect.Said.TheVariants.{Token}
 use Rattle.world_defs.specs.Node.{NodeState, port_at}
 use Rattle.world_defs.specs.Client.{ClientState, Called, Wanted, client_bytes, empty_buffer, refused, left, begin_at, begun, close_refusal, close_unless, close_open, closed, provide_with, provide_open, provided_by, send_refusal, send_unless, send_with, send_open, sent_by, handed_out, poll_open, polled_by}
 use Rattle.world_defs.specs.Sound.{IsEachOnce}

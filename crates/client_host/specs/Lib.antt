@@ -1,4 +1,5 @@
 pub mod Held
+pub mod Hosts
 pub mod Tied
 pub mod Telling
 pub mod Back

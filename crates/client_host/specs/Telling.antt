@@ -1,9 +1,9 @@
 -- What a client is told of what its host refused.
 use Rattle.std.specs.Prelude.{ℕ, ◌<◌, ◌^◌, Option, Some, None, if◌then◌else◌}
 use Rattle.gm_defs.specs.Port.{is_bad_size}
-use Rattle.host_ports.specs.declared.ask.PortClose.{PortClose}
-use Rattle.host_ports.specs.declared.ask.PortClose.TheVariants.{NotOpen as NothingToClose, Busy as CloseBusy}
-use Rattle.host_ports.specs.declared.ask.PortClose.TheVariants.{Unread as CloseUnread, Filling as CloseFilling}
+use Rattle.host_ports.specs.declared.ask.NodeClose.{NodeClose}
+use Rattle.host_ports.specs.declared.ask.NodeClose.TheVariants.{NotOpen as NothingToClose, Busy as CloseBusy}
+use Rattle.host_ports.specs.declared.ask.NodeClose.TheVariants.{Unread as CloseUnread, Filling as CloseFilling}
 use Rattle.nic_node.specs.declared.refusal.NodeSend.{NodeSend}
 use Rattle.nic_node.specs.declared.refusal.NodeSend.TheVariants.{NotOpen as NothingSends, TooLong as SendTooLong}
 use Rattle.nic_node.specs.declared.refusal.NodeSend.TheVariants.{BufferShort, NoRoute as SendNoRoute}
@@ -13,14 +13,14 @@ use Rattle.world_defs.specs.declared.client.ClientCause.TheVariants.{NotOpen, To
 use Rattle.world_defs.specs.declared.client.ClientCause.TheVariants.{BadSize, Filling}
 
 -- a refusal to close, as the client is told of it
-abbrev pub close_cause : PortClose → ClientCause
+abbrev pub close_cause : NodeClose → ClientCause
 close_cause NothingToClose = NotOpen
 close_cause (CloseBusy n) = Busy n
 close_cause (CloseUnread n) = Unread n
 close_cause (CloseFilling n) = Filling n
 
 -- the count of a refusal to close is of 32 bits
-abbrev pub IsCounted : PortClose → Type 0
+abbrev pub IsCounted : NodeClose → Type 0
 IsCounted NothingToClose = Unit {0}
 IsCounted (CloseBusy n) = n < 2 ^ 32
 IsCounted (CloseUnread n) = n < 2 ^ 32

@@ -1,12 +1,13 @@
 //! One host with its clients, and all that is no call of a client.
 
 ghost use Rattle.std.specs.Prelude.{◌≡◌, ◌<◌, ◌≤◌, ℕ, nat_lt, length, replicate, true, is_some, if◌then◌else◌, Some};
-ghost use Rattle.std.specs.Prelude.{None, option_map, IfOk, OnOk, OnErr};
+ghost use Rattle.std.specs.Prelude.{None, option_map, false, IfOk, OnOk, OnErr};
 ghost use Rattle.gm_defs.specs.Body.{is_prio};
 ghost use Rattle.mapping_defs.specs.Mapping.{is_part};
 ghost use Rattle.world_defs.specs.Table.{active_epoch};
 ghost use Rattle.world_defs.specs.Node.{StagedProbe, StagedPart, port_count, to_send, packet_for, has_staged, given_up};
-ghost use Rattle.world_defs.specs.Node.{node_expired, unacknowledged_to, lane_count, lane_of, lane_at};
+ghost use Rattle.world_defs.specs.Node.{node_expired, unacknowledged_on, unacknowledged_to, lane_count, lane_of};
+ghost use Rattle.world_defs.specs.Node.{lane_at};
 ghost use Rattle.world_defs.specs.Hearing.{hear};
 ghost use Rattle.nic_node.specs.Sending.{once_sent};
 ghost use Rattle.client_host.specs.Held.{unused_host, in_state};
@@ -51,7 +52,7 @@ impl ClientHost {
         match no_clients(alloc) {
             Ok(clients) => Ok(ClientHost { node, clients }),
             Err(wanting) => {
-                node.end();
+                node.into_ports().end();
                 Err(wanting)
             }
         }
@@ -177,6 +178,15 @@ impl ClientHost {
         self.node.unacked(peer)
     }
 
+    /// Whether something isn't acknowledged, sent or not, to any peer.
+    pub fn has_unacked(&self) -> bool
+        ensures none { result ≡ false → (peer : ℕ) → unacknowledged_to self.now.state peer ≡ 0 }
+        ensures some { result ≡ true → (lane : ℕ) × (lane < length self.now.state.lanes)
+            × (0 < unacknowledged_on self.now.state lane) }
+    {
+        self.node.has_unacked()
+    }
+
     /// Whether it has something to send.
     pub fn has_to_send(&self) -> bool
         ensures { result ≡ is_some (to_send self.now.host self.now.state) }
@@ -202,9 +212,8 @@ impl ClientHost {
 
     /// Spends the host and all tokens and buffers of its ports, those of open ports too. Takes no memory.
     pub fn end(self) {
-        let ClientHost { mut node, clients } = self;
-        end_clients(&mut node, clients);
-        node.end();
+        let ClientHost { node, clients } = self;
+        end_clients(node.into_ports(), clients);
     }
 }
 

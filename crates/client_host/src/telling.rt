@@ -3,7 +3,7 @@
 ghost use Rattle.std.specs.Prelude.{◌≡◌, option_map, MatchResult, IfOk, OnErr, Ok};
 ghost use Rattle.client_host.specs.Telling.{close_cause, IsCounted};
 
-use nic_node::PortClose;
+use nic_node::NodeClose;
 use port_client::Client;
 use std::alloc::AllocError;
 use world_defs::{ClientCause, Said};
@@ -19,15 +19,15 @@ pub(crate) fn minted_of(slot: &Option<Client>) -> Option<(u16, u16)>
 }
 
 /// A refusal to close, as the client is told of it.
-pub(crate) fn close_cause(refusal: PortClose) -> ClientCause
+pub(crate) fn close_cause(refusal: NodeClose) -> ClientCause
     requires { IsCounted refusal }
     ensures { result ≡ close_cause refusal }
 {
     match refusal {
-        PortClose::NotOpen => ClientCause::NotOpen,
-        PortClose::Busy(n) => ClientCause::Busy(n as u32),
-        PortClose::Unread(n) => ClientCause::Unread(n as u32),
-        PortClose::Filling(n) => ClientCause::Filling(n as u32),
+        NodeClose::NotOpen => ClientCause::NotOpen,
+        NodeClose::Busy(n) => ClientCause::Busy(n as u32),
+        NodeClose::Unread(n) => ClientCause::Unread(n as u32),
+        NodeClose::Filling(n) => ClientCause::Filling(n as u32),
     }
 }
 

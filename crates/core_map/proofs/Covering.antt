@@ -52,7 +52,7 @@ joins-edge (c ∷ cs) zero v w j = by c (let one : c ≡ j.cable = (let there = 
     by d e (inr p) = inr (inl (ap (λ (x : MapCable). x.w) e ∙ p.0, ap (λ (x : MapCable). x.v) e ∙ p.1))
 joins-edge (c ∷ cs) (suc i) v w j = inr (inr (joins-edge cs i v w (record { cable = j.cable; there = j.there; ends = j.ends })))
 
-cable-edge : (cs : List MapCable) (k i v w : ℕ) → i ≢ k → Joins cs i v w → IsEdge (map_edges (without cs k)) v w
+pub cable-edge : (cs : List MapCable) (k i v w : ℕ) → i ≢ k → Joins cs i v w → IsEdge (map_edges (without cs k)) v w
 cable-edge [] k i v w d j = let there = j.there in cc
 cable-edge (c ∷ cs) zero zero v w d j = absurd (d refl)
 cable-edge (c ∷ cs) zero (suc i) v w d j = joins-edge cs i v w (record { cable = j.cable; there = j.there; ends = j.ends })

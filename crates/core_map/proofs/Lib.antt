@@ -1,5 +1,7 @@
+pub mod ByPaths
 pub mod Covering
 pub mod Cutting
 pub mod Marking
+pub mod Nearing
 pub mod Sides
 pub mod Spreading

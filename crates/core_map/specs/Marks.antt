@@ -1,11 +1,11 @@
 -- Marks of vertices: one of each, by number.
-use Rattle.std.specs.Prelude.{ℕ, Bool, true, false, ◌&&◌, ◌||◌, not, List, [], ◌∷◌, map, length, nat_eq, slice_index_or}
-use Rattle.std.specs.Prelude.{slice_set, if◌then◌else◌}
+use Rattle.std.specs.Prelude.{ℕ, Bool, true, false, ◌&&◌, ◌||◌, not, List, [], ◌∷◌, map, length, nat_eq, is_some}
+use Rattle.std.specs.Prelude.{slice_index_or, slice_set, if◌then◌else◌}
 use Rattle.std.specs.List.{list_any}
 use Rattle.journal_defs.specs.Counting.{numbers_below}
 use Rattle.journal_defs.specs.Edges.{is_among}
 use Rattle.map_defs.specs.declared.vertex.MapCable.{MapCable}
-use Rattle.map_defs.specs.NetMap.{NetMap}
+use Rattle.map_defs.specs.NetMap.{NetMap, host_of_vertex}
 use Rattle.map_defs.specs.Core.{cut_off_by, hostless_side, is_outside}
 
 -- whether each vertex of a map is among these
@@ -37,6 +37,10 @@ spread_along (c ∷ cs) marks = spread_along cs (spread_by marks c)
 abbrev pub spreads_along : List MapCable → List Bool → Bool
 spreads_along [] marks = false
 spreads_along (c ∷ cs) marks = spreads_by marks c || spreads_along cs (spread_by marks c)
+
+-- a cable joins a vertex to a host
+abbrev pub joins_host : NetMap → MapCable → ℕ → Bool
+joins_host m c v = (nat_eq c.v v && is_some (host_of_vertex m c.w)) || (nat_eq c.w v && is_some (host_of_vertex m c.v))
 
 -- marks of either list
 abbrev pub either : List Bool → List Bool → List Bool

@@ -4,9 +4,10 @@ ghost use Rattle.std.specs.Prelude.{◌≡◌, ℕ, ◌<◌, ◌+◌, ◌++◌, 
 ghost use Rattle.std.specs.Prelude.{slice_get, slice_index_or, if◌then◌else◌, Some, IfOk, OnOk, OnErr};
 ghost use Rattle.std.specs.List.{list_any};
 ghost use Rattle.map_defs.specs.NetMap.{IsMap, host_of_vertex, is_switch_vertex};
-ghost use Rattle.map_defs.specs.Core.{bridges_of, core_of, cut_off_by, hostless_side, is_switch_bridge};
+ghost use Rattle.map_defs.specs.Core.{bridges_of, core_of, cut_off_by, hostless_side, is_hostless, is_switch_bridge};
+ghost use Rattle.map_defs.specs.Core.{side};
 ghost use Rattle.fabric_map.specs.Growing.{with_core};
-ghost use Rattle.core_map.specs.Marks.{marks_of, either, outside_of, outside_by, with_side};
+ghost use Rattle.core_map.specs.Marks.{marks_of, either, joins_host, outside_of, outside_by, with_side};
 
 use crate::side::side;
 use fabric_map::{FabricMap, MapCable, MapVertex};
@@ -158,6 +159,19 @@ fn hostless_side(alloc: Global, m: &FabricMap, k: usize, v: u32) -> Result<Vec<b
     requires vertex { v < length m.now.vertices }
     ensures { IfOk result (λ marks. marks.items ≡ marks_of m.now (hostless_side m.now k v)) }
 {
+    if is_near_host(m, k, v) {
+        no_marks(alloc, m)
+    } else {
+        searched_side(alloc, m, k, v)
+    }
+}
+
+// Marks the side of a vertex without a cable, if a search finds no host there.
+fn searched_side(alloc: Global, m: &FabricMap, k: usize, v: u32) -> Result<Vec<bool>, AllocError>
+    requires cable { k < length m.now.cables }
+    requires vertex { v < length m.now.vertices }
+    ensures { IfOk result (λ marks. marks.items ≡ marks_of m.now (hostless_side m.now k v)) }
+{
     let _ = m.vertices();
     let side = side(alloc, m, k, v)?;
     if is_hostless(m, &side) {
@@ -165,6 +179,28 @@ fn hostless_side(alloc: Global, m: &FabricMap, k: usize, v: u32) -> Result<Vec<b
     } else {
         no_marks(alloc, m)
     }
+}
+
+// Whether a cable but this one joins a vertex to a host. Most switches have one, and nothing is searched there.
+fn is_near_host(m: &FabricMap, k: usize, v: u32) -> bool
+    requires cable { k < length m.now.cables }
+    requires vertex { v < length m.now.vertices }
+    ensures { result ≡ true → is_hostless m.now (side m.now k v) ≡ false }
+{
+    let cables = m.cables();
+    for (i, cable) in cables.iter().enumerate() {
+        if i != k && joins_host(m, *cable, v) {
+            return true;
+        }
+    }
+    false
+}
+
+// Whether a cable joins a vertex to a host.
+fn joins_host(m: &FabricMap, c: MapCable, v: u32) -> bool
+    ensures { result ≡ joins_host m.now c v }
+{
+    (c.v == v && is_host(m, c.w as usize)) || (c.w == v && is_host(m, c.v as usize))
 }
 
 // No vertex is marked.

@@ -12,7 +12,7 @@
 //! ```
 #![tactic(auto)]
 
-ghost use Rattle.std.specs.Prelude.{◌≡◌, ◌%◌};
+ghost use Rattle.std.specs.Prelude.{◌≡◌, ◌<◌, ◌%◌};
 ghost use Rattle.packet_defs.specs.Crc.{crc, contribution};
 
 mod folding;
@@ -21,7 +21,7 @@ mod tables;
 
 use folding::folded;
 use slices::crc_by_slices;
-use tables::{SLICE, near_contribution};
+use tables::{SLICE, behind_slices, near_contribution};
 
 // The powers of x repeat after so many, and so do those of x^8.
 const PERIOD: usize = 127;
@@ -42,7 +42,7 @@ pub fn crc(bytes: &[u8]) -> u8
 }
 
 /// What a byte adds to the CRC of so many bytes that follow it: the CRC of the byte followed by so many zero bytes. It
-/// takes eight looks into a table at most, for any number of them, and one for fifteen or less.
+/// takes two looks into tables, for any number of them.
 pub fn contribution(byte: u8, places: usize) -> u8
     ensures { result ≡ contribution byte places }
 {
@@ -60,15 +60,10 @@ fn round(places: usize) -> usize
     }
 }
 
-// What a byte adds, by slices of zero bytes: what is left behind each takes the byte's place.
+// What a byte adds: what is left of it behind whole slices of zero bytes takes its place.
 fn far_contribution(byte: u8, places: usize) -> u8
+    requires { places < PERIOD }
     ensures { result ≡ contribution byte places }
 {
-    let mut rest = byte;
-    let mut left = places;
-    while left >= SLICE {
-        rest = near_contribution(rest, SLICE - 1);
-        left -= SLICE;
-    }
-    near_contribution(rest, left)
+    near_contribution(behind_slices(byte, places / SLICE), places % SLICE)
 }

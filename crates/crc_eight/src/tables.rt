@@ -1,10 +1,13 @@
 //! Tables of remainders by x^8 + x^2 + x + 1.
 
-ghost use Rattle.std.specs.Prelude.{◌≡◌, ◌<◌};
+ghost use Rattle.std.specs.Prelude.{◌≡◌, ◌<◌, ◌+◌, ◌*◌, ℕ};
 ghost use Rattle.packet_defs.specs.Crc.{contribution};
 
 /// The bytes of a slice, for each of whose places there is a table.
 pub(crate) const SLICE: usize = 16;
+
+// The slices that begin within a period of 127 bytes.
+const SLICES: usize = 8;
 
 // A table of sums: each number that follows doubles it, by adding itself to all rows so far. So row b has the sum of
 // the numbers at the bits of b.
@@ -39,10 +42,31 @@ static TABLES: [[u8; 256]; SLICE] = [
     sums!([0] 0x02 0x04 0x08 0x10 0x20 0x40 0x80 0x07),
 ];
 
+// Row b of table k is what the CRC would be behind k slices of zero bytes, were it b before them. Its numbers are the
+// powers of x from that of 128 k on.
+static BEHIND: [[u8; 256]; SLICES] = [
+    sums!([0] 0x01 0x02 0x04 0x08 0x10 0x20 0x40 0x80),
+    sums!([0] 0x02 0x04 0x08 0x10 0x20 0x40 0x80 0x07),
+    sums!([0] 0x04 0x08 0x10 0x20 0x40 0x80 0x07 0x0E),
+    sums!([0] 0x08 0x10 0x20 0x40 0x80 0x07 0x0E 0x1C),
+    sums!([0] 0x10 0x20 0x40 0x80 0x07 0x0E 0x1C 0x38),
+    sums!([0] 0x20 0x40 0x80 0x07 0x0E 0x1C 0x38 0x70),
+    sums!([0] 0x40 0x80 0x07 0x0E 0x1C 0x38 0x70 0xE0),
+    sums!([0] 0x80 0x07 0x0E 0x1C 0x38 0x70 0xE0 0xC7),
+];
+
 /// What a byte adds to the CRC of so many bytes that follow it in a slice.
 pub(crate) fn near_contribution(byte: u8, places: usize) -> u8
     requires { places < SLICE }
     ensures { result ≡ contribution byte places }
 {
     TABLES[places][usize::from(byte)]
+}
+
+/// What is left of a byte behind so many slices of zero bytes: it adds so much as the byte does in front of them.
+pub(crate) fn behind_slices(byte: u8, slices: usize) -> u8
+    requires { slices < SLICES }
+    ensures { (places : ℕ) → contribution result places ≡ contribution byte (SLICE * slices + places) }
+{
+    BEHIND[slices][usize::from(byte)]
 }

@@ -23,8 +23,15 @@ pub fn aim<const P: usize>(entry: u8, p: &Packet) -> Turned
     requires few { P ≤ 16 }
     ensures { result ≡ aim P entry p.now }
 {
+    aim_by(P as u8, entry, p)
+}
+
+/// The same of a switch whose ports are counted where the program runs.
+pub fn aim_by(ports: u8, entry: u8, p: &Packet) -> Turned
+    ensures { result ≡ aim ports entry p.now }
+{
     match p.front_turn() {
-        Some(turn) => aim_by::<P>(entry, turn),
+        Some(turn) => aim_of(ports, entry, turn),
         None => Turned::NotRoute,
     }
 }
@@ -46,11 +53,10 @@ pub fn turn<const P: usize>(entry: u8, p: &mut Packet) -> Turned
 }
 
 // Where a turn leads.
-fn aim_by<const P: usize>(entry: u8, turn: i8) -> Turned
-    requires few { P ≤ 16 }
-    ensures { result ≡ aim_of P entry (Some turn) }
+fn aim_of(ports: u8, entry: u8, turn: i8) -> Turned
+    ensures { result ≡ aim_of ports entry (Some turn) }
 {
-    match leaving_port(P as u8, entry, turn) {
+    match leaving_port(ports, entry, turn) {
         Some(port) => Turned::Out(port),
         None => Turned::OutOfRange,
     }

@@ -1,9 +1,9 @@
 //! Reading to the end and writing all.
 
-ghost use Rattle.std.specs.Prelude.{◌≡◌, ◌≢◌, ◌<◌, ◌≤◌, length, vec_len, IfOk, IfErr, OnOk, IsErrOf};
+ghost use Rattle.std.specs.Prelude.{◌≡◌, ◌≢◌, ◌<◌, ◌≤◌, ◌+◌, length, vec_len, IfOk, IfErr, OnOk, OnErr, IsErrOf};
 ghost use Rattle.std.specs.Io.KnownBytes.{Appends, IsAtEnd};
 ghost use Rattle.fab_outer.specs.Fault.{Rose, HasCause};
-ghost use Rattle.fab_outer.specs.Whole.{IsWhole, IsLonger, GoesOn, Appended, TakesPrefix};
+ghost use Rattle.fab_outer.specs.Whole.{IsWhole, IsLonger, GoesOn, Appended, TakesProperPrefix};
 
 use crate::{Sink, Source};
 use std::alloc::Global;
@@ -30,7 +30,7 @@ pub fn read_all<S: Source>(alloc: Global, source: &mut S, limit: usize) -> Resul
     ensures whole { IfOk result (λ content. IsWhole (S.left source.old) (S.left source.new) content.items) }
     ensures within { IfOk result (λ content. vec_len content ≤ limit) }
     ensures too_long { IsErrOf result ReadEnd.TooLong → IsLonger (S.left source.old) limit }
-    ensures goes_on { GoesOn (S.left source.old) (S.left source.new) }
+    ensures goes_on { GoesOn (S.left source.old) (S.left source.new) (limit + 1) }
     ensures fault { IsErrOf result ReadEnd.ReadFault → Rose (S.faults source.old) (S.faults source.new) }
     ensures later { S.faults source.old ≤ S.faults source.new }
 {
@@ -66,7 +66,7 @@ fn append_some<S: Source>(
         (S.left source.new) content.old.items content.new.items n) }
     ensures end { result ≡ Ok 0 → 0 < length piece.new → IsAtEnd (S.left source.new) }
     ensures bound { IfOk result (λ n. n ≤ length piece.new) }
-    ensures goes_on { GoesOn (S.left source.old) (S.left source.new) }
+    ensures goes_on { GoesOn (S.left source.old) (S.left source.new) (length piece.new) }
     ensures not_long { IfErr result (λ e. e ≢ ReadEnd.TooLong) }
     ensures fault { IsErrOf result ReadEnd.ReadFault → Rose (S.faults source.old) (S.faults source.new) }
     ensures later { S.faults source.old ≤ S.faults source.new }
@@ -80,10 +80,10 @@ fn append_some<S: Source>(
     }
 }
 
-/// Writes all the bytes. At an `Err` the sink has taken some of them, from the front.
+/// Writes all the bytes. At an `Err` the sink has taken some of them, from the front, and not all.
 pub fn write_all<K: Sink>(sink: &mut K, bytes: &[u8]) -> Result<(), WriteFault>
     ensures all { OnOk result (Appends (K.taken sink.old) (K.taken sink.new) bytes.now) }
-    ensures part { TakesPrefix (K.taken sink.old) (K.taken sink.new) bytes.now }
+    ensures part { OnErr result (TakesProperPrefix (K.taken sink.old) (K.taken sink.new) bytes.now) }
     ensures cause { HasCause (K.faults sink.old) (K.faults sink.new) result }
 {
     let mut rest = bytes;

@@ -142,7 +142,10 @@ fn append_refused(text: &mut Vec<u8>, cause: ClientCause) -> Result<(), AllocErr
             append_behind(text, &[refused, Text(b"unread"), Number(u64::from(events))])
         }
         ClientCause::Filling(tokens) => {
-            append_behind(text, &[refused, Text(b"filling"), Number(u64::from(tokens))])
+            append_behind(
+                text,
+                &[refused, Text(b"filling"), Number(u64::from(tokens))],
+            )
         }
     }
 }

@@ -1,5 +1,5 @@
 -- One line more of a script, and the range of the turns that were read.
-use Rattle.std.proofs.Common.{◌≡◌, ◌≤◌, ℕ, zero, suc, ℤ, pos, List, [], ◌∷◌, ◌++◌, Bool, true, false, ◌&&◌, length, nat_le, nat_lt, nat_eq, Some, None, Result, Ok, Err, refl, ap, sym, ◌∙◌, append_assoc, arith, if◌then◌else◌}
+use Rattle.std.proofs.Common.{◌≡◌, ◌<◌, ◌≤◌, ℕ, zero, suc, ℤ, pos, List, [], ◌∷◌, ◌++◌, Bool, true, false, ◌&&◌, length, nat_le, nat_lt, nat_eq, Some, None, Result, Ok, Err, refl, ap, sym, ◌∙◌, append_assoc, arith, if◌then◌else◌}
 use Rattle.std.specs.List.{list_all}
 use Rattle.std.specs.Str.Parse.{digits_value}
 use Rattle.std.proofs.lemmas.Bool.Decides.{nat_tests}
@@ -14,7 +14,7 @@ use Rattle.fab_text.specs.Line.{TextLine, words_of}
 use Rattle.fab_text.specs.Fault.{FirstFault, as_kind, at_line, and_then}
 use Rattle.run_defs.specs.declared.command.Command.{Command}
 use Rattle.run_defs.specs.Script.{command_of, ended, is_end, script_from, turns_of}
-use Rattle.fab_script.specs.Lists.{behind}
+use Rattle.fab_script.specs.Lists.{behind, read_behind, read_from}
 
 -- one item more behind others
 pub behind-one : {X E : Type 0} (done : List X) (x : X) (r : Result (List X) E) → behind done (behind (x ∷ []) r) ≡ behind (done ++ x ∷ []) r
@@ -30,6 +30,12 @@ from_line past n l ls last =
 pub script-more : (past : ℕ) (n : Network) (ls rest : List TextLine) (l : TextLine) → ls ≡ l ∷ rest → false ≡ is_end (words_of l.bytes)
     → script_from past n ls ≡ and_then (at_line l.number (command_of n (words_of l.bytes))) (λ c. behind (c ∷ []) (script_from past n rest))
 script-more past n ls rest l e s = ap (script_from past n) e ∙ sym (ap (from_line past n l rest) s)
+
+-- a line that comes is read
+pub read-some : (n : Network) (ls rest : List TextLine) (l : TextLine) → ls ≡ l ∷ rest → 0 < length (read_from n ls)
+read-some n ls rest l e =
+    let one : length (read_from n ls) ≡ suc (length (if is_end (words_of l.bytes) then [] else read_behind (command_of n (words_of l.bytes)) (read_from n rest))) = ap (λ k. length (read_from n k)) e in
+    omega (arith, one)
 
 -- one command more
 pub script-kept : (past : ℕ) (n : Network) (all : Result (List Command) FirstFault) (done new : List Command) (ls rest : List TextLine) (l : TextLine) (c : Command)

@@ -1,11 +1,11 @@
 //! All lines of a script.
 
-ghost use Rattle.std.specs.Prelude.{◌≡◌, ◌≤◌, ◌+◌, length, IfOk};
+ghost use Rattle.std.specs.Prelude.{◌≡◌, ◌<◌, ◌≤◌, ◌+◌, length, IfOk, IsErrOf};
 ghost use Rattle.std.specs.List.{AllByRecursion};
 ghost use Rattle.fab_text.specs.Line.{lines_left, words_of};
 ghost use Rattle.fab_text.specs.Fault.{TextGives};
 ghost use Rattle.run_defs.specs.Script.{ended, is_end, script_reading};
-ghost use Rattle.fab_script.specs.Lists.{behind};
+ghost use Rattle.fab_script.specs.Lists.{behind, lines_read};
 ghost use Rattle.fab_script.specs.Ranges.{IsCommandOf};
 
 use crate::command::read_command;
@@ -51,6 +51,8 @@ pub fn read_script(alloc: Global, text: &[u8], line: u32, f: &Fabric) -> Result<
     requires { line + length text.now ≤ 4294967290 }
     // Exactly the commands that the lines say, or exactly the first fault.
     ensures reading { TextGives (script_reading f.now line text.now) result }
+    // Memory may be wanting only at a line that is read, up to the first fault.
+    ensures memory { IsErrOf result TextFault.NoMemory → 0 < length (lines_read f.now line text.now) }
     // They name hosts and ends of the fabric, with numbers in the ranges of their places.
     ensures ranged { IfOk result (λ s. AllByRecursion (IsCommandOf f.now) s) }
 {
@@ -60,7 +62,8 @@ pub fn read_script(alloc: Global, text: &[u8], line: u32, f: &Fabric) -> Result<
 // The same, without what each command is.
 fn read_lines(alloc: Global, text: &[u8], line: u32, f: &Fabric) -> Result<Script, TextFault>
     requires { line + length text.now ≤ 4294967290 }
-    ensures { TextGives (script_reading f.now line text.now) result }
+    ensures reading { TextGives (script_reading f.now line text.now) result }
+    ensures memory { IsErrOf result TextFault.NoMemory → 0 < length (lines_read f.now line text.now) }
 {
     let mut commands = Vec::new(alloc);
     let mut left = Lines::numbered_from(line + 1, text);

@@ -1,5 +1,5 @@
 -- A packet arrives only at hosts that are there, and a client receives only from such.
-use Rattle.std.proofs.Common.{◌<◌, ℕ, Bool, true, false, List, [], ◌∷◌, length, nat_eq, Option, Some, None, sym, subst, if◌then◌else◌}
+use Rattle.std.proofs.Common.{◌<◌, ℕ, Bool, true, false, List, [], ◌∷◌, Option, Some, None, sym, subst, if◌then◌else◌}
 use Rattle.world_defs.specs.declared.event.Event.{Event}
 use Rattle.world_defs.specs.declared.effect.Effect.{Effect}
 use Rattle.world_defs.specs.declared.effect.Effect.TheVariants.{Said}
@@ -8,7 +8,7 @@ use Rattle.world_defs.specs.declared.arrival.Arrival.{Arrival}
 use Rattle.world_defs.specs.Node.{NodeState, port_at}
 use Rattle.world_defs.specs.declared.client.ClientCause.{ClientCause}
 use Rattle.world_defs.specs.declared.client.ClientCause.TheVariants.{BadSize}
-use Rattle.world_defs.specs.declared.effect.Said.TheVariants.{Token, Count}
+use Rattle.world_defs.specs.declared.effect.Said.TheVariants.{Token}
 use Rattle.world_defs.specs.Client.{Called, ClientState, Wanted, refused, left, begin_at, begun, close_refusal, close_unless, close_at, close_open, closed, empty_buffer, provide_with, provide_open, provided_by, send_refusal, send_unless, send_with, send_open, sent_by}
 use Rattle.gm_defs.specs.Token.{PortState}
 use Rattle.gm_defs.specs.Port.{is_bad_size, provided_with}

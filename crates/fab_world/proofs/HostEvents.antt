@@ -104,12 +104,11 @@ part-is w dst part = by w.adopted
     by None = refl
     by (Some a) = part-at w a.mapper (part_for a dst part) (route_of a.routes a.mapper dst)
 
--- one host stages a part
-pub part-staged-is : {p : LinksAndPlan} {ss : List ServedHost} {o : Option Adoption} {w : WorldState} {i : ℕ} {x : ServedHost} (dst part : ℕ) (q : ServedHost) (s : PartToSend) → IsAt p ss o w s.mapper i x
-    → Some s ≡ part_to_send o dst part → q ≡ in_state x (record x.state { staged = Some (StagedPart s.part s.by) }) → part_staged w dst part ≡ (IsStaged, world_of p (slice_set ss i q) o)
-part-staged-is {p} {ss} {o} {w} {i} {x} dst part q s a sends e =
-    part-is w dst part ∙ ap (λ (v : WorldState). part-of w (part_to_send v.adopted dst part)) (sym a.is) ∙ ap (part-of w) (sym sends)
-    ∙ ap (λ (v : WorldState). (IsStaged, v)) (sym (changed q (λ n. record n { staged = Some (StagedPart s.part s.by) }) a e))
+-- the adopter stages the part that is to be sent
+pub part-sent : (w : WorldState) (dst part : ℕ) (o : Option Adoption) (s : PartToSend) (r : Effect × WorldState) → w.adopted ≡ o → Some s ≡ part_to_send o dst part
+    → stage_at w s.mapper (Some s.part) (Some s.by) ≡ r → part_staged w dst part ≡ r
+part-sent w dst part o s r is sends stages =
+    part-is w dst part ∙ ap (λ a. part-of w (part_to_send a dst part)) is ∙ ap (part-of w) (sym sends) ∙ stages
 
 pub part-none : (w : WorldState) (dst part : ℕ) (o : Option Adoption) → w.adopted ≡ o → None ≡ part_to_send o dst part → part_staged w dst part ≡ (Idle, w)
 part-none w dst part o is none = part-is w dst part ∙ ap (λ a. part-of w (part_to_send a dst part)) is ∙ ap (part-of w) (sym none)

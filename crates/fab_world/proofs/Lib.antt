@@ -4,6 +4,5 @@ pub mod Hopping
 pub mod HostEvents
 pub mod Injecting
 pub mod Moments
-pub mod NewHosts
 pub mod Places
-pub mod Summing
+pub mod Waiting

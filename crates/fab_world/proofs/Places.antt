@@ -12,7 +12,7 @@ use Rattle.world_defs.specs.World.{WorldState, host_count, node_at, client_at, w
 use Rattle.world_defs.specs.Step.{of_call}
 use Rattle.faulty_links.specs.Held.{LinksAndPlan}
 use Rattle.client_host.specs.Held.{ServedHost, in_state, client_in, after_call}
-use Rattle.fab_world.specs.Hosts.{states, clients_of, no_host, AreHosts}
+use Rattle.client_host.specs.Hosts.{states, clients_of, no_host, AreHosts}
 use Rattle.fab_world.specs.Held.{world_of}
 
 -- A host was read at an address of a world that these links, hosts and adopted routes make.

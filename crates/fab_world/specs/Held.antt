@@ -16,7 +16,7 @@ use Rattle.world_laws.specs.Shape.{IsWorld, HasSenders}
 use Rattle.faulty_links.specs.Held.{LinksAndPlan, with_part}
 use Rattle.adopted_routes.specs.Adopting.{IsSetOfHosts}
 use Rattle.client_host.specs.Held.{ServedHost, IsFromHosts}
-use Rattle.fab_world.specs.Hosts.{states, clients_of}
+use Rattle.client_host.specs.Hosts.{states, clients_of}
 
 -- the world that these links, their plan and counts, these hosts with their clients and these adopted routes make
 abbrev pub world_of : LinksAndPlan → List ServedHost → Option Adoption → WorldState

@@ -19,12 +19,10 @@
 //! | `hosts` | hosts by address |
 //! | `machine` | links, hosts and adopted routes, and each event of theirs |
 //! | `world` | the world: what it keeps, and every event |
-//! | `unacked` | how many fragments aren't acknowledged |
 #![tactic(auto)]
 
 mod hosts;
 mod machine;
-mod unacked;
 mod world;
 
 pub use adopted_routes::AdoptRefusal;
@@ -32,4 +30,4 @@ pub use client_host::{Message, Said, TokenPlace};
 pub use faulty_links::Hop;
 pub use port_graph::{Fabric, RouteSet};
 pub use world::World;
-pub use world_defs::{Cause, Effect, Event, Fault, Heard};
+pub use world_defs::{Cause, ClientCause, Effect, Event, Fault, Heard};

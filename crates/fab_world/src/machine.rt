@@ -12,9 +12,9 @@ mod injection;
 mod staging;
 mod steps;
 
-use crate::hosts::{count_of, end_all, host_at, new_hosts};
+use crate::hosts::{count_of, host_at};
 use adopted_routes::AdoptedRoutes;
-use client_host::ClientHost;
+use client_host::{ClientHost, end_hosts, new_hosts};
 use faulty_links::FaultyLinks;
 use port_graph::Fabric;
 use std::alloc::{AllocError, Global};
@@ -30,7 +30,7 @@ pub(crate) struct Machine {
 impl Model for Machine {
     ghost use Rattle.world_defs.specs.World.{WorldState};
     ghost use Rattle.fab_world.specs.Held.{world_of};
-    ghost use Rattle.fab_world.specs.Hosts.{AreHosts};
+    ghost use Rattle.client_host.specs.Hosts.{AreHosts};
 
     ghost Value = { WorldState };
 
@@ -79,6 +79,6 @@ impl Machine {
             hosts,
             adopted: _,
         } = self;
-        end_all(hosts);
+        end_hosts(hosts);
     }
 }

@@ -1,7 +1,7 @@
 //! The world.
 
 ghost use Rattle.std.specs.Prelude.{◌≡◌, ◌≤◌, ◌<◌, ◌^◌, ℕ, length, true, is_some, option_map, Some, None, IfOk};
-ghost use Rattle.std.specs.Prelude.{IfSome, IfNone, OnOk, OnErr};
+ghost use Rattle.std.specs.Prelude.{nat_lt, IfSome, IfNone, OnOk, OnErr};
 ghost use Rattle.net_defs.specs.Route.{channel_from};
 ghost use Rattle.link_defs.specs.Channel.{channel_count, channel_tail, channel_head};
 ghost use Rattle.link_defs.specs.Hops.{total_hops};
@@ -17,6 +17,7 @@ ghost use Rattle.world_defs.specs.Table.{active_epoch};
 ghost use Rattle.world_defs.specs.World.{fabric_of, host_count, new_world, node_at, planned, adopted_by};
 ghost use Rattle.world_defs.specs.EightBits.{IsByteFault};
 ghost use Rattle.world_defs.specs.Step.{step};
+ghost use Rattle.world_defs.specs.Settle.{unacknowledged_from};
 ghost use Rattle.host_ports.specs.Held.{place_at};
 ghost use Rattle.adopted_routes.specs.Adopting.{IsAdoptable, adopt_refusal, part_count_for};
 ghost use Rattle.fab_world.specs.Events.{IsHostOf, IsChannelOf, IsGiven};
@@ -59,8 +60,13 @@ impl World {
     pub fn new(alloc: Global, fabric: Fabric) -> Result<World, AllocError>
         ensures { IfOk result (λ w. w ≡ new_world fabric) }
     {
-        let machine = Machine::new(alloc, &fabric)?;
-        Ok(World { fabric, machine })
+        match Machine::new(alloc, &fabric) {
+            Ok(machine) => Ok(World { fabric, machine }),
+            Err(wanting) => {
+                end_fabric(fabric);
+                Err(wanting)
+            }
+        }
     }
 
     /// One event: its effect, and the world after it. Where memory is wanting, nothing has changed, or the packet
@@ -271,6 +277,14 @@ impl World {
         self.machine.at(host).has_staged()
     }
 
+    /// Whether something of a host isn't acknowledged, sent or not, by any peer.
+    pub fn has_unacked(&self, host: u16) -> bool
+        requires { IsHostOf self.now host }
+        ensures { result ≡ nat_lt 0 (unacknowledged_from self.now host) }
+    {
+        self.machine.at(host).has_unacked()
+    }
+
     /// Whether a host has something to send.
     pub fn has_to_send(&self, host: u16) -> bool
         requires { IsHostOf self.now host }
@@ -337,10 +351,14 @@ impl World {
 
     /// Spends it, with whatever its ports hold. Takes no memory.
     pub fn end(self) {
-        let World { fabric: _, machine } = self;
+        let World { fabric, machine } = self;
+        end_fabric(fabric);
         machine.end();
     }
 }
+
+// A fabric ends here alone: a proof goes through its parts wherever it ends.
+fn end_fabric(_fabric: Fabric) {}
 
 // The pattern of a flip has eight bits.
 fn pattern_is_a_byte(fault: Fault)

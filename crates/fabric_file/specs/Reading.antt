@@ -2,6 +2,7 @@
 use Rattle.std.specs.Prelude.{◌≡◌, ℕ, ◌+◌, ◌-◌, true, List, [], ◌∷◌, length, if◌then◌else◌, Result, Ok, Err}
 use Rattle.std.specs.List.{AllByRecursion}
 use Rattle.net_defs.specs.Network.{Network, names, empty_network}
+use Rattle.fab_text.specs.declared.fault.FaultKind.{FaultKind}
 use Rattle.fab_text.specs.declared.fault.FaultKind.TheVariants.{NoEnd}
 use Rattle.fab_text.specs.Word.{name_test}
 use Rattle.fab_text.specs.Line.{TextLine, lines_left, line_count, words_of}
@@ -22,6 +23,22 @@ fabric_from size past n (l ∷ ls) =
 abbrev pub fabric_reading : List ℕ → Result FabricText FirstFault
 fabric_reading text = fabric_from (length text) (line_count text + 1) empty_network
     (lines_left (record { number = 1; text = text }))
+
+-- the lines that are read behind one: none where it has a fault
+abbrev pub read_behind : Result Network FaultKind → (Network → List TextLine) → List TextLine
+read_behind (Ok n) behind = behind n
+read_behind (Err kind) behind = []
+
+-- the lines that are read of some: those before `script`, up to the first that has a fault
+abbrev pub read_from : Network → List TextLine → List TextLine
+read_from n [] = []
+read_from n (l ∷ ls) =
+    if is_script (words_of l.bytes) then []
+    else l ∷ read_behind (declared n (words_of l.bytes)) (λ m. read_from m ls)
+
+-- The lines of the fabric part that are read: those before `script`, up to the first that has a fault.
+abbrev pub lines_read : List ℕ → List TextLine
+lines_read text = read_from empty_network (lines_left (record { number = 1; text = text }))
 
 -- each vertex has a name of the text's form
 abbrev pub AreNamed : Network → Type 0

@@ -14,13 +14,11 @@ use std::alloc::{AllocError, Global};
 
 /// The text of a fabric up to its line `script`: its hosts, its switches and its cables, a line each, in their order.
 ///
-/// Followed by a line `script` it is read back as the same fabric. Its names have the form of the text, as those of a
-/// fabric that was read have.
+/// Followed by a line `script` it is read back as the same fabric, where the names have the form of the text, as those
+/// of a fabric that was read have.
 pub fn print_fabric(alloc: Global, f: &Fabric) -> Result<Vec<u8>, AllocError>
-    requires fabric { IsFabric f.now }
-    requires named { AreNamed f.now }
     ensures text { IfOk result (λ text. text.items ≡ fabric_text f.now) }
-    ensures read_back { IfOk result (λ text. IsReadBack f.now text.items) }
+    ensures read_back { IfOk result (λ text. AreNamed f.now → IsReadBack f.now text.items) }
 {
     let mut text = Vec::new(alloc);
     print_hosts(f, &mut text)?;
@@ -31,7 +29,8 @@ pub fn print_fabric(alloc: Global, f: &Fabric) -> Result<Vec<u8>, AllocError>
 
 // A line for each host.
 fn print_hosts(f: &Fabric, text: &mut Vec<u8>) -> Result<(), AllocError>
-    ensures { OnOk result (text.new.items ≡ text.old.items ++ hosts_text f.now) }
+    ensures text { OnOk result (text.new.items ≡ text.old.items ++ hosts_text f.now) }
+    ensures fabric { IsFabric f.now }
 {
     for host in 0..f.hosts() {
         host_line(text, f.name_of(Vertex::Host(host)))?;

@@ -1,9 +1,9 @@
 //! The fabric part of a text.
 
-ghost use Rattle.std.specs.Prelude.{◌≡◌, ◌≤◌, ◌+◌, ◌-◌, length, IfOk};
+ghost use Rattle.std.specs.Prelude.{◌≡◌, ◌<◌, ◌≤◌, ◌+◌, ◌-◌, length, IfOk, IsErrOf};
 ghost use Rattle.fab_text.specs.Fault.{TextGives};
 ghost use Rattle.net_defs.specs.Network.{IsFabric};
-ghost use Rattle.fabric_file.specs.Reading.{fabric_reading, AreNamed};
+ghost use Rattle.fabric_file.specs.Reading.{fabric_reading, lines_read, AreNamed};
 
 use crate::declaring::{declare, is_script};
 use fab_text::{FaultKind, TextFault, line_count, lines};
@@ -29,6 +29,8 @@ pub fn read_fabric(alloc: Global, text: &[u8]) -> Result<FabricText, TextFault>
     requires { length text.now ≤ 4294967290 }
     // Exactly the fabric that the lines declare, or exactly the first fault.
     ensures reading { TextGives (fabric_reading text.now) result }
+    // Memory may be wanting only at a line that is read, up to the first fault.
+    ensures memory { IsErrOf result TextFault.NoMemory → 0 < length (lines_read text.now) }
     ensures fabric { IfOk result (λ t. IsFabric t.fabric) }
     ensures named { IfOk result (λ t. AreNamed t.fabric) }
     ensures inside { IfOk result (λ t. t.next ≤ length text.now) }

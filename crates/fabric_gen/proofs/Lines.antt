@@ -1,29 +1,11 @@
--- Lines that are written one after another, and the words of a line.
+-- Lines that are written one after another.
 use Rattle.std.proofs.Common.{◌≡◌, ℕ, ◌+◌, List, [], ◌∷◌, ◌++◌, map, ap, sym, ◌∙◌, append_assoc, arith, refl}
 use Rattle.std.specs.Prelude.{flat_map}
 use Rattle.std.proofs.lemmas.Grind.{flat_map-append}
 use Rattle.std.proofs.lemmas.List.{append-nil}
-use Rattle.std.proofs.lemmas.List.Folds.{flat_map-map}
 use Rattle.std.proofs.lemmas.List.FromFn.{map-range_with_len_more}
-use Rattle.fab_text.specs.Written.{line_text, spaced}
-use Rattle.fabric_gen.specs.declared.words.Word.{Word}
-use Rattle.fabric_gen.specs.Words.{word_text}
+use Rattle.fab_text.specs.Written.{line_text}
 use Rattle.fabric_gen.specs.Text.{below, lines_text}
-
--- words with one space between them are the first, and the others with a space before each
-spaced-behind : (w : List ℕ) (ws : List (List ℕ)) → spaced (w ∷ ws) ≡ w ++ flat_map (λ v. 32 ∷ v) ws
-spaced-behind w [] = sym (append-nil w)
-spaced-behind w (v ∷ vs) = ap (λ t. w ++ 32 ∷ t) (spaced-behind v vs)
-
--- a first word and the others were written
-pub words_written : (old first text : List ℕ) (w : Word) (ws : List Word) → first ≡ old ++ word_text w
-    → text ≡ first ++ flat_map (λ v. 32 ∷ word_text v) ws
-    → text ≡ old ++ spaced (map word_text (w ∷ ws))
-words_written old first text w ws a b =
-    b
-    ∙ ap (λ t. t ++ flat_map (λ v. 32 ∷ word_text v) ws) a
-    ∙ append_assoc old (word_text w) (flat_map (λ v. 32 ∷ word_text v) ws)
-    ∙ ap (λ t. old ++ t) (ap (λ t. word_text w ++ t) (sym (flat_map-map (λ v. 32 ∷ v) word_text ws)) ∙ sym (spaced-behind (word_text w) (map word_text ws)))
 
 -- lines behind others
 pub lines_written : (old first text : List ℕ) (xs ys : List (List (List ℕ))) → first ≡ old ++ lines_text xs → text ≡ first ++ lines_text ys

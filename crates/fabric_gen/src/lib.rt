@@ -16,7 +16,7 @@
 //! | `clients` | the lines that open ports and send messages |
 //! | `message` | the numbers of a message |
 //! | `closing` | planned faults, the settle, and what is polled |
-//! | `words` | a line of words behind a text |
+//! | `names` | the names of hosts and switches |
 #![tactic(auto)]
 
 mod clients;
@@ -26,8 +26,8 @@ mod fabric;
 mod laws;
 mod mapping;
 mod message;
+mod names;
 mod run;
-mod words;
 
 pub use examples::text_of_two_hosts;
 pub use laws::{messages_go_on, messages_have_room};

@@ -21,9 +21,9 @@ pub fn gen_text(alloc: Global, n: u8, seed: u32) -> Result<Vec<u8>, AllocError>
     ensures short { IfOk result (λ text. length text.items ≤ 65536) }
 {
     let mut text = Vec::new(alloc);
-    append_fabric(alloc, &mut text, n)?;
-    append_mapping(alloc, &mut text, n)?;
-    append_clients(alloc, &mut text, n, seed)?;
-    append_closing(alloc, &mut text, n)?;
+    append_fabric(&mut text, n)?;
+    append_mapping(&mut text, n)?;
+    append_clients(&mut text, n, seed)?;
+    append_closing(&mut text, n)?;
     Ok(text)
 }

@@ -1,9 +1,9 @@
 -- The table of far ends: where a port stands in it, and after one more cable.
 use Rattle.std.proofs.Common.{◌≡◌, ◌≢◌, ◌<◌, ℕ, ◌+◌, ◌-◌, ◌*◌, List, [], ◌∷◌, ◌++◌, Bool, true, false, length, get_or, set, Option, Some, None, is_some, refl, ap, sym, ◌∙◌, subst, true≢false, arith, get_or-set_other, get_or-set_same}
-use Rattle.std.specs.Prelude.{ℤ, pos, negsuc, ◌+ℤ◌, ◌-ℤ◌, nat_abs}
+use Rattle.std.specs.Prelude.{ℤ, pos, negsuc, ◌+ℤ◌, ◌-ℤ◌, nat_abs, int_le, option_map}
 use Rattle.std.specs.List.{AllByRecursion}
 use Rattle.std.proofs.Math.ListN.{length-set}
-use Rattle.std.proofs.lemmas.Bool.{false≢true}
+use Rattle.std.proofs.lemmas.Bool.{and_from, false≢true}
 use Rattle.std.proofs.lemmas.Bool.Decides.{nat_tests}
 use Rattle.std.proofs.lemmas.Int.{ints}
 use Rattle.net_defs.specs.Turn.{is_turn, IsTurn}
@@ -14,7 +14,8 @@ use Rattle.map_defs.specs.declared.vertex.MapCable.{MapCable}
 use Rattle.map_defs.specs.NetMap.{MapPort, first_end, second_end, same_port, far_port, map_ends}
 use Rattle.map_defs.proofs.Ports.{same_port-true, same_port-refl}
 use Rattle.map_defs.proofs.Leading.{far-end}
-use Rattle.fabric_map.specs.Table.{place_of_port, far_pair, entry, IsTableOf}
+use Rattle.port_table.specs.declared.end.NodePort.{NodePort}
+use Rattle.fabric_map.specs.Table.{place_of_port, far_pair, far_end, pair_of_end, entry, IsTableOf}
 use Rattle.fabric_map.specs.Growing.{are_near}
 use Rattle.fabric_map.proofs.Ends.{far_port-push, map_ends-push, end-far, near-from, far-apart}
 
@@ -51,10 +52,10 @@ pub place-below : (d : MapPort) (n : ℕ) → IsTurn d.p → d.v < n → place_o
 place-below d n i l = let a = (shift d.p i).0 in omega arith
 
 -- what a table has at a port after a write at another, and at that one
-write_other : (table : List (Option (ℕ × ℤ))) (d e : MapPort) (v : Option (ℕ × ℤ)) → IsTurn d.p → IsTurn e.p → d ≢ e → get_or (set table (place_of_port d) v) (place_of_port e) None ≡ get_or table (place_of_port e) None
+write_other : (table : List (Option NodePort)) (d e : MapPort) (v : Option NodePort) → IsTurn d.p → IsTurn e.p → d ≢ e → get_or (set table (place_of_port d) v) (place_of_port e) None ≡ get_or table (place_of_port e) None
 write_other table d e v i j differ = get_or-set_other table (place_of_port d) (place_of_port e) v None (λ same. differ (place-same d e i j (sym same)))
 
-write_same : (table : List (Option (ℕ × ℤ))) (d : MapPort) (v : Option (ℕ × ℤ)) → place_of_port d < length table → get_or (set table (place_of_port d) v) (place_of_port d) None ≡ v
+write_same : (table : List (Option NodePort)) (d : MapPort) (v : Option NodePort) → place_of_port d < length table → get_or (set table (place_of_port d) v) (place_of_port d) None ≡ v
 write_same table d v lt = get_or-set_same table (place_of_port d) v None lt
 
 first_or_none : (o : Option MapPort) → o ≡ first_of_two o None
@@ -62,33 +63,33 @@ first_or_none None = refl
 first_or_none (Some x) = refl
 
 -- the table after one more cable
-pub table-joined : (cs : List MapCable) (table : List (Option (ℕ × ℤ))) (c : MapCable) → IsTableOf cs table → IsTurn c.p → IsTurn c.q → place_of_port (first_end c) < length table → place_of_port (second_end c) < length table → far_port cs (first_end c) ≡ None → far_port cs (second_end c) ≡ None → first_end c ≢ second_end c
-    → IsTableOf (cs ++ c ∷ []) (set (set table (place_of_port (first_end c)) (Some (c.w, c.q))) (place_of_port (second_end c)) (Some (c.v, c.p)))
+pub table-joined : (cs : List MapCable) (table : List (Option NodePort)) (c : MapCable) → IsTableOf cs table → IsTurn c.p → IsTurn c.q → place_of_port (first_end c) < length table → place_of_port (second_end c) < length table → far_port cs (first_end c) ≡ None → far_port cs (second_end c) ≡ None → first_end c ≢ second_end c
+    → IsTableOf (cs ++ c ∷ []) (set (set table (place_of_port (first_end c)) (Some (record { node = c.w; port = c.q }))) (place_of_port (second_end c)) (Some (record { node = c.v; port = c.p })))
 table-joined cs table c is ta tb la lb na nb differ = record {
   turns = subst (AllByRecursion (λ d. IsTurn d.p)) (sym (map_ends-push cs c)) (all-push (λ d. IsTurn d.p) (map_ends cs ++ first_end c ∷ []) (second_end c) (all-push (λ d. IsTurn d.p) (map_ends cs) (first_end c) is.turns ta) tb);
-  far_ends = λ e te. by e te (same_port (first_end c) e) (same_port (second_end c) e) refl refl ∙ ap far_pair (sym (far_port-push cs c e));
+  far_ends = λ e te. by e te (same_port (first_end c) e) (same_port (second_end c) e) refl refl ∙ ap far_end (sym (far_port-push cs c e));
 }
   where
-    by : (e : MapPort) → IsTurn e.p → (s t : Bool) → same_port (first_end c) e ≡ s → same_port (second_end c) e ≡ t → entry (set (set table (place_of_port (first_end c)) (Some (c.w, c.q))) (place_of_port (second_end c)) (Some (c.v, c.p))) e ≡ far_pair (first_of_two (far_port cs e) (far_port (c ∷ []) e))
+    by : (e : MapPort) → IsTurn e.p → (s t : Bool) → same_port (first_end c) e ≡ s → same_port (second_end c) e ≡ t → entry (set (set table (place_of_port (first_end c)) (Some (record { node = c.w; port = c.q }))) (place_of_port (second_end c)) (Some (record { node = c.v; port = c.p }))) e ≡ far_end (first_of_two (far_port cs e) (far_port (c ∷ []) e))
     by e te true t is_a is_b =
         let same : first_end c ≡ e = same_port-true (first_end c) e is_a in
         let none : far_port cs e ≡ None = subst (λ d. far_port cs d ≡ None) same na in
-        let written : get_or (set (set table (place_of_port (first_end c)) (Some (c.w, c.q))) (place_of_port (second_end c)) (Some (c.v, c.p))) (place_of_port (first_end c)) None ≡ Some (c.w, c.q) =
-        write_other (set table (place_of_port (first_end c)) (Some (c.w, c.q))) (second_end c) (first_end c) (Some (c.v, c.p)) tb ta (λ q. differ (sym q)) ∙ write_same table (first_end c) (Some (c.w, c.q)) la in
-        subst (λ d. get_or (set (set table (place_of_port (first_end c)) (Some (c.w, c.q))) (place_of_port (second_end c)) (Some (c.v, c.p))) (place_of_port d) None ≡ Some (c.w, c.q)) same written ∙ rw (none, is_a) refl
+        let written : get_or (set (set table (place_of_port (first_end c)) (Some (record { node = c.w; port = c.q }))) (place_of_port (second_end c)) (Some (record { node = c.v; port = c.p }))) (place_of_port (first_end c)) None ≡ Some (record { node = c.w; port = c.q }) =
+        write_other (set table (place_of_port (first_end c)) (Some (record { node = c.w; port = c.q }))) (second_end c) (first_end c) (Some (record { node = c.v; port = c.p })) tb ta (λ q. differ (sym q)) ∙ write_same table (first_end c) (Some (record { node = c.w; port = c.q })) la in
+        subst (λ d. get_or (set (set table (place_of_port (first_end c)) (Some (record { node = c.w; port = c.q }))) (place_of_port (second_end c)) (Some (record { node = c.v; port = c.p }))) (place_of_port d) None ≡ Some (record { node = c.w; port = c.q })) same written ∙ rw (none, is_a) refl
     by e te false true is_a is_b =
         let same : second_end c ≡ e = same_port-true (second_end c) e is_b in
         let none : far_port cs e ≡ None = subst (λ d. far_port cs d ≡ None) same nb in
-        let written : get_or (set (set table (place_of_port (first_end c)) (Some (c.w, c.q))) (place_of_port (second_end c)) (Some (c.v, c.p))) (place_of_port (second_end c)) None ≡ Some (c.v, c.p) =
-        write_same (set table (place_of_port (first_end c)) (Some (c.w, c.q))) (second_end c) (Some (c.v, c.p)) (subst (λ n. place_of_port (second_end c) < n) (sym (length-set table (place_of_port (first_end c)) (Some (c.w, c.q)))) lb) in
-        subst (λ d. get_or (set (set table (place_of_port (first_end c)) (Some (c.w, c.q))) (place_of_port (second_end c)) (Some (c.v, c.p))) (place_of_port d) None ≡ Some (c.v, c.p)) same written ∙ rw (none, is_a, is_b) refl
+        let written : get_or (set (set table (place_of_port (first_end c)) (Some (record { node = c.w; port = c.q }))) (place_of_port (second_end c)) (Some (record { node = c.v; port = c.p }))) (place_of_port (second_end c)) None ≡ Some (record { node = c.v; port = c.p }) =
+        write_same (set table (place_of_port (first_end c)) (Some (record { node = c.w; port = c.q }))) (second_end c) (Some (record { node = c.v; port = c.p })) (subst (λ n. place_of_port (second_end c) < n) (sym (length-set table (place_of_port (first_end c)) (Some (record { node = c.w; port = c.q })))) lb) in
+        subst (λ d. get_or (set (set table (place_of_port (first_end c)) (Some (record { node = c.w; port = c.q }))) (place_of_port (second_end c)) (Some (record { node = c.v; port = c.p }))) (place_of_port d) None ≡ Some (record { node = c.v; port = c.p })) same written ∙ rw (none, is_a, is_b) refl
     by e te false false is_a is_b =
         let far_a : first_end c ≢ e = λ q. true≢false (sym (same_port-refl e) ∙ ap (λ d. same_port d e) (sym q) ∙ is_a) in
         let far_b : second_end c ≢ e = λ q. true≢false (sym (same_port-refl e) ∙ ap (λ d. same_port d e) (sym q) ∙ is_b) in
-        write_other (set table (place_of_port (first_end c)) (Some (c.w, c.q))) (second_end c) e (Some (c.v, c.p)) tb te far_b
-        ∙ write_other table (first_end c) e (Some (c.w, c.q)) ta te far_a
+        write_other (set table (place_of_port (first_end c)) (Some (record { node = c.w; port = c.q }))) (second_end c) e (Some (record { node = c.v; port = c.p })) tb te far_b
+        ∙ write_other table (first_end c) e (Some (record { node = c.w; port = c.q })) ta te far_a
         ∙ is.far_ends e te
-        ∙ ap far_pair (rw (is_a, is_b) (first_or_none (far_port cs e)))
+        ∙ ap far_end (rw (is_a, is_b) (first_or_none (far_port cs e)))
 
 -- no cable ends outside the ports of the table
 pub far-outside : (cs : List MapCable) (d : MapPort) → AllByRecursion (λ e. IsTurn e.p) (map_ends cs) → is_turn d.p ≡ false → far_port cs d ≡ None
@@ -126,5 +127,32 @@ some-pair None = refl
 some-pair (Some e) = refl
 
 -- a longer table says the same
-pub table-same : (cs : List MapCable) (table long : List (Option (ℕ × ℤ))) → IsTableOf cs table → ((k : ℕ) → get_or long k None ≡ get_or table k None) → IsTableOf cs long
+pub table-same : (cs : List MapCable) (table long : List (Option NodePort)) → IsTableOf cs table → ((k : ℕ) → get_or long k None ≡ get_or table k None) → IsTableOf cs long
 table-same cs table long is kept = record { turns = is.turns; far_ends = λ d t. kept (place_of_port d) ∙ is.far_ends d t }
+
+-- a far end of the table as a pair
+pub pair-of-end : (o : Option MapPort) → option_map pair_of_end (far_end o) ≡ far_pair o
+pair-of-end None = refl
+pair-of-end (Some e) = refl
+
+-- the port at a place of a vertex, and its place
+place-turn : (k : ℕ) → k < 31 → IsTurn (pos k -ℤ pos 15)
+place-turn k l = and_from (int_le (negsuc 14) (pos k -ℤ pos 15)) (int_le (pos k -ℤ pos 15) (pos 15)) (grind (arith, ints)) (grind (arith, ints))
+
+place-number : (k : ℕ) → nat_abs ((pos k -ℤ pos 15) +ℤ pos 15) ≡ k
+place-number k = let e : (pos k -ℤ pos 15) +ℤ pos 15 ≡ pos k = omega (arith, ints) in ap nat_abs e
+
+-- where no port of a vertex has a far end in the table, all are near
+pub near-bare : (cs : List MapCable) (table : List (Option NodePort)) (d : MapPort) → IsTableOf cs table → ((k : ℕ) → k < 31 → get_or table (31 * d.v + k) None ≡ None) → are_near cs d ≡ true
+near-bare cs table d is bare = near-by_places cs d is.turns each
+  where
+    no-end : (o : Option MapPort) → far_end o ≡ None → is_some o ≡ false
+    no-end None e = refl
+    no-end (Some x) e = absurd (true≢false (ap is_some e))
+
+    each : (k : ℕ) → k < 31 → is_some (far_port cs (port_of_place d.v k)) ≡ true → is_turn ((pos k -ℤ pos 15) -ℤ d.p) ≡ true
+    each k l some =
+        let turn : IsTurn (pos k -ℤ pos 15) = place-turn k l in
+        let place : place_of_port (port_of_place d.v k) ≡ 31 * d.v + k = ap (λ n. 31 * d.v + n) (place-number k) in
+        let none : far_end (far_port cs (port_of_place d.v k)) ≡ None = sym (is.far_ends (port_of_place d.v k) turn) ∙ ap (λ n. get_or table n None) place ∙ bare k l in
+        absurd (false≢true (sym (no-end (far_port cs (port_of_place d.v k)) none) ∙ some))

@@ -7,13 +7,14 @@
 //! ```
 
 ghost use Rattle.std.specs.Prelude.{◌≡◌, ◌≢◌, ℕ, ◌<◌, ◌≤◌, ◌*◌, pos, ◌-ℤ◌, ◌++◌, ◌∷◌, [], length, slice_index_or};
-ghost use Rattle.std.specs.Prelude.{Option, None, OnOk, OnErr};
+ghost use Rattle.std.specs.Prelude.{Option, None, OnOk, OnErr, option_map};
 ghost use Rattle.net_defs.specs.Turn.{is_turn, IsTurn};
 ghost use Rattle.map_defs.specs.NetMap.{MapPort, first_end, second_end, far_port};
 ghost use Rattle.fabric_map.specs.Growing.{are_near};
-ghost use Rattle.fabric_map.specs.Table.{far_pair, place_of_port};
+ghost use Rattle.fabric_map.specs.Table.{end_of, far_pair, pair_of_end, place_of_port};
 
 use map_defs::MapCable;
+use port_table::{NodePort, PortTable};
 use std::alloc::{AllocError, Global};
 use std::marker::Model;
 
@@ -27,7 +28,7 @@ const MAX_PORT: i8 = 15;
 #[derive(Drop)]
 pub(crate) struct Cabling {
     cables: Vec<MapCable>,
-    far: Vec<Option<(u32, i8)>>,
+    far: PortTable,
 }
 
 impl Model for Cabling {
@@ -48,7 +49,7 @@ impl Cabling {
     {
         Cabling {
             cables: Vec::new(alloc),
-            far: Vec::new(alloc),
+            far: PortTable::new(alloc),
         }
     }
 
@@ -63,7 +64,7 @@ impl Cabling {
         ensures { result ≡ far_pair (far_port self.now record { v = v; p = p }) }
     {
         if is_port(p) {
-            entry_at(&self.far, place_of(v, p))
+            as_pair(self.far.at(place_of(v, p)))
         } else {
             None
         }
@@ -71,6 +72,18 @@ impl Cabling {
 
     /// Whether each cabled port of the vertex is at most 15 from this port.
     pub(crate) fn are_near(&self, v: u32, p: i8) -> bool
+        requires { IsTurn p }
+        ensures { result ≡ are_near self.now record { v = v; p = p } }
+    {
+        if self.far.is_bare(v as usize) {
+            true
+        } else {
+            self.are_all_near(v, p)
+        }
+    }
+
+    // The same, port by port.
+    fn are_all_near(&self, v: u32, p: i8) -> bool
         requires { IsTurn p }
         ensures { result ≡ are_near self.now record { v = v; p = p } }
     {
@@ -97,31 +110,29 @@ impl Cabling {
         ensures ok { OnOk result (self.new ≡ self.old ++ c ∷ []) }
         ensures err { OnErr result (self.new ≡ self.old) }
     {
-        lengthen(&mut self.far, PORT_PLACES * vertices)?;
+        self.far.lengthen(vertices)?;
         self.cables.push(c)?;
-        self.far[place_of(c.v, c.p)] = Some((c.w, c.q));
-        self.far[place_of(c.w, c.q)] = Some((c.v, c.p));
+        self.far.set(place_of(c.v, c.p), Some(port(c.w, c.q)));
+        self.far.set(place_of(c.w, c.q), Some(port(c.v, c.p)));
         Ok(())
     }
 }
 
-// Makes a table at least so long, with nothing at its new places.
-fn lengthen(far: &mut Vec<Option<(u32, i8)>>, places: usize) -> Result<(), AllocError>
-    ensures long { OnOk result (places ≤ length far.new.items) }
-    ensures kept { (k : ℕ) → slice_index_or far.new.items k None ≡ slice_index_or far.old.items k None }
+// A port of a vertex, as the table keeps it.
+fn port(v: u32, p: i8) -> NodePort
+    ensures { result ≡ end_of (record { v = v; p = p }) }
 {
-    if far.len() < places {
-        far.resize(places, None)
-    } else {
-        Ok(())
-    }
+    NodePort { node: v, port: p }
 }
 
-// What the table has at a place.
-fn entry_at(far: &[Option<(u32, i8)>], place: usize) -> Option<(u32, i8)>
-    ensures { result ≡ slice_index_or far.now place None }
+// A far end as a pair of its vertex and its port.
+fn as_pair(end: Option<NodePort>) -> Option<(u32, i8)>
+    ensures { result ≡ option_map pair_of_end end }
 {
-    if place < far.len() { far[place] } else { None }
+    match end {
+        Some(end) => Some((end.node, end.port)),
+        None => None,
+    }
 }
 
 // Whether a port is from -15 to 15.

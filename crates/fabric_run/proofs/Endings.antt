@@ -1,27 +1,23 @@
 -- How a run ends, from how its parts end.
-use Rattle.std.proofs.Common.{◌≡◌, ◌⊎◌, inl, inr, ℕ, List, [], Option, Some, None, Ok, Err, refl, subst, ap, sym, ◌∙◌}
+use Rattle.std.proofs.Common.{◌≡◌, ◌⊎◌, inl, inr, ℕ, List, Option, Some, None, Ok, Err, refl, subst, ap, sym, ◌∙◌}
 use Rattle.std.specs.Io.KnownBytes.{Appends, Keeps}
-use Rattle.std.proofs.KnownBytes.{Appends-nil}
-use Rattle.fab_outer.specs.Whole.{TakesPrefix}
 use Rattle.fab_text.specs.Fault.{FirstFault}
 use Rattle.run_defs.specs.Session.{SessionState}
 use Rattle.fabric_run.specs.declared.status.Status.{Status}
 use Rattle.fabric_run.specs.declared.status.Status.TheVariants.{Done, Usage, Refused, ReadFault, WriteFault, NoMemory, TooLong}
-use Rattle.fabric_run.specs.Reading.{AcceptedText, reading}
-use Rattle.fabric_run.specs.Ends.{Came, IsWriteCut, IsMemoryCut, refusal_text, Moment, RefusalEnds, ReportEnds, TextEnds, InputEnds}
+use Rattle.input_texts.specs.Reading.{AcceptedText, reading, refusal_text}
+use Rattle.fabric_run.proofs.Promises.{text-has_run}
+use Rattle.fabric_run.proofs.Writing.{cut-part, interrupted-part}
+use Rattle.fabric_run.specs.Ends.{Came, IsWriteCut, IsMemoryCut, Moment, RefusalEnds, ReportEnds, TextEnds, InputEnds}
 
 -- bytes stay as they are
 pub keeps-same : (taken : Option (List ℕ)) → Keeps taken taken
 keeps-same None = tt
 keeps-same (Some bytes) = refl
 
--- nothing is the front of every text
-pub takes-nothing : (taken : Option (List ℕ)) (text : List ℕ) → TakesPrefix taken taken text
-takes-nothing taken text = ([], text, refl, Appends-nil taken)
-
 -- where memory was wanting before a refusal was written, and before the first command
 pub refusal-nothing : (f : FirstFault) (taken : Option (List ℕ)) (faults risen : ℕ) (s : Status) (held : Option SessionState) → s ≡ NoMemory → held ≡ None → RefusalEnds f taken taken faults risen s held
-refusal-nothing f taken faults risen s held e h = subst (λ t. RefusalEnds f taken taken faults risen t held) (sym e) (takes-nothing taken (refusal_text f), h)
+refusal-nothing f taken faults risen s held e h = subst (λ t. RefusalEnds f taken taken faults risen t held) (sym e) (keeps-same taken, h)
 
 -- the commands ended so, by the answer's two parts
 pub report-so : (a : AcceptedText) (taken now : Option (List ℕ)) (faults risen : ℕ) (s t : Status) (held back : Option SessionState) → t ≡ s → back ≡ held
@@ -46,8 +42,10 @@ refusal-text-ends text f taken now faults risen TooLong held e h = absurd h
 pub report-text-ends : (text : List ℕ) (a : AcceptedText) (taken now : Option (List ℕ)) (faults risen : ℕ) (s : Status) (held : Option SessionState) → reading text ≡ Ok a
     → ReportEnds a taken now faults risen s held → TextEnds text taken now faults risen s held
 report-text-ends text a taken now faults risen Done held e h = (a, e, h)
-report-text-ends text a taken now faults risen WriteFault held e h = (h.0, subst (λ r. IsWriteCut r taken now held) (sym e) h.1)
-report-text-ends text a taken now faults risen NoMemory held e h = inr (subst (λ r. IsMemoryCut r taken now held) (sym e) h)
+report-text-ends text a taken now faults risen WriteFault held e h =
+    (h.0, subst (λ r. IsWriteCut r taken now held) (sym e) (h.1, cut-part a (text-has_run text a e) taken now held h.1))
+report-text-ends text a taken now faults risen NoMemory held e h =
+    inr (subst (λ r. IsMemoryCut r taken now held) (sym e) (h, interrupted-part a (text-has_run text a e) taken now h))
 report-text-ends text a taken now faults risen (Refused line kind) held e h = absurd h
 report-text-ends text a taken now faults risen Usage held e h = absurd h
 report-text-ends text a taken now faults risen ReadFault held e h = absurd h

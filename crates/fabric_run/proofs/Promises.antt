@@ -34,8 +34,10 @@ use Rattle.mapping_laws.proofs.Printed.{circuit_maps_are_true, deep_circuit_maps
 use Rattle.print_laws.proofs.Pieces.{complete_maps_read_back, circuit_maps_read_back}
 use Rattle.promise_laws.proofs.Said.{said-command, said-act}
 use Rattle.promise_laws.proofs.Sound.{always_promised}
+use Rattle.promise_laws.specs.Existence.{HasRun}
 use Rattle.promise_laws.proofs.Acting.{commands_have_sound_acts, runs_end_sound}
-use Rattle.fabric_run.specs.Reading.{AcceptedText, reading_from, reading}
+use Rattle.promise_laws.proofs.Running.{each_command_is_done, run_exists}
+use Rattle.input_texts.specs.Reading.{AcceptedText, reading_from, reading}
 use Rattle.fabric_run.specs.Promise.{IsPromised, DeepMapsAreComplete, InstalledLinesAreTrue}
 
 -- An accepted text has a fabric, with names of the text's form, and its commands are over that fabric.
@@ -101,6 +103,12 @@ does-print {s = s} {next = next} {out = out} host depth tries same idle says (ma
 does-print {s = s} host depth tries same idle says (circuits told left) = cc
 does-print {s = s} host depth tries same idle says (routes l found complete are printed left) = cc
 
+-- every accepted text has its report
+pub text-has_run : (text : List ℕ) (a : AcceptedText) → reading text ≡ Ok a → HasRun a.network a.commands
+text-has_run text a e =
+    let o : IsOver a = is-over text a e in
+    run_exists a.network a.commands o.fabric (all-weaker (IsSaid a.network) (IsActOf a.network) a.commands (said-act a.network) o.said)
+
 -- every accepted text keeps its promise
 pub text_promised : (text : List ℕ) (a : AcceptedText) → reading text ≡ Ok a → IsPromised a
 text_promised text a e =
@@ -111,10 +119,12 @@ text_promised text a e =
     let commands : (k : ℕ) → AllByRecursion (IsCommandOf n) (take k cs) = λ k. all-take (IsCommandOf n) k cs (all-weaker (IsSaid n) (IsCommandOf n) cs (said-command n) o.said) in
     let acts : (k : ℕ) → AllByRecursion (IsActOf n) (take k cs) = λ k. all-take (IsActOf n) k cs (all-weaker (IsSaid n) (IsActOf n) cs (said-act n) o.said) in
     let deep : DeepMapsAreComplete a =
-    λ k out s host depth tries after j m words r there low made quiet some few enough. (promised k).deep out s host depth tries after j m words o.fabric (commands k) r (there, low) made quiet some few enough in
+    λ k out s host depth tries after j m words r there low made quiet some few enough. (promised k).deep out s host depth tries after j m words o.fabric (commands k) r (there, (let l = low in omega arith)) made quiet some few enough in
     let installed : InstalledLinesAreTrue a =
     λ k out rest s next tries acked total r at does. line-true n (take k cs) out rest s next tries acked total o.fabric (acts k) r does in
     record {
+      report = text-has_run text a e;
+      done = λ k out s c r at. each_command_is_done n (take k cs) out s c o.fabric (acts k) (said-act n c (all-nth (IsSaid n) cs k c o.said at)) r;
       complete = λ k out last mapper m r p. record {
         part = (promised k).complete o.fabric (commands k) out last mapper m r p;
         read_back = (complete_maps_read_back n (take k cs) out last mapper m o.fabric o.named (commands k) r p).read;
@@ -123,7 +133,7 @@ text_promised text a e =
       printed = λ k out printed s next host depth tries r at does quiet enough.
           let is : IsSaid n (Map host depth tries) = all-nth (IsSaid n) cs k (Map host depth tries) o.said at in
           let of_n : IsCommandOf n (Map host depth tries) = said-command n (Map host depth tries) is in
-          does-print host depth tries refl quiet.idle (λ j m words made. deep k out s host depth tries next.world j m words r of_n.0 of_n.1 made quiet is.2.0 is.2.1 enough) does;
+          does-print host depth tries refl quiet.idle (λ j m words made. deep k out s host depth tries next.world j m words r of_n.0 is.1.1 made quiet is.2.0 is.2.1 enough) does;
       circuits = λ k out last host depth asks m r p. record {
         told = circuit_maps_are_true n (take k cs) out last host depth asks m o.fabric (commands k) r p;
         core = λ es paths enough. deep_circuit_maps_are_cores n (take k cs) out last host depth asks m es o.fabric (commands k) r p paths enough;

@@ -5,18 +5,19 @@ use Rattle.std.specs.Io.KnownBytes.{Appends}
 use Rattle.std.proofs.KnownBytes.{Appends-nil, Appends-trans}
 use Rattle.net_defs.specs.Network.{Network}
 use Rattle.fab_outer.specs.Fault.{Rose}
-use Rattle.fab_outer.specs.Whole.{TakesPrefix}
+use Rattle.fab_outer.specs.Whole.{TakesProperPrefix}
 use Rattle.world_defs.specs.World.{fabric_of}
 use Rattle.run_defs.specs.declared.command.Command.{Command}
 use Rattle.run_defs.specs.Output.{Piece}
 use Rattle.run_defs.specs.Session.{SessionState, new_session}
-use Rattle.run_defs.specs.Run.{Runs}
+use Rattle.run_defs.specs.Run.{IsRun, Runs}
 use Rattle.run_defs.specs.Run.Runs.{ended}
 use Rattle.run_defs.specs.LineText.{output_text}
 use Rattle.fab_report.specs.Printed.{PrintedState}
 use Rattle.run_laws.proofs.RunsOnce.{runs-more, first_runs_are_part, text_of_both}
+use Rattle.promise_laws.specs.Existence.{HasRun}
 use Rattle.run_session.specs.Obeyed.{IsObeyed}
-use Rattle.fabric_run.specs.Reading.{AcceptedText}
+use Rattle.input_texts.specs.Reading.{AcceptedText}
 use Rattle.fabric_run.specs.Ends.{HaveRun, IsPartOfReport, IsReported, IsCutOff, IsInterrupted}
 
 -- a count that rose since a later moment rose
@@ -57,17 +58,6 @@ none-ran n cs taken s e = record {
 output-on : (n m : Network) (before own : List Piece) → m ≡ n → output_text n (before ++ own) ≡ output_text n before ++ output_text m own
 output-on n m before own e = text_of_both n before own ∙ ap (λ k. output_text n before ++ output_text k own) (sym e)
 
--- the front of what first commands printed is the front of what all commands print
-part-of-all : (n : Network) (cs : List Command) (k : ℕ) (taken now : Option (List ℕ)) (s : SessionState) (out : List Piece) (part rest : List ℕ) → Runs (new_session n) (take k cs) out s
-    → output_text n out ≡ part ++ rest → Appends taken now part → IsPartOfReport (record { network = n; commands = cs }) taken now
-part-of-all n cs k taken now s out part rest r e took all end whole =
-    let more = first_runs_are_part k (new_session n) s end cs out all r whole in (
-      part,
-      rest ++ output_text n more.0,
-      ap (output_text n) more.1 ∙ text_of_both n out more.0 ∙ ap (λ l. l ++ output_text n more.0) e ∙ append_assoc part rest (output_text n more.0),
-      took,
-    )
-
 -- one command more ran, and its text was taken
 pub more-ran : (n : Network) (cs : List Command) (i : ℕ) (taken between now : Option (List ℕ)) (s next : SessionState) (c : Command) (p : PrintedState) → i < length cs → c ≡ get_or cs i c
     → HaveRun n (take i cs) taken between s → fabric_of s.world ≡ n → IsObeyed s c next p → Appends between now p.text → HaveRun n (take (suc i) cs) taken now next
@@ -80,15 +70,13 @@ more-ran n cs i taken between now s next c p low at ran net does took = record {
 
 -- one command more ran, and the front of its text was taken
 pub cut-ran : (n : Network) (cs : List Command) (i : ℕ) (taken between now : Option (List ℕ)) (s next : SessionState) (c : Command) (p : PrintedState) → i < length cs → c ≡ get_or cs i c
-    → HaveRun n (take i cs) taken between s → fabric_of s.world ≡ n → IsObeyed s c next p → TakesPrefix between now p.text
+    → HaveRun n (take i cs) taken between s → fabric_of s.world ≡ n → IsObeyed s c next p → TakesProperPrefix between now p.text
     → IsCutOff (record { network = n; commands = cs }) taken now (Some next)
 cut-ran n cs i taken between now s next c p low at ran net does took =
     let run : Runs (new_session n) (take (suc i) cs) (ran.output ++ does.output) next =
     subst (λ l. Runs (new_session n) l (ran.output ++ does.output) next) (sym (take-one cs i c low at)) (runs-more c does.output ran.run does.does) in
     let own : output_text n does.output ≡ took.0 ++ took.1 = ap (λ k. output_text k does.output) (sym net) ∙ sym (ap (λ (q : PrintedState). q.text) does.printed) ∙ took.2 in
-    let front : Appends taken now (output_text n ran.output ++ took.0) = Appends-trans taken between now (output_text n ran.output) took.0 ran.took took.3 in
-    let whole : output_text n (ran.output ++ does.output) ≡ (output_text n ran.output ++ took.0) ++ took.1 =
-    text_of_both n ran.output does.output ∙ ap (λ l. output_text n ran.output ++ l) own ∙ sym (append_assoc (output_text n ran.output) took.0 took.1) in
+    let front : Appends taken now (output_text n ran.output ++ took.0) = Appends-trans taken between now (output_text n ran.output) took.0 ran.took took.4 in
     record {
       count = i;
       between = s;
@@ -97,8 +85,7 @@ cut-ran n cs i taken between now s next c p low at ran net does took =
       own = does.output;
       run_before = ran.run;
       run = run;
-      took = (took.0, took.1, own, front);
-      part = part-of-all n cs (suc i) taken now next (ran.output ++ does.output) (output_text n ran.output ++ took.0) took.1 run whole front;
+      took = (took.0, took.1, own, took.3, front);
       hands_back = refl;
     }
 
@@ -108,8 +95,37 @@ interrupted n cs i taken now s ran = record {
   count = i;
   last = s;
   ran = ran;
-  part = part-of-all n cs i taken now s ran.output (output_text n ran.output) [] ran.run (sym (append-nil (output_text n ran.output))) ran.took;
 }
+
+-- what first commands printed begins as what all commands print does
+part-of-all : (a : AcceptedText) (r : HasRun a.network a.commands) (k : ℕ) (taken now : Option (List ℕ)) (s : SessionState) (out : List Piece) (part rest : List ℕ) → IsRun a.network (take k a.commands) out s
+    → output_text a.network out ≡ part ++ rest → Appends taken now part → IsPartOfReport a taken now
+part-of-all a r k taken now s out part rest run e took =
+    let n : Network = a.network in
+    let more = first_runs_are_part k (new_session n) s r.last a.commands out r.out run r.run in (
+      r,
+      (
+        part,
+        rest ++ output_text n more.0,
+        ap (output_text n) more.1 ∙ text_of_both n out more.0 ∙ ap (λ l. l ++ output_text n more.0) e ∙ append_assoc part rest (output_text n more.0),
+        took,
+      ),
+    )
+
+-- a prefix of the report was taken before a failed write
+pub cut-part : (a : AcceptedText) (r : HasRun a.network a.commands) (taken now : Option (List ℕ)) (held : Option SessionState) → IsCutOff a taken now held → IsPartOfReport a taken now
+cut-part a r taken now held k =
+    let n : Network = a.network in
+    let first : List ℕ = output_text n k.before in
+    let whole : output_text n (k.before ++ k.own) ≡ (first ++ k.took.0) ++ k.took.1 =
+    text_of_both n k.before k.own ∙ ap (λ l. first ++ l) k.took.2 ∙ sym (append_assoc first k.took.0 k.took.1) in
+    part-of-all a r (suc k.count) taken now k.last (k.before ++ k.own) (first ++ k.took.0) k.took.1 k.run whole k.took.4
+
+-- and before memory was wanting
+pub interrupted-part : (a : AcceptedText) (r : HasRun a.network a.commands) (taken now : Option (List ℕ)) → IsInterrupted a taken now → IsPartOfReport a taken now
+interrupted-part a r taken now k =
+    let printed : List ℕ = output_text a.network k.ran.output in
+    part-of-all a r k.count taken now k.last k.ran.output printed [] k.ran.run (sym (append-nil printed)) k.ran.took
 
 -- before the first command
 pub unstarted : (a : AcceptedText) (taken : Option (List ℕ)) → IsInterrupted a taken taken

@@ -1,42 +1,25 @@
 -- How a run may end: its answer, what was read, what was written, and the session that it hands back.
-use Rattle.std.specs.Prelude.{◌≡◌, ◌⊎◌, ℕ, suc, ◌≤◌, Bool, true, false, List, [], ◌∷◌, ◌++◌, length, take, nat_lt}
-use Rattle.std.specs.Prelude.{if◌then◌else◌, Option, Some, None, Result, Ok, Err, codes, decimal}
+use Rattle.std.specs.Prelude.{◌≡◌, ◌⊎◌, ℕ, suc, ◌<◌, ◌≤◌, Bool, true, false, List, ◌++◌, length, take, nat_lt}
+use Rattle.std.specs.Prelude.{if◌then◌else◌, Option, Some, None, Result, Ok, Err}
 use Rattle.std.specs.Io.KnownBytes.{Appends, Keeps}
 use Rattle.net_defs.specs.Network.{Network}
 use Rattle.fab_outer.specs.Fault.{Rose}
-use Rattle.fab_outer.specs.Whole.{IsWhole, IsLonger, TakesPrefix}
-use Rattle.fab_text.specs.declared.fault.FaultKind.{FaultKind}
-use Rattle.fab_text.specs.Fault.{FirstFault, kind_word}
-use Rattle.fab_text.specs.Written.{line_text}
+use Rattle.fab_outer.specs.Whole.{IsWhole, IsLonger, TakesPrefix, TakesProperPrefix}
+use Rattle.fab_text.specs.Fault.{FirstFault}
 use Rattle.run_defs.specs.declared.command.Command.{Command}
 use Rattle.run_defs.specs.Output.{Piece}
 use Rattle.run_defs.specs.Session.{SessionState}
 use Rattle.run_defs.specs.Run.{IsRun}
 use Rattle.run_defs.specs.LineText.{output_text}
+use Rattle.promise_laws.specs.Existence.{HasRun}
 use Rattle.fabric_run.specs.declared.status.Status.{Status}
 use Rattle.fabric_run.specs.declared.status.Status.TheVariants.{Done, Usage, Refused, ReadFault, WriteFault, NoMemory}
 use Rattle.fabric_run.specs.declared.status.Status.TheVariants.{TooLong}
-use Rattle.fabric_run.specs.Reading.{AcceptedText, reading}
-
--- the most bytes of an input
-abbrev pub input_limit : ℕ
-input_limit = 1048576
+use Rattle.input_texts.specs.Reading.{AcceptedText, reading, input_limit, IsAccepted, IsRefused, refusal_text}
 
 -- A text came whole: nothing of it is left, and it is within the limit.
 abbrev pub Came : Option (List ℕ) → Option (List ℕ) → List ℕ → Type 0
 Came before now text = IsWhole before now text × (length text ≤ input_limit)
-
--- a text is accepted: it says this
-abbrev pub IsAccepted : List ℕ → AcceptedText → Type 0
-IsAccepted text a = reading text ≡ Ok a
-
--- a text is refused: this is the kind of its first fault, in this line
-abbrev pub IsRefused : List ℕ → ℕ → FaultKind → Type 0
-IsRefused text line kind = reading text ≡ Err (record { line = line; kind = kind })
-
--- the one line of a text that isn't accepted: the line of its first fault, and the fault's kind
-abbrev pub refusal_text : FirstFault → List ℕ
-refusal_text f = line_text (codes "refused" ∷ decimal f.line ∷ kind_word f.kind ∷ [])
 
 -- the answer to what was read where nothing fails
 abbrev pub answer_to : Result AcceptedText FirstFault → Status
@@ -61,18 +44,17 @@ pub record IsReported (a : AcceptedText) (taken now : Option (List ℕ)) (held :
   pub ran : HaveRun a.network a.commands taken now last
   pub hands_back : held ≡ Some last
 
--- What the sink took is the front of the report of the whole text: of what every run of all its commands prints.
+-- What the sink took is a prefix of the report: of what the run of all commands of the text prints, which is one.
 abbrev pub IsPartOfReport : AcceptedText → Option (List ℕ) → Option (List ℕ) → Type 0
-IsPartOfReport a taken now = (all : List Piece) (end : SessionState) → IsRun a.network a.commands all end
-    → TakesPrefix taken now (output_text a.network all)
+IsPartOfReport a taken now = (r : HasRun a.network a.commands) × TakesPrefix taken now (output_text a.network r.out)
 
--- The sink took the whole of a first text, and then the front of a second.
+-- The sink took the whole of a first text, and then the front of a second, but not all of that.
 abbrev pub TakesPast : Option (List ℕ) → Option (List ℕ) → List ℕ → List ℕ → Type 0
-TakesPast taken now first second = (part : List ℕ) × (rest : List ℕ) × (second ≡ part ++ rest)
+TakesPast taken now first second = (part : List ℕ) × (rest : List ℕ) × (second ≡ part ++ rest) × (0 < length rest)
     × Appends taken now (first ++ part)
 
--- A write failed behind a command: all that those before it printed was taken, and the front of its own text; its
--- session is handed back.
+-- A write failed behind a command: all that those before it printed was taken, and the front of its own text, but not
+-- all of that; its session is handed back.
 pub record IsCutOff (a : AcceptedText) (taken now : Option (List ℕ)) (held : Option SessionState) : Type 0 where
   pub count : ℕ
   pub between : SessionState
@@ -82,7 +64,6 @@ pub record IsCutOff (a : AcceptedText) (taken now : Option (List ℕ)) (held : O
   pub run_before : IsRun a.network (take count a.commands) before between
   pub run : IsRun a.network (take (suc count) a.commands) (before ++ own) last
   pub took : TakesPast taken now (output_text a.network before) (output_text a.network own)
-  pub part : IsPartOfReport a taken now
   pub hands_back : held ≡ Some last
 
 -- Memory was wanting for a command: the sink took exactly what those before it printed.
@@ -90,7 +71,6 @@ pub record IsInterrupted (a : AcceptedText) (taken now : Option (List ℕ)) : Ty
   pub count : ℕ
   pub last : SessionState
   pub ran : HaveRun a.network (take count a.commands) taken now last
-  pub part : IsPartOfReport a taken now
 
 -- How the commands of an accepted text may end.
 abbrev pub ReportEnds : AcceptedText → Option (List ℕ) → Option (List ℕ) → ℕ → ℕ → Status → Option SessionState → Type 0
@@ -104,21 +84,23 @@ abbrev pub RefusalEnds : FirstFault → Option (List ℕ) → Option (List ℕ) 
 RefusalEnds f taken now faults risen (Refused line kind) held =
     (line ≡ f.line) × (kind ≡ f.kind) × Appends taken now (refusal_text f) × (held ≡ None)
 RefusalEnds f taken now faults risen WriteFault held =
-    Rose faults risen × TakesPrefix taken now (refusal_text f) × (held ≡ None)
-RefusalEnds f taken now faults risen NoMemory held = TakesPrefix taken now (refusal_text f) × (held ≡ None)
+    Rose faults risen × TakesProperPrefix taken now (refusal_text f) × (held ≡ None)
+RefusalEnds f taken now faults risen NoMemory held = Keeps taken now × (held ≡ None)
 RefusalEnds f taken now faults risen _ held = ⊥
 
--- A write failed: behind a command of an accepted text, or in the one line of a refused text, which has no session.
+-- A write failed: behind a command of an accepted text, of whose report a prefix was taken, or in the one line of a
+-- refused text, which has no session. Not all of what was due was taken.
 abbrev pub IsWriteCut : Result AcceptedText FirstFault → Option (List ℕ) → Option (List ℕ) → Option SessionState
     → Type 0
-IsWriteCut (Ok a) taken now held = IsCutOff a taken now held
-IsWriteCut (Err f) taken now held = TakesPrefix taken now (refusal_text f) × (held ≡ None)
+IsWriteCut (Ok a) taken now held = IsCutOff a taken now held × IsPartOfReport a taken now
+IsWriteCut (Err f) taken now held = TakesProperPrefix taken now (refusal_text f) × (held ≡ None)
 
--- Memory was wanting: for a command of an accepted text, or for the one line of a refused text, which has no session.
+-- Memory was wanting: for a command of an accepted text, of whose report a prefix was taken, or for the one line of a
+-- refused text, of which nothing was taken, and which has no session.
 abbrev pub IsMemoryCut : Result AcceptedText FirstFault → Option (List ℕ) → Option (List ℕ) → Option SessionState
     → Type 0
-IsMemoryCut (Ok a) taken now held = IsInterrupted a taken now
-IsMemoryCut (Err f) taken now held = TakesPrefix taken now (refusal_text f) × (held ≡ None)
+IsMemoryCut (Ok a) taken now held = IsInterrupted a taken now × IsPartOfReport a taken now
+IsMemoryCut (Err f) taken now held = Keeps taken now × (held ≡ None)
 
 -- How the work on a text that came may end.
 abbrev pub TextEnds : List ℕ → Option (List ℕ) → Option (List ℕ) → ℕ → ℕ → Status → Option SessionState → Type 0

@@ -3,7 +3,7 @@ use Rattle.std.specs.Prelude.{◌≡◌, ℕ, List, ◌++◌, Option, Some}
 use Rattle.std.specs.Io.KnownBytes.{Appends, Keeps}
 use Rattle.net_defs.specs.Network.{Network}
 use Rattle.fab_outer.specs.Fault.{Rose}
-use Rattle.fab_outer.specs.Whole.{TakesPrefix}
+use Rattle.fab_outer.specs.Whole.{TakesProperPrefix}
 use Rattle.run_defs.specs.declared.command.Command.{Command}
 use Rattle.run_defs.specs.declared.figure.Figure.{Figure}
 use Rattle.run_defs.specs.Output.{Piece, lines}
@@ -14,8 +14,7 @@ use Rattle.run_defs.specs.Summary.{figures_in, summary}
 use Rattle.fabric_gen.specs.Text.{gen_text}
 use Rattle.fabric_run.specs.declared.status.Status.{Status}
 use Rattle.fabric_run.specs.declared.status.Status.TheVariants.{Done, WriteFault, NoMemory}
-use Rattle.fabric_run.specs.Reading.{AcceptedText}
-use Rattle.fabric_run.specs.Ends.{IsAccepted}
+use Rattle.input_texts.specs.Reading.{AcceptedText, IsAccepted}
 
 -- A command was done, and its figures were put behind others.
 pub record IsCounted (s : SessionState) (c : Command) (next : SessionState) (before now : List Figure) : Type 0 where
@@ -31,12 +30,16 @@ pub record HaveCounted (n : Network) (commands : List Command) (figures : List F
   pub run : IsRun n commands output last
   pub counted : figures ≡ figures_in output
 
+-- This is the summary of figures, for so many hosts and a seed, with the names of a fabric.
+abbrev pub IsSummaryOf : ℕ → ℕ → Network → List Figure → List ℕ → Type 0
+IsSummaryOf hosts seed n figures due = due ≡ output_text n (lines (summary hosts seed n figures))
+
 -- The run of what a text says: all its commands ran and led to this session, and this is the summary of what they
 -- printed, for so many hosts and a seed.
 pub record IsRunOf (a : AcceptedText) (hosts seed : ℕ) (due : List ℕ) (last : SessionState) : Type 0 where
   pub output : List Piece
   pub run : IsRun a.network a.commands output last
-  pub told : due ≡ output_text a.network (lines (summary hosts seed a.network (figures_in output)))
+  pub told : IsSummaryOf hosts seed a.network (figures_in output) due
 
 -- The run of the text of so many hosts and a seed: the text is accepted, and this is the summary of its run.
 pub record IsGenerated (hosts seed : ℕ) (due : List ℕ) (last : SessionState) : Type 0 where
@@ -49,7 +52,7 @@ abbrev pub SummaryEnds : List ℕ → SessionState → Option (List ℕ) → Opt
     → Option SessionState → Type 0
 SummaryEnds due last taken now faults risen Done held = Appends taken now due × (held ≡ Some last)
 SummaryEnds due last taken now faults risen WriteFault held =
-    Rose faults risen × TakesPrefix taken now due × (held ≡ Some last)
+    Rose faults risen × TakesProperPrefix taken now due × (held ≡ Some last)
 SummaryEnds due last taken now faults risen _ held = ⊥
 
 -- A generated run that was written, or whose summary was cut off.
@@ -60,8 +63,8 @@ pub record IsSummed (hosts seed : ℕ) (taken now : Option (List ℕ)) (faults r
   pub generated : IsGenerated hosts seed due last
   pub written : SummaryEnds due last taken now faults risen status held
 
--- How a run of the form `gen` may end: the whole summary was taken, or its front before a failed write; where memory
--- was wanting, nothing.
+-- How a run of the form `gen` may end: the whole summary was taken, or its front before a failed write, and not all of
+-- it; where memory was wanting, nothing.
 abbrev pub GenEnds : ℕ → ℕ → Option (List ℕ) → Option (List ℕ) → ℕ → ℕ → Status → Option SessionState → Type 0
 GenEnds hosts seed taken now faults risen Done held = IsSummed hosts seed taken now faults risen Done held
 GenEnds hosts seed taken now faults risen WriteFault held = IsSummed hosts seed taken now faults risen WriteFault held

@@ -29,12 +29,19 @@ use Rattle.mapping_laws.specs.Circuits.{HasPrintedCircuit}
 use Rattle.install_laws.specs.Runs.{IsInstalledLine}
 use Rattle.settle_line_laws.specs.Lines.{IsSettledLine}
 use Rattle.promise_laws.specs.CommandActs.{HasSoundActs}
-use Rattle.fabric_run.specs.Reading.{AcceptedText}
+use Rattle.promise_laws.specs.Existence.{HasDone, HasRun}
+use Rattle.input_texts.specs.Reading.{AcceptedText}
 
 -- A map is the mapper's part of the fabric, and its lines are read as that map.
 pub record IsRight (n : Network) (mapper : ℕ) (m : NetMap) : Type 0 where
   pub part : IsMapOfPart n mapper m
   pub read_back : map_reading n (map_text n m) ≡ Ok m
+
+-- behind first commands of a text the next one does something, and one thing
+abbrev pub EachCommandIsDone : AcceptedText → Type 0
+EachCommandIsDone a =
+    (count : ℕ) (out : List Piece) (s : SessionState) (c : Command)
+    → IsRun a.network (take count a.commands) out s → slice_get a.commands count ≡ Some c → HasDone s c
 
 -- every map that a run of first commands of a text prints under the word complete is right
 abbrev pub CompleteMapsAreTrue : AcceptedText → Type 0
@@ -49,7 +56,7 @@ DeepMapsAreComplete a =
     (count : ℕ) (out : List Piece) (s : SessionState) (host depth tries : ℕ) (after : WorldState) (j : List Entry)
     (m : NetMap) (words : MapWords)
     → IsRun a.network (take count a.commands) out s
-    → host < length a.network.hosts → depth ≤ 65 → IsMapped host depth tries s.world after j m words
+    → host < length a.network.hosts → depth ≤ 32 → IsMapped host depth tries s.world after j m words
     → IsQuiet host s.world after
     → 1 ≤ tries → tries ≤ 8 → enough_depth a.network host ≤ depth → words ≡ Complete
 
@@ -119,12 +126,15 @@ CircuitMapsAreTrue a =
     → IsRun a.network (take count a.commands) out last → HasPrintedCircuit out host depth asks m
     → IsCircuitRight a.network host depth asks m
 
--- The promise of an accepted text: its maps under the word complete are true, deep maps of a quiet fabric say so, its
--- maps of circuit links are true, each count of installed hosts has its cause, and each settle ends settled. The world
--- is sound behind its first commands, and behind each prefix of the acts of the next one: the installed routes have no
--- cycle, what was got is a prefix of what was sent, for each sender, receiver and priority, and each token has one
--- owner. So it is at every moment, whatever happens before it.
+-- The promise of an accepted text: its commands have a run, and one, whose text is the report. Its maps under the word
+-- complete are true, deep maps of a quiet fabric say so, its maps of circuit links are true, each count of installed
+-- hosts has its cause, and each settle ends settled. The world is sound behind its first commands, and behind each
+-- prefix of the acts of the next one: the installed routes have no cycle, what was got is a prefix of what was sent,
+-- for each sender, receiver and priority, and each token has one owner. So it is at every moment, whatever happens
+-- before it.
 pub record IsPromised (a : AcceptedText) : Type 0 where
+  pub report : HasRun a.network a.commands
+  pub done : EachCommandIsDone a
   pub complete : CompleteMapsAreTrue a
   pub deep : DeepMapsAreComplete a
   pub printed : DeepMapsArePrinted a

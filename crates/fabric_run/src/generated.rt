@@ -6,15 +6,14 @@ ghost use Rattle.world_defs.specs.World.{fabric_of};
 ghost use Rattle.run_defs.specs.Session.{new_session};
 ghost use Rattle.fab_report.specs.Printed.{listed};
 ghost use Rattle.fab_script.specs.Ranges.{IsCommandOf};
-ghost use Rattle.fabric_run.specs.Generated.{IsCounted, HaveCounted, IsGenerated, IsRunOf, SummaryEnds, GenEnds};
+ghost use Rattle.fabric_run.specs.Generated.{IsCounted, HaveCounted, IsSummaryOf, IsGenerated};
+ghost use Rattle.fabric_run.specs.Generated.{SummaryEnds, GenEnds};
 
 use crate::ran::Ran;
-use crate::reading::{Accepted, read_text};
 use crate::status::Status;
 use fab_outer::{Sink, write_all};
 use fab_report::{Figure, print_summary};
-use fab_text::TextFault;
-use fabric_gen::gen_text;
+use input_texts::{Accepted, read_generated};
 use run_session::{Command, Session};
 use std::alloc::{AllocError, Global};
 
@@ -40,28 +39,34 @@ fn run_text(alloc: Global, n: u8, seed: u32) -> Result<(Session, Vec<u8>), Alloc
     requires seed { seed ≤ 1000000 }
     ensures { IfOk result (λ r. IsGenerated n seed r.1.items r.0) }
 {
-    let text = gen_text(alloc, n, seed)?;
-    match read_text(alloc, &text) {
-        Ok(accepted) => run_accepted(alloc, n, seed, accepted),
-        Err(TextFault::NoMemory) => Err(AllocError),
-        Err(TextFault::At { .. }) => unreachable!(),
-    }
+    let accepted = read_generated(alloc, n, seed)?;
+    let (session, figures) = run_accepted(alloc, accepted)?;
+    with_summary(alloc, n, seed, session, &figures)
 }
 
-// The same of what the text says.
-fn run_accepted(
-    alloc: Global,
-    n: u8,
-    seed: u32,
-    accepted: Accepted,
-) -> Result<(Session, Vec<u8>), AllocError>
+// The session behind all commands of what a text says, and the figures of what they printed.
+fn run_accepted(alloc: Global, accepted: Accepted) -> Result<(Session, Vec<Figure>), AllocError>
     requires over { AllByRecursion (IsCommandOf accepted.network) accepted.commands }
-    ensures { IfOk result (λ r. IsRunOf accepted n seed r.1.items r.0) }
+    ensures counted { IfOk result (λ r. HaveCounted accepted.network accepted.commands r.1.items r.0) }
+    ensures fabric { IfOk result (λ r. fabric_of r.0.world ≡ accepted.network) }
 {
     let Accepted { fabric, script } = accepted;
     let session = Session::new(alloc, fabric)?;
-    let (session, figures) = run_commands(alloc, session, script.list())?;
-    match print_summary(alloc, n, seed, session.world().fabric(), &figures) {
+    run_commands(alloc, session, script.list())
+}
+
+// A session, and the summary of the figures that its commands printed.
+fn with_summary(
+    alloc: Global,
+    n: u8,
+    seed: u32,
+    session: Session,
+    figures: &[Figure],
+) -> Result<(Session, Vec<u8>), AllocError>
+    ensures same { IfOk result (λ r. r.0 ≡ session) }
+    ensures told { IfOk result (λ r. IsSummaryOf n seed (fabric_of session.world) figures.now r.1.items) }
+{
+    match print_summary(alloc, n, seed, session.world().fabric(), figures) {
         Ok(summary) => Ok((session, summary)),
         Err(wanting) => {
             session.end();

@@ -15,7 +15,7 @@ pub enum Status {
     Refused { line: u32, kind: FaultKind },
     /// A read failed. Nothing was written.
     ReadFault,
-    /// A write failed. The sink took a prefix of what was due.
+    /// A write failed. The sink took a prefix of what was due, and not all of it.
     WriteFault,
     /// Want of memory. The sink took a prefix of what was due.
     NoMemory,

@@ -1,6 +1,6 @@
 //! The top call.
 
-ghost use Rattle.std.specs.Prelude.{◌≡◌, ◌≤◌, ◌↔◌, ◌⊎◌, ℕ, List, length, false, IfOk, IfSome, None};
+ghost use Rattle.std.specs.Prelude.{◌≡◌, ◌≤◌, ◌↔◌, ◌⊎◌, ℕ, List, length, false, IfSome, None};
 ghost use Rattle.std.specs.List.{AllByRecursion};
 ghost use Rattle.std.specs.Io.KnownBytes.{Appends, Keeps};
 ghost use Rattle.fab_outer.specs.Fault.{Rose};
@@ -8,26 +8,22 @@ ghost use Rattle.fab_outer.specs.Whole.{IsLonger};
 ghost use Rattle.world_defs.specs.World.{fabric_of};
 ghost use Rattle.run_defs.specs.Session.{new_session};
 ghost use Rattle.fab_script.specs.Ranges.{IsCommandOf};
-ghost use Rattle.fabric_run.specs.Reading.{AcceptedText, reading};
+ghost use Rattle.input_texts.specs.Reading.{AcceptedText, input_limit, reading, IsAccepted, IsRefused, refusal_text};
 ghost use Rattle.fabric_run.specs.Promise.{IsPromised};
-ghost use Rattle.fabric_run.specs.Forms.{form_of, IsRunForm, IsGenForm};
+ghost use Rattle.input_texts.specs.Forms.{form_of, IsRunForm, IsGenForm};
 ghost use Rattle.fabric_run.specs.Generated.{GenEnds};
-ghost use Rattle.fabric_run.specs.Ends.{Came, IsAccepted, IsRefused, IsReported, IsWriteCut, IsMemoryCut, refusal_text};
-ghost use Rattle.fabric_run.specs.Ends.{own_answer, may_hold, input_limit, ReportEnds, RefusalEnds, TextEnds};
-ghost use Rattle.fabric_run.specs.Ends.{InputEnds};
+ghost use Rattle.fabric_run.specs.Ends.{Came, IsReported, IsWriteCut, IsMemoryCut, own_answer, may_hold};
+ghost use Rattle.fabric_run.specs.Ends.{ReportEnds, RefusalEnds, TextEnds, InputEnds};
 
-use crate::form::{Form, form_of};
 use crate::generated::run_generated;
 use crate::promise::promised_texts;
 use crate::ran::Ran;
-use crate::reading::{Accepted, read_text};
 use crate::status::Status;
 use fab_outer::{ReadEnd, Sink, Source, read_all, write_all};
-use fab_report::{Line, print_line};
 use fab_text::{FaultKind, TextFault, Word};
-use port_graph::Fabric;
+use input_texts::{Accepted, Form, form_of, read_text, refusal_line};
 use run_session::{Command, Session};
-use std::alloc::{AllocError, Global};
+use std::alloc::Global;
 
 // The most bytes of an input.
 const MAX_INPUT: usize = 1048576;
@@ -71,7 +67,8 @@ pub fn run<S: Source, K: Sink>(alloc: Global, words: &[Word], input: &mut S, out
     ensures write_fault { result.status ≡ Status.WriteFault → Rose (K.faults out.old) (K.faults out.new) }
 
     // Under `run`, after a failed write: the session behind the commands that ran, of which the sink took what they
-    // printed, but for the end of the last one's text.
+    // printed, but for the end of the last one's text; or, of a refusal's line, a front that isn't the whole. So where
+    // the sink tells that it took such a line whole, the answer is the refusal.
     ensures write_fault_part { IsRunForm words.now → result.status ≡ Status.WriteFault
         → (text : List ℕ) × Came (S.left input.old) (S.left input.new) text
         × IsWriteCut (reading text) (K.taken out.old) (K.taken out.new) result.session }
@@ -80,16 +77,15 @@ pub fn run<S: Source, K: Sink>(alloc: Global, words: &[Word], input: &mut S, out
     ensures too_long { result.status ≡ Status.TooLong → IsLonger (S.left input.old) input_limit }
     ensures too_long_writes_nothing { result.status ≡ Status.TooLong → out.new ≡ out.old }
 
-    // Want of memory under `run`: nothing was written, or exactly what the commands that ran printed, or the front of
-    // a refusal's line.
+    // Want of memory under `run`: nothing was written, or exactly what the commands that ran printed.
     ensures no_memory { IsRunForm words.now → result.status ≡ Status.NoMemory
         → Keeps (K.taken out.old) (K.taken out.new)
         ⊎ ((text : List ℕ) × Came (S.left input.old) (S.left input.new) text
         × IsMemoryCut (reading text) (K.taken out.old) (K.taken out.new) result.session) }
 
     // Under `gen N SEED` nothing is read. The text of N and SEED is accepted and all its commands ran: the sink took
-    // exactly the summary of what they printed, or its front before a failed write, and their session is handed back;
-    // or memory was wanting, and nothing was written. There is no other answer.
+    // exactly the summary of what they printed, or its front before a failed write, and not all of it, and their
+    // session is handed back; or memory was wanting, and nothing was written. There is no other answer.
     ensures gen_reads_nothing { (n seed : ℕ) → IsGenForm words.now n seed → input.new ≡ input.old }
     ensures generated { (n seed : ℕ) → IsGenForm words.now n seed
         → GenEnds n seed (K.taken out.old) (K.taken out.new) (K.faults out.old)
@@ -213,11 +209,4 @@ fn write_refusal<K: Sink>(alloc: Global, line: u32, kind: FaultKind, out: &mut K
         Ok(_) => Ran::without_session(Status::Refused { line, kind }),
         Err(_) => Ran::without_session(Status::WriteFault),
     }
-}
-
-// The line of a text that isn't accepted. It names no vertex, so it is printed with the names of none.
-fn refusal_line(alloc: Global, line: u32, kind: FaultKind) -> Result<Vec<u8>, AllocError>
-    ensures { IfOk result (λ text. text.items ≡ refusal_text record { line = line; kind = kind }) }
-{
-    print_line(alloc, &Line::Refused { line, kind }, &Fabric::new(alloc))
 }

@@ -1,14 +1,12 @@
 -- The tables of a wiring.
-use Rattle.std.proofs.Common.{◌≡◌, ◌≢◌, ◌<◌, ◌+◌, ◌*◌, ℕ, zero, suc, Bool, true, false, nat_eq, List, [], ◌∷◌, ◌++◌, length, map, take, drop, replicate, get_or, set, Option, Some, None, refl, sym, ap, ◌∙◌, subst, add-one, ◌/◌, ◌%◌, arith, true≢false, if◌then◌else◌}
+use Rattle.std.proofs.Common.{◌≡◌, ◌≢◌, ◌<◌, ◌+◌, ◌*◌, ℕ, zero, suc, Bool, true, false, nat_eq, List, [], ◌∷◌, ◌++◌, length, take, drop, replicate, get_or, set, Option, Some, None, refl, sym, ap, ◌∙◌, subst, add-one, ◌/◌, ◌%◌, arith, append_assoc, true≢false, if◌then◌else◌}
 use Rattle.std.specs.List.{slice_get, AllByRecursion}
-use Rattle.std.specs.Option.{option_map, option_map_or}
-use Rattle.std.proofs.lemmas.Bool.Decides.{Decides-eqb}
+use Rattle.std.specs.Option.{option_map}
 use Rattle.std.proofs.lemmas.List.{length-replicate, replicate-append-replicate, get_or-set_same, get_or-set_other}
 use Rattle.std.proofs.Math.ListN.{length-set}
-use Rattle.net_defs.specs.declared.vertex.Vertex.TheVariants.{Switch}
 use Rattle.net_defs.specs.declared.vertex.End.{End}
 use Rattle.net_defs.specs.declared.vertex.Cable.{Cable}
-use Rattle.net_defs.specs.Network.{Network, NamedSwitch, IsFabric, has_port, is_port_count, ports_of, same_end, ends_of}
+use Rattle.net_defs.specs.Network.{Network, IsFabric, has_port, ports_of, same_end, ends_of}
 use Rattle.net_defs.specs.Route.{channel_out, channel_from}
 use Rattle.net_defs.proofs.Ends.{same_end-true, same_end-refl, same_end-false}
 use Rattle.net_defs.proofs.Distinct.{all-weaker}
@@ -16,7 +14,8 @@ use Rattle.link_defs.specs.Channel.{channel_head}
 use Rattle.port_graph.specs.Table.{is_possible, place_of_end}
 use Rattle.port_graph.proofs.Tables.{place_of_end-same, place_of_end-lt}
 use Rattle.port_graph.proofs.Possible.{has_port-possible}
-use Rattle.fabric_wiring.specs.Tables.{IsOutTable, with_cable, place_if_possible}
+use Rattle.fabric_wiring.specs.declared.wiring.Entry.{Entry}
+use Rattle.fabric_wiring.specs.Tables.{IsOutTable, with_cable, place_if_possible, entry_by, entries_of}
 
 -- what holds of all ends holds of the two of each cable
 pub ends_got : (P : End → Type 0) (cs : List Cable) (k : ℕ) (c : Cable) → AllByRecursion P (ends_of cs) → slice_get cs k ≡ Some c → P c.a × P c.b
@@ -30,41 +29,71 @@ cable_ports n k c f is = ends_got (λ e. has_port n e ≡ true) n.cables k c f.c
 pub all_possible : (n : Network) → IsFabric n → AllByRecursion (λ e. is_possible e ≡ true) (ends_of n.cables)
 all_possible n f = all-weaker (λ e. has_port n e ≡ true) (λ e. is_possible e ≡ true) (ends_of n.cables) (λ e h. has_port-possible n e f h) f.cabled_ports
 
--- the channel back enters by the first end
-pub head_odd : (n : Network) (c : ℕ) (cable : Cable) → (c % 2 ≡ 0 → ⊥) → slice_get n.cables (c / 2) ≡ Some cable → channel_head n c ≡ Some cable.a
-head_odd n c cable odd is = by (nat_eq (c % 2) 0) refl
-  where
-    by : (t : Bool) → nat_eq (c % 2) 0 ≡ t → channel_head n c ≡ Some cable.a
-    by true e = absurd (odd ((Decides-eqb (c % 2) 0).0 e))
-    by false e = ap (option_map (λ cable. if nat_eq (c % 2) 0 then cable.b else cable.a)) is ∙ ap (λ t. Some (if t then cable.b else cable.a)) e
-
 -- one element more
 pub take-got : {X : Type 0} (xs : List X) (k : ℕ) (x : X) → slice_get xs k ≡ Some x → take k xs ++ x ∷ [] ≡ take (suc k) xs
 take-got [] k x is = cc
 take-got (y ∷ xs) zero x is = let same : y ≡ x = cc in ap (λ z. z ∷ []) (sym same)
 take-got (y ∷ xs) (suc k) x is = ap (λ l. y ∷ l) (take-got xs k x is)
 
+-- the entries, channel by channel
+entries-get : (n : Network) (cs : List Cable) (c : ℕ) → slice_get (entries_of n cs) c ≡ option_map (entry_by n) (option_map (λ cable. if nat_eq (c % 2) 0 then cable.b else cable.a) (slice_get cs (c / 2)))
+entries-get n [] c = refl
+entries-get n (k ∷ cs) zero = refl
+entries-get n (k ∷ cs) (suc zero) = refl
+entries-get n (k ∷ cs) (suc (suc c)) =
+    let rest : suc (suc c) % 2 ≡ c % 2 = omega arith in
+    let half : suc (suc c) / 2 ≡ suc (c / 2) = omega arith in
+    entries-get n cs c
+    ∙ sym (ap (λ r. option_map (entry_by n) (option_map (λ cable. if nat_eq r 0 then cable.b else cable.a) (slice_get (k ∷ cs) (suc (suc c) / 2)))) rest
+    ∙ ap (λ h. option_map (entry_by n) (option_map (λ cable. if nat_eq (c % 2) 0 then cable.b else cable.a) (slice_get (k ∷ cs) h))) half)
+
+pub entries-length : (n : Network) (cs : List Cable) → length (entries_of n cs) ≡ 2 * length cs
+entries-length n [] = refl
+entries-length n (c ∷ cs) = let rest = entries-length n cs in omega (arith, rest)
+
+-- two entries more
+entries-push : (n : Network) (cs : List Cable) (c : Cable) → entries_of n cs ++ entry_by n c.b ∷ entry_by n c.a ∷ [] ≡ entries_of n (cs ++ c ∷ [])
+entries-push n [] c = refl
+entries-push n (k ∷ cs) c = ap (λ l. entry_by n k.b ∷ entry_by n k.a ∷ l) (entries-push n cs c)
+
+pub entries-next : (n : Network) (cs : List Cable) (k : ℕ) (c : Cable) → slice_get cs k ≡ Some c → (entries_of n (take k cs) ++ entry_by n c.b ∷ []) ++ entry_by n c.a ∷ [] ≡ entries_of n (take (k + 1) cs)
+entries-next n cs k c is =
+    append_assoc (entries_of n (take k cs)) (entry_by n c.b ∷ []) (entry_by n c.a ∷ [])
+    ∙ entries-push n (take k cs) c
+    ∙ ap (entries_of n) (take-got cs k c is ∙ ap (λ i. take i cs) (sym (add-one k)))
+
+-- the entry of a channel
+entry-of : (n : Network) (o : Option End) (e : Entry) → option_map (entry_by n) o ≡ Some e → (o ≡ Some e.end) × (e.ports ≡ ports_of n e.end.v)
+entry-of n None e is = cc
+entry-of n (Some d) e is = let same : entry_by n d ≡ e = cc in (ap (λ x. Some x.end) same, subst (λ x. x.ports ≡ ports_of n x.end.v) same refl)
+
+head-port : (n : Network) (c : ℕ) (d : End) → IsFabric n → channel_head n c ≡ Some d → has_port n d ≡ true
+head-port n c d f is = by (slice_get n.cables (c / 2)) refl is
+  where
+    end_by : (t : Bool) (cable : Cable) → slice_get n.cables (c / 2) ≡ Some cable → has_port n (if t then cable.b else cable.a) ≡ true
+    end_by true cable got = (cable_ports n (c / 2) cable f got).1
+    end_by false cable got = (cable_ports n (c / 2) cable f got).0
+
+    by : (o : Option Cable) → slice_get n.cables (c / 2) ≡ o → option_map (λ cable. if nat_eq (c % 2) 0 then cable.b else cable.a) o ≡ Some d → has_port n d ≡ true
+    by None got to = cc
+    by (Some cable) got to = let same : (if nat_eq (c % 2) 0 then cable.b else cable.a) ≡ d = cc in subst (λ x. has_port n x ≡ true) same (end_by (nat_eq (c % 2) 0) cable got)
+
+-- what an entry tells of its channel
+pub record IsEntry (n : Network) (c : ℕ) (e : Entry) : Type 0 where
+  pub end : channel_head n c ≡ Some e.end
+  pub ports : e.ports ≡ ports_of n e.end.v
+  pub there : has_port n e.end ≡ true
+
+pub entry-there : (n m : Network) (entries there : List Entry) (c at : ℕ) (e : Entry) → IsFabric n → entries ≡ entries_of n n.cables → n ≡ m → there ≡ entries → at ≡ c → slice_get there at ≡ Some e → IsEntry m c e
+entry-there n m entries there c at e f same view whole place is =
+    let got : slice_get (entries_of n n.cables) c ≡ Some e = ap (slice_get (entries_of n n.cables)) (sym place) ∙ ap (λ l. slice_get l at) (sym (whole ∙ same)) ∙ is in
+    let parts = entry-of n (channel_head n c) e (sym (entries-get n n.cables c) ∙ got) in
+    subst (λ x. IsEntry x c e) view (record { end = parts.0; ports = parts.1; there = head-port n c e.end f parts.0 })
+
 drop-got : {X : Type 0} (xs : List X) (k : ℕ) (x : X) → slice_get xs k ≡ Some x → drop k xs ≡ x ∷ drop (suc k) xs
 drop-got [] k x is = cc
 drop-got (y ∷ xs) zero x is = let same : y ≡ x = cc in ap (λ z. z ∷ xs) same
 drop-got (y ∷ xs) (suc k) x is = drop-got xs k x is
-
--- the numbers of ports
-pub ports-at : (ws : List NamedSwitch) (s : ℕ) → get_or (map (λ w. w.ports) ws) s 0 ≡ option_map_or (λ w. w.ports) (slice_get ws s) 0
-ports-at [] s = refl
-ports-at (w ∷ ws) zero = refl
-ports-at (w ∷ ws) (suc s) = ports-at ws s
-
-pub ports-next : (ws : List NamedSwitch) (s : ℕ) → s < length ws → map (λ w. w.ports) (take s ws) ++ option_map_or (λ w. w.ports) (slice_get ws s) 0 ∷ [] ≡ map (λ w. w.ports) (take (suc s) ws)
-ports-next [] s h = absurd (omega arith)
-ports-next (w ∷ ws) zero h = refl
-ports-next (w ∷ ws) (suc s) h = ap (λ l. w.ports ∷ l) (ports-next ws s (omega arith))
-
--- a switch that has ports has 4, 8 or 16
-pub ports-kind : (ws : List NamedSwitch) (s : ℕ) → AllByRecursion (λ w. is_port_count w.ports ≡ true) ws → 0 < option_map_or (λ w. w.ports) (slice_get ws s) 0 → is_port_count (option_map_or (λ w. w.ports) (slice_get ws s) 0) ≡ true
-ports-kind [] s all h = absurd (omega arith)
-ports-kind (w ∷ ws) zero all h = all.0
-ports-kind (w ∷ ws) (suc s) all h = ports-kind ws s all.1 h
 
 -- an end of no cable has no channel
 channel_out-none : (k : ℕ) (cs : List Cable) (e : End) → AllByRecursion (λ d. e ≢ d) (ends_of cs) → channel_out k cs e ≡ None
@@ -135,12 +164,6 @@ out-next cs k cable out is a b table =
       size = length-set (set out (place_of_end cable.b) (Some (2 * k + 1))) (place_of_end cable.a) (Some (2 * k)) ∙ length-set out (place_of_end cable.b) (Some (2 * k + 1)) ∙ table.size;
       channels = joined k cable (drop (k + 1) cs) out a b table;
     })
-
--- what the numbers of ports say of a switch
-pub counted : (n : Network) (ports : List ℕ) (s : ℕ) (r : ℕ) → IsFabric n → ports ≡ map (λ w. w.ports) n.switches → r ≡ get_or ports s 0 → (r ≡ ports_of n (Switch s)) × (0 < r → is_port_count r ≡ true)
-counted n ports s r f same is =
-    let e : r ≡ ports_of n (Switch s) = is ∙ ap (λ l. get_or l s 0) same ∙ ports-at n.switches s in
-    (e, λ h. subst (λ x. is_port_count x ≡ true) (sym e) (ports-kind n.switches s f.port_counts (subst (λ x. 0 < x) e h)))
 
 -- an end without a place is none that a fabric may have
 pub unplaced : (e : End) → None ≡ place_if_possible e → is_possible e ≡ false

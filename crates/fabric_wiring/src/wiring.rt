@@ -1,13 +1,13 @@
 //! The wiring of a fabric in flat tables.
 
-ghost use Rattle.std.specs.Prelude.{◌≡◌, ◌<◌, ◌≤◌, ◌*◌, ◌/◌, slice_get, replicate, length, map, drop, true, Some, None};
-ghost use Rattle.std.specs.Prelude.{slice_index, IfOk, IfSome, IsTrue};
+ghost use Rattle.std.specs.Prelude.{◌≡◌, ◌<◌, ◌≤◌, ◌*◌, ◌/◌, slice_get, replicate, length, drop, true, Some, None};
+ghost use Rattle.std.specs.Prelude.{slice_index_or, IfOk, IfSome};
 ghost use Rattle.std.specs.List.{AllByRecursion};
-ghost use Rattle.net_defs.specs.Network.{ends_of, has_port, is_port_count, ports_of, IsFabric};
+ghost use Rattle.net_defs.specs.Network.{ends_of, has_port, ports_of, IsFabric};
 ghost use Rattle.net_defs.specs.Route.{channel_from};
 ghost use Rattle.link_defs.specs.Channel.{channel_count, channel_tail, channel_head};
 ghost use Rattle.port_graph.specs.Table.{is_possible, place_of_end};
-ghost use Rattle.fabric_wiring.specs.Tables.{IsOutTable, place_if_possible, with_cable};
+ghost use Rattle.fabric_wiring.specs.Tables.{IsOutTable, place_if_possible, with_cable, entry_by, entries_of};
 
 use net_defs::{Cable, End, Vertex};
 use port_graph::Fabric;
@@ -24,14 +24,23 @@ const PORT_PLACES: usize = 16;
 // The places of the table.
 const PLACES: usize = HOST_PLACES + 64 * PORT_PLACES;
 
-/// The cables of a fabric, the ports of its switches, and the channel that leaves by each port. Contracts see the
-/// fabric.
+/// The end that a channel enters, with the number of its vertex's ports.
+#[derive(Clone, Copy, Debug)]
+pub struct Entry {
+    /// The end.
+    pub end: End,
+    /// The ports of the host or the switch that is entered.
+    pub ports: u8,
+}
+
+/// The cables of a fabric, the end that each channel enters, and the channel that leaves by each port. Contracts see
+/// the fabric.
 #[derive(Drop)]
 pub struct Wiring {
     // The fabric that the tables were made of. It has no bytes: contracts alone read it.
     fabric: Snapshot<Fabric>,
     cables: Vec<Cable>,
-    ports: Vec<u8>,
+    entries: Vec<Entry>,
     out: Vec<Option<u16>>,
 }
 
@@ -43,7 +52,7 @@ impl Model for Wiring {
 
     ghost view = { λ w. w.fabric.value };
 
-    ghost invariant = { λ w. IsWiring w.fabric.value w.cables.items w.ports.items w.out.items };
+    ghost invariant = { λ w. IsWiring w.fabric.value w.cables.items w.entries.items w.out.items };
 }
 
 impl Wiring {
@@ -53,12 +62,12 @@ impl Wiring {
     {
         let _hosts = f.hosts();
         let cables = cables_of(alloc, f)?;
-        let ports = port_counts(alloc, f)?;
+        let entries = entries_of(alloc, f)?;
         let out = out_table(alloc, &cables)?;
         Ok(Wiring {
             fabric: Snapshot::of(f),
             cables,
-            ports,
+            entries,
             out,
         })
     }
@@ -76,7 +85,7 @@ impl Wiring {
         requires { c < channel_count self.now }
         ensures { channel_tail self.now c ≡ Some result }
     {
-        let cable = self.cable(c);
+        let cable = cable_at(&self.cables, usize::from(c / 2));
         if c % 2 == 0 { cable.a } else { cable.b }
     }
 
@@ -86,17 +95,17 @@ impl Wiring {
         ensures end { channel_head self.now c ≡ Some result }
         ensures there { has_port self.now result ≡ true }
     {
-        let cable = self.cable(c);
-        if c % 2 == 0 { cable.b } else { cable.a }
+        self.entry(c).end
     }
 
-    // The cable of a channel.
-    fn cable(&self, c: u16) -> Cable
+    /// The end that a channel enters, with the number of its vertex's ports. One look into a table.
+    pub fn entry(&self, c: u16) -> Entry
         requires { c < channel_count self.now }
-        ensures at { slice_get self.now.cables (c / 2) ≡ Some result }
-        ensures fabric { IsFabric self.now }
+        ensures end { channel_head self.now c ≡ Some result.end }
+        ensures ports { result.ports ≡ ports_of self.now result.end.v }
+        ensures there { has_port self.now result.end ≡ true }
     {
-        cable_at(&self.cables, usize::from(c / 2))
+        entry_at(&self.entries, usize::from(c))
     }
 
     /// The channel that leaves by an end.
@@ -110,12 +119,12 @@ impl Wiring {
         }
     }
 
-    /// The number of a switch's ports; 0 where there is no such switch.
-    pub fn ports(&self, s: u16) -> u8
-        ensures count { result ≡ ports_of self.now (Vertex.Switch s) }
-        ensures kinds { 0 < result → is_port_count result ≡ true }
+    /// The channel that leaves a switch by one of its ports.
+    pub fn leaving(&self, s: u16, p: u8) -> Option<u16>
+        requires { has_port self.now (record { v = Vertex.Switch s; p = p }) ≡ true }
+        ensures { result ≡ channel_from self.now (record { v = Vertex.Switch s; p = p }) }
     {
-        number_at(&self.ports, usize::from(s))
+        channel_at(&self.out, switch_place(s, p))
     }
 }
 
@@ -130,15 +139,27 @@ fn cables_of(alloc: Global, f: &Fabric) -> Result<Vec<Cable>, AllocError>
     Ok(cables)
 }
 
-// The numbers of ports of a fabric's switches.
-fn port_counts(alloc: Global, f: &Fabric) -> Result<Vec<u8>, AllocError>
-    ensures { IfOk result (λ v. v.items ≡ map (λ w. w.ports) f.now.switches) }
+// The end that each channel of a fabric enters.
+fn entries_of(alloc: Global, f: &Fabric) -> Result<Vec<Entry>, AllocError>
+    ensures { IfOk result (λ v. v.items ≡ entries_of f.now f.now.cables) }
 {
-    let mut ports = Vec::with_capacity(alloc, usize::from(f.switches()))?;
-    for s in 0..f.switches() {
-        ports.push(f.ports(Vertex::Switch(s)))?;
+    let mut entries = Vec::with_capacity(alloc, 2 * usize::from(f.cables()))?;
+    for k in 0..f.cables() {
+        let cable = f.cable(k);
+        entries.push(entry_by(f, cable.b))?;
+        entries.push(entry_by(f, cable.a))?;
     }
-    Ok(ports)
+    Ok(entries)
+}
+
+// The entry by an end.
+fn entry_by(f: &Fabric, end: End) -> Entry
+    ensures { result ≡ entry_by f.now end }
+{
+    Entry {
+        end,
+        ports: f.ports(end.v),
+    }
 }
 
 // The channels that leave by each port. The last cable is written first, so that a port has the channel of its first
@@ -188,11 +209,20 @@ fn cable_at(cables: &[Cable], k: usize) -> Cable
     cables[k]
 }
 
-// The number at a place, or 0 past the end.
-fn number_at(numbers: &[u8], at: usize) -> u8
-    ensures { result ≡ slice_index numbers.now at }
+// The entry at a place.
+fn entry_at(entries: &[Entry], c: usize) -> Entry
+    requires { c < length entries.now }
+    ensures { slice_get entries.now c ≡ Some result }
 {
-    if at < numbers.len() { numbers[at] } else { 0 }
+    entries[c]
+}
+
+// The channel at a place.
+fn channel_at(out: &[Option<u16>], place: usize) -> Option<u16>
+    requires { place < length out.now }
+    ensures { result ≡ slice_index_or out.now place None }
+{
+    out[place]
 }
 
 // The place of an end, if some fabric may have it.
@@ -214,6 +244,13 @@ fn place_of(e: End) -> usize
 {
     match e.v {
         Vertex::Host(h) => usize::from(h),
-        Vertex::Switch(s) => HOST_PLACES + PORT_PLACES * usize::from(s) + usize::from(e.p),
+        Vertex::Switch(s) => switch_place(s, e.p),
     }
+}
+
+// The place of a switch's port.
+fn switch_place(s: u16, p: u8) -> usize
+    ensures { result ≡ place_of_end (record { v = Vertex.Switch s; p = p }) }
+{
+    HOST_PLACES + PORT_PLACES * usize::from(s) + usize::from(p)
 }

@@ -35,6 +35,7 @@ mod sends;
 
 pub use ask::{CloseRefusal, ProvideRefusal, SendAsk, SendRefusal};
 pub use event::{PortEvent, Wreck};
+pub use gm_defs::TokenPlace;
 pub use gm_tokens::NoMemory;
 pub use laws::{buffers_keep_their_bytes, tokens_fill_right, tokens_have_one_owner};
 pub use port::Port;

@@ -4,6 +4,7 @@ pub mod Closing
 pub mod Covers
 pub mod Crossing
 pub mod Depth
+pub mod Distances
 pub mod Ends
 pub mod Existence
 pub mod Few

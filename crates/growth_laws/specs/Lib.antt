@@ -1,2 +1,3 @@
+pub mod Distances
 pub mod Examples
 pub mod Laws

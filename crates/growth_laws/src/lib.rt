@@ -1,7 +1,7 @@
 //! How far a mapper has to probe: the laws of its journal's growth over a fabric's true answers.
 //!
-//! This crate holds laws and their proofs. It probes nothing. The laws stand in `Laws` of `specs/`, and `laws.rt`
-//! shows that they hold.
+//! This crate holds laws and their proofs. It probes nothing. The laws stand in `Laws` of `specs/`, those of the
+//! distances D and Q in `Distances`, and `laws.rt` and `distance_laws.rt` show that they hold.
 //!
 //! ```text
 //!            +---+           Q = 1, D = 1. At depth 2 the walks +1 and +2 find a switch each, and nothing tells that
@@ -20,9 +20,11 @@
 //! are expanded), `Near` and `Ends` (the node limit), `Depth`.
 #![tactic(auto)]
 
+mod distance_laws;
 mod examples;
 mod laws;
 
+pub use distance_laws::{farthest_is_reached, host_distance_is_reached};
 pub use examples::{
     depth_of_a_loop, depth_of_one_cable, depth_of_the_ring, depth_of_two_hosts, depths_that_suffice,
 };

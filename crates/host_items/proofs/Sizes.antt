@@ -1,39 +1,17 @@
 -- The bytes of a part fit into a packet, and what a packet is built of may stand for what it is.
-use Rattle.std.proofs.Common.{◌≡◌, ◌≤◌, ◌+◌, ◌*◌, ◌^◌, ℕ, suc, List, [], ◌∷◌, ◌++◌, Bool, true, false, ◌&&◌, if◌then◌else◌, map, length, nat_lt, nat_le, Some, None, refl, ap, ◌∙◌, arith}
-use Rattle.std.specs.Prelude.{ℤ, neg_ℤ, reverse, All, Result, Ok, Err, IfOk}
+use Rattle.std.proofs.Common.{◌≡◌, ◌≤◌, ◌+◌, ◌*◌, ◌^◌, ℕ, suc, List, [], ◌∷◌, ◌++◌, Bool, true, ◌&&◌, map, length, nat_lt, nat_le, refl, ◌∙◌, arith}
+use Rattle.std.specs.Prelude.{ℤ, Result, Ok, Err, IfOk}
 use Rattle.std.specs.List.{list_all}
 use Rattle.std.specs.Int.{w16, w32, to_be_bytes}
 use Rattle.std.proofs.lemmas.Bool.{and_parts}
 use Rattle.std.proofs.lemmas.Bool.Decides.{nat_tests}
-use Rattle.std.proofs.lemmas.Int.{ints}
-use Rattle.std.proofs.lemmas.List.{length-append, length-map, length-reverse}
-use Rattle.std.proofs.lemmas.List.Sums.{list_all-from_AllPass}
-use mathlib.Core.List.{reverse_aux}
-use Rattle.net_defs.specs.Turn.{is_turn, IsTurn, walk_refusal}
-use Rattle.net_defs.specs.declared.walk.WalkFault.TheVariants.{TooLong, TurnRange}
+use Rattle.std.proofs.lemmas.List.{length-append, length-map}
+use Rattle.net_defs.specs.Turn.{is_turn}
 use Rattle.packet_defs.specs.declared.kind.Kind.TheVariants.{Mapping}
 use Rattle.packet_defs.specs.RouteByte.{route_byte}
 use Rattle.packet_defs.specs.Packet.{packet_of}
 use Rattle.mapping_defs.specs.Mapping.{RouteEntry, RoutePart, mapping_bytes, is_part, is_route, are_entries, entry_bytes, route_bytes}
 use Rattle.mapping_defs.specs.Mapping.MappingBody.{Part}
-use Rattle.world_defs.specs.Node.{way_back}
-
-opposite-turn : (t : ℤ) → is_turn t ≡ true → is_turn (neg_ℤ t) ≡ true
-opposite-turn t h = grind (arith, ints, nat_tests)
-
-turns-onto : (turns acc : List ℤ) → list_all is_turn turns ≡ true → list_all is_turn (map neg_ℤ acc) ≡ true → list_all is_turn (map neg_ℤ (reverse_aux turns acc)) ≡ true
-turns-onto [] acc h k = k
-turns-onto (t ∷ ts) acc h k =
-    let a = and_parts (is_turn t) (list_all is_turn ts) h in
-    turns-onto ts (t ∷ acc) a.1 (rw (opposite-turn t a.0) k)
-
--- the way back of a walk is a walk
-pub back-fits : (walk back : List ℤ) → length walk ≤ 64 → All IsTurn walk → back ≡ way_back walk → walk_refusal back ≡ None
-back-fits walk back few all e =
-    let same : length back ≡ length walk = ap length e ∙ length-map (reverse walk) neg_ℤ ∙ length-reverse walk in
-    let short : nat_lt 64 (length back) ≡ false = grind (arith, nat_tests) in
-    let turns : list_all is_turn back ≡ true = ap (list_all is_turn) e ∙ turns-onto walk [] (list_all-from_AllPass is_turn walk all) refl in
-    λ i. if short i then Some TooLong else if turns i then None else Some TurnRange
 
 -- the bytes of a route
 pub route-short : (walk : List ℤ) → length walk ≤ 64 → length (route_bytes walk) ≤ 65

@@ -4,6 +4,7 @@ ghost use Rattle.std.specs.Prelude.{ℕ, ◌≡◌, IfOk};
 ghost use Rattle.world_defs.specs.Node.{Outgoing, packet_for};
 ghost use Rattle.host_items.specs.Held.{reply_of, answer_of};
 
+use crate::probing::body_packet;
 use myri_packet::{Kind, Packet, encode};
 use net_defs::Walk;
 use probe::ProbeBody;
@@ -27,8 +28,7 @@ impl ProbeReply {
             number: self.number,
             host,
         };
-        let payload = body.encode(alloc)?;
-        encode(alloc, self.back.turns(), Kind::Mapping, &payload)
+        body_packet(alloc, self.back.turns(), &body)
     }
 }
 

@@ -1,7 +1,9 @@
-//! What a host has staged to send besides messages, and the packet of the first of it.
+//! What a host has staged to send besides messages, the packet of the first of it, and what comes of the mapper's
+//! protocol and leaves the table as it is.
 //!
-//! It hears nothing and keeps no connection. `specs/Node.antt` of `world_defs` says what is staged and in which order
-//! it is sent; `specs/Held.antt` sets the three items into a host of the world.
+//! It keeps no connection and no table. `specs/Node.antt` of `world_defs` says what is staged and in which order it is
+//! sent, and `specs/Hearing.antt` there what is made of a body; `specs/Held.antt` sets the three items into a host of
+//! the world.
 //!
 //! ```text
 //!   staged probe or part  ---+
@@ -13,11 +15,16 @@
 #![tactic(auto)]
 
 mod answers;
+mod body;
+mod hearing;
 mod items;
 mod laws;
+mod probing;
 mod route;
 mod staged;
 
+pub use body::{MapperBody, read};
+pub use hearing::{hear_ack, is_part_for};
 pub use items::Items;
 pub use laws::items_are_a_hosts;
 pub use myri_packet::Packet;

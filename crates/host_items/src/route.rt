@@ -1,11 +1,9 @@
 //! The routes of probes.
 
-ghost use Rattle.std.specs.Prelude.{◌≡◌, ◌<◌, ◌≤◌, ◌++◌, ◌∷◌, length, take, slice_index_or, pos, neg_ℤ, None, All, IfOk};
-ghost use Rattle.net_defs.specs.Turn.{IsTurn, walk_refusal};
+ghost use Rattle.std.specs.Prelude.{◌≡◌, ◌<◌, ◌≤◌, ◌+◌, ◌*◌, ◌++◌, ◌∷◌, length, take, drop, slice_index_or, pos};
+ghost use Rattle.std.specs.Prelude.{neg_ℤ, All};
+ghost use Rattle.net_defs.specs.Turn.{IsTurn};
 ghost use Rattle.world_defs.specs.Node.{way_back};
-
-use net_defs::{Walk, WalkFault};
-use std::alloc::{AllocError, Global};
 
 // The most turns of a walk.
 const MAX_TURNS: usize = 64;
@@ -30,8 +28,8 @@ fn opposite_at(turns: &[i8], at: usize) -> i8
     opposite(turns[at])
 }
 
-// The way back of turns, and zeros behind it.
-fn turns_back(turns: &[i8]) -> [i8; MAX_TURNS]
+/// The way back of turns, and zeros behind it.
+pub(crate) fn turns_back(turns: &[i8]) -> [i8; MAX_TURNS]
     requires few { length turns.now ≤ MAX_TURNS }
     requires turns { All IsTurn turns.now }
     ensures { take (length turns.now) result ≡ way_back turns.now }
@@ -43,37 +41,24 @@ fn turns_back(turns: &[i8]) -> [i8; MAX_TURNS]
     back
 }
 
-/// The way back of a walk. It is a walk, so memory alone can be wanting.
-pub(crate) fn way_back(alloc: Global, walk: &Walk) -> Result<Walk, AllocError>
-    ensures { IfOk result (λ back. back ≡ way_back walk.now) }
+/// The route of a looped probe, and zeros behind it: the turns, the turn 0 that leads back into the last cable, and the
+/// way back.
+pub(crate) fn there_and_back(turns: &[i8]) -> [i8; MAX_TURNS]
+    requires few { length turns.now ≤ 31 }
+    requires turns { All IsTurn turns.now }
+    ensures { take (2 * length turns.now + 1) result ≡ turns.now ++ pos 0 ∷ way_back turns.now }
 {
-    let turns = walk.turns();
     let back = turns_back(turns);
-    walk_of(alloc, &back[..turns.len()])
+    let mut route = [0; MAX_TURNS];
+    put(&mut route, 0, turns);
+    put(&mut route, turns.len() + 1, &back[..turns.len()]);
+    route
 }
 
-// The walk of turns that are one.
-fn walk_of(alloc: Global, turns: &[i8]) -> Result<Walk, AllocError>
-    requires { walk_refusal turns.now ≡ None }
-    ensures { IfOk result (λ walk. walk ≡ turns.now) }
+// Writes turns over others, from a place on.
+fn put(route: &mut [i8], at: usize, turns: &[i8])
+    requires { at + length turns.now ≤ length route.old }
+    ensures { route.new ≡ take at route.old ++ turns.now ++ drop (at + length turns.now) route.old }
 {
-    match Walk::new(alloc, turns) {
-        Ok(walk) => Ok(walk),
-        Err(WalkFault::NoMemory) => Err(AllocError),
-        Err(WalkFault::TooLong) => unreachable!(),
-        Err(WalkFault::TurnRange) => unreachable!(),
-    }
-}
-
-/// The route of a looped probe: the walk, the turn 0 that leads back into the last cable, and the way back.
-pub(crate) fn there_and_back(alloc: Global, walk: &Walk) -> Result<Vec<i8>, AllocError>
-    ensures { IfOk result (λ route. route.items ≡ walk.now ++ pos 0 ∷ way_back walk.now) }
-{
-    let turns = walk.turns();
-    let back = turns_back(turns);
-    let mut route = Vec::with_capacity(alloc, 2 * turns.len() + 1)?;
-    route.extend_from_slice(turns)?;
-    route.push(0)?;
-    route.extend_from_slice(&back[..turns.len()])?;
-    Ok(route)
+    route[at..at + turns.len()].copy_from_slice(turns);
 }

@@ -6,10 +6,11 @@ ghost use Rattle.mapping_defs.specs.Mapping.{MappingBody, mapping_bytes, is_part
 ghost use Rattle.world_defs.specs.Node.{outgoing_staged, probe_packet, packet_for};
 ghost use Rattle.host_items.specs.Held.{staged_of, IsSendable};
 
-use crate::route::{there_and_back, way_back};
-use myri_packet::{Kind, Packet, encode};
+use crate::probing::{MAX_BODY, body_packet};
+use crate::route::{there_and_back, turns_back};
+use myri_packet::{Kind, Packet, encode, packet_front, seal};
 use net_defs::Walk;
-use probe::ProbeBody;
+use probe::{ProbeBody, append_host_probe};
 use route_parts::RoutePart;
 use std::alloc::{AllocError, Global};
 
@@ -60,14 +61,11 @@ fn probe_packet(
 fn host_packet(alloc: Global, host: u16, number: u64, walk: &Walk) -> Result<Packet, AllocError>
     ensures { IfOk result (λ p. p ≡ probe_packet host number walk.now false) }
 {
-    let back = way_back(alloc, walk)?;
-    let body = ProbeBody::HostProbe {
-        number,
-        mapper: host,
-        back,
-    };
-    let payload = body.encode(alloc)?;
-    encode(alloc, walk.turns(), Kind::Mapping, &payload)
+    let turns = walk.turns();
+    let back = turns_back(turns);
+    let mut bytes = packet_front(alloc, turns, Kind::Mapping, MAX_BODY)?;
+    append_host_probe(&mut bytes, number, host, &back[..turns.len()])?;
+    seal(bytes)
 }
 
 // The packet of a probe that returns.
@@ -75,13 +73,13 @@ fn loop_packet(alloc: Global, host: u16, number: u64, walk: &Walk) -> Result<Pac
     requires { length walk.now ≤ 31 }
     ensures { IfOk result (λ p. p ≡ probe_packet host number walk.now true) }
 {
-    let route = there_and_back(alloc, walk)?;
+    let turns = walk.turns();
+    let route = there_and_back(turns);
     let body = ProbeBody::Loop {
         number,
         mapper: host,
     };
-    let payload = body.encode(alloc)?;
-    encode(alloc, &route, Kind::Mapping, &payload)
+    body_packet(alloc, &route[..2 * turns.len() + 1], &body)
 }
 
 // The packet of a part of a table.

@@ -1,17 +1,18 @@
 -- The sets of a host's lanes, as its lanes change.
-use Rattle.std.proofs.Common.{◌≡◌, ◌<◌, ◌≤◌, ℕ, Bool, true, false, true≢false, nat_eq, List, length, Option, Some, None, refl, sym, ap, ◌∙◌, arith}
+use Rattle.std.proofs.Common.{◌≡◌, ◌<◌, ◌≤◌, ℕ, Bool, true, false, true≢false, nat_eq, List, length, Option, Some, None, refl, sym, ap, ◌∙◌, subst, arith}
 use Rattle.std.specs.Prelude.{slice_index_or, slice_set, Result, Ok, Err, OnOk, OnErr, IfOk}
 use Rattle.std.specs.Option.{IfSome, IfNone}
 use Rattle.std.proofs.lemmas.Bool.Decides.{Decides-eqb}
+use Rattle.std.proofs.Math.ListN.{get_or-map}
 use Rattle.std.proofs.lemmas.List.{length-set, get_or-set_same, get_or-set_other, get_or_past, get_or_default}
 use native.Mathlib.Decide.{dec_lt}
 use Rattle.gm_defs.specs.declared.frame.ConnectionKey.{ConnectionKey}
 use Rattle.number_marks.specs.Marks.{mark_at, IsWritten, IsNextMark}
 use Rattle.number_marks.specs.Least.{mark_of}
 use Rattle.world_defs.specs.Node.{lane_count, sends_on}
-use Rattle.world_defs.specs.Lane.{LaneState}
-use Rattle.host_lanes.specs.Lane.{HostLane, in_state, unused}
-use Rattle.host_lanes.specs.Lanes.{HostLanes, AreOf, held_lane, states, nobody, NoneBetween, IsNext}
+use Rattle.world_defs.specs.Lane.{LaneState, new_lane}
+use Rattle.host_lanes.specs.Lane.{HostLane, in_state, unused, AreNumbered}
+use Rattle.host_lanes.specs.Lanes.{HostLanes, AreOf, lane_in, held_lane, states, nobody, NoneBetween, IsNext}
 use Rattle.host_lanes.specs.Lanes.IsNext.{next, nobody_left}
 use Rattle.host_lanes.specs.Sets.{Sets, is_owing, is_due, is_unacked, HasRoom, IsBareFor, AreBare, IsNoted, IsSetOf, AreTold}
 use Rattle.host_lanes.proofs.Places.{AreFirst, first-all, kept-lanes, count-is, lane-is}
@@ -32,10 +33,23 @@ set-noted test ps old new i q is low w = record {
         let differs : k ≡ i → ⊥ = λ h. true≢false (sym ((Decides-eqb k i).1 h) ∙ e) in
         w.others k differs ∙ is.marks k ∙ ap (λ p. mark_of (test p)) (sym (get_or-set_other ps i k q nobody differs))
 
+numbered-noted : (ps : List HostLane) (i : ℕ) (q : HostLane) → ((k : ℕ) → AreNumbered (slice_index_or ps k nobody).state) → i < length ps → AreNumbered q.state → (k : ℕ) → AreNumbered (slice_index_or (slice_set ps i q) k nobody).state
+numbered-noted ps i q all low here k = by (nat_eq k i) refl
+  where
+    by : (t : Bool) → nat_eq k i ≡ t → AreNumbered (slice_index_or (slice_set ps i q) k nobody).state
+    by true e =
+        let f : k ≡ i = (Decides-eqb k i).0 e in
+        let there : slice_index_or (slice_set ps i q) k nobody ≡ q = ap (λ j. slice_index_or (slice_set ps i q) j nobody) f ∙ get_or-set_same ps i q nobody low in
+        subst (λ p. AreNumbered p.state) (sym there) here
+    by false e =
+        let differs : k ≡ i → ⊥ = λ h. true≢false (sym ((Decides-eqb k i).1 h) ∙ e) in
+        subst (λ p. AreNumbered p.state) (sym (get_or-set_other ps i k q nobody differs)) (all k)
+
 pub told-noted : (host hosts : ℕ) (ps : List HostLane) (i : ℕ) (x q : HostLane) (old new : Sets) → AreTold host hosts ps old → i < length ps → x ≡ slice_index_or ps i x → q.key ≡ x.key → IsNoted old new i q
     → AreTold host hosts (slice_set ps i q) new
 told-noted host hosts ps i x q old new told low read stays noted = record {
   lanes = kept-lanes host hosts ps i x q told.lanes low read stays;
+  numbered = numbered-noted ps i q told.numbered low noted.numbered;
   owing = set-noted is_owing ps old.owing new.owing i q told.owing low noted.owing;
   due = set-noted is_due ps old.due new.due i q told.due low noted.due;
   unacked = set-noted is_unacked ps old.unacked new.unacked i q told.unacked low noted.unacked;
@@ -78,9 +92,23 @@ set-first test host n ps words quiet first bare = record {
       | no high ↦ let c = first.counted in ap test (get_or_past ps k nobody (omega (arith, c, high))) ∙ quiet nobody.key
     ]
 
+none-numbered : AreNumbered new_lane
+none-numbered = record { sender = record { base_below = omega arith; cursor_below = omega arith; top_below = omega arith; in_range = omega arith }; numbered = refl }
+
+first-numbered : (host n : ℕ) (ps : List HostLane) → AreFirst host n ps → (k : ℕ) → AreNumbered (slice_index_or ps k nobody).state
+first-numbered host n ps first k = elim (dec_lt k n) [
+  | yes low ↦ subst (λ p. AreNumbered p.state) (sym (first.own k low)) none-numbered
+  | no high ↦ let c = first.counted in subst (λ p. AreNumbered p.state) (sym (get_or_past ps k nobody (omega (arith, c, high)))) none-numbered
+]
+
+-- so are those of all lanes as the view has them
+pub numbered-all : (v : HostLanes) (host hosts : ℕ) (ps : List HostLane) → record { host = host; hosts = hosts; lanes = states ps } ≡ v → ((k : ℕ) → AreNumbered (slice_index_or ps k nobody).state) → (k : ℕ) → AreNumbered (lane_in v k)
+numbered-all v host hosts ps is all k = subst AreNumbered (sym (get_or-map (λ p. p.state) ps k nobody) ∙ ap (λ h. lane_in h k) is) (all k)
+
 pub first-told : (host hosts n : ℕ) (ps : List HostLane) (s : Sets) → n ≡ lane_count hosts → AreFirst host n ps → AreBare s n → AreTold host hosts ps s
 first-told host hosts n ps s all first bare = record {
   lanes = first-all host hosts n ps all first;
+  numbered = first-numbered host n ps first;
   owing = set-first is_owing host n ps s.owing (λ key. refl) first bare.owing;
   due = set-first is_due host n ps s.due (λ key. refl) first bare.due;
   unacked = set-first is_unacked host n ps s.unacked (λ key. refl) first bare.unacked;

@@ -1,11 +1,12 @@
 -- What a host's connections with a peer come to: which message is due, and which are finished.
-use Rattle.std.proofs.Common.{◌≡◌, ◌<◌, ◌≤◌, ◌+◌, ◌-◌, ℕ, zero, suc, Bool, true, false, ◌&&◌, nat_eq, nat_lt, nat_le, min, max, List, [], ◌∷◌, ◌++◌, length, take, drop, get_or, Option, Some, None, option_map, refl, sym, ap, ◌∙◌, subst, arith, length-append, map, if◌then◌else◌}
+use Rattle.std.proofs.Common.{◌≡◌, ◌<◌, ◌≤◌, ◌+◌, ◌-◌, ℕ, zero, suc, Bool, true, false, ◌&&◌, nat_eq, nat_lt, nat_le, min, max, List, [], ◌∷◌, ◌++◌, length, take, drop, get_or, Option, Some, None, option_map, is_some, refl, sym, ap, ◌∙◌, subst, arith, length-append, map, if◌then◌else◌}
 use Rattle.std.specs.Prelude.{slice_get, option_and_then}
 use Rattle.std.proofs.lemmas.Bool.Decides.{nat_tests}
-use Rattle.std.proofs.lemmas.List.{drop-append-le, drop-drop, drop-map, length-drop, map_push}
-use Rattle.std.proofs.lemmas.Option.{same_Some, none-some, slice_get-get_or, slice_get_within}
+use Rattle.std.proofs.lemmas.List.{drop-append-le, drop-drop, drop-map, length-drop, length-map, map_push}
+use Rattle.std.proofs.lemmas.Option.{same_Some, none-some, slice_get_within}
 use Rattle.net_defs.proofs.Distinct.{all-push}
 use Rattle.gm_defs.specs.declared.message.Message.{Message}
+use Rattle.gm_defs.specs.declared.frame.FrameHead.{FrameHead}
 use Rattle.gm_defs.specs.Body.{piece, message_limit, is_prio}
 use Rattle.gm_defs.specs.Fragment.{Fragment, fragments, piece_count, whole_below, head_of, frame_of}
 use Rattle.gm_defs.specs.Connection.{SenderState, due, is_taken, acknowledged}
@@ -20,7 +21,7 @@ use Rattle.gm_conn.proofs.Connections.{due-some}
 use Rattle.gm_conn.proofs.Finished.{heard-finished, heard-none, finished-less, finished-pushed}
 use Rattle.gm_conn.proofs.Sent.{of-push, of-drop, of-count, waits-last, below-waiting, due-of-message}
 use Rattle.world_defs.specs.Lane.{Ticket}
-use Rattle.host_lanes.specs.Lane.{other_way, IsLane}
+use Rattle.host_lanes.specs.Lane.{other_way, head_of_frame, IsLane}
 
 -- ---- what is finished
 
@@ -50,15 +51,13 @@ finished-lane w ms n answer kept waits numbered is = by (is_taken w.numbers n) r
 
 -- ---- what is due
 
--- What is due, beside its message.
-pub record IsDueOf (w : Outgoing) (ms : List Message) (d : Due) : Type 0 where
-  pub fragment : Fragment
-  pub there : slice_get ms (length ms - (length w.waiting - place_below w d.head.seq)) ≡ Some fragment.message
+-- What is due, beside the ticket of its message.
+pub record IsDueOf (w : Outgoing) (ms : List Message) (ts : List Ticket) (d : Due) : Type 0 where
   pub low : first w ≤ d.head.seq
-  pub part : fragment.part ≡ take d.head.len (drop d.head.offset fragment.message.body)
-  pub inside : d.head.offset + d.head.len ≤ length fragment.message.body
-  pub long : length fragment.part ≡ d.head.len
-  pub frame : option_and_then (λ seq. frame_of w.key ms seq) (due w.numbers) ≡ Some (d.head, fragment.part)
+  pub inside : length ts - (length w.waiting - place_below w d.head.seq) < length ts
+  pub few : length w.waiting - place_below w d.head.seq ≤ length ts
+  pub place : length ts - (length w.waiting - place_below w d.head.seq) ≡ whole_below ms d.head.seq - whole_below ms w.numbers.base
+  pub frame : option_map head_of_frame (option_and_then (λ seq. frame_of w.key ms seq) (due w.numbers)) ≡ Some d.head
 
 due-at-number : (w : Outgoing) (ms : List Message) (n : ℕ) → length (fragments ms) ≡ w.numbers.next → due w.numbers ≡ Some n → (f : Fragment) × (slice_get (fragments ms) n ≡ Some f)
 due-at-number w ms n numbered e =
@@ -67,47 +66,35 @@ due-at-number w ms n numbered e =
     let b = d.offered_already in
     within (fragments ms) n (omega (arith, a, b, numbered))
 
--- the bytes of a fragment, as its head says them
-part-by-head : (ms : List Message) (n : ℕ) (f : Fragment) → slice_get (fragments ms) n ≡ Some f → f.part ≡ take (length f.part) (drop f.offset f.message.body)
-part-by-head ms n f e =
-    let c : ComesNext ms n f = next-fragment ms n f e in
-    let is = part-of ms n f e in
-    let left = length-drop f.offset f.message.body in
-    let long : length f.part ≡ min piece (length (drop f.offset f.message.body)) = c.long ∙ ap (min piece) (sym left) in
-    is ∙ sym (take-there piece (drop f.offset f.message.body)) ∙ ap (λ k. take k (drop f.offset f.message.body)) (sym long)
-
-pub due-is : (w : Outgoing) (ms : List Message) (d : Due) → IsOutgoing w → length (fragments ms) ≡ w.numbers.next → WaitsFor w ms → Some d ≡ due_frame w → IsDueOf w ms d
-due-is w ms d kept numbered waits e = by (due w.numbers) refl
+pub due-is : (w : Outgoing) (ms : List Message) (ts : List Ticket) (d : Due) → IsOutgoing w → length (fragments ms) ≡ w.numbers.next → WaitsFor w ms → finished w ≡ 0 → map (λ d. d.ticket) w.waiting ≡ map (λ t. t.token) ts → Some d ≡ due_frame w
+    → IsDueOf w ms ts d
+due-is w ms ts d kept numbered waits none tickets e = by (due w.numbers) refl
   where
-    by : (o : Option ℕ) → due w.numbers ≡ o → IsDueOf w ms d
-    by None none = absurd (none-some d (sym (e ∙ ap (option_and_then (due_at w)) none)))
+    by : (o : Option ℕ) → due w.numbers ≡ o → IsDueOf w ms ts d
+    by None nothing = absurd (none-some d (sym (e ∙ ap (option_and_then (due_at w)) nothing)))
     by (Some n) some =
         let f = due-at-number w ms n numbered some in
         let of = due-of-message w ms n f.0 kept waits numbered some f.1 in
-        let same : d ≡ record { head = head_of w.key n f.0; ticket = of.0.ticket } = same_Some d (record { head = head_of w.key n f.0; ticket = of.0.ticket }) (e ∙ of.2) in
+        let head : FrameHead = head_of w.key n f.0 in
+        let same : d.head ≡ head = ap (λ x. x.head) (same_Some d (record { head = head_of w.key n f.0; ticket = of.0.ticket }) (e ∙ of.2)) in
         let c : ComesNext ms n f.0 = next-fragment ms n f.0 f.1 in
         let number = (due-some w.numbers n some).number in
         let up = kept.sender.base_below in
         let below = kept.waits in
         let low : first w ≤ n = omega (arith, number, up, below) in
-        let l = waits-last w ms kept waits numbered in
-        let few = l.few in
-        let place : whole_below ms n ≡ length ms - length w.waiting + place_below w n = below-waiting w ms n kept waits numbered low in
-        let here = slice_get_within ms (whole_below ms n) f.0.message c.there in
-        let at : length ms - (length w.waiting - place_below w n) ≡ whole_below ms n = omega (arith, place, few, here) in
-        let within_message = offset-within (length f.0.message.body) f.0.offset c.begins in
-        let long = c.long in
-        let end : f.0.offset + length f.0.part ≤ length f.0.message.body = omega (arith, within_message, long) in
-        let frame : option_and_then (λ seq. frame_of w.key ms seq) (due w.numbers) ≡ Some (head_of w.key n f.0, f.0.part) =
-        ap (option_and_then (λ seq. frame_of w.key ms seq)) some ∙ ap (option_map (λ g. (head_of w.key n g, g.part))) f.1 in
+        let few = (waits-last w ms kept waits numbered).few in
+        let here : whole_below ms n ≡ length ms - length w.waiting + place_below w n = below-waiting w ms n kept waits numbered low in
+        let start : whole_below ms w.numbers.base ≡ length ms - length w.waiting + finished w = below-waiting w ms w.numbers.base kept waits numbered below in
+        let there = slice_get_within ms (whole_below ms n) f.0.message c.there in
+        let long : length ts ≡ length w.waiting = sym (length-map ts (λ (t : Ticket). t.token)) ∙ sym (ap length tickets) ∙ length-map w.waiting (λ (x : Desc). x.ticket) in
+        let shown : option_map head_of_frame (option_and_then (λ seq. frame_of w.key ms seq) (due w.numbers)) ≡ Some head =
+        ap (λ o. option_map head_of_frame (option_and_then (λ seq. frame_of w.key ms seq) o)) some ∙ ap (λ o. option_map head_of_frame (option_map (λ g. (head_of w.key n g, g.part)) o)) f.1 in
         record {
-          fragment = f.0;
-          there = ap (λ x. slice_get ms (length ms - (length w.waiting - place_below w x.head.seq))) same ∙ ap (slice_get ms) at ∙ c.there;
-          low = subst (λ x. first w ≤ x.head.seq) (sym same) low;
-          part = part-by-head ms n f.0 f.1 ∙ ap (λ x. take x.head.len (drop x.head.offset f.0.message.body)) (sym same);
-          inside = subst (λ x. x.head.offset + x.head.len ≤ length f.0.message.body) (sym same) end;
-          long = ap (λ x. x.head.len) (sym same);
-          frame = frame ∙ ap (λ x. Some (x.head, f.0.part)) (sym same);
+          low = subst (λ h. first w ≤ h.seq) (sym same) low;
+          inside = subst (λ h. length ts - (length w.waiting - place_below w h.seq) < length ts) (sym same) (omega (arith, few, here, there, long));
+          few = subst (λ h. length w.waiting - place_below w h.seq ≤ length ts) (sym same) (omega (arith, long));
+          place = subst (λ h. length ts - (length w.waiting - place_below w h.seq) ≡ whole_below ms h.seq - whole_below ms w.numbers.base) (sym same) (omega (arith, few, here, start, none, there, long));
+          frame = shown ∙ ap (λ h. Some h) (sym same);
         }
 
 pub none-is : (w : Outgoing) (ms : List Message) → IsOutgoing w → length (fragments ms) ≡ w.numbers.next → WaitsFor w ms → None ≡ due_frame w
@@ -121,9 +108,22 @@ none-is w ms kept numbered waits e = by (due w.numbers) refl
         let of = due-of-message w ms n f.0 kept waits numbered some f.1 in
         absurd (none-some (record { head = head_of w.key n f.0; ticket = of.0.ticket }) (e ∙ of.2))
 
--- an element that was read is the one at its place
-pub read-is : (ms : List Message) (k : ℕ) (m x : Message) → slice_get ms k ≡ Some m → x ≡ get_or ms k x → x ≡ m
-read-is ms k m x e same = same ∙ same_Some (get_or ms k x) m (sym (slice_get-get_or ms k x (slice_get_within ms k m e)) ∙ e)
+-- there is a ticket at each place below their number
+pub there-is : (ts : List Ticket) (i j : ℕ) → i ≡ j → j < length ts → slice_get ts i ≡ None → ⊥
+there-is ts i j same low none =
+    let x = within ts j low in
+    none-some x.0 (sym none ∙ ap (slice_get ts) same ∙ x.1)
+
+-- a fragment is due exactly where its frame is
+pub due-told : (w : Outgoing) (ms : List Message) → IsOutgoing w → length (fragments ms) ≡ w.numbers.next → WaitsFor w ms → is_some (due_frame w) ≡ is_some (option_and_then (λ seq. frame_of w.key ms seq) (due w.numbers))
+due-told w ms kept numbered waits = by (due w.numbers) refl
+  where
+    by : (o : Option ℕ) → due w.numbers ≡ o → is_some (due_frame w) ≡ is_some (option_and_then (λ seq. frame_of w.key ms seq) (due w.numbers))
+    by None none = ap (λ o. is_some (option_and_then (due_at w) o)) none ∙ sym (ap (λ o. is_some (option_and_then (λ seq. frame_of w.key ms seq) o)) none)
+    by (Some n) some =
+        let f = due-at-number w ms n numbered some in
+        let of = due-of-message w ms n f.0 kept waits numbered some f.1 in
+        ap is_some of.2 ∙ sym (ap (λ o. is_some (option_and_then (λ seq. frame_of w.key ms seq) o)) some ∙ ap (λ (o : Option Fragment). is_some {T = FrameHead × List ℕ} (option_map (λ g. (head_of w.key n g, g.part)) o)) f.1)
 
 -- ---- a message is accepted
 pub accepted-is : (v w : Outgoing) (r : Incoming) (ms : List Message) (ts : List Ticket) (d : Desc) (m : Message) (t : Ticket) → IsOutgoing v → IsLane v r ms ts → Describes d m → d.ticket ≡ t.token → length m.body ≤ message_limit

@@ -1,13 +1,13 @@
 -- What a contract sees of one lane of a host: its connections with a peer, of one priority.
-use Rattle.std.specs.Prelude.{◌≡◌, ℕ, ◌≤◌, List, length, map, if◌then◌else◌, Option, Some, None, option_map}
-use Rattle.std.specs.Prelude.{option_and_then}
+use Rattle.std.specs.Prelude.{◌≡◌, ℕ, ◌≤◌, ◌-◌, List, length, map, slice_get, if◌then◌else◌, Option, Some, None}
+use Rattle.std.specs.Prelude.{option_map, option_and_then}
 use Rattle.std.specs.List.{AllByRecursion}
 use Rattle.gm_defs.specs.declared.message.Message.{Message}
 use Rattle.gm_defs.specs.declared.frame.FrameHead.{FrameHead}
 use Rattle.gm_defs.specs.declared.frame.ConnectionKey.{ConnectionKey}
 use Rattle.gm_defs.specs.Body.{message_limit}
-use Rattle.gm_defs.specs.Fragment.{fragments, piece_count, frame_of}
-use Rattle.gm_defs.specs.Connection.{connection, due, is_spent}
+use Rattle.gm_defs.specs.Fragment.{fragments, piece_count, whole_below, frame_of}
+use Rattle.gm_defs.specs.Connection.{IsSender, connection, due, is_spent}
 use Rattle.gm_conn.specs.declared.refusal.OfferRefusal.{OfferRefusal}
 use Rattle.gm_conn.specs.declared.refusal.OfferRefusal.TheVariants.{Spent}
 use Rattle.gm_conn.specs.Halves.{Outgoing, Incoming, WaitsFor, finished}
@@ -36,9 +36,23 @@ unused key = record { key = key; state = new_lane }
 abbrev pub due_frame : HostLane → Option (FrameHead × List ℕ)
 due_frame p = option_and_then (λ seq. frame_of p.key p.state.sent seq) (due p.state.sender)
 
--- a frame as it is handed out
-abbrev pub frame_shown : Option DueFrame → Option (FrameHead × List ℕ)
-frame_shown d = option_map (λ f. (f.head, f.part.now)) d
+-- the head of a frame
+abbrev pub head_of_frame : FrameHead × List ℕ → FrameHead
+head_of_frame f = f.0
+
+-- the head of a frame as it is handed out
+abbrev pub head_shown : DueFrame → FrameHead
+head_shown d = d.head
+
+-- the ticket of the message whose fragment has a number: as many wait before it as messages before that one aren't
+-- finished
+abbrev pub ticket_of : LaneState → ℕ → Option Ticket
+ticket_of l seq = slice_get l.pending (whole_below l.sent seq - whole_below l.sent l.sender.base)
+
+-- The numbers of a lane are in order, and the fragments of what was sent have those up to the next.
+pub record AreNumbered (l : LaneState) : Type 0 where
+  pub sender : IsSender l.sender
+  pub numbered : length (fragments l.sent) ≡ l.sender.next
 
 -- the message of an envelope and its bytes
 abbrev pub message_in : Envelope → List ℕ → Message

@@ -3,7 +3,7 @@ use Rattle.std.specs.Prelude.{◌≡◌, ℕ, ◌*◌, ◌^◌, ◌<◌, ◌≤�
 use Rattle.gm_defs.specs.Connection.{unacknowledged}
 use Rattle.number_marks.specs.Marks.{mark_at, IsWritten}
 use Rattle.number_marks.specs.Least.{mark_of}
-use Rattle.host_lanes.specs.Lane.{HostLane, due_frame}
+use Rattle.host_lanes.specs.Lane.{HostLane, due_frame, AreNumbered}
 use Rattle.host_lanes.specs.Lanes.{AreOf, nobody}
 
 -- The lanes that owe an acknowledgement, those on which a frame is due, and those with something unacknowledged.
@@ -47,20 +47,23 @@ pub record AreBare (s : Sets) (count : ℕ) : Type 0 where
   pub due : IsBareFor s.due count
   pub unacked : IsBareFor s.unacked count
 
--- A number is in each set exactly where the lane passes its test; for other numbers nothing changes.
+-- A number is in each set exactly where the lane passes its test; for other numbers nothing changes. The lane's own
+-- numbers are in order.
 pub record IsNoted (old new : Sets) (n : ℕ) (p : HostLane) : Type 0 where
   pub owing : IsWritten old.owing new.owing n (mark_of (is_owing p))
   pub due : IsWritten old.due new.due n (mark_of (is_due p))
   pub unacked : IsWritten old.unacked new.unacked n (mark_of (is_unacked p))
+  pub numbered : AreNumbered p.state
 
 -- The marked numbers are those of the lanes that pass a test, and each lane has its place.
 pub record IsSetOf (test : HostLane → Bool) (ps : List HostLane) (words : List ℕ) : Type 0 where
   pub room : length ps ≤ 64 * length words
   pub marks : (k : ℕ) → mark_at words k ≡ mark_of (test (slice_index_or ps k nobody))
 
--- The lanes are those of the host, and the sets are of those that pass each test.
+-- The lanes are those of the host, their numbers are in order, and the sets are of those that pass each test.
 pub record AreTold (host hosts : ℕ) (ps : List HostLane) (s : Sets) : Type 0 where
   pub lanes : AreOf host hosts ps
+  pub numbered : (lane : ℕ) → AreNumbered (slice_index_or ps lane nobody).state
   pub owing : IsSetOf is_owing ps s.owing
   pub due : IsSetOf is_due ps s.due
   pub unacked : IsSetOf is_unacked ps s.unacked

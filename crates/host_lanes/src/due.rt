@@ -1,5 +1,6 @@
-//! A fragment that is due, with its bytes.
+//! A fragment that is due, and whose bytes it is.
 
+use crate::Ticket;
 use gm_defs::FrameHead;
 
 /// The frame that is to be sent next.
@@ -7,6 +8,6 @@ use gm_defs::FrameHead;
 pub struct DueFrame<'a> {
     /// What stands in the frame before the fragment's bytes.
     pub head: FrameHead,
-    /// The fragment's bytes.
-    pub part: &'a [u8],
+    /// The send in whose buffer the bytes stand, from the head's offset on.
+    pub ticket: &'a Ticket,
 }

@@ -1,8 +1,8 @@
 //! One lane of a host: its connections with one peer, of one priority.
 
-ghost use Rattle.std.specs.Prelude.{◌≡◌, ◌<◌, ◌≤◌, ◌+◌, ◌++◌, true, List, length, take, drop, slice_get, vec_len};
+ghost use Rattle.std.specs.Prelude.{◌≡◌, ◌<◌, ◌≤◌, ◌+◌, ◌++◌, true, List, length, drop, slice_get, vec_len, Some};
 ghost use Rattle.std.specs.Prelude.{vec_capacity};
-ghost use Rattle.std.specs.Prelude.{IsSome, IfSome, OnOk, OnErr, IfOk, IfErr};
+ghost use Rattle.std.specs.Prelude.{IsSome, IfSome, OnOk, OnErr, IfOk, IfErr, is_some, option_map};
 ghost use Rattle.std.specs.Option.{option_copied};
 ghost use Rattle.std.specs.VecDeque.{deque_len, deque_capacity};
 ghost use Rattle.net_defs.specs.Refusal.{Refuses};
@@ -13,8 +13,8 @@ ghost use Rattle.gm_conn.specs.Halves.{WaitsFor, finished};
 ghost use Rattle.world_defs.specs.Lane.{with_message, finished_by, lane_acknowledged, lane_expired, lane_sent_one};
 ghost use Rattle.world_defs.specs.Lane.{lane_answered, got_after, coming_after, lane_after};
 ghost use Rattle.world_defs.specs.Hearing.{message_of};
-ghost use Rattle.host_lanes.specs.Lane.{in_state, other_way, unused, due_frame, frame_shown, message_in};
-ghost use Rattle.host_lanes.specs.Lane.{accept_refusal};
+ghost use Rattle.host_lanes.specs.Lane.{in_state, other_way, unused, due_frame, head_shown, head_of_frame, ticket_of};
+ghost use Rattle.host_lanes.specs.Lane.{message_in, accept_refusal, AreNumbered};
 
 use crate::{DueFrame, Envelope, Ticket};
 use gm_conn::{Ack, Desc, FrameHead, OfferRefusal, Receiver, Sender, Took};
@@ -74,24 +74,42 @@ impl Lane {
         }
     }
 
-    /// The fragment that is to be sent next, if one is.
+    /// The fragment that is to be sent next, if one is: its head, and the send that its message is of. As many sends
+    /// wait before that one as messages before its message aren't finished.
     pub fn due(&self) -> Option<DueFrame<'_>>
-        ensures exact { frame_shown result ≡ due_frame self.now }
+        ensures head { option_map head_shown result ≡ option_map head_of_frame (due_frame self.now) }
         ensures by_rules { IfSome result (λ d. is_head d.head ≡ true) }
-        ensures part { IfSome result (λ d. length d.part.now ≡ d.head.len) }
+        ensures ticket { IfSome result (λ d. ticket_of self.now.state d.head.seq ≡ Some d.ticket.now) }
     {
         self.sender.in_order();
         match self.sender.due() {
             Some(due) => {
-                let place = self.sent.len() - self.sender.left_from(due.head.seq);
-                let part = part_at(self.sent[place].body.bytes(), due.head.offset, due.head.len);
-                Some(DueFrame {
-                    head: due.head,
-                    part,
-                })
+                let place = self.pending.len() - self.sender.left_from(due.head.seq);
+                match self.pending(place) {
+                    Some(ticket) => Some(DueFrame {
+                        head: due.head,
+                        ticket,
+                    }),
+                    None => unreachable!(),
+                }
             }
             None => None,
         }
+    }
+
+    /// Whether a fragment is due.
+    pub fn is_due(&self) -> bool
+        ensures { result ≡ is_some (due_frame self.now) }
+    {
+        self.sender.in_order();
+        self.sender.due().is_some()
+    }
+
+    /// The numbers are in order, and the fragments of all that was sent have those up to the next.
+    pub fn in_order(&self)
+        ensures { AreNumbered self.now.state }
+    {
+        self.sender.in_order();
     }
 
     /// The due fragment was sent.
@@ -256,15 +274,6 @@ fn took_of(taken: u32, h: &FrameHead, fits: bool) -> Took
     } else {
         Took::Part
     }
-}
-
-// So many bytes of a message from an offset on.
-fn part_at(body: &[u8], offset: u32, len: u16) -> &[u8]
-    requires { offset + len ≤ length body.now }
-    ensures { result.now ≡ take len (drop offset body.now) }
-{
-    let from = offset as usize;
-    &body[from..from + usize::from(len)]
 }
 
 // Makes room for one message and one ticket more.

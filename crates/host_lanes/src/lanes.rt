@@ -1,13 +1,13 @@
 //! The lanes of a host.
 
-ghost use Rattle.std.specs.Prelude.{◌≡◌, ◌<◌, ◌≤◌, ◌^◌, length, true, IfOk, OnOk, OnErr, IsSome};
+ghost use Rattle.std.specs.Prelude.{◌≡◌, ◌<◌, ◌≤◌, ◌^◌, ℕ, length, true, IfOk, OnOk, OnErr, IsSome};
 ghost use Rattle.net_defs.specs.Refusal.{Refuses};
 ghost use Rattle.gm_defs.specs.Body.{is_head, is_last, message_limit};
 ghost use Rattle.gm_defs.specs.Connection.{due, took};
 ghost use Rattle.world_defs.specs.Lane.{with_message, lane_acknowledged, lane_sent_one, lane_answered, lane_after};
 ghost use Rattle.world_defs.specs.Node.{lane_count, lane_of};
 ghost use Rattle.world_defs.specs.Hearing.{message_of, frame_lane, ack_lane};
-ghost use Rattle.host_lanes.specs.Lane.{message_in, accept_refusal};
+ghost use Rattle.host_lanes.specs.Lane.{message_in, accept_refusal, AreNumbered};
 ghost use Rattle.host_lanes.specs.Lanes.{all_unused, lane_in, held_lane, with_state, one_expired, both_expired};
 ghost use Rattle.host_lanes.specs.Lanes.{unacknowledged_to, owes_on, has_due, has_unacked, IsNext};
 
@@ -63,6 +63,15 @@ impl Lanes {
         ensures lanes { length self.now.lanes ≡ lane_count result }
     {
         self.hosts
+    }
+
+    /// There are two lanes for each host. The numbers of each are in order, and the fragments of all that was sent by
+    /// it have those up to the next.
+    pub fn in_order(&self)
+        ensures numbers { (lane : ℕ) → AreNumbered (lane_in self.now lane) }
+        ensures count { length self.now.lanes ≡ lane_count self.now.hosts }
+    {
+        let _hosts = self.hosts;
     }
 
     /// How many lanes there are.

@@ -47,9 +47,10 @@ impl LaneSets {
         requires { HasRoom self.old lane }
         ensures { IsNoted self.old self.new lane l.now }
     {
+        l.in_order();
         let number = lane as usize;
         self.owing.write(number, l.owes());
-        self.due.write(number, l.due().is_some());
+        self.due.write(number, l.is_due());
         self.unacked.write(number, l.unacked() > 0);
     }
 

@@ -2,7 +2,7 @@
 
 /// Why a port is not opened.
 #[derive(Clone, Copy, Debug, PartialEq, Eq)]
-pub enum PortBegin {
+pub enum NodeBegin {
     /// It is open.
     Already,
     /// There is no memory for it.
@@ -22,7 +22,7 @@ pub enum PortSend {
 
 /// Why a buffer is not provided.
 #[derive(Clone, Copy, Debug, PartialEq, Eq)]
-pub enum PortProvide {
+pub enum NodeProvide {
     /// The port isn't open.
     NotOpen,
     /// The size is not from 4 to 16, or the priority is above 1.
@@ -33,7 +33,7 @@ pub enum PortProvide {
 
 /// Why a port is not closed.
 #[derive(Clone, Copy, Debug, PartialEq, Eq)]
-pub enum PortClose {
+pub enum NodeClose {
     /// It isn't open.
     NotOpen,
     /// So many sends aren't finished.

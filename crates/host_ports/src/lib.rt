@@ -16,7 +16,7 @@ mod ask;
 mod ports;
 mod slot;
 
-pub use ask::{NotOpen, PortBegin, PortClose, PortProvide, PortSend};
+pub use ask::{NodeBegin, NodeClose, NodeProvide, NotOpen, PortSend};
 pub use gm_port::{
     CloseRefusal, NoMemory, Port, PortEvent, ProvideRefusal, SendAsk, SendRefusal, Wreck,
 };

@@ -13,7 +13,7 @@ ghost use Rattle.world_defs.specs.Hearing.{port_takes};
 ghost use Rattle.host_ports.specs.Held.{none_open, open_at, with_open, changed, place_at, unfinished_at};
 ghost use Rattle.host_ports.specs.Refusal.{begin_bar, send_bar, provide_bar, close_bar};
 
-use crate::ask::{NotOpen, PortBegin, PortClose, PortProvide, PortSend};
+use crate::ask::{NodeBegin, NodeClose, NodeProvide, NotOpen, PortSend};
 use crate::slot;
 use gm_defs::{FrameHead, TokenPlace};
 use gm_port::{Port, PortEvent, SendAsk, Wreck};
@@ -62,22 +62,22 @@ impl Ports {
         port: u8,
         sends: u16,
         recvs: u16,
-    ) -> Result<(), PortBegin>
+    ) -> Result<(), NodeBegin>
         requires { port < 8 }
-        ensures refused { Refuses (begin_bar (open_at self.old port)) PortBegin.NoMemory result }
+        ensures refused { Refuses (begin_bar (open_at self.old port)) NodeBegin.NoMemory result }
         ensures begun { OnOk result (self.new ≡ with_open self.old port (Some (opened sends recvs))) }
         ensures unchanged { OnErr result (self.new ≡ self.old) }
     {
         let place = usize::from(port);
         if self.ports[place].is_some() {
-            return Err(PortBegin::Already);
+            return Err(NodeBegin::Already);
         }
         match Port::begin(alloc, self.host, port, sends, recvs) {
             Ok(opened) => {
                 slot::put_back(&mut self.ports[place], opened);
                 Ok(())
             }
-            Err(_) => Err(PortBegin::NoMemory),
+            Err(_) => Err(NodeBegin::NoMemory),
         }
     }
 
@@ -135,7 +135,7 @@ impl Ports {
         b: Reg,
         size: u8,
         prio: u8,
-    ) -> Result<(), (RecvToken, Reg, PortProvide)>
+    ) -> Result<(), (RecvToken, Reg, NodeProvide)>
         requires port { port < 8 }
         requires own { t ≡ token_at self.old.host port t.number }
         requires minted { ForSome (open_at self.old port) (λ p. t.number < p.recvs) }
@@ -186,7 +186,7 @@ impl Ports {
 
     /// Closes a port, and hands each provided token back with its buffer, first provided first. A refusal changes
     /// nothing: NotOpen, Busy where sends aren't finished, Unread where events wait, Filling where tokens are filling.
-    pub fn close(&mut self, port: u8) -> Result<Vec<(RecvToken, Reg)>, PortClose>
+    pub fn close(&mut self, port: u8) -> Result<Vec<(RecvToken, Reg)>, NodeClose>
         requires { port < 8 }
         ensures refused { MatchResult result (λ _. close_bar (open_at self.old port) ≡ None) (λ e.
             close_bar (open_at self.old port) ≡ Some e) }

@@ -12,7 +12,7 @@ ghost use Rattle.world_defs.specs.Hearing.{port_takes};
 ghost use Rattle.host_ports.specs.Held.{state_at, changed_port, place_at, unfinished_of};
 ghost use Rattle.host_ports.specs.Refusal.{send_bar, provide_bar, close_bar, close_word};
 
-use crate::ask::{NotOpen, PortClose, PortProvide, PortSend};
+use crate::ask::{NodeClose, NodeProvide, NotOpen, PortSend};
 use gm_defs::{FrameHead, TokenPlace};
 use gm_port::{CloseRefusal, Port, PortEvent, ProvideRefusal, SendAsk, Wreck};
 use gm_tokens::{RecvToken, SendToken, is_too_long};
@@ -59,7 +59,7 @@ pub(crate) fn provide(
     b: Reg,
     size: u8,
     prio: u8,
-) -> Result<(), (RecvToken, Reg, PortProvide)>
+) -> Result<(), (RecvToken, Reg, NodeProvide)>
     requires own { ForSome slot.old (λ p. t ≡ token_at p.host p.port t.number) }
     requires minted { ForSome slot.old (λ p. t.number < p.state.recvs) }
     requires free { ForSome slot.old (λ p. place_of_recv p.state t.number ≡ None) }
@@ -73,10 +73,10 @@ pub(crate) fn provide(
     match slot {
         Some(port) => match port.provide(t, b, size, prio) {
             Ok(()) => Ok(()),
-            Err((t, b, ProvideRefusal::BadSize)) => Err((t, b, PortProvide::BadSize)),
-            Err((t, b, ProvideRefusal::BufferShort)) => Err((t, b, PortProvide::BufferShort)),
+            Err((t, b, ProvideRefusal::BadSize)) => Err((t, b, NodeProvide::BadSize)),
+            Err((t, b, ProvideRefusal::BufferShort)) => Err((t, b, NodeProvide::BufferShort)),
         },
-        None => Err((t, b, PortProvide::NotOpen)),
+        None => Err((t, b, NodeProvide::NotOpen)),
     }
 }
 
@@ -146,7 +146,7 @@ pub(crate) fn poll(slot: &mut Option<Port>) -> Result<Option<PortEvent>, NotOpen
 }
 
 // Closes a port, and hands each provided token back with its buffer.
-pub(crate) fn close(slot: &mut Option<Port>) -> Result<Vec<(RecvToken, Reg)>, PortClose>
+pub(crate) fn close(slot: &mut Option<Port>) -> Result<Vec<(RecvToken, Reg)>, NodeClose>
     ensures refused { MatchResult result (λ _. close_bar (state_at slot.old) ≡ None) (λ e.
         close_bar (state_at slot.old) ≡ Some e) }
     ensures unchanged { OnErr result (slot.new ≡ slot.old) }
@@ -162,7 +162,7 @@ pub(crate) fn close(slot: &mut Option<Port>) -> Result<Vec<(RecvToken, Reg)>, Po
                 Err(word_of(refusal))
             }
         },
-        None => Err(PortClose::NotOpen),
+        None => Err(NodeClose::NotOpen),
     }
 }
 
@@ -203,12 +203,12 @@ pub(crate) fn put_back(slot: &mut Option<Port>, port: Port)
     }
 }
 
-fn word_of(refusal: CloseRefusal) -> PortClose
+fn word_of(refusal: CloseRefusal) -> NodeClose
     ensures { result ≡ close_word refusal }
 {
     match refusal {
-        CloseRefusal::Busy(n) => PortClose::Busy(n),
-        CloseRefusal::Unread(n) => PortClose::Unread(n),
-        CloseRefusal::Filling(n) => PortClose::Filling(n),
+        CloseRefusal::Busy(n) => NodeClose::Busy(n),
+        CloseRefusal::Unread(n) => NodeClose::Unread(n),
+        CloseRefusal::Filling(n) => NodeClose::Filling(n),
     }
 }

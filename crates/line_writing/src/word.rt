@@ -1,6 +1,6 @@
 //! A word, as it is written.
 
-ghost use Rattle.std.specs.Prelude.{◌≡◌, ◌++◌, ◌∷◌, OnOk, codes, decimal};
+ghost use Rattle.std.specs.Prelude.{◌≡◌, ◌<◌, ◌++◌, ◌∷◌, OnOk, codes, decimal};
 ghost use Rattle.hex.specs.Hex.{encode_lower};
 ghost use Rattle.line_writing.specs.Words.{word_text};
 
@@ -23,20 +23,40 @@ pub enum Word<'a> {
 }
 
 /// Puts a word behind a text.
-pub(crate) fn append_word(text: &mut Vec<u8>, word: Word) -> Result<(), AllocError>
-    ensures { OnOk result (text.new.items ≡ text.old.items ++ word_text word.entry) }
+pub(crate) fn append_word(text: &mut Vec<u8>, word: &Word) -> Result<(), AllocError>
+    ensures { OnOk result (text.new.items ≡ text.old.items ++ word_text word.now) }
 {
     match word {
         Word::Text(bytes) => text.extend_from_slice(bytes),
-        Word::Number(number) => append_number(text, number),
-        Word::Marked(mark, number) => append_marked(text, mark, number),
-        Word::Entry(number, value) => append_entry(text, number, value),
+        Word::Number(number) => append_number(text, *number),
+        Word::Marked(mark, number) => append_marked(text, *mark, *number),
+        Word::Entry(number, value) => append_entry(text, *number, value),
         Word::Hex(bytes) => append_hex(text, bytes),
     }
 }
 
-// A number in decimal.
+// A number in decimal. Most have one digit, which needs no buffer.
 fn append_number(text: &mut Vec<u8>, number: u64) -> Result<(), AllocError>
+    ensures { OnOk result (text.new.items ≡ text.old.items ++ decimal number) }
+{
+    if number < 10 {
+        append_digit(text, number as u8)
+    } else {
+        append_digits(text, number)
+    }
+}
+
+// A number of one digit.
+fn append_digit(text: &mut Vec<u8>, number: u8) -> Result<(), AllocError>
+    requires { number < 10 }
+    ensures { OnOk result (text.new.items ≡ text.old.items ++ decimal number) }
+{
+    text.push(b'0' + number)?;
+    Ok(())
+}
+
+// A number of any digits.
+fn append_digits(text: &mut Vec<u8>, number: u64) -> Result<(), AllocError>
     ensures { OnOk result (text.new.items ≡ text.old.items ++ decimal number) }
 {
     let mut buffer = Buffer::new();

@@ -23,7 +23,7 @@ pub fn append_words(text: &mut Vec<u8>, words: &[Word]) -> Result<(), AllocError
 {
     match words.split_first() {
         Some((first, others)) => {
-            append_word(text, *first)?;
+            append_word(text, first)?;
             append_behind(text, others)
         }
         None => Ok(()),
@@ -35,14 +35,14 @@ pub fn append_behind(text: &mut Vec<u8>, words: &[Word]) -> Result<(), AllocErro
     ensures { OnOk result (text.new.items ≡ text.old.items ++ flat_map (λ w. 32 ∷ word_text w) words.now) }
 {
     for word in words {
-        append_spaced(text, *word)?;
+        append_spaced(text, word)?;
     }
     Ok(())
 }
 
 // A word with a space before it.
-fn append_spaced(text: &mut Vec<u8>, word: Word) -> Result<(), AllocError>
-    ensures { OnOk result (text.new.items ≡ text.old.items ++ 32 ∷ word_text word.entry) }
+fn append_spaced(text: &mut Vec<u8>, word: &Word) -> Result<(), AllocError>
+    ensures { OnOk result (text.new.items ≡ text.old.items ++ 32 ∷ word_text word.now) }
 {
     text.push(b' ')?;
     append_word(text, word)

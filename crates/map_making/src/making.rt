@@ -34,6 +34,7 @@ pub struct MadeMap {
 /// of drowned asks begins at 0, since each ask that drowns makes the map doubtful. Where it wants memory, the map is
 /// lost, and the prober was asked a part of its asks, or all.
 pub fn make_map<P: Prober>(alloc: Global, p: &mut P, depth: u8) -> Result<MadeMap, AllocError>
+    requires some { 1 ≤ depth }
     requires shallow { depth ≤ 32 }
     requires is_ready { P.ready p.old }
     requires fresh { P.lost p.old ≡ 0 }

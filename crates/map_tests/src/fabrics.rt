@@ -17,27 +17,13 @@ pub(crate) fn fabric_of(alloc: Global, text: &str) -> Option<Fabric> {
     Some(read.fabric)
 }
 
-pub(crate) const LONE_HOST: &str = "host a\nscript\n";
-
 pub(crate) const ONE_CABLE: &str = "host a\nhost b\ncable a 0 b 0\nscript\n";
 
 pub(crate) const TWO_HOSTS: &str =
     "host a\nhost b\nswitch s 8\ncable a 0 s 2\ncable b 0 s 5\nscript\n";
-
-pub(crate) const CHAIN: &str = "host a\nhost b\nswitch s 8\nswitch t 8\nswitch u 8\n\
-    cable a 0 s 0\ncable s 1 t 2\ncable t 5 u 4\ncable u 7 b 0\nscript\n";
 
 pub(crate) const PARALLEL: &str = "host a\nhost b\nswitch s 8\nswitch t 8\n\
     cable a 0 s 0\ncable s 1 t 3\ncable s 2 t 6\ncable b 0 t 4\nscript\n";
 
 pub(crate) const SELF_CABLED: &str = "host a\nhost b\nswitch s 4\nswitch t 4\n\
     cable a 0 s 0\ncable b 0 s 1\ncable s 3 t 0\ncable t 1 t 2\nscript\n";
-
-pub(crate) const RING: &str =
-    "host a\nhost b\nhost c\nhost d\nswitch s0 4\nswitch s1 4\nswitch s2 4\nswitch s3 4\n\
-    cable s0 0 s1 1\ncable s1 0 s2 1\ncable s2 0 s3 1\ncable s3 0 s0 1\n\
-    cable a 0 s0 2\ncable b 0 s1 2\ncable c 0 s2 2\ncable d 0 s3 2\nscript\n";
-
-pub(crate) const RING_WITH_ONE_HOST: &str =
-    "host a\nswitch s0 4\nswitch s1 4\nswitch s2 4\nswitch s3 4\n\
-    cable s0 0 s1 1\ncable s1 0 s2 1\ncable s2 0 s3 1\ncable s3 0 s0 1\ncable a 0 s0 2\nscript\n";

@@ -4,7 +4,6 @@
 //! |---|---|
 //! | `drowning` | a prober whose chosen asks drown |
 //! | `classes` | the classes of two small journals |
-//! | `closure` | the classes of grown journals, compared with a plain closure, `plain` |
 //! | `numbering` | the numbering of a map |
 //! | `certificates` | what the check of a certificate answers |
 //! | `circuits` | a walk over circuit links, and the paths of a core |
@@ -19,14 +18,10 @@ mod circuits;
 #[cfg(test)]
 mod classes;
 #[cfg(test)]
-mod closure;
-#[cfg(test)]
 mod drowning;
 #[cfg(test)]
 mod fabrics;
 #[cfg(test)]
 mod numbering;
-#[cfg(test)]
-mod plain;
 #[cfg(test)]
 mod texts;

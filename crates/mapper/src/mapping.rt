@@ -43,6 +43,7 @@ pub struct Mapped {
 /// from elsewhere. While no ask drowns, a depth of Q + D + 1 makes it end so, where the fabric is small enough. Where
 /// it wants memory, journal and map are lost, and the prober was asked a part of the journal's asks.
 pub fn map<P: Prober>(alloc: Global, p: &mut P, depth: u8) -> Result<Mapped, AllocError>
+    requires some { 1 ≤ depth }
     requires shallow { depth ≤ 32 }
     requires is_ready { P.ready p.old }
     ensures host { IfOk result (λ m. m.journal.host ≡ P.mapper p.old) }

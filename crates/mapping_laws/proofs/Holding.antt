@@ -32,7 +32,7 @@ use Rattle.run_defs.specs.Run.Runs.{ended, goes_on}
 use Rattle.run_defs.specs.Headline.{IsCommandOf}
 use Rattle.mapping_laws.specs.Runs.{IsSessionOf}
 use Rattle.mapping_laws.specs.Held.{IsRightMap, HoldsRight, RunHoldsRight}
-use Rattle.mapping_laws.proofs.Made.{mapping_keeps, made_map_is_map, made_map_is_right}
+use Rattle.mapping_laws.proofs.Made.{mapping_keeps, made_map_is_map, made_map_is_right, made_map_is_connected}
 use Rattle.mapping_laws.proofs.Worlds.{event-set, settle-set, installed-set}
 use Rattle.mapping_laws.proofs.Sessions.{can-map-now, does-stays, new-session}
 
@@ -142,6 +142,7 @@ does-hold {s = s} {next = next} n f of_n is h (maps {host = host} {depth = depth
       complete = λ l e. kept-map n r l (λ says. record {
         rules = made_map_is_map host depth tries s.world after j m words can made;
         right = subst (λ k. IsMapOfPart k host m) is.fabric (made_map_is_right host depth tries s.world after j m can (subst (IsMapped host depth tries s.world after j m) says made));
+        connected = made_map_is_connected host depth tries s.world after j m words made;
       }) e;
       routes = h.routes;
       adopted = λ a e. h.adopted a (sym set ∙ e);

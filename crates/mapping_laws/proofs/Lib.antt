@@ -1,6 +1,15 @@
 pub mod Asks
+pub mod Circuits
 pub mod Made
 pub mod Worlds
 pub mod Sessions
 pub mod Printed
 pub mod Holding
+pub mod Asking
+pub mod Words
+pub mod Cables
+pub mod Closed
+pub mod Routes
+pub mod Trees
+pub mod Vertices
+pub mod Without

@@ -14,7 +14,7 @@ use Rattle.journal_defs.specs.Tree.{reached}
 use Rattle.journal_defs.specs.Growth.{IsGrown, IsGrowing, IsEndedByDepth, IsEndedAtLimit, IsClosed}
 use Rattle.journal_defs.specs.Growth.IsGrowing.{nothing, more}
 use Rattle.journal_defs.proofs.Members.{IsMember, all-from-members, all-map}
-use Rattle.map_defs.specs.NetMap.{NetMap, IsMap}
+use Rattle.map_defs.specs.NetMap.{NetMap, IsMap, IsConnected}
 use Rattle.map_defs.specs.Core.{core_of}
 use Rattle.map_defs.specs.Sameness.{IsMapOfPart}
 use Rattle.map_defs.proofs.Sameness.{same_map_is_right}
@@ -24,6 +24,7 @@ use Rattle.growth_laws.proofs.Few.{asks_are_few, member-asked}
 use Rattle.growth_laws.proofs.Depth.{depth_suffices}
 use Rattle.map_laws.proofs.Alike.{marks_do_not_matter}
 use Rattle.map_laws.proofs.Assembly.{closed_map_is_right}
+use Rattle.map_laws.proofs.Connected.{quotient_is_connected}
 use Rattle.map_laws.proofs.Marked.{marked_map_is_map}
 use Rattle.map_laws.proofs.Ruled.{quotient_is_map}
 use Rattle.world_defs.specs.declared.fault.Fault.{Fault}
@@ -33,11 +34,11 @@ use Rattle.run_defs.specs.Mapped.{AskedAll, IsMapped, IsCalled}
 use Rattle.run_defs.specs.Mapped.IsCalled.{too_many_nodes, too_shallow, doubted, right}
 use Rattle.run_defs.specs.declared.line.MapWords.{MapWords}
 use Rattle.run_defs.specs.declared.line.MapWords.TheVariants.{Complete}
-use Rattle.mapping_laws.specs.Laws.{CanMap, FoundIsThere, UndrownedIsTrue, MadeMapIsMap, MadeMapIsRight, MappingKeeps, DeepMapIsComplete}
+use Rattle.mapping_laws.specs.Laws.{CanMap, FoundIsThere, UndrownedIsTrue, MadeMapIsMap, MadeMapIsConnected, MadeMapIsRight, MappingKeeps, DeepMapIsComplete}
 use Rattle.mapping_laws.proofs.Asks.{IsCarried, AreAsked, asks-so}
 
 -- the walks of a grown journal are carried
-carried : (host depth : ℕ) (j : List Entry) → depth ≤ 65 → IsGrowing host depth j → AllByRecursion IsCarried (map (λ e. e.walk) j)
+pub carried : (host depth : ℕ) (j : List Entry) → depth ≤ 65 → IsGrowing host depth j → AllByRecursion IsCarried (map (λ e. e.walk) j)
 carried host depth j low g = all-map IsCarried (λ (e : Entry). e.walk) j (all-from-members (λ (e : Entry). IsCarried e.walk) j each)
   where
     each : (e : Entry) → IsMember e j → IsCarried e.walk
@@ -47,7 +48,7 @@ carried host depth j low g = all-map IsCarried (λ (e : Entry). e.walk) j (all-f
         let few : length e.walk ≤ 64 = few-turns j e.walk depth 64 tree (are-short host depth j g) low asked in
         record { turns = all-weaker IsOnward IsTurn e.walk (λ t o. o.0) (onward-walk j 64 e.walk tree asked few); few = few }
 
-start : (host depth : ℕ) (w : WorldState) → CanMap host depth w → CanAsk w host []
+pub start : (host depth : ℕ) (w : WorldState) → CanMap host depth w → CanAsk w host []
 start host depth w can = record {
   fabric = can.fabric;
   world = can.world;
@@ -78,6 +79,10 @@ pub made_map_is_map : MadeMapIsMap
 made_map_is_map host depth tries before after j m words can made =
     let found = found_is_there host depth tries before after j m words can made in
     subst IsMap (sym made.marked) (marked_map_is_map made.unmarked (quotient_is_map (fabric_of before) host j made.unmarked can.fabric found made.quotient))
+
+pub made_map_is_connected : MadeMapIsConnected
+made_map_is_connected host depth tries before after j m words made =
+    subst IsConnected (sym made.marked) (λ v l. (let r = quotient_is_connected host depth j made.unmarked made.grown made.quotient v l in record { cables = r.cables; path = r.path }))
 
 -- when a map is called complete
 complete-parts : (host : ℕ) (j : List Entry) (drowned : ℕ) → IsCalled host j drowned Complete → (drowned ≡ 0) × IsClosed host j

@@ -2,7 +2,7 @@
 use Rattle.std.specs.Prelude.{◌≡◌, List, Some}
 use Rattle.std.specs.List.{AllByRecursion}
 use Rattle.net_defs.specs.Network.{Network, IsFabric}
-use Rattle.map_defs.specs.NetMap.{IsMap}
+use Rattle.map_defs.specs.NetMap.{IsMap, IsConnected}
 use Rattle.map_defs.specs.Sameness.{IsMapOfPart}
 use Rattle.map_laws.specs.RouteSets.{AreRightRoutes}
 use Rattle.world_defs.specs.Table.{Adoption}
@@ -12,10 +12,11 @@ use Rattle.run_defs.specs.Session.{SessionState, LastMap, LastRoutes, complete_m
 use Rattle.run_defs.specs.Run.{IsRun}
 use Rattle.run_defs.specs.Headline.{IsCommandOf}
 
--- A map that is kept: it keeps the rules of maps, and is its mapper's part of the fabric.
+-- A map that is kept: it keeps the rules of maps, is its mapper's part of the fabric, and is connected.
 pub record IsRightMap (n : Network) (l : LastMap) : Type 0 where
   pub rules : IsMap l.made
   pub right : IsMapOfPart n l.mapper l.made
+  pub connected : IsConnected l.made
 
 -- A session's last map is right where it says complete; its last routes lead to their hosts, join each two of them,
 -- and leave no cycle of dependencies in the fabric; and so do the routes of the adopted set.

@@ -6,7 +6,7 @@ use Rattle.link_defs.specs.Links.{is_idle}
 use Rattle.journal_defs.specs.declared.entry.Entry.{Entry}
 use Rattle.journal_defs.specs.Truth.{IsTrueJournal, IsTrueWhereFound}
 use Rattle.journal_defs.specs.Depth.{enough_depth}
-use Rattle.map_defs.specs.NetMap.{NetMap, IsMap}
+use Rattle.map_defs.specs.NetMap.{NetMap, IsMap, IsConnected}
 use Rattle.map_defs.specs.Sameness.{IsMapOfPart}
 use Rattle.world_defs.specs.World.{WorldState, fabric_of, host_count}
 use Rattle.world_defs.specs.EightBits.{HasByteFaults}
@@ -47,6 +47,12 @@ abbrev pub MadeMapIsMap : Type 0
 MadeMapIsMap =
     (host depth tries : ℕ) (before after : WorldState) (j : List Entry) (m : NetMap) (words : MapWords)
     → CanMap host depth before → IsMapped host depth tries before after j m words → IsMap m
+
+-- It is connected.
+abbrev pub MadeMapIsConnected : Type 0
+MadeMapIsConnected =
+    (host depth tries : ℕ) (before after : WorldState) (j : List Entry) (m : NetMap) (words : MapWords)
+    → IsMapped host depth tries before after j m words → IsConnected m
 
 -- A map that is called complete is the mapper's part of the fabric, the ports of each switch counted from elsewhere.
 abbrev pub MadeMapIsRight : Type 0

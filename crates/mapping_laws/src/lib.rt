@@ -5,14 +5,20 @@
 //!
 //! | file of `specs/` | says |
 //! |---|---|
-//! | `Laws` | whatever a mapping found is there; a map called complete is right; on a quiet fabric a deep map is called so |
+//! | `Laws` | what a mapping found is there; a map called complete is right; a deep map of a quiet fabric is called so |
+//! | `Asked` | wherever a map can be made, a journal of asks that has grown to its depth exists, and so a mapping |
 //! | `Runs` | a run keeps a world of its fabric, and each map that it prints under the word complete is right |
-//! | `Circuits` | each map of circuit links that a run prints is the circuit map, and where it is deep enough the core |
-//! | `Held` | the map that a run holds under complete is right, and so are its routes and the adopted ones |
+//! | `Circuits` | a circuit map that a run prints is right, where deep enough the core; there always is one |
+//! | `Maps` | a journal whose found answers are true has a least node for each class of nodes, and a map |
+//! | `Trees` | the asking of a tree ends, and a whole tree has a circuit map |
+//! | `Routes` | a connected map has the least legal route between each two hosts |
+//! | `Held` | a map that a run holds under complete is right and connected; routes held or adopted are right |
 #![tactic(auto)]
 
+mod existence;
 mod mapping;
 mod running;
 
-pub use mapping::{deep_maps, kept_by_mappings, made_maps};
+pub use existence::{connected_map_has_routes, journal_has_a_map, tree_has_a_circuit_map};
+pub use mapping::{deep_maps, kept_by_mappings, made_maps, mappings_exist};
 pub use running::{circuit_maps_of_runs, held_by_runs, kept_by_runs, maps_of_runs};

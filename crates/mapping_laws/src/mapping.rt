@@ -1,14 +1,16 @@
 //! What a mapping finds and leaves: `specs/Laws.antt` has the statements.
 
-ghost use Rattle.mapping_laws.specs.Laws.{FoundIsThere, UndrownedIsTrue, MadeMapIsMap, MadeMapIsRight, MappingKeeps};
-ghost use Rattle.mapping_laws.specs.Laws.{DeepMapIsComplete};
+ghost use Rattle.mapping_laws.specs.Laws.{FoundIsThere, UndrownedIsTrue, MadeMapIsMap, MadeMapIsConnected};
+ghost use Rattle.mapping_laws.specs.Laws.{MadeMapIsRight, MappingKeeps, DeepMapIsComplete};
+ghost use Rattle.mapping_laws.specs.Asked.{AskedJournalExists, MappingExists};
 
-/// Whatever a mapping found is there, its map is a map, and where it is called complete it is the mapper's part of
-/// the fabric.
+/// Whatever a mapping found is there, its map is a map and connected, and where it is called complete it is the
+/// mapper's part of the fabric.
 pub fn made_maps()
     ensures found { FoundIsThere }
     ensures undrowned { UndrownedIsTrue }
     ensures rules { MadeMapIsMap }
+    ensures connected { MadeMapIsConnected }
     ensures complete { MadeMapIsRight }
 {}
 
@@ -20,4 +22,11 @@ pub fn kept_by_mappings()
 /// On a quiet fabric a map that is deep enough is called complete.
 pub fn deep_maps()
     ensures { DeepMapIsComplete }
+{}
+
+/// Wherever a map can be made, whatever is planned, a journal of asks that has grown to its depth exists, and a
+/// mapping by it: its map, and the words that hold of it.
+pub fn mappings_exist()
+    ensures journal { AskedJournalExists }
+    ensures mapping { MappingExists }
 {}

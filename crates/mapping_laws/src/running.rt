@@ -1,7 +1,7 @@
 //! What holds along every run: `specs/Runs.antt`, `specs/Circuits.antt` and `specs/Held.antt` have the statements.
 
 ghost use Rattle.mapping_laws.specs.Runs.{RunKeepsWorld, CompleteMapsAreTrue, DeepMapsAreComplete};
-ghost use Rattle.mapping_laws.specs.Circuits.{CircuitMapsAreTrue, DeepCircuitMapsAreCores};
+ghost use Rattle.mapping_laws.specs.Circuits.{CircuitMapsAreTrue, DeepCircuitMapsAreCores, CircuitIsTold};
 ghost use Rattle.mapping_laws.specs.Held.{RunHoldsRight};
 
 /// A run over a fabric keeps a world of it.
@@ -17,10 +17,11 @@ pub fn maps_of_runs()
 {}
 
 /// Every map of circuit links that a run prints is the circuit map of the fabric to its depth, and where that is deep
-/// enough it is the core.
+/// enough it is the core. There is always something to be told of the links.
 pub fn circuit_maps_of_runs()
     ensures told { CircuitMapsAreTrue }
     ensures core { DeepCircuitMapsAreCores }
+    ensures always { CircuitIsTold }
 {}
 
 /// A run holds a right map where it says complete; the routes that it computed from one are right, and so are those

@@ -1,30 +1,20 @@
 -- What is put into a buffer makes the packet; and a CRC that isn't the one due makes a difference.
 use Rattle.std.proofs.Common.{◌≡◌, ◌<◌, ◌+◌, ◌-◌, ◌*◌, ◌/◌, ◌%◌, ◌^◌, ℕ, zero, suc, true, false, Bool, ℤ, nat_eq, List, [], ◌∷◌, ◌++◌, map, length, ◌≤◌, Err, is_some, if◌then◌else◌, rules, refl, sym, ap, ◌∙◌, arith, append_assoc}
 use Rattle.std.proofs.lemmas.Bool.Decides.{Decides-eqb}
-use Rattle.std.specs.Int.{w16, to_be_bytes}
 use Rattle.std.specs.Int.Bits.{bit_xor}
 use Rattle.packet_defs.specs.declared.kind.Kind.{Kind}
-use Rattle.packet_defs.specs.declared.kind.Kind.TheVariants.{Mapping, Gm}
 use Rattle.packet_defs.specs.Crc.{crc}
 use Rattle.packet_defs.specs.RouteByte.{route_byte}
-use Rattle.packet_defs.specs.Packet.{type_of, packet_of, head_of, crc_byte, head, front_turn}
+use Rattle.packet_defs.specs.Packet.{type_of, head_of, crc_byte, head, front_turn}
 use Rattle.packet_defs.specs.Burst.{flipped, masked}
 use Rattle.packet_defs.specs.Host.{decode, has_route, body_of}
 use Rattle.packet_defs.specs.declared.host_drop.HostDrop.TheVariants.{BadCrc, RouteLeft}
 use Rattle.packet_defs.proofs.Masks.{flipped-masked}
 use Rattle.packet_defs.proofs.Reduced.{xor_across}
 
-type_bytes : (kind : Kind) → to_be_bytes w16 (type_of kind) ≡ 0 ∷ type_of kind ∷ []
-type_bytes Mapping = refl
-type_bytes Gm = refl
-
--- the bytes put one after another
-pub built : (route : List ℤ) (kind : Kind) (payload start routed typed filled whole : List ℕ) (number due : ℕ) → start ≡ [] → routed ≡ start ++ map route_byte route → number ≡ type_of kind → typed ≡ routed ++ to_be_bytes w16 number → filled ≡ typed ++ payload → due ≡ crc filled → whole ≡ filled ++ due ∷ [] → whole ≡ packet_of route kind payload
-built route kind payload start routed typed filled whole number due a b n c d e f =
-    let r : routed ≡ map route_byte route = b ∙ ap (λ l. l ++ map route_byte route) a in
-    let t : typed ≡ map route_byte route ++ 0 ∷ type_of kind ∷ [] = c ∙ ap (λ l. l ++ to_be_bytes w16 number) r ∙ ap (λ x. map route_byte route ++ to_be_bytes w16 x) n ∙ ap (λ l. map route_byte route ++ l) (type_bytes kind) in
-    let h : filled ≡ head_of route kind payload = d ∙ ap (λ l. l ++ payload) t ∙ append_assoc (map route_byte route) (0 ∷ type_of kind ∷ []) payload in
-    f ∙ ap (λ x. filled ++ x ∷ []) e ∙ ap (λ l. l ++ crc l ∷ []) h
+-- a payload behind what stands before it
+pub front-behind : (route : List ℤ) (kind : Kind) (payload : List ℕ) → head_of route kind [] ++ payload ≡ head_of route kind payload
+front-behind route kind payload = append_assoc (map route_byte route) (0 ∷ type_of kind ∷ []) payload
 
 -- two different numbers have a sum other than 0
 pub unequal : (a b : ℕ) → (a ≡ b → ⊥) → nat_eq (bit_xor a b) 0 ≡ false

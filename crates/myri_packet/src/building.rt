@@ -1,15 +1,14 @@
 //! Building a packet.
 
-ghost use Rattle.std.specs.Prelude.{◌≡◌, ◌≤◌, ◌++◌, map, take, length, IfOk, OnOk, OnErr};
+ghost use Rattle.std.specs.Prelude.{◌≡◌, ◌≤◌, ◌++◌, [], map, take, length, IfOk, OnOk};
 ghost use Rattle.packet_defs.specs.Packet.{packet_of, head_of, with_crc, type_of};
 ghost use Rattle.packet_defs.specs.RouteByte.{route_byte};
 
 use crate::packet::Packet;
-use crate::route_byte::route_byte;
-use bytes::BytesMut;
 use crc_eight::crc;
 use packet_defs::Kind;
 use std::alloc::{AllocError, Global};
+use turn_bytes::route_byte;
 
 // The most turns of a route.
 const MAX_ROUTE: usize = 64;
@@ -21,13 +20,38 @@ pub fn encode(alloc: Global, route: &[i8], kind: Kind, payload: &[u8]) -> Result
     requires short { length payload.now ≤ 1040 }
     ensures { IfOk result (λ p. p ≡ packet_of route.now kind payload.now) }
 {
-    let mut bytes = Vec::with_capacity(alloc, route.len() + payload.len() + 3)?;
+    let mut bytes = packet_front(alloc, route, kind, payload.len())?;
+    bytes.extend_from_slice(payload)?;
+    seal(bytes)
+}
+
+/// What of a packet stands before its payload, with room for so many bytes of that and for the CRC. A payload that is
+/// written behind it needs no buffer of its own.
+pub fn packet_front(
+    alloc: Global,
+    route: &[i8],
+    kind: Kind,
+    room: usize,
+) -> Result<Vec<u8>, AllocError>
+    requires few { length route.now ≤ 64 }
+    requires short { room ≤ 1040 }
+    ensures { IfOk result (λ v. v.items ≡ head_of route.now kind []) }
+{
+    let mut bytes = Vec::with_capacity(alloc, route.len() + room + 3)?;
     put_route(&mut bytes, route)?;
     bytes.extend_from_slice(&type_number(kind).to_be_bytes())?;
-    bytes.extend_from_slice(payload)?;
+    Ok(bytes)
+}
+
+/// The packet of a head, with the CRC that is due to it.
+pub fn seal(head: Vec<u8>) -> Result<Packet, AllocError>
+    requires { length head.items ≤ 1106 }
+    ensures { IfOk result (λ p. p ≡ with_crc head.items) }
+{
+    let mut bytes = head;
     let due = crc(&bytes);
     bytes.push(due)?;
-    Ok(Packet::from_buffer(BytesMut::from_vec(bytes)))
+    Ok(Packet::from_buffer(bytes))
 }
 
 // Puts the route bytes of turns behind what is there.

@@ -12,9 +12,8 @@
 mod building;
 mod host;
 mod packet;
-mod route_byte;
 
-pub use building::encode;
+pub use building::{encode, packet_front, seal};
 pub use host::{Body, decode_at_host};
 pub use packet::{FlipRefusal, MAX_BYTES, Packet, WireFault};
 pub use packet_defs::{HostDrop, Kind};

@@ -1,18 +1,17 @@
 //! A packet: reading it, stripping it, flipping it.
 
 ghost use Rattle.std.specs.Prelude.{◌≡◌, ◌<◌, ◌≤◌, ◌-◌, length, slice_index, slice_set, IfOk, IfErr, OnSome, IfNone};
-ghost use Rattle.std.specs.Prelude.{Some, None, ◌+◌, ◌*◌};
+ghost use Rattle.std.specs.Prelude.{Some, None, IsSome, ◌+◌, ◌*◌, ◌∷◌};
 ghost use Rattle.std.specs.Int.Bits.{bit_xor};
 ghost use Rattle.net_defs.specs.Refusal.{Refuses};
 ghost use Rattle.packet_defs.specs.Packet.{head, crc_byte, difference, front_turn, stripped};
 ghost use Rattle.packet_defs.specs.Burst.{flipped, masked};
 ghost use Rattle.myri_packet.specs.Refusals.{wire_refusal, flip_refusal};
 
-use crate::route_byte::turn_of;
-use bytes::{Buf, BytesMut};
 use crc_eight::contribution;
 use std::alloc::{AllocError, Global};
 use std::marker::Model;
+use turn_bytes::turn_of;
 
 /// The most bytes of a packet: 64 route bytes, the type, a payload of 1,040 bytes, and the CRC.
 pub const MAX_BYTES: usize = 1107;
@@ -41,17 +40,20 @@ pub enum FlipRefusal {
 /// From 1 to 1,107 bytes, of which the last is the CRC. Contracts see the list of them.
 #[derive(Drop)]
 pub struct Packet {
-    bytes: BytesMut,
+    // The packet's bytes, behind those that were read off.
+    buffer: Vec<u8>,
+    // Where the packet begins: a strip moves no byte.
+    start: usize,
 }
 
 impl Model for Packet {
-    ghost use Rattle.std.specs.Prelude.{List, ℕ, ◌<◌, ◌≤◌, length};
+    ghost use Rattle.std.specs.Prelude.{List, ℕ, ◌<◌, ◌≤◌, drop, length};
 
     ghost Value = { List ℕ };
 
-    ghost view = { λ p. p.bytes.items };
+    ghost view = { λ p. drop p.start p.buffer.items };
 
-    ghost invariant = { λ p. (0 < length p.bytes.items) × (length p.bytes.items ≤ 1107) };
+    ghost invariant = { λ p. (p.start < length p.buffer.items) × (length p.buffer.items ≤ 1107) };
 }
 
 impl Packet {
@@ -66,19 +68,19 @@ impl Packet {
         if bytes.len() > MAX_BYTES {
             return Err(WireFault::TooLong);
         }
-        match BytesMut::copy_from_slice(alloc, bytes) {
-            Ok(bytes) => Ok(Packet { bytes }),
+        match bytes.to_vec(alloc) {
+            Ok(buffer) => Ok(Packet::from_buffer(buffer)),
             Err(_) => Err(WireFault::NoMemory),
         }
     }
 
     // The packet in a buffer that isn't empty nor too long.
-    pub(crate) fn from_buffer(bytes: BytesMut) -> Packet
-        requires some { 0 < length bytes.items }
-        requires few { length bytes.items ≤ MAX_BYTES }
-        ensures { result ≡ bytes.items }
+    pub(crate) fn from_buffer(buffer: Vec<u8>) -> Packet
+        requires some { 0 < length buffer.items }
+        requires few { length buffer.items ≤ MAX_BYTES }
+        ensures { result ≡ buffer.items }
     {
-        Packet { bytes }
+        Packet { buffer, start: 0 }
     }
 
     /// All its bytes.
@@ -87,7 +89,7 @@ impl Packet {
         ensures some { 0 < length result.now }
         ensures few { length result.now ≤ MAX_BYTES }
     {
-        self.bytes.as_slice()
+        &self.buffer[self.start..]
     }
 
     /// All its bytes but the CRC.
@@ -110,8 +112,7 @@ impl Packet {
     pub fn copy(&self, alloc: Global) -> Result<Packet, AllocError>
         ensures { IfOk result (λ p. p ≡ self.now) }
     {
-        let bytes = BytesMut::copy_from_slice(alloc, self.wire())?;
-        Ok(Packet { bytes })
+        Ok(Packet::from_buffer(self.wire().to_vec(alloc)?))
     }
 
     /// The turn that it takes next: none where the head is empty, or begins with no route byte.
@@ -138,6 +139,14 @@ impl Packet {
             self.strip_front();
         }
         turn
+    }
+
+    /// The same of a packet that is known to have a turn in front.
+    pub fn strip_turn(&mut self)
+        requires { IsSome (front_turn self.old) }
+        ensures { self.new ≡ stripped self.old }
+    {
+        self.strip_front();
     }
 
     /// Flips the packet's bit `bit + i` where bit i of the pattern is 1, both counted from the most significant bit
@@ -171,9 +180,9 @@ impl Packet {
         requires { bit + 7 < 8 * length self }
         ensures { result ≡ flipped self bit pattern }
     {
-        let Packet { mut bytes } = self;
-        flip_bits(bytes.as_mut_slice(), bit, pattern);
-        Packet { bytes }
+        let Packet { mut buffer, start } = self;
+        flip_bits(&mut buffer[start..], bit, pattern);
+        Packet { buffer, start }
     }
 
     // Reads the front byte off.
@@ -181,10 +190,19 @@ impl Packet {
         requires { 2 ≤ length self.old }
         ensures { self.new ≡ stripped self.old }
     {
-        let byte = self.bytes.get_u8();
-        let last = self.bytes.len() - 1;
-        add_at(self.bytes.as_mut_slice(), last, contribution(byte, last));
+        let byte = self.buffer[self.start];
+        self.start += 1;
+        take_out(&mut self.buffer[self.start..], byte);
     }
+}
+
+// Takes the contribution of the byte before a packet out of the packet's CRC.
+fn take_out(wire: &mut [u8], byte: u8)
+    requires { 0 < length wire.old }
+    ensures { wire.new ≡ stripped (byte ∷ wire.old) }
+{
+    let last = wire.len() - 1;
+    wire[last] ^= contribution(byte, last);
 }
 
 // Flips the bits of a burst, which lie in one byte or in two neighbours.

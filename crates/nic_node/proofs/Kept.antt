@@ -1,15 +1,18 @@
 -- A body of messages is heard as the world's host hears it.
-use Rattle.std.proofs.Common.{◌≡◌, ℕ, List, sym, ap, ◌∙◌}
-use Rattle.std.specs.Prelude.{Result, Ok, Err, IfOk}
+use Rattle.std.proofs.Common.{◌≡◌, ℕ, List, length, sym, ap, ◌∙◌, subst}
+use Rattle.std.specs.Prelude.{Result, Ok, Err, IfOk, OnErr}
 use Rattle.gm_defs.specs.declared.frame.GmBody.{GmBody}
 use Rattle.gm_defs.specs.declared.frame.Malformed.{Malformed as NoBody}
 use Rattle.world_defs.specs.declared.arrival.Arrival.{Arrival}
-use Rattle.world_defs.specs.Node.{NodeState}
+use Rattle.world_defs.specs.Node.{NodeState, lane_count, new_node}
 use Rattle.world_defs.specs.Hearing.{hear_gm_body}
 use Rattle.host_items.specs.Held.{HostItems}
 use Rattle.route_install.specs.Collecting.{HostTable}
-use Rattle.host_lanes.specs.Lanes.{HostLanes}
+use Rattle.host_lanes.specs.Lane.{AreNumbered}
+use Rattle.host_lanes.specs.Lanes.{HostLanes, lane_in}
 use Rattle.host_ports.specs.Held.{HostPorts}
+use Rattle.ticket_laws.specs.Host.{Begins, IsTicketed}
+use Rattle.ticket_laws.proofs.Keeping.{heard-kept}
 use Rattle.nic_node.specs.Messages.{with_messages}
 use Rattle.nic_node.specs.Held.{HostNode, state_of}
 
@@ -22,3 +25,12 @@ pub heard-whole : {E : Type 0} (v : HostNode) (host : ℕ) (i : HostItems) (t : 
     → IfOk result (λ arrival. hear_gm_body v.host v.hosts v.state body b ≡ (arrival, state_of i t q s))
 heard-whole v host i t p q r s body b (Ok arrival) is heard = sym (ap (λ w. hear_gm_body w.host w.hosts w.state body b) is) ∙ heard (state_of i t p r)
 heard-whole v host i t p q r s body b (Err e) is heard = tt
+
+-- and it leaves a host that is ticketed so
+pub heard-of : {E : Type 0} (host : ℕ) (p q : HostLanes) (r s : HostPorts) (body : List ℕ) (b : Result GmBody NoBody) (result : Result Arrival E) → ((lane : ℕ) → AreNumbered (lane_in p lane)) → length p.lanes ≡ lane_count p.hosts
+    → IsTicketed Begins r.ports p.lanes → WasHeard host p q r s body b result → OnErr result (q ≡ p) → OnErr result (s ≡ r) → IsTicketed Begins s.ports q.lanes
+heard-of host p q r s body b (Ok arrival) numbers count is heard lanes ports =
+    let n : NodeState = new_node 0 in
+    subst (λ (x : Arrival × NodeState). IsTicketed Begins x.1.ports x.1.lanes) (heard n) (heard-kept Begins host p.hosts (with_messages n p r) count (λ k. (numbers k).sender) is body b)
+heard-of host p q r s body b (Err e) numbers count is heard lanes ports =
+    subst (λ (h : HostLanes). IsTicketed Begins s.ports h.lanes) (sym lanes) (subst (λ (h : HostPorts). IsTicketed Begins h.ports p.lanes) (sym ports) is)

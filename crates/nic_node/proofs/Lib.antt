@@ -1,6 +1,9 @@
 pub mod After
 pub mod Choosing
+pub mod Due
 pub mod First
 pub mod Going
 pub mod Kept
+pub mod Ticketed
+pub mod Waiting
 pub mod Within

@@ -36,6 +36,7 @@ impl NicNode {
         ensures hosts { self.new.hosts ≡ self.old.hosts }
         ensures unchanged { OnErr result (self.new ≡ self.old) }
     {
+        self.lanes.in_order();
         hear(alloc, self.host, &mut self.lanes, &mut self.ports, body)
     }
 }

@@ -18,7 +18,6 @@
 #![tactic(auto)]
 
 mod accepting;
-mod body;
 mod hearing;
 mod mapping;
 mod messages;
@@ -27,10 +26,13 @@ mod node;
 mod ports;
 mod refusal;
 mod sending;
+mod unacked;
 
 pub use host_items::{Packet, RoutePart};
 pub use host_lanes::Message;
-pub use host_ports::{NotOpen, PortBegin, PortClose, PortEvent, PortProvide, SendAsk, Wreck};
+pub use host_ports::{
+    NodeBegin, NodeClose, NodeProvide, NotOpen, PortEvent, Ports, SendAsk, Wreck,
+};
 pub use node::NicNode;
 pub use refusal::NodeSend;
 pub use route_install::Table;

@@ -1,9 +1,9 @@
 //! One host.
 
-ghost use Rattle.std.specs.Prelude.{◌≡◌, ◌<◌, ◌≤◌, nat_lt, length, replicate, true, is_some, if◌then◌else◌, Some, None};
+ghost use Rattle.std.specs.Prelude.{◌≡◌, ◌<◌, ◌≤◌, nat_lt, length, true, is_some, if◌then◌else◌, Some};
 ghost use Rattle.std.specs.Prelude.{IfOk};
 ghost use Rattle.mapping_defs.specs.Mapping.{is_part};
-ghost use Rattle.world_defs.specs.Node.{StagedProbe, StagedPart, port_count, has_staged, given_up, node_expired};
+ghost use Rattle.world_defs.specs.Node.{StagedProbe, StagedPart, has_staged, given_up, node_expired};
 ghost use Rattle.world_defs.specs.Node.{unacknowledged_to, lane_count, lane_of, lane_at};
 ghost use Rattle.gm_defs.specs.Body.{is_prio};
 ghost use Rattle.world_defs.specs.Table.{active_epoch};
@@ -21,7 +21,7 @@ use std::marker::Model;
 /// One host among others. Contracts see the host of the world that its parts make, beside its address and the number
 /// of hosts.
 ///
-/// It must be spent, by [`NicNode::end`] once all of its ports are closed.
+/// It must be spent, by [`NicNode::into_ports`].
 pub struct NicNode {
     pub(crate) host: u16,
     pub(crate) items: Items,
@@ -182,9 +182,9 @@ impl NicNode {
         self.lanes.unacked(peer)
     }
 
-    /// Spends a host whose ports are all closed.
-    pub fn end(self)
-        requires { self.state.ports ≡ replicate port_count None }
+    /// Takes the host apart, and hands out its ports with all that they hold.
+    pub fn into_ports(self) -> Ports
+        ensures { result ≡ record { host = self.host; ports = self.state.ports } }
     {
         let NicNode {
             host: _,
@@ -193,6 +193,6 @@ impl NicNode {
             lanes: _lanes,
             ports,
         } = self;
-        ports.end();
+        ports
     }
 }

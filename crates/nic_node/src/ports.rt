@@ -7,7 +7,7 @@ ghost use Rattle.net_defs.specs.Refusal.{Refuses};
 ghost use Rattle.gm_defs.specs.Token.{opened, place_of_send, place_of_recv};
 ghost use Rattle.gm_defs.specs.Port.{provided_with, next_event, polled};
 ghost use Rattle.gm_tokens.specs.Token.{token_at};
-ghost use Rattle.gm_port.specs.Held.{send_at, receive_at, event_at};
+ghost use Rattle.gm_port.specs.Held.{receive_at, event_at};
 ghost use Rattle.world_defs.specs.Node.{port_at, with_port};
 ghost use Rattle.host_ports.specs.Held.{place_at};
 ghost use Rattle.host_ports.specs.Refusal.{begin_bar, provide_bar, close_bar};
@@ -19,7 +19,7 @@ use crate::node::NicNode;
 use crate::refusal::NodeSend;
 use gm_defs::TokenPlace;
 use gm_tokens::{RecvToken, SendToken};
-use host_ports::{NotOpen, PortBegin, PortClose, PortEvent, PortProvide, SendAsk, Wreck};
+use host_ports::{NodeBegin, NodeClose, NodeProvide, NotOpen, PortEvent, SendAsk};
 use reg_mem::Reg;
 use std::alloc::Global;
 
@@ -31,9 +31,9 @@ impl NicNode {
         port: u8,
         sends: u16,
         recvs: u16,
-    ) -> Result<(), PortBegin>
+    ) -> Result<(), NodeBegin>
         requires { port < 8 }
-        ensures refused { Refuses (begin_bar (port_at self.old.state port)) PortBegin.NoMemory result }
+        ensures refused { Refuses (begin_bar (port_at self.old.state port)) NodeBegin.NoMemory result }
         ensures begun { OnOk result (self.new ≡ in_state self.old
             (with_port self.old.state port (Some (opened sends recvs)))) }
         ensures unchanged { OnErr result (self.new ≡ self.old) }
@@ -44,7 +44,7 @@ impl NicNode {
     /// Closes a port, and hands each provided token back with its buffer, first provided first. A refusal changes
     /// nothing: NotOpen, Busy where sends aren't finished, Unread where events wait, Filling where
     /// provided tokens hold the beginning of a message.
-    pub fn close(&mut self, port: u8) -> Result<Vec<(RecvToken, Reg)>, PortClose>
+    pub fn close(&mut self, port: u8) -> Result<Vec<(RecvToken, Reg)>, NodeClose>
         requires { port < 8 }
         ensures refused { MatchResult result (λ _. close_bar (port_at self.old.state port) ≡ None) (λ e.
             close_bar (port_at self.old.state port) ≡ Some e) }
@@ -66,7 +66,7 @@ impl NicNode {
         b: Reg,
         size: u8,
         prio: u8,
-    ) -> Result<(), (RecvToken, Reg, PortProvide)>
+    ) -> Result<(), (RecvToken, Reg, NodeProvide)>
         requires port { port < 8 }
         requires own { t ≡ token_at self.old.host port t.number }
         requires minted { ForSome (port_at self.old.state port) (λ p. t.number < p.recvs) }
@@ -109,6 +109,7 @@ impl NicNode {
         ensures sent { OnOk result (self.new ≡ in_state self.old (accepted self.old.state port t.number a b)) }
     {
         let route = self.has_route(a.dest);
+        self.lanes.in_order();
         send(
             alloc,
             &mut self.lanes,
@@ -133,21 +134,6 @@ impl NicNode {
             (option_map (λ s. polled s) (port_at self.old.state port))) }
     {
         self.ports.poll(port)
-    }
-
-    /// Ends a port, whatever it holds, and hands all of it back. None exactly where the port isn't open.
-    pub fn abandon(&mut self, port: u8) -> Option<Wreck>
-        requires { port < 8 }
-        ensures open { is_some result ≡ is_some (port_at self.old.state port) }
-        ensures sending { IfSome result (λ w. IfSome (port_at self.old.state port) (λ p.
-            w.sending.items ≡ map (send_at self.old.host port) p.queue)) }
-        ensures provided { IfSome result (λ w. IfSome (port_at self.old.state port) (λ p.
-            w.provided.items ≡ map (receive_at self.old.host port) p.provided)) }
-        ensures events { IfSome result (λ w. IfSome (port_at self.old.state port) (λ p.
-            w.events.items ≡ map (event_at self.old.host port) p.events)) }
-        ensures ended { self.new ≡ in_state self.old (with_port self.old.state port None) }
-    {
-        self.ports.abandon(port)
     }
 
     /// Whether a port is open.

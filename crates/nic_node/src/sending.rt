@@ -1,16 +1,17 @@
 //! The packet that a host sends next.
 
-ghost use Rattle.std.specs.Prelude.{◌≡◌, ◌<◌, ℕ, is_some, option_map, length, true, IfOk};
+ghost use Rattle.std.specs.Prelude.{◌≡◌, ◌<◌, ◌≤◌, ◌+◌, ℕ, is_some, option_map, length, take, drop, true, Some, IfOk};
 ghost use Rattle.packet_defs.specs.Packet.{packet_of};
 ghost use Rattle.gm_defs.specs.Body.{is_prio, is_head, frame_bytes, ack_bytes};
-ghost use Rattle.world_defs.specs.Node.{owed_on, due_on, to_send, packet_for, lane_at};
+ghost use Rattle.world_defs.specs.Node.{owed_on, due_frame, due_on, to_send, packet_for, lane_at};
+ghost use Rattle.host_lanes.specs.Lane.{head_of_frame, ticket_of};
 ghost use Rattle.nic_node.specs.Held.{in_state};
 ghost use Rattle.nic_node.specs.Sending.{after_first};
 
 use crate::next::NextSend;
 use crate::node::NicNode;
 use gm_frame::{encode_ack, encode_frame};
-use host_lanes::{Ack, DueFrame};
+use host_lanes::{Ack, DueFrame, FrameHead};
 use myri_packet::{Kind, Packet, encode};
 use net_defs::Walk;
 use std::alloc::{AllocError, Global};
@@ -62,7 +63,8 @@ impl NicNode {
         }
     }
 
-    // The packet of the fragment that is due on a lane, where one is and the table has a route to its peer.
+    // The packet of the fragment that is due on a lane, where one is and the table has a route to its peer. Its bytes
+    // are read where they stand: in the registered buffer of their send.
     fn fragment_packet(&self, alloc: Global, lane: u32) -> Result<Option<Packet>, AllocError>
         requires { lane < length self.now.state.lanes }
         ensures { (number : ℕ) → IfOk result (λ packet.
@@ -72,10 +74,37 @@ impl NicNode {
             return Ok(None);
         };
         match self.lane_route(lane) {
-            Some(by) => Ok(Some(frame_packet(alloc, &frame, by)?)),
+            Some(by) => {
+                let part = self.due_part(lane, &frame);
+                Ok(Some(frame_packet(alloc, &frame.head, part, by)?))
+            }
             None => Ok(None),
         }
     }
+
+    // The bytes of the fragment that is due on a lane, in the registered buffer of their send.
+    fn due_part(&self, lane: u32, frame: &DueFrame<'_>) -> &[u8]
+        requires head { option_map head_of_frame (due_frame self.now.host self.now.state lane) ≡ Some frame.now.head }
+        requires by_rules { is_head frame.now.head ≡ true }
+        requires ticket { ticket_of (lane_at self.now.state lane) frame.now.head.seq ≡ Some frame.now.ticket.now }
+        ensures exact { due_frame self.now.host self.now.state lane ≡ Some (frame.now.head, result.now) }
+        ensures length { length result.now ≡ frame.now.head.len }
+    {
+        self.lanes.in_order();
+        let buffer = self
+            .ports
+            .sending(frame.ticket.port(), frame.ticket.token());
+        part_at(buffer, frame.head.offset, frame.head.len)
+    }
+}
+
+// So many bytes of a buffer from an offset on.
+fn part_at(buffer: &[u8], offset: u32, len: u16) -> &[u8]
+    requires { offset + len ≤ length buffer.now }
+    ensures { result.now ≡ take len (drop offset buffer.now) }
+{
+    let from = offset as usize;
+    &buffer[from..from + usize::from(len)]
 }
 
 // The packet of an acknowledgement, by a route.
@@ -88,12 +117,16 @@ fn ack_packet(alloc: Global, ack: &Ack, by: &Walk) -> Result<Packet, AllocError>
 }
 
 // The packet of a fragment, by a route.
-fn frame_packet(alloc: Global, frame: &DueFrame<'_>, by: &Walk) -> Result<Packet, AllocError>
-    requires head { is_head frame.now.head ≡ true }
-    requires part { length frame.now.part.now ≡ frame.now.head.len }
-    ensures { IfOk result (λ packet. packet ≡ packet_of by.now Kind.Gm
-        (frame_bytes frame.now.head frame.now.part.now)) }
+fn frame_packet(
+    alloc: Global,
+    head: &FrameHead,
+    part: &[u8],
+    by: &Walk,
+) -> Result<Packet, AllocError>
+    requires head { is_head head.now ≡ true }
+    requires part { length part.now ≡ head.now.len }
+    ensures { IfOk result (λ packet. packet ≡ packet_of by.now Kind.Gm (frame_bytes head.now part.now)) }
 {
-    let payload = encode_frame(alloc, &frame.head, frame.part)?;
+    let payload = encode_frame(alloc, head, part)?;
     encode(alloc, by.turns(), Kind::Gm, &payload)
 }

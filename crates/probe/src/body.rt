@@ -1,11 +1,12 @@
 //! The bodies of probes and of their replies, read and written.
 
-ghost use Rattle.std.specs.Prelude.{◌≡◌, ◌∷◌, Some, IfOk};
+ghost use Rattle.std.specs.Prelude.{◌≡◌, ◌≤◌, ◌++◌, ◌∷◌, Some, length, All, IfOk, OnOk};
+ghost use Rattle.net_defs.specs.Turn.{IsTurn};
 ghost use Rattle.net_defs.specs.Refusal.{Refuses};
 ghost use Rattle.mapping_defs.specs.Mapping.{MappingBody, mapping_bytes};
 ghost use Rattle.probe.specs.Body.{said, probe_in, body_refusal};
 
-use crate::fields::{head, numbers_front, whole_numbers};
+use crate::fields::{append_numbers, numbers_front, whole_numbers};
 use crate::whole_route::whole_route;
 use net_defs::Walk;
 use std::alloc::{AllocError, Global};
@@ -49,19 +50,34 @@ const HOST_REPLY: u8 = 2;
 
 const LOOP: u8 = 3;
 
+// The most bytes of a body.
+const MAX_BODY: usize = 76;
+
 impl ProbeBody {
     /// Its bytes.
     pub fn encode(&self, alloc: Global) -> Result<Vec<u8>, AllocError>
         ensures { IfOk result (λ bytes. bytes.items ≡ mapping_bytes (said self.now)) }
+    {
+        let mut bytes = Vec::with_capacity(alloc, MAX_BODY)?;
+        self.append(&mut bytes)?;
+        Ok(bytes)
+    }
+
+    /// Puts its bytes behind others: at most 76.
+    pub fn append(&self, bytes: &mut Vec<u8>) -> Result<(), AllocError>
+        ensures bytes { OnOk result (bytes.new.items ≡ bytes.old.items ++ mapping_bytes (said self.now)) }
+        ensures few { length (mapping_bytes (said self.now)) ≤ 76 }
     {
         match self {
             ProbeBody::HostProbe {
                 number,
                 mapper,
                 back,
-            } => probe_bytes(alloc, *number, *mapper, back),
-            ProbeBody::HostReply { number, host } => head(alloc, HOST_REPLY, *number, *host, 0),
-            ProbeBody::Loop { number, mapper } => head(alloc, LOOP, *number, *mapper, 0),
+            } => append_host_probe(bytes, *number, *mapper, back.turns()),
+            ProbeBody::HostReply { number, host } => {
+                append_numbers(bytes, HOST_REPLY, *number, *host)
+            }
+            ProbeBody::Loop { number, mapper } => append_numbers(bytes, LOOP, *number, *mapper),
         }
     }
 
@@ -82,14 +98,21 @@ impl ProbeBody {
     }
 }
 
-// The bytes of a host probe.
-fn probe_bytes(alloc: Global, number: u64, mapper: u16, back: &Walk) -> Result<Vec<u8>, AllocError>
-    ensures { IfOk result (λ bytes. bytes.items ≡ mapping_bytes (MappingBody.HostProbe number mapper back.now)) }
+/// Puts the bytes of a host probe behind others: a way back that is made at the moment needs no walk of its own.
+pub fn append_host_probe(
+    bytes: &mut Vec<u8>,
+    number: u64,
+    mapper: u16,
+    back: &[i8],
+) -> Result<(), AllocError>
+    requires short { length back.now ≤ 64 }
+    requires in_range { All IsTurn back.now }
+    ensures bytes { OnOk result (bytes.new.items ≡ bytes.old.items
+        ++ mapping_bytes (MappingBody.HostProbe number mapper back.now)) }
+    ensures few { length (mapping_bytes (MappingBody.HostProbe number mapper back.now)) ≤ 76 }
 {
-    let turns = back.turns();
-    let mut bytes = head(alloc, HOST_PROBE, number, mapper, 1 + turns.len() as u8)?;
-    push_route(&mut bytes, turns)?;
-    Ok(bytes)
+    append_numbers(bytes, HOST_PROBE, number, mapper)?;
+    push_route(bytes, back)
 }
 
 // The host probe whose bytes behind the kind are these.

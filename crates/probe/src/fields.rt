@@ -1,10 +1,10 @@
 //! The numbers in front of a body, with the greatest byte first.
 
-ghost use Rattle.std.specs.Prelude.{◌≡◌, ◌<◌, ◌^◌, ◌++◌, ◌∷◌, option_map, IfSome, IfOk};
+ghost use Rattle.std.specs.Prelude.{◌≡◌, ◌<◌, ◌^◌, ◌++◌, ◌∷◌, option_map, IfSome, OnOk};
 ghost use Rattle.std.specs.Int.{w16, w64, to_be_bytes};
 ghost use Rattle.mapping_defs.specs.Mapping.{number_front, two_front, whole};
 
-use std::alloc::{AllocError, Global};
+use std::alloc::AllocError;
 
 /// A packet's number and a host that are all of the bytes.
 pub(crate) fn whole_numbers(bytes: &[u8]) -> Option<(u64, u16)>
@@ -48,19 +48,24 @@ fn host_front(bytes: &[u8]) -> Option<(u16, &[u8])>
     }
 }
 
-/// A body's kind and numbers, with room for more bytes.
-pub(crate) fn head(
-    alloc: Global,
+/// Puts a body's kind and numbers behind other bytes.
+pub(crate) fn append_numbers(
+    bytes: &mut Vec<u8>,
     kind: u8,
     number: u64,
     host: u16,
-    room: u8,
-) -> Result<Vec<u8>, AllocError>
-    ensures { IfOk result (λ bytes. bytes.items ≡ kind ∷ to_be_bytes w64 number ++ to_be_bytes w16 host) }
+) -> Result<(), AllocError>
+    ensures { OnOk result (bytes.new.items
+        ≡ bytes.old.items ++ (kind ∷ to_be_bytes w64 number ++ to_be_bytes w16 host)) }
 {
-    let mut bytes = Vec::with_capacity(alloc, 11 + usize::from(room))?;
-    bytes.push(kind)?;
-    bytes.extend_from_slice(&number.to_be_bytes())?;
-    bytes.extend_from_slice(&host.to_be_bytes())?;
-    Ok(bytes)
+    bytes.extend_from_slice(&numbers(kind, number, host))
+}
+
+// A body's kind and numbers.
+fn numbers(kind: u8, number: u64, host: u16) -> [u8; 11]
+    ensures { result ≡ kind ∷ to_be_bytes w64 number ++ to_be_bytes w16 host }
+{
+    let [a, b, c, d, e, f, g, h] = number.to_be_bytes();
+    let [high, low] = host.to_be_bytes();
+    [kind, a, b, c, d, e, f, g, h, high, low]
 }

@@ -29,7 +29,7 @@ mod prober;
 mod walk_index;
 mod whole_route;
 
-pub use body::{BodyFault, ProbeBody};
+pub use body::{BodyFault, ProbeBody, append_host_probe};
 pub use fabric_prober::FabricProber;
 pub use fake_prober::FakeProber;
 pub use journal::{Journal, JournalPush};

@@ -1,5 +1,6 @@
 pub mod CommandActs
 pub mod Events
+pub mod Existence
 pub mod OneAction
 pub mod Promised
 pub mod Scripts

@@ -3,3 +3,4 @@ pub mod Checked
 pub mod Halves
 pub mod Pairs
 pub mod Places
+pub mod Tables

@@ -7,15 +7,10 @@ ghost use Rattle.map_defs.specs.Ranks.{ranks_of};
 ghost use Rattle.rank_cert.specs.Listing.{entry_at, rank_between};
 
 use crate::ranks::Ranks;
+use crate::table::{MAX_PORT, PORTS};
 use fabric_map::FabricMap;
 use map_defs::RankEntry;
 use std::alloc::{AllocError, Global};
-
-// The ports that a vertex may have.
-const PORTS: usize = 31;
-
-// The greatest port; the least is its negative.
-const MAX_PORT: i8 = 15;
 
 /// The ranks by an order of the vertices, which has each number below their count once: by vertex, then by port. With
 /// n vertices an up channel has the rank n - 1 less the place of its tail, a down channel n more than that place.

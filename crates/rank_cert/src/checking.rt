@@ -1,17 +1,18 @@
 //! The check of routes against ranks.
 
-ghost use Rattle.std.specs.Prelude.{◌≡◌, ◌↔◌, IsOk, OnOk, Option, Some, None, All};
+ghost use Rattle.std.specs.Prelude.{◌≡◌, ◌↔◌, IsOk, IfOk, IfErr, OnOk, if◌then◌else◌, Option, Some, None, All};
 ghost use Rattle.std.specs.List.{AllByRecursion};
 ghost use Rattle.net_defs.specs.Turn.{IsTurn};
-ghost use Rattle.map_defs.specs.Routing.{LeadsTo, channels_on};
+ghost use Rattle.map_defs.specs.Routing.{LeadsTo, channels_on, led_to};
+ghost use Rattle.fabric_map.specs.Table.{far_pair};
 ghost use Rattle.net_defs.specs.Dependencies.{IsBefore, HasNoCycle};
 ghost use Rattle.map_defs.specs.Ranks.{IsCertificate, channels_of_routes};
-ghost use Rattle.rank_cert.specs.Checking.{first_fault, route_fault, fault_along, fault_at, fault_by, leads};
+ghost use Rattle.rank_cert.specs.Checking.{first_fault, route_fault, fault_along, fault_at, fault_by, leads, are_one};
 ghost use Rattle.rank_cert.specs.Checking.{rank_after, ranked_by, Tells, AreOfOneOrder};
 ghost use Rattle.rank_cert.specs.Following.{unpair, channels_after, port_of_pair};
 
 use crate::fault::CheckFault;
-use crate::following::{led_to, next_port, port_of_host};
+use crate::following::{far_of, led_to, next_port, port_of_host};
 use crate::ranks::Ranks;
 use fabric_map::FabricMap;
 use port_graph::{Route, RouteSet};
@@ -52,8 +53,18 @@ fn routes_fault(m: &FabricMap, routes: &[Route], k: &Ranks) -> Option<CheckFault
 fn route_fault(m: &FabricMap, r: &Route, k: &Ranks) -> Option<CheckFault>
     ensures { result ≡ route_fault m.now k.now r.now }
 {
-    if leads(m, r) {
-        fault_along(m, port_of_host(m, r.from), r.walk.turns(), k)
+    match walked(m, port_of_host(m, r.from), r.walk.turns(), k) {
+        Ok(end) => fault_unless(are_one(end, port_of_host(m, r.to)), r, None),
+        Err(fault) => fault_unless(leads(m, r), r, Some(fault)),
+    }
+}
+
+// The fault of the channels of a route that leads to its host, and else that it doesn't.
+fn fault_unless(leads: bool, r: &Route, along: Option<CheckFault>) -> Option<CheckFault>
+    ensures { result ≡ (if leads then along else Some (CheckFault.BadRoute r.now.from r.now.to)) }
+{
+    if leads {
+        along
     } else {
         Some(CheckFault::BadRoute {
             from: r.from,
@@ -66,37 +77,50 @@ fn route_fault(m: &FabricMap, r: &Route, k: &Ranks) -> Option<CheckFault>
 fn leads(m: &FabricMap, r: &Route) -> bool
     ensures { result ≡ leads m.now r.now }
 {
-    match led_to(m, port_of_host(m, r.from), r.walk.turns()) {
+    let end = led_to(m, port_of_host(m, r.from), r.walk.turns());
+    are_one(end, port_of_host(m, r.to))
+}
+
+// Whether two ports are there, and are one.
+fn are_one(d: Option<(u32, i8)>, e: Option<(u32, i8)>) -> bool
+    ensures { result ≡ are_one (unpair d) (unpair e) }
+{
+    match d {
         None => false,
-        Some(d) => match port_of_host(m, r.to) {
+        Some(d) => match e {
             None => false,
             Some(e) => d.0 == e.0 && d.1 == e.1,
         },
     }
 }
 
-// The first fault along the channels from a port on.
-fn fault_along(
+// The port that is entered last, from a port to leave by on, or the first fault along the channels.
+fn walked(
     m: &FabricMap,
     start: Option<(u32, i8)>,
     turns: &[i8],
     k: &Ranks,
-) -> Option<CheckFault>
+) -> Result<Option<(u32, i8)>, CheckFault>
     requires { All IsTurn turns.now }
-    ensures { result ≡ fault_along k.now None (channels_on m.now (unpair start) turns.now) }
+    ensures end { IfOk result (λ end. end ≡ far_pair (led_to m.now (unpair start) turns.now)) }
+    ensures none { IfOk result (λ _. fault_along k.now None (channels_on m.now (unpair start) turns.now) ≡ None) }
+    ensures fault { IfErr result (λ f. fault_along k.now None (channels_on m.now (unpair start) turns.now) ≡ Some f) }
 {
     let mut at = start;
     let mut before = None;
     for turn in turns {
         let rank = rank_at(at, k);
-        let fault = fault_at(m, before, at, rank);
-        if fault.is_some() {
-            return fault;
+        match fault_at(m, before, at, rank) {
+            None => {}
+            Some(fault) => return Err(fault),
         }
         before = ranked(at, rank);
         at = next_port(m, at, *turn);
     }
-    fault_at(m, before, at, rank_at(at, k))
+    match fault_at(m, before, at, rank_at(at, k)) {
+        None => Ok(far_of(m, at)),
+        Some(last) => Err(last),
+    }
 }
 
 // The rank of the channel that leaves by a port.

@@ -1,6 +1,6 @@
 //! Where a route leads on a map, port after port.
 
-ghost use Rattle.std.specs.Prelude.{◌≡◌, All};
+ghost use Rattle.std.specs.Prelude.{◌≡◌, [], All};
 ghost use Rattle.net_defs.specs.Turn.{IsTurn};
 ghost use Rattle.map_defs.specs.Routing.{led_to, turned_to, port_of_host};
 ghost use Rattle.fabric_map.specs.Table.{far_pair};
@@ -27,6 +27,13 @@ pub(crate) fn led_to(m: &FabricMap, start: Option<(u32, i8)>, turns: &[i8]) -> O
     for turn in turns {
         at = next_port(m, at, *turn);
     }
+    far_of(m, at)
+}
+
+/// The port at the other end of the cable at a port.
+pub(crate) fn far_of(m: &FabricMap, at: Option<(u32, i8)>) -> Option<(u32, i8)>
+    ensures { result ≡ far_pair (led_to m.now (unpair at) []) }
+{
     match at {
         None => None,
         Some((v, p)) => m.map_far(v, p),

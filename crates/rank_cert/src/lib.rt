@@ -6,6 +6,7 @@
 //! | module | has |
 //! |---|---|
 //! | `ranks` | a list of ranks, and the rank of a channel |
+//! | `table` | the ranks by their ports' places |
 //! | `certifying` | the ranks of all channels of a map |
 //! | `following` | where a route leads, and the channels that it crosses |
 //! | `checking` | the check of routes against ranks |
@@ -20,6 +21,7 @@ mod checking;
 mod fault;
 mod following;
 mod ranks;
+mod table;
 
 pub use certifying::certify;
 pub use checking::check;

@@ -14,7 +14,7 @@ use Rattle.port_align.specs.declared.frame.ClassFrame.{ClassFrame}
 use Rattle.class_joins.specs.declared.heads.Head.{Head}
 use Rattle.class_joins.specs.declared.meeting.HostNode.{HostNode}
 use Rattle.class_joins.specs.declared.meeting.Meeting.{Meeting}
-use Rattle.class_joins.specs.declared.meeting.NodePort.{NodePort}
+use Rattle.port_table.specs.declared.end.NodePort.{NodePort}
 use Rattle.class_joins.specs.declared.settling.Joined.{Joined}
 use Rattle.class_joins.specs.declared.way.Spot.{Spot}
 use Rattle.class_joins.specs.declared.way.Spot.TheVariants.{Address, Port}
@@ -25,7 +25,7 @@ use Rattle.class_joins.specs.Asked.{CountsAsked, asked_turns}
 use Rattle.class_joins.specs.Heads.{MarksNames, head_at, own_head}
 use Rattle.class_joins.specs.Kept.{IsKept, IsShaped}
 use Rattle.replicate_merge.specs.Seen.{class_table, kept_of}
-use Rattle.class_joins.specs.Places.{AddsPlaces}
+use Rattle.port_table.specs.Ends.{AddsPlaces}
 use Rattle.class_joins.specs.Rounds.{IsSettling, IsSettlingIn}
 use Rattle.class_joins.specs.Steps.{AddsNode, HasNoNodes, SameItems}
 use Rattle.class_joins.specs.Table.{IsTable, StandsFor}

@@ -9,6 +9,7 @@ ghost use Rattle.route_parts.specs.Reading.{rise_from, is_above};
 ghost use Rattle.route_parts.specs.Viewing.{route_viewed, entry_viewed};
 
 use crate::fronts::{byte_front, short_front};
+use turn_bytes::is_route_byte;
 
 // The most turns of a route.
 const MAX_TURNS: usize = 64;
@@ -44,13 +45,6 @@ fn are_route_bytes(bytes: &[u8]) -> bool
     ensures { result ≡ list_all is_route_byte bytes.now }
 {
     bytes.iter().all(|byte| is_route_byte(*byte))
-}
-
-// Whether a byte stands for a turn.
-fn is_route_byte(byte: u8) -> bool
-    ensures { result ≡ is_route_byte byte }
-{
-    matches!(byte, 0x80..=0x8f | 0xb1..=0xbf)
 }
 
 /// The host and the route bytes of the entry in front, and the bytes behind.

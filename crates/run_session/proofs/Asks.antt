@@ -14,7 +14,7 @@ use Rattle.run_session.specs.declared.mapping.MapOrder.{MapOrder}
 use Rattle.run_session.specs.Told.{IsMadeOver}
 use Rattle.run_defs.specs.Mapped.{AskedAll, one_if, asked_all, IsCalled}
 use Rattle.mapper.specs.Asks.{AreAsked}
-use Rattle.fab_drive.specs.Prober.{WorldAsking, IsAsked, next_ask, after_ask}
+use Rattle.world_asking.specs.Prober.{WorldAsking, IsAsked, next_ask, after_ask}
 
 -- What asks in a row came to: their answers, how many drowned, and the world then.
 pub record Came (s : WorldAsking) (j : List Entry) (t : WorldAsking) : Type 0 where

@@ -33,7 +33,7 @@ use Rattle.adopted_routes.specs.declared.routes.AdoptRefusal.{AdoptRefusal}
 use Rattle.adopted_routes.specs.declared.routes.AdoptRefusal.TheVariants.{Another, NoMemory}
 use Rattle.fab_world.specs.Events.{IsHostOf}
 use Rattle.fab_world.specs.Held.{IsMoment}
-use Rattle.fab_drive.specs.Installing.{CanInstall}
+use Rattle.table_installing.specs.Installing.{CanInstall}
 use Rattle.run_session.specs.Kept.{AreKeptRoutes}
 
 -- routes that the world does not refuse are no others

@@ -3,12 +3,10 @@ use Rattle.std.proofs.Common.{◌≡◌, ℕ, ◌≤◌, true, Option, Some, ref
 use Rattle.link_defs.specs.Links.{is_idle}
 use Rattle.net_defs.specs.declared.vertex.Vertex.TheVariants.{Host}
 use Rattle.net_defs.specs.Network.{Network, has_vertex}
-use Rattle.map_defs.specs.NetMap.{NetMap, IsConnected}
-use Rattle.map_defs.specs.Core.{core_of}
+use Rattle.map_defs.specs.NetMap.{NetMap}
 use Rattle.map_defs.specs.Orientation.{order_of}
 use Rattle.map_defs.specs.Routing.{AreRoutesOf}
 use Rattle.map_defs.specs.Sameness.{IsMapOfPart}
-use Rattle.map_laws.proofs.Connected.{quotient_is_connected}
 use Rattle.map_laws.proofs.Size.{right_map_is_no_larger}
 use Rattle.world_defs.specs.World.{WorldState, fabric_of}
 use Rattle.run_defs.specs.declared.line.MapWords.{MapWords}
@@ -17,7 +15,7 @@ use Rattle.run_defs.specs.Mapped.{IsMapped}
 use Rattle.run_defs.specs.Run.{hosts_by_address}
 use Rattle.run_defs.specs.Session.{LastMap, LastRoutes, new_session}
 use Rattle.mapping_laws.specs.Laws.{CanMap}
-use Rattle.mapping_laws.proofs.Made.{made_map_is_map, made_map_is_right}
+use Rattle.mapping_laws.proofs.Made.{made_map_is_connected, made_map_is_map, made_map_is_right}
 use Rattle.map_text.specs.Printing.{AreOfFabric}
 use Rattle.map_making.specs.declared.making.MadeMap.{MadeMap}
 use Rattle.fab_report.specs.Printed.{PrintedState}
@@ -49,10 +47,6 @@ kept_last n host (Doubtful drowned) m right l e = cc
 kept_last n host IncompleteDepth m right l e = cc
 kept_last n host IncompleteNodes m right l e = cc
 
--- marks don't part a map
-marked-connected : (m k : NetMap) → m ≡ record k { core = core_of k } → IsConnected k → IsConnected m
-marked-connected m k e c = subst IsConnected (sym e) (λ v i. let r = c v i in record { cables = r.cables; path = r.path })
-
 -- routes can be computed of a map that was made over a world, where it says complete
 pub kept-made : (order : MapOrder) (before after : WorldState) (m : MadeMap) (packets : ℕ) → IsMoment before → is_idle before.links ≡ true → has_vertex (fabric_of before) (Host order.host) ≡ true → order.depth ≤ 32
     → IsMadeOver order before after m packets → AreOfFabric (fabric_of before) m.map → m.words ≡ Complete → IsKeptMap (fabric_of before) order.host m.map
@@ -69,7 +63,7 @@ kept-made order before after m packets now idle there shallow over hosts says =
       rules = made_map_is_map host order.depth order.tries before after j m.map m.words can made;
       right = right;
       hosts = hosts;
-      connected = marked-connected m.map made.unmarked made.marked (quotient_is_connected host order.depth j made.unmarked made.grown made.quotient);
+      connected = made_map_is_connected host order.depth order.tries before after j m.map m.words made;
       few = omega (arith, small, few);
     }
 

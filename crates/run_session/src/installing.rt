@@ -13,11 +13,11 @@ ghost use Rattle.run_session.specs.Kept.{AreKeptRoutes};
 ghost use Rattle.run_session.specs.Told.{AreInstalledTold, IsInstallTold};
 
 use crate::last::LastFound;
-use fab_drive::install;
 use fab_report::Printed;
 use fab_world::{AdoptRefusal, World};
 use run_defs::{InstallCause, Line};
 use std::alloc::{AllocError, Global};
+use table_installing::install;
 use world_commands::print_tables;
 
 /// Installs the last routes, unless that is refused: no routes were computed, a channel holds a packet, or other

@@ -20,12 +20,12 @@ ghost use Rattle.run_session.specs.Obeyed.{IsObeyed};
 ghost use Rattle.run_session.specs.Told.{IsMadeOver, map_of};
 
 use crate::last::LastMade;
-use fab_drive::WorldProber;
 use fab_report::Printed;
 use fab_world::{Fabric, World};
 use map_making::{MadeMap, make_map, print_made};
 use run_defs::{Command, Line};
 use std::alloc::{AllocError, Global};
+use world_asking::WorldProber;
 
 /// A map to be made: from which host, to how many cables, and how often a probe of each kind is tried.
 #[derive(Clone, Copy)]
@@ -128,7 +128,6 @@ const fn count_fits(_asks: u64)
 {}
 
 // The text of a map, which is the last one then.
-#[tactic(auto, using(crate::proofs::Keeping::kept_last))]
 fn keep_map(
     alloc: Global,
     f: &Fabric,

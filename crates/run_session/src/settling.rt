@@ -5,11 +5,11 @@ ghost use Rattle.world_defs.specs.World.{fabric_of};
 ghost use Rattle.run_defs.specs.declared.command.Command.TheVariants.{Settle};
 ghost use Rattle.world_commands.specs.Done.{IsDone};
 
-use fab_drive::settle;
 use fab_report::Printed;
 use fab_world::World;
 use run_defs::Line;
 use std::alloc::{AllocError, Global};
+use world_drain::settle;
 
 /// Settles a world: its text is the line of what that came to. Where memory is wanting, the settle was made in part,
 /// or isn't told.

@@ -44,12 +44,12 @@ use Rattle.window_laws.proofs.Windows.{reached-windowed}
 use Rattle.token_laws.specs.Untouched.{IsUntouched}
 use Rattle.token_laws.specs.Received.{IsOfMessage, ReceivedEventsAreOfMessages}
 use Rattle.token_laws.proofs.Calls.{IsCall, CallDoes, call-does}
-use Rattle.token_laws.proofs.Hosts.{lane-new}
+use Rattle.ticket_laws.proofs.Hosts.{lane-new}
 use Rattle.token_laws.proofs.Events.{AreAll, all-more, PortStill, port-same, called-still, finished-still, delivered-still, event-at, ports-same, ports-set}
 use Rattle.token_laws.proofs.Buffers.{least-size, HoldsFront, taker-holds, read-within, read-last, provided-untouched}
 use Rattle.token_laws.proofs.Reaching.{reached-count, reached-known}
 use Rattle.order_laws.proofs.Frames.{get-front}
-use Rattle.token_laws.proofs.Lists.{get-last}
+use Rattle.ticket_laws.proofs.Lists.{get-last}
 
 -- an event is of a message that was got by the lane of its sender and its priority
 abbrev IsEventOf : (ℕ → List Message) → ℕ → PortEvent → Type 0

@@ -1,8 +1,4 @@
-pub mod Lists
-pub mod Matching
-pub mod Sendings
 pub mod Calls
-pub mod Ports
 pub mod Routed
 pub mod Hosts
 pub mod Reaching

@@ -11,69 +11,58 @@ use Rattle.window_laws.proofs.Hosts.{Rules, Goes, acted-goes}
 use Rattle.gm_defs.specs.Fragment.{whole_below}
 use Rattle.act_defs.proofs.Reaching.{reached-has}
 use Rattle.window_laws.proofs.Windows.{numbers_of, reached-windowed}
-use Rattle.token_laws.specs.Tickets.{AreMatched}
-use Rattle.token_laws.specs.Unfinished.{send_at, tickets_on, QueueIsUnfinished, EachSendHasOneTicket}
-use Rattle.token_laws.proofs.Matching.{matched-same}
-use Rattle.token_laws.proofs.Sendings.{under-some}
+use Rattle.token_laws.specs.Unfinished.{HasBytes, QueueIsUnfinished, EachSendHasOneTicket}
+use Rattle.ticket_laws.proofs.Keeping.{new-matched}
+use Rattle.ticket_laws.proofs.Sendings.{under-some}
 use Rattle.token_laws.proofs.Calls.{call-does}
-use Rattle.token_laws.proofs.Ports.{send_in, left_on, HostMatched}
-use Rattle.token_laws.proofs.Hosts.{sending-same, expired-same, quiet-same, hear-matched, called-matched}
+use Rattle.ticket_laws.specs.Host.{send_in}
+use Rattle.ticket_laws.proofs.Hosts.{sending-same, expired-same, quiet-same}
+use Rattle.token_laws.proofs.Hosts.{IsMatched, hear-matched, called-matched}
 use Rattle.token_laws.proofs.Reaching.{reached-count, reached-known}
 use Rattle.world_defs.proofs.Lists.{each-replicate}
 
 -- a change of a host of the fabric leaves its sends, tickets and messages matched
 record MatchedStill (count h : ℕ) (n m : NodeState) : Type 0 where
-  still : h < count → HostMatched n → HostMatched m
+  still : h < count → IsMatched n → IsMatched m
 
 abbrev Still : Network → ℕ → NodeState → NodeState → Type 0
 Still n h a b = MatchedStill (length n.hosts) h a b
 
 matched-rules : (n : Network) (w : WorldState) → IsReached n w → Rules w (numbers_of w) (Still n)
 matched-rules n w is = record {
-  quiet = λ h m e f. record { still = λ low. quiet-same (node_at w h) m e f };
+  quiet = λ h m e f. record { still = λ low. quiet-same HasBytes (node_at w h) m e f };
   hears = λ h wire good. record { still = λ low. hear-matched (node_at w h) (client_at w h) (host_count w) (reached-known n w h is low) h wire };
-  sends = λ h out e. record { still = λ low. sending-same (node_at w h) out };
-  expires = λ h peer. record { still = λ low. expired-same (node_at w h) peer };
+  sends = λ h out e. record { still = λ low. sending-same HasBytes (node_at w h) out };
+  expires = λ h peer. record { still = λ low. expired-same HasBytes (node_at w h) peer };
   calls = λ h port call k. record { still = λ low. called-matched (node_at w h) (client_at w h) (host_count w) (reached-known n w h is low) (call-does k) };
 }
 
 -- the invariant
-record IsMatched (n : Network) (w : WorldState) : Type 0 where
-  hosts : (h : ℕ) → h < length n.hosts → HostMatched (node_at w h)
+record AllMatched (n : Network) (w : WorldState) : Type 0 where
+  hosts : (h : ℕ) → h < length n.hosts → IsMatched (node_at w h)
 
-acted-matched : (n : Network) (w : WorldState) (a : Act) → IsReached n w → IsMatched n w → IsMatched n (acted w a)
+acted-matched : (n : Network) (w : WorldState) (a : Act) → IsReached n w → AllMatched n w → AllMatched n (acted w a)
 acted-matched n w a r is =
     let g : Goes (Still n) w (acted w a) = acted-goes w (numbers_of w) (Still n) (matched-rules n w r) a (reached-windowed n w r).links in
     record { hosts = λ h low. (g.nodes h).still low (is.hosts h low) }
 
--- a host before anything happened
-none-matched : AreMatched (λ (t : Ticket). None) (λ k. []) (λ k. [])
-none-matched = record { of_messages = λ k. tt; one_each = λ t s e. cc }
-
-new-matched : (k : ℕ) → HostMatched (new_node k)
-new-matched k =
-    let lane : (j : ℕ) → lane_at (new_node k) j ≡ new_lane = λ j. each-replicate (λ x. x ≡ new_lane) (lane_count k) j new_lane new_lane refl refl in
-    let port : (j : ℕ) → port_at (new_node k) j ≡ None = λ j. each-replicate (λ o. o ≡ None) port_count j None None refl refl in
-    matched-same (λ (t : Ticket). None) (send_at (new_node k)) (λ j. []) (tickets_on (new_node k)) (λ j. []) (left_on (new_node k)) (λ x. ap (λ o. send_in o x.token) (port x.port)) (λ j. ap (λ p. p.pending) (lane j))
-    (λ j. ap (λ p. drop (whole_below p.sent p.sender.base) p.sent) (lane j)) none-matched
-
-new-world-matched : (n : Network) → IsMatched n (new_world n)
+new-world-matched : (n : Network) → AllMatched n (new_world n)
 new-world-matched n =
     let k : ℕ = length n.hosts in
-    record { hosts = λ h low. each-replicate HostMatched k h (new_node k) (new_node 0) (new-matched k) (new-matched 0) }
+    record { hosts = λ h low. each-replicate IsMatched k h (new_node k) (new_node 0) (new-matched HasBytes k) (new-matched HasBytes 0) }
 
-pub reached-matched : (n : Network) (w : WorldState) → IsReached n w → (h : ℕ) → HostMatched (node_at w h)
+pub reached-matched : (n : Network) (w : WorldState) → IsReached n w → (h : ℕ) → IsMatched (node_at w h)
 reached-matched n w is h = by (nat_lt h (length n.hosts)) refl
   where
-    all : IsMatched n w
-    all = reached-has (IsMatched n) n (new-world-matched n) (λ w a r may. acted-matched n w a r) w is
+    all : AllMatched n w
+    all = reached-has (AllMatched n) n (new-world-matched n) (λ w a r may. acted-matched n w a r) w is
 
-    by : (b : Bool) → nat_lt h (length n.hosts) ≡ b → HostMatched (node_at w h)
+    by : (b : Bool) → nat_lt h (length n.hosts) ≡ b → IsMatched (node_at w h)
     by true e = all.hosts h (grind (arith, nat_tests))
     by false e =
         let count = reached-count n w is in
         let past : length n.hosts ≤ h = grind (arith, nat_tests) in
-        subst HostMatched (sym (get_or_past w.nodes h (new_node 0) (omega (arith, count, past)))) (new-matched 0)
+        subst IsMatched (sym (get_or_past w.nodes h (new_node 0) (omega (arith, count, past)))) (new-matched HasBytes 0)
 
 pub queue-unfinished : QueueIsUnfinished
 queue-unfinished n w is h = reached-matched n w is h

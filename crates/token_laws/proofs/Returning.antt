@@ -29,12 +29,15 @@ use Rattle.window_laws.proofs.Hosts.{Rules, Goes, acted-goes}
 use Rattle.window_laws.proofs.Numbers.{all_finished-lanes}
 use Rattle.act_defs.proofs.Reaching.{reached-has}
 use Rattle.window_laws.proofs.Windows.{numbers_of, reached-windowed}
-use Rattle.token_laws.specs.Tickets.{IsTicketOf, AreTicketsOf, AreMatched}
-use Rattle.token_laws.specs.Unfinished.{send_at, tickets_on}
+use Rattle.ticket_laws.specs.Tickets.{IsTicketOf, AreTicketsOf, AreMatched}
+use Rattle.ticket_laws.specs.Host.{send_in, AllApart}
+use Rattle.ticket_laws.proofs.Lists.{get-drop}
+use Rattle.ticket_laws.proofs.Ports.{finish, finish-apart, at, at-here, first-finished}
+use Rattle.ticket_laws.proofs.Hosts.{lane-new, raised, IsFinishing, finishing}
+use Rattle.token_laws.specs.Unfinished.{send_at, tickets_on, unfinished_on, HasBytes}
 use Rattle.token_laws.specs.Returned.{IsReturned, SentEventsAreOfMessages}
 use Rattle.token_laws.proofs.Calls.{IsCall, CallDoes, call-does}
-use Rattle.token_laws.proofs.Ports.{send_in, left_on, HostMatched, AllApart, finish, finish-apart, at, at-here, first-finished}
-use Rattle.token_laws.proofs.Hosts.{IsKnown, lane-new, raised, all-apart, IsFinishing, finishing}
+use Rattle.token_laws.proofs.Hosts.{IsMatched, IsKnown, all-apart}
 use Rattle.token_laws.proofs.Events.{AreAll, all-more, PortStill, port-same, called-still, finished-still, delivered-still, event-at, ports-same, ports-set}
 use Rattle.token_laws.proofs.Matched.{reached-matched}
 use Rattle.token_laws.proofs.Reaching.{reached-count, reached-known}
@@ -44,11 +47,6 @@ use Rattle.order_laws.proofs.Frames.{get-front}
 abbrev IsReturnOf : (ℕ → List Message) → (ℕ → ℕ) → ℕ → PortEvent → Type 0
 IsReturnOf sent base port (Sent t b) = IsReturned sent base port b
 IsReturnOf sent base port (Received t b from sport prio len) = Unit {0}
-
-get-drop : {X : Type 0} (b : ℕ) (xs : List X) (i : ℕ) (x : X) → slice_get (drop b xs) i ≡ Some x → slice_get xs (b + i) ≡ Some x
-get-drop zero xs i x e = let s : i ≡ 0 + i = omega arith in ap (slice_get xs) (sym s) ∙ e
-get-drop (suc b) [] i x e = cc
-get-drop (suc b) (y ∷ xs) i x e = let s : suc b + i ≡ suc (b + i) = omega arith in ap (slice_get (y ∷ xs)) s ∙ get-drop b xs i x e
 
 -- more is sent, and more is acknowledged
 record LaneUp (p q : LaneState) : Type 0 where
@@ -105,7 +103,7 @@ lane-goes : (n : NodeState) (k : ℕ) (q : LaneState) → LaneUp (lane_at n k) q
 lane-goes n k q here = record { more = lanes-set n (with_lane n k q) k q refl here; ports = ports-same (IsOf (with_lane n k q)) n (with_lane n k q) refl }
 
 -- the message of the first ticket
-first-message : (S : Ticket → Option Sending) (t : Ticket) (rest : List Ticket) (ms : List Message) → AreTicketsOf S (t ∷ rest) ms → (x : Message) × ((slice_get ms 0 ≡ Some x) × IsTicketOf S t x)
+first-message : (S : Ticket → Option Sending) (t : Ticket) (rest : List Ticket) (ms : List Message) → AreTicketsOf HasBytes S (t ∷ rest) ms → (x : Message) × ((slice_get ms 0 ≡ Some x) × IsTicketOf HasBytes S t x)
 first-message S t rest [] are = absurd are
 first-message S t rest (x ∷ ms) are = (x, (refl, are.0))
 
@@ -113,28 +111,28 @@ same-buffer : (a b : Sending) → Some a ≡ Some b → a.buffer ≡ b.buffer
 same-buffer a b e = cc
 
 -- sends of messages are finished
-finished-all : (E : ℕ → PortEvent → Type 0) (n : NodeState) (P : ℕ → List Ticket) (U : ℕ → List Message) (k : ℕ) (ts rest : List Ticket) → P k ≡ ts ++ rest → AllApart n → AreMatched (send_at n) P U → ((i : ℕ) (x : Message) (t : ℕ) → i < length ts → slice_get (U k) i ≡ Some x → E x.sport (Sent t x.body)) → (port : ℕ) → PortStill (E port) (port_at n port) (port_at (all_finished n ts) port)
+finished-all : (E : ℕ → PortEvent → Type 0) (n : NodeState) (P : ℕ → List Ticket) (U : ℕ → List Message) (k : ℕ) (ts rest : List Ticket) → P k ≡ ts ++ rest → AllApart n.ports → AreMatched HasBytes (send_at n) P U → ((i : ℕ) (x : Message) (t : ℕ) → i < length ts → slice_get (U k) i ≡ Some x → E x.sport (Sent t x.body)) → (port : ℕ) → PortStill (E port) (port_at n port) (port_at (all_finished n ts) port)
 finished-all E n P U k [] rest e apart is new port = port-same (E port) (port_at n port)
 finished-all E n P U k (t ∷ ts) rest e apart is new port =
     let m : NodeState = finish n t in
     let Q : ℕ → List Ticket = at k (ts ++ rest) P in
     let V : ℕ → List Message = at k (drop 1 (U k)) U in
     let o : Option PortState = option_map (λ p. finished p t.token) (port_at n t.port) in
-    let first = first-message (send_at n) t (ts ++ rest) (U k) (subst (λ l. AreTicketsOf (send_at n) l (U k)) e (is.of_messages k)) in
+    let first = first-message (send_at n) t (ts ++ rest) (U k) (subst (λ l. AreTicketsOf HasBytes (send_at n) l (U k)) e (is.of_messages k)) in
     let x : Message = first.0 in
-    let sent : E t.port (Sent t.token x.body) = subst (λ j. E j (Sent t.token x.body)) (sym first.1.1.0) (new 0 x t.token (omega arith) first.1.0) in
+    let sent : E t.port (Sent t.token x.body) = subst (λ j. E j (Sent t.token x.body)) (sym first.1.1.port) (new 0 x t.token (omega arith) first.1.0) in
     let ended : (p : PortState) (s : Sending) → port_at n t.port ≡ Some p → send_of p t.token ≡ Some s → E t.port (Sent t.token s.buffer) = λ p s a b.
-    subst (λ z. E t.port (Sent t.token z)) (same-buffer (record { token = t.token; buffer = x.body }) s (sym first.1.1.1 ∙ (ap (λ z. send_in z t.token) a ∙ b))) sent in
+    subst (λ z. E t.port (Sent t.token z)) (sym first.1.1.bytes ∙ same-buffer (record { token = t.token; buffer = first.1.1.buffer }) s (sym first.1.1.there ∙ (ap (λ z. send_in z t.token) a ∙ b))) sent in
     let one : PortStill (E port) (port_at n port) (port_at m port) = ports-set E n m t.port o refl (finished-still (E t.port) t.token (port_at n t.port) ended) port in
     let more : PortStill (E port) (port_at m port) (port_at (all_finished m ts) port) =
-    finished-all E m Q V k ts rest (at-here k (ts ++ rest) P) (finish-apart n t apart) (first-finished n P U k t (ts ++ rest) e apart is)
+    finished-all E m Q V k ts rest (at-here k (ts ++ rest) P) (finish-apart n t apart) (first-finished HasBytes n P U k t (ts ++ rest) e apart is)
     (λ i y j low d. let s : 1 + i ≡ suc i = omega arith in new (suc i) y j (omega (arith, low)) (ap (slice_get (U k)) (sym s) ∙ get-drop 1 (U k) i y (ap (λ l. slice_get l i) (sym (at-here k (drop 1 (U k)) U)) ∙ d)))
     port in
     record { still = λ a. more.still (one.still a) }
 
 module _ (n : NodeState) (client : ℕ → Option ClientState) (hosts : ℕ) (known : IsKnown n client hosts) where
   -- an acknowledgement
-  acknowledged-goes : (k next : ℕ) → k < lane_count hosts → HostMatched n → HostGoes n (all_finished (with_lane n k (lane_acknowledged (lane_at n k) next)) (take (finished_by (lane_at n k) next) (lane_at n k).pending))
+  acknowledged-goes : (k next : ℕ) → k < lane_count hosts → IsMatched n → HostGoes n (all_finished (with_lane n k (lane_acknowledged (lane_at n k) next)) (take (finished_by (lane_at n k) next) (lane_at n k).pending))
   acknowledged-goes k next low is = record { more = lanes-set n m k q lanes up; ports = ports }
     where
       p : LaneState
@@ -156,10 +154,10 @@ module _ (n : NodeState) (client : ℕ → Option ClientState) (hosts : ℕ) (kn
       m = all_finished before gone
 
       f : IsFinishing n k next
-      f = finishing n client hosts known k next low is
+      f = finishing HasBytes n k next (known.senders k) (subst (λ count. k < count) (sym known.lanes) low) is
 
-      apart : AllApart before
-      apart = record { each = λ port. (all-apart n client hosts known).each port }
+      apart : AllApart before.ports
+      apart = all-apart n client hosts known
 
       lanes : m.lanes ≡ set n.lanes k q
       lanes = all_finished-lanes before gone
@@ -170,7 +168,7 @@ module _ (n : NodeState) (client : ℕ → Option ClientState) (hosts : ℕ) (kn
       up : LaneUp p q
       up = record { sent = front-same p.sent; done = below-up p.sent p.sender.base (acknowledged p.sender next).base (raised p.sender next (known.senders k)).up }
 
-      returned : (i : ℕ) (x : Message) (t : ℕ) → i < length gone → slice_get (left_on n k) i ≡ Some x → IsReturned (sent_at m) (done_at m) x.sport x.body
+      returned : (i : ℕ) (x : Message) (t : ℕ) → i < length gone → slice_get (unfinished_on n k) i ≡ Some x → IsReturned (sent_at m) (done_at m) x.sport x.body
       returned i x t below e =
           let base : done_at m k ≡ whole_below p.sent (acknowledged p.sender next).base = ap (λ z. whole_below z.sent z.sender.base) now in
           let done : ℕ = whole_below p.sent p.sender.base in
@@ -187,7 +185,7 @@ module _ (n : NodeState) (client : ℕ → Option ClientState) (hosts : ℕ) (kn
           }
 
       ports : (port : ℕ) → PortStill (IsOf m port) (port_at n port) (port_at m port)
-      ports = finished-all (IsOf m) before (tickets_on n) (left_on n) k gone (drop count p.pending) (sym (take-append-drop count p.pending)) apart is returned
+      ports = finished-all (IsOf m) before (tickets_on n) (unfinished_on n) k gone (drop count p.pending) (sym (take-append-drop count p.pending)) apart is returned
 
   frame-goes : (h : FrameHead) (part : List ℕ) (t : Took) → HostGoes n (delivered_after (with_lane n (frame_lane h) (lane_after (lane_at n (frame_lane h)) t (message_of h part))) h part t)
   frame-goes h part NotNext = lane-goes n (frame_lane h) (lane_after (lane_at n (frame_lane h)) NotNext (message_of h part)) (up-same (lane_at n (frame_lane h)) (lane_after (lane_at n (frame_lane h)) NotNext (message_of h part)) refl refl)
@@ -207,7 +205,7 @@ module _ (n : NodeState) (client : ℕ → Option ClientState) (hosts : ℕ) (kn
         ports = ports-set (IsOf m) n m h.dport (option_map (λ p. delivered p h part) (port_at n h.dport)) refl (delivered-still (IsOf m h.dport) h part (port_at n h.dport) (λ p r e d t. tt));
       }
 
-  heard-goes : (host : ℕ) (wire : List ℕ) (m : NodeState) → HostMatched n → IsHeard host hosts n wire m → HostGoes n m
+  heard-goes : (host : ℕ) (wire : List ℕ) (m : NodeState) → IsMatched n → IsHeard host hosts n wire m → HostGoes n m
   heard-goes host wire m is (quietly e f) = quiet-goes n m e f
   heard-goes host wire m is (of_frame body h e d mine low now) = subst (HostGoes n) (sym now) (frame-goes h (part_in body) (frame_took n h))
   heard-goes host wire m is (of_ack body a e d mine low now) = subst (HostGoes n) (sym now) (acknowledged-goes (ack_lane a) a.next (lane_of-below hosts a.src a.prio low) is)

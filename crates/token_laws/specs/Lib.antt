@@ -1,4 +1,3 @@
-pub mod Tickets
 pub mod Unfinished
 pub mod Untouched
 pub mod Received

@@ -1,11 +1,10 @@
 //! What holds of the tokens and buffers of ports, after every list of acts that may happen.
 //!
-//! It holds no port, and leaves out that each token has one owner: that is `owner_laws`. Read `specs/Tickets.antt`
-//! first.
+//! It holds no port, and leaves out that each token has one owner: that is `owner_laws`. When sends, tickets and
+//! messages are matched, and what keeps them so on one host, is `ticket_laws`.
 //!
 //! | file of `specs/` | says |
 //! |---|---|
-//! | `Tickets` | when sends, tickets and messages are matched |
 //! | `Unfinished` | a port's queue has exactly the sends that aren't finished |
 //! | `Untouched` | provided buffers are as they were provided |
 //! | `Received`, `Returned` | what received events and sent events hold |

@@ -3,9 +3,10 @@
 ghost use Rattle.std.specs.Prelude.{◌≡◌, ◌≤◌, ◌++◌, ◌∷◌, length, map, take, All, IfOk, OnOk};
 ghost use Rattle.net_defs.specs.Turn.{IsTurn};
 ghost use Rattle.net_defs.specs.Refusal.{Refuses};
-ghost use Rattle.packet_defs.specs.RouteByte.{route_byte, turn_of, turns_of};
+ghost use Rattle.packet_defs.specs.RouteByte.{route_byte, turns_of};
 ghost use Rattle.turn_bytes.specs.Reading.{missing};
 
+use crate::table::{route_byte, turn_of};
 use net_defs::Walk;
 use std::alloc::{AllocError, Global};
 
@@ -20,25 +21,6 @@ pub enum TurnFault {
 
 // The most turns of a route.
 const MAX_TURNS: usize = 64;
-
-/// The byte that stands for a turn.
-fn route_byte(turn: i8) -> u8
-    requires { IsTurn turn }
-    ensures { result ≡ route_byte turn }
-{
-    0x80 + i16::from(turn).rem_euclid(64) as u8
-}
-
-// The turn that a byte stands for; none where it is no route byte.
-fn turn_of(byte: u8) -> Option<i8>
-    ensures { result ≡ turn_of byte }
-{
-    match byte {
-        0x80..=0x8f => Some((i16::from(byte) - 0x80) as i8),
-        0xb1..=0xbf => Some((i16::from(byte) - 0xc0) as i8),
-        _ => None,
-    }
-}
 
 /// Adds a route at the end of bytes.
 pub fn push_route(bytes: &mut Vec<u8>, turns: &[i8]) -> Result<(), AllocError>

@@ -8,9 +8,9 @@ use Rattle.world_defs.specs.declared.effect.Effect.TheVariants.{Idle, Expired}
 use Rattle.gm_defs.specs.Connection.{unacknowledged}
 use Rattle.world_defs.specs.Lane.{new_lane, lane_expired}
 use Rattle.world_defs.specs.Node.{NodeState, new_node, lane_of, lane_at, with_expired, node_expired, unacknowledged_on, unacknowledged_to}
-use Rattle.world_defs.specs.World.{WorldState, host_count, node_at, with_node, addresses}
+use Rattle.world_defs.specs.World.{WorldState, host_count, node_at, with_node, addresses, sum_of}
 use Rattle.world_defs.specs.Step.{expired, step, after_all}
-use Rattle.world_defs.specs.Settle.{expiries_of, expiries_of_all, expiries}
+use Rattle.world_defs.specs.Settle.{unacknowledged_from, expiries_of, expiries_of_all, expiries}
 use Rattle.world_laws.proofs.Lists.{at-set}
 use Rattle.world_laws.proofs.Idling.{step-idle}
 use Rattle.world_laws.proofs.Reached.{after_all-append}
@@ -46,6 +46,20 @@ expire-left w h p = by (nat_lt 0 (unacknowledged_to (node_at w h) p))
 
 pub expire-idle : (w : WorldState) (h p : ℕ) → unacknowledged_to (node_at w h) p ≡ 0 → (step w (Expire h p)).1 ≡ w
 expire-idle w h p none = let k = step-idle w (Expire h p) in k.still (k.to none)
+
+-- a host of which all is acknowledged has none
+none-due : (f : ℕ → ℕ) (ps : List ℕ) → sum_of (map f ps) ≡ 0 → filter (λ p. nat_lt 0 (f p)) ps ≡ []
+none-due f [] none = refl
+none-due f (p ∷ ps) none =
+    let here : f p ≡ 0 = omega (arith, none) in
+    let rest : sum_of (map f ps) ≡ 0 = omega (arith, none) in
+    let due : List ℕ = filter (λ q. nat_lt 0 (f q)) ps in
+    ap (λ n. cond (nat_lt 0 n) (p ∷ due) due) here ∙ none-due f ps rest
+
+pub expiries-none : (w : WorldState) (h : ℕ) → nat_lt 0 (unacknowledged_from w h) ≡ false → expiries_of w h ≡ []
+expiries-none w h none =
+    let sum : unacknowledged_from w h ≡ 0 = grind (arith, nat_tests) in
+    ap (map (Expire h)) (none-due (unacknowledged_to (node_at w h)) (addresses w) sum)
 
 -- expiries of a host, in a row
 expires-left : (w : WorldState) (h : ℕ) (ps : List ℕ) → HasSameLeft w (after_all w (map (Expire h) ps))

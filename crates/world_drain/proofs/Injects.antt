@@ -1,15 +1,29 @@
 -- Injections of hosts under way: those so far, and those of the hosts from an address on, are all of them.
-use Rattle.std.proofs.Common.{◌≡◌, ◌<◌, ◌≤◌, ℕ, suc, ◌+◌, ◌-◌, Bool, false, ◌||◌, List, ◌∷◌, map, nat_lt, refl, sym, ◌∙◌, ap, arith}
+use Rattle.std.proofs.Common.{◌≡◌, ◌<◌, ◌≤◌, ℕ, suc, ◌+◌, ◌-◌, Bool, false, true≢false, ◌||◌, List, ◌∷◌, map, nat_lt, Option, Some, None, is_some, refl, sym, ◌∙◌, ap, arith}
 use Rattle.std.specs.List.{range_with_len}
 use Rattle.world_defs.specs.declared.event.Event.TheVariants.{Inject}
 use Rattle.world_defs.specs.declared.effect.Effect.{Effect}
-use Rattle.world_defs.specs.World.{WorldState, host_count, addresses}
+use Rattle.world_defs.specs.Node.{Outgoing, to_send}
+use Rattle.world_defs.specs.World.{WorldState, host_count, addresses, node_at}
 use Rattle.world_defs.specs.Step.{step, steps}
 use Rattle.world_defs.specs.Drain.{changed, changes}
+use Rattle.world_laws.specs.Idle.{CannotInject}
 use Rattle.world_laws.proofs.Draining.{one_if, changes-push}
+use Rattle.world_laws.proofs.Idling.{step-idle}
 use Rattle.fab_world.specs.Held.{IsLater}
 use Rattle.world_drain.proofs.Later.{later-same, later-both, later-step}
 use Rattle.world_drain.proofs.Telling.{moved-sum, one-moved}
+
+-- a host that has nothing to send injects nothing
+pub inject-idle : (w : WorldState) (h : ℕ) → is_some (to_send h (node_at w h)) ≡ false → (false ≡ changed (step w (Inject h)).0) × (w ≡ (step w (Inject h)).1)
+inject-idle w h none =
+    let k = step-idle w (Inject h) in
+    let idle = k.to (CannotInject.nothing_to_send (is_none (to_send h (node_at w h)) none)) in
+    (sym (ap changed idle), sym (k.still idle))
+  where
+    is_none : (o : Option Outgoing) → is_some o ≡ false → o ≡ None
+    is_none None e = refl
+    is_none (Some x) e = absurd (true≢false e)
 
 -- the injections of the hosts from an address on
 abbrev pub injects_from : WorldState → (host count : ℕ) → List Effect × WorldState

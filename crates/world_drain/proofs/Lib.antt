@@ -4,6 +4,7 @@ pub mod Expiries
 pub mod GivingUp
 pub mod Injects
 pub mod Later
+pub mod Leading
 pub mod Limbo
 pub mod Passed
 pub mod Passing
@@ -13,7 +14,9 @@ pub mod Resets
 pub mod Risen
 pub mod RoundRows
 pub mod Running
+pub mod Summing
 pub mod Telling
+pub mod Tries
 pub mod Watching
 pub mod WholePass
 pub mod WholeRound

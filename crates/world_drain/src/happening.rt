@@ -2,9 +2,11 @@
 
 ghost use Rattle.std.specs.Prelude.{◌≡◌, length, IfOk, OnOk, OnErr};
 ghost use Rattle.world_defs.specs.World.{fabric_of, host_count};
+ghost use Rattle.world_defs.specs.declared.event.Event.TheVariants.{Inject};
 ghost use Rattle.world_defs.specs.Drain.{changed};
 ghost use Rattle.world_defs.specs.Step.{step};
-ghost use Rattle.fab_world.specs.Events.{IsGiven};
+ghost use Rattle.world_defs.specs.Asking.{number_of};
+ghost use Rattle.fab_world.specs.Events.{IsGiven, IsHostOf};
 ghost use Rattle.fab_world.specs.Held.{IsLater};
 
 use fab_world::{Effect, Event, World};
@@ -21,6 +23,30 @@ pub fn happen(alloc: Global, w: &mut World, e: Event) -> Result<(), AllocError>
 {
     w.step(alloc, e)?;
     Ok(())
+}
+
+/// An injection of a host: the number of the packet that entered its channel, where one did. Want of memory leaves a
+/// world that some events lead to.
+pub fn inject(alloc: Global, w: &mut World, host: u16) -> Result<Option<u64>, AllocError>
+    requires { IsHostOf w.old host }
+    ensures number { IfOk result (λ n. n ≡ number_of (step w.old (Inject host)).0) }
+    ensures after { OnOk result (w.new ≡ (step w.old (Inject host)).1) }
+    ensures err { OnErr result (IsLater w.old w.new) }
+    ensures fabric { fabric_of w.new ≡ fabric_of w.old }
+    ensures hosts { host_count w.new ≡ host_count w.old }
+{
+    let effect = w.step(alloc, Event::Inject(host))?;
+    Ok(number_of(&effect))
+}
+
+// The number under which a packet was injected.
+fn number_of(effect: &Effect) -> Option<u64>
+    ensures { result ≡ number_of effect.now }
+{
+    match effect {
+        Effect::Injected(number) => Some(*number),
+        _ => None,
+    }
 }
 
 /// One event: whether it changed something.

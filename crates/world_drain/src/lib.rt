@@ -16,10 +16,11 @@
 //! |---|---|
 //! | `seen` | what a mapper looks for in what happens |
 //! | `draining` | a drain |
-//! | `happening` | one event, with or without its effect |
+//! | `happening` | one event, and what is told of it |
 //! | `giving_up` | every host gives up what it staged |
 //! | `clearing` | a clear |
 //! | `replaying`, `passes` | replays of what is in limbo, a pass over hosts and limbo, passes in a row |
+//! | `unacknowledged` | how many fragments aren't acknowledged |
 //! | `rounds` | a settle |
 #![tactic(auto)]
 
@@ -31,10 +32,12 @@ mod passes;
 mod replaying;
 mod rounds;
 mod seen;
+mod unacknowledged;
 
 pub use clearing::clear;
 pub use draining::{drain, drain_watching};
 pub use giving_up::give_up_all;
-pub use happening::happen;
+pub use happening::{happen, inject};
 pub use rounds::{Settled, settle};
 pub use seen::{AwaitedPart, Seen, Watch};
+pub use unacknowledged::unacked;

@@ -4,10 +4,11 @@ ghost use Rattle.std.specs.Prelude.{◌≡◌, ◌||◌, not, nat_lt, map, is_no
 ghost use Rattle.std.specs.List.{list_all};
 ghost use Rattle.world_defs.specs.declared.event.Event.TheVariants.{Inject};
 ghost use Rattle.world_defs.specs.Node.{to_send};
-ghost use Rattle.world_defs.specs.World.{node_at, addresses};
-ghost use Rattle.world_defs.specs.Step.{steps};
-ghost use Rattle.world_defs.specs.Drain.{changes};
+ghost use Rattle.world_defs.specs.World.{host_count, node_at, addresses};
+ghost use Rattle.world_defs.specs.Step.{step, steps};
+ghost use Rattle.world_defs.specs.Drain.{changed, changes};
 ghost use Rattle.world_defs.specs.Settle.{is_quiet, round_pass};
+ghost use Rattle.fab_world.specs.Events.{IsHostOf};
 ghost use Rattle.fab_world.specs.Held.{IsLater};
 ghost use Rattle.world_drain.specs.Settling.{capped, ArePasses};
 
@@ -84,7 +85,22 @@ fn inject_all(alloc: Global, w: &mut World) -> Result<bool, AllocError>
 {
     let mut moved = false;
     for host in 0..w.hosts() {
-        moved |= happens(alloc, w, Event::Inject(host))?;
+        moved |= inject_due(alloc, w, host)?;
     }
     Ok(moved)
+}
+
+// An injection of a host: whether it wasn't idle, as it would be of one that has nothing to send.
+fn inject_due(alloc: Global, w: &mut World, host: u16) -> Result<bool, AllocError>
+    requires { IsHostOf w.old host }
+    ensures changed { IfOk result (λ b. b ≡ changed (step w.old (Inject host)).0) }
+    ensures after { OnOk result (w.new ≡ (step w.old (Inject host)).1) }
+    ensures err { OnErr result (IsLater w.old w.new) }
+    ensures hosts { host_count w.new ≡ host_count w.old }
+{
+    if w.has_to_send(host) {
+        happens(alloc, w, Event::Inject(host))
+    } else {
+        Ok(false)
+    }
 }

@@ -13,7 +13,7 @@ use fab_world::{Event, World};
 use std::alloc::{AllocError, Global};
 
 /// What a stretch of injections, replays and clears did.
-#[derive(Clone, Copy, Debug)]
+#[derive(Clone, Copy)]
 pub(crate) struct Told {
     /// Whether an injection or a replay wasn't idle.
     pub(crate) moved: bool,

@@ -14,6 +14,7 @@ ghost use Rattle.world_drain.specs.Settling.{capped};
 use crate::clearing::clear;
 use crate::happening::happen;
 use crate::passes::passes;
+use crate::unacknowledged::unacked;
 use fab_world::{Event, World};
 use std::alloc::{AllocError, Global};
 
@@ -54,7 +55,7 @@ pub fn settle(alloc: Global, w: &mut World) -> Result<Settled, AllocError>
 }
 
 // How far a world has come: how many fragments aren't acknowledged, and how many planned faults struck.
-#[derive(Clone, Copy, Debug)]
+#[derive(Clone, Copy)]
 struct Progress {
     unacked: u64,
     struck: u64,
@@ -95,7 +96,7 @@ fn progress_of(w: &World) -> Progress
     ensures struck { result.struck ≡ w.now.struck }
 {
     Progress {
-        unacked: w.unacked(),
+        unacked: unacked(w),
         struck: w.struck(),
     }
 }
@@ -132,9 +133,23 @@ fn expire_all(alloc: Global, w: &mut World) -> Result<(), AllocError>
     ensures err { OnErr result (IsLater w.old w.new) }
 {
     for host in 0..w.hosts() {
-        expire_host(alloc, w, host)?;
+        expire_host_due(alloc, w, host)?;
     }
     Ok(())
+}
+
+// The expiries of a host, unless all of it is acknowledged: it has none then.
+fn expire_host_due(alloc: Global, w: &mut World, host: u16) -> Result<(), AllocError>
+    requires { IsHostOf w.old host }
+    ensures after { OnOk result (w.new ≡ after_all w.old (expiries_of w.old host)) }
+    ensures err { OnErr result (IsLater w.old w.new) }
+    ensures hosts { host_count w.new ≡ host_count w.old }
+{
+    if w.has_unacked(host) {
+        expire_host(alloc, w, host)
+    } else {
+        Ok(())
+    }
 }
 
 // An expiry for each peer to which something of a host isn't acknowledged.

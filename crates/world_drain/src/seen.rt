@@ -66,28 +66,27 @@ impl Watch {
     {
         match x {
             Effect::Idle | Effect::Blocked(_) => self.nothing(),
-            Effect::Arrived(host, heard) => self.see_arrival(*host, *heard),
+            Effect::Arrived(host, heard) => self.see_arrival(*host, heard),
             _ => seen_nothing(1),
         }
     }
 
     // What is seen where a packet reached a host.
-    fn see_arrival(&self, host: u16, heard: Heard) -> Seen
-        ensures { result ≡ seen_in self.now (Arrived host heard ∷ []) }
+    fn see_arrival(&self, host: u16, heard: &Heard) -> Seen
+        ensures { result ≡ seen_in self.now (Arrived host heard.now ∷ []) }
     {
         let mut seen = seen_nothing(1);
         match heard {
             Heard::Probe => seen.probed = Some(host),
-            Heard::Reply { number, host: from } if self.is_own(host, number) => seen.replied = Some(
-                from,
-            ),
-            Heard::Loop { number } => seen.returned = self.is_own(host, number),
+            Heard::Reply { number, host: from } if self.is_own(host, *number) => seen.replied =
+                Some(*from),
+            Heard::Loop { number } => seen.returned = self.is_own(host, *number),
             Heard::Routes => seen.came = self.is_awaited_host(host),
             Heard::RoutesAck {
                 epoch: _,
                 host: from,
                 part,
-            } => seen.acknowledged = self.is_own_ack(host, from, part),
+            } => seen.acknowledged = self.is_own_ack(host, *from, *part),
             _ => {}
         }
         seen

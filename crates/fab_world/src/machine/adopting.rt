@@ -1,9 +1,10 @@
 //! Routes are adopted, and parts of them staged.
 
-ghost use Rattle.std.specs.Prelude.{◌≡◌, IfOk, IfSome, OnOk, OnErr};
+ghost use Rattle.std.specs.Prelude.{◌≡◌, true, Some, IfOk, IfSome, OnOk, OnErr};
+ghost use Rattle.mapping_defs.specs.Mapping.{is_part};
 ghost use Rattle.port_graph.specs.Routes.{HandsBack};
 ghost use Rattle.world_defs.specs.World.{host_count, adopted_by};
-ghost use Rattle.world_defs.specs.Step.{part_staged};
+ghost use Rattle.world_defs.specs.Step.{part_staged, stage_at};
 ghost use Rattle.adopted_routes.specs.Adopting.{IsSetOfHosts, adopt_refusal};
 ghost use Rattle.fab_world.specs.Events.{IsHostOf};
 
@@ -39,11 +40,19 @@ impl Machine {
         ensures err { OnErr result (self.new ≡ self.old) }
     {
         match self.adopted.part(alloc, dst, part)? {
-            Some(PartToSend { mapper, part, by }) => {
-                self.hosts[usize::from(mapper)].part(part, by);
-                Ok(Effect::Staged)
-            }
+            Some(sent) => Ok(self.stage_part(sent)),
             None => Ok(Effect::Idle),
         }
+    }
+
+    // The adopter stages a part.
+    fn stage_part(&mut self, sent: PartToSend) -> Effect
+        requires there { IsHostOf self.old sent.mapper }
+        requires part { is_part sent.part ≡ true }
+        ensures { stage_at self.old sent.mapper (Some sent.part) (Some sent.by) ≡ (result, self.new) }
+    {
+        let PartToSend { mapper, part, by } = sent;
+        self.hosts[usize::from(mapper)].part(part, by);
+        Effect::Staged
     }
 }

@@ -1,4 +1,4 @@
-use Rattle.std.proofs.Common.{◌≡◌, ◌≢◌, ◌<◌, ℕ, List, ap, sym, ◌∙◌, subst, to_z, of_z, w32, rules, SFits}
+use Rattle.std.proofs.Common.{◌≡◌, ◌≢◌, ◌<◌, List, ap, sym, ◌∙◌, subst, to_z, of_z, w32, rules, SFits}
 use Rattle.std.proofs.lemmas.Int.{to_z-of_z}
 use Rattle.port_align.specs.declared.frame.ClassFrame.{ClassFrame}
 use Rattle.class_joins.specs.Rings.{IsMoving, class_size, next_at}

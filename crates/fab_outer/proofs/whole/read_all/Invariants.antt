@@ -7,6 +7,7 @@ invariant-reading g l = record {
   consumed : Consumes (g.S.Source.left l.initial.source) (g.S.Source.left l.source) l.content.items;
   later : g.S.Source.faults l.initial.source ≤ g.S.Source.faults l.source;
   piece_len : vec_len l.piece ≡ 65536;
+  within : vec_len l.content ≤ l.limit + 1;
 }
 
 abbrev pub decreases-reading : goal.decreases-reading

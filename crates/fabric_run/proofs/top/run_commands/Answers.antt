@@ -1,5 +1,5 @@
 use Rattle.std.proofs.Common.{◌≡◌, ◌+◌, ℕ, suc, List, take, Some, refl, subst, ◌∙◌, arith}
-use Rattle.fab_outer.specs.Whole.{TakesPrefix}
+use Rattle.fab_outer.specs.Whole.{TakesProperPrefix}
 use Rattle.std.specs.Io.KnownBytes.{Appends}
 use Rattle.world_defs.specs.World.{fabric_of}
 use Rattle.run_defs.specs.declared.command.Command.{Command}
@@ -34,8 +34,9 @@ returns-then-is_err-clause-ends g c =
     let obeyed : IsObeyedIn c.loop-command.session c.command-item.result c.in-Ok.next c.in-Ok.text.items = c.in-Ok.ensures.ok in
     let p : PrintedState = obeyed.0 in
     let same : c.deref.result.now ≡ p.text = c.deref.ensures.value ∙ obeyed.2 in
-    let part : TakesPrefix (g.K.Sink.taken c.loop-command.out) (g.K.Sink.taken c.write_all.new.sink) p.text =
-    subst (TakesPrefix (g.K.Sink.taken c.loop-command.out) (g.K.Sink.taken c.write_all.new.sink)) same c.write_all.ensures.part in
+    let part : TakesProperPrefix (g.K.Sink.taken c.loop-command.out) (g.K.Sink.taken c.write_all.new.sink) p.text =
+    subst (TakesProperPrefix (g.K.Sink.taken c.loop-command.out) (g.K.Sink.taken c.write_all.new.sink)) same
+    (on_err c.write_all.result _ c.if-is_err.ensures.value c.write_all.ensures.part) in
     report-so (record { network = n; commands = cs }) _ _ _ _ WriteFault c.with_session-then-is_err.result.status (Some c.in-Ok.next) c.with_session-then-is_err.result.session
     c.with_session-then-is_err.ensures.status c.with_session-then-is_err.ensures.some (
       rose-earlier _ _ _ c.loop-command.invariant.later (on_err c.write_all.result _ c.if-is_err.ensures.value c.write_all.ensures.cause.failed),

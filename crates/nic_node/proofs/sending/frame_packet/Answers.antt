@@ -5,5 +5,5 @@ use Rattle.nic_node.proofs.sending.frame_packet.Goals as goal
 
 pub returns : goal.returns
 returns c =
-    packet-as c.encode.result c.turns.result.now c.args.by.now c.deref.result.now (frame_bytes c.args.frame.now.head c.args.frame.now.part.now) c.turns.ensures.value
+    packet-as c.encode.result c.turns.result.now c.args.by.now c.deref.result.now (frame_bytes c.args.head.now c.args.part.now) c.turns.ensures.value
     (c.deref.ensures.value ∙ c.in_ok-payload.ensures.bytes) c.encode.ensures

@@ -6,21 +6,21 @@ use Rattle.world_drain.proofs.passes.inject_all.Goals as goal
 pub loop-host-init : goal.loop-host-init
 loop-host-init c = injecting-none c.args.w.now
 
-pub happens-requires : goal.happens-requires
-happens-requires c =
+pub inject_due-requires : goal.inject_due-requires
+inject_due-requires c =
     let below = c.loop-host-test.true in
     let end = c.hosts-host-end.ensures in
     let count = c.loop-host.invariant.hosts in
     omega (arith, below, end, count)
 
 pub returns-in_err-moved-clause-err : goal.returns-in_err-moved-clause-err
-returns-in_err-moved-clause-err c = on-any c.from_residual.result (later-both c.args.w.now c.loop-host.w c.happens.new.w c.loop-host.invariant.later c.in_err-moved.ensures.err)
+returns-in_err-moved-clause-err c = on-any c.from_residual.result (later-both c.args.w.now c.loop-host.w c.inject_due.new.w c.loop-host.invariant.later c.in_err-moved.ensures.err)
 
 pub loop-host-preserved : goal.loop-host-preserved
 loop-host-preserved c =
     let below = c.loop-host-test.true in
     let end = c.hosts-host-end.ensures in
-    injecting-on c.args.w.now c.loop-host.w c.happens.new.w c.loop-host.host c.loop-host.moved c.in_ok-moved.field-0 _ c.loop-host.invariant (omega (arith, below, end))
+    injecting-on c.args.w.now c.loop-host.w c.inject_due.new.w c.loop-host.host c.loop-host.moved c.in_ok-moved.field-0 _ c.loop-host.invariant (omega (arith, below, end))
     c.in_ok-moved.ensures.changed c.in_ok-moved.ensures.after refl c.in_ok-moved.ensures.hosts
 
 pub returns-clause-moved : goal.returns-clause-moved

@@ -6,22 +6,22 @@ use Rattle.world_drain.proofs.rounds.expire_all.Goals as goal
 pub loop-host-init : goal.loop-host-init
 loop-host-init c = expiring_all-none c.args.w.now
 
-pub expire_host-requires : goal.expire_host-requires
-expire_host-requires c =
+pub expire_host_due-requires : goal.expire_host_due-requires
+expire_host_due-requires c =
     let below = c.loop-host-test.true in
     let end = c.hosts-host-end.ensures in
     let count = c.loop-host.invariant.hosts in
     omega (arith, below, end, count)
 
-pub returns-in_err-expire_host-clause-err : goal.returns-in_err-expire_host-clause-err
-returns-in_err-expire_host-clause-err c =
-    on-any c.from_residual.result (later-both c.args.w.now c.loop-host.w c.expire_host.new.w c.loop-host.invariant.later c.in_err-expire_host.ensures.err)
+pub returns-in_err-expire_host_due-clause-err : goal.returns-in_err-expire_host_due-clause-err
+returns-in_err-expire_host_due-clause-err c =
+    on-any c.from_residual.result (later-both c.args.w.now c.loop-host.w c.expire_host_due.new.w c.loop-host.invariant.later c.in_err-expire_host_due.ensures.err)
 
 pub loop-host-preserved : goal.loop-host-preserved
 loop-host-preserved c =
     let below = c.loop-host-test.true in
     let end = c.hosts-host-end.ensures in
-    expiring_all-on c.args.w.now c.loop-host.w c.expire_host.new.w c.loop-host.host c.loop-host.invariant (omega (arith, below, end)) c.in_ok-expire_host.ensures.after c.in_ok-expire_host.ensures.hosts
+    expiring_all-on c.args.w.now c.loop-host.w c.expire_host_due.new.w c.loop-host.host c.loop-host.invariant (omega (arith, below, end)) c.in_ok-expire_host_due.ensures.after c.in_ok-expire_host_due.ensures.hosts
 
 pub returns-clause-after : goal.returns-clause-after
 returns-clause-after c =

@@ -2,7 +2,7 @@ use Rattle.std.proofs.Common.{◌≡◌, List, ap, sym, ◌∙◌, subst, rules,
 use Rattle.std.specs.Prelude.{pos}
 use Rattle.std.proofs.lemmas.Int.{to_z-of_z}
 use Rattle.port_align.specs.declared.frame.ClassFrame.{ClassFrame}
-use Rattle.class_joins.specs.declared.meeting.NodePort.{NodePort}
+use Rattle.port_table.specs.declared.end.NodePort.{NodePort}
 use Rattle.class_joins.specs.declared.way.Spot.TheVariants.{Address, Port}
 use Rattle.class_joins.specs.Ways.{begins_at}
 use Rattle.class_joins.specs.Work.{far_end}

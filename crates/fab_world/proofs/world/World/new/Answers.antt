@@ -6,4 +6,4 @@ use Rattle.fab_world.proofs.world.World.new.Goals as goal
 
 pub invariant_of-result : goal.invariant_of-result
 invariant_of-result c =
-    (subst IsMoment (sym c.in_ok-machine.ensures.new) (new-moment c.args.fabric c.in_ok-machine.ensures.fabric), sym (ap fabric_of c.in_ok-machine.ensures.new))
+    (subst IsMoment (sym c.in-Ok.ensures.new) (new-moment c.args.fabric c.in-Ok.ensures.fabric), sym (ap fabric_of c.in-Ok.ensures.new))

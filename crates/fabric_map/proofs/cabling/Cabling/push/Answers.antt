@@ -13,8 +13,8 @@ invariant_of-self-2 c =
     let q : to_z w8 (of_z w8 c.args.c.q) ≡ c.args.c.q = to_z-of_z w8 c.args.c.q fits_q in
     let a : c.place_of.result ≡ place_of_port (first_end c.args.c) = c.place_of.ensures ∙ ap (λ z. place_of_port (record { v = c.args.c.v; p = z })) p in
     let b : c.place_of-2.result ≡ place_of_port (second_end c.args.c) = c.place_of-2.ensures ∙ ap (λ z. place_of_port (record { v = c.args.c.w; p = z })) q in
-    let long : 31 * c.args.vertices ≤ length c.lengthen.new.far.items = c.in_ok-lengthen.ensures.long in
+    let long : 31 * c.args.vertices ≤ length c.lengthen.new.self.items = c.in_ok-lengthen.ensures.long in
     let low_a = place-below (first_end c.args.c) c.args.vertices c.requires.turn_a c.requires.vertex_a in
     let low_b = place-below (second_end c.args.c) c.args.vertices c.requires.turn_b c.requires.vertex_b in
-    rw (c.in_ok-push.ensures.items, a, b, p, q)
-    (table-joined c.self.inside.cables.items c.lengthen.new.far.items c.args.c (table-same c.self.inside.cables.items c.self.inside.far.items c.lengthen.new.far.items c.self.invariant c.lengthen.ensures.kept) c.requires.turn_a c.requires.turn_b (omega arith) (omega arith) (ap (λ cs. far_port cs (first_end c.args.c)) c.self.view_is ∙ c.requires.free_a) (ap (λ cs. far_port cs (second_end c.args.c)) c.self.view_is ∙ c.requires.free_b) c.requires.two)
+    rw (c.in_ok-push.ensures.items, c.set-2.ensures.items, c.set.ensures.items, c.port.ensures, c.port-2.ensures, a, b, p, q)
+    (table-joined c.self.inside.cables.items c.lengthen.new.self.items c.args.c (table-same c.self.inside.cables.items c.self.inside.far.items c.lengthen.new.self.items c.self.invariant c.lengthen.ensures.same) c.requires.turn_a c.requires.turn_b (omega arith) (omega arith) (ap (λ cs. far_port cs (first_end c.args.c)) c.self.view_is ∙ c.requires.free_a) (ap (λ cs. far_port cs (second_end c.args.c)) c.self.view_is ∙ c.requires.free_b) c.requires.two)

@@ -19,9 +19,9 @@ out_table-requires-clause-possible c =
 
 pub invariant_of-result : goal.invariant_of-result
 invariant_of-result c =
-    subst (λ n. IsWiring n c.in_ok-cables.cables.items c.in_ok-ports.ports.items c.in_ok-out.out.items) (sym c.of.ensures) (record {
+    subst (λ n. IsWiring n c.in_ok-cables.cables.items c.in_ok-entries.entries.items c.in_ok-out.out.items) (sym c.of.ensures) (record {
       fabric = c.hosts-hosts.ensures.fabric;
       same_cables = c.in_ok-cables.ensures;
-      port_counts = c.in_ok-ports.ensures;
+      entered = c.in_ok-entries.ensures;
       leaving = subst (λ l. IsOutTable 0 l c.in_ok-out.out.items) (c.deref.ensures.value ∙ c.in_ok-cables.ensures) c.in_ok-out.ensures;
     })

@@ -1,6 +1,6 @@
 use Rattle.std.proofs.Common.{◌∙◌, ap, arith}
 use Rattle.gm_defs.specs.Body.{decode}
-use Rattle.nic_node.proofs.Kept.{heard-whole}
+use Rattle.nic_node.proofs.Kept.{heard-whole, heard-of}
 use Rattle.nic_node.proofs.node.NicNode.hear_messages.Goals as goal
 
 pub invariant_of-self : goal.invariant_of-self
@@ -12,6 +12,9 @@ invariant_of-self c =
       own_lanes = c.hear.ensures.lanes_host ∙ c.self.invariant.own_lanes;
       own_ports = c.hear.ensures.ports_host ∙ c.self.invariant.own_ports;
       among = omega (arith, kept, among);
+      ticketed =
+          heard-of c.self.inside.host c.self.inside.lanes c.hear.new.lanes c.self.inside.ports c.hear.new.ports c.args.body.now (decode c.args.body.now) c.hear.result
+          c.in_order.ensures.numbers c.in_order.ensures.count c.self.invariant.ticketed c.hear.ensures.heard c.hear.ensures.lanes c.hear.ensures.ports;
     }
 
 pub returns-clause-heard : goal.returns-clause-heard

@@ -7,6 +7,7 @@ use Rattle.nic_node.specs.Held.{HostNode, state_of}
 use Rattle.nic_node.specs.Sending.{chosen}
 use Rattle.nic_node.proofs.After.{item-sent, lane-sent}
 use Rattle.nic_node.proofs.Going.{answered-as, fragment-as}
+use Rattle.nic_node.proofs.Ticketed.{answered-of, sent-of}
 use Rattle.nic_node.proofs.node.NicNode.staged.Goals as goal
 
 pub returns-in-Some-Item : goal.returns-in-Some-Item
@@ -35,3 +36,11 @@ returns-in-Some-Fragment c =
     let there : is_some (chosen v (Fragment lane)) ≡ true = ap (λ x. is_some (chosen v x)) (sym c.in-Some-Fragment.field-0-is) ∙ c.in-Some-Fragment.ensures.there in
     lane-sent v c.self.inside.host c.self.inside.items c.self.inside.table c.self.inside.lanes c.sent_one.new.self c.self.inside.ports (Fragment lane) lane (lane_sent_one (lane_at n lane)) c.self.view_is first
     (fragment-as c.self.inside.host n lane (ap (λ (x : HostNode). is_some (chosen x (Fragment lane))) c.self.view_is ∙ there)) c.sent_one.ensures
+
+pub invariant_of-self-in-Some-Answer : goal.invariant_of-self-in-Some-Answer
+invariant_of-self-in-Some-Answer c =
+    answered-of c.self.inside.host c.self.inside.table c.self.inside.lanes c.answered.new.self c.self.inside.ports c.self.invariant c.in-Some-Answer.lane c.answered.ensures
+
+pub invariant_of-self-in-Some-Fragment : goal.invariant_of-self-in-Some-Fragment
+invariant_of-self-in-Some-Fragment c =
+    sent-of c.self.inside.host c.self.inside.table c.self.inside.lanes c.sent_one.new.self c.self.inside.ports c.self.invariant c.in-Some-Fragment.lane c.sent_one.ensures

@@ -1,6 +1,0 @@
--- Fewer and fewer hosts are left.
-use Rattle.std.proofs.Common.{length}
-use Rattle.fab_world.proofs.hosts.end_all.Given as goal
-
-abbrev pub decreases-loop-node : goal.decreases-loop-node
-decreases-loop-node l = length l.rest.items

@@ -1,8 +1,0 @@
-use Rattle.std.proofs.Common.{◌∙◌}
-use Rattle.fabric_run.proofs.Counting.{never-refused}
-use Rattle.fabric_run.proofs.generated.run_text.Goals as goal
-
-pub unreachable-requires : goal.unreachable-requires
-unreachable-requires c =
-    never-refused c.args.n c.args.seed c.deref.result.now c.read_text.result c.in-Err-At.field-0 c.in-Err-At.field-0-0 c.in-Err-At.field-0-1 c.requires.some c.requires.few
-    (c.deref.ensures.value ∙ c.in_ok-text.ensures.text) c.read_text.ensures.reading c.in-Err-At.is c.in-Err-At.field-0-is

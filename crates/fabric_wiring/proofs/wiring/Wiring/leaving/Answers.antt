@@ -1,0 +1,31 @@
+use Rattle.std.proofs.Common.{◌≡◌, ◌∙◌, true, None, get_or, ap, length, arith}
+use Rattle.net_defs.specs.declared.vertex.Vertex.TheVariants.{Switch}
+use Rattle.net_defs.specs.declared.vertex.End.{End}
+use Rattle.net_defs.specs.Network.{has_port}
+use Rattle.net_defs.specs.Route.{channel_from}
+use Rattle.port_graph.specs.Table.{is_possible}
+use Rattle.port_graph.proofs.Possible.{has_port-possible}
+use Rattle.port_graph.proofs.Tables.{place_of_end-lt}
+use Rattle.fabric_wiring.proofs.wiring.Wiring.leaving.Goals as goal
+
+pub channel_at-requires : goal.channel_at-requires
+channel_at-requires c =
+    let n = c.self.inside.fabric.value in
+    let e : End = record { v = Switch c.args.s; p = c.args.p } in
+    let possible : is_possible e ≡ true = has_port-possible n e c.self.invariant.fabric (ap (λ m. has_port m e) c.self.view_is ∙ c.requires) in
+    let low = place_of_end-lt e possible in
+    let place = c.switch_place.ensures in
+    let items = ap length c.deref.ensures.value in
+    let size = c.self.invariant.leaving.size in
+    omega (arith, low, place, items, size)
+
+pub returns : goal.returns
+returns c =
+    let n = c.self.inside.fabric.value in
+    let e : End = record { v = Switch c.args.s; p = c.args.p } in
+    let possible : is_possible e ≡ true = has_port-possible n e c.self.invariant.fabric (ap (λ m. has_port m e) c.self.view_is ∙ c.requires) in
+    c.channel_at.ensures
+    ∙ ap (λ l. get_or l c.switch_place.result None) c.deref.ensures.value
+    ∙ ap (λ i. get_or c.self.inside.out.items i None) c.switch_place.ensures
+    ∙ c.self.invariant.leaving.channels e possible
+    ∙ ap (λ m. channel_from m e) c.self.view_is

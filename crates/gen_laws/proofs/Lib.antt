@@ -1,5 +1,0 @@
-pub mod Accepted
-pub mod Cases
-pub mod Meant
-pub mod Numbers
-pub mod Saying

@@ -1,0 +1,11 @@
+use Rattle.std.proofs.Common.{arith}
+use Rattle.port_table.proofs.Reading.{length-dense}
+use Rattle.port_table.proofs.table.PortTable.reserve.Goals as goal
+
+pub returns-clause-room : goal.returns-clause-room
+returns-clause-room c =
+    let long = length-dense c.reserve.new.self.items c.reserve_rows.new.rows.items in
+    let e = c.len.ensures in
+    let known = c.in_ok-reserve.ensures.ok in
+    let rows = c.in_ok-reserve_rows.ensures.room in
+    record { numbers = omega arith; rows = omega arith }

@@ -1,0 +1,34 @@
+-- That commands over a fabric have a run, and one: behind every run each command does something, and nothing else.
+use Rattle.std.specs.Prelude.{◌≡◌, List}
+use Rattle.std.specs.List.{AllByRecursion}
+use Rattle.net_defs.specs.Network.{Network, IsFabric}
+use Rattle.run_defs.specs.declared.command.Command.{Command}
+use Rattle.run_defs.specs.Output.{Piece}
+use Rattle.run_defs.specs.Session.{SessionState}
+use Rattle.run_defs.specs.Run.{Does, IsRun}
+use Rattle.run_laws.specs.Acts.{IsActOf}
+
+-- What a command prints in a session, and the session that it leaves: it does this and nothing else.
+pub record HasDone (s : SessionState) (c : Command) : Type 0 where
+  pub out : List Piece
+  pub next : SessionState
+  pub does : Does s c out next
+  pub one : (other : List Piece) (end : SessionState) → Does s c other end → (other ≡ out) × (end ≡ next)
+
+-- behind every run each command does something
+abbrev pub EachCommandIsDone : Type 0
+EachCommandIsDone =
+    (n : Network) (commands : List Command) (out : List Piece) (s : SessionState) (c : Command)
+    → IsFabric n → AllByRecursion (IsActOf n) commands → IsActOf n c → IsRun n commands out s → HasDone s c
+
+-- The run of commands over a fabric: what they print, and the session that they leave. There is no other.
+pub record HasRun (n : Network) (commands : List Command) : Type 0 where
+  pub out : List Piece
+  pub last : SessionState
+  pub run : IsRun n commands out last
+  pub one : (other : List Piece) (end : SessionState) → IsRun n commands other end → (other ≡ out) × (end ≡ last)
+
+-- so commands over a fabric have their run
+abbrev pub RunExists : Type 0
+RunExists = (n : Network) (commands : List Command) → IsFabric n → AllByRecursion (IsActOf n) commands
+    → HasRun n commands

@@ -1,0 +1,3 @@
+pub mod InstallHosts
+pub mod Installs
+pub mod PartTries

@@ -1,0 +1,90 @@
+use Rattle.std.proofs.Common.{◌≡◌, ap, sym, ◌∙◌, subst, refl, ℕ, None, arith}
+use Rattle.std.specs.Prelude.{Some, option_map}
+use Rattle.world_defs.specs.Table.{Adoption}
+use Rattle.world_defs.specs.World.{WorldState, host_count}
+use Rattle.world_defs.specs.Install.{hosts_installed}
+use Rattle.fab_world.specs.Held.{IsLater}
+use Rattle.fab_world.proofs.Moments.{later-adopted, later-channels, set-stays}
+use Rattle.table_installing.proofs.InstallHosts.{few-hosts, fewer-hosts, adopter-there, told, idle-behind}
+use Rattle.world_drain.proofs.Later.{later-both, on-any}
+use Rattle.world_drain.proofs.GivingUp.{given_up-later}
+use Rattle.table_installing.proofs.installing.install.Goals as goal
+use Rattle.table_installing.proofs.installing.install.Goals.{in-Some+in_ok-acked-in-Some, in-None}
+
+pub returns-in_err-give_up_all-clause-channels : goal.returns-in_err-give_up_all-clause-channels
+returns-in_err-give_up_all-clause-channels c = later-channels c.args.w.now c.give_up_all.new.w c.moment.ensures.kept c.in_err-give_up_all.ensures.err
+
+pub returns-in_err-give_up_all-clause-adopted : goal.returns-in_err-give_up_all-clause-adopted
+returns-in_err-give_up_all-clause-adopted c = later-adopted c.args.w.now c.give_up_all.new.w c.in_err-give_up_all.ensures.err
+
+pub install_hosts-requires-clause-there : goal.install_hosts-requires-clause-there
+install_hosts-requires-clause-there c =
+    let w : WorldState = c.args.w.now in
+    let v : WorldState = c.give_up_all.new.w in
+    let same = later-adopted w v (given_up-later w v c.in_ok-give_up_all.ensures.after) in
+    adopter-there (host_count v) c.in-Some.mapper v.adopted
+    (set-stays (host_count w) (host_count v) w.adopted v.adopted c.in_ok-give_up_all.ensures.hosts same c.moment.ensures.kept.adopted) c.in-Some.ensures
+
+pub install_hosts-requires-clause-hosts : goal.install_hosts-requires-clause-hosts
+install_hosts-requires-clause-hosts c =
+    let few = few-hosts c.args.w.now c.args.hosts.now c.args.tries c.moment.ensures.kept c.requires in
+    fewer-hosts (host_count c.args.w.now) (host_count c.give_up_all.new.w) c.args.hosts.now c.in_ok-give_up_all.ensures.hosts few.there
+
+pub install_hosts-requires-clause-few : goal.install_hosts-requires-clause-few
+install_hosts-requires-clause-few c = (few-hosts c.args.w.now c.args.hosts.now c.args.tries c.moment.ensures.kept c.requires).few
+
+-- where memory was wanting among the hosts
+cut : (c : goal.After-from_residual-in_err-acked-in-Some) → IsLater c.args.w.now c.install_hosts.new.w
+cut c =
+    later-both c.args.w.now c.give_up_all.new.w c.install_hosts.new.w (given_up-later c.args.w.now c.give_up_all.new.w c.in_ok-give_up_all.ensures.after) c.install_hosts.ensures.later
+
+pub returns-in_err-acked-in-Some-clause-err : goal.returns-in_err-acked-in-Some-clause-err
+returns-in_err-acked-in-Some-clause-err c = on-any c.from_residual-in_err-acked-in-Some.result (cut c)
+
+pub returns-in_err-acked-in-Some-clause-channels : goal.returns-in_err-acked-in-Some-clause-channels
+returns-in_err-acked-in-Some-clause-channels c = later-channels c.args.w.now c.install_hosts.new.w c.moment.ensures.kept (cut c)
+
+pub returns-in_err-acked-in-Some-clause-adopted : goal.returns-in_err-acked-in-Some-clause-adopted
+returns-in_err-acked-in-Some-clause-adopted c = later-adopted c.args.w.now c.install_hosts.new.w (cut c)
+
+pub overflow_cast-result : goal.overflow_cast-result
+overflow_cast-result c =
+    let few = (few-hosts c.args.w.now c.args.hosts.now c.args.tries c.moment.ensures.kept c.requires).few in
+    omega (arith, few)
+
+-- what was done leads on from where it began
+done : (c : goal.Joined-adopter) → IsLater c.args.w.now c.match-adopter.w
+done c =
+    let given : IsLater c.args.w.now c.give_up_all.new.w = given_up-later c.args.w.now c.give_up_all.new.w c.in_ok-give_up_all.ensures.after in
+    elim c.match-adopter.branch [
+      | in-Some+in_ok-acked-in-Some w ↦ subst (IsLater c.args.w.now) (sym w.w-is) (later-both c.args.w.now c.give_up_all.new.w w.install_hosts.new.w given w.install_hosts.ensures.later)
+      | in-None w ↦ subst (IsLater c.args.w.now) (sym w.w-is) given
+    ]
+
+-- and is what the definition says, where routes are adopted
+served : (c : goal.Joined-adopter) → (a : Adoption) → c.give_up_all.new.w.adopted ≡ Some a → hosts_installed a c.args.tries c.args.hosts.now c.give_up_all.new.w ≡ (c.match-adopter.acked, c.match-adopter.w)
+served c a e =
+    elim c.match-adopter.branch [
+      | in-Some+in_ok-acked-in-Some w ↦ w.in_ok-acked-in-Some.ensures.acked a e ∙ (λ i. (sym w.acked-is i, sym w.w-is i))
+      | in-None w ↦ absurd (none≢some a.mapper (w.in-None.ensures ∙ ap (option_map (λ a. a.mapper)) e))
+    ]
+  where
+    none≢some : (m : ℕ) → None ≡ Some m → ⊥
+    none≢some m f = cc
+
+pub returns-clause-acked : goal.returns-clause-acked
+returns-clause-acked c =
+    let w : WorldState = c.args.w.now in
+    let v : WorldState = c.give_up_all.new.w in
+    told w v c.match-adopter.w c.args.hosts.now c.args.tries c.match-adopter.acked w.adopted refl c.in_ok-give_up_all.ensures.after
+    (later-adopted w v (given_up-later w v c.in_ok-give_up_all.ensures.after)) (served c)
+
+pub returns-clause-idle : goal.returns-clause-idle
+returns-clause-idle c =
+    idle-behind c.args.w.now c.match-adopter.w c.args.hosts.now c.args.tries c.match-adopter.acked c.args.w.now.adopted c.moment.ensures.kept c.requires.idle c.requires.adopted (returns-clause-acked c)
+
+pub returns-clause-channels : goal.returns-clause-channels
+returns-clause-channels c = later-channels c.args.w.now c.match-adopter.w c.moment.ensures.kept (done c)
+
+pub returns-clause-adopted : goal.returns-clause-adopted
+returns-clause-adopted c = later-adopted c.args.w.now c.match-adopter.w (done c)

@@ -1,0 +1,31 @@
+-- What holds of the sends, tickets and unfinished messages of any host that is ticketed.
+use Rattle.std.specs.Prelude.{◌≡◌, ◌-◌, ℕ, List, length, slice_get, Result, Option, Some, option_map}
+use Rattle.gm_defs.specs.declared.frame.FrameHead.{FrameHead}
+use Rattle.gm_defs.specs.declared.frame.GmBody.{GmBody}
+use Rattle.gm_defs.specs.declared.frame.Malformed.{Malformed}
+use Rattle.gm_defs.specs.Fragment.{whole_below}
+use Rattle.gm_defs.specs.Connection.{IsSender}
+use Rattle.world_defs.specs.Lane.{Ticket}
+use Rattle.world_defs.specs.Node.{NodeState, lane_count, lane_at, due_frame, new_node}
+use Rattle.world_defs.specs.Hearing.{hear_gm_body}
+use Rattle.ticket_laws.specs.Host.{AreTicketed, Begins, IsTicketed, IsInBuffer}
+
+-- a host is ticketed before anything happened
+abbrev pub NewIsTicketed : Type 0
+NewIsTicketed = (hosts : ℕ) → IsTicketed Begins (new_node hosts).ports (new_node hosts).lanes
+
+-- it stays so whatever body of messages it hears, where the numbers of its lanes are in order
+abbrev pub HeardStaysTicketed : Type 0
+HeardStaysTicketed = (host hosts : ℕ) (n : NodeState)
+    → length n.lanes ≡ lane_count hosts → ((lane : ℕ) → IsSender (lane_at n lane).sender)
+    → IsTicketed Begins n.ports n.lanes → (body : List ℕ) (b : Result GmBody Malformed)
+    → IsTicketed Begins (hear_gm_body host hosts n body b).1.ports (hear_gm_body host hosts n body b).1.lanes
+
+-- The ticket of a fragment that is due waits behind as many others as messages before it aren't finished; where each
+-- buffer begins with its message's bytes, the fragment's bytes stand in that of the ticket's send.
+abbrev pub DueIsInBuffer : Type 0
+DueIsInBuffer = (host : ℕ) (n : NodeState) (lane : ℕ) → IsSender (lane_at n lane).sender
+    → AreTicketed Begins n.ports n.lanes → (h : FrameHead) (t : Ticket)
+    → option_map (λ (f : FrameHead × List ℕ). f.0) (due_frame host n lane) ≡ Some h
+    → slice_get (lane_at n lane).pending (whole_below (lane_at n lane).sent h.seq
+    - whole_below (lane_at n lane).sent (lane_at n lane).sender.base) ≡ Some t → IsInBuffer host n lane h t

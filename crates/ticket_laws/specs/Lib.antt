@@ -1,0 +1,3 @@
+pub mod Tickets
+pub mod Host
+pub mod Laws

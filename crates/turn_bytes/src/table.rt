@@ -1,0 +1,29 @@
+//! The table of route bytes: which byte stands for which turn. All other code reads it here.
+
+ghost use Rattle.std.specs.Prelude.{◌≡◌};
+ghost use Rattle.packet_defs.specs.RouteByte.{is_route_byte, route_byte, turn_of};
+
+/// The route byte of a turn: 0x80 + (turn mod 64).
+pub fn route_byte(turn: i8) -> u8
+    ensures { result ≡ route_byte turn }
+{
+    0x80 + turn.rem_euclid(64) as u8
+}
+
+/// The turn of a route byte: 0x80 to 0x8F stand for 0 to 15, 0xB1 to 0xBF for -15 to -1. None of any other byte.
+pub fn turn_of(byte: u8) -> Option<i8>
+    ensures { result ≡ turn_of byte }
+{
+    match byte {
+        0x80..=0x8f => Some((i16::from(byte) - 0x80) as i8),
+        0xb1..=0xbf => Some((i16::from(byte) - 0xc0) as i8),
+        _ => None,
+    }
+}
+
+/// Whether a byte stands for a turn.
+pub fn is_route_byte(byte: u8) -> bool
+    ensures { result ≡ is_route_byte byte }
+{
+    turn_of(byte).is_some()
+}

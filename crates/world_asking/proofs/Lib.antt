@@ -1,0 +1,3 @@
+pub mod LaterTries
+pub mod Tries
+pub mod Truthful

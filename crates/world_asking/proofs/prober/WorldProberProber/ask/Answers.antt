@@ -1,0 +1,38 @@
+use Rattle.std.proofs.Common.{ap, sym, subst, ◌∙◌, arith}
+use Rattle.net_defs.specs.Route.{answer}
+use Rattle.link_defs.specs.Links.{is_idle}
+use Rattle.world_defs.specs.World.{WorldState, fabric_of}
+use Rattle.probe.specs.Drowning.{IsTrueOrDrowned}
+use Rattle.ask_laws.specs.Premises.{CanAsk}
+use Rattle.ask_laws.proofs.Along.{ask-idle}
+use Rattle.world_asking.specs.Prober.{WorldAsking}
+use Rattle.world_asking.proofs.Truthful.{can-ask, told-drowned, told-true, turns-in_range}
+use Rattle.world_asking.proofs.prober.WorldProberProber.ask.Goals as goal
+
+pub returns-then-asked-clause-truth : goal.returns-then-asked-clause-truth
+returns-then-asked-clause-truth c =
+    let w : WorldState = c.self.inside.world in
+    let can : CanAsk w c.self.inside.host c.args.w.now = can-ask w c.self.inside.host c.args.w.now c.moment.ensures.kept (ap (λ p. is_idle p.world.links) c.self.view_is ∙ c.requires.is_ready) c.self.invariant.there (turns-in_range c.turns-turns.result.now c.args.w.now c.turns-turns.ensures.value c.turns-turns.ensures.in_range) c.requires.short in
+    subst (λ (p : WorldAsking). IsTrueOrDrowned (answer (fabric_of p.world) p.host c.args.w.now) p.drowned c.saturating_add-self-inside.result c.in_ok-asked.asked.answer) c.self.view_is
+    (told-drowned w c.self.inside.host c.self.inside.tries c.args.w.now c.in_ok-asked.asked.answer c.self.inside.drowned c.saturating_add-self-inside.result can c.in_ok-asked.ensures.answer
+    (let e = c.saturating_add-self-inside.ensures in omega (arith, e)))
+
+pub returns-then-asked-clause-stays_ready : goal.returns-then-asked-clause-stays_ready
+returns-then-asked-clause-stays_ready c =
+    let w : WorldState = c.self.inside.world in
+    ap (λ v. is_idle v.links) c.in_ok-asked.ensures.after
+    ∙ ask-idle w c.self.inside.host c.self.inside.tries c.args.w.now c.moment.ensures.kept.world (ap (λ p. is_idle p.world.links) c.self.view_is ∙ c.requires.is_ready)
+
+pub returns-else-asked-clause-truth : goal.returns-else-asked-clause-truth
+returns-else-asked-clause-truth c =
+    let w : WorldState = c.self.inside.world in
+    let can : CanAsk w c.self.inside.host c.args.w.now = can-ask w c.self.inside.host c.args.w.now c.moment.ensures.kept (ap (λ p. is_idle p.world.links) c.self.view_is ∙ c.requires.is_ready) c.self.invariant.there (turns-in_range c.turns-turns.result.now c.args.w.now c.turns-turns.ensures.value c.turns-turns.ensures.in_range) c.requires.short in
+    subst (λ (p : WorldAsking). IsTrueOrDrowned (answer (fabric_of p.world) p.host c.args.w.now) p.drowned c.self.inside.drowned c.in_ok-asked.asked.answer) c.self.view_is
+    (told-true w c.self.inside.host c.self.inside.tries c.args.w.now c.in_ok-asked.asked.answer c.self.inside.drowned c.self.inside.drowned can c.in_ok-asked.ensures.answer
+    (sym c.in_ok-asked.ensures.drowned ∙ c.if-asked.false))
+
+pub returns-else-asked-clause-stays_ready : goal.returns-else-asked-clause-stays_ready
+returns-else-asked-clause-stays_ready c =
+    let w : WorldState = c.self.inside.world in
+    ap (λ v. is_idle v.links) c.in_ok-asked.ensures.after
+    ∙ ask-idle w c.self.inside.host c.self.inside.tries c.args.w.now c.moment.ensures.kept.world (ap (λ p. is_idle p.world.links) c.self.view_is ∙ c.requires.is_ready)

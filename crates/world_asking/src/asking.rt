@@ -1,0 +1,58 @@
+//! An ask of a mapper.
+
+ghost use Rattle.std.specs.Prelude.{◌≡◌, ◌≤◌, length, IfOk, OnOk, OnErr};
+ghost use Rattle.world_defs.specs.World.{fabric_of, host_count};
+ghost use Rattle.world_defs.specs.Asking.{ask};
+ghost use Rattle.fab_world.specs.Events.{IsHostOf};
+ghost use Rattle.fab_world.specs.Held.{IsLater};
+
+use crate::trying::{host_tries, loop_tries};
+use fab_world::World;
+use net_defs::{Answer, Walk};
+use std::alloc::{AllocError, Global};
+use world_drain::give_up_all;
+
+/// What an ask came to.
+#[derive(Clone, Copy)]
+pub(crate) struct Asked {
+    pub(crate) answer: Answer,
+    pub(crate) drowned: bool,
+}
+
+/// An ask: every host gives up what it staged; up to so many host probes, to the first reply; without one up to so
+/// many loopback probes, to the first that returns.
+#[tactic(auto, unfolding(world_defs::specs::Asking::ask))]
+pub(crate) fn ask(
+    alloc: Global,
+    w: &mut World,
+    mapper: u16,
+    tries: u8,
+    walk: &Walk,
+) -> Result<Asked, AllocError>
+    requires there { IsHostOf w.old mapper }
+    requires short { length walk.now ≤ 31 }
+    ensures answer { IfOk result (λ a. a.answer ≡ (ask mapper tries walk.now w.old).answer) }
+    ensures drowned { IfOk result (λ a. a.drowned ≡ (ask mapper tries walk.now w.old).drowned) }
+    ensures after { OnOk result (w.new ≡ (ask mapper tries walk.now w.old).world) }
+    ensures err { OnErr result (IsLater w.old w.new) }
+    ensures fabric { fabric_of w.new ≡ fabric_of w.old }
+    ensures hosts { host_count w.new ≡ host_count w.old }
+{
+    give_up_all(alloc, w)?;
+    let hosts = host_tries(alloc, w, mapper, walk, tries)?;
+    if let Some(host) = hosts.found {
+        return Ok(Asked {
+            answer: Answer::Host(host),
+            drowned: false,
+        });
+    }
+    let loops = loop_tries(alloc, w, mapper, walk, tries)?;
+    Ok(Asked {
+        answer: if loops.found {
+            Answer::Switch
+        } else {
+            Answer::Nothing
+        },
+        drowned: !loops.found && (hosts.harmed || loops.harmed),
+    })
+}

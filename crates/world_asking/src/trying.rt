@@ -1,0 +1,212 @@
+//! The tries of an ask: each a probe alone, injected and drained.
+
+ghost use Rattle.std.specs.Prelude.{◌≡◌, ◌≤◌, ◌&&◌, length, true, IfOk, OnOk, OnErr};
+ghost use Rattle.world_defs.specs.World.{fabric_of, host_count};
+ghost use Rattle.world_defs.specs.Step.{step};
+ghost use Rattle.world_defs.specs.declared.event.Event.TheVariants.{Ask, Inject};
+ghost use Rattle.world_defs.specs.Asking.{is_used_up, number_of, host_try, loop_try, host_tries, loop_tries};
+ghost use Rattle.fab_world.specs.Events.{IsHostOf};
+ghost use Rattle.fab_world.specs.Held.{IsLater};
+
+use fab_world::{Event, World};
+use net_defs::{End, Vertex, Walk};
+use std::alloc::{AllocError, Global};
+use world_drain::{Watch, drain_watching, happen};
+
+/// A host's injection: whether no injection was left for it, and its number.
+#[derive(Clone, Copy)]
+struct Injection {
+    used_up: bool,
+    number: Option<u64>,
+}
+
+/// What tries of a host probe came to: the host that replied, and whether a fault met each of them.
+#[derive(Clone, Copy)]
+pub(crate) struct HostTry {
+    pub(crate) found: Option<u16>,
+    pub(crate) harmed: bool,
+}
+
+/// What tries of a loopback probe came to: whether it returned, and whether a fault met each of them.
+#[derive(Clone, Copy)]
+pub(crate) struct LoopTry {
+    pub(crate) found: bool,
+    pub(crate) harmed: bool,
+}
+
+/// At most so many tries of a host probe, up to the first that is replied to.
+pub(crate) fn host_tries(
+    alloc: Global,
+    w: &mut World,
+    mapper: u16,
+    walk: &Walk,
+    tries: u8,
+) -> Result<HostTry, AllocError>
+    requires there { IsHostOf w.old mapper }
+    ensures found { IfOk result (λ t. t.found ≡ (host_tries mapper walk.now tries w.old).found) }
+    ensures harmed { IfOk result (λ t. t.harmed ≡ (host_tries mapper walk.now tries w.old).harmed) }
+    ensures after { OnOk result (w.new ≡ (host_tries mapper walk.now tries w.old).world) }
+    ensures err { OnErr result (IsLater w.old w.new) }
+    ensures fabric { fabric_of w.new ≡ fabric_of w.old }
+    ensures hosts { host_count w.new ≡ host_count w.old }
+{
+    let mut harmed = true;
+    let mut left = tries;
+    'trying: while left > 0 {
+        let t = host_try(alloc, w, mapper, walk)?;
+        harmed = both(harmed, t.harmed);
+        if t.found.is_some() {
+            return Ok(HostTry {
+                found: t.found,
+                harmed,
+            });
+        }
+        left -= 1;
+    }
+    Ok(HostTry {
+        found: None,
+        harmed,
+    })
+}
+
+/// At most so many tries of a loopback probe, up to the first that returns.
+pub(crate) fn loop_tries(
+    alloc: Global,
+    w: &mut World,
+    mapper: u16,
+    walk: &Walk,
+    tries: u8,
+) -> Result<LoopTry, AllocError>
+    requires there { IsHostOf w.old mapper }
+    requires short { length walk.now ≤ 31 }
+    ensures found { IfOk result (λ t. t.found ≡ (loop_tries mapper walk.now tries w.old).found) }
+    ensures harmed { IfOk result (λ t. t.harmed ≡ (loop_tries mapper walk.now tries w.old).harmed) }
+    ensures after { OnOk result (w.new ≡ (loop_tries mapper walk.now tries w.old).world) }
+    ensures err { OnErr result (IsLater w.old w.new) }
+    ensures fabric { fabric_of w.new ≡ fabric_of w.old }
+    ensures hosts { host_count w.new ≡ host_count w.old }
+{
+    let mut harmed = true;
+    let mut left = tries;
+    'trying: while left > 0 {
+        let t = loop_try(alloc, w, mapper, walk)?;
+        harmed = both(harmed, t.harmed);
+        if t.found {
+            return Ok(LoopTry {
+                found: true,
+                harmed,
+            });
+        }
+        left -= 1;
+    }
+    Ok(LoopTry {
+        found: false,
+        harmed,
+    })
+}
+
+// One try of a host probe: the probe alone, and then the reply of the host that heard it.
+#[tactic(auto, unfolding(world_defs::specs::Asking::host_try, world_defs::specs::Asking::sends))]
+fn host_try(alloc: Global, w: &mut World, mapper: u16, walk: &Walk) -> Result<HostTry, AllocError>
+    requires there { IsHostOf w.old mapper }
+    ensures found { IfOk result (λ t. t.found ≡ (host_try mapper walk.now w.old).found) }
+    ensures harmed { IfOk result (λ t. t.harmed ≡ (host_try mapper walk.now w.old).harmed) }
+    ensures after { OnOk result (w.new ≡ (host_try mapper walk.now w.old).world) }
+    ensures err { OnErr result (IsLater w.old w.new) }
+    ensures fabric { fabric_of w.new ≡ fabric_of w.old }
+    ensures hosts { host_count w.new ≡ host_count w.old }
+{
+    let before = w.harmed();
+    stage(alloc, w, mapper, walk, false)?;
+    let probe = inject(alloc, w, mapper)?;
+    let watch = Watch {
+        mapper,
+        number: probe.number,
+        part: None,
+    };
+    let seen = drain_watching(alloc, w, watch)?;
+    let Some(host) = seen.probed else {
+        return Ok(HostTry {
+            found: None,
+            harmed: probe.used_up || before < w.harmed(),
+        });
+    };
+    let reply = inject(alloc, w, host)?;
+    let answered = drain_watching(alloc, w, watch)?;
+    Ok(HostTry {
+        found: answered.replied,
+        harmed: probe.used_up || reply.used_up || before < w.harmed(),
+    })
+}
+
+// One try of a loopback probe.
+#[tactic(auto, unfolding(world_defs::specs::Asking::loop_try, world_defs::specs::Asking::sends))]
+fn loop_try(alloc: Global, w: &mut World, mapper: u16, walk: &Walk) -> Result<LoopTry, AllocError>
+    requires there { IsHostOf w.old mapper }
+    requires short { length walk.now ≤ 31 }
+    ensures found { IfOk result (λ t. t.found ≡ (loop_try mapper walk.now w.old).found) }
+    ensures harmed { IfOk result (λ t. t.harmed ≡ (loop_try mapper walk.now w.old).harmed) }
+    ensures after { OnOk result (w.new ≡ (loop_try mapper walk.now w.old).world) }
+    ensures err { OnErr result (IsLater w.old w.new) }
+    ensures fabric { fabric_of w.new ≡ fabric_of w.old }
+    ensures hosts { host_count w.new ≡ host_count w.old }
+{
+    let before = w.harmed();
+    stage(alloc, w, mapper, walk, true)?;
+    let probe = inject(alloc, w, mapper)?;
+    let watch = Watch {
+        mapper,
+        number: probe.number,
+        part: None,
+    };
+    let seen = drain_watching(alloc, w, watch)?;
+    Ok(LoopTry {
+        found: seen.returned,
+        harmed: probe.used_up || before < w.harmed(),
+    })
+}
+
+// Stages a probe of a walk at a host.
+fn stage(
+    alloc: Global,
+    w: &mut World,
+    host: u16,
+    walk: &Walk,
+    looped: bool,
+) -> Result<(), AllocError>
+    requires there { IsHostOf w.old host }
+    requires short { looped ≡ true → length walk.now ≤ 31 }
+    ensures after { OnOk result (w.new ≡ (step w.old (Ask host walk.now looped)).1) }
+    ensures err { OnErr result (IsLater w.old w.new) }
+    ensures fabric { fabric_of w.new ≡ fabric_of w.old }
+    ensures hosts { host_count w.new ≡ host_count w.old }
+{
+    let walk = walk.copied(alloc)?;
+    happen(alloc, w, Event::Ask { host, walk, looped })
+}
+
+// A host puts what it has to send first into its channel.
+fn inject(alloc: Global, w: &mut World, host: u16) -> Result<Injection, AllocError>
+    requires there { IsHostOf w.old host }
+    ensures used { IfOk result (λ i. i.used_up ≡ is_used_up w.old host) }
+    ensures number { IfOk result (λ i. i.number ≡ number_of (step w.old (Inject host)).0) }
+    ensures after { OnOk result (w.new ≡ (step w.old (Inject host)).1) }
+    ensures err { OnErr result (IsLater w.old w.new) }
+    ensures fabric { fabric_of w.new ≡ fabric_of w.old }
+    ensures hosts { host_count w.new ≡ host_count w.old }
+{
+    let port = End {
+        v: Vertex::Host(host),
+        p: 0,
+    };
+    let used_up = w.channel_from(port).is_some() && w.injected() == u64::MAX;
+    let number = world_drain::inject(alloc, w, host)?;
+    Ok(Injection { used_up, number })
+}
+
+// Whether both hold.
+const fn both(a: bool, b: bool) -> bool
+    ensures { result ≡ (a && b) }
+{
+    a && b
+}

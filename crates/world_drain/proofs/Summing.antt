@@ -1,0 +1,38 @@
+-- A sum over hosts under way: what was summed so far and the sum over those from an address on are the whole sum.
+use Rattle.std.proofs.Common.{◌≡◌, ◌<◌, ◌≤◌, ℕ, suc, ◌+◌, ◌-◌, false, nat_lt, map, ap, arith}
+use Rattle.std.proofs.lemmas.Bool.Decides.{nat_tests}
+use Rattle.std.specs.List.{range_with_len}
+use Rattle.world_defs.specs.World.{WorldState, host_count, sum_of}
+use Rattle.fab_world.specs.Held.{IsMoment}
+
+pub record Summing (f : ℕ → ℕ) (count from sum : ℕ) : Type 0 where
+  pub rest : sum + sum_of (map f (range_with_len from (count - from))) ≡ sum_of (map f (range_with_len 0 count))
+
+pub summing-none : (f : ℕ → ℕ) (count : ℕ) → Summing f count 0 0
+summing-none f count =
+    let e : count - 0 ≡ count = omega arith in
+    let whole : sum_of (map f (range_with_len 0 (count - 0))) ≡ sum_of (map f (range_with_len 0 count)) = ap (λ n. sum_of (map f (range_with_len 0 n))) e in
+    record { rest = omega (arith, whole) }
+
+pub summing-on : (f : ℕ → ℕ) (count from sum next : ℕ) → Summing f count from sum → from < count → next ≡ sum + f from → Summing f count (from + 1) next
+summing-on f count from sum next s low is =
+    let left : count - from ≡ suc (count - (from + 1)) = omega (arith, low) in
+    let first : sum_of (map f (range_with_len from (count - from))) ≡ f from + sum_of (map f (range_with_len (from + 1) (count - (from + 1)))) = ap (λ n. sum_of (map f (range_with_len from n))) left in
+    let before = s.rest in
+    record { rest = omega (arith, first, before, is) }
+
+pub summing-all : (f : ℕ → ℕ) (count from sum : ℕ) → Summing f count from sum → count ≤ from → sum ≡ sum_of (map f (range_with_len 0 count))
+summing-all f count from sum s past =
+    let left : count - from ≡ 0 = omega (arith, past) in
+    let none : sum_of (map f (range_with_len from (count - from))) ≡ 0 = ap (λ n. sum_of (map f (range_with_len from n))) left in
+    let before = s.rest in
+    omega (arith, none, before)
+
+pub none-left : (n : ℕ) → nat_lt 0 n ≡ false → 0 ≡ n
+none-left n none = grind (arith, nat_tests)
+
+pub few-hosts : (w : WorldState) → IsMoment w → host_count w ≤ 128
+few-hosts w m =
+    let same = m.world.hosts in
+    let few = m.fabric.few_hosts in
+    omega (arith, same, few)

@@ -1,0 +1,12 @@
+-- The peers from here on are left to sum.
+use Rattle.std.proofs.Common.{◌≤◌, ◌*◌}
+use Rattle.world_defs.specs.World.{host_count, node_at}
+use Rattle.world_defs.specs.Node.{unacknowledged_to}
+use Rattle.world_drain.proofs.Summing.{Summing}
+use Rattle.world_drain.proofs.unacknowledged.unacked_from.Given as goal
+
+abbrev pub invariant-loop-peer : goal.invariant-loop-peer
+invariant-loop-peer l = record {
+  sums : Summing (unacknowledged_to (node_at l.w l.host)) (host_count l.w) l.peer l.sum;
+  few : l.sum ≤ l.peer * 8589934590;
+}
