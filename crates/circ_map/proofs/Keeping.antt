@@ -5,8 +5,8 @@ use Rattle.std.proofs.lemmas.List.{append_assoc, append-nil, map-append, take_mo
 use Rattle.map_defs.specs.declared.vertex.MapCable.{MapCable}
 use Rattle.map_defs.specs.NetMap.{NetMap, host_of_vertex}
 use Rattle.map_defs.specs.Quotient.{named}
-use Rattle.map_canon.specs.Naming.{with_vertex}
-use Rattle.map_canon.proofs.Named.{with_vertex-named}
+use Rattle.map_quotient.specs.Naming.{with_vertex}
+use Rattle.map_quotient.proofs.Named.{with_vertex-named}
 use Rattle.circ_map.specs.Inside.{bare, cables_in, number_in, renumbered}
 
 -- one vertex more

@@ -4,7 +4,7 @@ ghost use Rattle.std.specs.Prelude.{◌≡◌, ◌++◌, ◌∷◌, [], ◌<◌,
 ghost use Rattle.std.specs.Prelude.{if◌then◌else◌, false, None, Some, IfSome, IfOk, OnOk};
 ghost use Rattle.map_defs.specs.Core.{core_of};
 ghost use Rattle.map_defs.specs.NetMap.{host_of_vertex};
-ghost use Rattle.map_canon.specs.Naming.{with_vertex};
+ghost use Rattle.map_quotient.specs.Naming.{with_vertex};
 ghost use Rattle.circ_defs.specs.CircuitMap.{IsWithoutOutside};
 ghost use Rattle.circ_map.specs.Inside.{IsRising, marked_below, number_in, renumbered, bare, inside};
 ghost use Rattle.circ_map.specs.Inside.{vertex_refusal};

@@ -14,7 +14,7 @@ use crate::prober::CircProber;
 use crate::tree::Tree;
 use core_map::mark_core;
 use fabric_map::FabricMap;
-use map_canon::quotient;
+use map_quotient::quotient;
 use probe::{Entry, Journal, JournalPush};
 use replicate_merge::Classes;
 use std::alloc::{AllocError, Global};

@@ -13,7 +13,7 @@ use gm_defs::Blob;
 use gm_tokens::{RecvToken, SendToken};
 use nic_node::PortEvent;
 use port_client::Client;
-use reg_mem::{Reg, deregister};
+use reg_mem::{Reg, deregister, release};
 use std::alloc::Global;
 use std::collections::VecDeque;
 use world_defs::Said;
@@ -27,7 +27,7 @@ pub(crate) fn take_back_sends(client: &mut Client, sending: Vec<(SendToken, Reg)
     let mut rest = VecDeque::from_vec(sending);
     while let Some((token, buffer)) = rest.pop_front() {
         client.give_back_send(token);
-        let _bytes = deregister(buffer);
+        release(buffer);
     }
     rest.destroy_empty();
 }
@@ -41,7 +41,7 @@ pub(crate) fn take_back_recvs(client: &mut Client, provided: Vec<(RecvToken, Reg
     let mut rest = VecDeque::from_vec(provided);
     while let Some((token, buffer)) = rest.pop_front() {
         client.give_back_recv(token);
-        let _bytes = deregister(buffer);
+        release(buffer);
     }
     rest.destroy_empty();
 }
@@ -58,7 +58,7 @@ pub(crate) fn take_back(client: &mut Client, event: PortEvent) -> Said
         PortEvent::Sent(token, buffer) => {
             let number = token.number();
             client.give_back_send(token);
-            let _bytes = deregister(buffer);
+            release(buffer);
             Said::Sent(number)
         }
         PortEvent::Received {

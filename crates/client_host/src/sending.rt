@@ -19,7 +19,7 @@ use crate::telling::refused;
 use gm_tokens::{SendToken, is_too_long};
 use nic_node::{NicNode, NodeSend, SendAsk};
 use port_client::Client;
-use reg_mem::{deregister, register};
+use reg_mem::{register, release};
 use std::alloc::{AllocError, Global};
 use world_defs::{ClientCause, Said};
 
@@ -129,7 +129,7 @@ fn send_token(
             match node.send(alloc, port, token, register(bytes), a) {
                 Ok(()) => Ok(number),
                 Err((token, buffer, refusal)) => {
-                    let _bytes = deregister(buffer);
+                    release(buffer);
                     Err((token, cause_of(refusal)))
                 }
             }

@@ -11,13 +11,13 @@ use Rattle.world_defs.specs.Table.{Adoption, whole_table, part_for, route_of}
 use Rattle.world_defs.specs.Node.{NodeState, Staged, StagedPart, StagedReply, StagedAck, has_staged, given_up, node_expired, unacknowledged_to}
 use Rattle.world_defs.specs.Hearing.{hear}
 use Rattle.world_defs.specs.World.{WorldState, host_count, node_at, with_node, adopted_by}
-use Rattle.world_defs.specs.Step.{arrived, expired, gave_up, stage_at, stage_part, part_staged}
+use Rattle.world_defs.specs.Step.{arrived, lost, advanced, expired, gave_up, stage_at, stage_part, part_staged}
 use Rattle.route_install.specs.Collecting.{HostTable}
 use Rattle.adopted_routes.specs.declared.routes.PartToSend.{PartToSend}
 use Rattle.adopted_routes.specs.Adopting.{IsSetOfHosts, sent_by_route, part_to_send}
-use Rattle.faulty_links.specs.Held.{LinksAndPlan}
+use Rattle.faulty_links.specs.Held.{LinksAndPlan, IsHeardAt, IsToldOf}
 use Rattle.client_host.specs.Held.{ServedHost, in_state}
-use Rattle.fab_world.specs.Held.{world_of, IsToldOf}
+use Rattle.fab_world.specs.Held.{world_of}
 use Rattle.fab_world.proofs.Places.{IsAt, found, changed-under, changed, same}
 
 -- what a host does or leaves undone, as the world tells it
@@ -61,18 +61,20 @@ gave_up-is {p} {ss} {o} {w} {h} {i} {x} q done effect a told e says =
     (λ is. same q a (e ∙ ap (in_state x) (nothing-staged x.state (sym told ∙ is))))
     ∙ ap (λ k. (k, world_of p (slice_set ss i q) o)) (sym says)
 
--- one host hears a packet
-pub heard-is : {p : LinksAndPlan} {ss : List ServedHost} {o : Option Adoption} {w : WorldState} {h i : ℕ} {x : ServedHost} (q : ServedHost) (wire : List ℕ) (arrival : Arrival) (effect : Effect) (now : LinksAndPlan) → IsAt p ss o w h i x
-    → arrival ≡ (hear x.host x.hosts x.state wire).0 → q ≡ in_state x (hear x.host x.hosts x.state wire).1
-    → IsToldOf p h arrival effect now
-    → arrived w h (hear h (host_count w) (node_at w h) wire) ≡ (effect, world_of now (slice_set ss i q) o)
-heard-is {p} {ss} {o} {w} {h} {i} {x} q wire arrival effect now a heard e told =
+-- one host hears the packet of a channel, which is empty then
+pub heard-is : {p : LinksAndPlan} {ss : List ServedHost} {o : Option Adoption} {w : WorldState} {h i : ℕ} {x : ServedHost} (c : ℕ) (q : ServedHost) (wire : List ℕ) (arrival : Arrival) (effect : Effect) (now : LinksAndPlan) → IsAt p ss o w h i x
+    → IsHeardAt p c h wire → arrival ≡ (hear x.host x.hosts x.state wire).0 → q ≡ in_state x (hear x.host x.hosts x.state wire).1
+    → IsToldOf p c h arrival effect now
+    → advanced w c ≡ (effect, world_of now (slice_set ss i q) o)
+heard-is {p} {ss} {o} {w} {h} {i} {x} c q wire arrival effect now a at heard e told =
     let here = found a in
     let n : NodeState = (hear x.host x.hosts x.state wire).1 in
+    let behind : WorldState = (lost (world_of p ss o) c).1 in
     let same_hearing : hear x.host x.hosts x.state wire ≡ hear h (host_count w) (node_at w h) wire =
     ap (λ k. hear k x.hosts x.state wire) here.host ∙ ap (λ k. hear h k x.state wire) here.hosts ∙ ap (λ m. hear h (host_count w) m wire) here.state in
     let pair : (let r : Arrival × NodeState = (arrival, n) in r) ≡ hear h (host_count w) (node_at w h) wire = ap (λ r. (r, n)) heard ∙ same_hearing in
-    ap (arrived w h) (sym pair) ∙ ap (λ v. arrived v h (arrival, n)) (sym a.is) ∙ told (world_of p ss o) n ∙ ap (λ v. (effect, v)) (sym (changed-under q n now o a e))
+    ap (λ v. advanced v c) (sym a.is) ∙ at (world_of p ss o) ∙ ap (λ v. arrived behind h (hear h (host_count v) (node_at v h) wire)) a.is
+    ∙ ap (arrived behind h) (sym pair) ∙ told (world_of p ss o) n ∙ ap (λ v. (effect, v)) (sym (changed-under q n now o a e))
 
 -- a set is adopted, and its adopter has its table
 pub adopted-is : {p : LinksAndPlan} {ss : List ServedHost} {o : Option Adoption} {w : WorldState} {h i : ℕ} {x : ServedHost} (q : ServedHost) (routes : List Route) (table : HostTable) (now : Option Adoption) → IsAt p ss o w h i x

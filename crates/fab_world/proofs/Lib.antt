@@ -5,4 +5,5 @@ pub mod HostEvents
 pub mod Injecting
 pub mod Moments
 pub mod Places
+pub mod Reaching
 pub mod Waiting

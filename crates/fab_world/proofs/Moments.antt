@@ -61,10 +61,10 @@ pub later-channels : (w v : WorldState) → IsMoment w → IsLater w v → lengt
 later-channels w v m l =
     (later-moment w v m l).world.links.slots ∙ ap channel_count (later-fabric w v l) ∙ sym m.world.links.slots
 
--- the world after a step, or what a want of memory leaves
-pub step-later : {E : Type 0} (w v : WorldState) (e : Event) (r : Result Effect E) → IfOk r (λ x. step w e ≡ (x, v)) → OnErr r (IsLater w v) → IsLater w v
+-- the world after a step, or after one that wanted memory
+pub step-later : {E : Type 0} (w v : WorldState) (e : Event) (r : Result Effect E) → IfOk r (λ x. step w e ≡ (x, v)) → OnErr r (v ≡ w) → IsLater w v
 step-later w v e (Ok x) is err = (e ∷ [], sym (ap (λ p. p.1) is))
-step-later w v e (Err y) is err = err
+step-later w v e (Err y) is err = ([], err)
 
 pub new-moment : (n : Network) → IsFabric n → IsMoment (new_world n)
 new-moment n f = record { fabric = f; world = new-world n; senders = new-senders n; plan = tt; adopted = tt }

@@ -8,7 +8,7 @@ use Rattle.world_defs.specs.declared.effect.Said.{Said}
 use Rattle.world_defs.specs.Table.{Adoption}
 use Rattle.world_defs.specs.Node.{NodeState, new_node}
 use Rattle.world_defs.specs.Client.{ClientState, Called}
-use Rattle.world_defs.specs.World.{WorldState, host_count, node_at, client_at, with_node}
+use Rattle.world_defs.specs.World.{WorldState, fabric_of, host_count, node_at, client_at, with_node}
 use Rattle.world_defs.specs.Step.{of_call}
 use Rattle.faulty_links.specs.Held.{LinksAndPlan}
 use Rattle.client_host.specs.Held.{ServedHost, in_state, client_in, after_call}
@@ -26,6 +26,12 @@ pub record IsAt (p : LinksAndPlan) (ss : List ServedHost) (o : Option Adoption) 
 -- the hosts are as many as their states
 pub count-is : (p : LinksAndPlan) (ss : List ServedHost) (o : Option Adoption) (w : WorldState) → world_of p ss o ≡ w → length ss ≡ host_count w
 count-is p ss o w is = sym (length-map ss (λ s. s.state)) ∙ ap host_count is
+
+-- a host that the fabric has is one of the world's, where these are as many
+pub below-is : (w : WorldState) (p : LinksAndPlan) (ss : List ServedHost) (o : Option Adoption) (h : ℕ) → world_of p ss o ≡ w → host_count w ≡ length (fabric_of w).hosts → h < length p.links.net.hosts → h < host_count w
+below-is w p ss o h is count low =
+    let inside : h < length (fabric_of w).hosts = subst (λ v. h < length (fabric_of v).hosts) is low in
+    subst (λ n. h < n) (sym count) inside
 
 within : {p : LinksAndPlan} {ss : List ServedHost} {o : Option Adoption} {w : WorldState} {h i : ℕ} {x : ServedHost} → IsAt p ss o w h i x → i < length ss
 within {p} {ss} {o} {w} {h} {i} {x} a =

@@ -6,14 +6,13 @@ use Rattle.world_defs.specs.declared.event.Event.TheVariants.{Poll}
 use Rattle.world_defs.specs.declared.effect.Effect.{Effect}
 use Rattle.world_defs.specs.declared.effect.Effect.TheVariants.{Arrived, Said}
 use Rattle.world_defs.specs.Table.{Adoption}
-use Rattle.world_defs.specs.declared.arrival.Arrival.{Arrival}
 use Rattle.world_defs.specs.Node.{NodeState}
 use Rattle.world_defs.specs.Client.{ClientState, Called, Wanted, sent_by}
-use Rattle.world_defs.specs.World.{WorldState, fabric_of, host_count, node_at, with_node, client_at, with_drop}
-use Rattle.world_defs.specs.Step.{of_call, arrived, after_all}
+use Rattle.world_defs.specs.World.{WorldState, fabric_of, host_count, node_at, client_at}
+use Rattle.world_defs.specs.Step.{of_call, after_all}
 use Rattle.world_defs.specs.EightBits.{HasByteFaults}
 use Rattle.world_laws.specs.Shape.{IsWorld, HasSenders}
-use Rattle.faulty_links.specs.Held.{LinksAndPlan, with_part}
+use Rattle.faulty_links.specs.Held.{LinksAndPlan}
 use Rattle.adopted_routes.specs.Adopting.{IsSetOfHosts}
 use Rattle.client_host.specs.Held.{ServedHost, IsFromHosts}
 use Rattle.client_host.specs.Hosts.{states, clients_of}
@@ -63,12 +62,3 @@ IsCallAt w h port call effect v = of_call w h port (call (node_at w h) (client_a
 -- a client's wish to send a message says this, and leaves this world
 abbrev pub IsSendingAt : WorldState → ℕ → Wanted → Effect → WorldState → Type 0
 IsSendingAt w h s effect v = IsCallAt w h s.port (λ n c. sent_by n s c) effect v
-
--- an arrival at a host is told so, and leaves these links, whatever it made of the host
-abbrev pub IsToldOf : LinksAndPlan → ℕ → Arrival → Effect → LinksAndPlan → Type 0
-IsToldOf old h arrival effect new = (w : WorldState) (n : NodeState)
-    → arrived (with_part w old) h (arrival, n) ≡ (effect, with_part (with_node w h n) new)
-
--- a packet of these links was dropped at a host, and counts
-abbrev pub CountsDrop : LinksAndPlan → LinksAndPlan → Type 0
-CountsDrop old new = (w : WorldState) → with_drop (with_part w old) ≡ with_part w new

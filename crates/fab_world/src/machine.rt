@@ -47,12 +47,17 @@ impl Machine {
     {
         let count = f.hosts();
         let links = FaultyLinks::new(alloc, f)?;
-        let hosts = new_hosts(alloc, count)?;
-        Ok(Machine {
-            links,
-            hosts,
-            adopted: AdoptedRoutes::new(),
-        })
+        match new_hosts(alloc, count) {
+            Ok(hosts) => Ok(Machine {
+                links,
+                hosts,
+                adopted: AdoptedRoutes::new(),
+            }),
+            Err(wanting) => {
+                links.end();
+                Err(wanting)
+            }
+        }
     }
 
     /// The number of hosts.
@@ -75,10 +80,11 @@ impl Machine {
     /// Spends links and hosts, with whatever their ports hold.
     pub(crate) fn end(self) {
         let Machine {
-            links: _,
+            links,
             hosts,
             adopted: _,
         } = self;
+        links.end();
         end_hosts(hosts);
     }
 }

@@ -16,12 +16,14 @@ ghost use Rattle.world_defs.specs.Traffic.{sent_on, got_on};
 ghost use Rattle.world_defs.specs.Table.{active_epoch};
 ghost use Rattle.world_defs.specs.World.{fabric_of, host_count, new_world, node_at, planned, adopted_by};
 ghost use Rattle.world_defs.specs.EightBits.{IsByteFault};
+ghost use Rattle.world_defs.specs.EightBits.{IsByteEvent};
 ghost use Rattle.world_defs.specs.Step.{step};
+ghost use Rattle.act_defs.specs.Acts.{IsReached};
 ghost use Rattle.world_defs.specs.Settle.{unacknowledged_from};
 ghost use Rattle.host_ports.specs.Held.{place_at};
 ghost use Rattle.adopted_routes.specs.Adopting.{IsAdoptable, adopt_refusal, part_count_for};
 ghost use Rattle.fab_world.specs.Events.{IsHostOf, IsChannelOf, IsGiven};
-ghost use Rattle.fab_world.specs.Held.{IsMoment, IsLater, IsOfHosts};
+ghost use Rattle.fab_world.specs.Held.{IsMoment, IsOfHosts};
 ghost use Rattle.fab_world.specs.Hop.{IsHopIn};
 
 use crate::machine::Machine;
@@ -46,13 +48,15 @@ pub struct World {
 impl Model for World {
     ghost use Rattle.std.specs.Prelude.{◌≡◌};
     ghost use Rattle.world_defs.specs.World.{WorldState, fabric_of};
+    ghost use Rattle.act_defs.specs.Acts.{IsReached};
     ghost use Rattle.fab_world.specs.Held.{IsMoment};
 
     ghost Value = { WorldState };
 
     ghost view = { λ w. w.machine };
 
-    ghost invariant = { λ w. IsMoment w.machine × (w.fabric ≡ fabric_of w.machine) };
+    ghost invariant = { λ w. IsMoment w.machine × (w.fabric ≡ fabric_of w.machine)
+        × IsReached (fabric_of w.machine) w.machine };
 }
 
 impl World {
@@ -69,18 +73,18 @@ impl World {
         }
     }
 
-    /// One event: its effect, and the world after it. Where memory is wanting, nothing has changed, or the packet
-    /// that would have reached a host is lost.
+    /// One event: its effect, and the world after it. Want of memory changes nothing.
     pub fn step(&mut self, alloc: Global, e: Event) -> Result<Effect, AllocError>
         requires { IsGiven self.old e }
         ensures ok { IfOk result (λ x. step self.old e ≡ (x, self.new)) }
         ensures host { IfOk result (IsOfHosts (host_count self.old)) }
-        ensures err { OnErr result (IsLater self.old self.new) }
+        ensures err { OnErr result (self.new ≡ self.old) }
         ensures fabric { fabric_of self.new ≡ fabric_of self.old }
         ensures hosts { host_count self.new ≡ host_count self.old }
         ensures channels { length self.new.links.channels ≡ length self.old.links.channels }
         ensures adopted { self.new.adopted ≡ self.old.adopted }
     {
+        flips_have_a_byte(&e);
         self.machine.step(alloc, e)
     }
 
@@ -155,6 +159,14 @@ impl World {
     /// What holds of it at every moment.
     pub fn moment(&self)
         ensures kept { IsMoment self.now }
+    {
+        let _ = &self.machine;
+    }
+
+    /// Acts that may happen led to it from the new world of its fabric: so what holds of every world that is reached
+    /// holds of it.
+    pub fn reached(&self)
+        ensures { IsReached (fabric_of self.now) self.now }
     {
         let _ = &self.machine;
     }
@@ -360,7 +372,21 @@ impl World {
 // A fabric ends here alone: a proof goes through its parts wherever it ends.
 fn end_fabric(_fabric: Fabric) {}
 
-// The pattern of a flip has eight bits.
+// The pattern of a flip has eight bits, planned or not.
+fn flips_have_a_byte(e: &Event)
+    ensures { IsByteEvent e.now }
+{
+    if let Event::Flip {
+        channel: _,
+        bit: _,
+        pattern,
+    } = e
+    {
+        let _byte: u8 = *pattern;
+    }
+}
+
+// The pattern of a planned flip has eight bits.
 fn pattern_is_a_byte(fault: Fault)
     ensures { IsByteFault fault }
 {

@@ -38,6 +38,10 @@ with_switch m mark = record {
 abbrev pub with_cable : NetMap → MapCable → NetMap
 with_cable m c = record { vertices = m.vertices; cables = m.cables ++ c ∷ []; core = m.core }
 
+-- the map with other cables
+abbrev pub with_cables : NetMap → List MapCable → NetMap
+with_cables m cables = record { vertices = m.vertices; cables = cables; core = m.core }
+
 -- the map with other marks of its core
 abbrev pub with_core : NetMap → List Bool → NetMap
 with_core m marks = record { vertices = m.vertices; cables = m.cables; core = marks }

@@ -9,7 +9,8 @@
 ghost use Rattle.std.specs.Prelude.{◌≡◌, ◌≢◌, ℕ, ◌<◌, ◌≤◌, ◌*◌, pos, ◌-ℤ◌, ◌++◌, ◌∷◌, [], length, slice_index_or};
 ghost use Rattle.std.specs.Prelude.{Option, None, OnOk, OnErr, option_map};
 ghost use Rattle.net_defs.specs.Turn.{is_turn, IsTurn};
-ghost use Rattle.map_defs.specs.NetMap.{MapPort, first_end, second_end, far_port};
+ghost use Rattle.std.specs.List.{AllByRecursion};
+ghost use Rattle.map_defs.specs.NetMap.{MapPort, first_end, second_end, far_port, map_ends};
 ghost use Rattle.fabric_map.specs.Growing.{are_near};
 ghost use Rattle.fabric_map.specs.Table.{end_of, far_pair, pair_of_end, place_of_port};
 
@@ -115,6 +116,15 @@ impl Cabling {
         self.far.set(place_of(c.v, c.p), Some(port(c.w, c.q)));
         self.far.set(place_of(c.w, c.q), Some(port(c.v, c.p)));
         Ok(())
+    }
+
+    /// Has these cables in place of its own. The far end of each port stays.
+    pub(crate) fn put(&mut self, cables: Vec<MapCable>)
+        requires turns { AllByRecursion (λ d. IsTurn d.p) (map_ends cables.items) }
+        requires same { (d : MapPort) → far_port cables.items d ≡ far_port self.old d }
+        ensures { self.new ≡ cables.items }
+    {
+        self.cables = cables;
     }
 }
 

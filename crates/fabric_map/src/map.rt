@@ -4,9 +4,11 @@ ghost use Rattle.std.specs.Prelude.{◌≡◌, ℕ, ◌<◌, ◌≤◌, ◌↔�
 ghost use Rattle.std.specs.Prelude.{IfErr, OnOk, OnErr};
 ghost use Rattle.net_defs.specs.Refusal.{Refuses};
 ghost use Rattle.net_defs.specs.Turn.{IsTurn};
-ghost use Rattle.map_defs.specs.NetMap.{map_far, host_of_vertex, is_switch_vertex, switches_of, IsMap};
+ghost use Rattle.map_defs.specs.NetMap.{MapPort, far_port, map_far, host_of_vertex, is_switch_vertex, switches_of};
+ghost use Rattle.map_defs.specs.NetMap.{IsMap};
 ghost use Rattle.map_defs.specs.Routing.{vertex_of_host};
-ghost use Rattle.fabric_map.specs.Growing.{IsFabricMap, empty_map, with_host, with_switch, with_cable, with_core};
+ghost use Rattle.fabric_map.specs.Growing.{IsFabricMap, empty_map, with_host, with_switch, with_cable, with_cables};
+ghost use Rattle.fabric_map.specs.Growing.{with_core};
 ghost use Rattle.fabric_map.specs.Growing.{has_host, host_refusal, switch_refusal, cable_refusal, is_full as fullness};
 ghost use Rattle.fabric_map.specs.Growing.{may_have, is_used};
 ghost use Rattle.fabric_map.specs.Listing.{addresses_of};
@@ -130,6 +132,16 @@ impl FabricMap {
         } else {
             self.push_switch(core)
         }
+    }
+
+    /// Has these cables in place of its own: the same, in another order or the other way round. The far end of each
+    /// port stays.
+    pub fn put_cables(&mut self, cables: Vec<MapCable>)
+        requires map { IsFabricMap (with_cables self.old cables.items) }
+        requires same { (d : MapPort) → far_port cables.items d ≡ map_far self.old d }
+        ensures { self.new ≡ with_cables self.old cables.items }
+    {
+        self.cabling.put(cables);
     }
 
     /// Adds a cable, and answers its number. Refused in this order: `NoVertex` of the first end, of the second,

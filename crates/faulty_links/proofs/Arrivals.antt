@@ -3,21 +3,26 @@ use Rattle.std.proofs.Common.{◌≡◌, ◌<◌, ◌/◌, ◌%◌, ℕ, Bool, t
 use Rattle.std.specs.List.{slice_get}
 use Rattle.std.specs.Option.{option_map}
 use Rattle.std.proofs.lemmas.Bool.Decides.{nat_tests}
+use Rattle.std.proofs.lemmas.Option.{same_Some}
 use Rattle.net_defs.specs.declared.vertex.Vertex.{Vertex}
 use Rattle.net_defs.specs.declared.vertex.Vertex.TheVariants.{Host, Switch}
 use Rattle.net_defs.specs.declared.vertex.Cable.{Cable}
+use Rattle.net_defs.specs.declared.vertex.End.{End}
 use Rattle.net_defs.specs.Network.{Network, IsFabric, has_port, ports_of}
 use Rattle.net_defs.specs.Route.{channel_from}
 use Rattle.link_defs.specs.declared.turned.Turned.{Turned}
 use Rattle.link_defs.specs.declared.turned.Turned.TheVariants.{Out, OutOfRange as TurnedTooFar, NotRoute as NoTurn}
 use Rattle.link_defs.specs.declared.moved.Course.{Course}
 use Rattle.link_defs.specs.declared.moved.Course.TheVariants.{Arrives, Enters, Drops}
-use Rattle.link_defs.specs.declared.moved.Moved.TheVariants.{AtHost}
+use Rattle.link_defs.specs.declared.moved.Moved.{Moved}
+use Rattle.link_defs.specs.declared.moved.Moved.TheVariants.{To, AtHost, Dropped, Blocked, Empty}
+use Rattle.link_defs.specs.Channel.{channel_head}
 use Rattle.link_defs.specs.Fault.{lose}
 use Rattle.link_defs.specs.Switch.{aim}
 use Rattle.link_defs.specs.Links.{Held, LinkState, packet_in, emptied}
 use Rattle.link_defs.specs.Advance.{course_by_channel, course_out, course_at, course_into, course, entered, gone_on, advance_of, advance}
 use Rattle.fabric_wiring.proofs.Wirings.{cable_ports}
+use Rattle.faulty_links.specs.Held.{reached_by, reaching}
 
 host_below : (n : Network) (g p : ℕ) → has_port n (record { v = Host g; p = p }) ≡ true → g < length n.hosts
 host_below n g p e = by (nat_lt g (length n.hosts)) refl e
@@ -81,3 +86,61 @@ taken_there s c h wire e = by (packet_in s c) refl e
         let there : is_some (packet_in s c) ≡ true = ap is_some is in
         let out : (gone_on s c held (course s.net c held.wire)).1 ≡ emptied s c = gone held (course s.net c held.wire) (gone_on-host s c held (course s.net c held.wire) h wire e) in
         ap (λ b. (b, emptied s c)) there ∙ ap (λ l. (true, l)) (sym out)
+
+-- a packet in a channel that ends at a host reaches it
+pub at_host : (s : LinkState) (c : ℕ) (held : Held) (e : End) (h : ℕ) → channel_head s.net c ≡ Some e → e.v ≡ Host h → packet_in s c ≡ Some held → reaching s c ≡ Some (h, held.wire)
+at_host s c held e h head to is =
+    ap (λ o. reached_by (advance_of s c o).0) is
+    ∙ ap (λ o. reached_by (gone_on s c held (course_into s.net o held.wire)).0) head
+    ∙ ap (λ v. reached_by (gone_on s c held (course_at s.net v e.p held.wire)).0) to
+
+entered-none : (s : LinkState) (c : ℕ) (held : Held) (next : ℕ) (o : Option Held) → reached_by (entered s c held next o).0 ≡ None
+entered-none s c held next None = refl
+entered-none s c held next (Some other) = refl
+
+out-none : (s : LinkState) (c : ℕ) (held : Held) (k : ℕ) (t : Turned) → reached_by (gone_on s c held (course_out s.net k t)).0 ≡ None
+out-none s c held k (Out port) = by (channel_from s.net (record { v = Switch k; p = port }))
+  where
+    by : (o : Option ℕ) → reached_by (gone_on s c held (course_by_channel o)).0 ≡ None
+    by None = refl
+    by (Some next) = entered-none s c held next (packet_in (emptied s c) next)
+out-none s c held k TurnedTooFar = refl
+out-none s c held k NoTurn = refl
+
+-- none in an empty channel does
+pub in_empty : (s : LinkState) (c : ℕ) → packet_in s c ≡ None → reaching s c ≡ None
+in_empty s c none = ap (λ o. reached_by (advance_of s c o).0) none
+
+-- none in a channel that ends at a switch does
+pub at_switch : (s : LinkState) (c : ℕ) (e : End) (k : ℕ) → channel_head s.net c ≡ Some e → e.v ≡ Switch k → reaching s c ≡ None
+at_switch s c e k head to = by (packet_in s c)
+  where
+    by : (o : Option Held) → reached_by (advance_of s c o).0 ≡ None
+    by None = refl
+    by (Some held) =
+        ap (λ o. reached_by (gone_on s c held (course_into s.net o held.wire)).0) head
+        ∙ ap (λ v. reached_by (gone_on s c held (course_at s.net v e.p held.wire)).0) to
+        ∙ out-none s c held k (aim (ports_of s.net (Switch k)) e.p held.wire)
+
+-- what reached a host
+pub reached_is : (m : Moved (List ℕ)) (h : ℕ) (wire : List ℕ) → reached_by m ≡ Some (h, wire) → m ≡ AtHost h wire
+reached_is (AtHost g w) h wire e = ap (λ r. AtHost r.0 r.1) (same_Some (g, w) (h, wire) e)
+reached_is (To next) h wire e = cc
+reached_is (Dropped why) h wire e = cc
+reached_is (Blocked next) h wire e = cc
+reached_is Empty h wire e = cc
+
+-- the packet that was read in a channel that ends at a host
+pub read_at_host : (s : LinkState) (c : ℕ) (e : End) (h : ℕ) (wire : List ℕ) → channel_head s.net c ≡ Some e → e.v ≡ Host h → Some wire ≡ option_map (λ held. held.wire) (packet_in s c) → reaching s c ≡ Some (h, wire)
+read_at_host s c e h wire head to read = by (packet_in s c) refl read
+  where
+    by : (o : Option Held) → packet_in s c ≡ o → Some wire ≡ option_map (λ held. held.wire) o → reaching s c ≡ Some (h, wire)
+    by None is r = cc
+    by (Some held) is r = at_host s c held e h head to is ∙ ap (λ v. Some (h, v)) (sym (same_Some wire held.wire r))
+
+some_none : {A : Type 0} (x : A) → Some x ≡ None → ⊥
+some_none x e = cc
+
+-- what reaches no host
+pub never_there : (h : ℕ) (wire : List ℕ) (m : Moved (List ℕ)) → AtHost h wire ≡ m → reached_by m ≡ None → ⊥
+never_there h wire m e none = let pair : ℕ × List ℕ = (h, wire) in some_none pair (ap reached_by e ∙ none)

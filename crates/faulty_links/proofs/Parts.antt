@@ -4,7 +4,7 @@ use Rattle.std.specs.Map.{lookup}
 use Rattle.link_defs.specs.declared.replayed.Replayed.{Replayed}
 use Rattle.link_defs.specs.declared.replayed.Replayed.TheVariants.{Back, Busy, Unknown}
 use Rattle.link_defs.specs.declared.moved.Moved.{Moved}
-use Rattle.link_defs.specs.declared.moved.Moved.TheVariants.{To, AtHost as MovedToHost, Dropped as MovedDropped, Blocked as MovedBlocked, Empty}
+use Rattle.link_defs.specs.declared.moved.Moved.TheVariants.{To, AtHost, Dropped as MovedDropped, Blocked as MovedBlocked, Empty}
 use Rattle.link_defs.specs.Links.{Held as HeldPacket, LinkState, packet_in, with_packet, put}
 use Rattle.link_defs.specs.Advance.{advance}
 use Rattle.link_defs.specs.Fault.{lose, reset, repeat, hold, flip, replay}
@@ -19,16 +19,15 @@ use Rattle.world_defs.specs.declared.effect.Effect.{Effect}
 use Rattle.world_defs.specs.declared.effect.Effect.TheVariants.{Idle, Injected, Moved as MovedTo, Blocked, Dropped, Lost, Reset as WasReset, Flipped, Repeated, Held, Replayed as ReplayedTo}
 use Rattle.world_defs.specs.declared.fault.Fault.{Fault}
 use Rattle.world_defs.specs.Node.{Outgoing, packet_for, after_sending}
-use Rattle.world_defs.specs.World.{WorldState, last_count, counted, node_at, with_node, without_fault}
-use Rattle.world_defs.specs.Step.{of_links, of_limbo, of_replay, lost, was_reset, repeated, held, flipped, replayed, advanced, advanced_by, cause_at_switch, fault_on, is_harm, struck_by, fault_strikes, planned_strikes, sent_out}
+use Rattle.world_defs.specs.Hearing.{hear}
+use Rattle.world_defs.specs.World.{WorldState, host_count, last_count, counted, node_at, with_node, without_fault}
+use Rattle.world_defs.specs.Step.{of_links, of_limbo, of_replay, lost, was_reset, repeated, held, flipped, replayed, advanced, advanced_by, arrived, cause_at_switch, fault_on, is_harm, struck_by, fault_strikes, planned_strikes, sent_out}
 use Rattle.world_defs.specs.declared.fault.Fault.TheVariants.{Lose as LoseFault, Repeat as RepeatFault, Hold as HoldFault, Flip as FlipFault}
 use Rattle.link_model.specs.Hop.{IsHop}
 use Rattle.link_model.specs.declared.hop.Hop.{Hop}
 use Rattle.link_model.specs.declared.hop.Hop.TheVariants.{Moved as Hopped, Blocked as Waits, Untried}
-use Rattle.faulty_links.proofs.Arrivals.{taken_there}
-use Rattle.faulty_links.specs.declared.gone.Gone.{Gone}
-use Rattle.faulty_links.specs.declared.gone.Gone.TheVariants.{Done, AtHost}
-use Rattle.faulty_links.specs.Held.{LinksAndPlan, with_part, heard_of, put_under_next, IsHopOf, WorldHasItsPart, PartOfWorldWithPart, InjectionIsPut, InjectionIsIdle}
+use Rattle.faulty_links.proofs.Arrivals.{taken_there, reached_is}
+use Rattle.faulty_links.specs.Held.{LinksAndPlan, with_part, reached_by, reaching, IsHeardAt, put_under_next, IsHopOf, WorldHasItsPart, PartOfWorldWithPart, InjectionIsPut, InjectionIsIdle}
 
 -- this part with other links
 abbrev pub linked : LinksAndPlan → LinkState → LinksAndPlan
@@ -69,13 +68,6 @@ pub lost_part : (w : WorldState) (p : LinksAndPlan) (c : ℕ) → lost (with_par
 unfolding lost
 lost_part w p c = of_links-part w p Lost (lose p.links c) (lose-idle p.links c)
 
--- a packet that reaches a host is gone from its channel
-pub taken_part : (old p : LinksAndPlan) (c h : ℕ) (wire : List ℕ) (l : LinkState) → p ≡ old → MovedToHost h wire ≡ (advance p.links c).0 → l ≡ (advance p.links c).1
-    → (w : WorldState) → lost (with_part w old) c ≡ (Lost, with_part w (linked p l))
-taken_part old p c h wire l same moved links w =
-    ap (λ q. lost (with_part w q) c) (sym same) ∙ lost_part w p c
-    ∙ ap (λ o. (told o.0 Lost, with_part w (linked p o.1))) (taken_there p.links c h wire (sym moved)) ∙ ap (λ k. (Lost, with_part w (linked p k))) (sym links)
-
 pub reset_part : (w : WorldState) (p : LinksAndPlan) (c : ℕ) → was_reset (with_part w p) c ≡ (told (reset p.links c).0 WasReset, with_part w (linked p (reset p.links c).1))
 unfolding was_reset
 reset_part w p c = of_links-part w p WasReset (reset p.links c) (lose-idle p.links c)
@@ -96,13 +88,21 @@ pub replayed_part : (w : WorldState) (p : LinksAndPlan) (serial : ℕ) → repla
 unfolding replayed
 replayed_part w p serial = of_replay-part w p (replay p.links serial) (replay-idle p.links serial)
 
--- what an advance of the links is for a part: its answer, and the drops
-abbrev pub gone_by : Moved (List ℕ) → Gone (List ℕ)
-gone_by (To next) = Done (MovedTo next)
-gone_by (MovedToHost h wire) = AtHost h wire
-gone_by (MovedDropped why) = Done (Dropped (cause_at_switch why))
-gone_by (MovedBlocked next) = Done (Blocked next)
-gone_by Empty = Done Idle
+-- an advance of a packet that reaches a host is that it is lost, and that the host hears it
+pub heard_at : (p : LinksAndPlan) (c h : ℕ) (wire : List ℕ) → reaching p.links c ≡ Some (h, wire) → IsHeardAt p c h wire
+unfolding advanced lost
+heard_at p c h wire e w =
+    let to : (advance p.links c).0 ≡ AtHost h wire = reached_is (advance p.links c).0 h wire e in
+    ap (λ m. advanced_by (with_part w p) (m, (advance p.links c).1)) to
+    ∙ ap (λ (v : WorldState). arrived v h (hear h (host_count w) (node_at w h) wire)) (sym (ap (λ o. (of_links (with_part w p) Lost o).1) (taken_there p.links c h wire to)))
+
+-- the effect of an advance that reaches no host, and the drops
+abbrev pub effect_of : Moved (List ℕ) → Effect
+effect_of (To next) = MovedTo next
+effect_of (AtHost h wire) = Idle
+effect_of (MovedDropped why) = Dropped (cause_at_switch why)
+effect_of (MovedBlocked next) = Blocked next
+effect_of Empty = Idle
 
 abbrev pub drops_by : ℕ → Moved (List ℕ) → ℕ
 drops_by n (MovedDropped why) = counted n
@@ -112,30 +112,30 @@ drops_by n _ = n
 abbrev pub went : LinksAndPlan → Moved (List ℕ) × LinkState → LinksAndPlan
 went p o = record p { links = o.1; dropped = drops_by p.dropped o.0 }
 
-advanced_by-part : (w : WorldState) (p : LinksAndPlan) (o : Moved (List ℕ) × LinkState) → (changes o.0 ≡ false → o.1 ≡ p.links) → advanced_by (with_part w p) o ≡ heard_of (with_part w (went p o)) (gone_by o.0)
-advanced_by-part w p (To next, l) still = refl
-advanced_by-part w p (MovedToHost h wire, l) still = refl
-advanced_by-part w p (MovedDropped why, l) still = refl
-advanced_by-part w p (MovedBlocked next, l) still = ap (λ k. (Blocked next, with_part w (linked p k))) (sym (still refl))
-advanced_by-part w p (Empty, l) still = ap (λ k. (Idle, with_part w (linked p k))) (sym (still refl))
+advanced_by-part : (w : WorldState) (p : LinksAndPlan) (o : Moved (List ℕ) × LinkState) → reached_by o.0 ≡ None → (changes o.0 ≡ false → o.1 ≡ p.links) → advanced_by (with_part w p) o ≡ (effect_of o.0, with_part w (went p o))
+advanced_by-part w p (To next, l) inside still = refl
+advanced_by-part w p (AtHost h wire, l) inside still = cc
+advanced_by-part w p (MovedDropped why, l) inside still = refl
+advanced_by-part w p (MovedBlocked next, l) inside still = ap (λ k. (Blocked next, with_part w (linked p k))) (sym (still refl))
+advanced_by-part w p (Empty, l) inside still = ap (λ k. (Idle, with_part w (linked p k))) (sym (still refl))
 
-pub advanced_part : (w : WorldState) (p : LinksAndPlan) (c : ℕ) → advanced (with_part w p) c ≡ heard_of (with_part w (went p (advance p.links c))) (gone_by (advance p.links c).0)
+pub advanced_part : (w : WorldState) (p : LinksAndPlan) (c : ℕ) → reaching p.links c ≡ None → advanced (with_part w p) c ≡ (effect_of (advance p.links c).0, with_part w (went p (advance p.links c)))
 unfolding advanced
-advanced_part w p c = advanced_by-part w p (advance p.links c) (advance-still p.links c)
+advanced_part w p c inside = advanced_by-part w p (advance p.links c) inside (advance-still p.links c)
 
--- an advance, with what is known of its answer and of the part after it
-pub goes : (old p q : LinksAndPlan) (c : ℕ) (m : Moved (List ℕ)) (l : LinkState) → p ≡ old → m ≡ (advance p.links c).0 → l ≡ (advance p.links c).1 → q ≡ went p (m, l) → (w : WorldState) → advanced (with_part w old) c ≡ heard_of (with_part w q) (gone_by m)
-goes old p q c m l same moved links after w =
+-- an advance that reaches no host, with what is known of its answer and of the part after it
+pub goes : (old p q : LinksAndPlan) (c : ℕ) (m : Moved (List ℕ)) (l : LinkState) → p ≡ old → reached_by m ≡ None → m ≡ (advance p.links c).0 → l ≡ (advance p.links c).1 → q ≡ went p (m, l) → (w : WorldState) → advanced (with_part w old) c ≡ (effect_of m, with_part w q)
+goes old p q c m l same inside moved links after w =
     ap (λ r. advanced (with_part w r) c) (sym same)
-    ∙ advanced_part w p c
-    ∙ ap (λ n. heard_of (with_part w (went p (n, (advance p.links c).1))) (gone_by n)) (sym moved)
-    ∙ ap (λ k. heard_of (with_part w (went p (m, k))) (gone_by m)) (sym links)
-    ∙ ap (λ r. heard_of (with_part w r) (gone_by m)) (sym after)
+    ∙ advanced_part w p c (ap reached_by (sym moved) ∙ inside)
+    ∙ ap (λ n. (effect_of n, with_part w (went p (n, (advance p.links c).1)))) (sym moved)
+    ∙ ap (λ k. (effect_of m, with_part w (went p (m, k)))) (sym links)
+    ∙ ap (λ r. (effect_of m, with_part w r)) (sym after)
 
 -- a hop, with what is known of the part after it
 pub hops : (old p q : LinksAndPlan) (c : ℕ) (h : Hop) (l : LinkState) → p ≡ old → IsHop p.links c h l → q ≡ linked p l → IsHopOf old c h q
-hops old p q c (Hopped next) l same is after = goes old p q c (To next) l same (sym (ap (λ x. x.0) is)) (sym (ap (λ x. x.1) is)) after
-hops old p q c (Waits next) l same is after = goes old p q c (MovedBlocked next) l same (sym (ap (λ x. x.0) is)) (sym (ap (λ x. x.1) is)) after
+hops old p q c (Hopped next) l same is after = goes old p q c (To next) l same refl (sym (ap (λ x. x.0) is)) (sym (ap (λ x. x.1) is)) after
+hops old p q c (Waits next) l same is after = goes old p q c (MovedBlocked next) l same refl (sym (ap (λ x. x.0) is)) (sym (ap (λ x. x.1) is)) after
 hops old p q c Untried l same is after = after ∙ ap (linked p) is ∙ same
 
 -- a part behind a fault that may have struck

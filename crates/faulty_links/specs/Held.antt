@@ -1,19 +1,20 @@
 -- The part of a world that its links keep: what the channels and limbo hold, the plan of faults, and the counts.
-use Rattle.std.specs.Prelude.{◌≡◌, ℕ, ◌+◌, ◌<◌, ◌||◌, Bool, true, false, not, nat_le, List, length, Some, is_some}
+use Rattle.std.specs.Prelude.{◌≡◌, ℕ, ◌+◌, ◌||◌, Bool, true, false, not, nat_le, List, Option, Some, None, is_some}
 use Rattle.std.specs.Prelude.{if◌then◌else◌}
-use Rattle.net_defs.specs.Network.{Network}
+use Rattle.link_defs.specs.declared.moved.Moved.{Moved}
+use Rattle.link_defs.specs.declared.moved.Moved.TheVariants.{AtHost}
 use Rattle.link_defs.specs.Links.{LinkState, packet_in, put}
-use Rattle.world_defs.specs.declared.effect.Effect.{Effect}
-use Rattle.world_defs.specs.declared.effect.Effect.TheVariants.{Idle, Injected, Lost, Moved as MovedTo, Blocked}
+use Rattle.link_defs.specs.Advance.{advance}
+use Rattle.world_defs.specs.declared.effect.Effect.TheVariants.{Idle, Injected, Moved as MovedTo, Blocked}
 use Rattle.world_defs.specs.declared.fault.Fault.{Fault}
-use Rattle.world_defs.specs.Node.{Outgoing, packet_for, after_sending}
+use Rattle.world_defs.specs.declared.arrival.Arrival.{Arrival}
+use Rattle.world_defs.specs.declared.effect.Effect.{Effect}
+use Rattle.world_defs.specs.Node.{NodeState, Outgoing, packet_for, after_sending}
 use Rattle.world_defs.specs.Hearing.{hear}
-use Rattle.world_defs.specs.World.{WorldState, host_count, last_count, node_at, with_node}
+use Rattle.world_defs.specs.World.{WorldState, host_count, last_count, node_at, with_node, with_drop}
 use Rattle.world_defs.specs.Step.{lost, advanced, arrived, inject_one, planned_strikes}
 use Rattle.link_model.specs.declared.hop.Hop.{Hop}
 use Rattle.link_model.specs.declared.hop.Hop.TheVariants.{Moved as Hopped, Blocked as Waits, Untried}
-use Rattle.faulty_links.specs.declared.gone.Gone.{Gone}
-use Rattle.faulty_links.specs.declared.gone.Gone.TheVariants.{Done, AtHost}
 
 -- How many injections there were, how many packets were dropped, and how many planned faults struck, and of these how
 -- many lost, held or flipped their packet.
@@ -83,10 +84,31 @@ can_inject p c = not (is_some (packet_in p.links c) || nat_le last_count p.injec
 abbrev pub put_under_next : WorldState → ℕ → List ℕ → WorldState
 put_under_next w c wire = record w { links = (put w.links c wire).1; injected = w.injected + 1 }
 
--- what a world makes of a packet that went on: where it reached a host, the host hears it
-abbrev pub heard_of : WorldState → Gone (List ℕ) → Effect × WorldState
-heard_of w (Done effect) = (effect, w)
-heard_of w (AtHost h wire) = arrived w h (hear h (host_count w) (node_at w h) wire)
+-- the host that a packet reached, and the packet
+abbrev pub reached_by : Moved (List ℕ) → Option (ℕ × List ℕ)
+reached_by (AtHost h wire) = Some (h, wire)
+reached_by _ = None
+
+-- the host that a channel's packet reaches by its next advance, and the packet; none where it reaches no host, or the
+-- channel is empty
+abbrev pub reaching : LinkState → ℕ → Option (ℕ × List ℕ)
+reaching s c = reached_by (advance s c).0
+
+-- in each world with these links an advance of the channel is that the packet is gone as if it were lost, and that the
+-- host hears it
+abbrev pub IsHeardAt : LinksAndPlan → ℕ → ℕ → List ℕ → Type 0
+IsHeardAt p c h wire = (w : WorldState) → advanced (with_part w p) c
+    ≡ arrived (lost (with_part w p) c).1 h (hear h (host_count w) (node_at w h) wire)
+
+-- an arrival at a host of the packet of a channel is told so, and leaves these links, in which the channel is empty,
+-- whatever it made of the host
+abbrev pub IsToldOf : LinksAndPlan → ℕ → ℕ → Arrival → Effect → LinksAndPlan → Type 0
+IsToldOf old c h arrival effect new = (w : WorldState) (n : NodeState)
+    → arrived (lost (with_part w old) c).1 h (arrival, n) ≡ (effect, with_part (with_node w h n) new)
+
+-- a packet of these links was dropped at a host, and counts
+abbrev pub CountsDrop : LinksAndPlan → LinksAndPlan → Type 0
+CountsDrop old new = (w : WorldState) → with_drop (with_part w old) ≡ with_part w new
 
 -- a hop that moved its packet, or found it blocked, is the advance in every world with these links; else nothing has
 -- changed
@@ -94,16 +116,6 @@ abbrev pub IsHopOf : LinksAndPlan → ℕ → Hop → LinksAndPlan → Type 0
 IsHopOf old c (Hopped next) new = (w : WorldState) → advanced (with_part w old) c ≡ (MovedTo next, with_part w new)
 IsHopOf old c (Waits next) new = (w : WorldState) → advanced (with_part w old) c ≡ (Blocked next, with_part w new)
 IsHopOf old c Untried new = new ≡ old
-
--- a packet that reached a host reached one that the fabric has
-abbrev pub IsToHostOf : Network → Gone (List ℕ) → Type 0
-IsToHostOf n (Done effect) = Unit {0}
-IsToHostOf n (AtHost h wire) = h < length n.hosts
-
--- a packet that reached a host is gone from its channel, as if it were lost there
-abbrev pub IsTaken : LinksAndPlan → ℕ → LinksAndPlan → Gone (List ℕ) → Type 0
-IsTaken old c new (Done effect) = Unit {0}
-IsTaken old c new (AtHost h wire) = (w : WorldState) → lost (with_part w old) c ≡ (Lost, with_part w new)
 
 -- a world with its own part is that world
 abbrev pub WorldHasItsPart : Type 0

@@ -157,4 +157,8 @@ impl FaultyLinks {
     {
         hops_bound(&self.links)
     }
+
+    /// Spends them. Who holds them beside much else ends them so: a proof goes through all their parts wherever they
+    /// end.
+    pub fn end(self) {}
 }

@@ -1,3 +1,4 @@
+pub mod Blob
 pub mod Body
 pub mod Connection
 pub mod Examples

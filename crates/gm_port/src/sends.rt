@@ -171,7 +171,13 @@ fn free_places(alloc: Global, count: usize) -> Result<Vec<Option<(SendToken, Reg
 fn count_sends(places: &[Option<(SendToken, Reg)>]) -> usize
     ensures { result ≡ count_by is_some places.now }
 {
-    places.iter().filter(|place| place.is_some()).count()
+    let mut count = 0;
+    for at in 0..places.len() {
+        if has_send(places, at) {
+            count += 1;
+        }
+    }
+    count
 }
 
 // Whether a place has a send.

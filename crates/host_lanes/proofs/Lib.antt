@@ -1,3 +1,4 @@
 pub mod Noted
 pub mod OneLane
 pub mod Places
+pub mod Unused

@@ -1,5 +1,5 @@
 -- What a host's connections with a peer come to: which message is due, and which are finished.
-use Rattle.std.proofs.Common.{◌≡◌, ◌<◌, ◌≤◌, ◌+◌, ◌-◌, ℕ, zero, suc, Bool, true, false, ◌&&◌, nat_eq, nat_lt, nat_le, min, max, List, [], ◌∷◌, ◌++◌, length, take, drop, get_or, Option, Some, None, option_map, is_some, refl, sym, ap, ◌∙◌, subst, arith, length-append, map, if◌then◌else◌}
+use Rattle.std.proofs.Common.{◌≡◌, ◌<◌, ◌≤◌, ◌+◌, ◌-◌, ℕ, suc, Bool, true, false, ◌&&◌, nat_eq, nat_lt, nat_le, max, List, [], ◌∷◌, ◌++◌, length, drop, Option, Some, None, option_map, is_some, refl, sym, ap, ◌∙◌, subst, arith, length-append, map, if◌then◌else◌}
 use Rattle.std.specs.Prelude.{slice_get, option_and_then}
 use Rattle.std.proofs.lemmas.Bool.Decides.{nat_tests}
 use Rattle.std.proofs.lemmas.List.{drop-append-le, drop-drop, drop-map, length-drop, length-map, map_push}
@@ -7,12 +7,12 @@ use Rattle.std.proofs.lemmas.Option.{same_Some, none-some, slice_get_within}
 use Rattle.net_defs.proofs.Distinct.{all-push}
 use Rattle.gm_defs.specs.declared.message.Message.{Message}
 use Rattle.gm_defs.specs.declared.frame.FrameHead.{FrameHead}
-use Rattle.gm_defs.specs.Body.{piece, message_limit, is_prio}
+use Rattle.gm_defs.specs.Body.{message_limit, is_prio}
 use Rattle.gm_defs.specs.Fragment.{Fragment, fragments, piece_count, whole_below, head_of, frame_of}
 use Rattle.gm_defs.specs.Connection.{SenderState, due, is_taken, acknowledged}
 use Rattle.gm_defs.specs.Laws.{ComesNext}
 use Rattle.gm_defs.proofs.Choices.{both}
-use Rattle.gm_defs.proofs.Numbers.{length-fragments, fragments-append, next-fragment, part-of, take-there, offset-within}
+use Rattle.gm_defs.proofs.Numbers.{length-fragments, fragments-append, next-fragment}
 use Rattle.gm_conn.specs.declared.desc.Desc.{Desc}
 use Rattle.gm_conn.specs.declared.desc.Due.{Due}
 use Rattle.gm_conn.specs.Halves.{Outgoing, Incoming, IsOutgoing, WaitsFor, AreOf, Describes, is_desc, first, place_below, due_at, due_frame, finished, heard_ack, without_finished}

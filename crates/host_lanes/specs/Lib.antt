@@ -1,3 +1,4 @@
+pub mod First
 pub mod Lane
 pub mod Lanes
 pub mod Sets

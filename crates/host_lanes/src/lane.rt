@@ -1,76 +1,56 @@
-//! One lane of a host: its connections with one peer, of one priority.
+//! One lane of a host: its connections with one peer, of one priority. It takes memory only when it is first used.
 
-ghost use Rattle.std.specs.Prelude.{◌≡◌, ◌<◌, ◌≤◌, ◌+◌, ◌++◌, true, List, length, drop, slice_get, vec_len, Some};
-ghost use Rattle.std.specs.Prelude.{vec_capacity};
-ghost use Rattle.std.specs.Prelude.{IsSome, IfSome, OnOk, OnErr, IfOk, IfErr, is_some, option_map};
+ghost use Rattle.std.specs.Prelude.{◌≡◌, ◌<◌, ◌≤◌, true, length, take, slice_get, Some};
+ghost use Rattle.std.specs.Prelude.{IsSome, IfSome, OnOk, OnErr, IfOk, is_some, option_map};
 ghost use Rattle.std.specs.Option.{option_copied};
-ghost use Rattle.std.specs.VecDeque.{deque_len, deque_capacity};
 ghost use Rattle.net_defs.specs.Refusal.{Refuses};
 ghost use Rattle.gm_defs.specs.Body.{is_prio, is_head, is_last, message_limit};
 ghost use Rattle.gm_defs.specs.Connection.{connection, ack_on, due, unacknowledged, took};
-ghost use Rattle.gm_defs.specs.declared.message.Message.{Message};
-ghost use Rattle.gm_conn.specs.Halves.{WaitsFor, finished};
 ghost use Rattle.world_defs.specs.Lane.{with_message, finished_by, lane_acknowledged, lane_expired, lane_sent_one};
-ghost use Rattle.world_defs.specs.Lane.{lane_answered, got_after, coming_after, lane_after};
+ghost use Rattle.world_defs.specs.Lane.{lane_answered, lane_after};
 ghost use Rattle.world_defs.specs.Hearing.{message_of};
 ghost use Rattle.host_lanes.specs.Lane.{in_state, other_way, unused, due_frame, head_shown, head_of_frame, ticket_of};
 ghost use Rattle.host_lanes.specs.Lane.{message_in, accept_refusal, AreNumbered};
 
+use crate::used_lane::UsedLane;
 use crate::{DueFrame, Envelope, Ticket};
-use gm_conn::{Ack, Desc, FrameHead, OfferRefusal, Receiver, Sender, Took};
-use gm_defs::{Blob, Message};
+use gm_conn::{Ack, FrameHead, OfferRefusal, Took};
+use gm_defs::{ConnectionKey, Message};
+use reg_mem::Reg;
 use std::alloc::{AllocError, Global};
-use std::collections::VecDeque;
 use std::marker::Model;
-use std::mem;
 
 /// What a host sends to a peer of one priority, and what it takes from there. The messages on both sides are kept.
+/// Until one is sent or taken the lane is nothing but its key.
 #[derive(Drop)]
 pub struct Lane {
-    sender: Sender,
-    sent: Vec<Message>,
-    pending: VecDeque<Ticket>,
-    receiver: Receiver,
-    got: Vec<Message>,
-    // The bytes that came so far of the message that is taken in part.
-    coming: Vec<u8>,
-    owes: bool,
+    key: ConnectionKey,
+    used: Option<Box<UsedLane>>,
 }
 
 impl Model for Lane {
-    ghost use Rattle.host_lanes.specs.Lane.{HostLane, IsLane};
+    ghost use Rattle.host_lanes.specs.Lane.{HostLane};
+    ghost use Rattle.host_lanes.specs.First.{lane_of, HasKey};
 
     ghost Value = { HostLane };
 
-    ghost view = { λ p. record {
-      key = p.sender.key;
-      state = record {
-        sender = p.sender.numbers;
-        sent = p.sent.items;
-        pending = p.pending.items;
-        got = p.got.items;
-        coming = p.coming.items;
-        taken = p.receiver.taken;
-        owes = p.owes;
-      };
-    } };
+    ghost view = { λ p. lane_of p.key p.used };
 
-    ghost invariant = { λ p. IsLane p.sender p.receiver p.sent.items p.pending.items };
+    ghost invariant = { λ p. HasKey p.key p.used };
 }
 
 impl Lane {
     /// The lane of a host with a peer and a priority on which nothing was sent. It takes no memory.
-    pub fn new(alloc: Global, host: u16, peer: u16, prio: u8) -> Lane
+    pub fn new(host: u16, peer: u16, prio: u8) -> Lane
         ensures { result ≡ unused (connection host peer prio) }
     {
         Lane {
-            sender: Sender::new(alloc, host, peer, prio),
-            sent: Vec::new(alloc),
-            pending: VecDeque::new(alloc),
-            receiver: Receiver::new(peer, host, prio),
-            got: Vec::new(alloc),
-            coming: Vec::new(alloc),
-            owes: false,
+            key: ConnectionKey {
+                src: host,
+                dst: peer,
+                prio,
+            },
+            used: None,
         }
     }
 
@@ -81,19 +61,9 @@ impl Lane {
         ensures by_rules { IfSome result (λ d. is_head d.head ≡ true) }
         ensures ticket { IfSome result (λ d. ticket_of self.now.state d.head.seq ≡ Some d.ticket.now) }
     {
-        self.sender.in_order();
-        match self.sender.due() {
-            Some(due) => {
-                let place = self.pending.len() - self.sender.left_from(due.head.seq);
-                match self.pending(place) {
-                    Some(ticket) => Some(DueFrame {
-                        head: due.head,
-                        ticket,
-                    }),
-                    None => unreachable!(),
-                }
-            }
+        match &self.used {
             None => None,
+            Some(used) => used.due(),
         }
     }
 
@@ -101,15 +71,20 @@ impl Lane {
     pub fn is_due(&self) -> bool
         ensures { result ≡ is_some (due_frame self.now) }
     {
-        self.sender.in_order();
-        self.sender.due().is_some()
+        match &self.used {
+            None => false,
+            Some(used) => used.is_due(),
+        }
     }
 
     /// The numbers are in order, and the fragments of all that was sent have those up to the next.
     pub fn in_order(&self)
         ensures { AreNumbered self.now.state }
     {
-        self.sender.in_order();
+        match &self.used {
+            None => {}
+            Some(used) => used.in_order(),
+        }
     }
 
     /// The due fragment was sent.
@@ -117,111 +92,164 @@ impl Lane {
         requires { IsSome (due self.old.state.sender) }
         ensures { self.new ≡ in_state self.old (lane_sent_one self.old.state) }
     {
-        self.sender.mark_sent();
+        match &mut self.used {
+            None => unreachable!(),
+            Some(used) => used.sent_one(),
+        }
     }
 
     /// The acknowledgement was sent.
     pub fn answered(&mut self)
         ensures { self.new ≡ in_state self.old (lane_answered self.old.state) }
     {
-        self.owes = false;
+        match &mut self.used {
+            None => {}
+            Some(used) => used.answered(),
+        }
     }
 
     /// What isn't acknowledged is sent again.
     pub fn expire(&mut self)
         ensures { self.new ≡ in_state self.old (lane_expired self.old.state) }
     {
-        let _some = self.sender.expire();
+        match &mut self.used {
+            None => {}
+            Some(used) => used.expire(),
+        }
     }
 
     /// The peer.
     pub fn peer(&self) -> u16
         ensures { result ≡ self.now.key.dst }
     {
-        self.sender.key().dst
+        self.key.dst
     }
 
     /// How many fragments to the peer aren't acknowledged, sent or not.
     pub fn unacked(&self) -> u32
         ensures { result ≡ unacknowledged self.now.state.sender }
     {
-        self.sender.unacked()
+        match &self.used {
+            None => 0,
+            Some(used) => used.unacked(),
+        }
     }
 
     /// Whether the peer is owed an acknowledgement.
     pub fn owes(&self) -> bool
         ensures { result ≡ self.now.state.owes }
     {
-        self.owes
+        match &self.used {
+            None => false,
+            Some(used) => used.owes(),
+        }
     }
 
     /// The acknowledgement of what was taken from the peer.
     pub fn ack(&self) -> Ack
         ensures { result ≡ ack_on (other_way self.now.key) self.now.state.taken }
     {
-        self.receiver.ack()
+        match &self.used {
+            None => Ack {
+                src: self.key.src,
+                dst: self.key.dst,
+                prio: self.key.prio,
+                next: 0,
+            },
+            Some(used) => used.ack(),
+        }
     }
 
-    /// Accepts a message of the lane's priority for the peer, with the number of its port's token. `Spent` exactly
-    /// where it needs a number above 4,294,967,294. A refusal changes nothing.
+    /// Accepts a message of the lane's priority for the peer, the first so many bytes of a buffer, with the number of
+    /// its port's token. `Spent` exactly where it needs a number above 4,294,967,294. A refusal changes nothing.
     pub fn accept(
         &mut self,
         alloc: Global,
         e: Envelope,
-        body: &[u8],
+        b: &mut Reg,
+        len: u32,
         token: u16,
     ) -> Result<(), OfferRefusal>
         requires sport { e.sport < 8 }
         requires dport { e.dport < 8 }
         requires prio { is_prio e.prio ≡ true }
         requires lane { e.prio ≡ self.old.key.prio }
-        requires length { length body.now ≤ message_limit }
-        ensures refused { Refuses (accept_refusal self.old.state (length body.now)) OfferRefusal.NoMemory result }
-        ensures ok { OnOk result (self.new ≡ in_state self.old
-            (with_message self.old.state (message_in e body.now) (record { port = e.sport; token = token }))) }
+        requires length { len ≤ message_limit }
+        requires fits { len ≤ length b.old }
+        ensures refused { Refuses (accept_refusal self.old.state len) OfferRefusal.NoMemory result }
+        ensures ok { OnOk result (self.new ≡ in_state self.old (with_message self.old.state
+            (message_in e (take len b.old)) (record { port = e.sport; token = token }))) }
         ensures err { OnErr result (self.new ≡ self.old) }
+        ensures buffer { b.new ≡ b.old }
     {
-        let total = body.len() as u32;
-        self.sender.reserve(total)?;
-        self.sender.in_order();
-        make_room(&mut self.sent, &mut self.pending)?;
-        let message = message_in(alloc, e, body)?;
-        let _first = self.sender.offer(Desc {
-            ticket: usize::from(token),
-            sport: e.sport,
-            dport: e.dport,
-            prio: e.prio,
-            total,
-        });
-        self.sent.push_reserved(message);
-        self.pending.push_back_reserved(Ticket::new(e.sport, token));
-        Ok(())
+        match &mut self.used {
+            None => self.accept_first(alloc, e, b, len, token),
+            Some(used) => used.accept(alloc, e, b, len, token),
+        }
+    }
+
+    // The first message of an unused lane.
+    fn accept_first(
+        &mut self,
+        alloc: Global,
+        e: Envelope,
+        b: &mut Reg,
+        len: u32,
+        token: u16,
+    ) -> Result<(), OfferRefusal>
+        requires unused { self.old ≡ unused self.old.key }
+        requires sport { e.sport < 8 }
+        requires dport { e.dport < 8 }
+        requires prio { is_prio e.prio ≡ true }
+        requires lane { e.prio ≡ self.old.key.prio }
+        requires length { len ≤ message_limit }
+        requires fits { len ≤ length b.old }
+        ensures refused { Refuses (accept_refusal self.old.state len) OfferRefusal.NoMemory result }
+        ensures ok { OnOk result (self.new ≡ in_state self.old (with_message self.old.state
+            (message_in e (take len b.old)) (record { port = e.sport; token = token }))) }
+        ensures err { OnErr result (self.new ≡ self.old) }
+        ensures buffer { b.new ≡ b.old }
+    {
+        match self.first(alloc) {
+            Ok(mut used) => {
+                used.accept(alloc, e, b, len, token)?;
+                self.used = Some(used);
+                Ok(())
+            }
+            Err(_) => Err(OfferRefusal::NoMemory),
+        }
     }
 
     /// How many sends an acknowledgement of this number finishes: so many of the tickets that wait longest.
+    #[tactic(auto, using(crate::proofs::Unused::unused_finished))]
     pub fn finished_by(&self, next: u32) -> usize
         ensures { result ≡ finished_by self.now.state next }
     {
-        self.sender.in_order();
-        self.sender.finished_by(next) as usize
+        match &self.used {
+            None => 0,
+            Some(used) => used.finished_by(next),
+        }
     }
 
     /// The ticket at a place among those that wait, the one that waits longest at 0.
     pub fn pending(&self, place: usize) -> Option<&Ticket>
         ensures { option_copied result ≡ slice_get self.now.state.pending place }
     {
-        self.pending.get(place)
+        match &self.used {
+            None => None,
+            Some(used) => used.pending(place),
+        }
     }
 
     /// An acknowledgement came: the sends that it finishes wait no more.
+    #[tactic(auto, using(crate::proofs::Unused::unused_acknowledged))]
     pub fn on_ack(&mut self, next: u32)
         ensures { self.new ≡ in_state self.old (lane_acknowledged self.old.state next) }
     {
-        self.sender.in_order();
-        let finished = self.finished_by(next);
-        let _messages = self.sender.on_ack(next);
-        drop_tickets(&mut self.pending, finished);
-        drop_finished(&mut self.sender, finished);
+        match &mut self.used {
+            None => {}
+            Some(used) => used.on_ack(next),
+        }
     }
 
     /// A frame came; `fits` says whether a token takes its fragment. Whatever is made of it, an acknowledgement is
@@ -240,138 +268,59 @@ impl Lane {
             (lane_after self.old.state t (message_of h.now part.now))) }
         ensures err { OnErr result (self.new ≡ self.old) }
     {
-        let took = took_of(self.receiver.ack().next, h, fits);
-        keep(alloc, &mut self.got, &mut self.coming, took, h, part)?;
-        self.owes = true;
-        Ok(self.receiver.on_frame(h, fits))
+        match &mut self.used {
+            None => self.on_first_frame(alloc, h, part, fits),
+            Some(used) => used.on_frame(alloc, h, part, fits),
+        }
+    }
+
+    // The first frame on an unused lane.
+    fn on_first_frame(
+        &mut self,
+        alloc: Global,
+        h: &FrameHead,
+        part: &[u8],
+        fits: bool,
+    ) -> Result<Took, AllocError>
+        requires unused { self.old ≡ unused self.old.key }
+        requires head { is_head h.now ≡ true }
+        ensures took { IfOk result (λ t. t ≡ took self.old.state.taken h.now.seq fits
+            (is_last h.now.total h.now.offset)) }
+        ensures ok { IfOk result (λ t. self.new ≡ in_state self.old
+            (lane_after self.old.state t (message_of h.now part.now))) }
+        ensures err { OnErr result (self.new ≡ self.old) }
+    {
+        let mut used = self.first(alloc)?;
+        let took = used.on_frame(alloc, h, part, fits)?;
+        self.used = Some(used);
+        Ok(took)
     }
 
     /// The messages that were accepted for the peer, in order.
     pub fn sent(&self) -> &[Message]
         ensures { result.now ≡ self.now.state.sent }
     {
-        &self.sent
+        match &self.used {
+            None => &[],
+            Some(used) => used.sent(),
+        }
     }
 
     /// The messages that were taken from the peer, in order.
     pub fn got(&self) -> &[Message]
         ensures { result.now ≡ self.now.state.got }
     {
-        &self.got
-    }
-}
-
-// What is made of a frame where so many were taken.
-fn took_of(taken: u32, h: &FrameHead, fits: bool) -> Took
-    ensures { result ≡ took taken h.now.seq fits (is_last h.now.total h.now.offset) }
-{
-    if h.seq != taken {
-        Took::NotNext
-    } else if !fits {
-        Took::NoToken
-    } else if h.is_last() {
-        Took::Whole
-    } else {
-        Took::Part
-    }
-}
-
-// Makes room for one message and one ticket more.
-fn make_room(sent: &mut Vec<Message>, pending: &mut VecDeque<Ticket>) -> Result<(), OfferRefusal>
-    ensures sent { sent.new.items ≡ sent.old.items }
-    ensures pending { pending.new.items ≡ pending.old.items }
-    ensures sent_room { OnOk result (vec_len sent.new < vec_capacity sent.new) }
-    ensures pending_room { OnOk result (deque_len pending.new < deque_capacity pending.new) }
-    ensures err { IfErr result (λ e. e ≡ OfferRefusal.NoMemory) }
-{
-    if sent.reserve(1).is_ok() && pending.reserve(1).is_ok() {
-        Ok(())
-    } else {
-        Err(OfferRefusal::NoMemory)
-    }
-}
-
-// The message of an envelope and its bytes.
-fn message_in(alloc: Global, e: Envelope, body: &[u8]) -> Result<Message, OfferRefusal>
-    ensures ok { IfOk result (λ m. m ≡ message_in e body.now) }
-    ensures err { IfErr result (λ e. e ≡ OfferRefusal.NoMemory) }
-{
-    match body.to_vec(alloc) {
-        Ok(bytes) => Ok(Message {
-            sport: e.sport,
-            dport: e.dport,
-            prio: e.prio,
-            body: Blob::new(bytes),
-        }),
-        Err(_) => Err(OfferRefusal::NoMemory),
-    }
-}
-
-// The bytes of a fragment come behind those of its message that came before. With the last the message joins those
-// that were got.
-fn keep(
-    alloc: Global,
-    got: &mut Vec<Message>,
-    coming: &mut Vec<u8>,
-    took: Took,
-    h: &FrameHead,
-    part: &[u8],
-) -> Result<(), AllocError>
-    ensures got { OnOk result (got.new.items ≡
-        got_after got.old.items coming.old.items took (message_of h.now part.now)) }
-    ensures coming { OnOk result (coming.new.items ≡ coming_after coming.old.items took (message_of h.now part.now)) }
-    ensures err { OnErr result (got.new.items ≡ got.old.items) }
-    ensures none_came { OnErr result (coming.new.items ≡ coming.old.items) }
-{
-    match took {
-        Took::Whole => {
-            got.reserve(1)?;
-            append(coming, h, part)?;
-            let mut body = Vec::new(alloc);
-            mem::swap(coming, &mut body);
-            got.push_reserved(Message {
-                sport: h.sport,
-                dport: h.dport,
-                prio: h.prio,
-                body: Blob::new(body),
-            });
-            Ok(())
+        match &self.used {
+            None => &[],
+            Some(used) => used.got(),
         }
-        Took::Part => append(coming, h, part),
-        Took::NoToken => Ok(()),
-        Took::NotNext => Ok(()),
     }
-}
 
-// Puts the bytes of a fragment behind those that came of its message. A first one makes room for all of them.
-fn append(coming: &mut Vec<u8>, h: &FrameHead, part: &[u8]) -> Result<(), AllocError>
-    ensures ok { OnOk result (coming.new.items ≡ coming.old.items ++ part.now) }
-    ensures err { OnErr result (coming.new.items ≡ coming.old.items) }
-{
-    coming.reserve(h.total.saturating_sub(h.offset) as usize)?;
-    coming.extend_from_slice(part)
-}
-
-// Drops so many tickets in front.
-fn drop_tickets(pending: &mut VecDeque<Ticket>, count: usize)
-    ensures { pending.new.items ≡ drop count pending.old.items }
-{
-    for _ in 0..count {
-        let _ticket = pending.pop_front();
-    }
-}
-
-// Takes so many finished descriptors out of a sender, which keeps its numbers.
-fn drop_finished(sender: &mut Sender, count: usize)
-    requires { count ≤ finished sender.old }
-    ensures key { sender.new.key ≡ sender.old.key }
-    ensures numbers { sender.new.numbers ≡ sender.old.numbers }
-    ensures fewer { sender.new.waiting ≡ drop count sender.old.waiting }
-    ensures left { finished sender.new + count ≡ finished sender.old }
-    ensures waits { (sent : List Message) → WaitsFor sender.old sent → WaitsFor sender.new sent }
-{
-    for _ in 0..count {
-        sender.in_order();
-        let _desc = sender.take_finished();
+    // The lane as it is when it is first used.
+    fn first(&self, alloc: Global) -> Result<Box<UsedLane>, AllocError>
+        ensures { IfOk result (λ used. used.value ≡ unused self.now.key) }
+    {
+        let key = self.key;
+        Ok(Box::new(alloc, UsedLane::new(alloc, key.src, key.dst, key.prio))?)
     }
 }

@@ -1,6 +1,6 @@
 //! The lanes of a host.
 
-ghost use Rattle.std.specs.Prelude.{◌≡◌, ◌<◌, ◌≤◌, ◌^◌, ℕ, length, true, IfOk, OnOk, OnErr, IsSome};
+ghost use Rattle.std.specs.Prelude.{◌≡◌, ◌<◌, ◌≤◌, ◌^◌, ℕ, length, take, true, IfOk, OnOk, OnErr, IsSome};
 ghost use Rattle.net_defs.specs.Refusal.{Refuses};
 ghost use Rattle.gm_defs.specs.Body.{is_head, is_last, message_limit};
 ghost use Rattle.gm_defs.specs.Connection.{due, took};
@@ -14,6 +14,7 @@ ghost use Rattle.host_lanes.specs.Lanes.{unacknowledged_to, owes_on, has_due, ha
 use crate::number::{lane_count, lane_of, peer_of, prio_of};
 use crate::sets::LaneSets;
 use crate::{Ack, Envelope, FrameHead, Lane, OfferRefusal, Took};
+use reg_mem::Reg;
 use std::alloc::{AllocError, Global};
 use std::marker::Model;
 
@@ -47,7 +48,7 @@ impl Lanes {
         let sets = LaneSets::new(alloc, count)?;
         let mut lanes = Vec::with_capacity(alloc, count as usize)?;
         for lane in 0..count {
-            lanes.push_reserved(Lane::new(alloc, host, peer_of(lane), prio_of(lane)));
+            lanes.push_reserved(Lane::new(host, peer_of(lane), prio_of(lane)));
         }
         Ok(Lanes {
             host,
@@ -168,31 +169,34 @@ impl Lanes {
         self.sets.next_unacked(from)
     }
 
-    /// Accepts a message for a peer, with the number of its port's token, in the lane of its priority. A refusal
-    /// changes nothing: Spent where it needs a number above 4,294,967,294.
+    /// Accepts a message for a peer, the first so many bytes of a buffer, with the number of its port's token, in the
+    /// lane of its priority. A refusal changes nothing: Spent where it needs a number above 4,294,967,294.
     pub fn accept(
         &mut self,
         alloc: Global,
         peer: u16,
         e: Envelope,
-        body: &[u8],
+        b: &mut Reg,
+        len: u32,
         token: u16,
     ) -> Result<(), OfferRefusal>
         requires peer { peer < self.old.hosts }
         requires sport { e.sport < 8 }
         requires dport { e.dport < 8 }
         requires prio { e.prio < 2 }
-        requires length { length body.now ≤ message_limit }
-        ensures refused { Refuses (accept_refusal (lane_in self.old (lane_of peer e.prio))
-            (length body.now)) OfferRefusal.NoMemory result }
+        requires length { len ≤ message_limit }
+        requires fits { len ≤ length b.old }
+        ensures refused { Refuses (accept_refusal (lane_in self.old (lane_of peer e.prio)) len)
+            OfferRefusal.NoMemory result }
         ensures ok { OnOk result (self.new ≡ with_state self.old (lane_of peer e.prio)
-            (with_message (lane_in self.old (lane_of peer e.prio)) (message_in e body.now)
+            (with_message (lane_in self.old (lane_of peer e.prio)) (message_in e (take len b.old))
             (record { port = e.sport; token = token }))) }
         ensures err { OnErr result (self.new ≡ self.old) }
+        ensures buffer { b.new ≡ b.old }
     {
         let lane = self.number(peer, e.prio);
         let at = &mut self.lanes[lane as usize];
-        let accepted = at.accept(alloc, e, body, token);
+        let accepted = at.accept(alloc, e, b, len, token);
         self.sets.note(lane, at);
         accepted
     }

@@ -24,6 +24,7 @@ mod lanes;
 mod number;
 mod sets;
 mod ticket;
+mod used_lane;
 
 pub use due::DueFrame;
 pub use envelope::Envelope;

@@ -1,4 +1,3 @@
-pub mod Numbering
-pub mod Naming
-pub mod Joining
-pub mod InOrder
+pub mod Declaring
+pub mod Reading
+pub mod Printing

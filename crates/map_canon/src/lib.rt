@@ -1,39 +1,35 @@
-//! The map of a journal, and whether a journal is closed.
+//! The text of a map, printed and read back; and where all that makes, renumbers and tells a map is reached.
 //!
-//! It asks nothing, and joins no nodes to classes: that is `replicate_merge`. `specs/Quotient.antt` of `map_defs`
-//! says what the map of a journal is; the files of `specs/` here say what the parts of the code give each other.
-//!
-//! ```text
-//!   journal of host a                    its map
-//!                +1 +---+                               +1 +----+ 0
-//!   a --- 0  s  ----| t |--- b       a --- 0  #0  ---------| #1 |--- b
-//!                +2 +---+                               +2 +----+ +3  at +1
-//! ```
-//!
-//! The walks `+1` and `+2` both find switch t. Its ports count from the port by which the lesser walk enters it.
+//! It makes no map of a journal: `quotient` and `closed` are those of `map_quotient`, `canon` that of
+//! `map_renumber`. It prints no other line of a report. `specs/LineText.antt` of `run_defs` says what
+//! the lines of a map are; `specs/Declaring.antt` and `specs/Reading.antt` here say which texts are read, as which
+//! map, and what the first fault of others is.
 //!
 //! | module | has |
 //! |---|---|
-//! | `closing` | whether each class of switches has an expanded member |
-//! | `found` | the walks that found something |
-//! | `order` | the order of their nodes |
-//! | `numbering` | the vertex of each class |
-//! | `naming` | a map's vertices, from the least nodes of the classes |
-//! | `joining` | its cables, from the walks |
-//! | `cables` | cables in the order of a report |
-//! | `of_journal` | the map of a journal |
+//! | `growing` | the map of the lines so far, its switches found by number |
+//! | `declaring` | a line, and what it declares or its first fault |
+//! | `reading` | a text up to its line `endmap` |
+//! | `printing` | the lines of a map |
+//!
+//! ```text
+//!   host a                a -- 0 #0 +3 -- b      ports of #0 count from the one that a is at
+//!   switch #0 core
+//!   host b
+//!   cable a 0 #0 0
+//!   cable #0 +3 b 0
+//!   endmap
+//! ```
 #![tactic(auto)]
 
-mod cables;
-mod closing;
-mod found;
-mod joining;
-mod naming;
-mod numbering;
-mod of_journal;
-mod order;
+mod declaring;
+mod growing;
+mod printing;
+mod reading;
 
-pub use cables::add_in_order;
-pub use closing::closed;
+pub use fab_text::{FaultKind, TextFault};
 pub use fabric_map::{FabricMap, MapCable, MapVertex};
-pub use of_journal::quotient;
+pub use map_quotient::{closed, quotient};
+pub use map_renumber::canon;
+pub use printing::print_map;
+pub use reading::read_map;

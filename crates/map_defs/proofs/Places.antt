@@ -70,10 +70,10 @@ not_before_itself ls v = grind (arith, nat_tests)
 before-trans : (ls : List ℕ) (u v w : ℕ) → stands_before ls u v ≡ true → stands_before ls v w ≡ true → stands_before ls u w ≡ true
 before-trans ls u v w e f = grind (arith, nat_tests)
 
-before-total : (ls : List ℕ) (u v : ℕ) → u ≢ v → stands_before ls u v ≡ false → stands_before ls v u ≡ true
+pub before-total : (ls : List ℕ) (u v : ℕ) → u ≢ v → stands_before ls u v ≡ false → stands_before ls v u ≡ true
 before-total ls u v d e = grind (arith, nat_tests)
 
-place-rises : (ls : List ℕ) (u v : ℕ) → u < length ls → stands_before ls u v ≡ true → place_among ls u < place_among ls v
+pub place-rises : (ls : List ℕ) (u v : ℕ) → u < length ls → stands_before ls u v ≡ true → place_among ls u < place_among ls v
 place-rises ls u v l e = filter-strict (λ k. stands_before ls k u) (λ k. stands_before ls k v) (numbers_below (length ls)) u (λ k p. before-trans ls k u v p e) (number-member (length ls) u l) (not_before_itself ls u) e
 
 places-differ : (ls : List ℕ) (u v : ℕ) → u < length ls → v < length ls → u ≢ v → place_among ls u ≢ place_among ls v
@@ -83,7 +83,7 @@ places-differ ls u v l k d e = by (stands_before ls u v) refl
     by true p = let less = place-rises ls u v l p in omega arith
     by false p = let less = place-rises ls v u k (before-total ls u v d p) in omega arith
 
-place-below : (ls : List ℕ) (v : ℕ) → v < length ls → place_among ls v < length ls
+pub place-below : (ls : List ℕ) (v : ℕ) → v < length ls → place_among ls v < length ls
 place-below ls v l = let less = filter-less (λ k. stands_before ls k v) (numbers_below (length ls)) v (number-member (length ls) v l) (not_before_itself ls v) in let all = length-numbers (length ls) in omega arith
 
 places-order : (ls : List ℕ) → IsOrder (places_by ls) (length ls)

@@ -16,8 +16,8 @@ use Rattle.run_defs.specs.Circuit.IsCircuitTold.{whole, too_many_nodes}
 use Rattle.run_defs.specs.Output.{OneLine, MapLines}
 use Rattle.fab_report.specs.Printed.{PrintedState, printed_of}
 use Rattle.fab_report.specs.There.{IsHost}
-use Rattle.map_text.specs.Printing.{AreOfFabric}
-use Rattle.map_text.proofs.OfFabric.{each-of_fabric, host-of_fabric}
+use Rattle.map_canon.specs.Printing.{AreOfFabric}
+use Rattle.map_canon.proofs.OfFabric.{each-of_fabric, host-of_fabric}
 use Rattle.map_making.specs.Circuit.{circuit_pieces, IsCircuitPrinted}
 use Rattle.map_making.proofs.Hosts.{quotient-of_fabric}
 

@@ -11,7 +11,7 @@ use Rattle.journal_defs.specs.Truth.{IsTrueWhereFound}
 use Rattle.journal_defs.proofs.Standing.{host-stands, standing-there}
 use Rattle.map_defs.specs.NetMap.{NetMap}
 use Rattle.map_defs.specs.Quotient.{IsQuotient, named}
-use Rattle.map_text.specs.Printing.{IsOfFabric, AreOfFabric}
+use Rattle.map_canon.specs.Printing.{IsOfFabric, AreOfFabric}
 
 -- a host that has a port is one of the fabric
 host-below : (h count : ℕ) → nat_lt 0 (if nat_lt h count then 1 else 0) ≡ true → h < count

@@ -5,7 +5,7 @@ use Rattle.map_defs.specs.NetMap.{NetMap}
 use Rattle.map_defs.specs.Sameness.{IsMapOfPart}
 use Rattle.map_defs.proofs.Sameness.{same_map_is_right}
 use Rattle.map_laws.proofs.Alike.{marks_do_not_matter}
-use Rattle.map_text.specs.Printing.{AreOfFabric}
+use Rattle.map_canon.specs.Printing.{AreOfFabric}
 use Rattle.fabric_map.specs.Growing.{with_core}
 
 -- a map that is right stays right

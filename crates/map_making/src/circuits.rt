@@ -4,7 +4,7 @@ ghost use Rattle.std.specs.Prelude.{◌≡◌, ◌≤◌, IfOk};
 ghost use Rattle.circ_map.specs.Mapping.{IsMappedBy};
 ghost use Rattle.fab_report.specs.Printed.{printed_of};
 ghost use Rattle.fab_report.specs.There.{IsHost};
-ghost use Rattle.map_text.specs.Printing.{AreOfFabric};
+ghost use Rattle.map_canon.specs.Printing.{AreOfFabric};
 ghost use Rattle.map_making.specs.Circuit.{circuit_pieces, IsCircuitPrinted};
 
 use crate::lines::print_with_map;

@@ -3,14 +3,14 @@
 ghost use Rattle.std.specs.Prelude.{◌≡◌, ◌∷◌, [], IfOk};
 ghost use Rattle.fab_report.specs.Printed.{printed_of};
 ghost use Rattle.fab_report.specs.There.{IsHost, AreThere};
-ghost use Rattle.map_text.specs.Printing.{AreOfFabric};
+ghost use Rattle.map_canon.specs.Printing.{AreOfFabric};
 ghost use Rattle.run_defs.specs.Output.{OneLine, MapLines};
 ghost use Rattle.map_making.specs.Lines.{map_lines};
 
 use crate::making::MadeMap;
 use fab_report::Printed;
 use fabric_map::FabricMap;
-use map_text::print_map;
+use map_canon::print_map;
 use port_graph::Fabric;
 use run_defs::{Line, MapWords};
 use std::alloc::{AllocError, Global};

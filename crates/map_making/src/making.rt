@@ -8,7 +8,7 @@ ghost use Rattle.map_defs.specs.Sameness.{IsMapOfPart};
 ghost use Rattle.fabric_map.specs.Growing.{with_core};
 ghost use Rattle.mapper.specs.Ends.{IsEnd};
 ghost use Rattle.mapper.specs.Growths.{StopsShort};
-ghost use Rattle.map_text.specs.Printing.{AreOfFabric};
+ghost use Rattle.map_canon.specs.Printing.{AreOfFabric};
 ghost use Rattle.run_defs.specs.Mapped.{IsCalled};
 ghost use Rattle.map_making.specs.Made.{IsMade};
 

@@ -20,7 +20,7 @@ use Rattle.map_laws.proofs.Least.{below-get}
 use Rattle.fabric_map.proofs.Ends.{port-holds}
 use Rattle.map_renumber.specs.Canon.{entered, start_port}
 use Rattle.map_renumber.specs.Search.{HasNumber, turn_at, free, IsDone, IsBehind, IsSearch}
-use Rattle.map_canon.proofs.Places.{one-there, set-other, set-same, get-less, replicate-only}
+use Rattle.map_quotient.proofs.Places.{one-there, set-other, set-same, get-less, replicate-only}
 use Rattle.map_renumber.proofs.Levels.{far-back, near-both, turn-place, port-at}
 use Rattle.map_renumber.proofs.Finds.{free-set, free-replicate}
 

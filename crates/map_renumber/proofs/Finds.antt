@@ -8,7 +8,7 @@ use Rattle.journal_defs.specs.Tree.Node.{Mapper}
 use Rattle.map_defs.specs.NetMap.{NetMap, MapPort, IsMap, host_of_vertex, map_far}
 use Rattle.map_renumber.specs.Canon.{entered, start_port}
 use Rattle.map_renumber.specs.Search.{HasNumber, turn_at, after, free, IsDone, GoesOn, IsBehind, IsSearch}
-use Rattle.map_canon.proofs.Places.{one-there, push-cases, push-old, push-new, set-other, set-same, get-less}
+use Rattle.map_quotient.proofs.Places.{one-there, push-cases, push-old, push-new, set-other, set-same, get-less}
 use Rattle.map_laws.proofs.Least.{below-get}
 use Rattle.map_renumber.proofs.Levels.{at_start, enters-new, least-new, rising-new}
 

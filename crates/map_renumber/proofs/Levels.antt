@@ -19,7 +19,7 @@ use Rattle.fabric_map.proofs.Tables.{shift}
 use Rattle.map_renumber.proofs.Nodes.{node_below-irrefl, not_below, not_below-trans}
 use Rattle.map_renumber.specs.Canon.{entered, start_port}
 use Rattle.map_renumber.specs.Search.{HasNumber, turn_at, after, IsDone, GoesOn, IsBehind, IsSearch}
-use Rattle.map_canon.proofs.Places.{one-there, get-less}
+use Rattle.map_quotient.proofs.Places.{one-there, get-less}
 use Rattle.map_renumber.proofs.Ways.{after-below, after-later, after-self, turns-rise, led-on, came-from, CameFrom, IsWalkBy, no_turns, last, walk-by}
 use Rattle.map_laws.proofs.Least.{below-get, not_apart-nodes}
 

@@ -22,12 +22,12 @@ use Rattle.map_laws.proofs.Least.{below-get, get-map, named-length}
 use Rattle.map_laws.proofs.Listed.{all-ends}
 use Rattle.fabric_map.specs.Growing.{are_near, cable_refusal, is_near, may_have}
 use Rattle.fabric_map.proofs.Ends.{near-from, port-holds}
-use Rattle.map_canon.specs.Naming.{HaveOwnAddresses}
-use Rattle.map_canon.proofs.Joined.{ends-member, unused-port}
-use Rattle.map_canon.proofs.Ordered.{ends-differ}
-use Rattle.map_canon.proofs.Places.{get-less, one-there, place-member}
-use Rattle.map_canon.proofs.Taken.{not-full, taken}
-use Rattle.map_canon.proofs.Vertices.{map-place, named-switch, take-short, take-there}
+use Rattle.map_quotient.specs.Naming.{HaveOwnAddresses}
+use Rattle.map_quotient.proofs.Joined.{ends-member, unused-port}
+use Rattle.map_quotient.proofs.Ordered.{ends-differ}
+use Rattle.map_quotient.proofs.Places.{get-less, one-there, place-member}
+use Rattle.map_quotient.proofs.Taken.{not-full, taken}
+use Rattle.map_quotient.proofs.Vertices.{map-place, named-switch, take-short, take-there}
 use Rattle.map_renumber.specs.Canon.{start_port}
 use Rattle.map_renumber.specs.Search.{AreTaken, IsBehind, IsSearch, IsSearchTo, entry_of, moved_cable, moved_port, number_of, port_of_pair, turn_at, with_moved}
 use Rattle.map_renumber.proofs.Images.{host-one}

@@ -19,8 +19,8 @@ use Rattle.map_laws.proofs.OneMap.{AreRising, rising-one, rising-places}
 use Rattle.map_renumber.specs.Canon.{entered, IsLeastWay, IsPortOf, IsMoved, IsRenumbered, IsCanon}
 use Rattle.map_renumber.specs.Laws.{CanonIsOne, CanonStays}
 use Rattle.map_renumber.proofs.Nodes.{node_below-trans, node_below-irrefl}
-use Rattle.map_canon.proofs.Places.{one-there, get-less, place-member}
-use Rattle.map_canon.proofs.Vertices.{map-place}
+use Rattle.map_quotient.proofs.Places.{one-there, get-less, place-member}
+use Rattle.map_quotient.proofs.Vertices.{map-place}
 use Rattle.map_renumber.proofs.Images.{host-below, image_of, IsInside, entered-image, entered-inside}
 
 node-asym : (u v : Node) → node_below u v ≡ true → node_below v u ≡ true → ⊥

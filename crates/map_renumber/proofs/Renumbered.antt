@@ -14,13 +14,13 @@ use Rattle.map_defs.specs.Sameness.{IsSame, graph_of_map}
 use Rattle.map_defs.proofs.Ports.{far_is_cabled}
 use Rattle.map_laws.proofs.Least.{below-get, get-map, named-length, named-host}
 use Rattle.fabric_map.proofs.Ends.{port-holds}
-use Rattle.map_canon.specs.InOrder.{in_order}
+use Rattle.map_quotient.specs.InOrder.{in_order}
 use Rattle.map_renumber.specs.Canon.{start_port, IsPortOf, IsMoved, IsRenumbered, IsCanon, is_of_core}
 use Rattle.map_renumber.proofs.Levels.{far-back}
 use Rattle.map_renumber.specs.Search.{IsSearch, IsBehind, turn_at, number_of, entry_of, moved_port, moved_cable}
-use Rattle.map_canon.proofs.Places.{one-there, get-less}
-use Rattle.map_canon.proofs.Ordered.{below-in_order, ordered-only, ordered-each}
-use Rattle.map_canon.proofs.Vertices.{map-place}
+use Rattle.map_quotient.proofs.Places.{one-there, get-less}
+use Rattle.map_quotient.proofs.Ordered.{below-in_order, ordered-only, ordered-each}
+use Rattle.map_quotient.proofs.Vertices.{map-place}
 use Rattle.map_renumber.proofs.Covers.{all-found}
 
 moved_again : (p a : ℤ) → p ≡ (p -ℤ a) +ℤ a

@@ -19,11 +19,11 @@ use Rattle.fabric_map.proofs.Ends.{port-holds}
 use Rattle.fabric_map.proofs.Tables.{shift}
 use Rattle.map_renumber.specs.Canon.{start_port, is_of_core}
 use Rattle.map_renumber.specs.Search.{HasNumber, GoesOn, GoesOnFrom, IsBehind, IsSearch, IsSearchTo, IsKnown, after, turn_at, port_of_pair, entry_of}
-use Rattle.map_canon.proofs.Places.{one-there, push-old, get-less}
+use Rattle.map_quotient.proofs.Places.{one-there, push-old, get-less}
 use Rattle.map_renumber.proofs.Levels.{far-back}
 use Rattle.map_renumber.proofs.Finds.{search-skip, search-row, search-past, search-find}
 use Rattle.map_renumber.proofs.Covers.{search-begin, all-found}
-use Rattle.map_canon.proofs.Vertices.{map-place}
+use Rattle.map_quotient.proofs.Vertices.{map-place}
 
 -- what was read by an index stands there
 pub read-there : {X : Type 0} (xs : List X) (n : ℕ) (x : X) → n < length xs → x ≡ get_or xs n x → slice_get xs n ≡ Some x

@@ -3,7 +3,7 @@
 ghost use Rattle.std.specs.Prelude.{◌≡◌, ◌<◌, ◌^◌, ℕ, ℤ, map as map_list, length, None, IfOk, OnOk};
 ghost use Rattle.map_defs.specs.NetMap.{host_of_vertex};
 ghost use Rattle.map_defs.specs.Quotient.{named};
-ghost use Rattle.map_canon.specs.Naming.{HaveOwnAddresses, vertex_refusal};
+ghost use Rattle.map_quotient.specs.Naming.{HaveOwnAddresses, vertex_refusal};
 ghost use Rattle.map_renumber.specs.Canon.{is_of_core};
 ghost use Rattle.map_renumber.specs.Naming.{bare_map, with_vertex};
 

@@ -11,7 +11,7 @@ ghost use Rattle.map_renumber.specs.Search.{IsKnown, AreTaken, port_of_pair, mov
 use crate::naming::vertices_of;
 use crate::search::{Search, searched};
 use fabric_map::{FabricMap, MapCable, MapFault};
-use map_canon::add_in_order;
+use map_quotient::put_in_order;
 use std::alloc::{AllocError, Global};
 
 /// The map with its vertices, and their marks, in the order of their least walks from vertex 0, the ports of each
@@ -25,10 +25,9 @@ pub fn canon(alloc: Global, m: &FabricMap) -> Result<FabricMap, AllocError>
 {
     let _ = m.cables();
     let search = searched(alloc, m)?;
-    let mut loose = vertices_of(alloc, m, &search.found)?;
-    move_cables(&mut loose, m, &search)?;
     let mut map = vertices_of(alloc, m, &search.found)?;
-    add_in_order(&mut map, &loose)?;
+    move_cables(&mut map, m, &search)?;
+    put_in_order(alloc, &mut map)?;
     Ok(map)
 }
 

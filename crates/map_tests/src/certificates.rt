@@ -14,11 +14,17 @@ const fn rank(v: u32, p: i8, rank: u64) -> RankEntry {
 }
 
 // Host 0 at #0, which leads by port -2 to #1, and host 1 at port -1 of that: a part of the ring of four.
-fn chain(alloc: Global) -> Result<FabricMap, MapFault> {
+fn chain(alloc: Global) -> Option<FabricMap> {
     let mut map = FabricMap::new(alloc);
-    put_vertices(&mut map)?;
-    put_cables(&mut map)?;
-    Ok(map)
+    match fill(&mut map) {
+        Ok(()) => Some(map),
+        Err(_) => None,
+    }
+}
+
+fn fill(map: &mut FabricMap) -> Result<(), MapFault> {
+    put_vertices(map)?;
+    put_cables(map)
 }
 
 fn put_vertices(map: &mut FabricMap) -> Result<(), MapFault> {
@@ -57,9 +63,23 @@ fn ranks(alloc: Global, last: u64) -> Result<Ranks, AllocError> {
 
 // What the check answers to the route of these turns under ranks.
 fn told(alloc: Global, turns: &[i8], ranks: &Ranks) -> Option<Result<(), CheckFault>> {
-    let map = chain(alloc).ok()?;
-    let routes = route(alloc, turns).ok()?;
-    Some(check(&map, &routes, ranks))
+    match chain(alloc) {
+        Some(map) => told_over(alloc, &map, turns, ranks),
+        None => None,
+    }
+}
+
+// The same over a map.
+fn told_over(
+    alloc: Global,
+    map: &FabricMap,
+    turns: &[i8],
+    ranks: &Ranks,
+) -> Option<Result<(), CheckFault>> {
+    match route(alloc, turns) {
+        Ok(routes) => Some(check(map, &routes, ranks)),
+        Err(_) => None,
+    }
 }
 
 // The same under the ranks whose last is given.

@@ -4,15 +4,23 @@ use crate::fabrics::{SELF_CABLED, TWO_HOSTS, fabric_of};
 use circ_ears::{EarList, ears};
 use circ_link::circ_place;
 use net_defs::Place;
+use port_graph::Fabric;
 use std::alloc::Global;
 
 // Where a walk of host 0 ends, over links that let go and over circuit links.
 fn places(alloc: Global, text: &str, turns: &[i8]) -> Option<(Place, Place)> {
+    match fabric_of(alloc, text) {
+        Some(fabric) => places_over(&fabric, turns),
+        None => None,
+    }
+}
+
+// The same over a fabric.
+fn places_over(fabric: &Fabric, turns: &[i8]) -> Option<(Place, Place)> {
     if turns.len() > 64 {
         return None;
     }
-    let fabric = fabric_of(alloc, text)?;
-    Some((fabric.walk(0, turns), circ_place(&fabric, 0, turns)))
+    Some((fabric.walk(0, turns), circ_place(fabric, 0, turns)))
 }
 
 #[test]
@@ -34,9 +42,18 @@ fn are_two_hosts(paths: &EarList) -> bool {
 
 // Whether the paths of the core of a fabric's host 0 are these.
 fn has_two_hosts(alloc: Global, text: &str) -> Option<bool> {
-    let fabric = fabric_of(alloc, text)?;
-    let paths = ears(alloc, &fabric, 0).ok()?;
-    Some(are_two_hosts(&paths))
+    match fabric_of(alloc, text) {
+        Some(fabric) => has_paths(alloc, &fabric),
+        None => None,
+    }
+}
+
+// The same over a fabric.
+fn has_paths(alloc: Global, fabric: &Fabric) -> Option<bool> {
+    match ears(alloc, fabric, 0) {
+        Ok(paths) => Some(are_two_hosts(&paths)),
+        Err(_) => None,
+    }
 }
 
 #[test]

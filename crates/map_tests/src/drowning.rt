@@ -18,11 +18,20 @@ fn asked_twice(alloc: Global, fabric: &Fabric, walk: &Walk) -> Option<(Answer, A
     Some((told, drowned, prober.drowned()))
 }
 
-// The same of the walk of one turn from host 0.
+// The same of the walk of one turn.
+fn asked_by_turn(alloc: Global, fabric: &Fabric, turn: i8) -> Option<(Answer, Answer, u64)> {
+    match Walk::new(alloc, &[turn]) {
+        Ok(walk) => asked_twice(alloc, fabric, &walk),
+        Err(_) => None,
+    }
+}
+
+// The same over the fabric of a text, from host 0.
 fn asked_by_one_turn(alloc: Global, text: &str, turn: i8) -> Option<(Answer, Answer, u64)> {
-    let fabric = fabric_of(alloc, text)?;
-    let walk = Walk::new(alloc, &[turn]).ok()?;
-    asked_twice(alloc, &fabric, &walk)
+    match fabric_of(alloc, text) {
+        Some(fabric) => asked_by_turn(alloc, &fabric, turn),
+        None => None,
+    }
 }
 
 #[test]

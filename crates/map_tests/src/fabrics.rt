@@ -17,13 +17,8 @@ pub(crate) fn fabric_of(alloc: Global, text: &str) -> Option<Fabric> {
     Some(read.fabric)
 }
 
-pub(crate) const ONE_CABLE: &str = "host a\nhost b\ncable a 0 b 0\nscript\n";
-
 pub(crate) const TWO_HOSTS: &str =
     "host a\nhost b\nswitch s 8\ncable a 0 s 2\ncable b 0 s 5\nscript\n";
-
-pub(crate) const PARALLEL: &str = "host a\nhost b\nswitch s 8\nswitch t 8\n\
-    cable a 0 s 0\ncable s 1 t 3\ncable s 2 t 6\ncable b 0 t 4\nscript\n";
 
 pub(crate) const SELF_CABLED: &str = "host a\nhost b\nswitch s 4\nswitch t 4\n\
     cable a 0 s 0\ncable b 0 s 1\ncable s 3 t 0\ncable t 1 t 2\nscript\n";

@@ -1,9 +1,8 @@
-//! Tests of probers, classes, maps and certificates in calls that no worked text reaches. Nothing stands on it.
+//! Tests of probers, maps and certificates in calls that no worked text reaches. Nothing stands on it.
 //!
 //! | module | has |
 //! |---|---|
 //! | `drowning` | a prober whose chosen asks drown |
-//! | `classes` | the classes of two small journals |
 //! | `numbering` | the numbering of a map |
 //! | `certificates` | what the check of a certificate answers |
 //! | `circuits` | a walk over circuit links, and the paths of a core |
@@ -15,8 +14,6 @@
 mod certificates;
 #[cfg(test)]
 mod circuits;
-#[cfg(test)]
-mod classes;
 #[cfg(test)]
 mod drowning;
 #[cfg(test)]

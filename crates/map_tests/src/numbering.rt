@@ -1,6 +1,6 @@
 //! The numbering of a map.
 
-ghost use Rattle.std.specs.Prelude.{◌≡◌, ℕ, [], Some, IfOk};
+ghost use Rattle.std.specs.Prelude.{◌≡◌, ℕ, [], Some, IfOk, OnOk};
 ghost use Rattle.map_defs.specs.NetMap.{IsConnected, host_of_vertex};
 ghost use Rattle.map_renumber.specs.Examples.{ring_map};
 
@@ -14,34 +14,57 @@ const fn cable(v: u32, p: i8, w: u32, q: i8) -> MapCable
     MapCable { v, p, w, q }
 }
 
-// A host and four switches.
-fn vertices(alloc: Global) -> Result<FabricMap, MapFault>
-    ensures { IfOk result (λ m. m ≡ record {
+// Puts a host and four switches into a map that has nothing.
+fn put_vertices(map: &mut FabricMap) -> Result<(), MapFault>
+    requires empty { map.old ≡ record { vertices = []; cables = []; core = [] } }
+    ensures { OnOk result (map.new ≡ record {
       vertices = ring_map.vertices;
       cables = [];
       core = ring_map.core;
     }) }
 {
-    let mut map = FabricMap::new(alloc);
     map.add_host(0)?;
     map.add_switch(true)?;
     map.add_switch(true)?;
     map.add_switch(true)?;
     map.add_switch(true)?;
-    Ok(map)
+    Ok(())
+}
+
+// Puts the cables of the ring into the map of its vertices.
+fn put_cables(map: &mut FabricMap) -> Result<(), MapFault>
+    requires bare { map.old ≡ record {
+      vertices = ring_map.vertices;
+      cables = [];
+      core = ring_map.core;
+    } }
+    ensures { OnOk result (map.new ≡ ring_map) }
+{
+    map.add_cable(cable(0, 0, 1, 0))?;
+    map.add_cable(cable(1, -2, 2, 0))?;
+    map.add_cable(cable(1, -1, 3, 0))?;
+    map.add_cable(cable(2, -1, 4, 0))?;
+    map.add_cable(cable(3, 1, 4, -1))?;
+    Ok(())
+}
+
+fn fill(map: &mut FabricMap) -> Result<(), MapFault>
+    requires empty { map.old ≡ record { vertices = []; cables = []; core = [] } }
+    ensures { OnOk result (map.new ≡ ring_map) }
+{
+    put_vertices(map)?;
+    put_cables(map)
 }
 
 // A host at a ring of four switches, as its mapper numbers them.
 fn ring(alloc: Global) -> Result<FabricMap, MapFault>
     ensures { IfOk result (λ m. m ≡ ring_map) }
 {
-    let mut map = vertices(alloc)?;
-    map.add_cable(cable(0, 0, 1, 0))?;
-    map.add_cable(cable(1, -2, 2, 0))?;
-    map.add_cable(cable(1, -1, 3, 0))?;
-    map.add_cable(cable(2, -1, 4, 0))?;
-    map.add_cable(cable(3, 1, 4, -1))?;
-    Ok(map)
+    let mut map = FabricMap::new(alloc);
+    match fill(&mut map) {
+        Ok(()) => Ok(map),
+        Err(fault) => Err(fault),
+    }
 }
 
 // Whether a map is its own canon.

@@ -1,11 +1,13 @@
 //! A fabric and a map, read and printed; the bridges of a map.
 
+ghost use Rattle.map_canon.specs.Printing.{AreOfFabric};
+
 use crate::fabrics::{SELF_CABLED, TWO_HOSTS, fabric_of};
 use core_map::switch_bridges;
 use fab_text::{FaultKind, TextFault};
-use fabric_file::{print_fabric, read_fabric};
+use fabric_file::print_fabric;
 use fabric_map::FabricMap;
-use map_text::{print_map, read_map};
+use map_canon::{print_map, read_map};
 use port_graph::Fabric;
 use std::alloc::Global;
 
@@ -19,12 +21,18 @@ const SELF_CABLED_MAP: &str = "host a\nswitch #0 core\nhost b\nswitch #1 outside
 
 // Whether the fabric of a text is printed as the text's lines but the last.
 fn is_fabric_printed(alloc: Global, text: &str) -> Option<bool> {
-    if text.len() > 1000 {
-        return None;
+    match fabric_of(alloc, text) {
+        Some(fabric) => is_printed(alloc, &fabric, text),
+        None => None,
     }
-    let read = read_fabric(alloc, text.as_bytes()).ok()?;
-    let printed = print_fabric(alloc, &read.fabric).ok()?;
-    Some(Some(printed.as_slice()) == text.as_bytes().strip_suffix(b"script\n"))
+}
+
+// Whether a fabric is printed so.
+fn is_printed(alloc: Global, fabric: &Fabric, text: &str) -> Option<bool> {
+    match print_fabric(alloc, fabric) {
+        Ok(printed) => Some(Some(printed.as_slice()) == text.as_bytes().strip_suffix(b"script\n")),
+        Err(_) => None,
+    }
 }
 
 #[test]
@@ -37,8 +45,22 @@ fn is_map_printed(alloc: Global, fabric: &Fabric, text: &str) -> Result<bool, Te
     if text.len() > 1000 {
         return Ok(false);
     }
-    let map = read_map(alloc, text.as_bytes(), fabric)?;
-    match print_map(alloc, &map, fabric) {
+    match read_map(alloc, text.as_bytes(), fabric) {
+        Ok(map) => is_printed_as(alloc, &map, fabric, text),
+        Err(fault) => Err(fault),
+    }
+}
+
+// Whether a map of a fabric is printed as a text.
+fn is_printed_as(
+    alloc: Global,
+    map: &FabricMap,
+    fabric: &Fabric,
+    text: &str,
+) -> Result<bool, TextFault>
+    requires { AreOfFabric fabric.now map.now }
+{
+    match print_map(alloc, map, fabric) {
         Ok(printed) => Ok(printed.as_slice() == text.as_bytes()),
         Err(_) => Err(TextFault::NoMemory),
     }
@@ -46,8 +68,10 @@ fn is_map_printed(alloc: Global, fabric: &Fabric, text: &str) -> Result<bool, Te
 
 // The same over the fabric of a text.
 fn is_printed_back(alloc: Global, fabric: &str, text: &str) -> Option<Result<bool, TextFault>> {
-    let fabric = fabric_of(alloc, fabric)?;
-    Some(is_map_printed(alloc, &fabric, text))
+    match fabric_of(alloc, fabric) {
+        Some(fabric) => Some(is_map_printed(alloc, &fabric, text)),
+        None => None,
+    }
 }
 
 #[test]
@@ -60,20 +84,36 @@ fn a_map_is_read_and_printed_back(rt: HostRuntime) {
     assert!(rt; is_printed_back(rt.alloc(), TWO_HOSTS, WITHOUT_END) == Some(Err(endless)));
 }
 
-// The map of a text over the fabric of another.
-fn map_of(alloc: Global, fabric: &str, text: &str) -> Option<FabricMap> {
+// The map of a text over a fabric.
+fn map_over(alloc: Global, fabric: &Fabric, text: &str) -> Option<FabricMap> {
     if text.len() > 1000 {
         return None;
     }
-    let fabric = fabric_of(alloc, fabric)?;
-    read_map(alloc, text.as_bytes(), &fabric).ok()
+    read_map(alloc, text.as_bytes(), fabric).ok()
 }
 
-// Whether the third cable of that map is its one bridge between switches.
+// Whether the third cable of a map is its one bridge between switches.
+fn has_third_bridge(alloc: Global, map: &FabricMap) -> Option<bool> {
+    match switch_bridges(alloc, map) {
+        Ok(bridges) => Some(bridges.as_slice() == [2].as_slice()),
+        Err(_) => None,
+    }
+}
+
+// The same of the map of a text over a fabric.
+fn has_third_bridge_over(alloc: Global, fabric: &Fabric, text: &str) -> Option<bool> {
+    match map_over(alloc, fabric, text) {
+        Some(map) => has_third_bridge(alloc, &map),
+        None => None,
+    }
+}
+
+// The same over the fabric of another text.
 fn is_third_bridge(alloc: Global, fabric: &str, text: &str) -> Option<bool> {
-    let map = map_of(alloc, fabric, text)?;
-    let bridges = switch_bridges(alloc, &map).ok()?;
-    Some(bridges.as_slice() == [2].as_slice())
+    match fabric_of(alloc, fabric) {
+        Some(fabric) => has_third_bridge_over(alloc, &fabric, text),
+        None => None,
+    }
 }
 
 #[test]

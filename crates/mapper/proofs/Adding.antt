@@ -1,6 +1,6 @@
 -- What one ask adds to a tree.
 use Rattle.std.proofs.Common.{◌≡◌, ◌≢◌, ◌<◌, ◌≤◌, ◌+◌, ℕ, List, [], ◌∷◌, ◌++◌, length, sym, ◌∙◌, subst, ap, refl, arith, append_assoc, append-nil, to_z, of_z, w8, inl, inr}
-use Rattle.std.specs.Prelude.{ℤ, Result, Ok, Err, OnErr, Option, Some, IfSome}
+use Rattle.std.specs.Prelude.{ℤ, Result, Ok, Err, OnOk, OnErr, Option, Some, IfSome}
 use Rattle.std.proofs.lemmas.Int.{ints}
 use Rattle.net_defs.specs.Turn.{IsTurn}
 use Rattle.net_defs.specs.declared.place.Answer.{Answer}
@@ -132,6 +132,15 @@ as-asked S asked m n h host v w t new s after l now p q r ask = subst (λ u. IsA
 pub on-err : {T E P : Type 0} (r : Result T E) → P → OnErr r P
 on-err (Ok x) p = tt
 on-err (Err e) p = p
+
+-- what is known of a result goes on
+pub ok-then : {T E P Q : Type 0} (r : Result T E) → (P → Q) → OnOk r P → OnOk r Q
+ok-then (Ok x) f p = f p
+ok-then (Err e) f p = tt
+
+pub err-then : {T E P Q : Type 0} (r : Result T E) → (P → Q) → OnErr r P → OnErr r Q
+err-then (Ok x) f p = tt
+err-then (Err e) f p = f p
 
 -- a walk with a turn more, as the turn was kept in a byte
 pub walk-turn : (front w : List ℤ) (r t : ℤ) → IsTurn r → w ≡ front ++ to_z w8 (of_z w8 r) ∷ [] → r ≡ t → w ≡ front ++ t ∷ []

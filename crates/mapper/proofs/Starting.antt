@@ -3,16 +3,18 @@ use Rattle.std.proofs.Common.{◌≡◌, ◌<◌, ◌≤◌, ◌+◌, ℕ, List,
 use Rattle.std.specs.Prelude.{ℤ, nat_lt}
 use Rattle.std.proofs.lemmas.Bool.Decides.{nat_tests}
 use Rattle.net_defs.specs.declared.place.Answer.{Answer}
-use Rattle.net_defs.specs.Network.{Network}
+use Rattle.net_defs.specs.Network.{Network, IsFabric}
 use Rattle.net_defs.specs.Route.{answer}
 use Rattle.journal_defs.specs.declared.entry.Entry.{Entry}
-use Rattle.journal_defs.specs.Tree.{is_asked, is_found, nodes}
+use Rattle.journal_defs.specs.Tree.{IsJournal, is_asked, is_found, nodes}
+use Rattle.journal_defs.specs.Truth.{IsTrueWhereFound}
 use Rattle.journal_defs.specs.Growth.{IsGrowing, IsBegun, IsEndedByDepth, IsEndedAtLimit}
 use Rattle.journal_defs.specs.Growth.IsGrowing.{nothing}
 use Rattle.journal_defs.specs.Growth.NextAsk.{first}
 use Rattle.growth_laws.proofs.Keeping.{asked-last}
 use Rattle.growth_laws.proofs.Asks.{first-unbegun}
-use Rattle.mapper.specs.Growths.{GrowsBy, StopsShort, IsLostAsk, IsAsk, HasGrown, IsSettled, IsWhole}
+use Rattle.class_joins.specs.Table.{StandsFor}
+use Rattle.mapper.specs.Growths.{GrowsBy, StopsShort, IsLostAsk, IsAsk, HasGrown, IsNextWalk, IsStarted, IsBareTree, IsWhole}
 use Rattle.mapper.specs.declared.tree.Tree.{Tree}
 use Rattle.mapper.proofs.Growing.{nodes-push, grows-none, grows-join, grows-ask, stops-between, stops-lost, stops-later}
 
@@ -20,16 +22,20 @@ few-found : (b : Bool) → (if b then 1 else 0) ≤ 1
 few-found true = omega arith
 few-found false = omega arith
 
--- A tree after the first ask.
-pub record IsStarted (S : Type 0) (asked : S → List ℤ → Answer → S → Type 0) (n : Network) (host depth : ℕ) (before : S) (lost : ℕ) (t : Tree) (after : S) (now : ℕ) : Type 0 where
-  pub at_host : t.journal.host ≡ host
-  pub to_depth : t.depth ≡ depth
-  pub settled : IsSettled t 0
-  pub grown : GrowsBy S asked n host depth [] before lost t.journal.entries after now
+-- the empty walk may be asked first
+pub first-next : (n : Network) (host depth : ℕ) (t : Tree) (w : List ℤ) → IsBareTree host depth t → IsFabric n → w ≡ [] → IsNextWalk n host t w
+first-next n host depth t w b f empty = record {
+  same_host = b.at_host;
+  stands = subst (λ j. StandsFor host j t.classes) (sym b.empty) b.stands;
+  told = record { is_fabric = f; told = subst (IsTrueWhereFound n host) (sym b.empty) tt };
+  once = subst IsJournal (sym b.empty) tt;
+  fresh = ap (λ j. is_asked j w) b.empty;
+  few = (let e : length t.journal.entries ≡ 0 = ap length b.empty in omega arith);
+}
 
 module _ (S : Type 0) (asked : S → List ℤ → Answer → S → Type 0) (n : Network) (host depth : ℕ) (before after : S) (lost now : ℕ) where
-  pub started : (old new : Tree) (w : List ℤ) → old.journal.host ≡ host → old.journal.entries ≡ [] → old.nodes ≡ 1 → old.depth ≡ depth → w ≡ [] → IsAsk S asked (answer n host w) before lost w old new after now → lost ≤ now → IsStarted S asked n host depth before lost new after now
-  started old new w h none one d empty ask later = record {
+  pub started : (old new : Tree) (w : List ℤ) → IsBareTree host depth old → w ≡ [] → IsAsk S asked (answer n host w) before lost w old new after now → lost ≤ now → IsStarted S asked n host depth before lost new after now
+  started old new w bare empty ask later = record {
     at_host = new_host;
     to_depth = new_depth;
     settled = record {
@@ -46,16 +52,16 @@ module _ (S : Type 0) (asked : S → List ℤ → Answer → S → Type 0) (n : 
       e = record { walk = w; answer = ask.told }
 
       new_host : new.journal.host ≡ host
-      new_host = ap (λ (t : Tree). t.journal.host) ask.grown.kept ∙ h
+      new_host = ap (λ (t : Tree). t.journal.host) ask.grown.kept ∙ bare.at_host
 
       new_depth : new.depth ≡ depth
-      new_depth = ap (λ (t : Tree). t.depth) ask.grown.kept ∙ d
+      new_depth = ap (λ (t : Tree). t.depth) ask.grown.kept ∙ bare.to_depth
 
       entries : new.journal.entries ≡ e ∷ []
-      entries = ap (λ (t : Tree). t.journal.entries) ask.grown.kept ∙ ap (λ i. i ++ e ∷ []) none
+      entries = ap (λ (t : Tree). t.journal.entries) ask.grown.kept ∙ ap (λ i. i ++ e ∷ []) bare.empty
 
       nodes_are : new.nodes ≡ 1 + (if is_found ask.told then 1 else 0)
-      nodes_are = ap (λ (t : Tree). t.nodes) ask.grown.kept ∙ ap (λ k. k + (if is_found ask.told then 1 else 0)) one
+      nodes_are = ap (λ (t : Tree). t.nodes) ask.grown.kept ∙ ap (λ k. k + (if is_found ask.told then 1 else 0)) bare.one
 
       grown : GrowsBy S asked n host depth [] before lost (e ∷ []) after now
       grown = grows-ask S asked n host depth [] before after lost now w ask.told (nothing) (first refl empty) ask.as_asked ask.is_true later

@@ -1,6 +1,6 @@
 -- How a journal grows by what a prober answers.
 use Rattle.std.specs.Prelude.{◌≡◌, ◌⊎◌, ℕ, ◌+◌, ◌<◌, ◌≤◌, ℤ, true, false, List, [], ◌++◌, length, slice_get, Some}
-use Rattle.std.specs.Prelude.{if◌then◌else◌}
+use Rattle.std.specs.Prelude.{if◌then◌else◌, nat_lt}
 use Rattle.net_defs.specs.declared.place.Answer.{Answer}
 use Rattle.net_defs.specs.declared.place.Answer.TheVariants.{Switch}
 use Rattle.net_defs.specs.Network.{Network, IsFabric}
@@ -17,6 +17,7 @@ use Rattle.replicate_merge.specs.Next.{IsNext}
 use Rattle.class_joins.specs.Table.{ClassTable, StandsFor}
 use Rattle.mapper.specs.Asks.{AreAsked}
 use Rattle.mapper.specs.Finding.{IsOpenEntry}
+use Rattle.mapper.specs.declared.growth.Grown.{Grown}
 use Rattle.mapper.specs.declared.tree.Tree.{Tree}
 
 -- A journal grows by entries, and the prober was asked just these.
@@ -145,3 +146,31 @@ pub record IsWalkAt (j : List Entry) (place : ℕ) (w : List ℤ) : Type 0 where
   pub entry : Entry
   pub there : slice_get j place ≡ Some entry
   pub walk : entry.walk ≡ w
+
+-- A tree before its first ask.
+pub record IsBareTree (host depth : ℕ) (t : Tree) : Type 0 where
+  pub at_host : t.journal.host ≡ host
+  pub empty : t.journal.entries ≡ []
+  pub one : t.nodes ≡ 1
+  pub to_depth : t.depth ≡ depth
+  pub stands : StandsFor host [] t.classes
+
+-- A tree after the first ask.
+pub record IsStarted (S : Type 0) (asked : S → List ℤ → Answer → S
+    → Type 0) (n : Network) (host depth : ℕ) (before : S) (lost : ℕ) (t : Tree) (after : S) (now : ℕ) : Type 0 where
+  pub at_host : t.journal.host ≡ host
+  pub to_depth : t.depth ≡ depth
+  pub settled : IsSettled t 0
+  pub grown : GrowsBy S asked n host depth [] before lost t.journal.entries after now
+
+-- A tree that has grown to its depth, for which the prober was asked.
+pub record IsGrownTree (S : Type 0) (asked : S → List ℤ → Answer → S
+    → Type 0) (n : Network) (host depth : ℕ) (before : S) (lost : ℕ) (t : Tree) (after : S) (now : ℕ) : Type 0 where
+  pub at_host : t.journal.host ≡ host
+  pub to_depth : t.depth ≡ depth
+  pub whole : IsWhole t
+  pub grown : GrowsBy S asked n host depth [] before lost t.journal.entries after now
+
+-- what a tree has grown to
+abbrev pub grown_of : Tree → Grown
+grown_of t = record { journal = t.journal; classes = t.classes; at_limit = nat_lt node_limit t.nodes }

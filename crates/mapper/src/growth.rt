@@ -7,7 +7,7 @@ ghost use Rattle.journal_defs.specs.Truth.{IsTrueJournal, IsTrueWhereFound};
 ghost use Rattle.net_defs.specs.Network.{IsFabric};
 ghost use Rattle.class_joins.specs.Table.{StandsFor};
 ghost use Rattle.mapper.specs.Asks.{AreAsked};
-ghost use Rattle.mapper.specs.Growths.{GrowsBy, StopsShort, IsSettled};
+ghost use Rattle.mapper.specs.Growths.{StopsShort, IsBareTree, IsGrownTree, IsStarted, grown_of};
 
 use crate::asking::ask;
 use crate::sweep::expand_next;
@@ -52,26 +52,71 @@ pub fn grow<P: Prober>(alloc: Global, p: &mut P, depth: u8) -> Result<Grown, All
     ensures same_mapper { P.mapper p.new ≡ P.mapper p.old }
     ensures stays_ready { OnOk result (P.ready p.new) }
 {
-    let mut tree = started(alloc, p, depth)?;
-    let mut next = 0;
-    'growing: while expand_next(alloc, p, &mut tree, &mut next)? {}
-    let at_limit = tree.nodes > NODE_LIMIT;
-    Ok(Grown {
-        journal: tree.journal,
-        classes: tree.classes,
-        at_limit,
+    let host = p.host();
+    let mut tree = bare_tree(alloc, host, depth)?;
+    match grow_tree(alloc, p, &mut tree) {
+        Ok(()) => Ok(grown_of(tree)),
+        Err(_) => Err(lost(tree)),
+    }
+}
+
+// The tree of a host before its first ask.
+fn bare_tree(alloc: Global, host: u16, depth: u8) -> Result<Tree, AllocError>
+    ensures { IfOk result (λ t. IsBareTree host depth t) }
+{
+    let classes = Classes::new(alloc, host)?;
+    Ok(Tree {
+        journal: Journal::new(alloc, host),
+        classes,
+        nodes: 1,
+        depth,
     })
 }
 
-// The tree after the first ask, of the empty walk.
-fn started<P: Prober>(alloc: Global, p: &mut P, depth: u8) -> Result<Tree, AllocError>
+// What a tree has grown to.
+fn grown_of(tree: Tree) -> Grown
+    ensures { result ≡ grown_of tree }
+{
+    Grown {
+        journal: tree.journal,
+        classes: tree.classes,
+        at_limit: tree.nodes > NODE_LIMIT,
+    }
+}
+
+// The end of a tree whose growth wanted memory. It ends here, since a proof goes through all its parts.
+fn lost(tree: Tree) -> AllocError {
+    let _tree = tree;
+    AllocError
+}
+
+// Asks the empty walk, and then expands one node after another.
+fn grow_tree<P: Prober>(alloc: Global, p: &mut P, tree: &mut Tree) -> Result<(), AllocError>
+    requires shallow { tree.old.depth ≤ 32 }
     requires is_ready { P.ready p.old }
-    ensures host { IfOk result (λ t. t.journal.host ≡ P.mapper p.old) }
-    ensures depth { IfOk result (λ t. t.depth ≡ depth) }
-    ensures settled { IfOk result (λ t. IsSettled t 0) }
-    ensures grown { IfOk result (λ t. GrowsBy P.State P.asked (P.fabric p.old) (P.mapper p.old) depth []
-        (P.state p.old) (P.lost p.old) t.journal.entries (P.state p.new) (P.lost p.new)) }
-    ensures stopped { OnErr result (StopsShort P.State P.asked P.cut (P.mapper p.old) depth [] (P.state p.old)
+    requires bare { IsBareTree (P.mapper p.old) tree.old.depth tree.old }
+    ensures grown { OnOk result (IsGrownTree P.State P.asked (P.fabric p.old) (P.mapper p.old) tree.old.depth
+        (P.state p.old) (P.lost p.old) tree.new (P.state p.new) (P.lost p.new)) }
+    ensures stopped { OnErr result (StopsShort P.State P.asked P.cut (P.mapper p.old) tree.old.depth [] (P.state p.old)
+        (P.state p.new)) }
+    ensures later { P.lost p.old ≤ P.lost p.new }
+    ensures same_fabric { P.fabric p.new ≡ P.fabric p.old }
+    ensures same_mapper { P.mapper p.new ≡ P.mapper p.old }
+    ensures stays_ready { OnOk result (P.ready p.new) }
+{
+    start(alloc, p, tree)?;
+    let mut next = 0;
+    'growing: while expand_next(alloc, p, tree, &mut next)? {}
+    Ok(())
+}
+
+// Asks the empty walk.
+fn start<P: Prober>(alloc: Global, p: &mut P, tree: &mut Tree) -> Result<(), AllocError>
+    requires is_ready { P.ready p.old }
+    requires bare { IsBareTree (P.mapper p.old) tree.old.depth tree.old }
+    ensures started { OnOk result (IsStarted P.State P.asked (P.fabric p.old) (P.mapper p.old) tree.old.depth
+        (P.state p.old) (P.lost p.old) tree.new (P.state p.new) (P.lost p.new)) }
+    ensures stopped { OnErr result (StopsShort P.State P.asked P.cut (P.mapper p.old) tree.old.depth [] (P.state p.old)
         (P.state p.new)) }
     ensures one_fabric { IsFabric (P.fabric p.old) }
     ensures later { P.lost p.old ≤ P.lost p.new }
@@ -79,15 +124,7 @@ fn started<P: Prober>(alloc: Global, p: &mut P, depth: u8) -> Result<Tree, Alloc
     ensures same_mapper { P.mapper p.new ≡ P.mapper p.old }
     ensures stays_ready { OnOk result (P.ready p.new) }
 {
-    let host = p.host();
-    let classes = Classes::new(alloc, host)?;
-    let mut tree = Tree {
-        journal: Journal::new(alloc, host),
-        classes,
-        nodes: 1,
-        depth,
-    };
+    let _host = p.host();
     let walk = empty_walk(alloc)?;
-    ask(alloc, p, &mut tree, walk)?;
-    Ok(tree)
+    ask(alloc, p, tree, walk)
 }

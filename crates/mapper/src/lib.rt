@@ -31,6 +31,6 @@ mod tree;
 mod walks;
 
 pub use growth::{Grown, grow};
-pub use map_canon::FabricMap;
+pub use map_quotient::FabricMap;
 pub use mapping::{MapEnd, Mapped, map};
 pub use walks::{TURNS, empty_walk, turn_at};

@@ -13,7 +13,7 @@ ghost use Rattle.mapper.specs.Ends.{IsEnd, IsOneDeeper};
 ghost use Rattle.mapper.specs.Growths.{StopsShort};
 
 use crate::growth::{Grown, grow};
-use map_canon::{FabricMap, closed, quotient};
+use map_quotient::{FabricMap, closed, quotient};
 use probe::{Journal, Prober};
 use std::alloc::{AllocError, Global};
 
@@ -71,25 +71,35 @@ pub fn map<P: Prober>(alloc: Global, p: &mut P, depth: u8) -> Result<Mapped, All
 {
     let _host = p.host();
     let grown = grow(alloc, p, depth)?;
-    let (map, end) = map_of(alloc, &grown)?;
+    let mapped = with_map(alloc, grown)?;
+    Ok(mapped)
+}
+
+// A journal that has grown, with its map and its end.
+fn with_map(alloc: Global, grown: Grown) -> Result<Mapped, AllocError>
+    requires stands { StandsFor grown.journal.host grown.journal.entries grown.classes }
+    requires true_of_one { IsTrueOfOne grown.journal.host grown.journal.entries }
+    requires few { length grown.journal.entries < 4294967295 }
+    requires at_limit { IsTrue grown.at_limit ↔ IsEndedAtLimit grown.journal.entries }
+    ensures journal { IfOk result (λ m. m.journal ≡ grown.journal) }
+    ensures quotient { IfOk result (λ m. IsQuotient grown.journal.host grown.journal.entries m.map) }
+    ensures end { IfOk result (λ m. IsEnd grown.journal.host grown.journal.entries m.end) }
+{
+    let end = end_of(&grown);
+    let map = quotient(alloc, &grown.journal, &grown.classes);
+    let journal = journal_of(grown);
     Ok(Mapped {
-        map,
-        journal: grown.journal,
+        map: map?,
+        journal,
         end,
     })
 }
 
-// The map of a journal that has grown, and its end.
-fn map_of(alloc: Global, grown: &Grown) -> Result<(FabricMap, MapEnd), AllocError>
-    requires stands { StandsFor grown.now.journal.host grown.now.journal.entries grown.now.classes }
-    requires true_of_one { IsTrueOfOne grown.now.journal.host grown.now.journal.entries }
-    requires few { length grown.now.journal.entries < 4294967295 }
-    requires at_limit { IsTrue grown.now.at_limit ↔ IsEndedAtLimit grown.now.journal.entries }
-    ensures quotient { IfOk result (λ m. IsQuotient grown.now.journal.host grown.now.journal.entries m.0) }
-    ensures end { IfOk result (λ m. IsEnd grown.now.journal.host grown.now.journal.entries m.1) }
+// The journal of a growth, whose classes end here.
+fn journal_of(grown: Grown) -> Journal
+    ensures { result ≡ grown.journal }
 {
-    let map = quotient(alloc, &grown.journal, &grown.classes)?;
-    Ok((map, end_of(grown)))
+    grown.journal
 }
 
 // How a growth ended.

@@ -4,5 +4,6 @@ pub mod Network
 pub mod Refusal
 pub mod Route
 pub mod Turn
+pub mod TurnList
 pub mod Dependencies
 pub mod RouteSet

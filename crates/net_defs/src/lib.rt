@@ -19,6 +19,7 @@ mod fault;
 mod place;
 mod route;
 mod turn;
+mod turn_list;
 mod vertex;
 mod walk;
 

@@ -5,6 +5,7 @@ ghost use Rattle.net_defs.specs.Refusal.{Refuses};
 ghost use Rattle.std.specs.List.{list_all};
 ghost use Rattle.net_defs.specs.Turn.{is_turn, IsTurn, walk_refusal};
 
+use crate::turn_list::TurnList;
 use std::alloc::{AllocError, Global};
 use std::marker::Model;
 use thiserror::Error;
@@ -31,18 +32,19 @@ pub enum WalkFault {
 /// At a switch entered by port e the turn t leaves by port e + t.
 #[derive(Debug, Drop)]
 pub struct Walk {
-    turns: Vec<i8>,
+    turns: TurnList,
 }
 
 impl Model for Walk {
     ghost use Rattle.std.specs.Prelude.{ℤ, List, ◌≤◌, length, All};
     ghost use Rattle.net_defs.specs.Turn.{IsTurn};
+    ghost use Rattle.net_defs.specs.TurnList.{IsSound, turns_in};
 
     ghost Value = { List ℤ };
 
-    ghost view = { λ w. w.turns.items };
+    ghost view = { λ w. turns_in w.turns };
 
-    ghost invariant = { λ w. (length w.turns.items ≤ 64) × All IsTurn w.turns.items };
+    ghost invariant = { λ w. IsSound w.turns × (length (turns_in w.turns) ≤ 64) × All IsTurn (turns_in w.turns) };
 }
 
 impl Walk {
@@ -57,7 +59,7 @@ impl Walk {
         if !are_turns(turns) {
             return Err(WalkFault::TurnRange);
         }
-        match turns.to_vec(alloc) {
+        match TurnList::new(alloc, turns) {
             Ok(turns) => Ok(Walk { turns }),
             Err(_) => Err(WalkFault::NoMemory),
         }
@@ -69,14 +71,14 @@ impl Walk {
         ensures short { length result.now ≤ 64 }
         ensures in_range { All IsTurn result.now }
     {
-        &self.turns
+        self.turns.turns()
     }
 
     /// Another walk of the same turns.
     pub fn copied(&self, alloc: Global) -> Result<Walk, AllocError>
         ensures { IfOk result (λ walk. walk ≡ self.now) }
     {
-        let turns = self.turns.to_vec(alloc)?;
+        let turns = TurnList::new(alloc, self.turns())?;
         Ok(Walk { turns })
     }
 }

@@ -27,7 +27,7 @@ pub(crate) fn send(
     route: bool,
     port: u8,
     t: SendToken,
-    b: Reg,
+    mut b: Reg,
     a: SendAsk,
 ) -> Result<(), (SendToken, Reg, NodeSend)>
     requires port { port < 8 }
@@ -46,7 +46,7 @@ pub(crate) fn send(
     ensures lanes { OnErr result (lanes.new ≡ lanes.old) }
     ensures ports { OnErr result (ports.new ≡ ports.old) }
 {
-    match accept(alloc, lanes, ports, route, port, t.number(), a, b.bytes()) {
+    match accept(alloc, lanes, ports, route, port, t.number(), a, &mut b) {
         Ok(()) => {
             ports.send(port, t, b, a);
             Ok(())
@@ -55,7 +55,7 @@ pub(crate) fn send(
     }
 }
 
-// Accepts the message of a buffer for a peer, where nothing refuses it.
+// Accepts the message of a buffer for a peer, where nothing refuses it. The buffer keeps its bytes.
 fn accept(
     alloc: Global,
     lanes: &mut Lanes,
@@ -64,18 +64,19 @@ fn accept(
     port: u8,
     token: u16,
     a: SendAsk,
-    buffer: &[u8],
+    b: &mut Reg,
 ) -> Result<(), NodeSend>
     requires port { port < 8 }
     requires dest { a.dest < lanes.old.hosts }
     requires dport { a.dport < 8 }
     requires prio { a.prio < 2 }
-    ensures refused { Refuses (node_bar lanes.old ports.now route port a buffer.now) NodeSend.NoMemory result }
-    ensures able { OnOk result (send_bar (open_at ports.now port) a.len buffer.now ≡ None) }
-    ensures accepted { OnOk result (lanes.new ≡ accepted_in lanes.old port token a buffer.now) }
+    ensures refused { Refuses (node_bar lanes.old ports.now route port a b.old) NodeSend.NoMemory result }
+    ensures able { OnOk result (send_bar (open_at ports.now port) a.len b.old ≡ None) }
+    ensures accepted { OnOk result (lanes.new ≡ accepted_in lanes.old port token a b.old) }
     ensures unchanged { OnErr result (lanes.new ≡ lanes.old) }
+    ensures buffer { b.new ≡ b.old }
 {
-    if let Some(refusal) = early_refusal(ports, route, port, a, buffer) {
+    if let Some(refusal) = early_refusal(ports, route, port, a, b.bytes()) {
         return Err(refusal);
     }
     let envelope = Envelope {
@@ -83,8 +84,7 @@ fn accept(
         dport: a.dport,
         prio: a.prio,
     };
-    let body = &buffer[..a.len as usize];
-    match lanes.accept(alloc, a.dest, envelope, body, token) {
+    match lanes.accept(alloc, a.dest, envelope, b, a.len, token) {
         Ok(()) => Ok(()),
         Err(refusal) => Err(lane_word(refusal)),
     }

@@ -1,26 +1,56 @@
-//! What a port refuses and hands back.
+//! A port that is filling, and a buffer that parts from its message.
 
-ghost use Rattle.std.specs.Prelude.{◌≡◌, ◌∷◌, [], map};
+ghost use Rattle.std.specs.Prelude.{◌≡◌, ◌∷◌, [], length, map};
 ghost use Rattle.gm_tokens.specs.Token.{token_at};
 
-use gm_port::{Port, ProvideRefusal, SendAsk, SendRefusal, Wreck};
-use gm_tokens::{Bank, Minted, RecvToken, SendToken};
+use gm_defs::{Blob, FrameHead};
+use gm_port::{CloseRefusal, Port, Wreck};
+use gm_tokens::{Bank, Minted, RecvToken};
 use reg_mem::{Reg, deregister, register};
+use std::alloc::Global;
 use std::process::Abort;
 
-// Takes the one send token of port 1 of host 1.
-fn take_send(tokens: &mut Vec<SendToken>) -> SendToken
-    requires { tokens.old.items ≡ token_at 1 1 0 ∷ [] }
-    ensures taken { result ≡ token_at 1 1 0 }
-    ensures left { tokens.new.items ≡ [] }
-{
-    let Some(token) = tokens.pop() else {
-        unreachable!();
-    };
-    token
+// The first of two fragments, from host 0 to port 1 of host 1.
+const FIRST: FrameHead = FrameHead {
+    src: 0,
+    dst: 1,
+    sport: 0,
+    dport: 1,
+    prio: 0,
+    seq: 0,
+    total: 1_017,
+    offset: 0,
+    len: 1_016,
+};
+
+#[test]
+fn a_filling_port_hands_back_what_came(rt: HostRuntime) {
+    let buffer = register([0; 2_040].to_vec(rt.alloc()).expect(&rt, "memory"));
+    let Minted {
+        bank,
+        sends,
+        mut recvs,
+    } = Bank::mint(rt.alloc(), 1, 1, 0, 1).expect(&rt, "memory");
+    let mut port = Port::begin(rt.alloc(), 1, 1, 0, 1).expect(&rt, "memory");
+    if let Err(_back) = port.provide(take_receive(&mut recvs), buffer, 11, 0) {
+        panic!(rt; "refused");
+    }
+    if !port.can_take(&FIRST) {
+        panic!(rt; "not taken");
+    }
+    port.deliver(&FIRST, &[5; 1_016]);
+    let (port, refusal) = not_closed(&rt, port);
+    assert!(rt; refusal == CloseRefusal::Filling(1));
+    let (receive, buffer) = only_provided(&rt, port);
+    let bytes = deregister(buffer);
+    assert!(rt; bytes.get(1_015) == Some(&5) && bytes.get(1_016) == Some(&0));
+    if let Err(_lost) = recvs.push(receive) {
+        panic!(rt; "memory");
+    }
+    bank.retire(sends, recvs);
 }
 
-// Takes its one receive token.
+// Takes the one receive token of port 1 of host 1.
 fn take_receive(tokens: &mut Vec<RecvToken>) -> RecvToken
     requires { tokens.old.items ≡ token_at 1 1 0 ∷ [] }
     ensures taken { result ≡ token_at 1 1 0 }
@@ -32,86 +62,14 @@ fn take_receive(tokens: &mut Vec<RecvToken>) -> RecvToken
     token
 }
 
-// Puts both tokens back and retires them.
-fn retire(
-    rt: &impl Abort,
-    bank: Bank,
-    mut sends: Vec<SendToken>,
-    mut recvs: Vec<RecvToken>,
-    send: SendToken,
-    receive: RecvToken,
-)
-    requires bank { bank ≡ record { host = 1; port = 1; sends = 1; recvs = 1 } }
-    requires sends { sends.items ≡ [] }
-    requires recvs { recvs.items ≡ [] }
-    requires send { send ≡ token_at 1 1 0 }
-    requires receive { receive ≡ token_at 1 1 0 }
+// Why a port isn't closed.
+fn not_closed(rt: &impl Abort, port: Port) -> (Port, CloseRefusal)
+    ensures { result.0 ≡ port }
 {
-    if let Err(_lost) = sends.push(send) {
-        panic!(rt; "memory");
+    match port.close() {
+        Ok(_provided) => panic!(rt; "closed"),
+        Err(refused) => refused,
     }
-    if let Err(_lost) = recvs.push(receive) {
-        panic!(rt; "memory");
-    }
-    bank.retire(sends, recvs);
-}
-
-fn ask(len: u32) -> SendAsk
-    ensures { result ≡ record { dest = 0; dport = 0; prio = 0; len = len } }
-{
-    SendAsk {
-        dest: 0,
-        dport: 0,
-        prio: 0,
-        len,
-    }
-}
-
-#[test]
-fn refused_calls_hand_everything_back(rt: HostRuntime) {
-    let long = register([0; 65_529].to_vec(rt.alloc()).expect(&rt, "memory"));
-    let short = register([0; 2].to_vec(rt.alloc()).expect(&rt, "memory"));
-    let eight = register([0; 8].to_vec(rt.alloc()).expect(&rt, "memory"));
-    let Minted {
-        bank,
-        mut sends,
-        mut recvs,
-    } = Bank::mint(rt.alloc(), 1, 1, 1, 1).expect(&rt, "memory");
-    let mut port = Port::begin(rt.alloc(), 1, 1, 1, 1).expect(&rt, "memory");
-    let Err((send, long, too_long)) = port.send(take_send(&mut sends), long, ask(65_529)) else {
-        panic!(rt; "taken");
-    };
-    let Err((send, short, too_short)) = port.send(send, short, ask(3)) else {
-        panic!(rt; "taken");
-    };
-    let Err((receive, eight, no_size)) = port.provide(take_receive(&mut recvs), eight, 17, 0) else {
-        panic!(rt; "taken");
-    };
-    let Err((receive, eight, shorter)) = port.provide(receive, eight, 5, 0) else {
-        panic!(rt; "taken");
-    };
-    assert_eq!(rt;
-        (too_long, too_short),
-        (SendRefusal::TooLong, SendRefusal::BufferShort)
-    );
-    assert_eq!(rt;
-        (no_size, shorter),
-        (ProvideRefusal::BadSize, ProvideRefusal::BufferShort)
-    );
-    if let Some(_event) = port.poll() {
-        panic!(rt; "an event");
-    }
-    if let Err(_back) = port.provide(receive, eight, 4, 0) {
-        panic!(rt; "refused");
-    }
-    let (receive, eight) = only_provided(&rt, port);
-    assert_eq!(rt; receive.number(), 0);
-    assert_eq!(rt; deregister(eight).as_slice(), [0; 8].as_slice());
-    assert_eq!(rt;
-        (deregister(long).len(), deregister(short).len()),
-        (65_529, 2)
-    );
-    retire(&rt, bank, sends, recvs, send, receive);
 }
 
 // Abandons a port that has one provided token and nothing else.
@@ -135,4 +93,27 @@ fn only_provided(rt: &impl Abort, port: Port) -> (RecvToken, Reg)
     };
     provided.destroy_empty();
     taken
+}
+
+// A buffer of a page, and the message of all its bytes, which shares them.
+fn shared(rt: &impl Abort, alloc: Global) -> (Reg, Blob)
+    ensures { length result.0 ≡ 4_096 }
+{
+    let mut buffer = register([7; 4_096].to_vec(alloc).expect(rt, "memory"));
+    let message = buffer.message(alloc, 4_096).expect(rt, "memory");
+    (buffer, message)
+}
+
+#[test]
+fn a_buffer_that_a_message_shares_is_given_back_whole(rt: HostRuntime) {
+    let (buffer, message) = shared(&rt, rt.alloc());
+    assert!(rt; deregister(buffer).as_slice() == message.bytes());
+}
+
+#[test]
+fn a_message_keeps_its_bytes_when_its_buffer_is_filled(rt: HostRuntime) {
+    let (mut buffer, message) = shared(&rt, rt.alloc());
+    buffer.fill(4_095, &[1]);
+    let bytes = deregister(buffer);
+    assert!(rt; message.bytes().last() == Some(&7) && bytes.last() == Some(&1));
 }

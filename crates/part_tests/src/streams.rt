@@ -29,7 +29,7 @@ fn a_reader_is_read_to_its_end_and_its_failure_told(rt: HostRuntime) -> Result<(
     let mut source = StdSource::new("abc".as_bytes());
     let content = read_all(rt.alloc(), &mut source, 9)?;
     let failed = read_all(rt.alloc(), &mut StdSource::new(Broken), 9);
-    assert_eq!(rt; content.as_slice(), b"abc".as_slice());
+    assert!(rt; content.as_slice() == b"abc".as_slice());
     assert!(rt; matches!(failed, Err(ReadEnd::ReadFault)));
     Ok(())
 }
@@ -43,7 +43,6 @@ fn a_writer_gets_the_bytes_and_its_failed_flush_is_told(rt: HostRuntime) -> Resu
         write_all(&mut sink, b"de")?;
     }
     let failed = write_all(&mut StdSink::new(Broken), b"abc");
-    assert_eq!(rt; written.as_slice(), b"abcde".as_slice());
-    assert_eq!(rt; failed, Err(WriteFault));
+    assert!(rt; written.as_slice() == b"abcde".as_slice() && failed == Err(WriteFault));
     Ok(())
 }

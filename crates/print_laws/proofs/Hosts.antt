@@ -12,8 +12,8 @@ use Rattle.map_defs.specs.NetMap.{NetMap, host_of_vertex}
 use Rattle.map_defs.specs.Quotient.{IsQuotient}
 use Rattle.map_laws.proofs.Least.{below-vertex, vertex-host}
 use Rattle.map_laws.proofs.Listed.{host-below}
-use Rattle.map_text.specs.Printing.{AreOfFabric}
-use Rattle.map_text.proofs.OfFabric.{each-of_fabric}
+use Rattle.map_canon.specs.Printing.{AreOfFabric}
+use Rattle.map_canon.proofs.OfFabric.{each-of_fabric}
 
 -- a host that has a port is one of the fabric
 ported-below : (h count : ℕ) → nat_lt 0 (if nat_lt h count then 1 else 0) ≡ true → h < count

@@ -17,9 +17,9 @@ use Rattle.fab_text.specs.Written.{spaced, line_text}
 use Rattle.fabric_file.specs.Reading.{AreNamed}
 use Rattle.fabric_file.proofs.Names.{name-names, all-nth}
 use Rattle.run_defs.specs.LineText.{host_name, turn_text, core_word, vertices_text, vertex_at, vertex_numbered, cable_words, map_text}
-use Rattle.map_text.specs.Printing.{IsOfFabric, AreOfFabric}
-use Rattle.map_text.proofs.ReadBack.{map-numbered}
-use Rattle.map_text.proofs.Words.{AreNumbered, number-most}
+use Rattle.map_canon.specs.Printing.{IsOfFabric, AreOfFabric}
+use Rattle.map_canon.proofs.ReadBack.{map-numbered}
+use Rattle.map_canon.proofs.Words.{AreNumbered, number-most}
 use Rattle.print_laws.specs.Printed.{IsPrintable}
 
 -- the bytes of words with one more behind each

@@ -2,9 +2,9 @@
 use Rattle.std.proofs.Common.{◌≡◌, ◌<◌, length, sym, ap, subst, arith}
 use Rattle.net_defs.specs.Network.{Network}
 use Rattle.map_defs.specs.NetMap.{NetMap}
-use Rattle.map_text.specs.Printing.{AreOfFabric}
-use Rattle.map_text.proofs.OfFabric.{each-of_fabric}
-use Rattle.map_text.proofs.ReadBack.{map-read-back}
+use Rattle.map_canon.specs.Printing.{AreOfFabric}
+use Rattle.map_canon.proofs.OfFabric.{each-of_fabric}
+use Rattle.map_canon.proofs.ReadBack.{map-read-back}
 use Rattle.world_defs.specs.World.{fabric_of}
 use Rattle.mapping_laws.proofs.Made.{found_is_there, made_map_is_map}
 use Rattle.circ_class_laws.proofs.Telling.{circuit-true}

@@ -17,8 +17,8 @@ use Rattle.run_defs.specs.Session.{SessionState}
 use Rattle.run_defs.specs.Run.{IsRun}
 use Rattle.run_defs.specs.Headline.{IsCommandOf, HasPrinted}
 use Rattle.fabric_file.specs.Reading.{AreNamed}
-use Rattle.map_text.specs.Printing.{AreOfFabric}
-use Rattle.map_text.specs.Reading.{map_reading}
+use Rattle.map_canon.specs.Printing.{AreOfFabric}
+use Rattle.map_canon.specs.Reading.{map_reading}
 use Rattle.mapping_laws.specs.Circuits.{HasPrintedCircuit}
 use Rattle.mapping_laws.specs.Laws.{CanMap}
 

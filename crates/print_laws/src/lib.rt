@@ -1,6 +1,6 @@
 //! What is proved of printed maps: every map that a run prints is read back from its lines as the map that was printed.
 //!
-//! It reads and prints nothing: that is `map_text`; that a complete map is right is a law of `mapping_laws`. Read
+//! It reads and prints nothing: that is `map_canon`; that a complete map is right is a law of `mapping_laws`. Read
 //! `specs/Printed.antt`.
 #![tactic(auto)]
 

@@ -1,20 +1,15 @@
 -- Bodies of probes: what decoding them answers, by the parts that are read one after another.
-use Rattle.std.proofs.Common.{◌≡◌, ◌≢◌, ◌<◌, ◌≤◌, ◌+◌, ◌-◌, ◌^◌, ℕ, suc, List, [], ◌∷◌, ◌++◌, Bool, true, false, ◌&&◌, length, map, get_or, take, drop, nat_eq, nat_le, nat_lt, Option, Some, None, option_map, refl, ap, sym, ◌∙◌, subst, true≢false, arith, append_assoc, if◌then◌else◌}
-use Rattle.std.specs.Prelude.{ℤ, pos, negsuc, int_le, option_and_then}
-use Rattle.std.proofs.Math.ListN.{set}
-use Rattle.std.proofs.Math.Seq.{drop-cons}
-use Rattle.std.proofs.lemmas.Int.{ints, to_z-of_z}
-use mir.Syntax.{w8}
-use mir.Val.{to_z, of_z, SFits}
+use Rattle.std.proofs.Common.{◌≡◌, ◌≢◌, ◌<◌, ◌≤◌, ◌-◌, ◌^◌, ℕ, suc, List, [], ◌∷◌, ◌++◌, Bool, true, false, ◌&&◌, length, map, take, drop, nat_eq, nat_le, nat_lt, Option, Some, None, option_map, refl, ap, sym, ◌∙◌, true≢false, arith, if◌then◌else◌}
+use Rattle.std.specs.Prelude.{ℤ, option_and_then}
 use Rattle.std.specs.List.{list_all}
 use Rattle.std.specs.Int.{w16, w32, w64, to_be_bytes}
 use Rattle.std.proofs.lemmas.Bool.{and_parts}
 use Rattle.std.proofs.lemmas.Bool.Decides.{nat_tests}
-use Rattle.std.proofs.lemmas.List.{take_all, take_more_set, drop_all, length-drop}
+use Rattle.std.proofs.lemmas.List.{take_all, drop_all, length-drop}
 use Rattle.std.proofs.lemmas.Nat.{from_be_bytes-to_be_bytes_2, from_be_bytes-to_be_bytes_8}
 use Rattle.net_defs.specs.Turn.{is_turn}
-use Rattle.packet_defs.specs.RouteByte.{turn_of, route_byte, turns_of}
-use Rattle.packet_defs.proofs.RouteBytes.{turn_of-only, turn_of-route_byte}
+use Rattle.packet_defs.specs.RouteByte.{route_byte, turns_of}
+use Rattle.packet_defs.proofs.RouteBytes.{turn_of-route_byte}
 use Rattle.turn_bytes.proofs.Reading.{turns_of-turns}
 use Rattle.mapping_defs.specs.Mapping.{MappingBody, RoutePart, Front, number_front, two_front, byte_front, route_front, whole, probe_front, part_front, ack_front, by_the_rules, is_mapping, is_route, decode_mapping, mapping_bytes, route_bytes}
 use Rattle.mapping_defs.specs.Mapping.MappingBody.{HostProbe, HostReply, Loopback, Part, PartAck}

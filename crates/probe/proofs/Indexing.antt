@@ -1,15 +1,11 @@
 -- Walks among walks: the tests of turns, where a walk stands, and what a journal was asked.
-use Rattle.std.proofs.Common.{◌≡◌, ◌≢◌, ◌<◌, ◌≤◌, ◌⊎◌, inl, inr, ℕ, zero, suc, List, [], ◌∷◌, ◌++◌, Bool, true, false, ◌||◌, length, map, Option, Some, None, is_some, option_map, get_or, Vec, refl, ap, sym, ◌∙◌, subst, true≢false, arith, if◌then◌else◌, IfSome}
-use Rattle.std.specs.Prelude.{ℤ, position, slice_get}
-use Rattle.std.specs.List.{list_any, AllByRecursion}
+use Rattle.std.proofs.Common.{◌≡◌, ◌≢◌, ◌<◌, ℕ, zero, suc, List, [], ◌∷◌, Bool, true, false, ◌||◌, length, map, Option, Some, None, is_some, get_or, refl, ap, sym, ◌∙◌, subst, true≢false, arith, if◌then◌else◌}
+use Rattle.std.specs.Prelude.{ℤ, slice_get}
+use Rattle.std.specs.List.{AllByRecursion}
 use Rattle.std.specs.Ordering.{int_eq}
 use Rattle.std.specs.Cmp.Lexicographic.{pointwise}
 use Rattle.std.specs.Cmp.Rules.{signed_items}
-use Rattle.std.specs.declared.alloc.Global.{Global}
-use Rattle.std.proofs.lemmas.Option.{slice_get_cases, slice_get-map, slice_get_read}
-use Rattle.std.proofs.lemmas.List.{map-append}
-use Rattle.std.proofs.lemmas.List.Quantifiers.{position-Some}
-use Rattle.indexmap.specs.IndexSet.{insert_key}
+use Rattle.std.proofs.lemmas.Option.{slice_get_read}
 use Rattle.net_defs.specs.Network.{Apart}
 use Rattle.net_defs.specs.declared.place.Answer.{Answer}
 use Rattle.journal_defs.specs.declared.entry.Entry.{Entry}
@@ -19,41 +15,33 @@ use Rattle.net_defs.proofs.Turns.{same_turns-true, same_turns-refl}
 use Rattle.probe.specs.Keeping.{has_walk}
 
 -- the two tests of turns
-tests-agree : (t v : List ℤ) → pointwise int_eq t v ≡ same_turns v t
-tests-agree t v = by (pointwise int_eq t v) (same_turns v t) refl refl
+pub turns-agree : (v w : List ℤ) → pointwise int_eq v w ≡ same_turns v w
+turns-agree v w = by (pointwise int_eq v w) (same_turns v w) refl refl
   where
-    by : (a b : Bool) → pointwise int_eq t v ≡ a → same_turns v t ≡ b → a ≡ b
+    by : (a b : Bool) → pointwise int_eq v w ≡ a → same_turns v w ≡ b → a ≡ b
     by true true p q = refl
     by false false p q = refl
-    by true false p q = let same : t ≡ v = (signed_items t v).0 p in sym (subst (λ x. same_turns v x ≡ true) (sym same) (same_turns-refl v)) ∙ q
-    by false true p q = let same : v ≡ t = same_turns-true v t q in sym p ∙ (signed_items t v).1 (sym same)
+    by true false p q = let same : v ≡ w = (signed_items v w).0 p in sym (subst (λ x. same_turns v x ≡ true) same (same_turns-refl v)) ∙ q
+    by false true p q = let same : v ≡ w = same_turns-true v w q in sym p ∙ (signed_items v w).1 same
 
-pub found-agree : (t : List ℤ) (ks : List (Vec ℤ Global)) → list_any (λ k. pointwise int_eq t k.items) ks ≡ has_walk (map (λ k. k.items) ks) t
-found-agree t [] = refl
-found-agree t (k ∷ ks) = λ i. tests-agree t k.items i || found-agree t ks i
-
--- a place of a key is one of its walk
-pub place-of : (t : List ℤ) (ks : List (Vec ℤ Global)) (at : ℕ) → at < length ks → position (λ k. pointwise int_eq t k.items) ks ≡ Some at → slice_get (map (λ k. k.items) ks) at ≡ Some t
-place-of t ks at lt e = by (slice_get_cases ks at).1
+-- a walk that stands at a place is there
+pub walk-there : (ws : List (List ℤ)) (at : ℕ) (w : List ℤ) → slice_get ws at ≡ Some w → has_walk ws w ≡ true
+walk-there [] at w e = cc
+walk-there (v ∷ ws) zero w e = let one : v ≡ w = cc in ap (λ b. b || has_walk ws w) (subst (λ x. same_turns v x ≡ true) one (same_turns-refl v))
+walk-there (v ∷ ws) (suc at) w e = by (same_turns v w) (walk-there ws at w e)
   where
-    by : ((x : Vec ℤ Global) × (at < length ks) × (slice_get ks at ≡ Some x) × (get_or ks at x ≡ x)) ⊎ ((length ks ≤ at) × (slice_get ks at ≡ None)) → slice_get (map (λ k. k.items) ks) at ≡ Some t
-    by (inl (x, l, is, got)) =
-        let test = (position-Some (λ k. pointwise int_eq t k.items) ks at x e).1 in
-        let same : t ≡ x.items = (signed_items t x.items).0 (subst (λ y. pointwise int_eq t y.items ≡ true) got test) in
-        slice_get-map (λ k. k.items) ks at ∙ ap (option_map (λ k. k.items)) is ∙ ap Some (sym same)
-    by (inr past) = absurd (let l = past.0 in omega arith)
+    by : (b : Bool) → has_walk ws w ≡ true → (b || has_walk ws w) ≡ true
+    by true t = refl
+    by false t = t
 
-pub find-place : (t : List ℤ) (ks : List (Vec ℤ Global)) (o : Option ℕ) → o ≡ position (λ k. pointwise int_eq t k.items) ks → IfSome o (λ i. i < length ks) → IfSome o (λ at. slice_get (map (λ k. k.items) ks) at ≡ Some t)
-find-place t ks None e l = tt
-find-place t ks (Some at) e l = place-of t ks at l (sym e)
-
--- a new walk goes last
-pub walks-insert : (ks : List (Vec ℤ Global)) (k : Vec ℤ Global) (t : List ℤ) → k.items ≡ t → has_walk (map (λ k. k.items) ks) t ≡ false → map (λ k. k.items) (insert_key (λ x y. pointwise int_eq x.items y.items) ks k) ≡ map (λ k. k.items) ks ++ t ∷ []
-walks-insert ks k t same new =
-    let none : list_any (λ y. pointwise int_eq k.items y.items) ks ≡ false = found-agree k.items ks ∙ ap (has_walk (map (λ k. k.items) ks)) same ∙ new in
-    ap (λ b. map (λ k. k.items) (if b then ks else ks ++ k ∷ [])) none
-    ∙ map-append (λ k. k.items) ks (k ∷ [])
-    ∙ ap (λ w. map (λ k. k.items) ks ++ w ∷ []) same
+-- one that stands at none isn't
+pub walk-missing : (ws : List (List ℤ)) (w : List ℤ) → ((at : ℕ) → slice_get ws at ≢ Some w) → has_walk ws w ≡ false
+walk-missing [] w none = refl
+walk-missing (v ∷ ws) w none = by (same_turns v w) refl (walk-missing ws w (λ at. none (suc at)))
+  where
+    by : (b : Bool) → same_turns v w ≡ b → has_walk ws w ≡ false → (b || has_walk ws w) ≡ false
+    by true t rest = absurd (none 0 (ap Some (same_turns-true v w t)))
+    by false t rest = rest
 
 -- a walk that isn't there differs from each
 pub new-walk : (w : List ℤ) (ws : List (List ℤ)) → has_walk ws w ≡ false → AllByRecursion (λ v. w ≢ v) ws

@@ -1,2 +1,4 @@
 pub mod Bodies
+pub mod Chaining
+pub mod FlatParts
 pub mod Indexing

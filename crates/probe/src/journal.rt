@@ -1,11 +1,12 @@
 //! What a mapper asked, with the answers, in order.
 
-ghost use Rattle.std.specs.Prelude.{◌≡◌, [], true, false, OnOk, OnErr, IfErr};
+ghost use Rattle.std.specs.Prelude.{◌≡◌, [], true, false, map, OnOk, OnErr, IfErr};
 ghost use Rattle.journal_defs.specs.Tree.{IsJournal, answered, is_asked};
 ghost use Rattle.probe.specs.Keeping.{with_entry};
 ghost use Rattle.probe.specs.Pushing.{PushesWhere};
 
-use crate::walk_index::WalkIndex;
+use crate::chains::{Chains, add, find, hash_of, make_room, no_chains};
+use crate::walk_list::WalkList;
 use journal_defs::Entry;
 use net_defs::Answer;
 use std::alloc::Global;
@@ -19,13 +20,13 @@ pub enum JournalPush {
     NoMemory,
 }
 
-/// The asks of one host with their answers, in the order of the asks, no walk twice. Contracts see the host and the
-/// list of entries.
+/// The asks of one host with their answers, in the order of the asks, no walk twice. A walk is found by a hash of its
+/// turns, which lie in its entry alone. Contracts see the host and the list of entries.
 #[derive(Drop)]
 pub struct Journal {
     host: u16,
     entries: Vec<Entry>,
-    walks: WalkIndex,
+    chains: Chains,
 }
 
 impl Model for Journal {
@@ -35,7 +36,7 @@ impl Model for Journal {
 
     ghost view = { λ j. record { host = j.host; entries = j.entries.items } };
 
-    ghost invariant = { λ j. IsIndexed j.entries.items j.walks };
+    ghost invariant = { λ j. IsIndexed j.entries.items j.chains.latest.items j.chains.before.items };
 }
 
 impl Journal {
@@ -46,7 +47,7 @@ impl Journal {
         Journal {
             host,
             entries: Vec::new(alloc),
-            walks: WalkIndex::new(alloc),
+            chains: no_chains(alloc),
         }
     }
 
@@ -69,7 +70,7 @@ impl Journal {
     pub fn answer_to(&self, turns: &[i8]) -> Option<Answer>
         ensures { result ≡ answered self.now.entries turns.now }
     {
-        match self.walks.find(turns) {
+        match find(&self.entries, &self.chains, turns, hash_of(turns)) {
             Some(at) => Some(self.entries[at].answer),
             None => None,
         }
@@ -82,18 +83,32 @@ impl Journal {
         ensures handed_back { IfErr result (λ refused. refused.0 ≡ e) }
         ensures unchanged { OnErr result (self.new ≡ self.old) }
     {
-        if self.walks.find(e.walk.turns()).is_some() {
+        let hash = hash_of(e.walk.turns());
+        if find(&self.entries, &self.chains, e.walk.turns(), hash).is_some() {
             return Err((e, JournalPush::Known));
         }
         if self.entries.reserve(1).is_err() {
             return Err((e, JournalPush::NoMemory));
         }
-        match self.walks.push(alloc, e.walk.turns()) {
+        match make_room(alloc, &self.entries, &mut self.chains) {
             Ok(()) => {
                 self.entries.push_reserved(e);
+                add(&mut self.chains, hash);
                 Ok(())
             }
             Err(_) => Err((e, JournalPush::NoMemory)),
         }
+    }
+}
+
+impl WalkList for Vec<Entry> {
+    ghost list = { λ entries. map (λ e. e.walk) entries.items };
+
+    fn count(&self) -> usize {
+        self.len()
+    }
+
+    fn turns_at(&self, at: usize) -> &[i8] {
+        self[at].walk.turns()
     }
 }

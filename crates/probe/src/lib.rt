@@ -15,18 +15,23 @@
 //! |---|---|
 //! | `prober` | the trait |
 //! | `fabric_prober`, `fake_prober` | a prober that tells the truth, and one whose chosen asks drown |
-//! | `journal`, `walk_index` | answers in order, found by their walks |
+//! | `journal` | answers in order, found by their walks |
+//! | `walk_index`, `flat_walks` | walks found by their turns, which lie one behind the other in one block |
+//! | `walk_list`, `chains` | walks wherever they lie, and their chains by hash |
 //! | `body`, `fields`, `whole_route` | bodies as bytes |
 #![tactic(auto)]
 
 mod body;
+mod chains;
 mod fabric_prober;
 mod fake_prober;
 mod fields;
+mod flat_walks;
 mod journal;
 mod laws;
 mod prober;
 mod walk_index;
+mod walk_list;
 mod whole_route;
 
 pub use body::{BodyFault, ProbeBody, append_host_probe};

@@ -4,7 +4,9 @@ ghost use Rattle.std.specs.Prelude.{◌≡◌, ◌<◌, ◌++◌, ◌∷◌, [],
 ghost use Rattle.std.specs.Prelude.{OnErr};
 ghost use Rattle.probe.specs.Keeping.{has_walk};
 
-use indexmap::IndexSet;
+use crate::chains::{Chains, add, find, hash_of, make_room, no_chains};
+use crate::flat_walks::FlatWalks;
+use crate::walk_list::WalkList;
 use std::alloc::{AllocError, Global};
 use std::marker::Model;
 
@@ -12,19 +14,21 @@ use std::marker::Model;
 /// of walks.
 #[derive(Drop)]
 pub struct WalkIndex {
-    walks: IndexSet<Vec<i8>>,
+    walks: FlatWalks,
+    chains: Chains,
 }
 
 impl Model for WalkIndex {
-    ghost use Rattle.std.specs.Prelude.{ℤ, List};
+    ghost use Rattle.std.specs.Prelude.{ℤ, List, ◌≤◌, ◌*◌, length};
     ghost use Rattle.net_defs.specs.Network.{Apart};
-    ghost use Rattle.probe.specs.Keeping.{walks_of};
+    ghost use Rattle.probe.specs.Chained.{IsChained};
 
     ghost Value = { List (List ℤ) };
 
-    ghost view = { λ w. walks_of w.walks };
+    ghost view = { λ w. w.walks };
 
-    ghost invariant = { λ w. Apart (walks_of w.walks) };
+    ghost invariant = { λ w. Apart w.walks × IsChained w.walks w.chains.latest.items w.chains.before.items ×
+        (length w.walks ≤ 2 * length w.chains.latest.items) };
 }
 
 impl WalkIndex {
@@ -33,7 +37,8 @@ impl WalkIndex {
         ensures { result ≡ [] }
     {
         WalkIndex {
-            walks: IndexSet::new(alloc),
+            walks: FlatWalks::new(alloc),
+            chains: no_chains(alloc),
         }
     }
 
@@ -41,7 +46,7 @@ impl WalkIndex {
     pub fn len(&self) -> usize
         ensures { result ≡ length self.now }
     {
-        self.walks.len()
+        self.walks.count()
     }
 
     /// The turns of the walk at a place.
@@ -49,7 +54,7 @@ impl WalkIndex {
         requires { at < length self.now }
         ensures { slice_get self.now at ≡ Some result.now }
     {
-        self.walks.get_index(at).unwrap().as_slice()
+        self.walks.turns_at(at)
     }
 
     /// The place of a walk, counted from 0; none where it isn't there.
@@ -57,7 +62,7 @@ impl WalkIndex {
         ensures place { IfSome result (λ at. slice_get self.now at ≡ Some turns.now) }
         ensures found { is_some result ≡ has_walk self.now turns.now }
     {
-        self.walks.get_index_of(turns)
+        find(&self.walks, &self.chains, turns, hash_of(turns))
     }
 
     /// Adds a walk that isn't there.
@@ -66,7 +71,9 @@ impl WalkIndex {
         ensures ok { OnOk result (self.new ≡ self.old ++ turns.now ∷ []) }
         ensures err { OnErr result (self.new ≡ self.old) }
     {
-        self.walks.insert_full(turns.to_vec(alloc)?)?;
+        make_room(alloc, &self.walks, &mut self.chains)?;
+        self.walks.push(turns)?;
+        add(&mut self.chains, hash_of(turns));
         Ok(())
     }
 }

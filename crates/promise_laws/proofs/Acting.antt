@@ -28,10 +28,11 @@ use Rattle.run_defs.specs.Run.Does.{determined, maps, circuits, routes}
 use Rattle.run_laws.specs.Acts.{IsActOf}
 use Rattle.run_laws.proofs.OneMapping.{mapping_is_one}
 use Rattle.run_laws.proofs.Reaching.{LastAdoptable, IsLed, run-led, event-bytes}
-use Rattle.promise_laws.specs.Events.{asks_events, settle_events, install_events}
+use Rattle.event_lists.specs.Events.{asks_events, settle_events, install_events}
 use Rattle.promise_laws.specs.CommandActs.{step_acts, install_now_acts, install_acts, acts_of, StandsFor, HasSoundActs, CommandsHaveSoundActs, RunsEndSound}
 use Rattle.promise_laws.specs.CommandActs.StandsFor.{determined as told, asks}
-use Rattle.promise_laws.proofs.Events.{IsDoneBy, settle-done, asks-done, installed-done}
+use Rattle.event_lists.proofs.Events.{IsDoneBy, settle-done, installed-done}
+use Rattle.promise_laws.proofs.Events.{asks-done}
 use Rattle.promise_laws.proofs.Sound.{always_sound}
 
 -- events as acts

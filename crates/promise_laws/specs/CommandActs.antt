@@ -23,7 +23,7 @@ use Rattle.run_defs.specs.Session.{SessionState, LastRoutes}
 use Rattle.run_defs.specs.Outcome.{event_of, fault_of, adoption_of}
 use Rattle.run_defs.specs.Run.{Does, IsRun}
 use Rattle.run_laws.specs.Acts.{IsActOf}
-use Rattle.promise_laws.specs.Events.{asks_events, settle_events, install_events}
+use Rattle.event_lists.specs.Events.{asks_events, settle_events, install_events}
 
 -- an event that may be none, as acts
 abbrev pub step_acts : Option Event → List Act

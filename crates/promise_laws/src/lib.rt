@@ -5,7 +5,7 @@
 //!
 //! | file of `specs/` | says |
 //! |---|---|
-//! | `Events` | which events a settle, asks in a row and an installation are |
+//! | `Events` | that asks in a row are one list of events |
 //! | `CommandActs` | which acts a command stands for, and that behind each prefix of them the world is sound |
 //! | `OneAction` | an act is of one host and of one channel at most |
 //! | `Existence` | each command does something behind every run, and so there is a run |
@@ -13,14 +13,14 @@
 //! | `Scripts` | what every script promises that is read without a fault |
 #![tactic(auto)]
 
+mod asks;
 mod command_acts;
-mod event_lists;
 mod existence;
 mod promises;
 mod scripts;
 
+pub use asks::asks_in_order;
 pub use command_acts::{acts_of_commands, acts_of_one_host_or_channel};
-pub use event_lists::events_in_order;
 pub use existence::runs_exist;
 pub use promises::{promises_of_runs, sound_moments};
 pub use scripts::{acts_of_scripts, maps_of_scripts};

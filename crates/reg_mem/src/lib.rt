@@ -1,8 +1,12 @@
 //! Registered buffers: bytes that one owner has at a time.
 //!
 //! A `Reg` can't be cloned and can't be let go: it moves from the client to a port and back, and ends in
-//! [`deregister`]. This crate holds no port. `specs/Written.antt` says what a buffer has after a message was written
-//! into it.
+//! [`deregister`] or [`release`]. This crate holds no port. `specs/Written.antt` says what a buffer has after a message
+//! was written into it.
+//!
+//! The message of a send shares the buffer's bytes, where it is long; so they lie in memory once, though buffer and
+//! message each keep theirs. When the two part, as in [`deregister`], the buffer's bytes are copied into room that was
+//! taken when they were shared. `specs/Held.antt` says what is held.
 //!
 //! ```text
 //!   bytes   registered     bytes
@@ -11,6 +15,7 @@
 //! ```
 #![tactic(auto)]
 
+mod held;
 mod reg;
 
-pub use reg::{Reg, deregister, register};
+pub use reg::{Reg, deregister, register, release};

@@ -1,15 +1,22 @@
 //! A registered buffer.
 
-ghost use Rattle.std.specs.Prelude.{◌≡◌, ◌+◌, ◌≤◌, length};
+ghost use Rattle.std.specs.Prelude.{◌≡◌, ◌+◌, ◌≤◌, length, take, IfOk};
 ghost use Rattle.reg_mem.specs.Written.{written};
 
+use crate::held::{Held, into_bytes, into_shared, write};
+use gm_defs::Blob;
+use std::alloc::{AllocError, Global};
 use std::marker::Model;
+use std::mem;
+
+// From so many bytes on a message shares its buffer's: a page, below which the room costs as much as a copy.
+const SHARED_FROM: usize = 4_096;
 
 /// Bytes that are registered. Contracts see the list of them.
 ///
-/// A buffer must be spent, by [`deregister`], and it can't be cloned; so at any time one owner has it.
+/// A buffer must be spent, by [`deregister`] or [`release`], and it can't be cloned; so at any time one owner has it.
 pub struct Reg {
-    bytes: Vec<u8>,
+    held: Held,
 }
 
 impl Model for Reg {
@@ -17,22 +24,32 @@ impl Model for Reg {
 
     ghost Value = { List ℕ };
 
-    ghost view = { λ r. r.bytes.items };
+    ghost use Rattle.reg_mem.specs.Held.{held_bytes, HasRoom};
+
+    ghost view = { λ r. held_bytes r.held };
+
+    ghost invariant = { λ r. HasRoom r.held };
 }
 
 /// Registers bytes as a buffer. Takes no memory.
 pub fn register(v: Vec<u8>) -> Reg
     ensures { result ≡ v.items }
 {
-    Reg { bytes: v }
+    Reg { held: Held::Own(v) }
 }
 
-/// Gives the bytes of a buffer back. Takes no memory.
+/// Gives the bytes of a buffer back. Takes no memory: where a message shares them, they are copied into the room that
+/// was taken for that.
 pub fn deregister(r: Reg) -> Vec<u8>
     ensures { result.items ≡ r }
 {
-    let Reg { bytes } = r;
-    bytes
+    let Reg { held } = r;
+    into_bytes(held)
+}
+
+/// Lets a buffer go with its bytes, which nobody wants. Copies none.
+pub fn release(r: Reg) {
+    let Reg { held: _ } = r;
 }
 
 impl Reg {
@@ -40,14 +57,33 @@ impl Reg {
     pub fn bytes(&self) -> &[u8]
         ensures { result.now ≡ self.now }
     {
-        &self.bytes
+        self.held.bytes()
     }
 
-    /// Writes bytes into the buffer from a place on, which must fit. The other bytes stay.
+    /// Writes bytes into the buffer from a place on, which must fit. The other bytes stay, and so do those of the
+    /// messages that shared them.
     pub fn fill(&mut self, at: usize, b: &[u8])
         requires { at + length b.now ≤ length self.old }
         ensures { self.new ≡ written self.old at b.now }
     {
-        self.bytes[at..at + b.len()].copy_from_slice(b);
+        write(&mut self.held, at, b);
+    }
+
+    /// The message of the buffer's first so many bytes. A long one shares them with the buffer, and the memory that it
+    /// takes is room for the buffer's bytes, into which nothing is written before they part; a short one is a copy.
+    pub fn message(&mut self, alloc: Global, len: usize) -> Result<Blob, AllocError>
+        requires { len ≤ length self.old }
+        ensures front { IfOk result (λ m. m ≡ take len self.old) }
+        ensures stays { self.new ≡ self.old }
+    {
+        if len >= SHARED_FROM {
+            let held = mem::replace(&mut self.held, Held::Own(Vec::new(alloc)));
+            let (held, done) = into_shared(alloc, held);
+            self.held = held;
+            if !done {
+                return Err(AllocError);
+            }
+        }
+        self.held.front(alloc, len)
     }
 }

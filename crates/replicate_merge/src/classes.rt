@@ -6,6 +6,7 @@ ghost use Rattle.net_defs.specs.Turn.{IsTurn};
 ghost use Rattle.journal_defs.specs.Tree.{is_found};
 ghost use Rattle.journal_defs.specs.Tree.Node.{Reached};
 ghost use Rattle.probe.specs.Keeping.{has_walk};
+ghost use Rattle.class_joins.specs.Nodes.{nodes_of};
 ghost use Rattle.class_joins.specs.Table.{IsTrueOfOne, StandsFor};
 ghost use Rattle.replicate_merge.specs.Next.{HasNext, StandsForNext};
 ghost use Rattle.class_joins.specs.Steps.{HasRoomForNode, SameItems};
@@ -187,6 +188,13 @@ impl Classes {
             Some(at) => Some((at + 1) as u32),
             None => None,
         }
+    }
+
+    /// The walks that found a host or a switch, in the journal's order.
+    pub fn walks(&self) -> &WalkIndex
+        ensures { nodes_of result.now ≡ self.now.nodes }
+    {
+        &self.walks
     }
 
     /// The class of a node, and where the node's ports lie in it.

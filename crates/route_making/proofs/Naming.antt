@@ -10,7 +10,7 @@ use Rattle.map_defs.specs.declared.vertex.MapVertex.TheVariants.{Host, Switch}
 use Rattle.map_defs.specs.NetMap.{NetMap, MapPort, hosts_of}
 use Rattle.map_defs.specs.Routing.{IsLeastLegal, is_host_named, led_to, vertex_of_host}
 use Rattle.fabric_map.proofs.Listings.{position-any}
-use Rattle.map_text.specs.Printing.{IsOfFabric, AreOfFabric}
+use Rattle.map_canon.specs.Printing.{IsOfFabric, AreOfFabric}
 use Rattle.route_making.specs.Listed.{AreBetweenHosts}
 
 same-either-way : (a b : ℕ) → nat_eq a b ≡ nat_eq b a

@@ -5,7 +5,7 @@ ghost use Rattle.map_defs.specs.NetMap.{IsConnected, switches_of};
 ghost use Rattle.map_defs.specs.Orientation.{order_of};
 ghost use Rattle.map_defs.specs.Routing.{AreRoutesOf};
 ghost use Rattle.map_defs.specs.Ranks.{ranks_of};
-ghost use Rattle.map_text.specs.Printing.{AreOfFabric};
+ghost use Rattle.map_canon.specs.Printing.{AreOfFabric};
 ghost use Rattle.run_defs.specs.Output.{lines};
 ghost use Rattle.run_defs.specs.Run.{routes_lines};
 ghost use Rattle.fab_report.specs.Printed.{printed_of};

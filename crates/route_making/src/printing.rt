@@ -1,7 +1,7 @@
 //! The lines of routes and ranks.
 
 ghost use Rattle.std.specs.Prelude.{◌≡◌, ◌<◌, ◌^◌, ◌++◌, ◌∷◌, [], length, flat_map, slice_get, IfOk, OnOk};
-ghost use Rattle.map_text.specs.Printing.{AreOfFabric, IsOfFabric};
+ghost use Rattle.map_canon.specs.Printing.{AreOfFabric, IsOfFabric};
 ghost use Rattle.run_defs.specs.LineText.{line_text};
 ghost use Rattle.run_defs.specs.Run.{rank_line, route_line, vertex_in};
 ghost use Rattle.run_defs.specs.declared.line.Line.TheVariants.{Routes, EndRoutes};

@@ -24,7 +24,7 @@ use Rattle.link_defs.specs.Links.{is_idle}
 use Rattle.run_defs.specs.Outcome.{adoption_of}
 use Rattle.run_defs.specs.Session.{LastRoutes}
 use Rattle.run_laws.proofs.Ranked.{right_routes_are_adoptable}
-use Rattle.map_text.specs.Printing.{IsOfFabric}
+use Rattle.map_canon.specs.Printing.{IsOfFabric}
 use Rattle.route_install.specs.Installing.{AreHosts}
 use Rattle.route_making.specs.Listed.{map_hosts_below}
 use Rattle.route_making.proofs.Naming.{found-any}

@@ -16,7 +16,7 @@ use Rattle.run_defs.specs.Run.{hosts_by_address}
 use Rattle.run_defs.specs.Session.{LastMap, LastRoutes, new_session}
 use Rattle.mapping_laws.specs.Laws.{CanMap}
 use Rattle.mapping_laws.proofs.Made.{made_map_is_connected, made_map_is_map, made_map_is_right}
-use Rattle.map_text.specs.Printing.{AreOfFabric}
+use Rattle.map_canon.specs.Printing.{AreOfFabric}
 use Rattle.map_making.specs.declared.making.MadeMap.{MadeMap}
 use Rattle.fab_report.specs.Printed.{PrintedState}
 use Rattle.fab_world.specs.Held.{IsMoment}

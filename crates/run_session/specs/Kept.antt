@@ -8,7 +8,7 @@ use Rattle.map_defs.specs.Routing.{AreRoutesOf}
 use Rattle.map_defs.specs.Sameness.{IsMapOfPart}
 use Rattle.world_defs.specs.World.{fabric_of}
 use Rattle.run_defs.specs.Session.{SessionState, LastMap, LastRoutes, complete_map}
-use Rattle.map_text.specs.Printing.{AreOfFabric}
+use Rattle.map_canon.specs.Printing.{AreOfFabric}
 use Rattle.route_making.specs.Listed.{map_hosts_below}
 
 -- A map from a mapper that routes can be computed of: it is the mapper's part of the fabric, connected, and of no

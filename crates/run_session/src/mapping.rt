@@ -4,7 +4,7 @@ ghost use Rattle.std.specs.Prelude.{◌≡◌, ◌≤◌, ◌<◌, ◌^◌, ◌�
 ghost use Rattle.std.specs.Prelude.{OnOk, OnErr};
 ghost use Rattle.link_defs.specs.Links.{is_idle};
 ghost use Rattle.world_defs.specs.World.{fabric_of};
-ghost use Rattle.map_text.specs.Printing.{AreOfFabric};
+ghost use Rattle.map_canon.specs.Printing.{AreOfFabric};
 ghost use Rattle.run_defs.specs.Output.{OneLine};
 ghost use Rattle.run_defs.specs.Session.{LastRoutes};
 ghost use Rattle.run_defs.specs.declared.command.Command.TheVariants.{Map};

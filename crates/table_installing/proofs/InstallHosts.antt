@@ -13,6 +13,8 @@ use Rattle.world_defs.specs.Asking.{all_given_up}
 use Rattle.world_defs.specs.Install.{parts_installed, parts_of, hosts_installed, installed}
 use Rattle.route_install.specs.Installing.{AreHosts}
 use Rattle.adopted_routes.specs.Adopting.{is_among, IsSetOfHosts, part_count_for}
+use Rattle.event_lists.specs.Events.{parts_events, install_events}
+use Rattle.event_lists.specs.PartWay.{IsPartWay}
 use Rattle.fab_world.specs.Held.{IsMoment}
 use Rattle.table_installing.specs.Installing.{CanInstall}
 use Rattle.table_installing.proofs.Installs.{installed-idle}
@@ -106,6 +108,20 @@ host-told a mapper host tries parts v is adopter count =
     let one : a.mapper ≡ mapper = same_Some a.mapper mapper (sym (ap (option_map (λ a. a.mapper)) is) ∙ adopter) in
     ap (λ n. parts_installed mapper host tries (range_with_len 0 n) v) (count ∙ ap (λ o. part_count_for o host) is)
     ∙ ap (λ ps. parts_installed mapper host tries ps v) (parts-are a host) ∙ ap (λ m. parts_installed m host tries (parts_of a host) v) (sym one)
+
+-- and so are their events
+pub host-events : (a : Adoption) (mapper host tries parts : ℕ) (v : WorldState) → v.adopted ≡ Some a → option_map (λ a. a.mapper) v.adopted ≡ Some mapper → parts ≡ part_count_for v.adopted host
+    → parts_events mapper host tries (range_with_len 0 parts) v ≡ parts_events a.mapper host tries (parts_of a host) v
+host-events a mapper host tries parts v is adopter count =
+    let one : a.mapper ≡ mapper = same_Some a.mapper mapper (sym (ap (option_map (λ a. a.mapper)) is) ∙ adopter) in
+    ap (λ n. parts_events mapper host tries (range_with_len 0 n) v) (count ∙ ap (λ o. part_count_for o host) is)
+    ∙ ap (λ ps. parts_events mapper host tries ps v) (parts-are a host) ∙ ap (λ m. parts_events m host tries (parts_of a host) v) (sym one)
+
+-- part of the way along an installation, where routes are adopted
+pub cut-of : (w v : WorldState) (hosts : List ℕ) (tries : ℕ) (o : Option Adoption) → w.adopted ≡ o → ((a : Adoption) → w.adopted ≡ Some a → IsPartWay w (install_events a hosts tries w) v)
+    → IfSome o (λ a. IsPartWay w (install_events a hosts tries w) v)
+cut-of w v hosts tries None is way = tt
+cut-of w v hosts tries (Some a) is way = way a is
 
 -- an installation behind the hosts' giving up
 pub told : (w v u : WorldState) (hosts : List ℕ) (tries acked : ℕ) (o : Option Adoption) → w.adopted ≡ o → v ≡ all_given_up w → v.adopted ≡ w.adopted

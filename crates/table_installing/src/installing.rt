@@ -6,6 +6,8 @@ ghost use Rattle.link_defs.specs.Links.{is_idle};
 ghost use Rattle.world_defs.specs.Table.{Adoption};
 ghost use Rattle.world_defs.specs.World.{fabric_of, host_count};
 ghost use Rattle.world_defs.specs.Install.{hosts_installed, installed};
+ghost use Rattle.event_lists.specs.Events.{hosts_events, install_events};
+ghost use Rattle.event_lists.specs.PartWay.{IsPartWay};
 ghost use Rattle.fab_world.specs.Events.{IsHostOf};
 ghost use Rattle.fab_world.specs.Held.{IsLater};
 ghost use Rattle.table_installing.specs.Installing.{CanInstall};
@@ -26,7 +28,7 @@ pub struct Installed {
 
 /// Installs the adopted routes on the adopter and the hosts that they name. Every host gives up what it staged; then
 /// each host is sent its parts, each up to so many times, and a part that isn't acknowledged ends the work for its
-/// host. Want of memory leaves a world that some events lead to.
+/// host. Want of memory leaves a world that a prefix of its events leads to.
 #[tactic(auto, unfolding(world_defs::specs::Install::installed))]
 pub fn install(
     alloc: Global,
@@ -38,7 +40,8 @@ pub fn install(
     ensures acked { IfOk result (λ x. IfSome w.old.adopted (λ a.
         installed a hosts.now tries w.old ≡ (x.acked, w.new))) }
     ensures of { IfOk result (λ x. x.of ≡ length hosts.now) }
-    ensures err { OnErr result (IsLater w.old w.new) }
+    ensures err { OnErr result (IfSome w.old.adopted (λ a.
+        IsPartWay w.old (install_events a hosts.now tries w.old) w.new)) }
     ensures idle { OnOk result (is_idle w.new.links ≡ true) }
     ensures fabric { fabric_of w.new ≡ fabric_of w.old }
     ensures hosts { host_count w.new ≡ host_count w.old }
@@ -72,6 +75,8 @@ fn install_hosts(
     ensures acked { (a : Adoption) → w.old.adopted ≡ Some a
         → IfOk result (λ k. hosts_installed a tries hosts.now w.old ≡ (k, w.new)) }
     ensures later { IsLater w.old w.new }
+    ensures err { (a : Adoption) → w.old.adopted ≡ Some a
+        → OnErr result (IsPartWay w.old (hosts_events a tries hosts.now w.old) w.new) }
     ensures fabric { fabric_of w.new ≡ fabric_of w.old }
     ensures hosts { host_count w.new ≡ host_count w.old }
 {

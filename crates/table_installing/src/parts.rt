@@ -5,15 +5,17 @@ ghost use Rattle.std.specs.List.{range_with_len};
 ghost use Rattle.world_defs.specs.World.{fabric_of, host_count};
 ghost use Rattle.world_defs.specs.Asking.{sends};
 ghost use Rattle.world_defs.specs.Install.{part_try, part_tries, parts_installed};
+ghost use Rattle.event_lists.specs.Events.{sends_events, tries_events, part_try_events, parts_events};
+ghost use Rattle.event_lists.specs.PartWay.{IsPartWay};
 ghost use Rattle.fab_world.specs.Events.{IsHostOf};
-ghost use Rattle.fab_world.specs.Held.{IsLater};
 ghost use Rattle.world_drain.specs.Watch.{seen_in};
 
 use fab_world::{Event, World};
 use std::alloc::{AllocError, Global};
 use world_drain::{AwaitedPart, Seen, Watch, drain_watching, happen};
 
-/// The first so many parts of a host, up to the first that isn't acknowledged: whether all are.
+/// The first so many parts of a host, up to the first that isn't acknowledged: whether all are. Want of memory leaves a
+/// world that a prefix of their events leads to.
 pub(crate) fn install_parts(
     alloc: Global,
     w: &mut World,
@@ -26,7 +28,8 @@ pub(crate) fn install_parts(
     requires dst { IsHostOf w.old dst }
     ensures all { IfOk result (λ b. b ≡ (parts_installed mapper dst tries (range_with_len 0 parts) w.old).0) }
     ensures after { OnOk result (w.new ≡ (parts_installed mapper dst tries (range_with_len 0 parts) w.old).1) }
-    ensures err { OnErr result (IsLater w.old w.new) }
+    ensures err { OnErr result (IsPartWay w.old
+        (parts_events mapper dst tries (range_with_len 0 parts) w.old) w.new) }
     ensures fabric { fabric_of w.new ≡ fabric_of w.old }
     ensures hosts { host_count w.new ≡ host_count w.old }
 {
@@ -51,7 +54,8 @@ fn part_tries(
     requires dst { IsHostOf w.old dst }
     ensures found { IfOk result (λ b. b ≡ (part_tries mapper dst tries part w.old).found) }
     ensures after { OnOk result (w.new ≡ (part_tries mapper dst tries part w.old).world) }
-    ensures err { OnErr result (IsLater w.old w.new) }
+    ensures err { OnErr result (IsPartWay w.old
+        (tries_events (λ b. b) (part_try mapper dst part) (part_try_events mapper dst part) tries w.old) w.new) }
     ensures fabric { fabric_of w.new ≡ fabric_of w.old }
     ensures hosts { host_count w.new ≡ host_count w.old }
 {
@@ -78,7 +82,7 @@ fn part_try(
     requires dst { IsHostOf w.old dst }
     ensures found { IfOk result (λ b. b ≡ (part_try mapper dst part w.old).found) }
     ensures after { OnOk result (w.new ≡ (part_try mapper dst part w.old).world) }
-    ensures err { OnErr result (IsLater w.old w.new) }
+    ensures err { OnErr result (IsPartWay w.old (part_try_events mapper dst part w.old) w.new) }
     ensures fabric { fabric_of w.new ≡ fabric_of w.old }
     ensures hosts { host_count w.new ≡ host_count w.old }
 {
@@ -102,7 +106,7 @@ fn send(alloc: Global, w: &mut World, host: u16, watch: Watch) -> Result<Seen, A
     requires { IsHostOf w.old host }
     ensures seen { IfOk result (λ s. s ≡ seen_in watch (sends w.old host).effects) }
     ensures after { OnOk result (w.new ≡ (sends w.old host).world) }
-    ensures err { OnErr result (IsLater w.old w.new) }
+    ensures err { OnErr result (IsPartWay w.old (sends_events w.old host) w.new) }
     ensures fabric { fabric_of w.new ≡ fabric_of w.old }
     ensures hosts { host_count w.new ≡ host_count w.old }
 {

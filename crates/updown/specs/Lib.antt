@@ -1,3 +1,4 @@
 pub mod Examples
 pub mod Lowering
 pub mod Oriented
+pub mod Sorted

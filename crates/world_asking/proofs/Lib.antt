@@ -1,3 +1,2 @@
-pub mod LaterTries
 pub mod Tries
 pub mod Truthful

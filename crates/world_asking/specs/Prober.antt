@@ -4,6 +4,8 @@ use Rattle.fab_outer.specs.Fault.{one_more}
 use Rattle.net_defs.specs.declared.place.Answer.{Answer}
 use Rattle.world_defs.specs.World.{WorldState, host_count}
 use Rattle.world_defs.specs.Asking.{Asked, ask}
+use Rattle.event_lists.specs.Events.{ask_events}
+use Rattle.event_lists.specs.PartWay.{IsPartWay}
 
 -- The world, the host that asks, how often it tries a probe of each kind, and how many of its asks drowned.
 pub record WorldAsking : Type 0 where
@@ -34,3 +36,8 @@ after_ask p walk = record p {
 pub record IsAsked (before : WorldAsking) (walk : List ℤ) (answer : Answer) (after : WorldAsking) : Type 0 where
   pub told : answer ≡ (next_ask before walk).answer
   pub led : after ≡ after_ask before walk
+
+-- An ask of a walk wanted memory: a prefix of its events leads to the world, and all else is as it was.
+pub record IsCutAsk (before : WorldAsking) (walk : List ℤ) (after : WorldAsking) : Type 0 where
+  pub way : IsPartWay before.world (ask_events before.host before.tries walk before.world) after.world
+  pub rest : after ≡ record before { world = after.world }

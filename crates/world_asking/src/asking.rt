@@ -3,8 +3,9 @@
 ghost use Rattle.std.specs.Prelude.{◌≡◌, ◌≤◌, length, IfOk, OnOk, OnErr};
 ghost use Rattle.world_defs.specs.World.{fabric_of, host_count};
 ghost use Rattle.world_defs.specs.Asking.{ask};
+ghost use Rattle.event_lists.specs.Events.{ask_events};
+ghost use Rattle.event_lists.specs.PartWay.{IsPartWay};
 ghost use Rattle.fab_world.specs.Events.{IsHostOf};
-ghost use Rattle.fab_world.specs.Held.{IsLater};
 
 use crate::trying::{host_tries, loop_tries};
 use fab_world::World;
@@ -20,7 +21,7 @@ pub(crate) struct Asked {
 }
 
 /// An ask: every host gives up what it staged; up to so many host probes, to the first reply; without one up to so
-/// many loopback probes, to the first that returns.
+/// many loopback probes, to the first that returns. Want of memory leaves a world that a prefix of its events leads to.
 #[tactic(auto, unfolding(world_defs::specs::Asking::ask))]
 pub(crate) fn ask(
     alloc: Global,
@@ -34,7 +35,7 @@ pub(crate) fn ask(
     ensures answer { IfOk result (λ a. a.answer ≡ (ask mapper tries walk.now w.old).answer) }
     ensures drowned { IfOk result (λ a. a.drowned ≡ (ask mapper tries walk.now w.old).drowned) }
     ensures after { OnOk result (w.new ≡ (ask mapper tries walk.now w.old).world) }
-    ensures err { OnErr result (IsLater w.old w.new) }
+    ensures err { OnErr result (IsPartWay w.old (ask_events mapper tries walk.now w.old) w.new) }
     ensures fabric { fabric_of w.new ≡ fabric_of w.old }
     ensures hosts { host_count w.new ≡ host_count w.old }
 {

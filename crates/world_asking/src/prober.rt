@@ -6,7 +6,7 @@ ghost use Rattle.link_defs.specs.Links.{is_idle};
 ghost use Rattle.world_defs.specs.World.{fabric_of, host_count};
 ghost use Rattle.probe.specs.Drowning.{IsTrueOrDrowned};
 ghost use Rattle.fab_world.specs.Events.{IsHostOf};
-ghost use Rattle.world_asking.specs.Prober.{IsAsked, after_ask, next_ask};
+ghost use Rattle.world_asking.specs.Prober.{IsAsked, IsCutAsk, after_ask, next_ask};
 
 use crate::asking::ask;
 use fab_world::World;
@@ -16,7 +16,8 @@ use std::alloc::{AllocError, Global};
 use std::marker::Model;
 
 /// A mapper that asks by probe packets over a world: each ask stands for events of that world. It may be asked while
-/// no packet is on its way.
+/// no packet is on its way. An ask that wants memory leaves a world that a prefix of its events leads to, and its count
+/// as it was.
 ///
 /// It holds the world, and must be spent, by [`WorldProber::into_world`].
 pub struct WorldProber {
@@ -74,7 +75,7 @@ impl Prober for WorldProber {
     ghost use Rattle.std.specs.Prelude.{◌≡◌, true};
     ghost use Rattle.link_defs.specs.Links.{is_idle};
     ghost use Rattle.world_defs.specs.World.{fabric_of};
-    ghost use Rattle.world_asking.specs.Prober.{WorldAsking, IsAsked};
+    ghost use Rattle.world_asking.specs.Prober.{WorldAsking, IsAsked, IsCutAsk};
 
     ghost fabric = { λ p. fabric_of p.world };
 
@@ -88,7 +89,7 @@ impl Prober for WorldProber {
 
     ghost asked = { IsAsked };
 
-    ghost cut = { λ _ _ _. Unit {0} };
+    ghost cut = { IsCutAsk };
 
     ghost ready = { λ p. is_idle p.world.links ≡ true };
 
@@ -110,7 +111,7 @@ impl Prober for WorldProber {
         ensures same_fabric { fabric_of self.new.world ≡ fabric_of self.old.world }
         ensures same_mapper { self.new.host ≡ self.old.host }
         ensures by_asking { IfOk result (λ a. IsAsked self.old w.now a self.new) }
-        ensures by_cutting { OnErr result (Unit {0}) }
+        ensures by_cutting { OnErr result (IsCutAsk self.old w.now self.new) }
         ensures stays_ready { OnOk result (is_idle self.new.world.links ≡ true) }
     {
         self.world.moment();

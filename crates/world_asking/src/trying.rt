@@ -1,12 +1,13 @@
 //! The tries of an ask: each a probe alone, injected and drained.
 
-ghost use Rattle.std.specs.Prelude.{◌≡◌, ◌≤◌, ◌&&◌, length, true, IfOk, OnOk, OnErr};
+ghost use Rattle.std.specs.Prelude.{◌≡◌, ◌≤◌, ◌&&◌, length, true, is_some, IfOk, OnOk, OnErr};
 ghost use Rattle.world_defs.specs.World.{fabric_of, host_count};
 ghost use Rattle.world_defs.specs.Step.{step};
 ghost use Rattle.world_defs.specs.declared.event.Event.TheVariants.{Ask, Inject};
 ghost use Rattle.world_defs.specs.Asking.{is_used_up, number_of, host_try, loop_try, host_tries, loop_tries};
+ghost use Rattle.event_lists.specs.Events.{host_try_events, loop_try_events, tries_events};
+ghost use Rattle.event_lists.specs.PartWay.{IsPartWay};
 ghost use Rattle.fab_world.specs.Events.{IsHostOf};
-ghost use Rattle.fab_world.specs.Held.{IsLater};
 
 use fab_world::{Event, World};
 use net_defs::{End, Vertex, Walk};
@@ -34,7 +35,8 @@ pub(crate) struct LoopTry {
     pub(crate) harmed: bool,
 }
 
-/// At most so many tries of a host probe, up to the first that is replied to.
+/// At most so many tries of a host probe, up to the first that is replied to. Want of memory leaves a world that a
+/// prefix of their events leads to.
 pub(crate) fn host_tries(
     alloc: Global,
     w: &mut World,
@@ -46,7 +48,8 @@ pub(crate) fn host_tries(
     ensures found { IfOk result (λ t. t.found ≡ (host_tries mapper walk.now tries w.old).found) }
     ensures harmed { IfOk result (λ t. t.harmed ≡ (host_tries mapper walk.now tries w.old).harmed) }
     ensures after { OnOk result (w.new ≡ (host_tries mapper walk.now tries w.old).world) }
-    ensures err { OnErr result (IsLater w.old w.new) }
+    ensures err { OnErr result (IsPartWay w.old
+        (tries_events is_some (host_try mapper walk.now) (host_try_events mapper walk.now) tries w.old) w.new) }
     ensures fabric { fabric_of w.new ≡ fabric_of w.old }
     ensures hosts { host_count w.new ≡ host_count w.old }
 {
@@ -69,7 +72,8 @@ pub(crate) fn host_tries(
     })
 }
 
-/// At most so many tries of a loopback probe, up to the first that returns.
+/// At most so many tries of a loopback probe, up to the first that returns. Want of memory leaves a world that a prefix
+/// of their events leads to.
 pub(crate) fn loop_tries(
     alloc: Global,
     w: &mut World,
@@ -82,7 +86,8 @@ pub(crate) fn loop_tries(
     ensures found { IfOk result (λ t. t.found ≡ (loop_tries mapper walk.now tries w.old).found) }
     ensures harmed { IfOk result (λ t. t.harmed ≡ (loop_tries mapper walk.now tries w.old).harmed) }
     ensures after { OnOk result (w.new ≡ (loop_tries mapper walk.now tries w.old).world) }
-    ensures err { OnErr result (IsLater w.old w.new) }
+    ensures err { OnErr result (IsPartWay w.old
+        (tries_events (λ b. b) (loop_try mapper walk.now) (loop_try_events mapper walk.now) tries w.old) w.new) }
     ensures fabric { fabric_of w.new ≡ fabric_of w.old }
     ensures hosts { host_count w.new ≡ host_count w.old }
 {
@@ -112,7 +117,7 @@ fn host_try(alloc: Global, w: &mut World, mapper: u16, walk: &Walk) -> Result<Ho
     ensures found { IfOk result (λ t. t.found ≡ (host_try mapper walk.now w.old).found) }
     ensures harmed { IfOk result (λ t. t.harmed ≡ (host_try mapper walk.now w.old).harmed) }
     ensures after { OnOk result (w.new ≡ (host_try mapper walk.now w.old).world) }
-    ensures err { OnErr result (IsLater w.old w.new) }
+    ensures err { OnErr result (IsPartWay w.old (host_try_events mapper walk.now w.old) w.new) }
     ensures fabric { fabric_of w.new ≡ fabric_of w.old }
     ensures hosts { host_count w.new ≡ host_count w.old }
 {
@@ -147,7 +152,7 @@ fn loop_try(alloc: Global, w: &mut World, mapper: u16, walk: &Walk) -> Result<Lo
     ensures found { IfOk result (λ t. t.found ≡ (loop_try mapper walk.now w.old).found) }
     ensures harmed { IfOk result (λ t. t.harmed ≡ (loop_try mapper walk.now w.old).harmed) }
     ensures after { OnOk result (w.new ≡ (loop_try mapper walk.now w.old).world) }
-    ensures err { OnErr result (IsLater w.old w.new) }
+    ensures err { OnErr result (IsPartWay w.old (loop_try_events mapper walk.now w.old) w.new) }
     ensures fabric { fabric_of w.new ≡ fabric_of w.old }
     ensures hosts { host_count w.new ≡ host_count w.old }
 {
@@ -166,7 +171,7 @@ fn loop_try(alloc: Global, w: &mut World, mapper: u16, walk: &Walk) -> Result<Lo
     })
 }
 
-// Stages a probe of a walk at a host.
+// Stages a probe of a walk at a host. Want of memory changes nothing.
 fn stage(
     alloc: Global,
     w: &mut World,
@@ -177,7 +182,7 @@ fn stage(
     requires there { IsHostOf w.old host }
     requires short { looped ≡ true → length walk.now ≤ 31 }
     ensures after { OnOk result (w.new ≡ (step w.old (Ask host walk.now looped)).1) }
-    ensures err { OnErr result (IsLater w.old w.new) }
+    ensures err { OnErr result (w.new ≡ w.old) }
     ensures fabric { fabric_of w.new ≡ fabric_of w.old }
     ensures hosts { host_count w.new ≡ host_count w.old }
 {
@@ -185,13 +190,13 @@ fn stage(
     happen(alloc, w, Event::Ask { host, walk, looped })
 }
 
-// A host puts what it has to send first into its channel.
+// A host puts what it has to send first into its channel. Want of memory changes nothing.
 fn inject(alloc: Global, w: &mut World, host: u16) -> Result<Injection, AllocError>
     requires there { IsHostOf w.old host }
     ensures used { IfOk result (λ i. i.used_up ≡ is_used_up w.old host) }
     ensures number { IfOk result (λ i. i.number ≡ number_of (step w.old (Inject host)).0) }
     ensures after { OnOk result (w.new ≡ (step w.old (Inject host)).1) }
-    ensures err { OnErr result (IsLater w.old w.new) }
+    ensures err { OnErr result (w.new ≡ w.old) }
     ensures fabric { fabric_of w.new ≡ fabric_of w.old }
     ensures hosts { host_count w.new ≡ host_count w.old }
 {

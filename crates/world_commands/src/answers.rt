@@ -19,8 +19,8 @@ use run_defs::{ClientCall, Line};
 use std::alloc::{AllocError, Global};
 use world_defs::Said;
 
-/// A client's call at a port, by its event: the command that this call is was done. Where memory is wanting, the
-/// event may have happened.
+/// A client's call at a port, by its event: the command that this call is was done. Where memory is wanting for its
+/// line, the event has happened.
 pub(crate) fn call(
     alloc: Global,
     w: &mut World,

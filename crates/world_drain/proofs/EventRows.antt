@@ -6,10 +6,11 @@ use Rattle.world_defs.specs.declared.event.Event.TheVariants.{Inject, Replay, Re
 use Rattle.world_defs.specs.World.{WorldState}
 use Rattle.world_defs.specs.Step.{step, steps}
 use Rattle.world_defs.specs.Drain.{channels_of, resets_of, reset_count, clear}
-use Rattle.world_defs.specs.Settle.{then_clear, round_pass}
-use Rattle.world_laws.proofs.Along.{Along, Clears, SettlesBy, all-map, steps-along, clear-along, round_pass-along}
+use Rattle.world_defs.specs.Settle.{then_clear}
+use Rattle.world_laws.proofs.Along.{Along, Clears, SettlesBy, all-map, steps-along, clear-along}
+use Rattle.event_lists.specs.PartWay.{IsPartWay}
 use Rattle.fab_world.specs.Held.{IsLater}
-use Rattle.world_drain.proofs.Later.{later-same, later-both, later-step}
+use Rattle.world_drain.proofs.Later.{later-same, later-both, later-step, way-later}
 
 -- every event is of this kind
 abbrev pub Any : Event → Type 0
@@ -31,9 +32,9 @@ pub injects-later : (w v : WorldState) (hs : List ℕ) → v ≡ (steps w (map I
 injects-later w v hs is = events-later w v Inject hs is
 
 -- resets that came to their end, or were cut off
-pub resets-later : {E : Type 0} (w v : WorldState) (r : Result ℕ E) → IfOk r (λ n. reset_count (steps w (resets_of w)) ≡ (n, v)) → OnErr r (IsLater w v) → IsLater w v
+pub resets-later : {E : Type 0} (w v : WorldState) (r : Result ℕ E) → IfOk r (λ n. reset_count (steps w (resets_of w)) ≡ (n, v)) → OnErr r (IsPartWay w (resets_of w) v) → IsLater w v
 resets-later w v (Ok n) is err = events-later w v Reset (channels_of w) (sym (ap (λ p. p.1) is))
-resets-later w v (Err e) is err = err
+resets-later w v (Err e) is err = way-later w v err
 
 pub clear-later : (w v : WorldState) (n : ℕ) → clear w ≡ (n, v) → IsLater w v
 clear-later w v n is = subst (IsLater w) (ap (λ p. p.1) is) (clear-along IsLater Any along-later clears-any w)
@@ -42,6 +43,3 @@ pub replay-later : (w v : WorldState) (serial : ℕ) → v ≡ (then_clear (step
 replay-later w v serial is =
     let u : WorldState = (step w (Replay serial)).1 in
     subst (IsLater w) (sym is) (later-both w u (clear u).1 (later-step w u (Replay serial) refl) (clear-along IsLater Any along-later clears-any u))
-
-pub round_pass-later : (w v : WorldState) → v ≡ (round_pass w).world → IsLater w v
-round_pass-later w v is = subst (IsLater w) (sym is) (round_pass-along IsLater Any along-later settles-any w)

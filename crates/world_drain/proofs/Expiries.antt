@@ -1,7 +1,8 @@
 -- Expiries change nothing of what isn't acknowledged, and are idle where nothing is: those of all pairs come to those of pairs with something.
-use Rattle.std.proofs.Common.{◌≡◌, ◌<◌, ◌≤◌, ℕ, suc, ◌+◌, ◌-◌, Bool, true, false, List, [], ◌∷◌, map, nat_lt, cond, refl, sym, ◌∙◌, ap, arith, if◌then◌else◌}
+use Rattle.std.proofs.Common.{◌≡◌, ◌<◌, ◌≤◌, ℕ, suc, ◌+◌, ◌-◌, Bool, true, false, List, [], ◌∷◌, map, nat_lt, cond, refl, sym, ◌∙◌, ap, subst, arith, if◌then◌else◌}
 use Rattle.std.specs.List.{range_with_len, filter}
 use Rattle.std.proofs.lemmas.Bool.Decides.{nat_tests}
+use Rattle.world_defs.specs.declared.event.Event.{Event}
 use Rattle.world_defs.specs.declared.event.Event.TheVariants.{Expire}
 use Rattle.world_defs.specs.declared.effect.Effect.{Effect}
 use Rattle.world_defs.specs.declared.effect.Effect.TheVariants.{Idle, Expired}
@@ -14,8 +15,8 @@ use Rattle.world_defs.specs.Settle.{unacknowledged_from, expiries_of, expiries_o
 use Rattle.world_laws.proofs.Lists.{at-set}
 use Rattle.world_laws.proofs.Idling.{step-idle}
 use Rattle.world_laws.proofs.Reached.{after_all-append}
-use Rattle.fab_world.specs.Held.{IsLater}
-use Rattle.world_drain.proofs.Later.{later-same, later-both, later-step}
+use Rattle.event_lists.specs.PartWay.{IsPartWay}
+use Rattle.event_lists.proofs.PartWay.{way-front, way-behind, way-step}
 
 -- as much isn't acknowledged, of each pair
 abbrev pub HasSameLeft : WorldState → WorldState → Type 0
@@ -88,18 +89,37 @@ expires-due first now h (p ∷ ps) same =
         let none : unacknowledged_to (node_at first h) p ≡ 0 = grind (arith, nat_tests) in
         ap (λ w. after_all w (map (Expire h) ps)) (expire-idle now h p (same h p ∙ none)) ∙ here
 
+-- the expiries of a host to those of some peers to which something is due
+abbrev pub due_of : WorldState → ℕ → List ℕ → List Event
+due_of w h ps = map (Expire h) (filter (λ p. nat_lt 0 (unacknowledged_to (node_at w h) p)) ps)
+
 -- those of a host under way
 pub record Expiring (first now : WorldState) (host peer : ℕ) : Type 0 where
   pub rest : after_all now (map (Expire host) (range_with_len peer (host_count first - peer))) ≡ after_all first (map (Expire host) (addresses first))
-  pub later : IsLater first now
+  pub same : HasSameLeft first now
+  pub way : (v : WorldState) → IsPartWay now (due_of first host (range_with_len peer (host_count first - peer))) v → IsPartWay first (expiries_of first host) v
   pub hosts : host_count now ≡ host_count first
 
 pub expiring-none : (w : WorldState) (host : ℕ) → Expiring w w host 0
 expiring-none w host = record {
   rest = let e : host_count w - 0 ≡ host_count w = omega arith in ap (λ n. after_all w (map (Expire host) (range_with_len 0 n))) e;
-  later = later-same w;
+  same = λ a b. refl;
+  way = λ v p. let e : host_count w - 0 ≡ host_count w = omega arith in subst (λ n. IsPartWay w (due_of w host (range_with_len 0 n)) v) e p;
   hosts = refl;
 }
+
+-- an expiry of which nothing is due is none of them
+due-next : (first now next v : WorldState) (h p : ℕ) (ps : List ℕ) → HasSameLeft first now → next ≡ (step now (Expire h p)).1 → IsPartWay next (due_of first h ps) v → IsPartWay now (due_of first h (p ∷ ps)) v
+due-next first now next v h p ps same is way = by (nat_lt 0 (unacknowledged_to (node_at first h) p)) refl
+  where
+    due : List ℕ
+    due = filter (λ q. nat_lt 0 (unacknowledged_to (node_at first h) q)) ps
+
+    by : (t : Bool) → nat_lt 0 (unacknowledged_to (node_at first h) p) ≡ t → IsPartWay now (map (Expire h) (cond t (p ∷ due) due)) v
+    by true m = way-step now next v (Expire h p) (map (Expire h) due) is way
+    by false m =
+        let none : unacknowledged_to (node_at first h) p ≡ 0 = grind (arith, nat_tests) in
+        subst (λ w. IsPartWay w (map (Expire h) due) v) (is ∙ expire-idle now h p (same h p ∙ none)) way
 
 pub expiring-on : (first now next : WorldState) (host peer : ℕ) → Expiring first now host peer → peer < host_count first → next ≡ (step now (Expire host peer)).1
     → host_count next ≡ host_count now → Expiring first next host (peer + 1)
@@ -109,7 +129,11 @@ expiring-on first now next host peer r low is hosts =
       rest =
           ap (λ w. after_all w (map (Expire host) (range_with_len (peer + 1) (host_count first - (peer + 1))))) is
           ∙ ap (λ n. after_all now (map (Expire host) (range_with_len peer n))) (sym left) ∙ r.rest;
-      later = later-both first now next r.later (later-step now next (Expire host peer) is);
+      same = λ a b. ap (λ w. unacknowledged_to (node_at w a) b) is ∙ expire-left now host peer a b ∙ r.same a b;
+      way = λ v p.
+          r.way v
+          (subst (λ n. IsPartWay now (due_of first host (range_with_len peer n)) v) (sym left)
+          (due-next first now next v host peer (range_with_len (peer + 1) (host_count first - (peer + 1))) r.same is p));
       hosts = hosts ∙ r.hosts;
     }
 
@@ -122,14 +146,14 @@ expiring-all first now host peer r past =
 pub record ExpiringAll (first now : WorldState) (host : ℕ) : Type 0 where
   pub rest : after_all now (expiries_of_all first (range_with_len host (host_count first - host))) ≡ after_all first (expiries first)
   pub same : HasSameLeft first now
-  pub later : IsLater first now
+  pub way : (v : WorldState) → IsPartWay now (expiries_of_all first (range_with_len host (host_count first - host))) v → IsPartWay first (expiries first) v
   pub hosts : host_count now ≡ host_count first
 
 pub expiring_all-none : (w : WorldState) → ExpiringAll w w 0
 expiring_all-none w = record {
   rest = let e : host_count w - 0 ≡ host_count w = omega arith in ap (λ n. after_all w (expiries_of_all w (range_with_len 0 n))) e;
   same = λ a b. refl;
-  later = later-same w;
+  way = λ v p. let e : host_count w - 0 ≡ host_count w = omega arith in subst (λ n. IsPartWay w (expiries_of_all w (range_with_len 0 n)) v) e p;
   hosts = refl;
 }
 
@@ -155,14 +179,23 @@ expiring_all-on first now next host r low is hosts =
           ∙ sym (after_all-append now (expiries_of first host) behind)
           ∙ ap (λ n. after_all now (expiries_of_all first (range_with_len host n))) (sym left) ∙ r.rest;
       same = λ a b. ap (λ w. unacknowledged_to (node_at w a) b) is ∙ expires-left now host due a b ∙ r.same a b;
-      later = later-both first now next r.later (expiries_of now host, is);
+      way = λ v p.
+          r.way v
+          (subst (λ n. IsPartWay now (expiries_of_all first (range_with_len host n)) v) (sym left)
+          (way-behind now next v (expiries_of first host) behind (is ∙ ap (after_all now) (same-expiries first now host r.same r.hosts)) p));
       hosts = hosts ∙ r.hosts;
     }
+
+-- memory was wanting within the expiries of a host
+pub expiring_all-cut : (first now v : WorldState) (host : ℕ) → ExpiringAll first now host → host < host_count first → IsPartWay now (expiries_of now host) v → IsPartWay first (expiries first) v
+expiring_all-cut first now v host r low p =
+    let left : host_count first - host ≡ suc (host_count first - (host + 1)) = omega (arith, low) in
+    let behind = expiries_of_all first (range_with_len (host + 1) (host_count first - (host + 1))) in
+    r.way v
+    (subst (λ n. IsPartWay now (expiries_of_all first (range_with_len host n)) v) (sym left)
+    (way-front now v (expiries_of first host) behind (subst (λ es. IsPartWay now es v) (same-expiries first now host r.same r.hosts) p)))
 
 pub expiring_all-all : (first now : WorldState) (host : ℕ) → ExpiringAll first now host → host_count first ≤ host → now ≡ after_all first (expiries first)
 expiring_all-all first now host r past =
     let left : 0 ≡ host_count first - host = omega (arith, past) in
     ap (λ n. after_all now (expiries_of_all first (range_with_len host n))) left ∙ r.rest
-
-pub expiries-later : (w v : WorldState) → v ≡ after_all w (expiries w) → IsLater w v
-expiries-later w v is = (expiries w, is)

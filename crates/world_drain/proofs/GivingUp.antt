@@ -8,8 +8,9 @@ use Rattle.world_defs.specs.Node.{has_staged, given_up}
 use Rattle.world_defs.specs.World.{WorldState, fabric_of, host_count, addresses, node_at, with_node}
 use Rattle.world_defs.specs.Step.{step, gave_up, after_all}
 use Rattle.world_defs.specs.Asking.{all_given_up}
+use Rattle.event_lists.specs.PartWay.{IsPartWay}
+use Rattle.event_lists.proofs.PartWay.{way-first, way-next}
 use Rattle.fab_world.specs.Held.{IsLater}
-use Rattle.world_drain.proofs.Later.{later-same, later-both, later-step}
 
 -- a host that has nothing staged gives nothing up
 pub give_up-idle : (w : WorldState) (h : ℕ) → has_staged (node_at w h) ≡ false → w ≡ (step w (GiveUp h)).1
@@ -19,14 +20,14 @@ give_up-idle w h none = ap (λ b. (if b then (let r : Effect × WorldState = (Ga
 -- those from an address on have yet to give up
 pub record GivingUp (first now : WorldState) (host : ℕ) : Type 0 where
   pub rest : after_all now (map GiveUp (range_with_len host (host_count first - host))) ≡ all_given_up first
-  pub later : IsLater first now
+  pub way : (v : WorldState) → IsPartWay now (map GiveUp (range_with_len host (host_count first - host))) v → IsPartWay first (map GiveUp (addresses first)) v
   pub fabric : fabric_of now ≡ fabric_of first
   pub hosts : host_count now ≡ host_count first
 
 pub giving-none : (w : WorldState) → GivingUp w w 0
 giving-none w = record {
   rest = let e : host_count w - 0 ≡ host_count w = omega arith in ap (λ n. after_all w (map GiveUp (range_with_len 0 n))) e;
-  later = later-same w;
+  way = λ v p. way-first GiveUp w v (host_count w) p;
   fabric = refl;
   hosts = refl;
 }
@@ -39,7 +40,7 @@ giving-on first now next host g low is net hosts =
       rest =
           ap (λ w. after_all w (map GiveUp (range_with_len (host + 1) (host_count first - (host + 1))))) is
           ∙ ap (λ n. after_all now (map GiveUp (range_with_len host n))) (sym left) ∙ g.rest;
-      later = later-both first now next g.later (later-step now next (GiveUp host) is);
+      way = λ v p. g.way v (way-next GiveUp now next v host (host_count first) host (omega arith) low (λ k a b. absurd (omega (arith, a, b))) is p);
       fabric = net ∙ g.fabric;
       hosts = hosts ∙ g.hosts;
     }

@@ -10,8 +10,8 @@ use Rattle.world_defs.specs.Drain.{changed, changes}
 use Rattle.world_laws.specs.Idle.{CannotInject}
 use Rattle.world_laws.proofs.Draining.{one_if, changes-push}
 use Rattle.world_laws.proofs.Idling.{step-idle}
-use Rattle.fab_world.specs.Held.{IsLater}
-use Rattle.world_drain.proofs.Later.{later-same, later-both, later-step}
+use Rattle.event_lists.specs.PartWay.{IsPartWay}
+use Rattle.event_lists.proofs.PartWay.{way-first, way-next}
 use Rattle.world_drain.proofs.Telling.{moved-sum, one-moved}
 
 -- a host that has nothing to send injects nothing
@@ -37,7 +37,7 @@ pub record Injecting (first now : WorldState) (host : ℕ) (moved : Bool) : Type
   pub any : moved ≡ nat_lt 0 moves
   pub moves_left : moves + changes (injects_from now host (host_count first)).0 ≡ changes (all_injects first).0
   pub world_left : (injects_from now host (host_count first)).1 ≡ (all_injects first).1
-  pub later : IsLater first now
+  pub way : (v : WorldState) → IsPartWay now (map Inject (range_with_len host (host_count first - host))) v → IsPartWay first (map Inject (addresses first)) v
   pub hosts : host_count now ≡ host_count first
 
 pub injecting-none : (w : WorldState) → Injecting w w 0 false
@@ -50,7 +50,7 @@ injecting-none w =
       any = refl;
       moves_left = omega (arith, a);
       world_left = ap (λ r. r.1) whole;
-      later = later-same w;
+      way = λ v p. way-first Inject w v (host_count w) p;
       hosts = refl;
     }
 
@@ -73,7 +73,7 @@ injecting-on first now next host moved one both r low one_is is both_is hosts =
       world_left =
           ap (λ w. (injects_from w (host + 1) count).1) is
           ∙ ap (λ n. (steps now (map Inject (range_with_len host n))).1) (sym left) ∙ r.world_left;
-      later = later-both first now next r.later (later-step now next (Inject host) is);
+      way = λ v p. r.way v (way-next Inject now next v host count host (omega arith) low (λ k a b. absurd (omega (arith, a, b))) is p);
       hosts = hosts ∙ r.hosts;
     }
 

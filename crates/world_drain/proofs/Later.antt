@@ -1,10 +1,11 @@
 -- Events that lead on from where other events led.
-use Rattle.std.proofs.Common.{◌≡◌, [], ◌∷◌, ◌++◌, refl, sym, ◌∙◌, ap}
+use Rattle.std.proofs.Common.{◌≡◌, List, [], ◌∷◌, ◌++◌, refl, sym, ◌∙◌, ap}
 use Rattle.std.specs.Prelude.{Result, Ok, Err, OnErr}
 use Rattle.world_defs.specs.declared.event.Event.{Event}
 use Rattle.world_defs.specs.World.{WorldState}
 use Rattle.world_defs.specs.Step.{step, after_all}
 use Rattle.world_laws.proofs.Reached.{after_all-append}
+use Rattle.event_lists.specs.PartWay.{IsPartWay}
 use Rattle.fab_world.specs.Held.{IsLater}
 
 pub later-same : (w : WorldState) → IsLater w w
@@ -15,6 +16,12 @@ later-both u v w (es, is) (fs, on) = (es ++ fs, on ∙ ap (λ x. after_all x fs)
 
 pub later-step : (w v : WorldState) (e : Event) → v ≡ (step w e).1 → IsLater w v
 later-step w v e is = (e ∷ [], is)
+
+pub later-still : (w v : WorldState) → v ≡ w → IsLater w v
+later-still w v is = ([], is)
+
+pub way-later : {es : List Event} (w v : WorldState) → IsPartWay w es v → IsLater w v
+way-later w v p = (p.done, p.there)
 
 pub on-any : {A E : Type 0} {P : Type 0} (r : Result A E) → P → OnErr r P
 on-any (Ok a) p = tt

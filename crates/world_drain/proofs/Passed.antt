@@ -7,14 +7,14 @@ use Rattle.world_defs.specs.declared.event.Event.TheVariants.{Advance}
 use Rattle.world_defs.specs.Node.{either}
 use Rattle.world_defs.specs.World.{WorldState, fabric_of, host_count}
 use Rattle.world_defs.specs.Step.{step, steps}
-use Rattle.world_defs.specs.Drain.{pass}
-use Rattle.fab_world.specs.Held.{IsLater}
+use Rattle.world_defs.specs.Drain.{channels_of, pass}
+use Rattle.event_lists.specs.PartWay.{IsPartWay}
+use Rattle.event_lists.proofs.PartWay.{way-first, way-next}
 use Rattle.world_drain.specs.declared.seen.Watch.{Watch}
 use Rattle.world_drain.specs.declared.seen.Seen.{Seen}
 use Rattle.world_drain.specs.Watch.{seen_in, seen_then}
-use Rattle.world_drain.proofs.Later.{later-same, later-both, later-step}
 use Rattle.world_drain.proofs.Watching.{seen-append, then-in-a-row, then-nothing}
-use Rattle.world_drain.proofs.Passing.{advances_from, pass-on, pass-end}
+use Rattle.world_drain.proofs.Passing.{empty-idle, advances_from, pass-on, pass-end}
 
 pub record Passed (watch : Watch) (first now : WorldState) (from : ℕ) (seen : Seen) : Type 0 where
   pub within : from ≤ length now.links.channels
@@ -22,7 +22,7 @@ pub record Passed (watch : Watch) (first now : WorldState) (from : ℕ) (seen : 
   pub shown : seen_then seen (seen_in watch (advances_from now from (length now.links.channels)).0) ≡ seen_in watch (pass first).0
   pub after : (advances_from now from (length now.links.channels)).1 ≡ (pass first).1
   pub heard : IfSome seen.probed (λ h. h < host_count first)
-  pub later : IsLater first now
+  pub way : (v : WorldState) → IsPartWay now (map Advance (range_with_len from (length first.links.channels - from))) v → IsPartWay first (map Advance (channels_of first)) v
   pub fabric : fabric_of now ≡ fabric_of first
   pub hosts : host_count now ≡ host_count first
   pub channels : length now.links.channels ≡ length first.links.channels
@@ -41,7 +41,7 @@ passed-none watch w nothing e =
       shown = ap (λ s. seen_then s (seen_in watch all.0)) e ∙ sym (seen-append watch [] all.0) ∙ ap (λ r. seen_in watch r.0) (whole w);
       after = ap (λ r. r.1) (whole w);
       heard = subst (λ s. IfSome s.probed (λ h. h < host_count w)) (sym e) tt;
-      later = later-same w;
+      way = λ v p. way-first Advance w v (length w.links.channels) p;
       fabric = refl;
       hosts = refl;
       channels = refl;
@@ -65,6 +65,7 @@ passed-on watch first now next from c seen one both p low high empty shows few h
     ap (λ n. advances_from next (c + 1) n) channels ∙ ap (λ w. advances_from w (c + 1) count) is in
     let changes : both.changes ≡ seen.changes + one.changes = ap (λ s. s.changes) made in
     let before = p.few in
+    let as_many = p.channels in
     record {
       within = omega (arith, high, channels);
       few = omega (arith, changes, before, few, low);
@@ -75,7 +76,7 @@ passed-on watch first now next from c seen one both p low high empty shows few h
           ∙ ap (seen_then seen) (sym on.0) ∙ p.shown;
       after = ap (λ r. r.1) same ∙ sym on.1 ∙ p.after;
       heard = subst (λ s. IfSome s.probed (λ h. h < host_count first)) (sym made) (first-heard (host_count first) (host_count now) seen.probed one.probed p.hosts p.heard heard);
-      later = later-both first now next p.later (later-step now next (Advance c) is);
+      way = λ v q. p.way v (way-next Advance now next v from (length first.links.channels) c low (omega (arith, high, as_many)) (λ k a b. sym (ap (λ r. r.1) (empty-idle now k (empty k a b)))) is q);
       fabric = net ∙ p.fabric;
       hosts = hosts ∙ p.hosts;
       channels = channels ∙ p.channels;

@@ -11,8 +11,8 @@ use Rattle.world_defs.specs.Step.{of_links, was_reset, step, steps, followed_by}
 use Rattle.world_defs.specs.Drain.{changes, drain, resets_of, reset_count, clear}
 use Rattle.world_laws.proofs.Draining.{changes-push}
 use Rattle.world_laws.proofs.Clearing.{reset-changed, clear-idle}
-use Rattle.fab_world.specs.Held.{IsLater}
-use Rattle.world_drain.proofs.Later.{later-same, later-both, later-step}
+use Rattle.event_lists.specs.PartWay.{IsPartWay}
+use Rattle.event_lists.proofs.PartWay.{way-first, way-next}
 
 -- a reset of an empty channel is idle
 reset-idle : (w : WorldState) (c : ℕ) → packet_in w.links c ≡ None → step w (Reset c) ≡ (Idle, w)
@@ -55,7 +55,7 @@ pub record Resetting (first now : WorldState) (from resets : ℕ) : Type 0 where
   pub few : resets ≤ from
   pub counted : resets + changes (resets_from now from (length now.links.channels)).0 ≡ changes (steps first (resets_of first)).0
   pub after : (resets_from now from (length now.links.channels)).1 ≡ (steps first (resets_of first)).1
-  pub later : IsLater first now
+  pub way : (v : WorldState) → IsPartWay now (map Reset (range_with_len from (length first.links.channels - from))) v → IsPartWay first (resets_of first) v
   pub channels : length now.links.channels ≡ length first.links.channels
 
 pub resetting-none : (w : WorldState) → Resetting w w 0 0
@@ -68,7 +68,7 @@ resetting-none w =
       few = omega arith;
       counted = omega (arith, counted);
       after = ap (λ r. r.1) whole;
-      later = later-same w;
+      way = λ v p. way-first Reset w v (length w.links.channels) p;
       channels = refl;
     }
 
@@ -86,12 +86,13 @@ resetting-on first now next from c resets r low high full empty is channels =
     let gone = skipped.0 in
     let before = r.counted in
     let few = r.few in
+    let as_many = r.channels in
     record {
       within = omega (arith, high, channels);
       few = omega (arith, few, low);
       counted = omega (arith, first_counts, rest, gone, before);
       after = ap (λ p. p.1) same ∙ sym skipped.1 ∙ r.after;
-      later = later-both first now next r.later (later-step now next (Reset c) is);
+      way = λ v p. r.way v (way-next Reset now next v from (length first.links.channels) c low (omega (arith, high, as_many)) (λ k a b. sym (ap (λ s. s.1) (reset-idle now k (empty k a b)))) is p);
       channels = channels ∙ r.channels;
     }
 

@@ -9,6 +9,9 @@ use Rattle.world_defs.specs.Step.{step, steps, after_all}
 use Rattle.world_defs.specs.declared.effect.Effect.{Effect}
 use Rattle.world_defs.specs.Drain.{changes, channels_of, pass, drain, Drains}
 use Rattle.world_laws.proofs.Draining.{pass-cost, drain-drains}
+use Rattle.event_lists.specs.Events.{drain_events}
+use Rattle.event_lists.specs.PartWay.{IsPartWay}
+use Rattle.event_lists.proofs.Drained.{drain-on}
 use Rattle.fab_world.specs.Held.{IsLater}
 use Rattle.world_drain.specs.declared.seen.Watch.{Watch}
 use Rattle.world_drain.specs.declared.seen.Seen.{Seen}
@@ -20,7 +23,7 @@ use Rattle.world_drain.proofs.Passed.{first-heard}
 pub record Running (watch : Watch) (first now : WorldState) (seen : Seen) : Type 0 where
   pub ran : Ran watch first now seen
   pub heard : IfSome seen.probed (λ h. h < host_count first)
-  pub later : IsLater first now
+  pub way : (v : WorldState) → IsPartWay now (drain_events now) v → IsPartWay first (drain_events first) v
   pub fabric : fabric_of now ≡ fabric_of first
   pub hosts : host_count now ≡ host_count first
 
@@ -36,7 +39,7 @@ pub running-none : (watch : Watch) (w : WorldState) (nothing : Seen) → nothing
 running-none watch w nothing e = record {
   ran = subst (Ran watch w w) (sym e) (ran-none watch w);
   heard = subst (λ s. IfSome s.probed (λ h. h < host_count w)) (sym e) tt;
-  later = later-same w;
+  way = λ v p. p;
   fabric = refl;
   hosts = refl;
 }
@@ -47,7 +50,7 @@ pub running-on : (watch : Watch) (first now next : WorldState) (seen once both :
 running-on watch first now next seen once both r shown heard is some net hosts made = record {
   ran = subst (Ran watch first next) (sym made) (ran-on watch first now next seen once r.ran shown is some);
   heard = subst (λ s. IfSome s.probed (λ h. h < host_count first)) (sym made) (first-heard (host_count first) (host_count now) seen.probed once.probed r.hosts r.heard heard);
-  later = later-both first now next r.later (subst (IsLater now) (sym is) (pass-later now));
+  way = λ v p. r.way v (drain-on now next v (λ none. some (ap (λ s. s.changes) shown ∙ none)) is p);
   fabric = net ∙ r.fabric;
   hosts = hosts ∙ r.hosts;
 }

@@ -9,10 +9,9 @@ use Rattle.world_defs.specs.Asking.{all_given_up}
 use Rattle.world_defs.specs.Settle.{Stretch, round_pass, is_quiet, is_last_pass}
 use Rattle.world_laws.specs.Settling.{RoundPasses, joined_stretch}
 use Rattle.world_laws.proofs.Passes.{measure, pass-cost, not_last-moves}
-use Rattle.fab_world.specs.Held.{IsLater}
+use Rattle.event_lists.specs.PartWay.{IsPartWay}
+use Rattle.event_lists.proofs.Settled.{passes_from, passes-behind}
 use Rattle.world_drain.specs.Settling.{capped, ArePasses}
-use Rattle.world_drain.proofs.EventRows.{round_pass-later}
-use Rattle.world_drain.proofs.Later.{later-same, later-both}
 use Rattle.world_drain.proofs.Injects.{all_injects}
 use Rattle.world_drain.proofs.Replays.{all_replays}
 use Rattle.world_drain.proofs.Telling.{moved-sum, capped-few, capped-sum, not-moved}
@@ -24,7 +23,7 @@ pub record IsPass (w last : WorldState) (moved : Bool) (resets : ℕ) : Type 0 w
   pub led : last ≡ (round_pass w).world
 
 -- where every host injects in the world in which all gave up, the hosts are those of before
-injects-there : (w t : WorldState) → t ≡ all_given_up w → host_count t ≡ host_count w → all_injects t ≡ steps (all_given_up w) (map Inject (addresses w))
+pub injects-there : (w t : WorldState) → t ≡ all_given_up w → host_count t ≡ host_count w → all_injects t ≡ steps (all_given_up w) (map Inject (addresses w))
 injects-there w t is hosts = ap (λ n. steps t (map Inject (range_with_len 0 n))) hosts ∙ ap (λ x. steps x (map Inject (addresses w))) is
 
 pub pass-told : (w t u v last : WorldState) (injected moved both : Bool) (resets more all : ℕ) → t ≡ all_given_up w → host_count t ≡ host_count w
@@ -58,14 +57,14 @@ pub record Passing (first now : WorldState) (resets : ℕ) : Type 0 where
   pub before : ℕ
   pub counted : resets ≡ capped before
   pub more : (n : ℕ) (s : Stretch) → RoundPasses n now s → Longer first s.world (before + s.resets)
-  pub later : IsLater first now
+  pub way : (v : WorldState) → IsPartWay now (passes_from now) v → IsPartWay first (passes_from first) v
 
 pub passing-none : (w : WorldState) → Passing w w 0
 passing-none w = record {
   before = 0;
   counted = omega arith;
   more = λ n s p. record { count = n; all = s; through = p; led = refl; counted = omega arith };
-  later = later-same w;
+  way = λ v q. q;
 }
 
 -- whether a pass was the last, by what is told of it
@@ -85,7 +84,7 @@ passing-on first now next moved end resets one all r p end_is goes all_is =
           let long : Longer first s.world (r.before + (here.resets + s.resets)) = r.more (n + 1) (joined_stretch here s) (RoundPasses.another_pass not_last (subst (λ x. RoundPasses n x s) p.led q) refl refl) in
           let sum : r.before + (here.resets + s.resets) ≡ (r.before + here.resets) + s.resets = omega arith in
           subst (Longer first s.world) sum long;
-      later = later-both first now next r.later (round_pass-later now next p.led);
+      way = λ v q. r.way v (passes-behind now next v not_last p.led q);
     }
 
 pub passing-end : (first now next : WorldState) (moved end : Bool) (resets one all : ℕ) → Passing first now resets → IsPass now next moved one

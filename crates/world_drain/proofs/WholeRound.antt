@@ -11,6 +11,8 @@ use Rattle.world_laws.specs.Settling.{RoundPasses, IsRound, AllRounds, Settles}
 use Rattle.world_laws.proofs.Passes.{round-is, rounds-one}
 use Rattle.world_laws.proofs.Rounds.{Going, left_over, not_last-less, round_going, settle-settles, settles-one}
 use Rattle.world_laws.proofs.Resting.{settles-idle}
+use Rattle.event_lists.specs.PartWay.{IsPartWay}
+use Rattle.event_lists.proofs.Settled.{rounds_from, rounds-behind}
 use Rattle.fab_world.specs.Held.{IsLater, IsMoment}
 use Rattle.fab_world.proofs.Moments.{later-moment}
 use Rattle.world_drain.specs.Rounds.{AreRounds}
@@ -52,6 +54,7 @@ pub record Settling (first now : WorldState) (rounds resets left struck : ℕ) :
   pub cost : rounds + left_over now ≤ left_over first
   pub left_is : left ≡ unacknowledged_in now
   pub struck_is : struck ≡ now.struck
+  pub way : (v : WorldState) → IsPartWay now (rounds_from now) v → IsPartWay first (rounds_from first) v
   pub later : IsLater first now
 
 pub settling-none : (w : WorldState) (left struck : ℕ) → left ≡ unacknowledged_in w → struck ≡ w.struck → Settling w w 0 0 left struck
@@ -62,6 +65,7 @@ settling-none w left struck a b = record {
   cost = omega arith;
   left_is = a;
   struck_is = b;
+  way = λ v q. q;
   later = later-same w;
 }
 
@@ -106,6 +110,7 @@ settling-on first now next rounds resets left struck one left_now struck_now all
       cost = omega (arith, less, cost);
       left_is = o.left_is;
       struck_is = o.struck_is;
+      way = λ v q. r.way v (rounds-behind now next v (senders first now o.moment r.later) (ap (is_last_round now) (sym o.led) ∙ not_last) o.led q);
       later = later-both first now next r.later (round-later now next o.led);
     }
 

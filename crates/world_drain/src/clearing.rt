@@ -5,7 +5,8 @@ ghost use Rattle.link_defs.specs.Links.{is_idle};
 ghost use Rattle.world_defs.specs.World.{fabric_of, host_count};
 ghost use Rattle.world_defs.specs.Step.{steps};
 ghost use Rattle.world_defs.specs.Drain.{resets_of, reset_count, clear};
-ghost use Rattle.fab_world.specs.Held.{IsLater};
+ghost use Rattle.event_lists.specs.Events.{clear_events};
+ghost use Rattle.event_lists.specs.PartWay.{IsPartWay};
 
 use crate::draining::drain;
 use crate::happening::happen;
@@ -13,12 +14,12 @@ use fab_world::{Event, World};
 use std::alloc::{AllocError, Global};
 
 /// Clears the links: drains them, and then resets each channel that still holds a packet, by rising number. It
-/// answers how many resets there were. Want of memory leaves a world that some events lead to.
+/// answers how many resets there were. Want of memory leaves a world that a prefix of its events leads to.
 #[tactic(auto, unfolding(world_defs::specs::Drain::clear))]
 pub fn clear(alloc: Global, w: &mut World) -> Result<u64, AllocError>
     ensures ok { IfOk result (λ resets. clear w.old ≡ (resets, w.new)) }
     ensures few { IfOk result (λ resets. resets ≤ 1152) }
-    ensures err { OnErr result (IsLater w.old w.new) }
+    ensures err { OnErr result (IsPartWay w.old (clear_events w.old) w.new) }
     ensures idle { OnOk result (is_idle w.new.links ≡ true) }
     ensures fabric { fabric_of w.new ≡ fabric_of w.old }
     ensures hosts { host_count w.new ≡ host_count w.old }
@@ -34,7 +35,7 @@ pub fn clear(alloc: Global, w: &mut World) -> Result<u64, AllocError>
 fn reset_full(alloc: Global, w: &mut World) -> Result<u64, AllocError>
     ensures ok { IfOk result (λ resets. reset_count (steps w.old (resets_of w.old)) ≡ (resets, w.new)) }
     ensures few { IfOk result (λ resets. resets ≤ 1152) }
-    ensures err { OnErr result (IsLater w.old w.new) }
+    ensures err { OnErr result (IsPartWay w.old (resets_of w.old) w.new) }
 {
     let _few = w.channels();
     let mut resets = 0;

@@ -1,23 +1,26 @@
 //! Many events in a row: all packets run out.
 
-ghost use Rattle.std.specs.Prelude.{◌≡◌, ◌<◌, ◌≤◌, ◌+◌, ◌^◌, ◌∷◌, [], length, IfOk, IfSome, OnOk, OnErr};
+ghost use Rattle.std.specs.Prelude.{◌≡◌, ◌<◌, ◌≤◌, ◌+◌, ◌^◌, ◌∷◌, [], length, map, IfOk, IfSome, OnOk, OnErr};
+ghost use Rattle.link_defs.specs.Hops.{total_hops};
 ghost use Rattle.world_defs.specs.World.{fabric_of, host_count};
 ghost use Rattle.world_defs.specs.declared.event.Event.TheVariants.{Advance};
 ghost use Rattle.world_defs.specs.Step.{step};
-ghost use Rattle.world_defs.specs.Drain.{changes, pass, drain};
-ghost use Rattle.fab_world.specs.Held.{IsLater};
+ghost use Rattle.world_defs.specs.Drain.{changes, channels_of, pass, drain};
+ghost use Rattle.event_lists.specs.Events.{drain_events};
+ghost use Rattle.event_lists.specs.PartWay.{IsPartWay};
 ghost use Rattle.world_drain.specs.Watch.{seen_in, seen_then};
 
 use crate::seen::{Seen, Watch};
 use fab_world::{Event, Hop, World};
 use std::alloc::{AllocError, Global};
 
-/// Advances packets until none moves any more: how many advances changed something. Want of memory leaves a world
-/// that some events lead to.
+/// Advances packets until none moves any more: how many advances changed something, at most the hops that the packets
+/// had left. Want of memory leaves a world that a prefix of the drain's events leads to.
 pub fn drain(alloc: Global, w: &mut World) -> Result<u64, AllocError>
     ensures ok { IfOk result (λ n. n ≡ changes (drain w.old).0) }
+    ensures few { IfOk result (λ n. n ≤ total_hops w.old.links) }
     ensures after { OnOk result (w.new ≡ (drain w.old).1) }
-    ensures err { OnErr result (IsLater w.old w.new) }
+    ensures err { OnErr result (IsPartWay w.old (drain_events w.old) w.new) }
 {
     let watch = Watch {
         mapper: 0,
@@ -28,12 +31,12 @@ pub fn drain(alloc: Global, w: &mut World) -> Result<u64, AllocError>
     Ok(seen.changes)
 }
 
-/// A drain, with what a mapper sees of it. Want of memory leaves a world that some events lead to.
+/// A drain, with what a mapper sees of it. Want of memory leaves a world that a prefix of its events leads to.
 pub fn drain_watching(alloc: Global, w: &mut World, watch: Watch) -> Result<Seen, AllocError>
     ensures seen { IfOk result (λ s. s ≡ seen_in watch (drain w.old).0) }
     ensures heard { IfOk result (λ s. IfSome s.probed (λ h. h < host_count w.old)) }
     ensures after { OnOk result (w.new ≡ (drain w.old).1) }
-    ensures err { OnErr result (IsLater w.old w.new) }
+    ensures err { OnErr result (IsPartWay w.old (drain_events w.old) w.new) }
     ensures fabric { fabric_of w.new ≡ fabric_of w.old }
     ensures hosts { host_count w.new ≡ host_count w.old }
 {
@@ -53,7 +56,7 @@ fn pass(alloc: Global, w: &mut World, watch: &Watch) -> Result<Seen, AllocError>
     ensures seen { IfOk result (λ s. s ≡ seen_in watch.now (pass w.old).0) }
     ensures heard { IfOk result (λ s. IfSome s.probed (λ h. h < host_count w.old)) }
     ensures after { OnOk result (w.new ≡ (pass w.old).1) }
-    ensures err { OnErr result (IsLater w.old w.new) }
+    ensures err { OnErr result (IsPartWay w.old (map Advance (channels_of w.old)) w.new) }
     ensures fabric { fabric_of w.new ≡ fabric_of w.old }
     ensures hosts { host_count w.new ≡ host_count w.old }
     ensures channels { length w.new.links.channels ≡ length w.old.links.channels }
@@ -85,7 +88,7 @@ fn advance(
     ensures heard { IfOk result (λ _. IfSome (seen_in watch.now ((step w.old (Advance c)).0 ∷ [])).probed
         (λ h. h < host_count w.old)) }
     ensures after { OnOk result (w.new ≡ (step w.old (Advance c)).1) }
-    ensures err { OnErr result (IsLater w.old w.new) }
+    ensures err { OnErr result (w.new ≡ w.old) }
     ensures fabric { fabric_of w.new ≡ fabric_of w.old }
     ensures hosts { host_count w.new ≡ host_count w.old }
     ensures channels { length w.new.links.channels ≡ length w.old.links.channels }
@@ -107,7 +110,7 @@ fn advance_whole(alloc: Global, w: &mut World, watch: &Watch, c: u16) -> Result<
     ensures few { IfOk result (λ s. s.changes ≤ 1) }
     ensures heard { IfOk result (λ s. IfSome s.probed (λ h. h < host_count w.old)) }
     ensures after { OnOk result (w.new ≡ (step w.old (Advance c)).1) }
-    ensures err { OnErr result (IsLater w.old w.new) }
+    ensures err { OnErr result (w.new ≡ w.old) }
     ensures fabric { fabric_of w.new ≡ fabric_of w.old }
     ensures hosts { host_count w.new ≡ host_count w.old }
     ensures channels { length w.new.links.channels ≡ length w.old.links.channels }

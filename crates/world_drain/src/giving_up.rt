@@ -1,21 +1,22 @@
 //! Every host gives up what it staged.
 
-ghost use Rattle.std.specs.Prelude.{◌≡◌, OnOk, OnErr};
-ghost use Rattle.world_defs.specs.World.{fabric_of, host_count};
+ghost use Rattle.std.specs.Prelude.{◌≡◌, map, OnOk, OnErr};
+ghost use Rattle.world_defs.specs.World.{fabric_of, host_count, addresses};
 ghost use Rattle.world_defs.specs.declared.event.Event.TheVariants.{GiveUp};
 ghost use Rattle.world_defs.specs.Step.{step};
 ghost use Rattle.world_defs.specs.Asking.{all_given_up};
+ghost use Rattle.event_lists.specs.PartWay.{IsPartWay};
 ghost use Rattle.fab_world.specs.Events.{IsHostOf};
-ghost use Rattle.fab_world.specs.Held.{IsLater};
 
 use crate::happening::happen;
 use fab_world::{Event, World};
 use std::alloc::{AllocError, Global};
 
-/// Every host gives up what it staged, by rising address. Want of memory leaves a world that some events lead to.
+/// Every host gives up what it staged, by rising address. Want of memory leaves a world that a prefix of these events
+/// leads to.
 pub fn give_up_all(alloc: Global, w: &mut World) -> Result<(), AllocError>
     ensures after { OnOk result (w.new ≡ all_given_up w.old) }
-    ensures err { OnErr result (IsLater w.old w.new) }
+    ensures err { OnErr result (IsPartWay w.old (map GiveUp (addresses w.old)) w.new) }
     ensures fabric { fabric_of w.new ≡ fabric_of w.old }
     ensures hosts { host_count w.new ≡ host_count w.old }
 {
@@ -30,7 +31,7 @@ pub fn give_up_all(alloc: Global, w: &mut World) -> Result<(), AllocError>
 fn give_up(alloc: Global, w: &mut World, host: u16) -> Result<(), AllocError>
     requires { IsHostOf w.old host }
     ensures after { OnOk result (w.new ≡ (step w.old (GiveUp host)).1) }
-    ensures err { OnErr result (IsLater w.old w.new) }
+    ensures err { OnErr result (w.new ≡ w.old) }
     ensures fabric { fabric_of w.new ≡ fabric_of w.old }
     ensures hosts { host_count w.new ≡ host_count w.old }
 {

@@ -7,16 +7,15 @@ ghost use Rattle.world_defs.specs.Drain.{changed};
 ghost use Rattle.world_defs.specs.Step.{step};
 ghost use Rattle.world_defs.specs.Asking.{number_of};
 ghost use Rattle.fab_world.specs.Events.{IsGiven, IsHostOf};
-ghost use Rattle.fab_world.specs.Held.{IsLater};
 
 use fab_world::{Effect, Event, World};
 use std::alloc::{AllocError, Global};
 
-/// One event whose effect doesn't matter. Want of memory leaves a world that some events lead to.
+/// One event whose effect doesn't matter. Want of memory changes nothing.
 pub fn happen(alloc: Global, w: &mut World, e: Event) -> Result<(), AllocError>
     requires { IsGiven w.old e }
     ensures after { OnOk result (w.new ≡ (step w.old e).1) }
-    ensures err { OnErr result (IsLater w.old w.new) }
+    ensures err { OnErr result (w.new ≡ w.old) }
     ensures fabric { fabric_of w.new ≡ fabric_of w.old }
     ensures hosts { host_count w.new ≡ host_count w.old }
     ensures channels { length w.new.links.channels ≡ length w.old.links.channels }
@@ -25,13 +24,13 @@ pub fn happen(alloc: Global, w: &mut World, e: Event) -> Result<(), AllocError>
     Ok(())
 }
 
-/// An injection of a host: the number of the packet that entered its channel, where one did. Want of memory leaves a
-/// world that some events lead to.
+/// An injection of a host: the number of the packet that entered its channel, where one did. Want of memory changes
+/// nothing.
 pub fn inject(alloc: Global, w: &mut World, host: u16) -> Result<Option<u64>, AllocError>
     requires { IsHostOf w.old host }
     ensures number { IfOk result (λ n. n ≡ number_of (step w.old (Inject host)).0) }
     ensures after { OnOk result (w.new ≡ (step w.old (Inject host)).1) }
-    ensures err { OnErr result (IsLater w.old w.new) }
+    ensures err { OnErr result (w.new ≡ w.old) }
     ensures fabric { fabric_of w.new ≡ fabric_of w.old }
     ensures hosts { host_count w.new ≡ host_count w.old }
 {
@@ -54,7 +53,7 @@ pub(crate) fn happens(alloc: Global, w: &mut World, e: Event) -> Result<bool, Al
     requires { IsGiven w.old e }
     ensures changed { IfOk result (λ b. b ≡ changed (step w.old e).0) }
     ensures after { OnOk result (w.new ≡ (step w.old e).1) }
-    ensures err { OnErr result (IsLater w.old w.new) }
+    ensures err { OnErr result (w.new ≡ w.old) }
     ensures hosts { host_count w.new ≡ host_count w.old }
 {
     let effect = w.step(alloc, e)?;

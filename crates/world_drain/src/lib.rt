@@ -1,8 +1,9 @@
 //! What drives a world without a mapper: drains, clears and settles.
 //!
-//! It keeps nothing of its own: all that it does are events of the world, and want of memory leaves a world that some
-//! events lead to. A drain can be watched: `specs/Watch.antt` says what is looked for. What the other calls come to
-//! are the definitions of `world_defs`: read its `specs/Drain.antt` and `specs/Settle.antt`.
+//! It keeps nothing of its own: all that it does are events of the world. One event that wants memory changes nothing.
+//! A drain, a clear, a settle and the give-ups of all hosts leave a world that a prefix of their own events leads to.
+//! A drain can be watched: `specs/Watch.antt` says what is looked for. What the other calls come to are the
+//! definitions of `world_defs`: read its `specs/Drain.antt` and `specs/Settle.antt`.
 //!
 //! ```text
 //!   drain    passes over full channels, up to one that changes nothing

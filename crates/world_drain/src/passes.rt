@@ -7,9 +7,10 @@ ghost use Rattle.world_defs.specs.Node.{to_send};
 ghost use Rattle.world_defs.specs.World.{host_count, node_at, addresses};
 ghost use Rattle.world_defs.specs.Step.{step, steps};
 ghost use Rattle.world_defs.specs.Drain.{changed, changes};
-ghost use Rattle.world_defs.specs.Settle.{is_quiet, round_pass};
+ghost use Rattle.world_defs.specs.Settle.{is_quiet, round_pass, pass_bound};
+ghost use Rattle.event_lists.specs.Events.{round_pass_events, round_passes_events};
+ghost use Rattle.event_lists.specs.PartWay.{IsPartWay};
 ghost use Rattle.fab_world.specs.Events.{IsHostOf};
-ghost use Rattle.fab_world.specs.Held.{IsLater};
 ghost use Rattle.world_drain.specs.Settling.{capped, ArePasses};
 
 use crate::clearing::clear;
@@ -21,9 +22,10 @@ use std::alloc::{AllocError, Global};
 
 /// Passes, at least one, up to one that leaves limbo empty and no host with anything to send, or in which each
 /// injection and each replay was idle: how many channels were reset. That count stays at its last value once there.
+/// Want of memory leaves a world that a prefix of their events leads to.
 pub(crate) fn passes(alloc: Global, w: &mut World) -> Result<u64, AllocError>
     ensures ok { IfOk result (λ resets. ArePasses w.old w.new resets) }
-    ensures err { OnErr result (IsLater w.old w.new) }
+    ensures err { OnErr result (IsPartWay w.old (round_passes_events (pass_bound w.old) w.old) w.new) }
 {
     let mut resets: u64 = 0;
     'passing: loop {
@@ -68,7 +70,7 @@ fn pass(alloc: Global, w: &mut World) -> Result<Told, AllocError>
     ensures moved { IfOk result (λ t. t.moved ≡ nat_lt 0 (round_pass w.old).moves) }
     ensures resets { IfOk result (λ t. t.resets ≡ capped (round_pass w.old).resets) }
     ensures after { OnOk result (w.new ≡ (round_pass w.old).world) }
-    ensures err { OnErr result (IsLater w.old w.new) }
+    ensures err { OnErr result (IsPartWay w.old (round_pass_events w.old) w.new) }
 {
     give_up_all(alloc, w)?;
     let moved = inject_all(alloc, w)?;
@@ -81,7 +83,7 @@ fn pass(alloc: Global, w: &mut World) -> Result<Told, AllocError>
 fn inject_all(alloc: Global, w: &mut World) -> Result<bool, AllocError>
     ensures moved { IfOk result (λ b. b ≡ nat_lt 0 (changes (steps w.old (map Inject (addresses w.old))).0)) }
     ensures after { OnOk result (w.new ≡ (steps w.old (map Inject (addresses w.old))).1) }
-    ensures err { OnErr result (IsLater w.old w.new) }
+    ensures err { OnErr result (IsPartWay w.old (map Inject (addresses w.old)) w.new) }
 {
     let mut moved = false;
     for host in 0..w.hosts() {
@@ -95,7 +97,7 @@ fn inject_due(alloc: Global, w: &mut World, host: u16) -> Result<bool, AllocErro
     requires { IsHostOf w.old host }
     ensures changed { IfOk result (λ b. b ≡ changed (step w.old (Inject host)).0) }
     ensures after { OnOk result (w.new ≡ (step w.old (Inject host)).1) }
-    ensures err { OnErr result (IsLater w.old w.new) }
+    ensures err { OnErr result (w.new ≡ w.old) }
     ensures hosts { host_count w.new ≡ host_count w.old }
 {
     if w.has_to_send(host) {

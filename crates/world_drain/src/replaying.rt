@@ -2,9 +2,10 @@
 
 ghost use Rattle.std.specs.Prelude.{◌≡◌, ◌∷◌, [], ◌||◌, ◌+◌, nat_lt, IfOk, OnOk, OnErr};
 ghost use Rattle.world_defs.specs.declared.event.Event.TheVariants.{Replay};
-ghost use Rattle.world_defs.specs.Step.{steps};
+ghost use Rattle.world_defs.specs.Step.{step, steps};
 ghost use Rattle.world_defs.specs.Settle.{then_clear, replay_each, serials};
-ghost use Rattle.fab_world.specs.Held.{IsLater};
+ghost use Rattle.event_lists.specs.Events.{clear_events, replays_events};
+ghost use Rattle.event_lists.specs.PartWay.{IsPartWay};
 ghost use Rattle.world_drain.specs.Settling.{capped};
 
 use crate::clearing::clear;
@@ -35,12 +36,12 @@ impl Told {
 }
 
 /// A replay of each packet that stands in limbo now, by rising serial, with a clear behind each. None comes to limbo
-/// meanwhile.
+/// meanwhile. Want of memory leaves a world that a prefix of their events leads to.
 pub(crate) fn replay_all(alloc: Global, w: &mut World) -> Result<Told, AllocError>
     ensures moved { IfOk result (λ t. t.moved ≡ nat_lt 0 (replay_each (serials w.old) w.old).moves) }
     ensures resets { IfOk result (λ t. t.resets ≡ capped (replay_each (serials w.old) w.old).resets) }
     ensures after { OnOk result (w.new ≡ (replay_each (serials w.old) w.old).world) }
-    ensures err { OnErr result (IsLater w.old w.new) }
+    ensures err { OnErr result (IsPartWay w.old (replays_events (serials w.old) w.old) w.new) }
 {
     w.moment();
     let mut told = Told {
@@ -61,7 +62,8 @@ fn replay(alloc: Global, w: &mut World, serial: u64) -> Result<Told, AllocError>
     ensures moved { IfOk result (λ t. t.moved ≡ nat_lt 0 (then_clear (steps w.old (Replay serial ∷ []))).moves) }
     ensures resets { IfOk result (λ t. t.resets ≡ capped (then_clear (steps w.old (Replay serial ∷ []))).resets) }
     ensures after { OnOk result (w.new ≡ (then_clear (steps w.old (Replay serial ∷ []))).world) }
-    ensures err { OnErr result (IsLater w.old w.new) }
+    ensures err { OnErr result (IsPartWay w.old
+        (Replay serial ∷ clear_events (step w.old (Replay serial)).1) w.new) }
 {
     let moved = happens(alloc, w, Event::Replay(serial))?;
     let resets = clear(alloc, w)?;

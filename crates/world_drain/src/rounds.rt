@@ -5,9 +5,10 @@ ghost use Rattle.link_defs.specs.Links.{is_idle};
 ghost use Rattle.world_defs.specs.World.{fabric_of, host_count, last_count};
 ghost use Rattle.world_defs.specs.declared.event.Event.TheVariants.{Expire};
 ghost use Rattle.world_defs.specs.Step.{step, after_all};
-ghost use Rattle.world_defs.specs.Settle.{unacknowledged_in, expiries_of, expiries, round, settle};
+ghost use Rattle.world_defs.specs.Settle.{unacknowledged_in, expiries_of, expiries, round, round_bound, settle};
+ghost use Rattle.event_lists.specs.Events.{round_events, rounds_events, settle_events};
+ghost use Rattle.event_lists.specs.PartWay.{IsPartWay};
 ghost use Rattle.fab_world.specs.Events.{IsHostOf};
-ghost use Rattle.fab_world.specs.Held.{IsLater};
 ghost use Rattle.world_drain.specs.Rounds.{AreRounds};
 ghost use Rattle.world_drain.specs.Settling.{capped};
 
@@ -31,13 +32,13 @@ pub struct Settled {
 
 /// Settles a world: a clear, and then rounds, at least one, up to one that leaves nothing unacknowledged or that
 /// helps nothing. It answers no more rounds than one and those that fragments and planned faults allow. Want of
-/// memory leaves a world that some events lead to.
+/// memory leaves a world that a prefix of its events leads to.
 pub fn settle(alloc: Global, w: &mut World) -> Result<Settled, AllocError>
     ensures after { OnOk result (w.new ≡ (settle w.old).world) }
     ensures rounds { IfOk result (λ s. s.rounds ≡ (settle w.old).rounds) }
     ensures resets { IfOk result (λ s. s.resets ≡ min (settle w.old).resets last_count) }
     ensures unacked { IfOk result (λ s. s.unacked ≡ unacknowledged_in w.new) }
-    ensures err { OnErr result (IsLater w.old w.new) }
+    ensures err { OnErr result (IsPartWay w.old (settle_events w.old) w.new) }
     ensures idle { OnOk result (is_idle w.new.links ≡ true) }
     ensures fabric { fabric_of w.new ≡ fabric_of w.old }
     ensures hosts { host_count w.new ≡ host_count w.old }
@@ -65,7 +66,7 @@ struct Progress {
 fn all_rounds(alloc: Global, w: &mut World) -> Result<Settled, AllocError>
     ensures ok { IfOk result (λ s. AreRounds w.old w.new s.rounds s.resets) }
     ensures unacked { IfOk result (λ s. s.unacked ≡ unacknowledged_in w.new) }
-    ensures err { OnErr result (IsLater w.old w.new) }
+    ensures err { OnErr result (IsPartWay w.old (rounds_events (round_bound w.old) w.old) w.new) }
 {
     w.moment();
     let _planned = w.planned();
@@ -121,7 +122,7 @@ fn has_helped(before: Progress, now: Progress) -> bool
 fn round(alloc: Global, w: &mut World) -> Result<u64, AllocError>
     ensures resets { IfOk result (λ resets. resets ≡ capped (round w.old).resets) }
     ensures after { OnOk result (w.new ≡ (round w.old).world) }
-    ensures err { OnErr result (IsLater w.old w.new) }
+    ensures err { OnErr result (IsPartWay w.old (round_events w.old) w.new) }
 {
     expire_all(alloc, w)?;
     passes(alloc, w)
@@ -130,7 +131,7 @@ fn round(alloc: Global, w: &mut World) -> Result<u64, AllocError>
 // An expiry for each pair with something unacknowledged, by host and then by peer.
 fn expire_all(alloc: Global, w: &mut World) -> Result<(), AllocError>
     ensures after { OnOk result (w.new ≡ after_all w.old (expiries w.old)) }
-    ensures err { OnErr result (IsLater w.old w.new) }
+    ensures err { OnErr result (IsPartWay w.old (expiries w.old) w.new) }
 {
     for host in 0..w.hosts() {
         expire_host_due(alloc, w, host)?;
@@ -142,7 +143,7 @@ fn expire_all(alloc: Global, w: &mut World) -> Result<(), AllocError>
 fn expire_host_due(alloc: Global, w: &mut World, host: u16) -> Result<(), AllocError>
     requires { IsHostOf w.old host }
     ensures after { OnOk result (w.new ≡ after_all w.old (expiries_of w.old host)) }
-    ensures err { OnErr result (IsLater w.old w.new) }
+    ensures err { OnErr result (IsPartWay w.old (expiries_of w.old host) w.new) }
     ensures hosts { host_count w.new ≡ host_count w.old }
 {
     if w.has_unacked(host) {
@@ -156,7 +157,7 @@ fn expire_host_due(alloc: Global, w: &mut World, host: u16) -> Result<(), AllocE
 fn expire_host(alloc: Global, w: &mut World, host: u16) -> Result<(), AllocError>
     requires { IsHostOf w.old host }
     ensures after { OnOk result (w.new ≡ after_all w.old (expiries_of w.old host)) }
-    ensures err { OnErr result (IsLater w.old w.new) }
+    ensures err { OnErr result (IsPartWay w.old (expiries_of w.old host) w.new) }
     ensures hosts { host_count w.new ≡ host_count w.old }
 {
     for peer in 0..w.hosts() {
@@ -170,7 +171,7 @@ fn expire_due(alloc: Global, w: &mut World, host: u16, peer: u16) -> Result<(), 
     requires there { IsHostOf w.old host }
     requires peer { IsHostOf w.old peer }
     ensures after { OnOk result (w.new ≡ (step w.old (Expire host peer)).1) }
-    ensures err { OnErr result (IsLater w.old w.new) }
+    ensures err { OnErr result (w.new ≡ w.old) }
     ensures hosts { host_count w.new ≡ host_count w.old }
 {
     if w.unacked_to(host, peer) == 0 {

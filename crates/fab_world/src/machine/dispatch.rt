@@ -5,21 +5,21 @@ ghost use Rattle.world_defs.specs.World.{fabric_of, host_count, planned};
 ghost use Rattle.world_defs.specs.Step.{step};
 ghost use Rattle.adopted_routes.specs.Adopting.{IsSetOfHosts};
 ghost use Rattle.fab_world.specs.Events.{IsGiven};
-ghost use Rattle.fab_world.specs.Held.{IsLater, IsPolledOfHosts};
+ghost use Rattle.fab_world.specs.Held.{IsPolledOfHosts};
 
 use super::Machine;
 use std::alloc::{AllocError, Global};
 use world_defs::{Effect, Event, Fault};
 
 impl Machine {
-    /// One event: its effect, and links and hosts after it.
+    /// One event: its effect, and links and hosts after it. Want of memory changes nothing.
     pub(crate) fn step(&mut self, alloc: Global, e: Event) -> Result<Effect, AllocError>
         requires given { IsGiven self.old e }
         requires hosts { host_count self.old ≡ length (fabric_of self.old).hosts }
         requires routes { IfSome self.old.adopted (IsSetOfHosts (host_count self.old)) }
         ensures ok { IfOk result (λ x. step self.old e ≡ (x, self.new)) }
         ensures polled { IfOk result (λ x. IsPolledOfHosts (host_count self.old) e x) }
-        ensures err { OnErr result (IsLater self.old self.new) }
+        ensures err { OnErr result (self.new ≡ self.old) }
     {
         match e {
             Event::Ask { host, walk, looped } => Ok(self.ask(host, walk, looped)),

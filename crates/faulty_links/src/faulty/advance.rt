@@ -1,17 +1,17 @@
 //! One step of a channel.
 
-ghost use Rattle.std.specs.Prelude.{◌≡◌, ◌<◌, length};
-ghost use Rattle.world_defs.specs.World.{WorldState, with_drop};
-ghost use Rattle.world_defs.specs.Step.{advanced, cause_at_switch};
-ghost use Rattle.faulty_links.specs.Held.{with_part, heard_of, IsHopOf, IsToHostOf, IsTaken};
+ghost use Rattle.std.specs.Prelude.{◌≡◌, ◌<◌, length, None, option_map, IfSome};
+ghost use Rattle.world_defs.specs.World.{WorldState};
+ghost use Rattle.world_defs.specs.Step.{advanced, cause_at_switch, cause_at_host};
+ghost use Rattle.faulty_links.specs.Held.{with_part, reaching, IsHeardAt, IsToldOf, CountsDrop, IsHopOf};
 
 use super::FaultyLinks;
-use crate::gone::Gone;
 use link_defs::{Moved, Why};
 use link_model::Hop;
 use myri_packet::Packet;
 use net_defs::{End, Vertex};
-use world_defs::{Cause, Effect};
+use packet_defs::HostDrop;
+use world_defs::{Arrival, Cause, Effect};
 
 // A port to read: the answer, whatever it is, shows that the links are those of a fabric, whose cables end at hosts
 // that it has.
@@ -21,31 +21,46 @@ const FIRST_PORT: End = End {
 };
 
 impl FaultyLinks {
-    /// A channel's packet goes on: through a switch, which may drop it and then counts it as dropped, or to a host,
-    /// to which it is handed. Blocked where the next channel holds another packet; idle where this one holds none.
-    pub fn advance(&mut self, c: u16) -> Gone<Packet>
-        requires { c < length self.old.links.channels }
-        ensures gone { (w : WorldState) → advanced (with_part w self.old) c ≡ heard_of (with_part w self.new) result }
-        ensures host { IsToHostOf self.old.links.net result }
-        ensures taken { IsTaken self.old c self.new result }
+    /// The host that a channel's packet reaches by its next advance, and the packet, which stays where it is. None
+    /// where the channel ends at a switch, or holds no packet. In a world an advance of it is that the host hears the
+    /// packet, which is gone then as if it were lost.
+    pub fn reaching(&self, c: u16) -> Option<(u16, &Packet)>
+        requires { c < length self.now.links.channels }
+        ensures reaching { option_map (λ t. (t.0, t.1.now)) result ≡ reaching self.now.links c }
+        ensures host { IfSome result (λ t. t.0 < length self.now.links.net.hosts) }
+        ensures heard { IfSome result (λ t. IsHeardAt self.now c t.0 t.1.now) }
     {
-        match self.links.advance(c) {
-            Moved::To(next) => Gone::Done(Effect::Moved(next)),
-            Moved::AtHost(h, p) => {
-                let _fabric = self.links.channel_from(FIRST_PORT);
-                Gone::AtHost(h, p)
-            }
-            Moved::Dropped(why) => {
-                self.counts.drop_one();
-                Gone::Done(Effect::Dropped(cause_at_switch(why)))
-            }
-            Moved::Blocked(next) => Gone::Done(Effect::Blocked(next)),
-            Moved::Empty => Gone::Done(Effect::Idle),
+        let _fabric = self.links.channel_from(FIRST_PORT);
+        let Vertex::Host(host) = self.links.ends(c).1.v else {
+            return None;
+        };
+        match self.links.peek(c) {
+            Some(packet) => Some((host, packet)),
+            None => None,
         }
     }
 
-    /// An advance that hands no packet out and drops none: one into the next channel, or one that is blocked. Anything
-    /// else is left to [`FaultyLinks::advance`].
+    /// A channel's packet that reaches no host goes on through a switch, which may drop it and then counts it as
+    /// dropped. Blocked where the next channel holds another packet; idle where this one holds none.
+    pub fn advance(&mut self, c: u16) -> Effect
+        requires there { c < length self.old.links.channels }
+        requires inside { reaching self.old.links c ≡ None }
+        ensures { (w : WorldState) → advanced (with_part w self.old) c ≡ (result, with_part w self.new) }
+    {
+        match self.links.advance(c) {
+            Moved::To(next) => Effect::Moved(next),
+            Moved::AtHost(_, _) => unreachable!(),
+            Moved::Dropped(why) => {
+                self.counts.drop_one();
+                Effect::Dropped(cause_at_switch(why))
+            }
+            Moved::Blocked(next) => Effect::Blocked(next),
+            Moved::Empty => Effect::Idle,
+        }
+    }
+
+    /// An advance into the next channel, or one that is blocked. Anything else is left to [`FaultyLinks::reaching`] and
+    /// [`FaultyLinks::advance`].
     pub fn hop(&mut self, c: u16) -> Hop
         requires { c < length self.old.links.channels }
         ensures { IsHopOf self.old c result self.new }
@@ -53,11 +68,27 @@ impl FaultyLinks {
         self.links.hop(c)
     }
 
-    /// A host dropped a packet: it is counted.
-    pub fn count_drop(&mut self)
-        ensures { (w : WorldState) → with_drop (with_part w self.old) ≡ with_part w self.new }
+    /// A host heard the packet of a channel, which leaves that, and counts as dropped where the host dropped it: what
+    /// is told of it.
+    pub fn heard(&mut self, c: u16, host: u16, arrival: Arrival) -> Effect
+        requires { c < length self.old.links.channels }
+        ensures { IsToldOf self.old c host arrival result self.new }
+    {
+        let _ = self.lose(c);
+        match arrival {
+            Arrival::Heard(heard) => Effect::Arrived(host, heard),
+            Arrival::Dropped(why) => self.drop_for(cause_at_host(why)),
+            Arrival::NotMine => self.drop_for(Cause::NotMine),
+        }
+    }
+
+    // A host dropped a packet: it is counted.
+    fn drop_for(&mut self, cause: Cause) -> Effect
+        ensures effect { result ≡ Effect.Dropped cause }
+        ensures after { CountsDrop self.old self.new }
     {
         self.counts.drop_one();
+        Effect::Dropped(cause)
     }
 }
 
@@ -69,5 +100,17 @@ const fn cause_at_switch(why: Why) -> Cause
         Why::OutOfRange => Cause::OutOfRange,
         Why::NotRoute => Cause::NotRoute,
         Why::NoCable => Cause::NoCable,
+    }
+}
+
+// Why a host dropped a packet.
+const fn cause_at_host(why: HostDrop) -> Cause
+    ensures { result ≡ cause_at_host why }
+{
+    match why {
+        HostDrop::BadCrc => Cause::BadCrc,
+        HostDrop::RouteLeft => Cause::RouteLeft,
+        HostDrop::UnknownType => Cause::UnknownType,
+        HostDrop::Malformed => Cause::Malformed,
     }
 }

@@ -1,4 +1,4 @@
-use Rattle.std.proofs.Common.{Some, ap, ◌∙◌, sym}
+use Rattle.std.proofs.Common.{Some, ap, ◌∙◌}
 use Rattle.link_defs.specs.Links.{packet_in}
 use Rattle.faulty_links.proofs.HopsBelow.{hops-of}
 use Rattle.faulty_links.proofs.reach.bytes_in.Goals as goal

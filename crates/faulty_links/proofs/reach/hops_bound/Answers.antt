@@ -1,5 +1,5 @@
-use Rattle.std.proofs.Common.{◌≤◌, ◌-◌, ◌+◌, length, sym, arith}
-use Rattle.faulty_links.proofs.HopsBelow.{hops_below, below-next, below-empty, below-all}
+use Rattle.std.proofs.Common.{◌-◌, length, arith}
+use Rattle.faulty_links.proofs.HopsBelow.{below-next, below-empty, below-all}
 use Rattle.faulty_links.proofs.reach.hops_bound.Goals as goal
 
 pub loop-c-init : goal.loop-c-init

@@ -1,7 +1,7 @@
 use Rattle.std.proofs.Common.{ap}
 use Rattle.map_defs.specs.NetMap.{NetMap, host_of_vertex}
 use Rattle.map_renumber.specs.Canon.{is_of_core}
-use Rattle.map_canon.proofs.Vertices.{next-fits}
+use Rattle.map_quotient.proofs.Vertices.{next-fits}
 use Rattle.map_renumber.proofs.Named.{named-next, host-marked}
 use Rattle.map_renumber.proofs.naming.vertices_of.Goals as goal
 

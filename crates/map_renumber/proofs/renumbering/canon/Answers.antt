@@ -2,8 +2,7 @@ use Rattle.std.proofs.Common.{◌++◌, ◌<◌, ◌^◌, ℕ, List, Option, len
 use Rattle.std.specs.Prelude.{ℤ}
 use Rattle.map_defs.specs.NetMap.{NetMap, MapPort, IsMap, host_of_vertex}
 use Rattle.map_defs.specs.Quotient.{named}
-use Rattle.fabric_map.specs.Growing.{IsFabricMap}
-use Rattle.map_canon.specs.Naming.{HaveOwnAddresses}
+use Rattle.map_quotient.specs.Naming.{HaveOwnAddresses}
 use Rattle.map_renumber.specs.Canon.{is_of_core}
 use Rattle.map_renumber.specs.Search.{port_of_pair, moved_cable}
 use Rattle.map_renumber.proofs.Moved.{few-found, moved-taken, own-addresses}
@@ -28,16 +27,8 @@ move_cables-requires-clause-taken c =
     let items : List (ℕ × ℤ) = c.in_ok-search.search.found.items in
     let numbers : List (Option ℕ) = c.in_ok-search.search.numbers.items in
     let found : List MapPort = map port_of_pair items in
-    let vertices = ap (λ (y : NetMap). y.vertices) c.in_ok-loose.ensures ∙ ap (named 0) (ap (map (λ (d : ℕ × ℤ). host_of_vertex m d.0)) c.deref.ensures.value ∙ addresses-of m items) in
-    moved-taken m c.cables.ensures.is_map.is_map c.requires.host.0 c.requires.host.1 c.requires.connected found numbers c.in_ok-search.ensures.ways c.in_ok-search.ensures.search c.in_ok-loose.loose vertices (ap (λ (y : NetMap). y.cables) c.in_ok-loose.ensures) c.cables.ensures.is_map.few_cables
-
-pub vertices_of-requires-2-clause-few : goal.vertices_of-requires-2-clause-few
-vertices_of-requires-2-clause-few c =
-    subst (λ (l : List (ℕ × ℤ)). length l < 2 ^ 32) (sym c.deref-2.ensures.value) (few-found c.args.m.now c.in_ok-search.search.found.items c.in_ok-search.search.numbers.items (length c.args.m.now.vertices) 0 c.cables.ensures.is_map.few_vertices c.in_ok-search.ensures)
-
-pub vertices_of-requires-2-clause-own : goal.vertices_of-requires-2-clause-own
-vertices_of-requires-2-clause-own c =
-    subst (λ (l : List (ℕ × ℤ)). HaveOwnAddresses (map (λ (d : ℕ × ℤ). host_of_vertex c.args.m.now d.0) l)) (sym c.deref-2.ensures.value) (own-addresses c.args.m.now c.in_ok-search.search.found.items c.in_ok-search.search.numbers.items (length c.args.m.now.vertices) 0 c.cables.ensures.is_map.is_map c.in_ok-search.ensures)
+    let vertices = ap (λ (y : NetMap). y.vertices) c.in_ok-map.ensures ∙ ap (named 0) (ap (map (λ (d : ℕ × ℤ). host_of_vertex m d.0)) c.deref.ensures.value ∙ addresses-of m items) in
+    moved-taken m c.cables.ensures.is_map.is_map c.requires.host.0 c.requires.host.1 c.requires.connected found numbers c.in_ok-search.ensures.ways c.in_ok-search.ensures.search c.in_ok-map.map vertices (ap (λ (y : NetMap). y.cables) c.in_ok-map.ensures) c.cables.ensures.is_map.few_cables
 
 pub returns-clause-ordered : goal.returns-clause-ordered
 returns-clause-ordered c =
@@ -46,11 +37,11 @@ returns-clause-ordered c =
     let numbers : List (Option ℕ) = c.in_ok-search.search.numbers.items in
     let found : List MapPort = map port_of_pair items in
     let moved = map (moved_cable found numbers) m.cables in
-    let cables = ap (λ (y : NetMap). y.cables) c.in_ok-move_cables.ensures ∙ ap (λ (y : NetMap). y.cables ++ moved) c.in_ok-loose.ensures in
-    let vertices = ap (λ (y : NetMap). y.vertices) c.in_ok-move_cables.ensures ∙ ap (λ (y : NetMap). y.vertices) c.in_ok-loose.ensures ∙ ap (named 0) (ap (map (λ (d : ℕ × ℤ). host_of_vertex m d.0)) c.deref.ensures.value ∙ addresses-of m items) in
-    let marks = ap (λ (y : NetMap). y.core) c.in_ok-move_cables.ensures ∙ ap (λ (y : NetMap). y.core) c.in_ok-loose.ensures ∙ ap (map (λ (d : ℕ × ℤ). is_of_core m d.0)) c.deref.ensures.value ∙ marks-of m items in
-    let loose : IsMap c.move_cables.new.map = (subst IsFabricMap c.loose.view_is c.loose.invariant).is_map in
-    is-canon m c.cables.ensures.is_map.is_map c.requires.host.0 c.requires.host.1 c.requires.connected found numbers c.in_ok-search.ensures.ways c.in_ok-search.ensures.search c.move_cables.new.map cables loose vertices marks c.add_in_order.new.map c.in_ok-add_in_order.ensures
+    let cables = ap (λ (y : NetMap). y.cables) c.in_ok-move_cables.ensures ∙ ap (λ (y : NetMap). y.cables ++ moved) c.in_ok-map.ensures in
+    let vertices = ap (λ (y : NetMap). y.vertices) c.in_ok-move_cables.ensures ∙ ap (λ (y : NetMap). y.vertices) c.in_ok-map.ensures ∙ ap (named 0) (ap (map (λ (d : ℕ × ℤ). host_of_vertex m d.0)) c.deref.ensures.value ∙ addresses-of m items) in
+    let marks = ap (λ (y : NetMap). y.core) c.in_ok-move_cables.ensures ∙ ap (λ (y : NetMap). y.core) c.in_ok-map.ensures ∙ ap (map (λ (d : ℕ × ℤ). is_of_core m d.0)) c.deref.ensures.value ∙ marks-of m items in
+    let loose : IsMap c.move_cables.new.map = c.put_in_order.ensures.is_map.is_map in
+    is-canon m c.cables.ensures.is_map.is_map c.requires.host.0 c.requires.host.1 c.requires.connected found numbers c.in_ok-search.ensures.ways c.in_ok-search.ensures.search c.move_cables.new.map cables loose vertices marks c.put_in_order.new.map c.in_ok-put_in_order.ensures.ordered
 
 pub returns-clause-same : goal.returns-clause-same
 returns-clause-same c =
@@ -59,8 +50,8 @@ returns-clause-same c =
     let numbers : List (Option ℕ) = c.in_ok-search.search.numbers.items in
     let found : List MapPort = map port_of_pair items in
     let moved = map (moved_cable found numbers) m.cables in
-    let cables = ap (λ (y : NetMap). y.cables) c.in_ok-move_cables.ensures ∙ ap (λ (y : NetMap). y.cables ++ moved) c.in_ok-loose.ensures in
-    let vertices = ap (λ (y : NetMap). y.vertices) c.in_ok-move_cables.ensures ∙ ap (λ (y : NetMap). y.vertices) c.in_ok-loose.ensures ∙ ap (named 0) (ap (map (λ (d : ℕ × ℤ). host_of_vertex m d.0)) c.deref.ensures.value ∙ addresses-of m items) in
-    let marks = ap (λ (y : NetMap). y.core) c.in_ok-move_cables.ensures ∙ ap (λ (y : NetMap). y.core) c.in_ok-loose.ensures ∙ ap (map (λ (d : ℕ × ℤ). is_of_core m d.0)) c.deref.ensures.value ∙ marks-of m items in
-    let loose : IsMap c.move_cables.new.map = (subst IsFabricMap c.loose.view_is c.loose.invariant).is_map in
-    is-same m c.cables.ensures.is_map.is_map c.requires.host.0 c.requires.host.1 c.requires.connected found numbers c.in_ok-search.ensures.ways c.in_ok-search.ensures.search c.move_cables.new.map cables loose vertices marks c.add_in_order.new.map c.in_ok-add_in_order.ensures
+    let cables = ap (λ (y : NetMap). y.cables) c.in_ok-move_cables.ensures ∙ ap (λ (y : NetMap). y.cables ++ moved) c.in_ok-map.ensures in
+    let vertices = ap (λ (y : NetMap). y.vertices) c.in_ok-move_cables.ensures ∙ ap (λ (y : NetMap). y.vertices) c.in_ok-map.ensures ∙ ap (named 0) (ap (map (λ (d : ℕ × ℤ). host_of_vertex m d.0)) c.deref.ensures.value ∙ addresses-of m items) in
+    let marks = ap (λ (y : NetMap). y.core) c.in_ok-move_cables.ensures ∙ ap (λ (y : NetMap). y.core) c.in_ok-map.ensures ∙ ap (map (λ (d : ℕ × ℤ). is_of_core m d.0)) c.deref.ensures.value ∙ marks-of m items in
+    let loose : IsMap c.move_cables.new.map = c.put_in_order.ensures.is_map.is_map in
+    is-same m c.cables.ensures.is_map.is_map c.requires.host.0 c.requires.host.1 c.requires.connected found numbers c.in_ok-search.ensures.ways c.in_ok-search.ensures.search c.move_cables.new.map cables loose vertices marks c.put_in_order.new.map c.in_ok-put_in_order.ensures.ordered

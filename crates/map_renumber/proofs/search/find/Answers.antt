@@ -5,7 +5,7 @@ use Rattle.net_defs.specs.Turn.{IsTurn}
 use Rattle.map_defs.specs.NetMap.{map_far}
 use Rattle.fabric_map.specs.Table.{far_pair}
 use Rattle.map_renumber.specs.Search.{GoesOn, port_of_pair}
-use Rattle.map_canon.proofs.Places.{one-there, get-less}
+use Rattle.map_quotient.proofs.Places.{one-there, get-less}
 use Rattle.map_renumber.proofs.Steps.{read-there, entry-turn, skips-none, skips-found, finds, still-goes, turned-by, turn-fits}
 use Rattle.map_renumber.proofs.search.find.Goals as goal
 

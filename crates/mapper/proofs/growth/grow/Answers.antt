@@ -1,138 +1,50 @@
-use Rattle.std.proofs.Common.{◌≡◌, ◌<◌, sym, ◌∙◌, subst, arith}
-use Rattle.std.specs.Prelude.{Ok}
-use Rattle.journal_defs.specs.Growth.{IsGrown}
-use Rattle.mapper.specs.Growths.{HasGrown, IsToldOf, IsSettled, IsWhole}
+use Rattle.std.proofs.Common.{◌∙◌, ◌↔◌, [], IsTrue, sym, ap, subst, arith}
+use Rattle.journal_defs.specs.Growth.{IsGrown, IsEndedAtLimit}
+use Rattle.journal_defs.specs.Truth.{IsTrueJournal, IsTrueWhereFound}
+use Rattle.class_joins.specs.Table.{StandsFor}
+use Rattle.mapper.specs.Asks.{AreAsked}
+use Rattle.mapper.specs.declared.growth.Grown.{Grown}
+use Rattle.mapper.specs.Growths.{IsBareTree, StopsShort}
 use Rattle.mapper.proofs.Adding.{on-err}
-use Rattle.mapper.proofs.Sweeping.{short-settled}
-use Rattle.mapper.proofs.Starting.{grows-on, stops-on, limit-told}
+use Rattle.mapper.proofs.Starting.{stops-at-once, limit-told}
 use Rattle.mapper.proofs.growth.grow.Goals as goal
 
 pub returns-in_err-tree-clause-stopped : goal.returns-in_err-tree-clause-stopped
-returns-in_err-tree-clause-stopped g c = on-err c.from_residual.result c.in_err-tree.ensures.stopped
-
-pub growing-init : goal.growing-init
-growing-init g c =
-    let k = c.in_ok-tree.ensures in
-    record {
-      settled = k.settled;
-      host = k.host;
-      depth = k.depth;
-      grown = k.grown;
-      one_fabric = k.one_fabric;
-      same_fabric = k.same_fabric;
-      same_mapper = k.same_mapper;
-      later = k.later;
-      is_ready = k.stays_ready;
-    }
-
-pub expand_next-requires-clause-is_ready : goal.expand_next-requires-clause-is_ready
-expand_next-requires-clause-is_ready g c = c.growing.invariant.is_ready
-
-pub expand_next-requires-clause-mapper : goal.expand_next-requires-clause-mapper
-expand_next-requires-clause-mapper g c = c.growing.invariant.host ∙ sym c.growing.invariant.same_mapper
-
-pub expand_next-requires-clause-shallow : goal.expand_next-requires-clause-shallow
-expand_next-requires-clause-shallow g c = let d = c.growing.invariant.depth in let s = c.requires.shallow in omega arith
-
-pub expand_next-requires-clause-settled : goal.expand_next-requires-clause-settled
-expand_next-requires-clause-settled g c = c.growing.invariant.settled
-
-pub expand_next-requires-clause-told : goal.expand_next-requires-clause-told
-expand_next-requires-clause-told g c =
+returns-in_err-tree-clause-stopped g c =
     let p = g.P.Prober in
-    let i = c.growing.invariant in
-    let j = c.growing.tree.journal.entries in
-    subst (λ h. IsToldOf (p.fabric c.growing.p) h j) (sym i.same_mapper) (subst (λ n. IsToldOf n (p.mapper c.args.p.now) j) (sym i.same_fabric) (record { is_fabric = i.one_fabric; told = i.grown.found }))
+    on-err c.from_residual.result (stops-at-once p.State p.asked (p.fabric c.args.p.now) (p.mapper c.args.p.now) c.args.depth (p.state c.args.p.now) (p.state c.args.p.now) (p.lost c.args.p.now) (p.lost c.args.p.now) p.cut)
 
-pub returns-in_err-expand_next-clause-stopped : goal.returns-in_err-expand_next-clause-stopped
-returns-in_err-expand_next-clause-stopped g c =
-    let p = g.P.Prober in
-    let i = c.growing.invariant in
-    on-err c.from_residual-in_err-expand_next.result (stops-on p.State p.asked (p.fabric c.args.p.now) (p.mapper c.args.p.now) c.args.depth (p.state c.args.p.now) (p.state c.growing.p) (p.lost c.args.p.now) (p.lost c.growing.p) p.cut c.growing.tree (p.state c.expand_next.new.p) i.host i.depth i.grown c.in_err-expand_next.ensures.stopped)
+pub grow_tree-requires-clause-shallow : goal.grow_tree-requires-clause-shallow
+grow_tree-requires-clause-shallow g c = let d = c.in_ok-tree.ensures.to_depth in let s = c.requires.shallow in omega arith
 
-pub growing-smaller : goal.growing-smaller
-growing-smaller g c =
-    let k = c.in_ok-expand_next.ensures in
-    let rises : c.growing.next < c.expand_next.new.next = k.rises (λ i. Ok (c.if-branch.true i)) in
-    let settled : IsSettled c.expand_next.new.tree c.expand_next.new.next = k.goes_on (λ i. Ok (c.if-branch.true i)) in
-    let few = short-settled c.expand_next.new.tree c.expand_next.new.next settled in
-    let within = settled.within in
-    omega arith
+pub grow_tree-requires-clause-bare : goal.grow_tree-requires-clause-bare
+grow_tree-requires-clause-bare g c =
+    let t = c.in_ok-tree.tree in
+    subst (λ h. IsBareTree h t.depth t) c.host-host.ensures.value (subst (λ d. IsBareTree c.host-host.result d t) (sym c.in_ok-tree.ensures.to_depth) c.in_ok-tree.ensures)
 
-pub growing-preserved : goal.growing-preserved
-growing-preserved g c =
-    let p = g.P.Prober in
-    let n = p.fabric c.args.p.now in
-    let i = c.growing.invariant in
-    let k = c.in_ok-expand_next.ensures in
-    let old = c.growing.tree in
-    let new = c.expand_next.new.tree in
-    let more : HasGrown p.State p.asked n old (p.state c.growing.p) (p.lost c.growing.p) new (p.state c.expand_next.new.p) (p.lost c.expand_next.new.p) = subst (λ f. HasGrown p.State p.asked f old (p.state c.growing.p) (p.lost c.growing.p) new (p.state c.expand_next.new.p) (p.lost c.expand_next.new.p)) i.same_fabric k.grown in
-    let before = i.later in
-    let later = k.later in
-    record {
-      settled = k.goes_on (λ i. Ok (c.if-branch.true i));
-      host = more.host ∙ i.host;
-      depth = more.depth ∙ i.depth;
-      grown = grows-on p.State p.asked n (p.mapper c.args.p.now) c.args.depth (p.state c.args.p.now) (p.state c.growing.p) (p.lost c.args.p.now) (p.lost c.growing.p) old new (p.state c.expand_next.new.p) (p.lost c.expand_next.new.p) i.host i.depth i.grown more;
-      one_fabric = i.one_fabric;
-      same_fabric = k.same_fabric ∙ i.same_fabric;
-      same_mapper = k.same_mapper ∙ i.same_mapper;
-      later = omega (arith, before, later);
-      is_ready = k.stays_ready;
-    }
+pub returns-in-Ok-clause-host : goal.returns-in-Ok-clause-host
+returns-in-Ok-clause-host g c = ap (λ (r : Grown). r.journal.host) c.grown_of.ensures ∙ c.in-Ok.ensures.grown.at_host
 
-pub returns-clause-asked : goal.returns-clause-asked
-returns-clause-asked g c =
-    let p = g.P.Prober in
-    let n = p.fabric c.args.p.now in
-    let i = c.growing.invariant in
-    let k = c.in_ok-expand_next.ensures in
-    let old = c.growing.tree in
-    let new = c.expand_next.new.tree in
-    let more : HasGrown p.State p.asked n old (p.state c.growing.p) (p.lost c.growing.p) new (p.state c.expand_next.new.p) (p.lost c.expand_next.new.p) = subst (λ f. HasGrown p.State p.asked f old (p.state c.growing.p) (p.lost c.growing.p) new (p.state c.expand_next.new.p) (p.lost c.expand_next.new.p)) i.same_fabric k.grown in
-    (grows-on p.State p.asked n (p.mapper c.args.p.now) c.args.depth (p.state c.args.p.now) (p.state c.growing.p) (p.lost c.args.p.now) (p.lost c.growing.p) old new (p.state c.expand_next.new.p) (p.lost c.expand_next.new.p) i.host i.depth i.grown more).led
+pub returns-in-Ok-clause-grown : goal.returns-in-Ok-clause-grown
+returns-in-Ok-clause-grown g c =
+    let t = c.grow_tree.new.tree in
+    let k = c.in-Ok.ensures.grown in
+    subst (λ (r : Grown). IsGrown (g.P.Prober.mapper c.args.p.now) c.args.depth r.journal.entries) (sym c.grown_of.ensures) (subst (λ d. IsGrown (g.P.Prober.mapper c.args.p.now) d t.journal.entries) (k.to_depth ∙ c.in_ok-tree.ensures.to_depth) (subst (λ h. IsGrown h t.depth t.journal.entries) k.at_host k.whole.grown))
 
-pub returns-clause-found : goal.returns-clause-found
-returns-clause-found g c =
-    let p = g.P.Prober in
-    let n = p.fabric c.args.p.now in
-    let i = c.growing.invariant in
-    let k = c.in_ok-expand_next.ensures in
-    let old = c.growing.tree in
-    let new = c.expand_next.new.tree in
-    let more : HasGrown p.State p.asked n old (p.state c.growing.p) (p.lost c.growing.p) new (p.state c.expand_next.new.p) (p.lost c.expand_next.new.p) = subst (λ f. HasGrown p.State p.asked f old (p.state c.growing.p) (p.lost c.growing.p) new (p.state c.expand_next.new.p) (p.lost c.expand_next.new.p)) i.same_fabric k.grown in
-    (grows-on p.State p.asked n (p.mapper c.args.p.now) c.args.depth (p.state c.args.p.now) (p.state c.growing.p) (p.lost c.args.p.now) (p.lost c.growing.p) old new (p.state c.expand_next.new.p) (p.lost c.expand_next.new.p) i.host i.depth i.grown more).found
+pub returns-in-Ok-clause-asked : goal.returns-in-Ok-clause-asked
+returns-in-Ok-clause-asked g c = let p = g.P.Prober in subst (λ (r : Grown). AreAsked p.State p.asked (p.state c.args.p.now) r.journal.entries (p.state c.grow_tree.new.p)) (sym c.grown_of.ensures) c.in-Ok.ensures.grown.grown.led
 
-pub returns-clause-truth : goal.returns-clause-truth
-returns-clause-truth g c =
-    let p = g.P.Prober in
-    let n = p.fabric c.args.p.now in
-    let i = c.growing.invariant in
-    let k = c.in_ok-expand_next.ensures in
-    let old = c.growing.tree in
-    let new = c.expand_next.new.tree in
-    let more : HasGrown p.State p.asked n old (p.state c.growing.p) (p.lost c.growing.p) new (p.state c.expand_next.new.p) (p.lost c.expand_next.new.p) = subst (λ f. HasGrown p.State p.asked f old (p.state c.growing.p) (p.lost c.growing.p) new (p.state c.expand_next.new.p) (p.lost c.expand_next.new.p)) i.same_fabric k.grown in
-    (grows-on p.State p.asked n (p.mapper c.args.p.now) c.args.depth (p.state c.args.p.now) (p.state c.growing.p) (p.lost c.args.p.now) (p.lost c.growing.p) old new (p.state c.expand_next.new.p) (p.lost c.expand_next.new.p) i.host i.depth i.grown more).truth
+pub returns-in-Ok-clause-found : goal.returns-in-Ok-clause-found
+returns-in-Ok-clause-found g c = subst (λ (r : Grown). IsTrueWhereFound (g.P.Prober.fabric c.args.p.now) (g.P.Prober.mapper c.args.p.now) r.journal.entries) (sym c.grown_of.ensures) c.in-Ok.ensures.grown.grown.found
 
-pub returns-clause-host : goal.returns-clause-host
-returns-clause-host g c = c.in_ok-expand_next.ensures.grown.host ∙ c.growing.invariant.host
+pub returns-in-Ok-clause-truth : goal.returns-in-Ok-clause-truth
+returns-in-Ok-clause-truth g c calm = subst (λ (r : Grown). IsTrueJournal (g.P.Prober.fabric c.args.p.now) (g.P.Prober.mapper c.args.p.now) r.journal.entries) (sym c.grown_of.ensures) (c.in-Ok.ensures.grown.grown.truth calm)
 
-pub returns-clause-grown : goal.returns-clause-grown
-returns-clause-grown g c =
-    let p = g.P.Prober in
-    let i = c.growing.invariant in
-    let k = c.in_ok-expand_next.ensures in
-    let new = c.expand_next.new.tree in
-    let whole : IsWhole new = k.ends (λ i. Ok (c.if-branch.false i)) in
-    let host : new.journal.host ≡ p.mapper c.args.p.now = k.grown.host ∙ i.host in
-    let depth : new.depth ≡ c.args.depth = k.grown.depth ∙ i.depth in
-    subst (λ d. IsGrown (p.mapper c.args.p.now) d new.journal.entries) depth (subst (λ h. IsGrown h new.depth new.journal.entries) host whole.grown)
+pub returns-in-Ok-clause-stands : goal.returns-in-Ok-clause-stands
+returns-in-Ok-clause-stands g c = subst (λ (r : Grown). StandsFor r.journal.host r.journal.entries r.classes) (sym c.grown_of.ensures) c.in-Ok.ensures.grown.whole.stands
 
-pub returns-clause-stands : goal.returns-clause-stands
-returns-clause-stands g c =
-    let whole : IsWhole c.expand_next.new.tree = c.in_ok-expand_next.ensures.ends (λ i. Ok (c.if-branch.false i)) in
-    whole.stands
+pub returns-in-Ok-clause-at_limit : goal.returns-in-Ok-clause-at_limit
+returns-in-Ok-clause-at_limit g c = subst (λ (r : Grown). IsTrue r.at_limit ↔ IsEndedAtLimit r.journal.entries) (sym c.grown_of.ensures) (limit-told c.grow_tree.new.tree c.in-Ok.ensures.grown.whole)
 
-pub returns-clause-at_limit : goal.returns-clause-at_limit
-returns-clause-at_limit g c = limit-told c.expand_next.new.tree (c.in_ok-expand_next.ensures.ends (λ i. Ok (c.if-branch.false i)))
+pub returns-in-Err-clause-stopped : goal.returns-in-Err-clause-stopped
+returns-in-Err-clause-stopped g c = let p = g.P.Prober in subst (λ d. StopsShort p.State p.asked p.cut (p.mapper c.args.p.now) d [] (p.state c.args.p.now) (p.state c.grow_tree.new.p)) c.in_ok-tree.ensures.to_depth c.in-Err.ensures.stopped

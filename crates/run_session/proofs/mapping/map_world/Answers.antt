@@ -1,6 +1,6 @@
 use Rattle.std.proofs.Common.{subst}
 use Rattle.world_defs.specs.World.{fabric_of}
-use Rattle.map_text.specs.Printing.{AreOfFabric}
+use Rattle.map_canon.specs.Printing.{AreOfFabric}
 use Rattle.world_asking.specs.Prober.{WorldAsking}
 use Rattle.run_session.proofs.Asks.{made-from, rises-from}
 use Rattle.run_session.proofs.mapping.map_world.Goals as goal

@@ -3,19 +3,25 @@ use Rattle.std.specs.Prelude.{Some, option_map}
 use Rattle.world_defs.specs.Table.{Adoption}
 use Rattle.world_defs.specs.World.{WorldState, host_count}
 use Rattle.world_defs.specs.Install.{hosts_installed}
+use Rattle.event_lists.proofs.Installed.{install-given_up, install-hosts}
 use Rattle.fab_world.specs.Held.{IsLater}
 use Rattle.fab_world.proofs.Moments.{later-adopted, later-channels, set-stays}
-use Rattle.table_installing.proofs.InstallHosts.{few-hosts, fewer-hosts, adopter-there, told, idle-behind}
-use Rattle.world_drain.proofs.Later.{later-both, on-any}
+use Rattle.table_installing.proofs.InstallHosts.{few-hosts, fewer-hosts, adopter-there, told, idle-behind, cut-of}
+use Rattle.world_drain.proofs.Later.{later-both, way-later, on-any}
 use Rattle.world_drain.proofs.GivingUp.{given_up-later}
 use Rattle.table_installing.proofs.installing.install.Goals as goal
 use Rattle.table_installing.proofs.installing.install.Goals.{in-Some+in_ok-acked-in-Some, in-None}
 
+pub returns-in_err-give_up_all-clause-err : goal.returns-in_err-give_up_all-clause-err
+returns-in_err-give_up_all-clause-err c =
+    on-any c.from_residual.result
+    (cut-of c.args.w.now c.give_up_all.new.w c.args.hosts.now c.args.tries c.args.w.now.adopted refl (λ a e. install-given_up a c.args.hosts.now c.args.tries c.args.w.now c.give_up_all.new.w c.in_err-give_up_all.ensures.err))
+
 pub returns-in_err-give_up_all-clause-channels : goal.returns-in_err-give_up_all-clause-channels
-returns-in_err-give_up_all-clause-channels c = later-channels c.args.w.now c.give_up_all.new.w c.moment.ensures.kept c.in_err-give_up_all.ensures.err
+returns-in_err-give_up_all-clause-channels c = later-channels c.args.w.now c.give_up_all.new.w c.moment.ensures.kept (way-later c.args.w.now c.give_up_all.new.w c.in_err-give_up_all.ensures.err)
 
 pub returns-in_err-give_up_all-clause-adopted : goal.returns-in_err-give_up_all-clause-adopted
-returns-in_err-give_up_all-clause-adopted c = later-adopted c.args.w.now c.give_up_all.new.w c.in_err-give_up_all.ensures.err
+returns-in_err-give_up_all-clause-adopted c = later-adopted c.args.w.now c.give_up_all.new.w (way-later c.args.w.now c.give_up_all.new.w c.in_err-give_up_all.ensures.err)
 
 pub install_hosts-requires-clause-there : goal.install_hosts-requires-clause-there
 install_hosts-requires-clause-there c =
@@ -39,7 +45,14 @@ cut c =
     later-both c.args.w.now c.give_up_all.new.w c.install_hosts.new.w (given_up-later c.args.w.now c.give_up_all.new.w c.in_ok-give_up_all.ensures.after) c.install_hosts.ensures.later
 
 pub returns-in_err-acked-in-Some-clause-err : goal.returns-in_err-acked-in-Some-clause-err
-returns-in_err-acked-in-Some-clause-err c = on-any c.from_residual-in_err-acked-in-Some.result (cut c)
+returns-in_err-acked-in-Some-clause-err c =
+    let w : WorldState = c.args.w.now in
+    let v : WorldState = c.give_up_all.new.w in
+    let u : WorldState = c.install_hosts.new.w in
+    let same : v.adopted ≡ w.adopted = later-adopted w v (given_up-later w v c.in_ok-give_up_all.ensures.after) in
+    on-any c.from_residual-in_err-acked-in-Some.result
+    (cut-of w u c.args.hosts.now c.args.tries w.adopted refl
+    (λ a e. install-hosts a c.args.hosts.now c.args.tries w v u c.in_ok-give_up_all.ensures.after (c.in_err-acked-in-Some.ensures.err a (same ∙ e))))
 
 pub returns-in_err-acked-in-Some-clause-channels : goal.returns-in_err-acked-in-Some-clause-channels
 returns-in_err-acked-in-Some-clause-channels c = later-channels c.args.w.now c.install_hosts.new.w c.moment.ensures.kept (cut c)

@@ -1,16 +1,35 @@
-use Rattle.world_defs.specs.declared.event.Event.TheVariants.{Part}
-use Rattle.fab_world.specs.Held.{IsLater}
-use Rattle.world_drain.proofs.Later.{later-both, later-step, on-any}
-use Rattle.world_drain.proofs.Leading.{sends-world}
+use Rattle.std.proofs.Common.{◌≡◌, Bool, true, false, true≢false, not, ◌&&◌, refl, sym, ◌∙◌, ap}
+use Rattle.std.specs.Prelude.{is_some}
+use Rattle.world_defs.specs.World.{WorldState, node_at}
+use Rattle.world_defs.specs.Asking.{Sent, sends}
+use Rattle.world_defs.specs.Install.{has_part_come, has_staged_answer}
+use Rattle.event_lists.specs.Events.{part_try_events}
+use Rattle.event_lists.proofs.Installed.{part_try-sent, part_try-answer}
+use Rattle.event_lists.proofs.PartWay.{way-still}
+use Rattle.world_drain.proofs.Later.{on-any}
 use Rattle.table_installing.proofs.parts.part_try.Goals as goal
+
+pub returns-in_err-happen-clause-err : goal.returns-in_err-happen-clause-err
+returns-in_err-happen-clause-err c = on-any c.from_residual.result (way-still c.args.w.now c.happen.new.w (part_try_events c.args.mapper c.args.dst c.args.part c.args.w.now) c.in_err-happen.ensures.err)
 
 pub returns-in_err-sent-clause-err : goal.returns-in_err-sent-clause-err
 returns-in_err-sent-clause-err c =
-    let staged : IsLater c.args.w.now c.happen.new.w = later-step c.args.w.now c.happen.new.w (Part c.args.dst c.args.part) c.in_ok-happen.ensures.after in
-    on-any c.from_residual-in_err-sent.result (later-both c.args.w.now c.happen.new.w c.send.new.w staged c.in_err-sent.ensures.err)
+    on-any c.from_residual-in_err-sent.result
+    (part_try-sent c.args.mapper c.args.dst c.args.part c.args.w.now c.happen.new.w c.send.new.w c.in_ok-happen.ensures.after c.in_err-sent.ensures.err)
+
+is-true : (b : Bool) → not b ≡ false → b ≡ true
+is-true true e = refl
+is-true false e = absurd (true≢false e)
 
 pub returns-in_err-answer-clause-err : goal.returns-in_err-answer-clause-err
 returns-in_err-answer-clause-err c =
-    let staged : IsLater c.args.w.now c.happen.new.w = later-step c.args.w.now c.happen.new.w (Part c.args.dst c.args.part) c.in_ok-happen.ensures.after in
-    let sent : IsLater c.args.w.now c.send.new.w = later-both c.args.w.now c.happen.new.w c.send.new.w staged (sends-world c.happen.new.w c.send.new.w c.args.mapper c.in_ok-sent.ensures.after) in
-    on-any c.from_residual-in_err-answer.result (later-both c.args.w.now c.send.new.w c.send-2.new.w sent c.in_err-answer.ensures.err)
+    let u : WorldState = c.happen.new.w in
+    let x : WorldState = c.send.new.w in
+    let sent : Sent = sends u c.args.mapper in
+    let led : x ≡ sent.world = c.in_ok-sent.ensures.after in
+    let came : has_part_come c.args.dst sent.effects ≡ true = sym (ap (λ s. s.came) c.in_ok-sent.ensures.seen) ∙ is-true c.in_ok-sent.sent.came c.if-not-sent.false in
+    let ack : is_some (node_at sent.world c.args.dst).part_ack ≡ true =
+    sym (ap (λ w. is_some (node_at w c.args.dst).part_ack) led) ∙ (sym c.has_part_ack.ensures ∙ c.if-not-has_part_ack.false) in
+    let has : has_staged_answer sent.world c.args.dst sent.effects ≡ true = ap (λ b. b && is_some (node_at sent.world c.args.dst).part_ack) came ∙ ack in
+    on-any c.from_residual-in_err-answer.result
+    (part_try-answer c.args.mapper c.args.dst c.args.part c.args.w.now u x c.send-2.new.w c.in_ok-happen.ensures.after led has c.in_err-answer.ensures.err)

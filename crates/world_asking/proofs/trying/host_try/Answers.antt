@@ -1,32 +1,45 @@
-use Rattle.world_defs.specs.declared.event.Event.TheVariants.{Ask, Inject}
-use Rattle.std.specs.Prelude.{false}
-use Rattle.fab_world.specs.Held.{IsLater}
-use Rattle.world_drain.proofs.Later.{later-both, later-step, on-any}
-use Rattle.world_drain.proofs.Running.{drain-later}
+use Rattle.std.proofs.Common.{◌≡◌, Some, ap, sym, ◌∙◌}
+use Rattle.world_defs.specs.World.{WorldState}
+use Rattle.world_defs.specs.Asking.{probed_host, sends}
+use Rattle.event_lists.specs.Events.{sends_events, host_try_events}
+use Rattle.event_lists.proofs.Asked.{sends-behind, sends-world, sends-effects, host_try-probe, host_try-reply}
+use Rattle.event_lists.proofs.PartWay.{way-still}
+use Rattle.world_drain.proofs.Later.{on-any}
 use Rattle.world_asking.proofs.trying.host_try.Goals as goal
+
+pub returns-in_err-stage-clause-err : goal.returns-in_err-stage-clause-err
+returns-in_err-stage-clause-err c = on-any c.from_residual.result (way-still c.args.w.now c.stage.new.w (host_try_events c.args.mapper c.args.walk.now c.args.w.now) c.in_err-stage.ensures.err)
 
 pub returns-in_err-probe-clause-err : goal.returns-in_err-probe-clause-err
 returns-in_err-probe-clause-err c =
-    let asked : IsLater c.args.w.now c.stage.new.w = later-step c.args.w.now c.stage.new.w (Ask c.args.mapper c.args.walk.now false) c.in_ok-stage.ensures.after in
-    on-any c.from_residual-in_err-probe.result (later-both c.args.w.now c.stage.new.w c.inject.new.w asked c.in_err-probe.ensures.err)
+    let u : WorldState = c.stage.new.w in
+    on-any c.from_residual-in_err-probe.result
+    (host_try-probe c.args.mapper c.args.walk.now c.args.w.now u c.inject.new.w c.in_ok-stage.ensures.after (way-still u c.inject.new.w (sends_events u c.args.mapper) c.in_err-probe.ensures.err))
 
 pub returns-in_err-seen-clause-err : goal.returns-in_err-seen-clause-err
 returns-in_err-seen-clause-err c =
-    let asked : IsLater c.args.w.now c.stage.new.w = later-step c.args.w.now c.stage.new.w (Ask c.args.mapper c.args.walk.now false) c.in_ok-stage.ensures.after in
-    let sent : IsLater c.args.w.now c.inject.new.w = later-both c.args.w.now c.stage.new.w c.inject.new.w asked (later-step c.stage.new.w c.inject.new.w (Inject c.args.mapper) c.in_ok-probe.ensures.after) in
-    on-any c.from_residual-in_err-seen.result (later-both c.args.w.now c.inject.new.w c.drain_watching.new.w sent c.in_err-seen.ensures.err)
+    let u : WorldState = c.stage.new.w in
+    on-any c.from_residual-in_err-seen.result
+    (host_try-probe c.args.mapper c.args.walk.now c.args.w.now u c.drain_watching.new.w c.in_ok-stage.ensures.after
+    (sends-behind u c.inject.new.w c.drain_watching.new.w c.args.mapper c.in_ok-probe.ensures.after c.in_err-seen.ensures.err))
 
 pub returns-in_err-reply-clause-err : goal.returns-in_err-reply-clause-err
 returns-in_err-reply-clause-err c =
-    let asked : IsLater c.args.w.now c.stage.new.w = later-step c.args.w.now c.stage.new.w (Ask c.args.mapper c.args.walk.now false) c.in_ok-stage.ensures.after in
-    let sent : IsLater c.args.w.now c.inject.new.w = later-both c.args.w.now c.stage.new.w c.inject.new.w asked (later-step c.stage.new.w c.inject.new.w (Inject c.args.mapper) c.in_ok-probe.ensures.after) in
-    let heard : IsLater c.args.w.now c.drain_watching.new.w = later-both c.args.w.now c.inject.new.w c.drain_watching.new.w sent (drain-later c.inject.new.w c.drain_watching.new.w c.in_ok-seen.ensures.after) in
-    on-any c.from_residual-in_err-reply.result (later-both c.args.w.now c.drain_watching.new.w c.inject-2.new.w heard c.in_err-reply.ensures.err)
+    let u : WorldState = c.stage.new.w in
+    let x : WorldState = c.drain_watching.new.w in
+    let found : Some c.in-Some.host ≡ probed_host (sends u c.args.mapper).effects =
+    sym c.in-Some.is ∙ ap (λ s. s.probed) c.in_ok-seen.ensures.seen ∙ ap probed_host (sends-effects u c.inject.new.w c.args.mapper c.in_ok-probe.ensures.after) in
+    on-any c.from_residual-in_err-reply.result
+    (host_try-reply c.args.mapper c.args.walk.now c.in-Some.host c.args.w.now u x c.inject-2.new.w c.in_ok-stage.ensures.after found
+    (sends-world u c.inject.new.w x c.args.mapper c.in_ok-probe.ensures.after c.in_ok-seen.ensures.after) (way-still x c.inject-2.new.w (sends_events x c.in-Some.host) c.in_err-reply.ensures.err))
 
 pub returns-in_err-answered-clause-err : goal.returns-in_err-answered-clause-err
 returns-in_err-answered-clause-err c =
-    let asked : IsLater c.args.w.now c.stage.new.w = later-step c.args.w.now c.stage.new.w (Ask c.args.mapper c.args.walk.now false) c.in_ok-stage.ensures.after in
-    let sent : IsLater c.args.w.now c.inject.new.w = later-both c.args.w.now c.stage.new.w c.inject.new.w asked (later-step c.stage.new.w c.inject.new.w (Inject c.args.mapper) c.in_ok-probe.ensures.after) in
-    let heard : IsLater c.args.w.now c.drain_watching.new.w = later-both c.args.w.now c.inject.new.w c.drain_watching.new.w sent (drain-later c.inject.new.w c.drain_watching.new.w c.in_ok-seen.ensures.after) in
-    let replied : IsLater c.args.w.now c.inject-2.new.w = later-both c.args.w.now c.drain_watching.new.w c.inject-2.new.w heard (later-step c.drain_watching.new.w c.inject-2.new.w (Inject c.in-Some.host) c.in_ok-reply.ensures.after) in
-    on-any c.from_residual-in_err-answered.result (later-both c.args.w.now c.inject-2.new.w c.drain_watching-2.new.w replied c.in_err-answered.ensures.err)
+    let u : WorldState = c.stage.new.w in
+    let x : WorldState = c.drain_watching.new.w in
+    let found : Some c.in-Some.host ≡ probed_host (sends u c.args.mapper).effects =
+    sym c.in-Some.is ∙ ap (λ s. s.probed) c.in_ok-seen.ensures.seen ∙ ap probed_host (sends-effects u c.inject.new.w c.args.mapper c.in_ok-probe.ensures.after) in
+    on-any c.from_residual-in_err-answered.result
+    (host_try-reply c.args.mapper c.args.walk.now c.in-Some.host c.args.w.now u x c.drain_watching-2.new.w c.in_ok-stage.ensures.after found
+    (sends-world u c.inject.new.w x c.args.mapper c.in_ok-probe.ensures.after c.in_ok-seen.ensures.after)
+    (sends-behind x c.inject-2.new.w c.drain_watching-2.new.w c.in-Some.host c.in_ok-reply.ensures.after c.in_err-answered.ensures.err))

@@ -1,22 +1,26 @@
+use Rattle.event_lists.proofs.Drained.{clear-within, clear-behind}
 use Rattle.fab_world.specs.Held.{IsLater}
 use Rattle.fab_world.proofs.Moments.{later-fabric, later-hosts, later-channels, later-adopted}
 use Rattle.world_drain.proofs.EventRows.{resets-later}
-use Rattle.world_drain.proofs.Later.{later-both, on-any}
+use Rattle.world_drain.proofs.Later.{later-both, way-later, on-any, on-err}
 use Rattle.world_drain.proofs.Resets.{is-clear, is-idle}
 use Rattle.world_drain.proofs.Running.{drain-later}
 use Rattle.world_drain.proofs.clearing.clear.Goals as goal
 
+pub returns-in_err-drain-clause-err : goal.returns-in_err-drain-clause-err
+returns-in_err-drain-clause-err c = on-any c.from_residual.result (clear-within c.args.w.now c.drain.new.w c.in_err-drain.ensures.err)
+
 pub returns-in_err-drain-clause-fabric : goal.returns-in_err-drain-clause-fabric
-returns-in_err-drain-clause-fabric c = later-fabric c.args.w.now c.drain.new.w c.in_err-drain.ensures.err
+returns-in_err-drain-clause-fabric c = later-fabric c.args.w.now c.drain.new.w (way-later c.args.w.now c.drain.new.w c.in_err-drain.ensures.err)
 
 pub returns-in_err-drain-clause-hosts : goal.returns-in_err-drain-clause-hosts
-returns-in_err-drain-clause-hosts c = later-hosts c.args.w.now c.drain.new.w c.moment.ensures.kept c.in_err-drain.ensures.err
+returns-in_err-drain-clause-hosts c = later-hosts c.args.w.now c.drain.new.w c.moment.ensures.kept (way-later c.args.w.now c.drain.new.w c.in_err-drain.ensures.err)
 
 pub returns-in_err-drain-clause-channels : goal.returns-in_err-drain-clause-channels
-returns-in_err-drain-clause-channels c = later-channels c.args.w.now c.drain.new.w c.moment.ensures.kept c.in_err-drain.ensures.err
+returns-in_err-drain-clause-channels c = later-channels c.args.w.now c.drain.new.w c.moment.ensures.kept (way-later c.args.w.now c.drain.new.w c.in_err-drain.ensures.err)
 
 pub returns-in_err-drain-clause-adopted : goal.returns-in_err-drain-clause-adopted
-returns-in_err-drain-clause-adopted c = later-adopted c.args.w.now c.drain.new.w c.in_err-drain.ensures.err
+returns-in_err-drain-clause-adopted c = later-adopted c.args.w.now c.drain.new.w (way-later c.args.w.now c.drain.new.w c.in_err-drain.ensures.err)
 
 -- what was done leads on from where it began
 done : (c : goal.After-reset_full) → IsLater c.args.w.now c.reset_full.new.w
@@ -28,7 +32,7 @@ pub returns-clause-ok : goal.returns-clause-ok
 returns-clause-ok c = is-clear c.args.w.now c.drain.new.w c.reset_full.new.w c.reset_full.result c.in_ok-drain.ensures.after c.reset_full.ensures.ok
 
 pub returns-clause-err : goal.returns-clause-err
-returns-clause-err c = on-any c.reset_full.result (done c)
+returns-clause-err c = on-err c.reset_full.result (clear-behind c.args.w.now c.drain.new.w c.reset_full.new.w c.in_ok-drain.ensures.after) c.reset_full.ensures.err
 
 pub returns-clause-idle : goal.returns-clause-idle
 returns-clause-idle c = is-idle c.args.w.now c.reset_full.new.w c.reset_full.result (returns-clause-ok c)

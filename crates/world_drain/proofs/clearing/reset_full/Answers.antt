@@ -1,4 +1,8 @@
-use Rattle.world_drain.proofs.Later.{later-both, on-any}
+use Rattle.std.proofs.Common.{◌-◌, map, length}
+use Rattle.std.specs.List.{range_with_len}
+use Rattle.world_defs.specs.declared.event.Event.TheVariants.{Reset}
+use Rattle.event_lists.proofs.PartWay.{way-still}
+use Rattle.world_drain.proofs.Later.{on-any}
 use Rattle.world_drain.proofs.Resets.{resetting-none, resetting-on, resetting-all}
 use Rattle.world_drain.proofs.clearing.reset_full.Goals as goal
 
@@ -6,7 +10,9 @@ pub loop-c-init : goal.loop-c-init
 loop-c-init c = resetting-none c.args.w.now
 
 pub returns-in_err-happen-clause-err : goal.returns-in_err-happen-clause-err
-returns-in_err-happen-clause-err c = on-any c.from_residual.result (later-both c.args.w.now c.loop-c.w c.happen.new.w c.loop-c.invariant.later c.in_err-happen.ensures.err)
+returns-in_err-happen-clause-err c =
+    let left = map Reset (range_with_len c.loop-c.from (length c.args.w.now.links.channels - c.loop-c.from)) in
+    on-any c.from_residual.result (c.loop-c.invariant.way c.happen.new.w (way-still c.loop-c.w c.happen.new.w left c.in_err-happen.ensures.err))
 
 pub loop-c-preserved : goal.loop-c-preserved
 loop-c-preserved c =

@@ -1,6 +1,7 @@
 use Rattle.std.proofs.Common.{arith}
+use Rattle.event_lists.proofs.Drained.{drain-within}
 use Rattle.world_drain.proofs.Drained.{ran-end, ran-few}
-use Rattle.world_drain.proofs.Later.{later-both, on-any}
+use Rattle.world_drain.proofs.Later.{on-any}
 use Rattle.world_drain.proofs.Running.{running-none, running-on, fewer-hops}
 use Rattle.world_drain.proofs.draining.drain_watching.Goals as goal
 
@@ -8,7 +9,7 @@ pub loop-once-init : goal.loop-once-init
 loop-once-init c = running-none c.args.watch c.args.w.now c.nothing-seen.result c.nothing-seen.ensures
 
 pub returns-in_err-once-clause-err : goal.returns-in_err-once-clause-err
-returns-in_err-once-clause-err c = on-any c.from_residual.result (later-both c.args.w.now c.loop-once.w c.pass.new.w c.loop-once.invariant.later c.in_err-once.ensures.err)
+returns-in_err-once-clause-err c = on-any c.from_residual.result (c.loop-once.invariant.way c.pass.new.w (drain-within c.loop-once.w c.pass.new.w c.in_err-once.ensures.err))
 
 pub returns-then-once-eq0-clause-seen : goal.returns-then-once-eq0-clause-seen
 returns-then-once-eq0-clause-seen c =

@@ -1,8 +1,10 @@
-use Rattle.std.proofs.Common.{◌∷◌, [], refl}
+use Rattle.std.proofs.Common.{◌∷◌, [], ◌-◌, map, length, refl}
+use Rattle.std.specs.List.{range_with_len}
 use Rattle.world_defs.specs.declared.event.Event.TheVariants.{Advance}
 use Rattle.world_defs.specs.Step.{step}
 use Rattle.world_drain.specs.Watch.{seen_in}
-use Rattle.world_drain.proofs.Later.{later-both, on-any}
+use Rattle.event_lists.proofs.PartWay.{way-still}
+use Rattle.world_drain.proofs.Later.{on-any}
 use Rattle.world_drain.proofs.Passed.{passed-none, passed-on, passed-all}
 use Rattle.world_drain.proofs.draining.pass.Goals as goal
 
@@ -18,7 +20,9 @@ loop-c-preserved c =
     c.loop-c.invariant f.above f.there f.passed refl all.few all.heard all.after all.fabric all.hosts all.channels all.seen
 
 pub returns-in_err-all-clause-err : goal.returns-in_err-all-clause-err
-returns-in_err-all-clause-err c = on-any c.from_residual.result (later-both c.args.w.now c.loop-c.w c.advance.new.w c.loop-c.invariant.later c.in_err-all.ensures.err)
+returns-in_err-all-clause-err c =
+    let left = map Advance (range_with_len c.loop-c.from (length c.args.w.now.links.channels - c.loop-c.from)) in
+    on-any c.from_residual.result (c.loop-c.invariant.way c.advance.new.w (way-still c.loop-c.w c.advance.new.w left c.in_err-all.ensures.err))
 
 pub returns-clause-seen : goal.returns-clause-seen
 returns-clause-seen c =

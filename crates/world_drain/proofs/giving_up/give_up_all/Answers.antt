@@ -1,6 +1,10 @@
-use Rattle.std.proofs.Common.{arith}
+use Rattle.std.proofs.Common.{◌-◌, map, arith}
+use Rattle.std.specs.List.{range_with_len}
+use Rattle.world_defs.specs.declared.event.Event.TheVariants.{GiveUp}
+use Rattle.world_defs.specs.World.{host_count}
+use Rattle.event_lists.proofs.PartWay.{way-still}
 use Rattle.world_drain.proofs.GivingUp.{giving-none, giving-on, giving-all}
-use Rattle.world_drain.proofs.Later.{later-both, on-any}
+use Rattle.world_drain.proofs.Later.{on-any}
 use Rattle.world_drain.proofs.giving_up.give_up_all.Goals as goal
 
 pub loop-host-init : goal.loop-host-init
@@ -14,7 +18,9 @@ give_up-requires c =
     omega (arith, below, end, count)
 
 pub returns-in_err-give_up-clause-err : goal.returns-in_err-give_up-clause-err
-returns-in_err-give_up-clause-err c = on-any c.from_residual.result (later-both c.args.w.now c.loop-host.w c.give_up.new.w c.loop-host.invariant.later c.in_err-give_up.ensures.err)
+returns-in_err-give_up-clause-err c =
+    let left = map GiveUp (range_with_len c.loop-host.host (host_count c.args.w.now - c.loop-host.host)) in
+    on-any c.from_residual.result (c.loop-host.invariant.way c.give_up.new.w (way-still c.loop-host.w c.give_up.new.w left c.in_err-give_up.ensures.err))
 
 pub loop-host-preserved : goal.loop-host-preserved
 loop-host-preserved c =

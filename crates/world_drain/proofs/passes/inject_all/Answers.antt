@@ -1,6 +1,10 @@
-use Rattle.std.proofs.Common.{refl, arith}
+use Rattle.std.proofs.Common.{◌-◌, map, refl, arith}
+use Rattle.std.specs.List.{range_with_len}
+use Rattle.world_defs.specs.declared.event.Event.TheVariants.{Inject}
+use Rattle.world_defs.specs.World.{host_count}
+use Rattle.event_lists.proofs.PartWay.{way-still}
 use Rattle.world_drain.proofs.Injects.{injecting-none, injecting-on, injecting-all}
-use Rattle.world_drain.proofs.Later.{later-both, on-any}
+use Rattle.world_drain.proofs.Later.{on-any}
 use Rattle.world_drain.proofs.passes.inject_all.Goals as goal
 
 pub loop-host-init : goal.loop-host-init
@@ -14,7 +18,9 @@ inject_due-requires c =
     omega (arith, below, end, count)
 
 pub returns-in_err-moved-clause-err : goal.returns-in_err-moved-clause-err
-returns-in_err-moved-clause-err c = on-any c.from_residual.result (later-both c.args.w.now c.loop-host.w c.inject_due.new.w c.loop-host.invariant.later c.in_err-moved.ensures.err)
+returns-in_err-moved-clause-err c =
+    let left = map Inject (range_with_len c.loop-host.host (host_count c.args.w.now - c.loop-host.host)) in
+    on-any c.from_residual.result (c.loop-host.invariant.way c.inject_due.new.w (way-still c.loop-host.w c.inject_due.new.w left c.in_err-moved.ensures.err))
 
 pub loop-host-preserved : goal.loop-host-preserved
 loop-host-preserved c =

@@ -1,31 +1,37 @@
-use Rattle.fab_world.specs.Held.{IsLater}
-use Rattle.world_drain.proofs.EventRows.{injects-later, clear-later}
-use Rattle.world_drain.proofs.Later.{later-both, on-any}
-use Rattle.world_drain.proofs.GivingUp.{given_up-later}
-use Rattle.world_drain.proofs.WholePass.{IsPass, pass-told}
-use Rattle.world_defs.specs.World.{addresses}
+use Rattle.std.proofs.Common.{◌≡◌, map, sym, ◌∙◌, ap, subst}
+use Rattle.std.specs.List.{range_with_len}
+use Rattle.world_defs.specs.declared.event.Event.TheVariants.{Inject}
+use Rattle.world_defs.specs.World.{WorldState}
+use Rattle.event_lists.specs.Events.{after_injections}
+use Rattle.event_lists.specs.PartWay.{IsPartWay}
+use Rattle.event_lists.proofs.Settled.{pass-given_up, pass-injects, pass-clear, pass-replays}
+use Rattle.world_drain.proofs.Later.{on-any}
+use Rattle.world_drain.proofs.WholePass.{IsPass, pass-told, injects-there}
 use Rattle.world_drain.proofs.passes.pass.Goals as goal
+
+pub returns-in_err-give_up_all-clause-err : goal.returns-in_err-give_up_all-clause-err
+returns-in_err-give_up_all-clause-err c = on-any c.from_residual.result (pass-given_up c.args.w.now c.give_up_all.new.w c.in_err-give_up_all.ensures.err)
 
 pub returns-in_err-moved-clause-err : goal.returns-in_err-moved-clause-err
 returns-in_err-moved-clause-err c =
+    let t : WorldState = c.give_up_all.new.w in
+    let u : WorldState = c.inject_all.new.w in
     on-any c.from_residual-in_err-moved.result
-    (later-both c.args.w.now c.give_up_all.new.w c.inject_all.new.w (given_up-later c.args.w.now c.give_up_all.new.w c.in_ok-give_up_all.ensures.after) c.in_err-moved.ensures.err)
+    (pass-injects c.args.w.now t u c.in_ok-give_up_all.ensures.after (subst (λ n. IsPartWay t (map Inject (range_with_len 0 n)) u) c.in_ok-give_up_all.ensures.hosts c.in_err-moved.ensures.err))
 
 pub returns-in_err-resets-clause-err : goal.returns-in_err-resets-clause-err
 returns-in_err-resets-clause-err c =
-    let given : IsLater c.args.w.now c.give_up_all.new.w = given_up-later c.args.w.now c.give_up_all.new.w c.in_ok-give_up_all.ensures.after in
-    let injected : IsLater c.args.w.now c.inject_all.new.w =
-    later-both c.args.w.now c.give_up_all.new.w c.inject_all.new.w given (injects-later c.give_up_all.new.w c.inject_all.new.w (addresses c.give_up_all.new.w) c.in_ok-moved.ensures.after) in
-    on-any c.from_residual-in_err-resets.result (later-both c.args.w.now c.inject_all.new.w c.clear.new.w injected c.in_err-resets.ensures.err)
+    let w : WorldState = c.args.w.now in
+    let u : WorldState = c.inject_all.new.w in
+    let here : u ≡ after_injections w = c.in_ok-moved.ensures.after ∙ ap (λ p. p.1) (injects-there w c.give_up_all.new.w c.in_ok-give_up_all.ensures.after c.in_ok-give_up_all.ensures.hosts) in
+    on-any c.from_residual-in_err-resets.result (pass-clear w u c.clear.new.w here c.in_err-resets.ensures.err)
 
 pub returns-in_err-replayed-clause-err : goal.returns-in_err-replayed-clause-err
 returns-in_err-replayed-clause-err c =
-    let given : IsLater c.args.w.now c.give_up_all.new.w = given_up-later c.args.w.now c.give_up_all.new.w c.in_ok-give_up_all.ensures.after in
-    let injected : IsLater c.args.w.now c.inject_all.new.w =
-    later-both c.args.w.now c.give_up_all.new.w c.inject_all.new.w given (injects-later c.give_up_all.new.w c.inject_all.new.w (addresses c.give_up_all.new.w) c.in_ok-moved.ensures.after) in
-    let cleared : IsLater c.args.w.now c.clear.new.w =
-    later-both c.args.w.now c.inject_all.new.w c.clear.new.w injected (clear-later c.inject_all.new.w c.clear.new.w c.in_ok-resets.resets c.in_ok-resets.ensures.ok) in
-    on-any c.from_residual-in_err-replayed.result (later-both c.args.w.now c.clear.new.w c.replay_all.new.w cleared c.in_err-replayed.ensures.err)
+    let w : WorldState = c.args.w.now in
+    let u : WorldState = c.inject_all.new.w in
+    let here : u ≡ after_injections w = c.in_ok-moved.ensures.after ∙ ap (λ p. p.1) (injects-there w c.give_up_all.new.w c.in_ok-give_up_all.ensures.after c.in_ok-give_up_all.ensures.hosts) in
+    on-any c.from_residual-in_err-replayed.result (pass-replays w u c.clear.new.w c.replay_all.new.w here (sym (ap (λ p. p.1) c.in_ok-resets.ensures.ok)) c.in_err-replayed.ensures.err)
 
 told : (c : goal.After-then) → IsPass c.args.w.now c.replay_all.new.w c.then.result.moved c.then.result.resets
 told c =

@@ -1,4 +1,5 @@
-use Rattle.world_drain.proofs.Later.{later-both, on-any}
+use Rattle.event_lists.proofs.Settled.{passes-within}
+use Rattle.world_drain.proofs.Later.{on-any}
 use Rattle.world_drain.proofs.WholePass.{IsPass, passing-none, passing-on, passing-end, pass-smaller}
 use Rattle.world_drain.proofs.passes.passes.Goals as goal
 
@@ -6,7 +7,7 @@ pub passing-init : goal.passing-init
 passing-init c = passing-none c.args.w.now
 
 pub returns-in_err-once-clause-err : goal.returns-in_err-once-clause-err
-returns-in_err-once-clause-err c = on-any c.from_residual.result (later-both c.args.w.now c.passing.w c.pass.new.w c.passing.invariant.later c.in_err-once.ensures.err)
+returns-in_err-once-clause-err c = on-any c.from_residual.result (c.passing.invariant.way c.pass.new.w (passes-within c.passing.w c.pass.new.w c.in_err-once.ensures.err))
 
 pub returns-then-is_last-clause-ok : goal.returns-then-is_last-clause-ok
 returns-then-is_last-clause-ok c =

@@ -1,12 +1,21 @@
+use Rattle.std.proofs.Common.{◌∷◌}
 use Rattle.world_defs.specs.declared.event.Event.TheVariants.{Replay}
-use Rattle.world_drain.proofs.Later.{later-both, later-step, on-any}
+use Rattle.world_defs.specs.Step.{step}
+use Rattle.event_lists.specs.Events.{clear_events}
+use Rattle.event_lists.proofs.PartWay.{way-still}
+use Rattle.event_lists.proofs.Settled.{replay-clear}
+use Rattle.world_drain.proofs.Later.{on-any}
 use Rattle.world_drain.proofs.Replays.{replay-moved, replay-resets, replay-world}
 use Rattle.world_drain.proofs.replaying.replay.Goals as goal
 
+pub returns-in_err-moved-clause-err : goal.returns-in_err-moved-clause-err
+returns-in_err-moved-clause-err c =
+    let events = Replay c.args.serial ∷ clear_events (step c.args.w.now (Replay c.args.serial)).1 in
+    on-any c.from_residual.result (way-still c.args.w.now c.happens.new.w events c.in_err-moved.ensures.err)
+
 pub returns-in_err-resets-clause-err : goal.returns-in_err-resets-clause-err
 returns-in_err-resets-clause-err c =
-    on-any c.from_residual-in_err-resets.result
-    (later-both c.args.w.now c.happens.new.w c.clear.new.w (later-step c.args.w.now c.happens.new.w (Replay c.args.serial) c.in_ok-moved.ensures.after) c.in_err-resets.ensures.err)
+    on-any c.from_residual-in_err-resets.result (replay-clear c.args.serial c.args.w.now c.happens.new.w c.clear.new.w c.in_ok-moved.ensures.after c.in_err-resets.ensures.err)
 
 pub returns-clause-moved : goal.returns-clause-moved
 returns-clause-moved c = replay-moved c.args.w.now c.args.serial c.in_ok-moved.moved c.in_ok-moved.ensures.changed

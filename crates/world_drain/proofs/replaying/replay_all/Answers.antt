@@ -1,13 +1,15 @@
 use Rattle.std.proofs.Common.{sym, arith}
-use Rattle.world_drain.proofs.Later.{later-both, on-any}
-use Rattle.world_drain.proofs.Replays.{replaying-none, replaying-on, replaying-all, serial-few, serial-above}
+use Rattle.world_drain.proofs.Later.{on-any}
+use Rattle.world_drain.proofs.Replays.{replaying-none, replaying-on, replaying-cut, replaying-all, serial-few, serial-above}
 use Rattle.world_drain.proofs.replaying.replay_all.Goals as goal
 
 pub replays-init : goal.replays-init
 replays-init c = replaying-none c.args.w.now
 
 pub returns-in_err-one-clause-err : goal.returns-in_err-one-clause-err
-returns-in_err-one-clause-err c = on-any c.from_residual.result (later-both c.args.w.now c.replays.w c.replay.new.w c.replays.invariant.later c.in_err-one.ensures.err)
+returns-in_err-one-clause-err c =
+    on-any c.from_residual.result
+    (replaying-cut c.args.w.now c.replays.w c.replay.new.w c.replays.from c.in-Some.serial c.replays.told.moved c.replays.told.resets c.replays.invariant c.moment.ensures.kept (sym c.in-Some.ensures) c.in_err-one.ensures.err)
 
 pub overflow_add-from : goal.overflow_add-from
 overflow_add-from c =

@@ -1,6 +1,6 @@
 use Rattle.std.proofs.Common.{arith}
-use Rattle.world_drain.proofs.Expiries.{expiring_all-none, expiring_all-on, expiring_all-all}
-use Rattle.world_drain.proofs.Later.{later-both, on-any}
+use Rattle.world_drain.proofs.Expiries.{expiring_all-none, expiring_all-on, expiring_all-cut, expiring_all-all}
+use Rattle.world_drain.proofs.Later.{on-any}
 use Rattle.world_drain.proofs.rounds.expire_all.Goals as goal
 
 pub loop-host-init : goal.loop-host-init
@@ -15,7 +15,10 @@ expire_host_due-requires c =
 
 pub returns-in_err-expire_host_due-clause-err : goal.returns-in_err-expire_host_due-clause-err
 returns-in_err-expire_host_due-clause-err c =
-    on-any c.from_residual.result (later-both c.args.w.now c.loop-host.w c.expire_host_due.new.w c.loop-host.invariant.later c.in_err-expire_host_due.ensures.err)
+    let below = c.loop-host-test.true in
+    let end = c.hosts-host-end.ensures in
+    on-any c.from_residual.result
+    (expiring_all-cut c.args.w.now c.loop-host.w c.expire_host_due.new.w c.loop-host.host c.loop-host.invariant (omega (arith, below, end)) c.in_err-expire_host_due.ensures.err)
 
 pub loop-host-preserved : goal.loop-host-preserved
 loop-host-preserved c =

@@ -1,6 +1,9 @@
-use Rattle.std.proofs.Common.{arith}
-use Rattle.world_drain.proofs.Expiries.{expiring-none, expiring-on, expiring-all}
-use Rattle.world_drain.proofs.Later.{later-both, on-any}
+use Rattle.std.proofs.Common.{◌-◌, arith}
+use Rattle.std.specs.List.{range_with_len}
+use Rattle.world_defs.specs.World.{host_count}
+use Rattle.event_lists.proofs.PartWay.{way-still}
+use Rattle.world_drain.proofs.Expiries.{due_of, expiring-none, expiring-on, expiring-all}
+use Rattle.world_drain.proofs.Later.{on-any}
 use Rattle.world_drain.proofs.rounds.expire_host.Goals as goal
 
 pub loop-peer-init : goal.loop-peer-init
@@ -18,7 +21,8 @@ expire_due-requires-clause-peer c =
 
 pub returns-in_err-expire_due-clause-err : goal.returns-in_err-expire_due-clause-err
 returns-in_err-expire_due-clause-err c =
-    on-any c.from_residual.result (later-both c.args.w.now c.loop-peer.w c.expire_due.new.w c.loop-peer.invariant.later c.in_err-expire_due.ensures.err)
+    let left = due_of c.args.w.now c.args.host (range_with_len c.loop-peer.peer (host_count c.args.w.now - c.loop-peer.peer)) in
+    on-any c.from_residual.result (c.loop-peer.invariant.way c.expire_due.new.w (way-still c.loop-peer.w c.expire_due.new.w left c.in_err-expire_due.ensures.err))
 
 pub loop-peer-preserved : goal.loop-peer-preserved
 loop-peer-preserved c =

@@ -1,5 +1,5 @@
-use Rattle.world_drain.proofs.Expiries.{expiries-later}
-use Rattle.world_drain.proofs.Later.{later-both, on-err}
+use Rattle.event_lists.proofs.Settled.{round-expiries, round-passes}
+use Rattle.world_drain.proofs.Later.{on-any, on-err}
 use Rattle.world_drain.proofs.WholeRound.{resets-told, world-told}
 use Rattle.world_drain.proofs.rounds.round.Goals as goal
 
@@ -11,4 +11,7 @@ returns-clause-after c = world-told c.args.w.now c.expire_all.new.w c.passes.new
 
 pub returns-clause-err : goal.returns-clause-err
 returns-clause-err c =
-    on-err c.passes.result (later-both c.args.w.now c.expire_all.new.w c.passes.new.w (expiries-later c.args.w.now c.expire_all.new.w c.in_ok-expire_all.ensures.after)) c.passes.ensures.err
+    on-err c.passes.result (round-passes c.args.w.now c.expire_all.new.w c.passes.new.w c.in_ok-expire_all.ensures.after) c.passes.ensures.err
+
+pub returns-in_err-expire_all-clause-err : goal.returns-in_err-expire_all-clause-err
+returns-in_err-expire_all-clause-err c = on-any c.from_residual.result (round-expiries c.args.w.now c.expire_all.new.w c.in_err-expire_all.ensures.err)

@@ -1,17 +1,23 @@
+use Rattle.std.proofs.Common.{ap, sym}
+use Rattle.event_lists.proofs.Settled.{settle-clear, settle-rounds}
 use Rattle.fab_world.specs.Held.{IsLater}
 use Rattle.fab_world.proofs.Moments.{later-fabric, later-hosts, later-channels, later-adopted}
 use Rattle.world_drain.proofs.EventRows.{clear-later}
-use Rattle.world_drain.proofs.Later.{later-both, on-any}
+use Rattle.world_drain.proofs.Later.{later-both, way-later, on-any}
 use Rattle.world_drain.proofs.RoundRows.{rounds-later}
 use Rattle.world_drain.proofs.WholeRound.{IsSettled, settled-is}
 use Rattle.world_drain.proofs.rounds.settle.Goals as goal
 
 -- where memory was wanting among the rounds
 cut : (c : goal.After-from_residual-in_err-rest) → IsLater c.args.w.now c.all_rounds.new.w
-cut c = later-both c.args.w.now c.clear.new.w c.all_rounds.new.w (clear-later c.args.w.now c.clear.new.w c.in_ok-first.first c.in_ok-first.ensures.ok) c.in_err-rest.ensures.err
+cut c = later-both c.args.w.now c.clear.new.w c.all_rounds.new.w (clear-later c.args.w.now c.clear.new.w c.in_ok-first.first c.in_ok-first.ensures.ok) (way-later c.clear.new.w c.all_rounds.new.w c.in_err-rest.ensures.err)
+
+pub returns-in_err-first-clause-err : goal.returns-in_err-first-clause-err
+returns-in_err-first-clause-err c = on-any c.from_residual.result (settle-clear c.args.w.now c.clear.new.w c.in_err-first.ensures.err)
 
 pub returns-in_err-rest-clause-err : goal.returns-in_err-rest-clause-err
-returns-in_err-rest-clause-err c = on-any c.from_residual-in_err-rest.result (cut c)
+returns-in_err-rest-clause-err c =
+    on-any c.from_residual-in_err-rest.result (settle-rounds c.args.w.now c.clear.new.w c.all_rounds.new.w (sym (ap (λ p. p.1) c.in_ok-first.ensures.ok)) c.in_err-rest.ensures.err)
 
 pub returns-in_err-rest-clause-fabric : goal.returns-in_err-rest-clause-fabric
 returns-in_err-rest-clause-fabric c = later-fabric c.args.w.now c.all_rounds.new.w (cut c)

@@ -1,24 +1,42 @@
-use Rattle.std.proofs.Common.{◌≡◌, ◌<◌, ap, sym, subst, ◌∙◌, length}
-use Rattle.world_defs.specs.World.{fabric_of, host_count}
-use Rattle.world_defs.specs.Step.{advanced, lost}
+use Rattle.std.proofs.Common.{ap, sym, ◌∙◌, arith}
+use Rattle.world_defs.specs.Step.{advanced}
+use Rattle.world_defs.specs.Hearing.{hear}
 use Rattle.fab_world.specs.Held.{world_of}
-use Rattle.fab_world.proofs.Answers.{if-ok, on-err}
+use Rattle.fab_world.proofs.Answers.{on-any-err}
+use Rattle.fab_world.proofs.HostEvents.{heard-is}
+use Rattle.fab_world.proofs.Places.{IsAt, count-is, below-is, kept-in-state, kept-same, same}
 use Rattle.fab_world.proofs.machine.Machine.advance.Goals as goal
 
-pub hear-requires : goal.hear-requires
-hear-requires c =
-    let same : host_count (world_of c.self.inside.links c.self.inside.hosts.items c.self.inside.adopted) ≡ length c.self.inside.links.links.net.hosts =
-    subst (λ w. host_count w ≡ length (fabric_of w).hosts) (sym c.self.view_is) c.requires.hosts in
-    subst (λ n. c.in-AtHost.host < n) (sym same) c.in-AtHost.ensures.host
+pub index_mut-requires : goal.index_mut-requires
+index_mut-requires c =
+    let count = count-is c.self.inside.links c.self.inside.hosts.items c.self.inside.adopted c.args.self.now c.self.view_is in
+    let low = below-is c.args.self.now c.self.inside.links c.self.inside.hosts.items c.self.inside.adopted c.in-Some.host c.self.view_is c.requires.hosts c.in-Some.ensures.host in
+    let at = c.from.ensures in
+    omega (arith, count, low, at)
 
-pub returns-in-AtHost-clause-ok : goal.returns-in-AtHost-clause-ok
-returns-in-AtHost-clause-ok c =
-    if-ok c.hear.result
-    (λ x h. ap (λ w. advanced w c.args.c) (sym c.self.view_is) ∙ c.in-AtHost.ensures.gone (world_of c.self.inside.links c.self.inside.hosts.items c.self.inside.adopted) ∙ h)
-    c.hear.ensures.ok
+pub invariant_of-self : goal.invariant_of-self
+invariant_of-self c =
+    let at : IsAt c.self.inside.links c.self.inside.hosts.items c.self.inside.adopted c.args.self.now c.in-Some.host c.from.result c.index_mut.result.now =
+    record { is = c.self.view_is; kept = c.self.invariant; below = below-is c.args.self.now c.self.inside.links c.self.inside.hosts.items c.self.inside.adopted c.in-Some.host c.self.view_is c.requires.hosts c.in-Some.ensures.host; at = c.from.ensures; there = c.index_mut.ensures.value } in
+    kept-same c.on_packet.new.self at c.in_err-arrival-in-Some.ensures.unchanged
 
-pub returns-in-AtHost-clause-err : goal.returns-in-AtHost-clause-err
-returns-in-AtHost-clause-err c =
-    on-err c.hear.result
-    (λ h. h ∙ sym (ap (λ r. r.1) (ap (λ w. lost w c.args.c) (sym c.self.view_is) ∙ c.in-AtHost.ensures.taken (world_of c.self.inside.links c.self.inside.hosts.items c.self.inside.adopted))))
-    c.hear.ensures.err
+pub invariant_of-self-in-Some : goal.invariant_of-self-in-Some
+invariant_of-self-in-Some c =
+    let at : IsAt c.self.inside.links c.self.inside.hosts.items c.self.inside.adopted c.args.self.now c.in-Some.host c.from.result c.index_mut.result.now =
+    record { is = c.self.view_is; kept = c.self.invariant; below = below-is c.args.self.now c.self.inside.links c.self.inside.hosts.items c.self.inside.adopted c.in-Some.host c.self.view_is c.requires.hosts c.in-Some.ensures.host; at = c.from.ensures; there = c.index_mut.ensures.value } in
+    kept-in-state c.on_packet.new.self (hear c.index_mut.result.now.host c.index_mut.result.now.hosts c.index_mut.result.now.state c.in-Some.packet.now).1 at c.in_ok-arrival-in-Some.ensures.after
+
+pub returns-in_err-arrival-in-Some-clause-err : goal.returns-in_err-arrival-in-Some-clause-err
+returns-in_err-arrival-in-Some-clause-err c =
+    let at : IsAt c.self.inside.links c.self.inside.hosts.items c.self.inside.adopted c.args.self.now c.in-Some.host c.from.result c.index_mut.result.now =
+    record { is = c.self.view_is; kept = c.self.invariant; below = below-is c.args.self.now c.self.inside.links c.self.inside.hosts.items c.self.inside.adopted c.in-Some.host c.self.view_is c.requires.hosts c.in-Some.ensures.host; at = c.from.ensures; there = c.index_mut.ensures.value } in
+    on-any-err c.from_residual.result (same c.on_packet.new.self at c.in_err-arrival-in-Some.ensures.unchanged)
+
+pub returns-in_ok-arrival-in-Some-clause-ok : goal.returns-in_ok-arrival-in-Some-clause-ok
+returns-in_ok-arrival-in-Some-clause-ok c =
+    let at : IsAt c.self.inside.links c.self.inside.hosts.items c.self.inside.adopted c.args.self.now c.in-Some.host c.from.result c.index_mut.result.now =
+    record { is = c.self.view_is; kept = c.self.invariant; below = below-is c.args.self.now c.self.inside.links c.self.inside.hosts.items c.self.inside.adopted c.in-Some.host c.self.view_is c.requires.hosts c.in-Some.ensures.host; at = c.from.ensures; there = c.index_mut.ensures.value } in
+    heard-is c.args.c c.on_packet.new.self c.in-Some.packet.now c.in_ok-arrival-in-Some.arrival c.heard.result c.heard.new.self at c.in-Some.ensures.heard c.in_ok-arrival-in-Some.ensures.heard c.in_ok-arrival-in-Some.ensures.after c.heard.ensures
+
+pub returns-in-None-clause-ok : goal.returns-in-None-clause-ok
+returns-in-None-clause-ok c = ap (λ w. advanced w c.args.c) (sym c.self.view_is) ∙ c.advance.ensures (world_of c.self.inside.links c.self.inside.hosts.items c.self.inside.adopted)

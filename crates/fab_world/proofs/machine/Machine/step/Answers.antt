@@ -1,12 +1,8 @@
-use Rattle.std.proofs.Common.{[], ◌∷◌, ap, sym, ◌∙◌}
-use Rattle.world_defs.specs.declared.event.Event.TheVariants.{Lose}
+use Rattle.std.proofs.Common.{ap, sym, ◌∙◌}
 use Rattle.world_defs.specs.Step.{lost, was_reset, repeated, held, flipped, replayed, step}
 use Rattle.fab_world.specs.Held.{world_of}
 use Rattle.fab_world.proofs.Answers.{if-ok, on-err}
 use Rattle.fab_world.proofs.machine.Machine.step.Goals as goal
-
-pub returns-in-Advance-clause-err : goal.returns-in-Advance-clause-err
-returns-in-Advance-clause-err c = on-err c.advance.result (λ h. (Lose c.in-Advance.c ∷ [], h)) c.advance.ensures.err
 
 pub returns-in-Lose-clause-ok : goal.returns-in-Lose-clause-ok
 returns-in-Lose-clause-ok c = ap (step c.args.self.now) c.in-Lose.is ∙ ap (λ w. lost w c.in-Lose.c) (sym c.self.view_is) ∙ c.lose.ensures (world_of c.self.inside.links c.self.inside.hosts.items c.self.inside.adopted)
@@ -31,12 +27,12 @@ returns-in-Flip-clause-ok c =
 
 pub returns-in-Repeat-clause-err : goal.returns-in-Repeat-clause-err
 returns-in-Repeat-clause-err c =
-    on-err c.repeat.result (λ h. ([], ap (λ l. world_of l c.self-in-Repeat.inside.hosts.items c.self-in-Repeat.inside.adopted) h ∙ c.self-in-Repeat.view_is)) c.repeat.ensures.err
+    on-err c.repeat.result (λ h. ap (λ l. world_of l c.self-in-Repeat.inside.hosts.items c.self-in-Repeat.inside.adopted) h ∙ c.self-in-Repeat.view_is) c.repeat.ensures.err
 
 pub returns-in-Hold-clause-err : goal.returns-in-Hold-clause-err
 returns-in-Hold-clause-err c =
-    on-err c.hold.result (λ h. ([], ap (λ l. world_of l c.self-in-Hold.inside.hosts.items c.self-in-Hold.inside.adopted) h ∙ c.self-in-Hold.view_is)) c.hold.ensures.err
+    on-err c.hold.result (λ h. ap (λ l. world_of l c.self-in-Hold.inside.hosts.items c.self-in-Hold.inside.adopted) h ∙ c.self-in-Hold.view_is) c.hold.ensures.err
 
 pub returns-in-Flip-clause-err : goal.returns-in-Flip-clause-err
 returns-in-Flip-clause-err c =
-    on-err c.flip.result (λ h. ([], ap (λ l. world_of l c.self-in-Flip.inside.hosts.items c.self-in-Flip.inside.adopted) h ∙ c.self-in-Flip.view_is)) c.flip.ensures.err
+    on-err c.flip.result (λ h. ap (λ l. world_of l c.self-in-Flip.inside.hosts.items c.self-in-Flip.inside.adopted) h ∙ c.self-in-Flip.view_is) c.flip.ensures.err

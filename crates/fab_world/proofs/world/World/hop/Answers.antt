@@ -3,14 +3,18 @@ use Rattle.world_defs.specs.World.{WorldState, fabric_of, host_count}
 use Rattle.fab_world.specs.Held.{IsLater}
 use Rattle.fab_world.specs.Hop.{IsHopIn}
 use Rattle.fab_world.proofs.Hopping.{hop-later}
+use Rattle.fab_world.proofs.Reaching.{hop-reached}
 use Rattle.fab_world.proofs.Moments.{later-moment, later-fabric, later-hosts, later-channels}
 use Rattle.fab_world.proofs.world.World.hop.Goals as goal
 
 pub invariant_of-self : goal.invariant_of-self
 invariant_of-self c =
     let w : WorldState = c.self.inside.machine in
-    let l : IsLater w c.hop.new.self = hop-later w c.hop.new.self c.args.c c.hop.result c.hop.ensures in
-    (later-moment w c.hop.new.self c.self.invariant.0 l, c.self.invariant.1 ∙ sym (later-fabric w c.hop.new.self l))
+    let l : IsLater w c.hop.new.self = hop-later w c.hop.new.self c.args.c c.hop.result c.hop.ensures in (
+      later-moment w c.hop.new.self c.self.invariant.0 l,
+      c.self.invariant.1 ∙ sym (later-fabric w c.hop.new.self l),
+      hop-reached w c.hop.new.self c.args.c c.hop.result c.self.invariant.2 c.hop.ensures,
+    )
 
 pub returns-clause-hop : goal.returns-clause-hop
 returns-clause-hop c = subst (λ u. IsHopIn u c.args.c c.hop.result c.hop.new.self) c.self.view_is c.hop.ensures

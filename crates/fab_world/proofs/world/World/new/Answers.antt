@@ -1,9 +1,14 @@
 use Rattle.std.proofs.Common.{ap, sym, subst}
 use Rattle.world_defs.specs.World.{fabric_of}
 use Rattle.fab_world.specs.Held.{IsMoment}
+use Rattle.act_defs.specs.Acts.{IsReached}
+use Rattle.act_defs.proofs.Reaching.{reached-new}
 use Rattle.fab_world.proofs.Moments.{new-moment}
 use Rattle.fab_world.proofs.world.World.new.Goals as goal
 
 pub invariant_of-result : goal.invariant_of-result
-invariant_of-result c =
-    (subst IsMoment (sym c.in-Ok.ensures.new) (new-moment c.args.fabric c.in-Ok.ensures.fabric), sym (ap fabric_of c.in-Ok.ensures.new))
+invariant_of-result c = (
+  subst IsMoment (sym c.in-Ok.ensures.new) (new-moment c.args.fabric c.in-Ok.ensures.fabric),
+  sym (ap fabric_of c.in-Ok.ensures.new),
+  subst (λ w. IsReached (fabric_of w) w) (sym c.in-Ok.ensures.new) (reached-new c.args.fabric c.in-Ok.ensures.fabric),
+)

@@ -4,13 +4,17 @@ use Rattle.fab_world.specs.Held.{IsLater, IsOfHosts, IsPolledOfHosts}
 use Rattle.fab_world.proofs.Answers.{if-ok-both}
 use Rattle.fab_world.proofs.Arriving.{effect-hosts}
 use Rattle.fab_world.proofs.Moments.{step-later, later-moment, later-fabric, later-hosts, later-channels, later-adopted}
+use Rattle.fab_world.proofs.Reaching.{step-reached}
 use Rattle.fab_world.proofs.world.World.step.Goals as goal
 
 pub invariant_of-self : goal.invariant_of-self
 invariant_of-self c =
     let w : WorldState = c.self.inside.machine in
-    let l : IsLater w c.step.new.self = step-later w c.step.new.self c.args.e c.step.result c.step.ensures.ok c.step.ensures.err in
-    (later-moment w c.step.new.self c.self.invariant.0 l, c.self.invariant.1 ∙ sym (later-fabric w c.step.new.self l))
+    let l : IsLater w c.step.new.self = step-later w c.step.new.self c.args.e c.step.result c.step.ensures.ok c.step.ensures.err in (
+      later-moment w c.step.new.self c.self.invariant.0 l,
+      c.self.invariant.1 ∙ sym (later-fabric w c.step.new.self l),
+      step-reached w c.step.new.self c.args.e c.step.result c.flips_have_a_byte.ensures c.self.invariant.2 c.step.ensures.ok c.step.ensures.err,
+    )
 
 pub returns-clause-host : goal.returns-clause-host
 returns-clause-host c =

@@ -2,7 +2,7 @@ use Rattle.world_defs.specs.Lane.{with_message}
 use Rattle.world_defs.specs.Node.{lane_of}
 use Rattle.host_lanes.specs.Lane.{message_in}
 use Rattle.host_lanes.proofs.Places.{changed-lanes, number-below, of-prio, on-ok}
-use Rattle.std.proofs.Common.{length, subst}
+use Rattle.std.proofs.Common.{take, subst}
 use Rattle.net_defs.specs.Refusal.{Refuses}
 use Rattle.gm_conn.specs.declared.refusal.OfferRefusal.TheVariants.{NoMemory}
 use Rattle.host_lanes.specs.Lane.{accept_refusal}
@@ -19,7 +19,7 @@ pub returns-clause-ok : goal.returns-clause-ok
 returns-clause-ok c =
     on-ok c.accept-accepted.result
     (changed-lanes c.args.self.now c.self.inside.host c.self.inside.hosts c.self.inside.lanes.items (lane_of c.args.peer c.args.e.prio) c.number-lane.result c.index_mut-at.result.now c.accept-accepted.new.self
-    (λ p. with_message p (message_in c.args.e c.args.body.now) (record { port = c.args.e.sport; token = c.args.token }))
+    (λ p. with_message p (message_in c.args.e (take c.args.len c.args.b.now)) (record { port = c.args.e.sport; token = c.args.token }))
     c.self.view_is c.self.invariant.lanes (number-below c.args.self.now c.self.inside.host c.self.inside.hosts c.self.inside.lanes.items c.args.peer c.args.e.prio c.self.view_is c.self.invariant.lanes c.requires.peer)
     c.number-lane.ensures.number c.index_mut-at.ensures.value)
     c.accept-accepted.ensures.ok
@@ -31,7 +31,7 @@ invariant_of-self c =
 
 pub returns-clause-refused : goal.returns-clause-refused
 returns-clause-refused c =
-    subst (λ p. Refuses (accept_refusal p.state (length c.args.body.now)) NoMemory c.accept-accepted.result)
+    subst (λ p. Refuses (accept_refusal p.state c.args.len) NoMemory c.accept-accepted.result)
     (lane-is c.args.self.now c.self.inside.host c.self.inside.hosts c.self.inside.lanes.items (lane_of c.args.peer c.args.e.prio) c.number-lane.result c.index_mut-at.result.now c.self.view_is c.self.invariant.lanes
     (number-below c.args.self.now c.self.inside.host c.self.inside.hosts c.self.inside.lanes.items c.args.peer c.args.e.prio c.self.view_is c.self.invariant.lanes c.requires.peer) c.number-lane.ensures.number c.index_mut-at.ensures.value)
     c.accept-accepted.ensures.refused

@@ -1,11 +1,12 @@
-use Rattle.std.proofs.Common.{ap, sym, subst, ◌∙◌, arith}
+use Rattle.std.proofs.Common.{ap, sym, subst, refl, ◌∙◌, arith}
 use Rattle.net_defs.specs.Route.{answer}
 use Rattle.link_defs.specs.Links.{is_idle}
 use Rattle.world_defs.specs.World.{WorldState, fabric_of}
 use Rattle.probe.specs.Drowning.{IsTrueOrDrowned}
 use Rattle.ask_laws.specs.Premises.{CanAsk}
 use Rattle.ask_laws.proofs.Along.{ask-idle}
-use Rattle.world_asking.specs.Prober.{WorldAsking}
+use Rattle.world_asking.specs.Prober.{WorldAsking, IsCutAsk}
+use Rattle.world_drain.proofs.Later.{on-any}
 use Rattle.world_asking.proofs.Truthful.{can-ask, told-drowned, told-true, turns-in_range}
 use Rattle.world_asking.proofs.prober.WorldProberProber.ask.Goals as goal
 
@@ -36,3 +37,8 @@ returns-else-asked-clause-stays_ready c =
     let w : WorldState = c.self.inside.world in
     ap (λ v. is_idle v.links) c.in_ok-asked.ensures.after
     ∙ ask-idle w c.self.inside.host c.self.inside.tries c.args.w.now c.moment.ensures.kept.world (ap (λ p. is_idle p.world.links) c.self.view_is ∙ c.requires.is_ready)
+
+pub returns-in_err-asked-clause-by_cutting : goal.returns-in_err-asked-clause-by_cutting
+returns-in_err-asked-clause-by_cutting c =
+    let left : WorldAsking = record { world = c.ask.new.w; host = c.self.inside.host; tries = c.self.inside.tries; drowned = c.self.inside.drowned } in
+    on-any c.from_residual.result (subst (λ (p : WorldAsking). IsCutAsk p c.args.w.now left) c.self.view_is (record { way = c.in_err-asked.ensures.err; rest = refl }))

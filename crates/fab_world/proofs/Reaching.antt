@@ -1,0 +1,64 @@
+-- Each call leads from a world that is reached to one that is.
+use Rattle.std.proofs.Common.{◌≡◌, ◌≤◌, ℕ, Bool, true, false, Option, Some, None, List, refl, sym, ap, subst}
+use Rattle.std.specs.Prelude.{Result, Ok, Err, OnOk, OnErr, IfOk, if◌then◌else◌}
+use Rattle.net_defs.specs.declared.route.Route.{Route}
+use Rattle.world_defs.specs.declared.event.Event.{Event}
+use Rattle.world_defs.specs.declared.event.Event.TheVariants.{Advance}
+use Rattle.world_defs.specs.declared.effect.Effect.{Effect}
+use Rattle.world_defs.specs.declared.effect.Effect.TheVariants.{Moved as MovedTo, Blocked as StaysFor}
+use Rattle.world_defs.specs.declared.fault.Fault.{Fault}
+use Rattle.world_defs.specs.Table.{Adoption, is_other}
+use Rattle.world_defs.specs.World.{WorldState, fabric_of, planned, adopted_by}
+use Rattle.world_defs.specs.Step.{step}
+use Rattle.world_defs.specs.EightBits.{IsByteFault, IsByteEvent}
+use Rattle.world_laws.proofs.Shapes.{step-kept}
+use Rattle.act_defs.specs.Acts.{Happens, Plans, Adopts, IsSameSet, IsReached}
+use Rattle.act_defs.proofs.Reaching.{reached-next}
+use Rattle.act_defs.proofs.Routes.{not-other}
+use Rattle.link_model.specs.declared.hop.Hop.{Hop}
+use Rattle.link_model.specs.declared.hop.Hop.TheVariants.{Moved, Blocked, Untried}
+use Rattle.port_graph.specs.Routes.{HandsBack}
+use Rattle.adopted_routes.specs.Adopting.{IsAdoptable, adopt_refusal}
+use Rattle.adopted_routes.specs.declared.routes.AdoptRefusal.{AdoptRefusal}
+use Rattle.adopted_routes.specs.declared.routes.AdoptRefusal.TheVariants.{Another}
+use Rattle.fab_world.specs.Hop.{IsHopIn}
+
+-- a world that is reached in its fabric
+abbrev pub IsReachedNow : WorldState → Type 0
+IsReachedNow w = IsReached (fabric_of w) w
+
+event-reached : (w v : WorldState) (e : Event) (x : Effect) → IsByteEvent e → IsReachedNow w → step w e ≡ (x, v) → IsReachedNow v
+event-reached w v e x low is now =
+    let next : IsReached (fabric_of w) (step w e).1 = reached-next (fabric_of w) w (Happens e) is low in
+    subst IsReachedNow (ap (λ p. p.1) now) (subst (λ n. IsReached n (step w e).1) (sym (step-kept w e).net) next)
+
+pub step-reached : {E : Type 0} (w v : WorldState) (e : Event) (r : Result Effect E) → IsByteEvent e → IsReachedNow w → IfOk r (λ x. step w e ≡ (x, v)) → OnErr r (v ≡ w) → IsReachedNow v
+step-reached w v e (Ok x) low is ok err = event-reached w v e x low is ok
+step-reached w v e (Err y) low is ok err = subst IsReachedNow (sym err) is
+
+pub hop-reached : (w v : WorldState) (c : ℕ) (h : Hop) → IsReachedNow w → IsHopIn w c h v → IsReachedNow v
+hop-reached w v c (Moved next) is now = event-reached w v (Advance c) (MovedTo next) tt is now
+hop-reached w v c (Blocked next) is now = event-reached w v (Advance c) (StaysFor next) tt is now
+hop-reached w v c Untried is now = subst IsReachedNow (sym now) is
+
+pub plan-reached : {E : Type 0} (w v : WorldState) (ahead : ℕ) (fault : Fault) (r : Result ℕ E) → 1 ≤ ahead → IsByteFault fault → IsReachedNow w → IfOk r (λ number. planned w ahead fault ≡ (number, v)) → OnErr r (v ≡ w) → IsReachedNow v
+plan-reached w v ahead fault (Ok number) far low is ok err =
+    let next : IsReachedNow (planned w ahead fault).1 = reached-next (fabric_of w) w (Plans ahead fault) is (far, low) in
+    subst IsReachedNow (ap (λ p. p.1) ok) next
+plan-reached w v ahead fault (Err e) far low is ok err = subst IsReachedNow (sym err) is
+
+-- routes that aren't refused as others are the adopted ones, where any are
+no-other : (routes : List Route) (o : Option Adoption) → adopt_refusal routes o ≡ None → IsSameSet routes o
+no-other routes o none = not-other routes o (by (is_other routes o) none)
+  where
+    by : (b : Bool) → (if b then Some Another else None) ≡ None → b ≡ false
+    by true p = cc
+    by false p = refl
+
+pub adopt-reached : {A : Type 0} (w v : WorldState) (mapper : ℕ) (routes : List Route) (r : Result A (List Route × AdoptRefusal)) → IsReachedNow w → IsAdoptable (fabric_of w) mapper routes
+    → HandsBack (adopt_refusal routes w.adopted) AdoptRefusal.NoMemory routes r → OnOk r (v ≡ adopted_by w mapper routes) → OnErr r (v ≡ w) → IsReachedNow v
+adopt-reached w v mapper routes (Ok a) is may refused ok err =
+    let next : IsReachedNow (adopted_by w mapper routes) =
+    reached-next (fabric_of w) w (Adopts mapper routes) is (record { lead = may.lead; number = may.number; rises = may.rises }, no-other routes w.adopted refused) in
+    subst IsReachedNow (sym ok) next
+adopt-reached w v mapper routes (Err e) is may refused ok err = subst IsReachedNow (sym err) is

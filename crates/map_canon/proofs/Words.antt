@@ -1,0 +1,201 @@
+-- The words of a printed map, and what they are read as.
+use Rattle.std.proofs.Common.{◌≡◌, ◌≢◌, ◌<◌, ◌≤◌, ◌+◌, ◌-◌, ◌^◌, ℕ, zero, suc, List, [], ◌∷◌, ◌++◌, Bool, true, false, ◌&&◌, ◌||◌, length, nat_eq, nat_lt, nat_le, Some, option_map, Ok, Err, refl, ap, sym, ◌∙◌, subst, true≢false, arith, if◌then◌else◌}
+use Rattle.std.specs.Prelude.{ℤ, pos, negsuc, position, slice_get, codes, decimal}
+use Rattle.std.specs.List.{AllByRecursion, list_all}
+use Rattle.std.specs.Char.{digit_value}
+use Rattle.std.specs.Str.Parse.{AllDigits}
+use Rattle.std.proofs.lemmas.Bool.Decides.{nat_tests, Decides-eqb}
+use Rattle.std.proofs.lemmas.Fmt.{decimal_is_IsNumeral}
+use Rattle.net_defs.specs.declared.vertex.Vertex.TheVariants.{Host as FabricHost}
+use Rattle.net_defs.specs.Network.{Network, IsFabric, Apart}
+use Rattle.net_defs.specs.Turn.{is_turn, IsTurn}
+use Rattle.net_defs.specs.Building.{vertex_named as fabric_vertex, name_of}
+use Rattle.net_defs.proofs.Ends.{both}
+use Rattle.map_defs.specs.declared.vertex.MapVertex.{MapVertex}
+use Rattle.map_defs.specs.declared.vertex.MapVertex.TheVariants.{Host, Switch}
+use Rattle.map_defs.specs.NetMap.{NetMap, hosts_of}
+use Rattle.map_defs.specs.Routing.{is_host_named}
+use Rattle.fab_text.specs.declared.fault.NumFault.TheVariants.{NotNumber, TooLarge}
+use Rattle.fab_text.specs.Word.{is_digit, is_name_byte, is_letter, name_test, number_within, u32_of, turn_of, with_sign, minus}
+use Rattle.fabric_file.specs.Reading.{AreNamed}
+use Rattle.fabric_file.proofs.Cutting.{position-cons}
+use Rattle.fabric_file.proofs.Names.{name-names}
+use Rattle.run_defs.specs.LineText.{turn_text, vertex_text}
+use Rattle.map_canon.specs.Declaring.{is_switch_numbered, vertex_named, host_vertex, switch_vertex, vertex_test, switch_test, is_number}
+use Rattle.map_canon.specs.Printing.{IsOfFabric}
+use Rattle.map_canon.proofs.Lines.{is_plain_byte, is_plain}
+
+-- digits
+digit-test : (c : ℕ) → digit_value c < 10 → is_digit c ≡ true
+digit-test c h = grind (arith, nat_tests)
+
+digit-plain : (c : ℕ) → is_digit c ≡ true → is_plain_byte c ≡ true
+digit-plain c e = grind (arith, nat_tests)
+
+digits-tests : (ds : List ℕ) → AllDigits 10 ds → list_all is_digit ds ≡ true
+digits-tests [] all = refl
+digits-tests (d ∷ ds) all = λ i. digit-test d all.0 i && digits-tests ds all.1 i
+
+digits-plain : (ds : List ℕ) → AllDigits 10 ds → list_all is_plain_byte ds ≡ true
+digits-plain [] all = refl
+digits-plain (d ∷ ds) all = λ i. digit-plain d (digit-test d all.0) i && digits-plain ds all.1 i
+
+plain-bytes : (ds : List ℕ) → 0 < length ds → list_all is_plain_byte ds ≡ true → is_plain ds ≡ true
+plain-bytes [] h e = absurd (omega arith)
+plain-bytes (d ∷ ds) h e = e
+
+-- a printed number is read as what it is
+pub number-read : (most n : ℕ) → n ≤ most → n < 2 ^ 64 → number_within most (decimal n) ≡ Ok n
+number-read most n h fits =
+    let printed = decimal_is_IsNumeral n fits in
+    let some : nat_lt 0 (length (decimal n)) ≡ true = let k : 0 < length (decimal n) = printed.0.0 in grind (arith, nat_tests) in
+    let digits = digits-tests (decimal n) printed.0.1 in
+    let few : nat_le n most ≡ true = grind (arith, nat_tests) in
+    (λ i. if some i && digits i then (if nat_le (printed.1 i) most then Ok (printed.1 i) else Err TooLarge) else Err NotNumber)
+    ∙ (λ i. if few i then Ok n else Err TooLarge)
+
+decimal-bytes : (n : ℕ) → n < 2 ^ 64 → list_all is_plain_byte (decimal n) ≡ true
+decimal-bytes n fits = digits-plain (decimal n) (decimal_is_IsNumeral n fits).0.1
+
+-- a printed port is read as what it is
+small : (k : ℕ) → is_turn (pos k) ≡ true → k ≤ 15
+small k e = grind (arith, nat_tests)
+
+low : (k : ℕ) → is_turn (negsuc k) ≡ true → suc k ≤ 15
+low k e = grind (arith, nat_tests)
+
+fits-small : (k : ℕ) → k ≤ 15 → k < 2 ^ 64
+fits-small k h = omega arith
+
+pub turn-read : (p : ℤ) → IsTurn p → turn_of (turn_text p) ≡ Ok p
+turn-read (pos zero) t = refl
+turn-read (pos (suc k)) t = ap (with_sign pos) (number-read 15 (suc k) (small (suc k) t) (fits-small (suc k) (small (suc k) t)))
+turn-read (negsuc k) t = ap (with_sign minus) (number-read 15 (suc k) (low k t) (fits-small (suc k) (low k t)))
+
+pub turn-plain : (p : ℤ) → IsTurn p → is_plain (turn_text p) ≡ true
+turn-plain (pos zero) t = refl
+turn-plain (pos (suc k)) t = decimal-bytes (suc k) (fits-small (suc k) (small (suc k) t))
+turn-plain (negsuc k) t = decimal-bytes (suc k) (fits-small (suc k) (low k t))
+
+-- names
+name-byte-plain : (b : ℕ) → is_name_byte b ≡ true → is_plain_byte b ≡ true
+name-byte-plain b e = grind (arith, nat_tests)
+
+name-bytes-plain : (w : List ℕ) → list_all is_name_byte w ≡ true → list_all is_plain_byte w ≡ true
+name-bytes-plain [] e = refl
+name-bytes-plain (b ∷ bs) e = let two = both (is_name_byte b) (list_all is_name_byte bs) e in λ i. name-byte-plain b two.0 i && name-bytes-plain bs two.1 i
+
+pub name-plain : (name : List ℕ) → name_test name ≡ true → is_plain name ≡ true
+name-plain [] e = absurd (true≢false (sym e))
+name-plain (b ∷ bs) e = name-bytes-plain (b ∷ bs) (both _ (list_all is_name_byte (b ∷ bs)) e).1
+
+letter-no_sign : (b : ℕ) → is_letter b ≡ true → nat_eq b 35 ≡ false
+letter-no_sign b e = grind (arith, nat_tests)
+
+-- a name doesn't begin with `#`
+name-named : (f : Network) (m : NetMap) (w : List ℕ) → name_test w ≡ true → vertex_named f m w ≡ host_vertex m (fabric_vertex f w)
+name-named f m [] e = refl
+name-named f m (b ∷ bs) e =
+    let letter : is_letter b ≡ true = (both (nat_le 1 (length (b ∷ bs)) && nat_le (length (b ∷ bs)) 16) (is_letter b) (both (nat_le 1 (length (b ∷ bs)) && nat_le (length (b ∷ bs)) 16 && is_letter b) (list_all is_name_byte (b ∷ bs)) e).0).1 in
+    let t = letter-no_sign b letter in
+    λ i. if t i then switch_vertex m (u32_of bs) else host_vertex m (fabric_vertex f (b ∷ bs))
+
+-- what holds of each address holds of a host's
+host-holds : (P : ℕ → Type 0) (vs : List MapVertex) (v h : ℕ) → AllByRecursion P (hosts_of vs) → slice_get vs v ≡ Some (Host h) → P h
+host-holds P [] v h all e = cc
+host-holds P (Host g ∷ vs) zero h all e = let same : g ≡ h = cc in subst P same all.0
+host-holds P (Host g ∷ vs) (suc v) h all e = host-holds P vs v h all.1 e
+host-holds P (Switch s ∷ vs) zero h all e = cc
+host-holds P (Switch s ∷ vs) (suc v) h all e = host-holds P vs v h all e
+
+found-next : {X : Type 0} (p : X → Bool) (x : X) (xs : List X) (k : ℕ) → p x ≡ false → position p xs ≡ Some k → position p (x ∷ xs) ≡ Some (suc k)
+found-next p x xs k t rest =
+    let plus : 1 + k ≡ suc k = omega arith in
+    position-cons p x xs ∙ (λ j. if t j then Some 0 else option_map (λ n. 1 + n) (rest j)) ∙ ap Some plus
+
+found-here : {X : Type 0} (p : X → Bool) (x : X) (xs : List X) → p x ≡ true → position p (x ∷ xs) ≡ Some 0
+found-here p x xs t = position-cons p x xs ∙ (λ j. if t j then Some 0 else option_map (λ n. 1 + n) (position p xs))
+
+-- a host is found at its vertex
+pub found-host : (vs : List MapVertex) (v h : ℕ) → Apart (hosts_of vs) → slice_get vs v ≡ Some (Host h) → position (is_host_named h) vs ≡ Some v
+found-host [] v h apart e = cc
+found-host (Host g ∷ vs) zero h apart e = let same : g ≡ h = cc in found-here (is_host_named h) (Host g) vs ((Decides-eqb g h).1 same)
+found-host (Host g ∷ vs) (suc v) h apart e = by (nat_eq g h) refl (found-host vs v h apart.1 e)
+  where
+    by : (t : Bool) → nat_eq g h ≡ t → position (is_host_named h) vs ≡ Some v → position (is_host_named h) (Host g ∷ vs) ≡ Some (suc v)
+    by true t rest = absurd (host-holds (λ x. g ≢ x) vs v h apart.0 e ((Decides-eqb g h).0 t))
+    by false t rest = found-next (is_host_named h) (Host g) vs v t rest
+found-host (Switch s ∷ vs) zero h apart e = cc
+found-host (Switch s ∷ vs) (suc v) h apart e = found-next (is_host_named h) (Switch s) vs v refl (found-host vs v h apart e)
+
+-- switches numbered in their order, from a number on
+abbrev pub AreNumbered : ℕ → List MapVertex → Type 0
+AreNumbered k [] = Unit {0}
+AreNumbered k (Host h ∷ vs) = AreNumbered k vs
+AreNumbered k (Switch s ∷ vs) = (s ≡ k) × AreNumbered (k + 1) vs
+
+pub number-least : (vs : List MapVertex) (k v s : ℕ) → AreNumbered k vs → slice_get vs v ≡ Some (Switch s) → k ≤ s
+number-least [] k v s all e = cc
+number-least (Host h ∷ vs) k zero s all e = cc
+number-least (Host h ∷ vs) k (suc v) s all e = number-least vs k v s all e
+number-least (Switch t ∷ vs) k zero s all e = let same : t ≡ s = cc in let own = all.0 in omega arith
+number-least (Switch t ∷ vs) k (suc v) s all e = let l = number-least vs (k + 1) v s all.1 e in omega arith
+
+pub number-most : (vs : List MapVertex) (k v s : ℕ) → AreNumbered k vs → slice_get vs v ≡ Some (Switch s) → s < k + length vs
+number-most [] k v s all e = cc
+number-most (Host h ∷ vs) k zero s all e = cc
+number-most (Host h ∷ vs) k (suc v) s all e = let l = number-most vs k v s all e in omega arith
+number-most (Switch t ∷ vs) k zero s all e = let same : t ≡ s = cc in let own = all.0 in omega arith
+number-most (Switch t ∷ vs) k (suc v) s all e = let l = number-most vs (k + 1) v s all.1 e in omega arith
+
+pub found-switch : (vs : List MapVertex) (k v s : ℕ) → AreNumbered k vs → slice_get vs v ≡ Some (Switch s) → position (is_switch_numbered s) vs ≡ Some v
+found-switch [] k v s all e = cc
+found-switch (Host h ∷ vs) k zero s all e = cc
+found-switch (Host h ∷ vs) k (suc v) s all e = found-next (is_switch_numbered s) (Host h) vs v refl (found-switch vs k v s all e)
+found-switch (Switch t ∷ vs) k zero s all e = let same : t ≡ s = cc in found-here (is_switch_numbered s) (Switch t) vs ((Decides-eqb t s).1 same)
+found-switch (Switch t ∷ vs) k (suc v) s all e =
+    let own = all.0 in
+    let l = number-least vs (k + 1) v s all.1 e in
+    let other : nat_eq t s ≡ false = grind (arith, nat_tests) in
+    found-next (is_switch_numbered s) (Switch t) vs v other (found-switch vs (k + 1) v s all.1 e)
+
+-- A word that names a vertex.
+pub record IsVertexWord (f : Network) (m : NetMap) (v : ℕ) (w : List ℕ) : Type 0 where
+  pub plain : is_plain w ≡ true
+  pub form : vertex_test w ≡ true
+  pub named : vertex_named f m w ≡ Some v
+
+or-right : (a b : Bool) → b ≡ true → (a || b) ≡ true
+or-right true b e = refl
+or-right false b e = e
+
+pub host-word : (f : Network) (m : NetMap) (v h : ℕ) → IsFabric f → AreNamed f → h < length f.hosts → Apart (hosts_of m.vertices) → slice_get m.vertices v ≡ Some (Host h) → IsVertexWord f m v (vertex_text f (Host h))
+host-word f m v h is good there apart e =
+    let name = name_of f (FabricHost h) in
+    let test : nat_lt h (length f.hosts) ≡ true = grind (arith, nat_tests) in
+    let two = name-names f (FabricHost h) is.names_apart good test in
+    record {
+      plain = name-plain name two.0;
+      form = (λ i. two.0 i || switch_test name);
+      named = name-named f m name two.0 ∙ ap (host_vertex m) two.1 ∙ found-host m.vertices v h apart e;
+    }
+
+pub u32-read : (s : ℕ) → s < 2 ^ 32 → u32_of (decimal s) ≡ Ok s
+u32-read s h = number-read (2 ^ 32 - 1) s (omega arith) (omega arith)
+
+pub switch-plain : (s : ℕ) → s < 2 ^ 32 → is_plain (codes "#" ++ decimal s) ≡ true
+switch-plain s h = decimal-bytes s (omega arith)
+
+pub switch-word : (f : Network) (m : NetMap) (v s : ℕ) → AreNumbered 0 m.vertices → length m.vertices < 2 ^ 32 → slice_get m.vertices v ≡ Some (Switch s) → IsVertexWord f m v (vertex_text f (Switch s))
+switch-word f m v s numbered few e =
+    let most = number-most m.vertices 0 v s numbered e in
+    let h : s < 2 ^ 32 = omega arith in
+    record {
+      plain = switch-plain s h;
+      form = or-right (name_test (codes "#" ++ decimal s)) (switch_test (codes "#" ++ decimal s)) (ap is_number (u32-read s h));
+      named = ap (switch_vertex m) (u32-read s h) ∙ found-switch m.vertices 0 v s numbered e;
+    }
+
+pub vertex-word : (f : Network) (m : NetMap) (v : ℕ) (x : MapVertex) → IsFabric f → AreNamed f → IsOfFabric f x → Apart (hosts_of m.vertices) → AreNumbered 0 m.vertices → length m.vertices < 2 ^ 32 → slice_get m.vertices v ≡ Some x → IsVertexWord f m v (vertex_text f x)
+vertex-word f m v (Host h) is good there apart numbered few e = host-word f m v h is good there apart e
+vertex-word f m v (Switch s) is good there apart numbered few e = switch-word f m v s numbered few e

@@ -1,6 +1,0 @@
-use Rattle.std.proofs.Common.{◌≡◌}
-use Rattle.map_canon.specs.InOrder.{cables_below}
-use Rattle.map_canon.proofs.cables.add_in_order.Given as goal
-
-abbrev pub invariant-loop-place : goal.invariant-loop-place
-invariant-loop-place l = l.map ≡ record { vertices = l.loose.vertices; cables = cables_below l.loose l.place; core = l.loose.core }

@@ -1,5 +1,0 @@
-use Rattle.map_canon.proofs.Expanding.{AreExpanded}
-use Rattle.map_canon.proofs.closing.closed.Given as goal
-
-abbrev pub invariant-loop-e : goal.invariant-loop-e
-invariant-loop-e l = AreExpanded l.j.host l.j.entries l.entries l.e-index

@@ -1,0 +1,13 @@
+pub mod Expanding
+pub mod Firsts
+pub mod Joined
+pub mod Named
+pub mod Ordered
+pub mod Places
+pub mod Reordered
+pub mod Sorting
+pub mod Standing
+pub mod Taken
+pub mod Told
+pub mod Vertices
+pub mod Whole

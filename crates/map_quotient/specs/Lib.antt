@@ -1,0 +1,4 @@
+pub mod Numbering
+pub mod Naming
+pub mod Joining
+pub mod InOrder

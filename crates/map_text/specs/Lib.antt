@@ -1,3 +1,0 @@
-pub mod Declaring
-pub mod Reading
-pub mod Printing

@@ -1,0 +1,63 @@
+//! The turns of a walk: in the walk itself where they are few, else in a block of their own.
+
+ghost use Rattle.std.specs.Prelude.{◌≡◌, ◌≤◌, length, IfOk};
+ghost use Rattle.net_defs.specs.TurnList.{IsSound, turns_in};
+
+use std::alloc::{AllocError, Global};
+
+// How many turns take no block of their own. Few walks are longer, and with 14 of them a list takes 16 bytes.
+const FEW: usize = 14;
+
+/// Turns in their order.
+#[derive(Debug, Drop)]
+pub(crate) enum TurnList {
+    /// The first so many of the places.
+    Few(u8, [i8; FEW]),
+    /// In a block of their own.
+    Many(Box<Vec<i8>>),
+}
+
+impl TurnList {
+    /// These turns.
+    pub(crate) fn new(alloc: Global, turns: &[i8]) -> Result<TurnList, AllocError>
+        ensures turns { IfOk result (λ list. turns_in list ≡ turns.now) }
+        ensures sound { IfOk result (λ list. IsSound list) }
+    {
+        if turns.len() <= FEW {
+            Ok(few(turns))
+        } else {
+            many(alloc, turns)
+        }
+    }
+
+    /// The turns.
+    pub(crate) fn turns(&self) -> &[i8]
+        requires { IsSound self.now }
+        ensures { result.now ≡ turns_in self.now }
+    {
+        match self {
+            TurnList::Few(count, places) => &places[..usize::from(*count)],
+            TurnList::Many(turns) => turns.as_slice(),
+        }
+    }
+}
+
+// Turns for which there are places.
+fn few(turns: &[i8]) -> TurnList
+    requires { length turns.now ≤ 14 }
+    ensures turns { turns_in result ≡ turns.now }
+    ensures sound { IsSound result }
+{
+    let mut places = [0; FEW];
+    places[..turns.len()].copy_from_slice(turns);
+    TurnList::Few(turns.len() as u8, places)
+}
+
+// Turns in a block of their own.
+fn many(alloc: Global, turns: &[i8]) -> Result<TurnList, AllocError>
+    ensures turns { IfOk result (λ list. turns_in list ≡ turns.now) }
+    ensures sound { IfOk result (λ list. IsSound list) }
+{
+    let turns = Vec::from_slice(alloc, turns)?;
+    Ok(TurnList::Many(Box::new(alloc, turns)?))
+}
