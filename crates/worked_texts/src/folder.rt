@@ -1,9 +1,8 @@
 //! The files of the folder.
 
-use crate::cuts::try_cuts;
-use crate::refusals::try_table;
 use std::alloc::AllocError;
 use std::{fs, io};
+use text_tables::{try_cuts, try_refused};
 use text_trials::{Row, Tally, TopCall, try_row};
 
 /// Runs the text of each file `NAME.in` and the table of each file `NAME.refused`, by name. A file that belongs to
@@ -14,7 +13,7 @@ pub fn try_files<T: TopCall>(rt: &HostRuntime, tally: &mut Tally) -> io::Result<
         match file.rsplit_once('.') {
             Some((name, kind)) if kind == "in" => try_text::<T>(rt, name, tally)?,
             Some((name, kind)) if kind == "cuts" => try_cuts::<T>(rt, name, tally)?,
-            Some((name, kind)) if kind == "refused" => try_table::<T>(rt, name, tally)?,
+            Some((name, kind)) if kind == "refused" => try_refused::<T>(rt, name, tally)?,
             Some((name, kind)) if has_first(rt, &files, name, kind)? => {}
             Some(_) => tally.fail(rt, file, &"it belongs to no text")?,
             None => {}

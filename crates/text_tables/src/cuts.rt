@@ -9,11 +9,7 @@ const DONE: &str = "done";
 
 /// Runs a text cut at each place, from its first byte to behind its last. Each line of the table is what must come of a
 /// cut, in this order: the line of a refusal, or `done`.
-pub(crate) fn try_cuts<T: TopCall>(
-    rt: &HostRuntime,
-    name: &str,
-    tally: &mut Tally,
-) -> io::Result<()> {
+pub fn try_cuts<T: TopCall>(rt: &HostRuntime, name: &str, tally: &mut Tally) -> io::Result<()> {
     let Some(row) = Row::read(rt, name)? else {
         return tally.fail(rt, name, &"it has no report");
     };

@@ -5,11 +5,7 @@ use std::{fs, io};
 use text_trials::{Difference, REFUSED, Tally, TopCall, Wanted, run_word, try_text};
 
 /// Runs the front lines of a table with each of its lines behind them, which is told to be the text's first fault.
-pub(crate) fn try_table<T: TopCall>(
-    rt: &HostRuntime,
-    name: &str,
-    tally: &mut Tally,
-) -> io::Result<()> {
+pub fn try_refused<T: TopCall>(rt: &HostRuntime, name: &str, tally: &mut Tally) -> io::Result<()> {
     let front = fs::read(rt, format!(in rt.alloc(); "{name}.front")?.as_str())?;
     let table = fs::read_to_string(rt, format!(in rt.alloc(); "{name}.refused")?.as_str())?;
     for entry in table.lines() {
