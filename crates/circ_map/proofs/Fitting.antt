@@ -1,10 +1,9 @@
 -- The vertices of a map that are kept, and the cables between them, are never refused.
-use Rattle.std.proofs.Common.{◌≡◌, ◌≢◌, ◌<◌, ◌≤◌, ℕ, zero, suc, List, [], ◌∷◌, ◌++◌, length, map, take, Bool, true, false, not, ◌&&◌, ◌||◌, Option, Some, None, IfSome, sym, ◌∙◌, subst, ap, refl, arith, ◌⊎◌, inl, inr, if◌then◌else◌, nat_eq, nat_lt, nat_le, is_some}
-use Rattle.std.specs.Prelude.{ℤ, pos, ◌-ℤ◌, slice_get}
+use Rattle.std.proofs.Common.{◌≡◌, ◌≢◌, ◌<◌, ◌≤◌, ℕ, zero, suc, List, [], ◌∷◌, ◌++◌, length, map, take, Bool, true, false, not, ◌&&◌, ◌||◌, Option, Some, None, IfSome, sym, ◌∙◌, subst, ap, refl, arith, inl, inr, if◌then◌else◌, nat_eq, nat_lt, is_some}
+use Rattle.std.specs.Prelude.{pos, ◌-ℤ◌, slice_get}
 use Rattle.std.specs.Ordering.{int_eq}
-use Rattle.std.specs.List.{AllByRecursion, list_any, list_all}
+use Rattle.std.specs.List.{AllByRecursion, list_any}
 use Rattle.std.proofs.lemmas.Bool.Decides.{Decides-eqb, nat_tests}
-use Rattle.std.proofs.lemmas.Int.{ints}
 use Rattle.std.proofs.lemmas.List.{length-map}
 use Rattle.std.proofs.lemmas.Option.{slice_get_within}
 use Rattle.net_defs.specs.Network.{Apart}
@@ -18,7 +17,7 @@ use Rattle.map_defs.specs.Quotient.{named}
 use Rattle.map_defs.specs.Routing.{is_host_named}
 use Rattle.map_defs.proofs.Ports.{same_port-false}
 use Rattle.map_laws.proofs.Least.{named-length}
-use Rattle.fabric_map.specs.Growing.{IsFabricMap, are_near, cable_refusal, host_refusal, is_full, is_near, is_used, has_host, may_have, switch_refusal}
+use Rattle.fabric_map.specs.Growing.{IsFabricMap, are_near, cable_refusal, is_full, is_near, is_used, may_have}
 use Rattle.fabric_map.specs.declared.fault.MapFault.TheVariants.{HostTaken, Full, NoVertex, PortRange, PortUsed}
 use Rattle.fabric_map.proofs.Ends.{near-from}
 use Rattle.circ_map.specs.Inside.{IsRising, bare, cables_in, number_in, renumbered, vertex_refusal}

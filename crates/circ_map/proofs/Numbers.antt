@@ -1,5 +1,5 @@
 -- The number of a vertex among those that are kept, found by halves.
-use Rattle.std.proofs.Common.{◌≡◌, ◌<◌, ◌≤◌, ℕ, List, get_or, length, Option, Some, None, Result, Ok, Err, sym, ◌∙◌, ap, arith, ◌⊎◌, inl, inr, refl, subst}
+use Rattle.std.proofs.Common.{◌≡◌, ◌<◌, ◌≤◌, ℕ, List, get_or, length, Option, Some, None, Result, Ok, Err, sym, ◌∙◌, ap, arith, ◌⊎◌, inl, inr, refl}
 use Rattle.std.specs.Prelude.{slice_get}
 use Rattle.std.specs.Result.{MatchResult}
 use Rattle.std.specs.Ordering.{nat_cmp}

@@ -6,8 +6,7 @@ use Rattle.std.proofs.lemmas.Bool.Decides.{nat_tests}
 use Rattle.std.proofs.lemmas.List.{length-append}
 use Rattle.std.proofs.lemmas.List.Folds.{list_all-append}
 use Rattle.std.proofs.lemmas.List.Sums.{list_all-from_AllPass}
-use Rattle.net_defs.specs.Network.{Apart}
-use Rattle.net_defs.specs.Turn.{is_turn, IsTurn, walk_refusal, same_turns}
+use Rattle.net_defs.specs.Turn.{is_turn, IsTurn, walk_refusal}
 use Rattle.net_defs.specs.declared.walk.WalkFault.TheVariants.{TooLong, TurnRange}
 use Rattle.net_defs.proofs.Turns.{same_turns-false}
 use Rattle.journal_defs.specs.declared.entry.Entry.{Entry}

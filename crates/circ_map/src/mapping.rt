@@ -14,7 +14,7 @@ use crate::prober::CircProber;
 use crate::tree::Tree;
 use core_map::mark_core;
 use fabric_map::FabricMap;
-use map_quotient::quotient;
+use map_quotient::merged_quotient;
 use probe::{Entry, Journal, JournalPush};
 use replicate_merge::Classes;
 use std::alloc::{AllocError, Global};
@@ -142,5 +142,5 @@ fn map_of_all(alloc: Global, found: &Journal) -> Result<FabricMap, AllocError>
     ensures { IfOk result (λ m. IsQuotient found.now.host found.now.entries m) }
 {
     let classes = Classes::from_journal(alloc, found)?;
-    quotient(alloc, found, &classes)
+    merged_quotient(alloc, found, classes.merged())
 }

@@ -15,6 +15,7 @@ pub mod Pairs
 pub mod Ranges
 pub mod Rings
 pub mod Rounds
+pub mod SeenFirst
 pub mod Shapes
 pub mod Steps
 pub mod Telling

@@ -2,6 +2,7 @@
 -- of their least nodes.
 use Rattle.std.specs.Prelude.{◌≡◌, ◌↔◌, ℕ, ◌<◌, ℤ, pos, ◌-ℤ◌, true, false, Bool, List, length, slice_get}
 use Rattle.std.specs.Prelude.{slice_index_or, Some}
+use Rattle.net_defs.specs.Turn.{IsTurn}
 use Rattle.journal_defs.specs.declared.entry.Entry.{Entry}
 use Rattle.journal_defs.specs.Tree.{Node, node_below}
 use Rattle.journal_defs.specs.Tree.Node.{Reached}
@@ -21,6 +22,11 @@ own_head number n = record { number = number; least = n; base = pos 0; count = 1
 -- what callers see of a frame: the number of its class, and its ports from those of the class's least node
 abbrev pub seen_frame : List Head → ClassFrame → ClassFrame
 seen_frame hs f = record { class = (head_at hs f.class).number; offset = f.offset -ℤ (head_at hs f.class).base }
+
+-- Each frame's class is named by a node that has a head, and what callers see of the frame has a port for an offset.
+pub record AreSeen (hs : List Head) (fs : List ClassFrame) : Type 0 where
+  pub named : (n : ℕ) → n < length fs → (frame_at fs n).class < length hs
+  pub turns : (n : ℕ) → n < length fs → IsTurn (seen_frame hs (frame_at fs n)).offset
 
 -- Numbers without gaps, and the least node of each class.
 pub record HasHeads (ns : List Node) (fs : List ClassFrame) (hs : List Head) (names : List ℕ) : Type 0 where

@@ -111,6 +111,14 @@ impl Frames {
         move_ring(&mut self.frames, &self.next, from, to, by);
         splice(&mut self.next, from, to);
     }
+
+    /// The frames of the nodes by number. The rings end here.
+    pub fn into_items(self) -> Vec<ClassFrame>
+        ensures { result.items ≡ self.items }
+    {
+        let Frames { frames, next: _ } = self;
+        frames
+    }
 }
 
 // Moves the nodes of a class to another, along the ring of the one.

@@ -20,7 +20,7 @@ pub struct Head {
     /// Where that node's ports lie among those of the node that names the class.
     pub base: i8,
     /// How many nodes it has, or fewer: it tells only which class is joined to the other.
-    pub count: u32,
+    pub count: u16,
 }
 
 /// The classes: a head for each node, of which those count whose node names a class; the node that names the class

@@ -17,6 +17,7 @@
 //! | `meeting` | pairs of ports that are one |
 //! | `merging` | the order of nodes |
 //! | `order` | the order of walks |
+//! | `seeing` | frames as callers see them |
 #![tactic(auto)]
 
 mod adding;
@@ -26,6 +27,7 @@ mod heads;
 mod meeting;
 mod merging;
 mod order;
+mod seeing;
 mod settling;
 mod way;
 

@@ -1,7 +1,8 @@
 //! Classes joined pair by pair, until no pair is open.
 
 ghost use Rattle.std.specs.Prelude.{◌≡◌, ◌≢◌, ◌<◌, ◌≤◌, ◌+◌, ◌*◌, ◌++◌, ◌∷◌, [], ◌^◌, ℕ, ℤ, ◌+ℤ◌, ◌-ℤ◌, ◌≤ℤ◌, pos};
-ghost use Rattle.std.specs.Prelude.{negsuc, length, slice_get, vec_len, vec_capacity, OnOk, IfSome, Some, None};
+ghost use Rattle.std.specs.Prelude.{negsuc, length, map, slice_get, vec_len, vec_capacity, OnOk, IfOk, IfSome};
+ghost use Rattle.std.specs.Prelude.{Some, None};
 ghost use Rattle.net_defs.specs.Turn.{IsTurn};
 ghost use Rattle.class_joins.specs.Ways.{AreJoined, IsInside, begins_at, frame_at};
 ghost use Rattle.class_joins.specs.Work.{MovesEnds, class_at, far_end};
@@ -11,7 +12,7 @@ ghost use Rattle.class_joins.specs.Steps.{SameItems};
 ghost use Rattle.class_joins.specs.Growing.{Grows, MayGrow};
 ghost use Rattle.class_joins.specs.Ends.{end_at, known_ends};
 ghost use Rattle.class_joins.specs.Nodes.{nodes_of};
-ghost use Rattle.class_joins.specs.Heads.{head_at, seen_frame};
+ghost use Rattle.class_joins.specs.Heads.{AreSeen, head_at, seen_frame};
 ghost use Rattle.class_joins.specs.HeadSteps.{IsJoinedByHeads, IsJoinedByMarks};
 ghost use Rattle.class_joins.specs.Adding.{AddsEnd, IsTurnSpot, known_at};
 
@@ -20,6 +21,7 @@ use crate::ends::{PLACES, move_ends};
 use crate::frames::Frames;
 use crate::heads::{Head, Heads};
 use crate::meeting::{HostNode, Meeting};
+use crate::seeing::{see_all, seen};
 use crate::way::{Spot, Way, begins_at};
 use port_align::ClassFrame;
 use port_table::PortTable;
@@ -171,12 +173,44 @@ impl Joined {
         requires turn { IsTurn (seen_frame self.now.heads.heads.items (frame_at self.now.frames.items node)).offset }
         ensures { result ≡ seen_frame self.now.heads.heads.items (frame_at self.now.frames.items node) }
     {
-        let frame = self.frames.at(node);
-        let head = self.heads.heads[frame.class as usize];
-        ClassFrame {
-            class: head.number,
-            offset: frame.offset - head.base,
-        }
+        seen(&self.heads.heads, self.frames.at(node))
+    }
+
+    /// The class of each node by its number, where its ports lie among those of the class's least node, and the marks
+    /// of the classes, in the memory where they stand. All by which classes are joined ends here.
+    pub fn into_seen(self) -> (Vec<ClassFrame>, Vec<bool>)
+        requires { AreSeen self.heads.heads.items self.frames.items }
+        ensures frames { result.0.items ≡ map (seen_frame self.heads.heads.items) self.frames.items }
+        ensures marks { result.1.items ≡ self.heads.marks.items }
+    {
+        let Joined {
+            frames,
+            ends: _,
+            hosts: _,
+            todo: _,
+            heads,
+        } = self;
+        let Heads {
+            heads,
+            names: _,
+            marks,
+        } = heads;
+        let mut frames = frames.into_items();
+        see_all(&heads, &mut frames);
+        (frames, marks)
+    }
+
+    /// The same as another value, which leaves this one as it is.
+    pub fn seen(&self, alloc: Global) -> Result<(Vec<ClassFrame>, Vec<bool>), AllocError>
+        requires { AreSeen self.now.heads.heads.items self.now.frames.items }
+        ensures frames { IfOk result (λ s. s.0.items ≡ map (seen_frame self.now.heads.heads.items)
+            self.now.frames.items) }
+        ensures marks { IfOk result (λ s. s.1.items ≡ self.now.heads.marks.items) }
+    {
+        let mut frames = Vec::from_slice(alloc, self.frames.items())?;
+        see_all(&self.heads.heads, &mut frames);
+        let marks = Vec::from_slice(alloc, &self.heads.marks)?;
+        Ok((frames, marks))
     }
 
     /// Joins classes until no pair is open.

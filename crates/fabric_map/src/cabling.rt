@@ -98,6 +98,13 @@ impl Cabling {
         true
     }
 
+    /// Room for so many cables more.
+    pub(crate) fn reserve(&mut self, cables: usize) -> Result<(), AllocError>
+        ensures { self.new ≡ self.old }
+    {
+        self.cables.reserve(cables)
+    }
+
     /// Joins two ports that have no cable, at vertices below a number.
     pub(crate) fn push(&mut self, c: MapCable, vertices: usize) -> Result<(), AllocError>
         requires turn_a { IsTurn c.p }

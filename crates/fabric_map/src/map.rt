@@ -18,7 +18,7 @@ use crate::cabling::{Cabling, is_close, is_port};
 use crate::fault::MapFault;
 use crate::vertices::Vertices;
 use map_defs::{MapCable, MapVertex};
-use std::alloc::Global;
+use std::alloc::{AllocError, Global};
 use std::marker::Model;
 
 /// Vertices, cables and core marks that keep the rules of maps. Contracts see the `NetMap` that it stands for.
@@ -132,6 +132,14 @@ impl FabricMap {
         } else {
             self.push_switch(core)
         }
+    }
+
+    /// Room for so many vertices and cables more, so that it is taken once.
+    pub fn reserve(&mut self, vertices: usize, cables: usize) -> Result<(), AllocError>
+        ensures { self.new ≡ self.old }
+    {
+        self.vertices.reserve(vertices)?;
+        self.cabling.reserve(cables)
     }
 
     /// Has these cables in place of its own: the same, in another order or the other way round. The far end of each

@@ -77,6 +77,14 @@ impl Vertices {
         self.by_address.len()
     }
 
+    /// Room for so many vertices more.
+    pub(crate) fn reserve(&mut self, vertices: usize) -> Result<(), AllocError>
+        ensures { self.new ≡ self.old }
+    {
+        self.core.reserve(vertices)?;
+        self.vertices.reserve(vertices)
+    }
+
     /// Adds a host that isn't there.
     pub(crate) fn push_host(&mut self, h: u16) -> Result<(), AllocError>
         requires new { position (is_host_named h) self.old.vertices ≡ None }

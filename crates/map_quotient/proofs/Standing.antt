@@ -1,4 +1,4 @@
--- What the vertices of classes are in the journal that the classes stand for.
+-- What the vertices of classes are in the journal whose classes they are.
 use Rattle.std.proofs.Common.{◌≡◌, ◌<◌, ℕ, zero, suc, List, [], ◌∷◌, map, Bool, true, false, length, nat_eq, Option, Some, None, refl, ap, sym, ◌∙◌, subst, arith, if◌then◌else◌}
 use Rattle.std.specs.Prelude.{ℤ, pos, ◌+ℤ◌, ◌-ℤ◌, slice_get, unwrap_or}
 use Rattle.std.proofs.lemmas.Bool.{eq-eqb}
@@ -15,9 +15,10 @@ use Rattle.map_defs.specs.Quotient.{IsLeastNode, IsOfVertex, HasVertex, IsLed}
 use Rattle.map_laws.proofs.Least.{not_apart-nodes, get-map}
 use Rattle.port_align.specs.declared.frame.ClassFrame.{ClassFrame}
 use Rattle.port_align.specs.Offset.{apart}
-use Rattle.class_joins.specs.Table.{ClassTable, IsFramed, StandsFor, HasLeast}
+use Rattle.class_joins.specs.Table.{ClassTable, IsFramed, HasLeast}
 use Rattle.class_joins.specs.Ways.{node_at, frame_at}
 use Rattle.class_joins.proofs.Nodes.{IsAt, node-at, at-node}
+use Rattle.replicate_merge.specs.Merged.{AreClassesOf}
 use Rattle.map_quotient.specs.Numbering.{class_at, IsVertexOf, AreVertices}
 use Rattle.map_quotient.specs.Joining.{vertex_at, port_of}
 use Rattle.map_quotient.proofs.Places.{one-there, get-less}
@@ -45,9 +46,9 @@ moved_port p q a b e = omega (arith, ints)
 moved_end : (i l a b : ℤ) → a -ℤ b ≡ l -ℤ i → i +ℤ a ≡ l +ℤ b
 moved_end i l a b e = omega (arith, ints)
 
--- Classes that stand for a journal, with their vertices.
+-- The classes of a journal, with their vertices.
 pub record AreOf (host : ℕ) (j : List Entry) (c : ClassTable) (least : List ℕ) (vertices : List (Option ℕ)) : Type 0 where
-  pub stands : StandsFor host j c
+  pub stands : AreClassesOf host j c
   pub once : IsJournal j
   pub numbered : AreVertices c least vertices
 

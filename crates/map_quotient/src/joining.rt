@@ -13,14 +13,14 @@ ghost use Rattle.map_quotient.specs.Joining.{vertex_at, joined, joined_by, AreTa
 use crate::cables::add;
 use fabric_map::{FabricMap, MapCable};
 use probe::WalkIndex;
-use replicate_merge::Classes;
+use replicate_merge::Merged;
 use std::alloc::AllocError;
 
 /// Joins in a map what the walks tell. The classes have these vertices.
 pub(crate) fn join_all(
     map: &mut FabricMap,
     walks: &WalkIndex,
-    c: &Classes,
+    c: &Merged,
     vertices: &[Option<u32>],
 ) -> Result<(), AllocError>
     requires few { length walks.now + 1 < 2 ^ 32 }
@@ -40,7 +40,7 @@ pub(crate) fn join_all(
 // The cable to the node of a walk.
 fn told_cable(
     walks: &WalkIndex,
-    c: &Classes,
+    c: &Merged,
     vertices: &[Option<u32>],
     at: usize,
 ) -> Option<MapCable>
@@ -63,7 +63,7 @@ fn told_cable(
 }
 
 // The cable between a port of a node, and the port by which another was entered.
-fn cable_between(c: &Classes, vertices: &[Option<u32>], m: u32, p: i8, n: u32) -> MapCable
+fn cable_between(c: &Merged, vertices: &[Option<u32>], m: u32, p: i8, n: u32) -> MapCable
     requires numbered { HaveVertices c.now vertices.now }
     requires from { m < length c.now.nodes }
     requires turn { IsTurn p }
@@ -81,7 +81,7 @@ fn cable_between(c: &Classes, vertices: &[Option<u32>], m: u32, p: i8, n: u32) -
 }
 
 // A port of a node as one of its class's vertex.
-fn port_of(c: &Classes, vertices: &[Option<u32>], n: u32, p: i8) -> (u32, i8)
+fn port_of(c: &Merged, vertices: &[Option<u32>], n: u32, p: i8) -> (u32, i8)
     requires numbered { HaveVertices c.now vertices.now }
     requires there { n < length c.now.nodes }
     requires turn { IsTurn p }

@@ -36,4 +36,4 @@ mod order;
 pub use cables::put_in_order;
 pub use closing::closed;
 pub use fabric_map::{FabricMap, MapCable, MapVertex};
-pub use of_journal::quotient;
+pub use of_journal::{merged_quotient, quotient};

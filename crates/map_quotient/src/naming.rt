@@ -9,8 +9,23 @@ use fabric_map::{FabricMap, MapFault};
 use probe::{Journal, WalkIndex};
 use std::alloc::{AllocError, Global};
 
-/// The map of these nodes without cables: hosts by their addresses, all others switches.
+/// The map of these nodes without cables, which end here: hosts by their addresses, all others switches. It has room
+/// for a cable a walk.
 pub(crate) fn named(
+    alloc: Global,
+    j: &Journal,
+    walks: &WalkIndex,
+    least: Vec<u32>,
+) -> Result<FabricMap, AllocError>
+    requires few { length least.items < 2 ^ 32 }
+    requires own { HaveOwnAddresses (addresses_of j.now.host j.now.entries walks.now least.items) }
+    ensures { IfOk result (λ m. m ≡ bare_map (vertices_of j.now.host j.now.entries walks.now least.items)) }
+{
+    named_for(alloc, j, walks, &least)
+}
+
+// The same, while they may go on.
+fn named_for(
     alloc: Global,
     j: &Journal,
     walks: &WalkIndex,
@@ -21,6 +36,7 @@ pub(crate) fn named(
     ensures { IfOk result (λ m. m ≡ bare_map (vertices_of j.now.host j.now.entries walks.now least.now)) }
 {
     let mut map = FabricMap::new(alloc);
+    map.reserve(least.len(), walks.len())?;
     for node in least {
         add_vertex(&mut map, address_of(j, walks, *node))?;
     }

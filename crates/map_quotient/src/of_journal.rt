@@ -5,7 +5,9 @@ ghost use Rattle.journal_defs.specs.Tree.{nodes};
 ghost use Rattle.map_defs.specs.Quotient.{IsQuotient};
 ghost use Rattle.class_joins.specs.Nodes.{nodes_of};
 ghost use Rattle.class_joins.specs.Table.{StandsFor, IsTrueOfOne};
+ghost use Rattle.map_quotient.specs.InOrder.{in_order};
 ghost use Rattle.map_quotient.specs.Numbering.{AreVertices};
+ghost use Rattle.replicate_merge.specs.Merged.{AreClassesOf};
 
 use crate::cables::put_in_order;
 use crate::joining::join_all;
@@ -14,7 +16,7 @@ use crate::numbering::{Numbering, numbered};
 use crate::order::node_order;
 use fabric_map::FabricMap;
 use probe::{Journal, WalkIndex};
-use replicate_merge::Classes;
+use replicate_merge::{Classes, Merged};
 use std::alloc::{AllocError, Global};
 
 /// The map of a journal, whose classes these are: a vertex for each class in the order of their least walks, the
@@ -26,31 +28,64 @@ pub fn quotient(alloc: Global, j: &Journal, c: &Classes) -> Result<FabricMap, Al
     requires few { length j.now.entries < 4294967295 }
     ensures { IfOk result (λ m. IsQuotient j.now.host j.now.entries m) }
 {
+    let merged = c.to_merged(alloc)?;
+    merged_quotient(alloc, j, merged)
+}
+
+/// The same map of a journal that grows no more. Its classes end before the cables are put in order.
+pub fn merged_quotient(alloc: Global, j: &Journal, c: Merged) -> Result<FabricMap, AllocError>
+    requires classes { AreClassesOf j.now.host j.now.entries c }
+    requires true_of_one { IsTrueOfOne j.now.host j.now.entries }
+    requires few { length j.now.entries < 4294967295 }
+    ensures { IfOk result (λ m. IsQuotient j.now.host j.now.entries m) }
+{
+    let mut map = unordered(alloc, j, c)?;
+    put_in_order(alloc, &mut map)?;
+    Ok(map)
+}
+
+// The map with its cables as the walks tell of them. The classes end here.
+fn unordered(alloc: Global, j: &Journal, c: Merged) -> Result<FabricMap, AllocError>
+    requires classes { AreClassesOf j.now.host j.now.entries c }
+    requires true_of_one { IsTrueOfOne j.now.host j.now.entries }
+    requires few { length j.now.entries < 4294967295 }
+    ensures { IfOk result (λ m. IsQuotient j.now.host j.now.entries (in_order m)) }
+{
+    let numbering = numbering_of(alloc, j, &c)?;
+    filled(alloc, j, &c, c.walks(), numbering)
+}
+
+// The vertices of the classes. The order of nodes ends here.
+fn numbering_of(alloc: Global, j: &Journal, c: &Merged) -> Result<Numbering, AllocError>
+    requires classes { AreClassesOf j.now.host j.now.entries c.now }
+    requires few { length j.now.entries < 4294967295 }
+    ensures { IfOk result (λ r. AreVertices c.now r.least.items r.vertices.items) }
+{
     let _once = j.entries();
     let walks = c.walks();
     let order = node_order(alloc, walks)?;
-    let numbering = numbered(alloc, c, &order)?;
-    filled(alloc, j, c, walks, &numbering)
+    numbered(alloc, c, &order)
 }
 
-// The map of a journal, from the walks that found something and the vertices of the classes.
+// The same from the walks that found something and the vertices of the classes.
 fn filled(
     alloc: Global,
     j: &Journal,
-    c: &Classes,
+    c: &Merged,
     walks: &WalkIndex,
-    numbering: &Numbering,
+    numbering: Numbering,
 ) -> Result<FabricMap, AllocError>
-    requires stands { StandsFor j.now.host j.now.entries c.now }
+    requires classes { AreClassesOf j.now.host j.now.entries c.now }
     requires true_of_one { IsTrueOfOne j.now.host j.now.entries }
     requires few { length j.now.entries < 4294967295 }
     requires walked { nodes_of walks.now ≡ nodes j.now.entries }
-    requires numbered { AreVertices c.now numbering.now.least.items numbering.now.vertices.items }
-    ensures { IfOk result (λ m. IsQuotient j.now.host j.now.entries m) }
+    requires numbered { AreVertices c.now numbering.least.items numbering.vertices.items }
+    ensures { IfOk result (λ m. IsQuotient j.now.host j.now.entries (in_order m)) }
 {
     let _once = j.entries();
-    let mut map = named(alloc, j, walks, &numbering.least)?;
-    join_all(&mut map, walks, c, &numbering.vertices)?;
-    put_in_order(alloc, &mut map)?;
+    let Numbering { least, vertices } = numbering;
+    let mut map = named(alloc, j, walks, least)?;
+    join_all(&mut map, walks, c, &vertices)?;
+    let _cables = map.cables();
     Ok(map)
 }

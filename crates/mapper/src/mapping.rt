@@ -8,13 +8,15 @@ ghost use Rattle.journal_defs.specs.Truth.{IsTrueJournal, IsTrueWhereFound};
 ghost use Rattle.map_defs.specs.Quotient.{IsQuotient};
 ghost use Rattle.map_defs.specs.Sameness.{IsMapOfPart};
 ghost use Rattle.class_joins.specs.Table.{StandsFor, IsTrueOfOne};
+ghost use Rattle.replicate_merge.specs.Merged.{without_tables};
 ghost use Rattle.mapper.specs.Asks.{AreAsked};
 ghost use Rattle.mapper.specs.Ends.{IsEnd, IsOneDeeper};
 ghost use Rattle.mapper.specs.Growths.{StopsShort};
 
 use crate::growth::{Grown, grow};
-use map_quotient::{FabricMap, closed, quotient};
+use map_quotient::{FabricMap, closed, merged_quotient};
 use probe::{Journal, Prober};
+use replicate_merge::Merged;
 use std::alloc::{AllocError, Global};
 
 /// How the growth of a journal ended.
@@ -86,20 +88,23 @@ fn with_map(alloc: Global, grown: Grown) -> Result<Mapped, AllocError>
     ensures end { IfOk result (λ m. IsEnd grown.journal.host grown.journal.entries m.end) }
 {
     let end = end_of(&grown);
-    let map = quotient(alloc, &grown.journal, &grown.classes);
-    let journal = journal_of(grown);
-    Ok(Mapped {
-        map: map?,
-        journal,
-        end,
-    })
+    let (journal, classes) = parted(grown);
+    let map = merged_quotient(alloc, &journal, classes)?;
+    Ok(Mapped { map, journal, end })
 }
 
-// The journal of a growth, whose classes end here.
-fn journal_of(grown: Grown) -> Journal
-    ensures { result ≡ grown.journal }
+// The journal of a growth, and what its map is made of. All by which the classes go on ends here, so it doesn't stand
+// beside the map.
+fn parted(grown: Grown) -> (Journal, Merged)
+    ensures journal { result.0 ≡ grown.journal }
+    ensures classes { result.1 ≡ without_tables grown.classes }
 {
-    grown.journal
+    let Grown {
+        journal,
+        classes,
+        at_limit: _,
+    } = grown;
+    (journal, classes.merged())
 }
 
 // How a growth ended.

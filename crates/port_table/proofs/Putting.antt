@@ -5,7 +5,7 @@ use Rattle.std.proofs.lemmas.List.{ext_get_or, get_or_past}
 use Rattle.port_table.specs.declared.end.NodePort.{NodePort}
 use Rattle.port_table.specs.declared.table.Known.{Known}
 use Rattle.port_table.specs.declared.table.Known.TheVariants.{Nothing, One, Row}
-use Rattle.port_table.specs.Ends.{IsSound, PutsAt, AddsRow, known_at, look, alone, entry, dense, rows_of, row_count}
+use Rattle.port_table.specs.Ends.{IsSound, PutsAt, AddsRow, known_at, one_at, look, alone, entry, dense, rows_of, row_count}
 use Rattle.port_table.proofs.Reading.{nat-cases, eq-same, eq-other, entry-at, length-dense, at-dense, count-set}
 
 -- a number without a row
@@ -14,35 +14,35 @@ IsShort known = (r : ℕ) → known ≢ Row r
 
 abbrev is_row : Known → Bool
 is_row Nothing = false
-is_row (One p e) = false
+is_row (One p q n) = false
 is_row (Row r) = true
 
 abbrev is_one : Known → Bool
 is_one Nothing = false
-is_one (One p e) = true
+is_one (One p q n) = true
 is_one (Row r) = false
 
 abbrev place : Known → ℕ
 place Nothing = 0
-place (One p e) = p
+place (One p q n) = p
 place (Row r) = r
 
 short-count : (k : Known) → IsShort k → rows_of k ≡ 0
 short-count Nothing s = refl
-short-count (One p e) s = refl
+short-count (One p q n) s = refl
 short-count (Row r) s = absurd (s r refl)
 
 pub nothing-short : (k : Known) → k ≡ Nothing → IsShort k
 nothing-short k is = λ r e. true≢false (sym (ap is_row e) ∙ ap is_row is)
 
-pub one-short : (k : Known) (p : ℕ) (e : NodePort) → k ≡ One p e → IsShort k
+pub one-short : (k : Known) (p : ℕ) (e : NodePort) → k ≡ one_at p e → IsShort k
 one-short k p e is = λ r same. true≢false (sym (ap is_row same) ∙ ap is_row is)
 
 alone-short : (i : ℕ) (v : Option NodePort) → IsShort (alone i v)
 alone-short i None = λ r e. true≢false (sym (ap is_row e))
 alone-short i (Some x) = λ r e. true≢false (sym (ap is_row e))
 
-alone-turn : (i : ℕ) (v : Option NodePort) → i < 31 → (p : ℕ) (e : NodePort) → alone i v ≡ One p e → p < 31
+alone-turn : (i : ℕ) (v : Option NodePort) → i < 31 → (p : ℕ) (e : NodePort) → alone i v ≡ one_at p e → p < 31
 alone-turn i None l p e same = absurd (true≢false (ap is_one (sym same)))
 alone-turn i (Some x) l p e same = subst (λ q. q < 31) (ap place same) l
 
@@ -54,10 +54,10 @@ alone-beside : (rows : List (Option NodePort)) (i : ℕ) (v : Option NodePort) (
 alone-beside rows i None k d = refl
 alone-beside rows i (Some e) k d = ap (λ b. if b then Some e else None) (eq-other i k d)
 
-one-here : (rows : List (Option NodePort)) (k : Known) (i : ℕ) (e : NodePort) → k ≡ One i e → look rows k i ≡ Some e
+one-here : (rows : List (Option NodePort)) (k : Known) (i : ℕ) (e : NodePort) → k ≡ one_at i e → look rows k i ≡ Some e
 one-here rows k i e is = ap (λ x. look rows x i) is ∙ ap (λ b. if b then Some e else None) (eq-same i)
 
-pub one-beside : (rows : List (Option NodePort)) (known : Known) (i : ℕ) (e : NodePort) (k : ℕ) → known ≡ One i e → i ≢ k → look rows known k ≡ None
+pub one-beside : (rows : List (Option NodePort)) (known : Known) (i : ℕ) (e : NodePort) (k : ℕ) → known ≡ one_at i e → i ≢ k → look rows known k ≡ None
 one-beside rows known i e k is d = ap (λ x. look rows x k) is ∙ ap (λ b. if b then Some e else None) (eq-other i k d)
 
 pub nothing-known : (rows : List (Option NodePort)) (known : Known) (k : ℕ) → known ≡ Nothing → look rows known k ≡ None
@@ -70,7 +70,7 @@ known-other : (ks : List Known) (n m : ℕ) (a : Known) → n ≢ m → known_at
 known-other ks n m a d = get_or-set_other ks n m a Nothing (λ e. d (sym e))
 
 -- one end alone, or none, where there was at most one
-module _ (ks : List Known) (rows : List (Option NodePort)) (n : ℕ) (a : Known) (sound : IsSound ks rows) (below : n < length ks) (was : IsShort (known_at ks n)) (short : IsShort a) (turn : (p : ℕ) (e : NodePort) → a ≡ One p e → p < 31) where
+module _ (ks : List Known) (rows : List (Option NodePort)) (n : ℕ) (a : Known) (sound : IsSound ks rows) (below : n < length ks) (was : IsShort (known_at ks n)) (short : IsShort a) (turn : (p : ℕ) (e : NodePort) → a ≡ one_at p e → p < 31) where
   short-same : (m : ℕ) → n ≡ m → known_at (set ks n a) m ≡ a
   short-same m e = ap (known_at (set ks n a)) (sym e) ∙ known-set ks n a below
 
@@ -81,7 +81,7 @@ module _ (ks : List Known) (rows : List (Option NodePort)) (n : ℕ) (a : Known)
       by (inl s) = absurd (short r (sym (short-same m s) ∙ e))
       by (inr d) = sym (known-other ks n m a d) ∙ e
 
-  short-one : (m p : ℕ) (e : NodePort) → known_at (set ks n a) m ≡ One p e → p < 31
+  short-one : (m p : ℕ) (e : NodePort) → known_at (set ks n a) m ≡ one_at p e → p < 31
   short-one m p e is = by (nat-cases n m)
     where
       by : (n ≡ m) ⊎ (n ≢ m) → p < 31
@@ -106,7 +106,7 @@ puts-alone ks rows n i v sound below turn was bare = record {
 }
 
 -- nothing is forgotten of a place of which nothing is known
-pub puts-none : (ks : List Known) (rows : List (Option NodePort)) (n i : ℕ) (v : Option NodePort) (p : ℕ) (e : NodePort) → IsSound ks rows → known_at ks n ≡ One p e → p ≢ i → v ≡ None → PutsAt n i v ks rows ks rows
+pub puts-none : (ks : List Known) (rows : List (Option NodePort)) (n i : ℕ) (v : Option NodePort) (p : ℕ) (e : NodePort) → IsSound ks rows → known_at ks n ≡ one_at p e → p ≢ i → v ≡ None → PutsAt n i v ks rows ks rows
 puts-none ks rows n i v p e sound is d none = record {
   same = refl;
   sound = sound;
@@ -125,7 +125,7 @@ module _ (ks : List Known) (rows : List (Option NodePort)) (n i r : ℕ) (v : Op
 
   row-other : (known : Known) (k : ℕ) → k < 31 → ((s : ℕ) → known ≡ Row s → s ≢ r) → look (set rows (31 * r + i) v) known k ≡ look rows known k
   row-other Nothing k l d = refl
-  row-other (One p e) k l d = refl
+  row-other (One p q o) k l d = refl
   row-other (Row s) k l d = get_or-set_other rows (31 * r + i) (31 * s + k) v None (λ e. d s refl (omega (arith, e, l, turn)))
 
   pub puts-row : PutsAt n i v ks rows ks (set rows (31 * r + i) v)
@@ -143,7 +143,7 @@ module _ (ks : List Known) (rows : List (Option NodePort)) (n i r : ℕ) (v : Op
   }
 
 -- a second end, for which a row is made
-module _ (ks : List Known) (rows : List (Option NodePort)) (n i p row : ℕ) (v : Option NodePort) (e : NodePort) (news : List (Option NodePort)) (sound : IsSound ks rows) (below : n < length ks) (turn : i < 31) (first : p < 31) (two : p ≢ i) (is : known_at ks n ≡ One p e) (adds : AddsRow p i (Some e) v rows news row) where
+module _ (ks : List Known) (rows : List (Option NodePort)) (n i p row : ℕ) (v : Option NodePort) (e : NodePort) (news : List (Option NodePort)) (sound : IsSound ks rows) (below : n < length ks) (turn : i < 31) (first : p < 31) (two : p ≢ i) (is : known_at ks n ≡ one_at p e) (adds : AddsRow p i (Some e) v rows news row) where
   made : known_at (set ks n (Row row)) n ≡ Row row
   made = known-set ks n (Row row) below
 
@@ -166,7 +166,7 @@ module _ (ks : List Known) (rows : List (Option NodePort)) (n i p row : ℕ) (v 
       by (inl s) = let x = new-row m r s k in let y = adds.last in let z = adds.more in omega (arith, x, y, z)
       by (inr d) = let x = sound.inside m r (old-row m r d k) in let z = adds.more in omega (arith, x, z)
 
-  made-turns : (m q : ℕ) (f : NodePort) → known_at (set ks n (Row row)) m ≡ One q f → q < 31
+  made-turns : (m q : ℕ) (f : NodePort) → known_at (set ks n (Row row)) m ≡ one_at q f → q < 31
   made-turns m q f k = by (nat-cases n m)
     where
       by : (n ≡ m) ⊎ (n ≢ m) → q < 31
@@ -193,7 +193,7 @@ module _ (ks : List Known) (rows : List (Option NodePort)) (n i p row : ℕ) (v 
 
   made-other : (known : Known) (k : ℕ) → k < 31 → ((s : ℕ) → known ≡ Row s → s < row) → look news known k ≡ look rows known k
   made-other Nothing k l d = refl
-  made-other (One q f) k l d = refl
+  made-other (One q f o) k l d = refl
   made-other (Row s) k l d = let b = d s refl in adds.other (31 * s + k) (λ x. omega (arith, x, b, l)) (λ x. omega (arith, x, b, l))
 
   pub puts-second : PutsAt n i v ks rows (set ks n (Row row)) news

@@ -7,7 +7,7 @@ use Rattle.std.proofs.lemmas.List.FromFn.{length-map-range_with_len, get_or-map-
 use Rattle.port_table.specs.declared.end.NodePort.{NodePort}
 use Rattle.port_table.specs.declared.table.Known.{Known}
 use Rattle.port_table.specs.declared.table.Known.TheVariants.{Nothing, One, Row}
-use Rattle.port_table.specs.Ends.{known_at, look, entry, dense, rows_of, row_count}
+use Rattle.port_table.specs.Ends.{one_at, known_at, look, entry, dense, rows_of, row_count}
 
 -- numbers are one or differ
 pub nat-cases : (m n : ℕ) → (m ≡ n) ⊎ (m ≢ n)
@@ -68,10 +68,10 @@ count-set (k ∷ ks) (suc n) a l = let r = count-set ks n a (omega (arith, l)) i
 pub rows-few : (ks : List Known) → row_count ks ≤ length ks
 rows-few [] = omega arith
 rows-few (Nothing ∷ ks) = let f = rows-few ks in omega (arith, f)
-rows-few (One p e ∷ ks) = let f = rows-few ks in omega (arith, f)
+rows-few (One p q m ∷ ks) = let f = rows-few ks in omega (arith, f)
 rows-few (Row r ∷ ks) = let f = rows-few ks in omega (arith, f)
 
-pub row-room : (ks : List Known) (n p : ℕ) (e : NodePort) → n < length ks → get_or ks n Nothing ≡ One p e → row_count ks + 1 ≤ length ks
+pub row-room : (ks : List Known) (n p : ℕ) (e : NodePort) → n < length ks → get_or ks n Nothing ≡ one_at p e → row_count ks + 1 ≤ length ks
 row-room ks n p e l is =
     let c = count-set ks n (Row 0) l in
     let z : rows_of (get_or ks n Nothing) ≡ 0 = ap rows_of is in

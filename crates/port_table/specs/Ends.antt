@@ -21,16 +21,20 @@ pub record HasRoomForNumber (t : EndTable) : Type 0 where
 abbrev pub known_at : List Known → ℕ → Known
 known_at ks n = slice_index_or ks n Nothing
 
+-- one end is known, at a place
+abbrev pub one_at : ℕ → NodePort → Known
+one_at i e = One i e.port e.node
+
 -- what is known at a place of a number of which this is known
 abbrev pub look : List (Option NodePort) → Known → ℕ → Option NodePort
 look rows Nothing i = None
-look rows (One p e) i = if nat_eq p i then Some e else None
+look rows (One p q n) i = if nat_eq p i then Some (record { node = n; port = q }) else None
 look rows (Row r) i = slice_index_or rows (31 * r + i) None
 
 -- what is known of a number with at most one end
 abbrev pub alone : ℕ → Option NodePort → Known
 alone i None = Nothing
-alone i (Some e) = One i e
+alone i (Some e) = one_at i e
 
 -- what is known at a place
 abbrev pub entry : List Known → List (Option NodePort) → ℕ → Option NodePort
@@ -43,7 +47,7 @@ dense ks rows = map (entry ks rows) (range_with_len 0 (31 * length ks))
 -- one for a number with a row
 abbrev pub rows_of : Known → ℕ
 rows_of Nothing = 0
-rows_of (One p e) = 0
+rows_of (One p q n) = 0
 rows_of (Row r) = 1
 
 -- how many numbers have a row
@@ -55,7 +59,7 @@ row_count (k ∷ ks) = rows_of k + row_count ks
 pub record IsSound (ks : List Known) (rows : List (Option NodePort)) : Type 0 where
   pub counted : length rows ≡ 31 * row_count ks
   pub inside : (n r : ℕ) → known_at ks n ≡ Row r → 31 * r + 31 ≤ length rows
-  pub turns : (n p : ℕ) (e : NodePort) → known_at ks n ≡ One p e → p < 31
+  pub turns : (n p : ℕ) (e : NodePort) → known_at ks n ≡ one_at p e → p < 31
   pub apart : (m n r : ℕ) → known_at ks m ≡ Row r → known_at ks n ≡ Row r → m ≡ n
 
 -- At one place of a number stands this, and everywhere else what stood there.

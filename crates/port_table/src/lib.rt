@@ -12,6 +12,7 @@
 #![tactic(auto)]
 
 mod end;
+mod rows;
 mod table;
 
 pub use end::NodePort;

@@ -1,26 +1,35 @@
 //! The table of far ends.
 
 ghost use Rattle.std.specs.Prelude.{◌≡◌, ◌≢◌, ℕ, ◌<◌, ◌≤◌, ◌+◌, ◌*◌, ◌^◌, [], length, set, slice_index_or, None, Some};
-ghost use Rattle.std.specs.Prelude.{true, vec_len, vec_capacity, OnOk};
+ghost use Rattle.std.specs.Prelude.{true, false, vec_capacity, OnOk};
 ghost use Rattle.port_table.specs.Ends.{AddsPlaces, AddsRow, HasRoomForNumber, IsSound, PutsAt, alone, known_at, look};
-ghost use Rattle.port_table.specs.declared.table.Known.TheVariants.{Nothing, One};
+ghost use Rattle.port_table.specs.Ends.{one_at};
+ghost use Rattle.port_table.specs.declared.table.Known.TheVariants.{Nothing};
 
 use crate::end::NodePort;
+use crate::rows::Rows;
 use std::alloc::{AllocError, Global};
 use std::marker::Model;
 
 // The places of one number.
 const PLACES: usize = 31;
 
+// Room is taken for the rows of so many numbers at the least. A block of that size is mapped by itself, so it grows
+// without a copy, which would touch all of it.
+const FEWEST_NUMBERS: usize = 1_024;
+
+// The most numbers of a table, so that a row is known by 32 bits.
+const MOST_NUMBERS: usize = 4_294_967_296;
+
 /// What is known of the places of one number.
 #[derive(Clone, Copy, Debug)]
 pub enum Known {
     /// No far end.
     Nothing,
-    /// One, at a place.
-    One(u8, NodePort),
+    /// One, at a place: its port, and its number.
+    One(u8, i8, u32),
     /// What the row of this number has.
-    Row(usize),
+    Row(u32),
 }
 
 /// Far ends by place, 31 places a number. Contracts see the list of places, and for how much there is room.
@@ -30,22 +39,23 @@ pub enum Known {
 #[derive(Drop)]
 pub struct PortTable {
     known: Vec<Known>,
-    rows: Vec<Option<NodePort>>,
+    rows: Rows,
 }
 
 impl Model for PortTable {
-    ghost use Rattle.std.specs.Prelude.{◌≤◌, ◌*◌, length, vec_capacity};
+    ghost use Rattle.std.specs.Prelude.{◌≤◌, ◌*◌, length, min, vec_capacity};
     ghost use Rattle.port_table.specs.Ends.{EndTable, IsSound, dense};
 
     ghost Value = { EndTable };
 
     ghost view = { λ t. record {
       items = dense t.known.items t.rows.items;
-      number_room = vec_capacity t.known;
-      row_room = vec_capacity t.rows;
+      number_room = min (vec_capacity t.known) 4294967296;
+      row_room = t.rows.room;
     } };
 
-    ghost invariant = { λ t. IsSound t.known.items t.rows.items × (31 * length t.known.items ≤ vec_capacity t.rows) };
+    ghost invariant = { λ t. IsSound t.known.items t.rows.items × (31 * length t.known.items ≤ t.rows.room) ×
+        (length t.known.items ≤ 4294967296) };
 }
 
 impl PortTable {
@@ -55,7 +65,7 @@ impl PortTable {
     {
         PortTable {
             known: Vec::new(alloc),
-            rows: Vec::new(alloc),
+            rows: Rows::new(alloc),
         }
     }
 
@@ -103,6 +113,9 @@ impl PortTable {
         ensures same { self.new.items ≡ self.old.items }
         ensures room { OnOk result (HasRoomForNumber self.new) }
     {
+        if is_full(&self.known) {
+            return Err(AllocError);
+        }
         self.known.reserve(1)?;
         reserve_rows(&mut self.rows, self.known.len() + 1)?;
         Ok(())
@@ -122,11 +135,24 @@ impl PortTable {
         ensures long { OnOk result (31 * numbers ≤ length self.new.items) }
         ensures same { (k : ℕ) → slice_index_or self.new.items k None ≡ slice_index_or self.old.items k None }
     {
+        self.make_room(numbers)?;
         'longer: while self.numbers() < numbers {
             self.reserve()?;
             self.add();
         }
         Ok(())
+    }
+
+    // Room for so many numbers in all, so that it is taken once.
+    fn make_room(&mut self, numbers: usize) -> Result<(), AllocError>
+        ensures { self.new.items ≡ self.old.items }
+    {
+        if numbers > MOST_NUMBERS {
+            return Err(AllocError);
+        }
+        self.known
+            .reserve(numbers.saturating_sub(self.known.len()))?;
+        reserve_rows(&mut self.rows, numbers)
     }
 
     // How many numbers there are.
@@ -137,23 +163,38 @@ impl PortTable {
     }
 }
 
+// Whether no number of a table's is left.
+fn is_full(known: &Vec<Known>) -> bool
+    ensures { result ≡ false → length known.now.items < 2 ^ 32 }
+{
+    known.len() >= MOST_NUMBERS
+}
+
 // Room for the rows of so many numbers.
-fn reserve_rows(rows: &mut Vec<Option<NodePort>>, numbers: usize) -> Result<(), AllocError>
+fn reserve_rows(rows: &mut Rows, numbers: usize) -> Result<(), AllocError>
     requires { 31 * numbers < 2 ^ 64 }
     ensures same { rows.new.items ≡ rows.old.items }
-    ensures kept { vec_capacity rows.old ≤ vec_capacity rows.new }
-    ensures room { OnOk result (31 * numbers ≤ vec_capacity rows.new) }
+    ensures kept { rows.old.room ≤ rows.new.room }
+    ensures room { OnOk result (31 * numbers ≤ rows.new.room) }
 {
-    rows.reserve((PLACES * numbers).saturating_sub(rows.len()))
+    rows.reserve(PLACES * numbers_with_room(numbers))
+}
+
+// For the rows of how many numbers room is taken where so many are to have it.
+fn numbers_with_room(numbers: usize) -> usize
+    requires { 31 * numbers < 2 ^ 64 }
+    ensures enough { numbers ≤ result }
+    ensures fits { 31 * result < 2 ^ 64 }
+{
+    if numbers < FEWEST_NUMBERS {
+        FEWEST_NUMBERS
+    } else {
+        numbers
+    }
 }
 
 // What is known at a place of a number.
-fn looked(
-    known: &Vec<Known>,
-    rows: &Vec<Option<NodePort>>,
-    number: usize,
-    place: usize,
-) -> Option<NodePort>
+fn looked(known: &Vec<Known>, rows: &Rows, number: usize, place: usize) -> Option<NodePort>
     requires there { number < length known.now.items }
     requires place { place < 31 }
     requires sound { IsSound known.now.items rows.now.items }
@@ -161,14 +202,14 @@ fn looked(
 {
     match known_of(known, number) {
         Known::Nothing => None,
-        Known::One(at, end) => {
+        Known::One(at, port, node) => {
             if usize::from(at) == place {
-                Some(end)
+                Some(NodePort { node, port })
             } else {
                 None
             }
         }
-        Known::Row(row) => row_end(rows, row, place),
+        Known::Row(row) => row_end(rows, row as usize, place),
     }
 }
 
@@ -178,7 +219,7 @@ fn is_nothing(known: Known) -> bool
 {
     match known {
         Known::Nothing => true,
-        Known::One(_, _) | Known::Row(_) => false,
+        Known::One(_, _, _) | Known::Row(_) => false,
     }
 }
 
@@ -191,51 +232,50 @@ fn known_of(known: &Vec<Known>, number: usize) -> Known
 }
 
 // What stands in a row.
-fn row_end(rows: &Vec<Option<NodePort>>, row: usize, place: usize) -> Option<NodePort>
+fn row_end(rows: &Rows, row: usize, place: usize) -> Option<NodePort>
     requires there { 31 * row + 31 ≤ length rows.now.items }
     requires place { place < 31 }
     ensures { result ≡ slice_index_or rows.now.items (31 * row + place) None }
 {
-    rows[PLACES * row + place]
+    let _places = rows.len();
+    rows.at(PLACES * row + place)
 }
 
 // Keeps an end in a row, or that none is known.
-fn set_row_end(rows: &mut Vec<Option<NodePort>>, row: usize, place: usize, end: Option<NodePort>)
+fn set_row_end(rows: &mut Rows, row: usize, place: usize, end: Option<NodePort>)
     requires there { 31 * row + 31 ≤ length rows.old.items }
     requires place { place < 31 }
     ensures items { rows.new.items ≡ set rows.old.items (31 * row + place) end }
-    ensures capacity { vec_capacity rows.new ≡ vec_capacity rows.old }
+    ensures capacity { rows.new.room ≡ rows.old.room }
 {
-    rows[PLACES * row + place] = end;
+    let _places = rows.len();
+    rows.set(PLACES * row + place, end);
 }
 
 // Keeps an end at a place of a number, or that none is known.
-fn put(
-    known: &mut Vec<Known>,
-    rows: &mut Vec<Option<NodePort>>,
-    number: usize,
-    place: usize,
-    end: Option<NodePort>,
-)
+fn put(known: &mut Vec<Known>, rows: &mut Rows, number: usize, place: usize, end: Option<NodePort>)
     requires there { number < length known.old.items }
     requires place { place < 31 }
     requires sound { IsSound known.old.items rows.old.items }
-    requires room { 31 * length known.old.items ≤ vec_capacity rows.old }
+    requires few { length known.old.items ≤ 2 ^ 32 }
+    requires room { 31 * length known.old.items ≤ rows.old.room }
     ensures puts { PutsAt number place end known.old.items rows.old.items known.new.items rows.new.items }
     ensures capacity { vec_capacity known.new ≡ vec_capacity known.old }
-    ensures row_capacity { vec_capacity rows.new ≡ vec_capacity rows.old }
+    ensures row_capacity { rows.new.room ≡ rows.old.room }
 {
     match known_of(known, number) {
         Known::Nothing => known[number] = alone(place, end),
-        Known::One(at, first) => put_beside(known, rows, number, at, first, place, end),
-        Known::Row(row) => set_row_end(rows, row, place, end),
+        Known::One(at, port, node) => {
+            put_beside(known, rows, number, at, NodePort { node, port }, place, end)
+        }
+        Known::Row(row) => set_row_end(rows, row as usize, place, end),
     }
 }
 
 // Keeps an end at a place of a number of which one end is known.
 fn put_beside(
     known: &mut Vec<Known>,
-    rows: &mut Vec<Option<NodePort>>,
+    rows: &mut Rows,
     number: usize,
     at: u8,
     first: NodePort,
@@ -244,19 +284,20 @@ fn put_beside(
 )
     requires there { number < length known.old.items }
     requires place { place < 31 }
-    requires one { known_at known.old.items number ≡ One at first }
+    requires one { known_at known.old.items number ≡ one_at at first }
     requires at { at < 31 }
     requires sound { IsSound known.old.items rows.old.items }
-    requires room { 31 * length known.old.items ≤ vec_capacity rows.old }
+    requires few { length known.old.items ≤ 2 ^ 32 }
+    requires room { 31 * length known.old.items ≤ rows.old.room }
     ensures puts { PutsAt number place end known.old.items rows.old.items known.new.items rows.new.items }
     ensures capacity { vec_capacity known.new ≡ vec_capacity known.old }
-    ensures row_capacity { vec_capacity rows.new ≡ vec_capacity rows.old }
+    ensures row_capacity { rows.new.room ≡ rows.old.room }
 {
     if usize::from(at) == place {
         known[number] = alone(place, end);
     } else if end.is_some() {
         let row = add_row(rows, usize::from(at), first, place, end);
-        known[number] = Known::Row(row);
+        known[number] = Known::Row(row as u32);
     }
 }
 
@@ -266,26 +307,26 @@ fn alone(place: usize, end: Option<NodePort>) -> Known
     ensures { result ≡ alone place end }
 {
     match end {
-        Some(end) => Known::One(place as u8, end),
+        Some(end) => Known::One(place as u8, end.port, end.node),
         None => Known::Nothing,
     }
 }
 
 // Adds a row with two ends at two places.
 fn add_row(
-    rows: &mut Vec<Option<NodePort>>,
+    rows: &mut Rows,
     at: usize,
     first: NodePort,
     place: usize,
     second: Option<NodePort>,
 ) -> usize
-    requires whole { (n : ℕ) × (vec_len rows.old ≡ 31 * n) }
-    requires room { vec_len rows.old + 31 ≤ vec_capacity rows.old }
+    requires whole { (n : ℕ) × (length rows.old.items ≡ 31 * n) }
+    requires room { length rows.old.items + 31 ≤ rows.old.room }
     requires first { at < 31 }
     requires second { place < 31 }
     requires two { at ≢ place }
     ensures adds { AddsRow at place (Some first) second rows.old.items rows.new.items result }
-    ensures capacity { vec_capacity rows.new ≡ vec_capacity rows.old }
+    ensures capacity { rows.new.room ≡ rows.old.room }
 {
     let row = rows.len() / PLACES;
     add_places(rows);
@@ -295,13 +336,13 @@ fn add_row(
 }
 
 // Adds the places of a row.
-fn add_places(rows: &mut Vec<Option<NodePort>>)
-    requires room { vec_len rows.old + 31 ≤ vec_capacity rows.old }
+fn add_places(rows: &mut Rows)
+    requires room { length rows.old.items + 31 ≤ rows.old.room }
     ensures adds { AddsPlaces rows.old.items rows.new.items }
-    ensures capacity { vec_capacity rows.new ≡ vec_capacity rows.old }
+    ensures capacity { rows.new.room ≡ rows.old.room }
 {
     for place in 0..PLACES {
         let _place = place;
-        rows.push_reserved(None);
+        rows.push_none();
     }
 }

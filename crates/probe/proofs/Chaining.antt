@@ -1,9 +1,9 @@
 -- Chains of walks: how a walk is looked for, and how one is added.
-use Rattle.std.proofs.Common.{◌≡◌, ◌≢◌, ◌<◌, ◌≤◌, ◌+◌, ◌-◌, ◌%◌, ◌⊎◌, inl, inr, ℕ, zero, suc, List, [], ◌∷◌, ◌++◌, Bool, true, false, not, length, set, take, Some, refl, ap, sym, ◌∙◌, subst, true≢false, arith, if◌then◌else◌}
+use Rattle.std.proofs.Common.{◌≡◌, ◌≢◌, ◌<◌, ◌≤◌, ◌+◌, ◌-◌, ◌%◌, ◌⊎◌, inl, inr, ℕ, zero, suc, List, [], ◌∷◌, ◌++◌, Bool, true, false, not, length, replicate, set, take, Some, refl, ap, sym, ◌∙◌, subst, true≢false, arith, if◌then◌else◌}
 use Rattle.std.specs.Prelude.{ℤ, nat_eq, slice_get, slice_index_or}
 use Rattle.std.proofs.lemmas.Bool.{cases_order}
 use Rattle.std.proofs.lemmas.Bool.Decides.{Decides-eqb}
-use Rattle.std.proofs.lemmas.List.{length-set, length-append, take_more}
+use Rattle.std.proofs.lemmas.List.{length-set, length-append, length-replicate, take_more}
 use Rattle.std.proofs.lemmas.Nat.{mod_below}
 use Rattle.std.proofs.lemmas.Option.{slice_get_within, get_or_from_slice_get}
 use Rattle.net_defs.specs.Turn.{same_turns}
@@ -109,6 +109,19 @@ chain-start walks latest before turns bucket next c own low is =
 pub hash-start : (walks : List (List ℤ)) (latest before : List ℕ) (turns : List ℤ) (hash buckets next : ℕ) → IsChained walks latest before → hash ≡ hash_of 0 turns → buckets ≡ length latest → 0 < buckets → next ≡ slice_index_or latest (hash % buckets) next → IsInChain (length latest) walks turns next
 hash-start walks latest before turns hash buckets next c own long some is =
     chain-start walks latest before turns (hash % buckets) next c (λ i. own i % long i) (subst (λ n. hash % buckets < n) long (mod_below hash buckets some)) is
+
+-- where all buckets are empty no walk is chained
+empty-bucket : (n k : ℕ) → k < n → slice_get {X = ℕ} (replicate n 0) k ≡ Some 0
+empty-bucket zero k l = absurd (omega arith)
+empty-bucket (suc n) zero l = refl
+empty-bucket (suc n) (suc k) l = empty-bucket n k (omega arith)
+
+pub chained-none : (latest before : List ℕ) (n : ℕ) → latest ≡ replicate n 0 → before ≡ [] → IsChained [] latest before
+chained-none latest before n is none = record {
+  counted = ap length none;
+  latest_walk = λ bucket l. ap (λ (xs : List ℕ). slice_get xs bucket) is ∙ empty-bucket n bucket (let long : length latest ≡ n = ap length is ∙ length-replicate n 0 in omega arith);
+  walk_before = λ at l. absurd (omega arith);
+}
 
 -- where there is no bucket there is no walk
 pub none-chained : (walks : List (List ℤ)) (turns : List ℤ) → length walks ≤ 0 → has_walk walks turns ≡ false

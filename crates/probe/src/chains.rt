@@ -1,6 +1,6 @@
 //! Chains of walks: those whose turns lead to one bucket, the latest first.
 
-ghost use Rattle.std.specs.Prelude.{◌≡◌, ℕ, ◌+◌, ◌*◌, ◌%◌, ◌<◌, ◌≤◌, ◌^◌, ◌++◌, ◌∷◌, [], length, slice_set};
+ghost use Rattle.std.specs.Prelude.{◌≡◌, ℕ, ◌+◌, ◌*◌, ◌%◌, ◌<◌, ◌≤◌, ◌^◌, ◌++◌, ◌∷◌, [], length, replicate, slice_set};
 ghost use Rattle.std.specs.Prelude.{slice_index_or, slice_get, vec_len, vec_capacity, true, false, is_some, Some};
 ghost use Rattle.std.specs.Prelude.{IfOk, IfSome, OnOk};
 ghost use Rattle.net_defs.specs.Turn.{same_turns};
@@ -30,6 +30,16 @@ pub(crate) fn no_chains(alloc: Global) -> Chains
         latest: Vec::new(alloc),
         before: Vec::new(alloc),
     }
+}
+
+/// Other chains that are the same.
+pub(crate) fn copied(alloc: Global, chains: &Chains) -> Result<Chains, AllocError>
+    ensures latest { IfOk result (λ c. c.latest.items ≡ chains.now.latest.items) }
+    ensures before { IfOk result (λ c. c.before.items ≡ chains.now.before.items) }
+{
+    let latest = Vec::from_slice(alloc, &chains.latest)?;
+    let before = Vec::from_slice(alloc, &chains.before)?;
+    Ok(Chains { latest, before })
 }
 
 /// The hash of a walk's turns. Its bucket is what is left of it by the number of buckets.
@@ -109,12 +119,9 @@ fn is_same(walk: &[i8], other: &[i8]) -> bool
     walk == other
 }
 
-/// Room for one walk more, with at most two walks a bucket: what more buckets save in looks they take in memory.
-pub(crate) fn make_room<W: WalkList>(
-    alloc: Global,
-    walks: &W,
-    chains: &mut Chains,
-) -> Result<(), AllocError>
+/// Room for one walk more, with at most two walks a bucket: what more buckets save in looks they take in memory. More
+/// buckets come to those that are there, so that no two sets of them stand at once.
+pub(crate) fn make_room<W: WalkList>(walks: &W, chains: &mut Chains) -> Result<(), AllocError>
     requires chained { IsChained (W.list walks.now) chains.old.latest.items chains.old.before.items }
     requires enough { length (W.list walks.now) ≤ 2 * length chains.old.latest.items }
     ensures chained { IsChained (W.list walks.now) chains.new.latest.items chains.new.before.items }
@@ -127,28 +134,38 @@ pub(crate) fn make_room<W: WalkList>(
     if count >= u32::MAX as usize - 1 {
         return Err(AllocError);
     }
+    chains.before.reserve(1)?;
     if count / 2 >= chains.latest.len() {
-        *chains = chained(alloc, walks, count + 1)?;
+        chains.latest.resize(count + 1, 0)?;
+        chain_all(walks, chains);
     }
-    chains.before.reserve(1)
+    Ok(())
 }
 
-// The chains of the walks, with so many buckets.
-fn chained<W: WalkList>(alloc: Global, walks: &W, buckets: usize) -> Result<Chains, AllocError>
-    requires some { 0 < buckets }
+// Chains the walks anew, over all buckets. There is room for them.
+fn chain_all<W: WalkList>(walks: &W, chains: &mut Chains)
+    requires some { 0 < length chains.old.latest.items }
     requires few { length (W.list walks.now) + 1 < 2 ^ 32 }
-    ensures chained { IfOk result (λ chains. IsChained (W.list walks.now) chains.latest.items chains.before.items) }
-    ensures buckets { IfOk result (λ chains. length chains.latest.items ≡ buckets) }
+    requires room { length (W.list walks.now) ≤ vec_capacity chains.old.before }
+    ensures chained { IsChained (W.list walks.now) chains.new.latest.items chains.new.before.items }
+    ensures buckets { length chains.new.latest.items ≡ length chains.old.latest.items }
+    ensures same_room { vec_capacity chains.new.before ≡ vec_capacity chains.old.before }
 {
-    let count = walks.count();
-    let mut chains = Chains {
-        latest: vec![in alloc; 0; buckets]?,
-        before: Vec::with_capacity(alloc, count)?,
-    };
-    for at in 0..count {
-        add(&mut chains, hash_of(walks.turns_at(at)));
+    empty_all(chains);
+    for at in 0..walks.count() {
+        add(chains, hash_of(walks.turns_at(at)));
     }
-    Ok(chains)
+}
+
+// Takes all walks out of the buckets. Their room stays.
+fn empty_all(chains: &mut Chains)
+    ensures latest { chains.new.latest.items ≡ replicate (vec_len chains.old.latest) 0 }
+    ensures before { chains.new.before.items ≡ [] }
+    ensures buckets { length chains.new.latest.items ≡ length chains.old.latest.items }
+    ensures same_room { vec_capacity chains.new.before ≡ vec_capacity chains.old.before }
+{
+    chains.latest.fill(0);
+    chains.before.clear();
 }
 
 /// Adds the next walk, of this hash, to its bucket. There is room for it.

@@ -49,6 +49,15 @@ impl FlatWalks {
         self.ends.push_reserved(end);
         Ok(())
     }
+
+    /// The same walks in memory of their own.
+    pub(crate) fn copied(&self, alloc: Global) -> Result<FlatWalks, AllocError>
+        ensures { IfOk result (λ walks. walks ≡ self.now) }
+    {
+        let turns = Vec::from_slice(alloc, &self.turns)?;
+        let ends = Vec::from_slice(alloc, &self.ends)?;
+        Ok(FlatWalks { turns, ends })
+    }
 }
 
 impl WalkList for FlatWalks {

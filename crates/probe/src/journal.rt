@@ -90,7 +90,7 @@ impl Journal {
         if self.entries.reserve(1).is_err() {
             return Err((e, JournalPush::NoMemory));
         }
-        match make_room(alloc, &self.entries, &mut self.chains) {
+        match make_room(&self.entries, &mut self.chains) {
             Ok(()) => {
                 self.entries.push_reserved(e);
                 add(&mut self.chains, hash);

@@ -1,10 +1,10 @@
 //! Walks in order, found by their turns.
 
-ghost use Rattle.std.specs.Prelude.{◌≡◌, ◌<◌, ◌++◌, ◌∷◌, [], false, length, slice_get, is_some, Some, IfSome, OnOk};
-ghost use Rattle.std.specs.Prelude.{OnErr};
+ghost use Rattle.std.specs.Prelude.{◌≡◌, ◌<◌, ◌++◌, ◌∷◌, [], false, length, slice_get, is_some, Some, IfSome, IfOk};
+ghost use Rattle.std.specs.Prelude.{OnOk, OnErr};
 ghost use Rattle.probe.specs.Keeping.{has_walk};
 
-use crate::chains::{Chains, add, find, hash_of, make_room, no_chains};
+use crate::chains::{Chains, add, copied, find, hash_of, make_room, no_chains};
 use crate::flat_walks::FlatWalks;
 use crate::walk_list::WalkList;
 use std::alloc::{AllocError, Global};
@@ -71,9 +71,18 @@ impl WalkIndex {
         ensures ok { OnOk result (self.new ≡ self.old ++ turns.now ∷ []) }
         ensures err { OnErr result (self.new ≡ self.old) }
     {
-        make_room(alloc, &self.walks, &mut self.chains)?;
+        make_room(&self.walks, &mut self.chains)?;
         self.walks.push(turns)?;
         add(&mut self.chains, hash_of(turns));
         Ok(())
+    }
+
+    /// The same walks in memory of their own.
+    pub fn copied(&self, alloc: Global) -> Result<WalkIndex, AllocError>
+        ensures { IfOk result (λ walks. walks ≡ self.now) }
+    {
+        let walks = self.walks.copied(alloc)?;
+        let chains = copied(alloc, &self.chains)?;
+        Ok(WalkIndex { walks, chains })
     }
 }

@@ -2,6 +2,7 @@ pub mod Appending
 pub mod Behind
 pub mod Counting
 pub mod Finding
+pub mod Merging
 pub mod Nexts
 pub mod Orphans
 pub mod Prefixes

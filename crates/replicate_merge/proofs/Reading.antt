@@ -1,11 +1,11 @@
 -- A node read by its number, and by its walk.
-use Rattle.std.proofs.Common.{◌≡◌, ◌≢◌, ◌<◌, ℕ, zero, suc, ◌+◌, ◌-◌, List, [], ◌∷◌, Bool, true, false, length, map, set, Option, Some, None, refl, ap, sym, ◌∙◌, subst, arith}
+use Rattle.std.proofs.Common.{◌≡◌, ◌≢◌, ◌<◌, ℕ, zero, suc, ◌+◌, List, [], ◌∷◌, Bool, true, false, length, map, set, Option, Some, None, ap, sym, ◌∙◌, subst, arith}
 use Rattle.std.specs.Prelude.{ℤ, slice_get, Result, Ok, Err, OnErr}
 use Rattle.std.proofs.Math.ListN.{length-set}
 use Rattle.std.proofs.lemmas.Option.{slice_get-map, slice_get-get_or}
 use Rattle.net_defs.specs.Turn.{IsTurn}
-use Rattle.journal_defs.specs.Tree.{Node, node_below}
-use Rattle.journal_defs.specs.Tree.Node.{Mapper, Reached}
+use Rattle.journal_defs.specs.Tree.{Node}
+use Rattle.journal_defs.specs.Tree.Node.{Reached}
 use Rattle.probe.specs.Keeping.{has_walk}
 use Rattle.port_align.specs.declared.frame.ClassFrame.{ClassFrame}
 use Rattle.replicate_merge.specs.Between.{number_of}
@@ -14,11 +14,11 @@ use Rattle.class_joins.specs.Kept.{IsShaped, Kept}
 use Rattle.class_joins.specs.Steps.{MarksNode, SameItems}
 use Rattle.class_joins.specs.Table.{ClassTable, IsTable}
 use Rattle.class_joins.specs.declared.settling.Joined.{Joined}
-use Rattle.class_joins.specs.Ways.{frame_at, node_at, own_frame}
+use Rattle.class_joins.specs.Ways.{frame_at, own_frame}
 use Rattle.replicate_merge.specs.Seen.{class_table, kept_of}
 use Rattle.class_joins.specs.Nodes.{nodes_of}
 use Rattle.class_joins.proofs.Naming.{map-count, map-get}
-use Rattle.class_joins.proofs.Telling.{no-walk, walk-node}
+use Rattle.class_joins.proofs.Telling.{no-walk}
 
 -- the node of a walk at a place
 pub node-there : (walks : List (List ℤ)) (at : ℕ) (w : List ℤ) → slice_get walks at ≡ Some w → slice_get (nodes_of walks) (at + 1) ≡ Some (Reached w)

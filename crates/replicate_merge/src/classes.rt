@@ -12,8 +12,10 @@ ghost use Rattle.replicate_merge.specs.Next.{HasNext, StandsForNext};
 ghost use Rattle.class_joins.specs.Steps.{HasRoomForNode, SameItems};
 ghost use Rattle.replicate_merge.specs.Between.{AddsEntry, CountsTurn, HasSeenFrames, IsFrontOf, looking_ahead};
 ghost use Rattle.replicate_merge.specs.Between.{turns_of, with_orphan};
+ghost use Rattle.replicate_merge.specs.Merged.{without_tables};
 
 use crate::fronts::{Front, front_of};
+use crate::merged::Merged;
 use crate::pushing::{asked_behind, ways_added};
 use crate::ways::is_found;
 use class_joins::{Joined, Way};
@@ -195,6 +197,38 @@ impl Classes {
         ensures { nodes_of result.now ≡ self.now.nodes }
     {
         &self.walks
+    }
+
+    /// Its nodes and their classes, in the memory where they stand. All by which the classes go on ends here.
+    pub fn merged(self) -> Merged
+        ensures { result ≡ without_tables self }
+    {
+        let Classes {
+            walks,
+            orphans: _,
+            ahead: _,
+            asked: _,
+            joined,
+        } = self;
+        let (frames, marks) = joined.into_seen();
+        Merged {
+            walks,
+            frames,
+            marks,
+        }
+    }
+
+    /// The same as another value, while the classes may go on.
+    pub fn to_merged(&self, alloc: Global) -> Result<Merged, AllocError>
+        ensures { IfOk result (λ m. m ≡ without_tables self.now) }
+    {
+        let walks = self.walks.copied(alloc)?;
+        let (frames, marks) = self.joined.seen(alloc)?;
+        Ok(Merged {
+            walks,
+            frames,
+            marks,
+        })
     }
 
     /// The class of a node, and where the node's ports lie in it.

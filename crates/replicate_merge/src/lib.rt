@@ -19,6 +19,7 @@
 //! | module | has |
 //! |---|---|
 //! | `classes` | the classes of a journal, kept entry by entry |
+//! | `merged` | the classes of a journal that grows no more |
 //! | `fronts` | what stands in front of a walk |
 //! | `pushing` | the ways that an entry adds |
 //! | `ways` | the ways of a node |
@@ -26,8 +27,10 @@
 
 mod classes;
 mod fronts;
+mod merged;
 mod pushing;
 mod ways;
 
 pub use classes::Classes;
+pub use merged::Merged;
 pub use port_align::{ClassFrame, aligned};

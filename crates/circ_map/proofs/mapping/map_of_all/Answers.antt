@@ -1,6 +1,5 @@
+use Rattle.replicate_merge.proofs.Merging.{stands-classes}
 use Rattle.circ_map.proofs.mapping.map_of_all.Goals as goal
 
-pub quotient-requires-clause-stands : goal.quotient-requires-clause-stands
-quotient-requires-clause-stands c =
-    let k = c.in_ok-classes.ensures in
-    record { numbered = k.numbered; together = k.together; only = k.only; least = k.least; expanded = k.expanded; kept = k.kept }
+pub merged_quotient-requires-clause-classes : goal.merged_quotient-requires-clause-classes
+merged_quotient-requires-clause-classes c = stands-classes c.args.found.now.host c.args.found.now.entries c.in_ok-classes.classes c.merged.result c.in_ok-classes.ensures c.merged.ensures

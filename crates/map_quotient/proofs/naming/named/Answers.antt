@@ -1,24 +1,17 @@
-use Rattle.std.proofs.Common.{ap, ◌∙◌}
-use Rattle.std.proofs.lemmas.List.{take_all}
-use Rattle.journal_defs.specs.Tree.{host_of}
-use Rattle.map_defs.specs.NetMap.{NetMap}
-use Rattle.class_joins.specs.Nodes.{nodes_of}
-use Rattle.class_joins.specs.Ways.{node_at}
-use Rattle.map_quotient.specs.Naming.{bare_map, vertices_of}
-use Rattle.map_quotient.proofs.Named.{named-next}
-use Rattle.map_quotient.proofs.Vertices.{next-fits}
+use Rattle.std.proofs.Common.{◌≡◌, ℕ, List, IfOk, length, ap, sym, subst, arith}
+use Rattle.map_quotient.specs.Naming.{HaveOwnAddresses, addresses_of, bare_map, vertices_of}
 use Rattle.map_quotient.proofs.naming.named.Goals as goal
 
-pub loop-node-init : goal.loop-node-init
-loop-node-init c = c.new-map.ensures
+pub named_for-requires-clause-few : goal.named_for-requires-clause-few
+named_for-requires-clause-few c =
+    let e : length c.deref.result.now ≡ length c.args.least.items = ap length c.deref.ensures.value in
+    let few = c.requires.few in
+    omega arith
 
-pub add_vertex-requires : goal.add_vertex-requires
-add_vertex-requires c =
-    next-fits (λ n. host_of c.args.j.now.host c.args.j.now.entries (node_at (nodes_of c.args.walks.now) n)) c.args.least.now 0 c.loop-node.node-index c.loop-node.map c.address_of.result c.requires.few c.requires.own c.loop-node-test.true (ap (λ (y : NetMap). y.vertices) c.loop-node.invariant) c.address_of.ensures
-
-pub loop-node-preserved : goal.loop-node-preserved
-loop-node-preserved c =
-    named-next c.args.j.now.host c.args.j.now.entries c.args.walks.now c.args.least.now c.loop-node.node-index c.loop-node.map c.add_vertex.new.map c.address_of.result c.loop-node-test.true c.loop-node.invariant c.address_of.ensures c.in_ok-add_vertex.ensures
+pub named_for-requires-clause-own : goal.named_for-requires-clause-own
+named_for-requires-clause-own c =
+    subst (λ (ns : List ℕ). HaveOwnAddresses (addresses_of c.args.j.now.host c.args.j.now.entries c.args.walks.now ns)) (sym c.deref.ensures.value) c.requires.own
 
 pub returns : goal.returns
-returns c = c.loop-node.invariant ∙ ap (λ ns. bare_map (vertices_of c.args.j.now.host c.args.j.now.entries c.args.walks.now ns)) (take_all c.loop-node.node-index c.args.least.now c.loop-node-test.false)
+returns c =
+    subst (λ (ns : List ℕ). IfOk c.named_for.result (λ m. m ≡ bare_map (vertices_of c.args.j.now.host c.args.j.now.entries c.args.walks.now ns))) c.deref.ensures.value c.named_for.ensures

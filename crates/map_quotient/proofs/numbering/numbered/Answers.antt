@@ -10,7 +10,7 @@ use Rattle.map_quotient.proofs.numbering.numbered.Goals as goal
 pub loop-node-init : goal.loop-node-init
 loop-node-init c =
     let all : c.in_ok-vertices.vertices.items ≡ replicate c.count.result None = c.in_ok-vertices.ensures.items_if_clones_equal (λ y k. search rules) in
-    numbered-none c.args.c.now c.args.order.now c.new-least.result.items c.in_ok-vertices.vertices.items c.new-least.ensures.items (all ∙ ap (λ n. replicate n None) c.count.ensures)
+    numbered-none c.args.c.now c.args.order.now c.in_ok-least.least.items c.in_ok-vertices.vertices.items c.in_ok-least.ensures.items (all ∙ ap (λ n. replicate n None) c.count.ensures)
 
 pub overflow_cast-len : goal.overflow_cast-len
 overflow_cast-len c =

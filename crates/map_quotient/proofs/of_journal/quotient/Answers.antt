@@ -1,15 +1,5 @@
-use Rattle.std.proofs.Common.{◌∙◌, List, sym, subst}
-use Rattle.net_defs.specs.Network.{Apart}
-use Rattle.journal_defs.specs.Tree.{Node}
-use Rattle.class_joins.proofs.Nodes.{nodes-apart}
-use Rattle.map_quotient.proofs.Whole.{few-nodes, few-in-table}
+use Rattle.replicate_merge.proofs.Merging.{stands-classes}
 use Rattle.map_quotient.proofs.of_journal.quotient.Goals as goal
 
-pub node_order-requires : goal.node_order-requires
-node_order-requires c = few-nodes c.args.j.now.entries c.walks-walks.result.now (c.walks-walks.ensures ∙ c.requires.stands.numbered) c.requires.few
-
-pub numbered-requires-clause-few : goal.numbered-requires-clause-few
-numbered-requires-clause-few c = few-in-table c.args.j.now.entries c.walks-walks.result.now c.args.c.now.nodes (c.walks-walks.ensures ∙ c.requires.stands.numbered) c.requires.stands.numbered c.requires.few
-
-pub numbered-requires-clause-once : goal.numbered-requires-clause-once
-numbered-requires-clause-once c = subst (λ (ns : List Node). Apart ns) (sym c.requires.stands.numbered) (nodes-apart c.args.j.now.entries c.entries-once.ensures.once)
+pub merged_quotient-requires-clause-classes : goal.merged_quotient-requires-clause-classes
+merged_quotient-requires-clause-classes c = stands-classes c.args.j.now.host c.args.j.now.entries c.args.c.now c.in_ok-merged.merged c.requires.stands c.in_ok-merged.ensures

@@ -1,16 +1,19 @@
-use Rattle.std.proofs.Common.{◌≡◌, List, Option, sym, ◌∙◌, subst, set}
+use Rattle.std.proofs.Common.{◌≡◌, ℤ, List, Option, sym, ◌∙◌, ap, subst, set, to_z, of_z, w8, arith}
+use Rattle.std.proofs.lemmas.Int.{ints}
 use Rattle.port_table.specs.declared.end.NodePort.{NodePort}
 use Rattle.port_table.specs.declared.table.Known.{Known}
 use Rattle.port_table.specs.declared.table.Known.TheVariants.{Nothing}
-use Rattle.port_table.specs.Ends.{PutsAt, known_at}
+use Rattle.port_table.specs.Ends.{PutsAt, known_at, one_at}
 use Rattle.port_table.proofs.Putting.{nothing-short, nothing-known, puts-alone, puts-row}
 use Rattle.port_table.proofs.table.put.Goals as goal
 
 pub put_beside-requires-clause-one : goal.put_beside-requires-clause-one
-put_beside-requires-clause-one c = sym c.known_of.ensures ∙ c.in-One.is
+put_beside-requires-clause-one c =
+    let back : to_z w8 (of_z w8 c.in-One.port) ≡ c.in-One.port = grind (arith, ints) in
+    sym c.known_of.ensures ∙ (c.in-One.is ∙ ap (λ (p : ℤ). one_at c.in-One.at (record { node = c.in-One.node; port = p })) (sym back))
 
 pub put_beside-requires-clause-at : goal.put_beside-requires-clause-at
-put_beside-requires-clause-at c = c.requires.sound.turns c.args.number c.in-One.at c.in-One.first (sym c.known_of.ensures ∙ c.in-One.is)
+put_beside-requires-clause-at c = c.requires.sound.turns c.args.number c.in-One.at (record { node = c.in-One.node; port = c.in-One.port }) (sym c.known_of.ensures ∙ c.in-One.is)
 
 pub set_row_end-requires-clause-there : goal.set_row_end-requires-clause-there
 set_row_end-requires-clause-there c = c.requires.sound.inside c.args.number c.in-Row.row (sym c.known_of.ensures ∙ c.in-Row.is)

@@ -12,6 +12,14 @@ add_row-row-requires-clause-room c =
     let cap = c.requires.room in
     omega arith
 
+pub overflow_cast-row : goal.overflow_cast-row
+overflow_cast-row c =
+    let room = row-room c.args.known.now.items c.args.number c.args.at c.args.first c.requires.there c.requires.one in
+    let counted = c.requires.sound.counted in
+    let last = c.add_row-row.ensures.adds.last in
+    let few = c.requires.few in
+    omega arith
+
 pub returns-then-from-place-clause-puts : goal.returns-then-from-place-clause-puts
 returns-then-from-place-clause-puts c =
     let ks = c.args.known.now.items in
