@@ -64,6 +64,14 @@ impl Printed {
         })
     }
 
+    /// A line was printed, as [`Printed::line`] prints it, and is done with: callers that make a line need not end it.
+    pub fn of_line(alloc: Global, l: Line, f: &Fabric) -> Result<Printed, AllocError>
+        requires there { AreThere f.now l }
+        ensures printed { IfOk result (λ p. p ≡ printed_of f.now (OneLine l ∷ [])) }
+    {
+        Printed::line(alloc, &l, f)
+    }
+
     /// Its text.
     pub fn text(&self) -> &[u8]
         ensures { result.now ≡ self.now.text }

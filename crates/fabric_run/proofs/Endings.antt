@@ -45,7 +45,7 @@ report-text-ends text a taken now faults risen Done held e h = (a, e, h)
 report-text-ends text a taken now faults risen WriteFault held e h =
     (h.0, subst (λ r. IsWriteCut r taken now held) (sym e) (h.1, cut-part a (text-has_run text a e) taken now held h.1))
 report-text-ends text a taken now faults risen NoMemory held e h =
-    inr (subst (λ r. IsMemoryCut r taken now held) (sym e) (h, interrupted-part a (text-has_run text a e) taken now h))
+    inr (subst (λ r. IsMemoryCut r taken now held) (sym e) (h, interrupted-part a (text-has_run text a e) taken now held h))
 report-text-ends text a taken now faults risen (Refused line kind) held e h = absurd h
 report-text-ends text a taken now faults risen Usage held e h = absurd h
 report-text-ends text a taken now faults risen ReadFault held e h = absurd h
@@ -58,7 +58,7 @@ text-input-ends before now text Done held c h = (text, c, h)
 text-input-ends before now text (Refused line kind) held c h = (text, c, h)
 text-input-ends before now text WriteFault held c h = (text, c, h)
 text-input-ends before now text NoMemory held c h =
-    elim h as (λ x. Keeps before.taken now.taken ⊎ ((t : List ℕ) × Came before.left now.left t × IsMemoryCut (reading t) before.taken now.taken held)) [ inl k ↦ inl k | inr k ↦ inr (text, c, k) ]
+    elim h as (λ x. (Keeps before.taken now.taken × (held ≡ None)) ⊎ ((t : List ℕ) × Came before.left now.left t × IsMemoryCut (reading t) before.taken now.taken held)) [ inl k ↦ inl k | inr k ↦ inr (text, c, k) ]
 text-input-ends before now text Usage held c h = absurd h
 text-input-ends before now text ReadFault held c h = absurd h
 text-input-ends before now text TooLong held c h = absurd h

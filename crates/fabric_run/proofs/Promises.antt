@@ -36,6 +36,7 @@ use Rattle.promise_laws.proofs.Said.{said-command, said-act}
 use Rattle.promise_laws.proofs.Sound.{always_promised}
 use Rattle.promise_laws.specs.Existence.{HasRun}
 use Rattle.promise_laws.proofs.Acting.{commands_have_sound_acts, runs_end_sound}
+use Rattle.promise_laws.proofs.CutShort.{cut_commands_leave_sound}
 use Rattle.promise_laws.proofs.Running.{each_command_is_done, run_exists}
 use Rattle.input_texts.specs.Reading.{AcceptedText, reading_from, reading}
 use Rattle.fabric_run.specs.Promise.{IsPromised, DeepMapsAreComplete, InstalledLinesAreTrue}
@@ -148,6 +149,8 @@ text_promised text a e =
       behind = λ k out last r. runs_end_sound n (take k cs) out last o.fabric (acts k) r;
       acts = λ k out printed s next c r at does.
           commands_have_sound_acts n (take k cs) out printed s next c o.fabric (acts k) (said-act n c (all-nth (IsSaid n) cs k c o.said at)) r does;
+      cut = λ k out s c v r at is.
+          cut_commands_leave_sound n (take k cs) out s c v o.fabric (acts k) (said-act n c (all-nth (IsSaid n) cs k c o.said at)) r is;
       sound = (promised 0).sound;
       no_cycle = λ k out last r. run_has_no_cycle n (take k cs) out last o.fabric (acts k) r;
     }

@@ -1,5 +1,6 @@
 -- A report that is written command by command.
-use Rattle.std.proofs.Common.{◌≡◌, ◌<◌, ◌≤◌, true, false, Result, Ok, Err, is_err, OnErr, OnOk, true≢false, arith, ℕ, zero, suc, List, [], ◌∷◌, ◌++◌, length, take, get_or, Option, Some, refl, ap, sym, subst, ◌∙◌, append_assoc, append-nil}
+use Rattle.std.proofs.Common.{◌≡◌, ◌<◌, ◌≤◌, true, false, Result, Ok, Err, is_err, OnErr, OnOk, true≢false, arith, ℕ, zero, suc, List, [], ◌∷◌, ◌++◌, length, take, get_or, Option, Some, None, refl, ap, sym, subst, ◌∙◌, append_assoc, append-nil}
+use Rattle.std.specs.Prelude.{slice_get}
 use Rattle.std.specs.List.{AllByRecursion}
 use Rattle.std.specs.Io.KnownBytes.{Appends}
 use Rattle.std.proofs.KnownBytes.{Appends-nil, Appends-trans}
@@ -15,6 +16,7 @@ use Rattle.run_defs.specs.Run.Runs.{ended}
 use Rattle.run_defs.specs.LineText.{output_text}
 use Rattle.fab_report.specs.Printed.{PrintedState}
 use Rattle.run_laws.proofs.RunsOnce.{runs-more, first_runs_are_part, text_of_both}
+use Rattle.promise_laws.specs.CutShort.{IsCutShort}
 use Rattle.promise_laws.specs.Existence.{HasRun}
 use Rattle.run_session.specs.Obeyed.{IsObeyed}
 use Rattle.input_texts.specs.Reading.{AcceptedText}
@@ -89,12 +91,20 @@ cut-ran n cs i taken between now s next c p low at ran net does took =
       hands_back = refl;
     }
 
--- memory was wanting behind first commands
-pub interrupted : (n : Network) (cs : List Command) (i : ℕ) (taken now : Option (List ℕ)) (s : SessionState) → HaveRun n (take i cs) taken now s → IsInterrupted (record { network = n; commands = cs }) taken now
-interrupted n cs i taken now s ran = record {
+-- the next command, by its place
+some-at : {X : Type 0} (xs : List X) (i : ℕ) (x : X) → i < length xs → x ≡ get_or xs i x → slice_get xs i ≡ Some x
+some-at [] i x h e = absurd (omega arith)
+some-at (y ∷ ys) zero x h e = ap Some (sym e)
+some-at (y ∷ ys) (suc i) x h e = some-at ys i x (omega arith) e
+
+-- memory was wanting for a command behind first ones
+pub interrupted : (n : Network) (cs : List Command) (i : ℕ) (taken now : Option (List ℕ)) (s t : SessionState) (c : Command) → i < length cs → c ≡ get_or cs i c → HaveRun n (take i cs) taken now s
+    → IsCutShort s c t.world → t.last_map ≡ s.last_map → t.last_routes ≡ s.last_routes → IsInterrupted (record { network = n; commands = cs }) taken now (Some t)
+interrupted n cs i taken now s t c low at ran cut made found = record {
   count = i;
   last = s;
   ran = ran;
+  hands_back = record { command = c; next = some-at cs i c low at; cut = cut; map_stays = made; routes_stay = found };
 }
 
 -- what first commands printed begins as what all commands print does
@@ -122,14 +132,19 @@ cut-part a r taken now held k =
     part-of-all a r (suc k.count) taken now k.last (k.before ++ k.own) (first ++ k.took.0) k.took.1 k.run whole k.took.4
 
 -- and before memory was wanting
-pub interrupted-part : (a : AcceptedText) (r : HasRun a.network a.commands) (taken now : Option (List ℕ)) → IsInterrupted a taken now → IsPartOfReport a taken now
-interrupted-part a r taken now k =
+pub interrupted-part : (a : AcceptedText) (r : HasRun a.network a.commands) (taken now : Option (List ℕ)) (held : Option SessionState) → IsInterrupted a taken now held → IsPartOfReport a taken now
+interrupted-part a r taken now held k =
     let printed : List ℕ = output_text a.network k.ran.output in
     part-of-all a r k.count taken now k.last k.ran.output printed [] k.ran.run (sym (append-nil printed)) k.ran.took
 
 -- before the first command
-pub unstarted : (a : AcceptedText) (taken : Option (List ℕ)) → IsInterrupted a taken taken
-unstarted a taken = interrupted a.network a.commands 0 taken taken (new_session a.network) (none-ran a.network a.commands taken (new_session a.network) refl)
+pub unstarted : (a : AcceptedText) (taken : Option (List ℕ)) → IsInterrupted a taken taken None
+unstarted a taken = record {
+  count = 0;
+  last = new_session a.network;
+  ran = none-ran a.network a.commands taken (new_session a.network) refl;
+  hands_back = tt;
+}
 
 -- all commands ran
 pub all-ran : (n : Network) (cs : List Command) (i : ℕ) (taken now : Option (List ℕ)) (s : SessionState) → length cs ≤ i → HaveRun n (take i cs) taken now s → IsReported (record { network = n; commands = cs }) taken now (Some s)

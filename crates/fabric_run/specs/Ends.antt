@@ -1,6 +1,6 @@
 -- How a run may end: its answer, what was read, what was written, and the session that it hands back.
 use Rattle.std.specs.Prelude.{◌≡◌, ◌⊎◌, ℕ, suc, ◌<◌, ◌≤◌, Bool, true, false, List, ◌++◌, length, take, nat_lt}
-use Rattle.std.specs.Prelude.{if◌then◌else◌, Option, Some, None, Result, Ok, Err}
+use Rattle.std.specs.Prelude.{if◌then◌else◌, slice_get, Option, Some, None, IfSome, Result, Ok, Err}
 use Rattle.std.specs.Io.KnownBytes.{Appends, Keeps}
 use Rattle.net_defs.specs.Network.{Network}
 use Rattle.fab_outer.specs.Fault.{Rose}
@@ -11,6 +11,7 @@ use Rattle.run_defs.specs.Output.{Piece}
 use Rattle.run_defs.specs.Session.{SessionState}
 use Rattle.run_defs.specs.Run.{IsRun}
 use Rattle.run_defs.specs.LineText.{output_text}
+use Rattle.promise_laws.specs.CutShort.{IsCutShort}
 use Rattle.promise_laws.specs.Existence.{HasRun}
 use Rattle.fabric_run.specs.declared.status.Status.{Status}
 use Rattle.fabric_run.specs.declared.status.Status.TheVariants.{Done, Usage, Refused, ReadFault, WriteFault, NoMemory}
@@ -66,17 +67,28 @@ pub record IsCutOff (a : AcceptedText) (taken now : Option (List ℕ)) (held : O
   pub took : TakesPast taken now (output_text a.network before) (output_text a.network own)
   pub hands_back : held ≡ Some last
 
--- Memory was wanting for a command: the sink took exactly what those before it printed.
-pub record IsInterrupted (a : AcceptedText) (taken now : Option (List ℕ)) : Type 0 where
+-- The command of a text behind so many was cut short in a session and left another: a prefix of its acts leads from the
+-- one world to the other, and the last map and the last routes are as they were.
+pub record IsLeftShort (a : AcceptedText) (count : ℕ) (before left : SessionState) : Type 0 where
+  pub command : Command
+  pub next : slice_get a.commands count ≡ Some command
+  pub cut : IsCutShort before command left.world
+  pub map_stays : left.last_map ≡ before.last_map
+  pub routes_stay : left.last_routes ≡ before.last_routes
+
+-- Memory was wanting for a command, or for the first session: the sink took exactly what the commands before it
+-- printed, and a session that is handed back is theirs with this command cut short.
+pub record IsInterrupted (a : AcceptedText) (taken now : Option (List ℕ)) (held : Option SessionState) : Type 0 where
   pub count : ℕ
   pub last : SessionState
   pub ran : HaveRun a.network (take count a.commands) taken now last
+  pub hands_back : IfSome held (IsLeftShort a count last)
 
 -- How the commands of an accepted text may end.
 abbrev pub ReportEnds : AcceptedText → Option (List ℕ) → Option (List ℕ) → ℕ → ℕ → Status → Option SessionState → Type 0
 ReportEnds a taken now faults risen Done held = IsReported a taken now held
 ReportEnds a taken now faults risen WriteFault held = Rose faults risen × IsCutOff a taken now held
-ReportEnds a taken now faults risen NoMemory held = IsInterrupted a taken now
+ReportEnds a taken now faults risen NoMemory held = IsInterrupted a taken now held
 ReportEnds a taken now faults risen _ held = ⊥
 
 -- How the writing of a refusal may end. No session was made.
@@ -99,7 +111,7 @@ IsWriteCut (Err f) taken now held = TakesProperPrefix taken now (refusal_text f)
 -- refused text, of which nothing was taken, and which has no session.
 abbrev pub IsMemoryCut : Result AcceptedText FirstFault → Option (List ℕ) → Option (List ℕ) → Option SessionState
     → Type 0
-IsMemoryCut (Ok a) taken now held = IsInterrupted a taken now × IsPartOfReport a taken now
+IsMemoryCut (Ok a) taken now held = IsInterrupted a taken now held × IsPartOfReport a taken now
 IsMemoryCut (Err f) taken now held = Keeps taken now × (held ≡ None)
 
 -- How the work on a text that came may end.
@@ -108,7 +120,8 @@ TextEnds text taken now faults risen Done held = (a : AcceptedText) × IsAccepte
 TextEnds text taken now faults risen (Refused line kind) held =
     IsRefused text line kind × Appends taken now (refusal_text (record { line = line; kind = kind })) × (held ≡ None)
 TextEnds text taken now faults risen WriteFault held = Rose faults risen × IsWriteCut (reading text) taken now held
-TextEnds text taken now faults risen NoMemory held = Keeps taken now ⊎ IsMemoryCut (reading text) taken now held
+TextEnds text taken now faults risen NoMemory held =
+    (Keeps taken now × (held ≡ None)) ⊎ IsMemoryCut (reading text) taken now held
 TextEnds text taken now faults risen _ held = ⊥
 
 -- what is told of the source and the sink at a moment
@@ -129,7 +142,7 @@ abbrev pub InputEnds : Moment → Moment → Status → Option SessionState → 
 InputEnds before now Done held = SomeTextEnds before now Done held
 InputEnds before now (Refused line kind) held = SomeTextEnds before now (Refused line kind) held
 InputEnds before now WriteFault held = SomeTextEnds before now WriteFault held
-InputEnds before now NoMemory held = Keeps before.taken now.taken
+InputEnds before now NoMemory held = (Keeps before.taken now.taken × (held ≡ None))
     ⊎ ((text : List ℕ) × Came before.left now.left text × IsMemoryCut (reading text) before.taken now.taken held)
 InputEnds before now ReadFault held = Rose before.read_faults now.read_faults × (held ≡ None)
 InputEnds before now TooLong held = IsLonger before.left input_limit × (held ≡ None)

@@ -1,5 +1,5 @@
 -- How a generated run ends.
-use Rattle.std.specs.Prelude.{◌≡◌, ℕ, List, ◌++◌, Option, Some}
+use Rattle.std.specs.Prelude.{◌≡◌, ℕ, List, ◌++◌, Option, Some, None}
 use Rattle.std.specs.Io.KnownBytes.{Appends, Keeps}
 use Rattle.net_defs.specs.Network.{Network}
 use Rattle.fab_outer.specs.Fault.{Rose}
@@ -64,9 +64,9 @@ pub record IsSummed (hosts seed : ℕ) (taken now : Option (List ℕ)) (faults r
   pub written : SummaryEnds due last taken now faults risen status held
 
 -- How a run of the form `gen` may end: the whole summary was taken, or its front before a failed write, and not all of
--- it; where memory was wanting, nothing.
+-- it; where memory was wanting, nothing, and no session is handed back.
 abbrev pub GenEnds : ℕ → ℕ → Option (List ℕ) → Option (List ℕ) → ℕ → ℕ → Status → Option SessionState → Type 0
 GenEnds hosts seed taken now faults risen Done held = IsSummed hosts seed taken now faults risen Done held
 GenEnds hosts seed taken now faults risen WriteFault held = IsSummed hosts seed taken now faults risen WriteFault held
-GenEnds hosts seed taken now faults risen NoMemory held = Keeps taken now
+GenEnds hosts seed taken now faults risen NoMemory held = Keeps taken now × (held ≡ None)
 GenEnds hosts seed taken now faults risen _ held = ⊥

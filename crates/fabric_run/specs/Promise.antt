@@ -29,6 +29,7 @@ use Rattle.mapping_laws.specs.Circuits.{HasPrintedCircuit}
 use Rattle.install_laws.specs.Runs.{IsInstalledLine}
 use Rattle.settle_line_laws.specs.Lines.{IsSettledLine}
 use Rattle.promise_laws.specs.CommandActs.{HasSoundActs}
+use Rattle.promise_laws.specs.CutShort.{IsCutShort}
 use Rattle.promise_laws.specs.Existence.{HasDone, HasRun}
 use Rattle.input_texts.specs.Reading.{AcceptedText}
 
@@ -111,6 +112,13 @@ CommandsHaveSoundActs a =
     → IsRun a.network (take count a.commands) out s → slice_get a.commands count ≡ Some c → Does s c printed next
     → HasSoundActs s c next
 
+-- and where it is cut short for want of memory, the world is sound too
+abbrev pub CutCommandsLeaveSound : AcceptedText → Type 0
+CutCommandsLeaveSound a =
+    (count : ℕ) (out : List Piece) (s : SessionState) (c : Command) (v : WorldState)
+    → IsRun a.network (take count a.commands) out s → slice_get a.commands count ≡ Some c → IsCutShort s c v
+    → IsSound v
+
 -- A map of circuit links is the circuit map of the fabric to its depth, after so many asks. It is the core, up to each
 -- switch's offset, where the depth is at least the most cables in a return walk of some path list of the core; and its
 -- lines are read as that map.
@@ -129,9 +137,9 @@ CircuitMapsAreTrue a =
 -- The promise of an accepted text: its commands have a run, and one, whose text is the report. Its maps under the word
 -- complete are true, deep maps of a quiet fabric say so, its maps of circuit links are true, each count of installed
 -- hosts has its cause, and each settle ends settled. The world is sound behind its first commands, and behind each
--- prefix of the acts of the next one: the installed routes have no cycle, what was got is a prefix of what was sent,
--- for each sender, receiver and priority, and each token has one owner. So it is at every moment, whatever happens
--- before it.
+-- prefix of the acts of the next one, where that is done and where it is cut short: the installed routes have no
+-- cycle, what was got is a prefix of what was sent, for each sender, receiver and priority, and each token has one
+-- owner. So it is at every moment, whatever happens before it.
 pub record IsPromised (a : AcceptedText) : Type 0 where
   pub report : HasRun a.network a.commands
   pub done : EachCommandIsDone a
@@ -144,5 +152,6 @@ pub record IsPromised (a : AcceptedText) : Type 0 where
   pub settled : SettledLinesAreTrue a
   pub behind : WorldsAreSound a
   pub acts : CommandsHaveSoundActs a
+  pub cut : CutCommandsLeaveSound a
   pub sound : AlwaysSound a.network
   pub no_cycle : RoutesHaveNoCycle a

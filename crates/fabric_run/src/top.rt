@@ -77,15 +77,18 @@ pub fn run<S: Source, K: Sink>(alloc: Global, words: &[Word], input: &mut S, out
     ensures too_long { result.status ≡ Status.TooLong → IsLonger (S.left input.old) input_limit }
     ensures too_long_writes_nothing { result.status ≡ Status.TooLong → out.new ≡ out.old }
 
-    // Want of memory under `run`: nothing was written, or exactly what the commands that ran printed.
+    // Want of memory under `run`: nothing was written, and no session is handed back; or exactly what the commands that
+    // ran printed was written, and the session is theirs with the next command cut short: a prefix of its acts leads
+    // to the world, and the last map and the last routes are theirs.
     ensures no_memory { IsRunForm words.now → result.status ≡ Status.NoMemory
-        → Keeps (K.taken out.old) (K.taken out.new)
+        → (Keeps (K.taken out.old) (K.taken out.new) × (result.session ≡ None))
         ⊎ ((text : List ℕ) × Came (S.left input.old) (S.left input.new) text
         × IsMemoryCut (reading text) (K.taken out.old) (K.taken out.new) result.session) }
 
     // Under `gen N SEED` nothing is read. The text of N and SEED is accepted and all its commands ran: the sink took
     // exactly the summary of what they printed, or its front before a failed write, and not all of it, and their
-    // session is handed back; or memory was wanting, and nothing was written. There is no other answer.
+    // session is handed back; or memory was wanting, nothing was written, and no session is handed back. There is no
+    // other answer.
     ensures gen_reads_nothing { (n seed : ℕ) → IsGenForm words.now n seed → input.new ≡ input.old }
     ensures generated { (n seed : ℕ) → IsGenForm words.now n seed
         → GenEnds n seed (K.taken out.old) (K.taken out.new) (K.faults out.old)

@@ -40,7 +40,7 @@ may-events : (w : WorldState) (es : List Event) → AllByRecursion IsByteEvent e
 may-events w [] all = tt
 may-events w (e ∷ es) all = (all.0, may-events (step w e).1 es all.1)
 
-acted-events : (w : WorldState) (es : List Event) → acted_all w (map Happens es) ≡ after_all w es
+pub acted-events : (w : WorldState) (es : List Event) → acted_all w (map Happens es) ≡ after_all w es
 acted-events w [] = refl
 acted-events w (e ∷ es) = acted-events (step w e).1 es
 

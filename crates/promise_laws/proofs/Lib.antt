@@ -1,4 +1,6 @@
 pub mod Acting
+pub mod Begun
+pub mod CutShort
 pub mod Events
 pub mod OneChannel
 pub mod OneHost

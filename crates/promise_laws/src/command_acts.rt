@@ -1,6 +1,8 @@
-//! What each command of a run stands for: `specs/CommandActs.antt` and `specs/OneAction.antt` have the statements.
+//! What each command of a run stands for: `specs/CommandActs.antt`, `specs/CutShort.antt` and `specs/OneAction.antt`
+//! have the statements.
 
 ghost use Rattle.promise_laws.specs.CommandActs.{CommandsHaveSoundActs, RunsEndSound};
+ghost use Rattle.promise_laws.specs.CutShort.{BegunMapsAreCutShort, CutCommandsLeaveSound};
 ghost use Rattle.promise_laws.specs.OneAction.{ActsAreOfOneHost, ActsAreOfOneChannel};
 
 /// Each command that is done behind a run stands for one list of acts: they may happen, they lead to the world behind
@@ -8,6 +10,13 @@ ghost use Rattle.promise_laws.specs.OneAction.{ActsAreOfOneHost, ActsAreOfOneCha
 pub fn acts_of_commands()
     ensures acts { CommandsHaveSoundActs }
     ensures ended { RunsEndSound }
+{}
+
+/// A map that was begun and stopped is the command cut short: a prefix of the acts that it stands for was done. And a
+/// command that is cut short behind a run leaves a sound world.
+pub fn acts_of_cut_commands()
+    ensures begun { BegunMapsAreCutShort }
+    ensures sound { CutCommandsLeaveSound }
 {}
 
 /// Each act is of one host at most, and of one channel: all other hosts and their clients stay as they were, and every

@@ -14,7 +14,13 @@ use Rattle.run_session.specs.declared.mapping.MapOrder.{MapOrder}
 use Rattle.run_session.specs.Told.{IsMadeOver}
 use Rattle.run_defs.specs.Mapped.{AskedAll, one_if, asked_all, IsCalled}
 use Rattle.mapper.specs.Asks.{AreAsked}
-use Rattle.world_asking.specs.Prober.{WorldAsking, IsAsked, next_ask, after_ask}
+use Rattle.mapper.specs.Growths.{StopsShort}
+use Rattle.mapper.specs.Growths.StopsShort.{between_asks, within_ask}
+use Rattle.event_lists.specs.Events.{ask_events}
+use Rattle.event_lists.specs.PartWay.{IsPartWay}
+use Rattle.promise_laws.specs.CutShort.{IsBegunMap}
+use Rattle.promise_laws.specs.CutShort.IsBegunMap.{stopped_between, stopped_within}
+use Rattle.world_asking.specs.Prober.{WorldAsking, IsAsked, IsCutAsk, next_ask, after_ask}
 
 -- What asks in a row came to: their answers, how many drowned, and the world then.
 pub record Came (s : WorldAsking) (j : List Entry) (t : WorldAsking) : Type 0 where
@@ -23,6 +29,7 @@ pub record Came (s : WorldAsking) (j : List Entry) (t : WorldAsking) : Type 0 wh
   pub few : drowned ≤ length j
   pub counted : t.drowned ≡ min (s.drowned + drowned) (2 ^ 64 - 1)
   pub host : t.host ≡ s.host
+  pub tries : t.tries ≡ s.tries
   pub rises : s.world.injected ≤ t.world.injected
 
 -- no event lowers the count of injections, nor does an ask
@@ -52,6 +59,7 @@ came-from s [] t low same = record {
   few = omega arith;
   counted = let e : t.drowned ≡ s.drowned = sym (ap (λ u. u.drowned) same) in omega (arith, low, e);
   host = sym (ap (λ u. u.host) same);
+  tries = sym (ap (λ u. u.tries) same);
   rises = let e : t.world.injected ≡ s.world.injected = sym (ap (λ u. u.world.injected) same) in omega (arith, e);
 }
 came-from s (e ∷ rest) t low (between, is, more) =
@@ -74,6 +82,7 @@ came-from s (e ∷ rest) t low (between, is, more) =
       few = omega (arith, few, one);
       counted = counted-on a.drowned s.drowned between.drowned t.drowned r.drowned count r.counted;
       host = r.host ∙ ap (λ u. u.host) at;
+      tries = r.tries ∙ ap (λ u. u.tries) at;
       rises = omega (arith, first, here, later);
     }
   where
@@ -126,3 +135,22 @@ rises-from w order s t m after b a e f g h k =
     let r : w.injected ≤ t.world.injected = made-rises p order.depth m t refl k0 in
     let i : after.injected ≡ t.world.injected = ap (λ v. v.injected) f in
     omega (arith, r, i, g, h)
+
+-- a mapper that stopped short over a world has begun a map there
+begun-over : (s t : WorldAsking) (depth : ℕ) → s.drowned ≡ 0 → StopsShort WorldAsking IsAsked IsCutAsk s.host depth [] s t → IsBegunMap s.host depth s.tries s.world t.world
+begun-over s t depth none (between_asks more growing kept led) =
+    let r = came-from s more t (omega (arith, none)) led in
+    stopped_between more r.drowned growing kept r.asked
+begun-over s t depth none (within_ask more x between growing kept led ask cut) =
+    let r = came-from s more between (omega (arith, none)) led in
+    let way : IsPartWay between.world (ask_events s.host s.tries x between.world) t.world =
+    subst (λ h. IsPartWay between.world (ask_events h s.tries x between.world) t.world) r.host
+    (subst (λ k. IsPartWay between.world (ask_events between.host k x between.world) t.world) r.tries cut.way) in
+    stopped_within more r.drowned x between.world growing kept r.asked ask way
+
+pub begun-from : (w : WorldState) (order : MapOrder) (s t : WorldAsking) (after : WorldState) → s ≡ record { world = w; host = order.host; tries = order.tries; drowned = 0 } → after ≡ t.world
+    → StopsShort WorldAsking IsAsked IsCutAsk s.host order.depth [] s t → IsBegunMap order.host order.depth order.tries w after
+begun-from w order s t after e f k =
+    let p : WorldAsking = record { world = w; host = order.host; tries = order.tries; drowned = 0 } in
+    let k0 : StopsShort WorldAsking IsAsked IsCutAsk order.host order.depth [] p t = subst (λ (u : WorldAsking). StopsShort WorldAsking IsAsked IsCutAsk u.host order.depth [] u t) e k in
+    subst (IsBegunMap order.host order.depth order.tries w) (sym f) (begun-over p t order.depth refl k0)

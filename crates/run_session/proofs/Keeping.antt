@@ -47,13 +47,24 @@ kept_last n host (Doubtful drowned) m right l e = cc
 kept_last n host IncompleteDepth m right l e = cc
 kept_last n host IncompleteNodes m right l e = cc
 
+-- a map can be made over a world at a moment
+pub can-map : (order : MapOrder) (before : WorldState) → IsMoment before → is_idle before.links ≡ true → has_vertex (fabric_of before) (Host order.host) ≡ true → order.depth ≤ 32 → CanMap order.host order.depth before
+can-map order before now idle there shallow = record {
+  fabric = now.fabric;
+  world = now.world;
+  idle = idle;
+  is_host = host-there before order.host now there;
+  byte_flips = now.plan;
+  shallow = omega (arith, shallow);
+}
+
 -- routes can be computed of a map that was made over a world, where it says complete
 pub kept-made : (order : MapOrder) (before after : WorldState) (m : MadeMap) (packets : ℕ) → IsMoment before → is_idle before.links ≡ true → has_vertex (fabric_of before) (Host order.host) ≡ true → order.depth ≤ 32
     → IsMadeOver order before after m packets → AreOfFabric (fabric_of before) m.map → m.words ≡ Complete → IsKeptMap (fabric_of before) order.host m.map
 kept-made order before after m packets now idle there shallow over hosts says =
     let n : Network = fabric_of before in
     let host = order.host in
-    let can : CanMap host order.depth before = record { fabric = now.fabric; world = now.world; idle = idle; is_host = host-there before host now there; byte_flips = now.plan; shallow = omega (arith, shallow) } in
+    let can : CanMap host order.depth before = can-map order before now idle there shallow in
     let j = over.journal in
     let made = over.mapped in
     let right : IsMapOfPart n host m.map = made_map_is_right host order.depth order.tries before after j m.map can (subst (IsMapped host order.depth order.tries before after j m.map) says made) in

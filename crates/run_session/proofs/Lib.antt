@@ -1,5 +1,6 @@
 pub mod Answered
 pub mod Asks
+pub mod Cutting
 pub mod Installable
 pub mod Installs
 pub mod Keeping

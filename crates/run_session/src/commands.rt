@@ -5,6 +5,7 @@ ghost use Rattle.link_defs.specs.Links.{empty_links, is_idle};
 ghost use Rattle.world_defs.specs.World.{fabric_of};
 ghost use Rattle.run_defs.specs.declared.command.Command.TheVariants.{Map};
 ghost use Rattle.fab_script.specs.Ranges.{IsCommandOf};
+ghost use Rattle.promise_laws.specs.CutShort.{IsCutShort};
 ghost use Rattle.world_commands.specs.Done.{session_of};
 ghost use Rattle.run_session.specs.Kept.{IsKept, IsLastMap, AreLastRoutes};
 ghost use Rattle.run_session.specs.Obeyed.{IsObeyed};
@@ -22,7 +23,8 @@ use run_defs::Command;
 use std::alloc::{AllocError, Global};
 use world_commands::do_one;
 
-/// Does a command over the parts of a session: the world then, and what it printed, unless memory was wanting.
+/// Does a command over the parts of a session: the world then, and what it printed, unless memory was wanting; then the
+/// world is one that a prefix of its acts leads to.
 pub(crate) fn obey(
     alloc: Global,
     world: World,
@@ -41,6 +43,7 @@ pub(crate) fn obey(
     ensures fabric { fabric_of result.0 ≡ fabric_of world }
     ensures same_map { OnErr result.1 (last_map.new ≡ last_map.old) }
     ensures same_routes { OnErr result.1 (last_routes.new ≡ last_routes.old) }
+    ensures cut { OnErr result.1 (IsCutShort (session_of world last_map.old last_routes.old) c.now result.0) }
 {
     match map_ordered(&world, c) {
         Some(order) => map(alloc, world, last_map, order),
@@ -73,6 +76,7 @@ fn obey_here(
     ensures links { links.new ≡ links.old }
     ensures fabric { fabric_of w.new ≡ fabric_of w.old }
     ensures err { OnErr result (last_routes.new ≡ last_routes.old) }
+    ensures cut { OnErr result (IsCutShort (session_of w.old last_map.now last_routes.old) c.now w.new) }
 {
     match c {
         Command::Map { host, .. } => busy_text(alloc, w, *host),

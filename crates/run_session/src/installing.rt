@@ -3,12 +3,16 @@
 ghost use Rattle.std.specs.Prelude.{◌≡◌, ◌≤◌, ◌∷◌, [], true, not, Some, if◌then◌else◌, IfOk, OnErr};
 ghost use Rattle.link_defs.specs.Links.{is_idle};
 ghost use Rattle.world_defs.specs.World.{fabric_of, adopted_by};
+ghost use Rattle.event_lists.specs.Events.{install_events};
+ghost use Rattle.event_lists.specs.PartWay.{IsPartWay};
 ghost use Rattle.run_defs.specs.Output.{OneLine};
 ghost use Rattle.run_defs.specs.Outcome.{adoption_of};
 ghost use Rattle.world_defs.specs.Table.{is_other};
 ghost use Rattle.run_defs.specs.Session.{LastRoutes};
 ghost use Rattle.run_defs.specs.declared.line.Line.TheVariants.{InstallRefused};
 ghost use Rattle.fab_report.specs.Printed.{printed_of};
+ghost use Rattle.promise_laws.specs.CommandActs.{install_acts};
+ghost use Rattle.promise_laws.specs.CutShort.{IsPartActed};
 ghost use Rattle.run_session.specs.Kept.{AreKeptRoutes};
 ghost use Rattle.run_session.specs.Told.{AreInstalledTold, IsInstallTold};
 
@@ -21,7 +25,7 @@ use table_installing::install;
 use world_commands::print_tables;
 
 /// Installs the last routes, unless that is refused: no routes were computed, a channel holds a packet, or other
-/// routes are adopted.
+/// routes are adopted. Want of memory leaves a world that a prefix of its acts leads to.
 pub(crate) fn install_text(
     alloc: Global,
     w: &mut World,
@@ -32,6 +36,7 @@ pub(crate) fn install_text(
     requires some { 1 ≤ tries }
     requires few { tries ≤ 8 }
     ensures told { IfOk result (λ p. IsInstallTold w.old last.now tries w.new p) }
+    ensures err { OnErr result (IsPartActed w.old (install_acts w.old tries last.now) w.new) }
     ensures fabric { fabric_of w.new ≡ fabric_of w.old }
 {
     match last {
@@ -52,6 +57,7 @@ fn install_last(
     requires some { 1 ≤ tries }
     requires few { tries ≤ 8 }
     ensures told { IfOk result (λ p. IsInstallTold w.old (Some l.now) tries w.new p) }
+    ensures err { OnErr result (IsPartActed w.old (install_acts w.old tries (Some l.now)) w.new) }
     ensures fabric { fabric_of w.new ≡ fabric_of w.old }
 {
     if w.links_idle() {
@@ -73,6 +79,7 @@ fn install_idle(
     requires some { 1 ≤ tries }
     requires few { tries ≤ 8 }
     ensures told { IfOk result (λ p. IsInstallTold w.old (Some l.now) tries w.new p) }
+    ensures err { OnErr result (IsPartActed w.old (install_acts w.old tries (Some l.now)) w.new) }
     ensures fabric { fabric_of w.new ≡ fabric_of w.old }
 {
     if adopt_last(alloc, w, l)? {
@@ -86,7 +93,7 @@ fn install_idle(
 fn refused_text(alloc: Global, w: &World, cause: InstallCause) -> Result<Printed, AllocError>
     ensures { IfOk result (λ p. p ≡ printed_of (fabric_of w.now) (OneLine (InstallRefused cause) ∷ [])) }
 {
-    Printed::line(alloc, &Line::InstallRefused(cause), w.fabric())
+    Printed::of_line(alloc, Line::InstallRefused(cause), w.fabric())
 }
 
 // Adopts the last routes by their mapper: whether no others were adopted.
@@ -120,6 +127,7 @@ fn install_adopted(
     requires some { 1 ≤ tries }
     requires few { tries ≤ 8 }
     ensures told { IfOk result (λ p. AreInstalledTold w.old l.now tries w.new p) }
+    ensures err { OnErr result (IsPartWay w.old (install_events (adoption_of l.now) l.now.hosts tries w.old) w.new) }
     ensures fabric { fabric_of w.new ≡ fabric_of w.old }
 {
     w.moment();

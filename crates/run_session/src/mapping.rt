@@ -1,6 +1,6 @@
 //! A map made over a world, and what it prints.
 
-ghost use Rattle.std.specs.Prelude.{◌≡◌, ◌≤◌, ◌<◌, ◌^◌, ◌∷◌, [], ℕ, true, false, Option, Some, IfOk, IfSome, IfNone};
+ghost use Rattle.std.specs.Prelude.{◌≡◌, ◌<◌, ◌^◌, ◌∷◌, [], ℕ, true, false, Option, Some, IfOk, IfSome, IfNone};
 ghost use Rattle.std.specs.Prelude.{OnOk, OnErr};
 ghost use Rattle.link_defs.specs.Links.{is_idle};
 ghost use Rattle.world_defs.specs.World.{fabric_of};
@@ -15,6 +15,7 @@ ghost use Rattle.fab_report.specs.There.{IsHost};
 ghost use Rattle.fab_script.specs.Ranges.{IsCommandOf};
 ghost use Rattle.map_making.specs.Lines.{map_lines};
 ghost use Rattle.world_commands.specs.Done.{session_of};
+ghost use Rattle.promise_laws.specs.CutShort.{IsCutShort, IsBegunMap};
 ghost use Rattle.run_session.specs.Kept.{IsKeptMap, IsLastMap};
 ghost use Rattle.run_session.specs.Obeyed.{IsObeyed};
 ghost use Rattle.run_session.specs.Told.{IsMadeOver, map_of};
@@ -60,11 +61,11 @@ pub(crate) fn busy_text(alloc: Global, w: &World, host: u16) -> Result<Printed, 
     requires { IsHost (fabric_of w.now) host }
     ensures { IfOk result (λ p. p ≡ printed_of (fabric_of w.now) (OneLine (MapBusy host) ∷ [])) }
 {
-    Printed::line(alloc, &Line::MapBusy(host), w.fabric())
+    Printed::of_line(alloc, Line::MapBusy(host), w.fabric())
 }
 
 /// Maps from a host of an idle world: the world then, and the text, unless memory was wanting. The map is the last
-/// one then.
+/// one then. Want of memory leaves the last map, and a world that a prefix of the map's acts leads to.
 pub(crate) fn map(
     alloc: Global,
     world: World,
@@ -80,6 +81,8 @@ pub(crate) fn map(
     ensures kept { IsLastMap (fabric_of world) last_map.new }
     ensures fabric { fabric_of result.0 ≡ fabric_of world }
     ensures err { OnErr result.1 (last_map.new ≡ last_map.old) }
+    ensures cut { OnErr result.1 ((found : Option LastRoutes)
+        → IsCutShort (session_of world last_map.old found) (map_of order) result.0) }
 {
     world.moment();
     let (world, mapping) = map_world(alloc, world, order);
@@ -106,6 +109,7 @@ fn map_world(alloc: Global, world: World, order: MapOrder) -> (World, Result<Map
     ensures mapped { IfOk result.1 (λ m. IsMadeOver order world result.0 m.made m.packets) }
     ensures of_fabric { IfOk result.1 (λ m. AreOfFabric (fabric_of world) m.made.map) }
     ensures fabric { fabric_of result.0 ≡ fabric_of world }
+    ensures begun { OnErr result.1 (IsBegunMap order.host order.depth order.tries world result.0) }
 {
     world.moment();
     let before = world.injected();

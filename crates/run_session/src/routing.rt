@@ -32,7 +32,7 @@ pub(crate) fn routes(
 {
     match complete(last_map) {
         Some(last) => keep_routes(alloc, w, last, last_routes),
-        None => Printed::line(alloc, &Line::NoMap, w.fabric()),
+        None => Printed::of_line(alloc, Line::NoMap, w.fabric()),
     }
 }
 

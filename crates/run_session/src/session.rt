@@ -4,6 +4,7 @@ ghost use Rattle.std.specs.Prelude.{◌≡◌, IfOk, IfErr};
 ghost use Rattle.world_defs.specs.World.{fabric_of};
 ghost use Rattle.run_defs.specs.Session.{new_session};
 ghost use Rattle.fab_script.specs.Ranges.{IsCommandOf};
+ghost use Rattle.promise_laws.specs.CutShort.{IsCutShort};
 ghost use Rattle.run_session.specs.Kept.{IsKept};
 ghost use Rattle.run_session.specs.Obeyed.{IsObeyed, IsObeyedIn};
 
@@ -63,9 +64,9 @@ impl Session {
         }
     }
 
-    /// Does a command over its fabric: the session then, and the text of what it printed. Where memory is wanting,
-    /// the command was done in part or not at all: the last map and the last routes stay, and the session may only be
-    /// ended. A command `circuit` leaves the session as it is.
+    /// Does a command over its fabric: the session then, and the text of what it printed. Where memory is wanting, the
+    /// session comes back with a world that a prefix of the command's acts leads to, and with the last map and the last
+    /// routes as they were. A command `circuit` leaves the session as it is.
     pub fn exec(
         self,
         alloc: Global,
@@ -77,6 +78,7 @@ impl Session {
         ensures err { IfErr result (λ r. fabric_of r.0.world ≡ fabric_of self.world) }
         ensures kept_map { IfErr result (λ r. r.0.last_map ≡ self.last_map) }
         ensures kept_routes { IfErr result (λ r. r.0.last_routes ≡ self.last_routes) }
+        ensures cut { IfErr result (λ r. IsCutShort self c.now r.0.world) }
     {
         match self.perform(alloc, c) {
             Ok((session, printed)) => Ok((session, printed.into_text())),
@@ -97,6 +99,7 @@ impl Session {
         ensures err { IfErr result (λ r. fabric_of r.0.world ≡ fabric_of self.world) }
         ensures kept_map { IfErr result (λ r. r.0.last_map ≡ self.last_map) }
         ensures kept_routes { IfErr result (λ r. r.0.last_routes ≡ self.last_routes) }
+        ensures cut { IfErr result (λ r. IsCutShort self c.now r.0.world) }
     {
         let Session {
             world,

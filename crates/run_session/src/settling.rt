@@ -1,7 +1,9 @@
 //! A settle, and its text.
 
-ghost use Rattle.std.specs.Prelude.{◌≡◌, IfOk};
+ghost use Rattle.std.specs.Prelude.{◌≡◌, IfOk, OnErr};
 ghost use Rattle.world_defs.specs.World.{fabric_of};
+ghost use Rattle.event_lists.specs.Events.{settle_events};
+ghost use Rattle.event_lists.specs.PartWay.{IsPartWay};
 ghost use Rattle.run_defs.specs.declared.command.Command.TheVariants.{Settle};
 ghost use Rattle.world_commands.specs.Done.{IsDone};
 
@@ -11,11 +13,12 @@ use run_defs::Line;
 use std::alloc::{AllocError, Global};
 use world_drain::settle;
 
-/// Settles a world: its text is the line of what that came to. Where memory is wanting, the settle was made in part,
-/// or isn't told.
+/// Settles a world: its text is the line of what that came to. Want of memory leaves a world that a prefix of its
+/// events leads to.
 #[tactic(auto, using(crate::proofs::Obeying::settled_so))]
 pub(crate) fn settle_text(alloc: Global, w: &mut World) -> Result<Printed, AllocError>
     ensures done { IfOk result (λ p. IsDone Settle w.old w.new p) }
+    ensures err { OnErr result (IsPartWay w.old (settle_events w.old) w.new) }
     ensures fabric { fabric_of w.new ≡ fabric_of w.old }
 {
     let settled = settle(alloc, w)?;
@@ -24,5 +27,5 @@ pub(crate) fn settle_text(alloc: Global, w: &mut World) -> Result<Printed, Alloc
         resets: settled.resets,
         unacked: settled.unacked,
     };
-    Printed::line(alloc, &line, w.fabric())
+    Printed::of_line(alloc, line, w.fabric())
 }

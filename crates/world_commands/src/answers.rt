@@ -1,6 +1,6 @@
 //! One event of a client, and the text of what it was answered.
 
-ghost use Rattle.std.specs.Prelude.{◌≡◌, length, IfOk};
+ghost use Rattle.std.specs.Prelude.{◌≡◌, length, IfOk, OnErr};
 ghost use Rattle.world_defs.specs.World.{fabric_of};
 ghost use Rattle.world_defs.specs.declared.effect.Effect.TheVariants.{Said as SaidSo};
 ghost use Rattle.run_defs.specs.Outcome.{client_lines};
@@ -10,7 +10,7 @@ ghost use Rattle.fab_report.specs.Printed.{printed_of};
 ghost use Rattle.fab_report.specs.There.{IsHost};
 ghost use Rattle.fab_world.specs.Events.{IsGiven};
 ghost use Rattle.fab_world.specs.Held.{IsOfHosts};
-ghost use Rattle.world_commands.specs.Done.{IsCall, IsDone};
+ghost use Rattle.world_commands.specs.Done.{IsCall, IsDone, IsAllOrNothing};
 
 use crate::requests::PortAt;
 use fab_report::Printed;
@@ -19,8 +19,8 @@ use run_defs::{ClientCall, Line};
 use std::alloc::{AllocError, Global};
 use world_defs::Said;
 
-/// A client's call at a port, by its event: the command that this call is was done. Where memory is wanting for its
-/// line, the event has happened.
+/// A client's call at a port, by its event: the command that this call is was done. Where memory is wanting, nothing of
+/// it was done, or all of it but its line.
 pub(crate) fn call(
     alloc: Global,
     w: &mut World,
@@ -31,6 +31,7 @@ pub(crate) fn call(
     requires there { IsHost (fabric_of w.old) at.host }
     requires given { IsGiven w.old event }
     ensures done { (c : Command) → IsCall c call at event → IfOk result (λ p. IsDone c w.old w.new p) }
+    ensures err { (c : Command) → IsCall c call at event → OnErr result (IsAllOrNothing c w.old w.new) }
     ensures fabric { fabric_of w.new ≡ fabric_of w.old }
 {
     w.moment();
@@ -75,5 +76,5 @@ pub(crate) fn answer_text(
         port: at.port,
         said,
     };
-    Printed::line(alloc, &line, f)
+    Printed::of_line(alloc, line, f)
 }

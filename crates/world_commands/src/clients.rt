@@ -1,10 +1,11 @@
-//! The calls of clients, each one event.
+//! The calls of clients, each one event. Where memory is wanting, nothing of a call was done, or all of it but its
+//! line.
 
-ghost use Rattle.std.specs.Prelude.{◌≡◌, ◌≤◌, IfOk};
+ghost use Rattle.std.specs.Prelude.{◌≡◌, ◌≤◌, IfOk, OnErr};
 ghost use Rattle.world_defs.specs.World.{fabric_of};
 ghost use Rattle.run_defs.specs.declared.command.Command.TheVariants.{Begin, Close, Poll, Provide};
 ghost use Rattle.fab_report.specs.There.{IsHost};
-ghost use Rattle.world_commands.specs.Done.{IsDone, sending};
+ghost use Rattle.world_commands.specs.Done.{IsDone, IsAllOrNothing, sending};
 
 use crate::answers::call;
 use crate::requests::{PortAt, SendRequest};
@@ -13,7 +14,7 @@ use fab_world::{Event, World};
 use run_defs::ClientCall;
 use std::alloc::{AllocError, Global};
 
-/// Opens a port with so many tokens for sends and for receives. Where memory is wanting, it may be open.
+/// Opens a port with so many tokens for sends and for receives.
 #[tactic(auto, using(crate::proofs::Calls::port_given))]
 pub fn open(
     alloc: Global,
@@ -25,6 +26,7 @@ pub fn open(
     requires there { IsHost (fabric_of w.old) at.host }
     requires port { at.port ≤ 7 }
     ensures done { IfOk result (λ p. IsDone (Begin at.host at.port sends recvs) w.old w.new p) }
+    ensures err { OnErr result (IsAllOrNothing (Begin at.host at.port sends recvs) w.old w.new) }
     ensures fabric { fabric_of w.new ≡ fabric_of w.old }
 {
     w.moment();
@@ -37,12 +39,13 @@ pub fn open(
     call(alloc, w, ClientCall::Begin, at, event)
 }
 
-/// Closes a port. Where memory is wanting, it may be closed.
+/// Closes a port.
 #[tactic(auto, using(crate::proofs::Calls::port_given))]
 pub fn close(alloc: Global, w: &mut World, at: PortAt) -> Result<Printed, AllocError>
     requires there { IsHost (fabric_of w.old) at.host }
     requires port { at.port ≤ 7 }
     ensures done { IfOk result (λ p. IsDone (Close at.host at.port) w.old w.new p) }
+    ensures err { OnErr result (IsAllOrNothing (Close at.host at.port) w.old w.new) }
     ensures fabric { fabric_of w.new ≡ fabric_of w.old }
 {
     w.moment();
@@ -53,12 +56,13 @@ pub fn close(alloc: Global, w: &mut World, at: PortAt) -> Result<Printed, AllocE
     call(alloc, w, ClientCall::Close, at, event)
 }
 
-/// Takes the next event of a port. Where memory is wanting, it may be taken.
+/// Takes the next event of a port.
 #[tactic(auto, using(crate::proofs::Calls::port_given))]
 pub fn poll(alloc: Global, w: &mut World, at: PortAt) -> Result<Printed, AllocError>
     requires there { IsHost (fabric_of w.old) at.host }
     requires port { at.port ≤ 7 }
     ensures done { IfOk result (λ p. IsDone (Poll at.host at.port) w.old w.new p) }
+    ensures err { OnErr result (IsAllOrNothing (Poll at.host at.port) w.old w.new) }
     ensures fabric { fabric_of w.new ≡ fabric_of w.old }
 {
     w.moment();
@@ -69,7 +73,7 @@ pub fn poll(alloc: Global, w: &mut World, at: PortAt) -> Result<Printed, AllocEr
     call(alloc, w, ClientCall::Poll, at, event)
 }
 
-/// Provides a buffer for messages of a size and a priority. Where memory is wanting, it may be provided.
+/// Provides a buffer for messages of a size and a priority.
 #[tactic(auto, using(crate::proofs::Calls::port_given))]
 pub fn provide(
     alloc: Global,
@@ -81,6 +85,7 @@ pub fn provide(
     requires there { IsHost (fabric_of w.old) at.host }
     requires port { at.port ≤ 7 }
     ensures done { IfOk result (λ p. IsDone (Provide at.host at.port size prio) w.old w.new p) }
+    ensures err { OnErr result (IsAllOrNothing (Provide at.host at.port size prio) w.old w.new) }
     ensures fabric { fabric_of w.new ≡ fabric_of w.old }
 {
     w.moment();
@@ -93,7 +98,7 @@ pub fn provide(
     call(alloc, w, ClientCall::Provide, at, event)
 }
 
-/// Sends a message from a port. Where memory is wanting, it may be accepted.
+/// Sends a message from a port.
 #[tactic(auto, using(crate::proofs::Calls::message_given))]
 pub fn send(alloc: Global, w: &mut World, at: PortAt, m: SendRequest) -> Result<Printed, AllocError>
     requires there { IsHost (fabric_of w.old) at.host }
@@ -102,6 +107,7 @@ pub fn send(alloc: Global, w: &mut World, at: PortAt, m: SendRequest) -> Result<
     requires dport { m.to.port ≤ 7 }
     requires prio { m.prio ≤ 1 }
     ensures done { IfOk result (λ p. IsDone (sending at m) w.old w.new p) }
+    ensures err { OnErr result (IsAllOrNothing (sending at m) w.old w.new) }
     ensures fabric { fabric_of w.new ≡ fabric_of w.old }
 {
     w.moment();

@@ -1,10 +1,10 @@
 //! Every command of one event at most.
 
-ghost use Rattle.std.specs.Prelude.{◌≡◌, IfOk};
+ghost use Rattle.std.specs.Prelude.{◌≡◌, IfOk, OnErr};
 ghost use Rattle.link_defs.specs.Links.{empty_links};
 ghost use Rattle.world_defs.specs.World.{fabric_of};
 ghost use Rattle.fab_script.specs.Ranges.{IsCommandOf};
-ghost use Rattle.world_commands.specs.Done.{IsDone, IsOneEvent};
+ghost use Rattle.world_commands.specs.Done.{IsDone, IsAllOrNothing, IsOneEvent};
 
 use crate::clients::{close, open, poll, provide, send};
 use crate::places::tokens;
@@ -17,8 +17,8 @@ use link_model::Links;
 use run_defs::Command;
 use std::alloc::{AllocError, Global};
 
-/// Does a command of one event at most. Where memory is wanting, the event may have happened.
-#[tactic(auto, using(crate::proofs::Done::done_as))]
+/// Does a command of one event at most. Where memory is wanting, nothing of it was done, or all of it but its line.
+#[tactic(auto, using(crate::proofs::Done::done_as, crate::proofs::Done::all_as, crate::proofs::Done::nothing_done))]
 pub fn do_one(
     alloc: Global,
     w: &mut World,
@@ -29,6 +29,7 @@ pub fn do_one(
     requires command { IsCommandOf (fabric_of w.old) c.now }
     requires links { links.old ≡ empty_links (fabric_of w.old) }
     ensures done { IfOk result (λ p. IsDone c.now w.old w.new p) }
+    ensures err { OnErr result (IsAllOrNothing c.now w.old w.new) }
     ensures links { links.new ≡ links.old }
     ensures fabric { fabric_of w.new ≡ fabric_of w.old }
 {

@@ -57,7 +57,7 @@ fn places_text(
         sends: places_of(alloc, w, at, true, sends)?,
         recvs: places_of(alloc, w, at, false, recvs)?,
     };
-    Printed::line(alloc, &line, w.fabric())
+    Printed::of_line(alloc, line, w.fabric())
 }
 
 // The places of so many tokens of one kind.

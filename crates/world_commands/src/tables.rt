@@ -27,7 +27,7 @@ pub fn print_tables(
     ensures { IfOk result (λ p. p ≡ printed_of (fabric_of w.now)
         (lines (Installed acked of ∷ map (table_line w.now) hosts.now))) }
 {
-    let mut printed = Printed::line(alloc, &Line::Installed { acked, of }, w.fabric())?;
+    let mut printed = Printed::of_line(alloc, Line::Installed { acked, of }, w.fabric())?;
     let mut tables = Vec::new(alloc);
     append_tables(&mut tables, w, hosts)?;
     printed.follow(&tables)?;

@@ -1,12 +1,12 @@
 //! The commands of one line that is no event's: a walk, a plan, and the end.
 
-ghost use Rattle.std.specs.Prelude.{◌≡◌, ◌≤◌, length, All, IfOk};
+ghost use Rattle.std.specs.Prelude.{◌≡◌, ◌≤◌, length, All, IfOk, OnErr};
 ghost use Rattle.net_defs.specs.Turn.{IsTurn};
 ghost use Rattle.link_defs.specs.Links.{empty_links};
 ghost use Rattle.world_defs.specs.World.{fabric_of};
 ghost use Rattle.run_defs.specs.Outcome.{fault_of};
 ghost use Rattle.run_defs.specs.declared.command.Command.TheVariants.{Walk, Plan, Finish};
-ghost use Rattle.world_commands.specs.Done.{IsDone};
+ghost use Rattle.world_commands.specs.Done.{IsDone, IsAllOrNothing};
 
 use fab_report::Printed;
 use fab_world::{Fault, World};
@@ -30,18 +30,19 @@ pub fn walk(
     ensures links { links.new ≡ links.old }
 {
     let end = walk_alone(alloc, links, host, turns)?;
-    Printed::line(alloc, &Line::Walk(end), w.fabric())
+    Printed::of_line(alloc, Line::Walk(end), w.fabric())
 }
 
-/// Plans a fault for the injection so far ahead. Where memory is wanting, the plan may have been made.
+/// Plans a fault for the injection so far ahead. Where memory is wanting, nothing was done, or all but the line.
 #[tactic(auto, using(crate::proofs::Done::planned_so))]
 pub fn plan(alloc: Global, w: &mut World, ahead: u64, kind: PlanKind) -> Result<Printed, AllocError>
     requires { 1 ≤ ahead }
     ensures done { IfOk result (λ p. IsDone (Plan ahead kind) w.old w.new p) }
+    ensures err { OnErr result (IsAllOrNothing (Plan ahead kind) w.old w.new) }
     ensures fabric { fabric_of w.new ≡ fabric_of w.old }
 {
     let number = w.plan(ahead, fault_of(kind))?;
-    Printed::line(alloc, &Line::PlanAt(number), w.fabric())
+    Printed::of_line(alloc, Line::PlanAt(number), w.fabric())
 }
 
 // The fault that a line of a plan means.
@@ -65,5 +66,5 @@ pub fn finish(alloc: Global, w: &World) -> Result<Printed, AllocError>
         injected: w.injected(),
         dropped: w.dropped(),
     };
-    Printed::line(alloc, &line, w.fabric())
+    Printed::of_line(alloc, line, w.fabric())
 }

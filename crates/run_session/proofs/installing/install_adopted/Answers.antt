@@ -10,7 +10,8 @@ use Rattle.fab_report.specs.Printed.{printed_of}
 use Rattle.run_session.specs.Told.{AreInstalledTold}
 use Rattle.world_commands.proofs.Answered.{if-ok}
 use Rattle.run_session.proofs.Installable.{kept-installable, hosts-there}
-use Rattle.run_session.proofs.Installs.{counted-told}
+use Rattle.world_drain.proofs.Later.{on-any}
+use Rattle.run_session.proofs.Installs.{counted-told, installed-part, installed-whole}
 use Rattle.run_session.proofs.installing.install_adopted.Goals as goal
 
 pub install-requires : goal.install-requires
@@ -42,3 +43,15 @@ returns-clause-told c =
     (c.deref.ensures.value ∙ hosts) c.in_ok-installed.ensures.fabric
     (subst (λ (hs : List ℕ). p ≡ printed_of (fabric_of after) (lines (Installed x.acked x.of ∷ map (table_line after) hs))) (sym one) e))
     c.print_tables.ensures
+
+pub returns-in_err-installed-clause-err : goal.returns-in_err-installed-clause-err
+returns-in_err-installed-clause-err c =
+    let hosts : c.l.inside.hosts.items ≡ c.args.l.now.hosts = cc in
+    on-any c.from_residual.result
+    (installed-part c.args.w.now c.install.new.w c.args.l.now c.args.tries c.deref.result.now c.requires.adopted c.in_err-installed.ensures.err (c.deref.ensures.value ∙ hosts))
+
+pub returns-clause-err : goal.returns-clause-err
+returns-clause-err c =
+    let hosts : c.l.inside.hosts.items ≡ c.args.l.now.hosts = cc in
+    on-any c.print_tables.result
+    (installed-whole c.args.w.now c.install.new.w c.args.l.now c.args.tries c.in_ok-installed.installed.acked c.deref.result.now c.requires.adopted c.in_ok-installed.ensures.acked (c.deref.ensures.value ∙ hosts))

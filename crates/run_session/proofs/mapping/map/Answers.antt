@@ -11,6 +11,8 @@ use Rattle.run_session.specs.Kept.{IsKeptMap, IsLastMap}
 use Rattle.run_session.specs.Obeyed.{IsObeyed}
 use Rattle.run_session.specs.Told.{map_of}
 use Rattle.run_session.proofs.Keeping.{kept-made}
+use Rattle.world_drain.proofs.Later.{on-any}
+use Rattle.run_session.proofs.Cutting.{cut_made, cut_begun}
 use Rattle.run_session.proofs.Obeying.{mapped_so}
 use Rattle.run_session.proofs.mapping.map.Goals as goal
 
@@ -46,3 +48,14 @@ keep_map-text-requires-clause-kept c = subst (λ n. IsLastMap n c.args.last_map.
 
 pub returns-in-Ok-clause-kept : goal.returns-in-Ok-clause-kept
 returns-in-Ok-clause-kept c = subst (λ n. IsLastMap n c.keep_map-text.new.last_map) (c.fabric.ensures ∙ c.map_world-world.ensures.fabric) c.keep_map-text.ensures.kept
+
+pub returns-in-Ok-clause-cut : goal.returns-in-Ok-clause-cut
+returns-in-Ok-clause-cut c =
+    let over = rw c.in-Ok.is at c.map_world-world.ensures.mapped in
+    on-any c.keep_map-text.result (cut_made c.args.world c.map_world-world.result.0 c.args.last_map.now c.args.order c.in-Ok.mapping.made c.in-Ok.mapping.packets c.requires.idle over)
+
+pub returns-in-Err-clause-cut : goal.returns-in-Err-clause-cut
+returns-in-Err-clause-cut c =
+    let begun = rw c.in-Err.is at c.map_world-world.ensures.begun in
+    let order = c.requires.order in
+    cut_begun c.args.world c.map_world-world.result.0 c.args.last_map.now c.args.order c.moment.ensures.kept c.requires.idle order.0 order.1.1 begun

@@ -2,7 +2,7 @@ use Rattle.std.proofs.Common.{subst}
 use Rattle.world_defs.specs.World.{fabric_of}
 use Rattle.map_canon.specs.Printing.{AreOfFabric}
 use Rattle.world_asking.specs.Prober.{WorldAsking}
-use Rattle.run_session.proofs.Asks.{made-from, rises-from}
+use Rattle.run_session.proofs.Asks.{made-from, rises-from, begun-from}
 use Rattle.run_session.proofs.mapping.map_world.Goals as goal
 
 pub overflow_sub-packets : goal.overflow_sub-packets
@@ -17,3 +17,7 @@ returns-in-Ok-clause-mapped c =
 
 pub returns-in-Ok-clause-of_fabric : goal.returns-in-Ok-clause-of_fabric
 returns-in-Ok-clause-of_fabric c = subst (λ (p : WorldAsking). AreOfFabric (fabric_of p.world) c.in-Ok.made.map) c.new-p.ensures c.in-Ok.ensures.of_fabric
+
+pub returns-in-Err-clause-begun : goal.returns-in-Err-clause-begun
+returns-in-Err-clause-begun c =
+    begun-from c.args.world c.args.order c.new-p.result c.make_map-made.new.p c.into_world-world.result c.new-p.ensures c.into_world-world.ensures c.in-Err.ensures.stopped

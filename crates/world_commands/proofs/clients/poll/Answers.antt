@@ -4,3 +4,6 @@ use Rattle.world_commands.proofs.clients.poll.Goals as goal
 
 pub returns-clause-done : goal.returns-clause-done
 returns-clause-done c = c.call.ensures.done (Poll c.args.at.host c.args.at.port) (λ s. refl)
+
+pub returns-clause-err : goal.returns-clause-err
+returns-clause-err c = c.call.ensures.err (Poll c.args.at.host c.args.at.port) (λ s. refl)

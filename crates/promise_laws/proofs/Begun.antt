@@ -1,0 +1,156 @@
+-- A map that was begun and stopped is part of the way along the asks of the journal that grows there: its own journal is the beginning of that one.
+use Rattle.std.proofs.Common.{◌≡◌, ◌⊎◌, ◌≤◌, ℕ, inl, inr, List, [], ◌∷◌, ◌++◌, map, length, refl, sym, ◌∙◌, ap, subst, arith, append_assoc, append-nil}
+use Rattle.std.specs.Prelude.{ℤ}
+use Rattle.std.proofs.lemmas.List.{map-append}
+use Rattle.journal_defs.specs.declared.entry.Entry.{Entry}
+use Rattle.journal_defs.specs.Tree.{nodes, reached}
+use Rattle.journal_defs.specs.Growth.{IsGrowing, IsGrown, IsEndedByDepth, IsEndedAtLimit, NextAsk, node_limit}
+use Rattle.journal_defs.specs.Growth.IsGrowing.{nothing, more}
+use Rattle.journal_defs.proofs.Asking.{next_ask_is_unique, no_ask_at_the_end}
+use Rattle.growth_laws.proofs.Asks.{ByLast, by_last, push-parts}
+use Rattle.growth_laws.proofs.Asks.ByLast.{empty, pushed}
+use Rattle.growth_laws.proofs.OneJournal.{reached-more}
+use Rattle.world_defs.specs.declared.event.Event.{Event}
+use Rattle.world_defs.specs.World.{WorldState}
+use Rattle.world_defs.specs.Sound.{IsPrefix}
+use Rattle.world_defs.specs.Asking.{ask}
+use Rattle.event_lists.specs.Events.{ask_events, asks_events}
+use Rattle.event_lists.specs.PartWay.{IsPartWay}
+use Rattle.event_lists.proofs.PartWay.{way-start, way-front, way-behind, way-as}
+use Rattle.run_defs.specs.Mapped.{AskedAll, asked_all}
+use Rattle.promise_laws.specs.CutShort.{IsBegunMap}
+use Rattle.promise_laws.specs.CutShort.IsBegunMap.{stopped_between, stopped_within}
+use Rattle.promise_laws.proofs.Events.{asks-done}
+
+-- the walks of a journal
+abbrev walks_of : List Entry → List (List ℤ)
+walks_of j = map (λ (e : Entry). e.walk) j
+
+-- a journal keeps the limit of nodes, or passes it with its last entry
+abbrev IsKept : List Entry → Type 0
+IsKept j = (length (nodes j) ≤ node_limit) ⊎ IsEndedAtLimit j
+
+-- then it keeps the limit before each of its entries
+kept-before : (before : List Entry) (e : Entry) (rest : List Entry) → IsKept (before ++ e ∷ rest) → length (nodes before) ≤ node_limit
+kept-before before e rest (inl few) = let longer = reached-more before (e ∷ rest) in omega (arith, few, longer)
+kept-before before e rest (inr q) = by (by_last (e ∷ rest))
+  where
+    by : ByLast (e ∷ rest) → length (nodes before) ≤ node_limit
+    by (empty none) = cc
+    by (pushed r x s) =
+        let split : q.before ++ q.last ∷ [] ≡ (before ++ r) ++ x ∷ [] = sym q.whole ∙ ap (λ l. before ++ l) s ∙ sym (append_assoc before r (x ∷ [])) in
+        let same : length (reached q.before) ≡ length (reached (before ++ r)) = ap (λ l. length (reached l)) (push-parts q.before (before ++ r) q.last x split).0 in
+        let kept = q.kept in
+        let longer = reached-more before r in
+        omega (arith, same, kept, longer)
+
+-- each entry of a growing journal was the next ask behind those before it
+ask-at : (host depth : ℕ) (l j : List Entry) (e : Entry) (rest : List Entry) → IsGrowing host depth l → l ≡ j ++ e ∷ rest → NextAsk host depth j e.walk
+ask-at host depth l j e rest (nothing) is = absurd (none j (sym is))
+  where
+    none : (i : List Entry) → i ++ e ∷ rest ≡ [] → ⊥
+    none [] p = cc
+    none (x ∷ i) p = cc
+ask-at host depth l j e rest (more before f g next whole) is = by (by_last rest) (λ r. ask-at host depth before j e r g)
+  where
+    by : ByLast rest → ((r : List Entry) → before ≡ j ++ e ∷ r → NextAsk host depth j e.walk) → NextAsk host depth j e.walk
+    by (empty p) again =
+        let parts = push-parts before j f e (sym whole ∙ is ∙ ap (λ r. j ++ e ∷ r) p) in
+        subst (λ (x : Entry). NextAsk host depth j x.walk) parts.1 (subst (λ i. NextAsk host depth i f.walk) parts.0 next)
+    by (pushed r x p) again =
+        let split : before ++ f ∷ [] ≡ (j ++ e ∷ r) ++ x ∷ [] = sym whole ∙ is ∙ ap (λ q. j ++ e ∷ q) p ∙ sym (append_assoc j (e ∷ r) (x ∷ [])) in
+        again r (push-parts before (j ++ e ∷ r) f x split).0
+
+-- the first entry of these is of a walk
+data StartsWith (x : List ℤ) (rest : List Entry) : Type 0 where
+  starts : (e : Entry) (tail : List Entry) → rest ≡ e ∷ tail → e.walk ≡ x → StartsWith x rest
+
+-- a journal that has grown goes on with the next ask from each beginning that keeps the limit of nodes
+grown-next : (host depth : ℕ) (i rest : List Entry) (x : List ℤ) → IsGrown host depth (i ++ rest) → length (nodes i) ≤ node_limit → NextAsk host depth i x → StartsWith x rest
+grown-next host depth i [] x g kept ask = absurd (by (subst (λ j. IsEndedByDepth host depth j ⊎ IsEndedAtLimit j) (append-nil i) g.ended))
+  where
+    by : IsEndedByDepth host depth i ⊎ IsEndedAtLimit i → ⊥
+    by (inl p) = no_ask_at_the_end host depth i x ask p
+    by (inr q) = let passed = q.passed in omega (arith, kept, passed)
+grown-next host depth i (e ∷ tail) x g kept ask =
+    starts e tail refl (next_ask_is_unique host depth i e.walk x (ask-at host depth (i ++ e ∷ tail) i e tail g.growing refl) ask)
+
+same-entry : (d e : Entry) (xs ys : List Entry) → d ∷ xs ≡ e ∷ ys → d ≡ e
+same-entry d e xs ys same = cc
+
+same-rest : (d e : Entry) (xs ys : List Entry) → d ∷ xs ≡ e ∷ ys → xs ≡ ys
+same-rest d e xs ys same = cc
+
+-- the entry that an ask in a world makes
+abbrev entry_of : ℕ → ℕ → WorldState → List ℤ → Entry
+entry_of host tries u x = record { walk = x; answer = (ask host tries x u).answer }
+
+-- asks in a row from a world answer their own journal
+abbrev Answers : ℕ → ℕ → WorldState → List Entry → Type 0
+Answers host tries u j = (asked_all host tries (walks_of j) u).entries ≡ j
+
+answers-first : (host tries : ℕ) (u : WorldState) (e : Entry) (j : List Entry) → Answers host tries u (e ∷ j) → entry_of host tries u e.walk ≡ e
+answers-first host tries u e j is = same-entry (entry_of host tries u e.walk) e (asked_all host tries (walks_of j) (ask host tries e.walk u).world).entries j is
+
+answers-rest : (host tries : ℕ) (u : WorldState) (e : Entry) (j : List Entry) → Answers host tries u (e ∷ j) → Answers host tries (ask host tries e.walk u).world j
+answers-rest host tries u e j is = same-rest (entry_of host tries u e.walk) e (asked_all host tries (walks_of j) (ask host tries e.walk u).world).entries j is
+
+-- of asks in a row from a world, which grow behind a journal, those that have grown begin with the others
+asked-front : (host depth tries : ℕ) (before i j : List Entry) (u : WorldState) → Answers host tries u i → Answers host tries u j → IsGrowing host depth (before ++ i) → IsKept (before ++ i) → IsGrown host depth (before ++ j) → IsPrefix i j
+asked-front host depth tries before [] j u a b g k h = record { rest = j; both = refl }
+asked-front host depth tries before (e ∷ i) j u a b g k h =
+    of (grown-next host depth before j e.walk h (kept-before before e i k) (ask-at host depth (before ++ e ∷ i) before e i g refl))
+    (λ tail b2 h2. asked-front host depth tries (before ++ e ∷ []) i tail v (answers-rest host tries u e i a) b2 (subst (IsGrowing host depth) one g) (subst IsKept one k) h2)
+  where
+    v : WorldState
+    v = (ask host tries e.walk u).world
+
+    one : before ++ e ∷ i ≡ (before ++ e ∷ []) ++ i
+    one = sym (append_assoc before (e ∷ []) i)
+
+    of : StartsWith e.walk j → ((tail : List Entry) → Answers host tries v tail → IsGrown host depth ((before ++ e ∷ []) ++ tail) → IsPrefix i tail) → IsPrefix (e ∷ i) j
+    of (starts f tail is walk) again =
+        let b1 : Answers host tries u (f ∷ tail) = subst (Answers host tries u) is b in
+        let same : f ≡ e = sym (answers-first host tries u f tail b1) ∙ ap (entry_of host tries u) walk ∙ answers-first host tries u e i a in
+        let there : j ≡ e ∷ tail = is ∙ ap (λ x. x ∷ tail) same in
+        let h2 : IsGrown host depth ((before ++ e ∷ []) ++ tail) = subst (IsGrown host depth) (ap (λ l. before ++ l) there ∙ sym (append_assoc before (e ∷ []) tail)) h in
+        let p = again tail (subst (λ x. Answers host tries (ask host tries x u).world tail) walk (answers-rest host tries u f tail b1)) h2 in
+        record { rest = p.rest; both = there ∙ ap (λ l. e ∷ l) p.both }
+
+-- the events of asks in a row, and of those behind them
+asks-append : (host tries : ℕ) (xs ys : List (List ℤ)) (w : WorldState) → asks_events host tries (xs ++ ys) w ≡ asks_events host tries xs w ++ asks_events host tries ys (asked_all host tries xs w).world
+asks-append host tries [] ys w = refl
+asks-append host tries (x ∷ xs) ys w =
+    let v : WorldState = (ask host tries x w).world in
+    ap (λ l. ask_events host tries x w ++ l) (asks-append host tries xs ys v) ∙ sym (append_assoc (ask_events host tries x w) (asks_events host tries xs v) (asks_events host tries ys (asked_all host tries xs v).world))
+
+-- part of the way along asks behind others
+way-asks : (host tries : ℕ) (w u v : WorldState) (i rest : List Entry) → u ≡ (asked_all host tries (walks_of i) w).world → IsPartWay u (asks_events host tries (walks_of rest) u) v
+    → IsPartWay w (asks_events host tries (walks_of (i ++ rest)) w) v
+way-asks host tries w u v i rest is p =
+    let first : List Event = asks_events host tries (walks_of i) w in
+    let mid : WorldState = (asked_all host tries (walks_of i) w).world in
+    let behind : List Event = asks_events host tries (walks_of rest) mid in
+    way-as w v (asks_events host tries (walks_of (i ++ rest)) w) (first ++ behind)
+    (ap (λ l. asks_events host tries l w) (map-append (λ (e : Entry). e.walk) i rest) ∙ asks-append host tries (walks_of i) (walks_of rest) w)
+    (way-behind w mid v first behind (asks-done host tries (walks_of i) w).there (subst (λ x. IsPartWay x (asks_events host tries (walks_of rest) x) v) is p))
+
+-- within the next ask behind them
+way-within : (host tries : ℕ) (w u v : WorldState) (i rest : List Entry) (x : List ℤ) → u ≡ (asked_all host tries (walks_of i) w).world → IsPartWay u (ask_events host tries x u) v → StartsWith x rest
+    → IsPartWay w (asks_events host tries (walks_of (i ++ rest)) w) v
+way-within host tries w u v i rest x is way (starts e tail same walk) =
+    let first : IsPartWay u (ask_events host tries e.walk u) v = subst (λ y. IsPartWay u (ask_events host tries y u) v) (sym walk) way in
+    let here : IsPartWay u (asks_events host tries (walks_of (e ∷ tail)) u) v =
+    way-front u v (ask_events host tries e.walk u) (asks_events host tries (walks_of tail) (ask host tries e.walk u).world) first in
+    way-asks host tries w u v i rest is (subst (λ r. IsPartWay u (asks_events host tries (walks_of r) u) v) (sym same) here)
+
+pub begun-way : (host depth tries : ℕ) (w v last : WorldState) (j : List Entry) (d : ℕ) → IsGrown host depth j → asked_all host tries (walks_of j) w ≡ record { entries = j; drowned = d; world = last }
+    → IsBegunMap host depth tries w v → IsPartWay w (asks_events host tries (walks_of j) w) v
+begun-way host depth tries w v last j d grown asked (stopped_between i drowned g kept is) =
+    let p : IsPrefix i j = asked-front host depth tries [] i j w (ap (λ (a : AskedAll). a.entries) is) (ap (λ (a : AskedAll). a.entries) asked) g kept grown in
+    subst (λ l. IsPartWay w (asks_events host tries (walks_of l) w) v) (sym p.both)
+    (way-asks host tries w v v i p.rest (sym (ap (λ (a : AskedAll). a.world) is)) (way-start v (asks_events host tries (walks_of p.rest) v)))
+begun-way host depth tries w v last j d grown asked (stopped_within i drowned x u g kept is ask way) =
+    let p : IsPrefix i j = asked-front host depth tries [] i j w (ap (λ (a : AskedAll). a.entries) is) (ap (λ (a : AskedAll). a.entries) asked) g (inl kept) grown in
+    subst (λ l. IsPartWay w (asks_events host tries (walks_of l) w) v) (sym p.both)
+    (way-within host tries w u v i p.rest x (sym (ap (λ (a : AskedAll). a.world) is)) way (grown-next host depth i p.rest x (subst (IsGrown host depth) p.both grown) kept ask))

@@ -1,0 +1,59 @@
+-- A command that is cut short, for want of memory: a prefix of the acts that it stands for leads to the world.
+use Rattle.std.specs.Prelude.{◌≡◌, ◌⊎◌, ℕ, ◌≤◌, ℤ, List, map, length}
+use Rattle.std.specs.List.{AllByRecursion}
+use Rattle.net_defs.specs.Network.{Network, IsFabric}
+use Rattle.journal_defs.specs.declared.entry.Entry.{Entry}
+use Rattle.journal_defs.specs.Tree.{nodes}
+use Rattle.journal_defs.specs.Growth.{IsGrowing, IsEndedAtLimit, NextAsk, node_limit}
+use Rattle.world_defs.specs.World.{WorldState}
+use Rattle.world_defs.specs.Sound.{IsPrefix, IsSound}
+use Rattle.act_defs.specs.Acts.{Act, acted_all}
+use Rattle.event_lists.specs.Events.{ask_events}
+use Rattle.event_lists.specs.PartWay.{IsPartWay}
+use Rattle.run_defs.specs.declared.command.Command.{Command}
+use Rattle.run_defs.specs.declared.command.Command.TheVariants.{Map}
+use Rattle.run_defs.specs.Mapped.{asked_all}
+use Rattle.run_defs.specs.Output.{Piece}
+use Rattle.run_defs.specs.Session.{SessionState}
+use Rattle.run_defs.specs.Run.{IsRun}
+use Rattle.mapping_laws.specs.Laws.{CanMap}
+use Rattle.run_laws.specs.Acts.{IsActOf}
+use Rattle.promise_laws.specs.CommandActs.{StandsFor}
+
+-- A prefix of these acts leads from one world to the other.
+pub record IsPartActed (w : WorldState) (acts : List Act) (v : WorldState) : Type 0 where
+  pub done : List Act
+  pub front : IsPrefix done acts
+  pub there : v ≡ acted_all w done
+
+-- A command was cut short in a session: a prefix of the acts that it stands for there leads to this world.
+pub record IsCutShort (s : SessionState) (c : Command) (v : WorldState) : Type 0 where
+  pub acts : List Act
+  pub are : StandsFor s c acts
+  pub way : IsPartActed s.world acts v
+
+-- A map from a host, to a depth, with so many tries an ask, was begun over a world and stopped in another: between two
+-- asks of a journal that grows to its depth, or within the next one.
+pub data IsBegunMap (host depth tries : ℕ) (w v : WorldState) : Type 0 where
+  stopped_between : (j : List Entry) (drowned : ℕ) → IsGrowing host depth j
+      → (length (nodes j) ≤ node_limit) ⊎ IsEndedAtLimit j
+      → asked_all host tries (map (λ e. e.walk) j) w ≡ record { entries = j; drowned = drowned; world = v }
+      → IsBegunMap host depth tries w v
+  stopped_within : (j : List Entry) (drowned : ℕ) (x : List ℤ) (between : WorldState) → IsGrowing host depth j
+      → length (nodes j) ≤ node_limit
+      → asked_all host tries (map (λ e. e.walk) j) w ≡ record { entries = j; drowned = drowned; world = between }
+      → NextAsk host depth j x → IsPartWay between (ask_events host tries x between) v
+      → IsBegunMap host depth tries w v
+
+-- Where a map can be made, one that was begun and stopped is the command cut short: its asks are the first ones of the
+-- one map that there is.
+abbrev pub BegunMapsAreCutShort : Type 0
+BegunMapsAreCutShort = (s : SessionState) (host depth tries : ℕ) (v : WorldState) → CanMap host depth s.world
+    → IsBegunMap host depth tries s.world v → IsCutShort s (Map host depth tries) v
+
+-- Behind every run, a command that is cut short leaves a sound world.
+abbrev pub CutCommandsLeaveSound : Type 0
+CutCommandsLeaveSound =
+    (n : Network) (commands : List Command) (out : List Piece) (s : SessionState) (c : Command) (v : WorldState)
+    → IsFabric n → AllByRecursion (IsActOf n) commands → IsActOf n c → IsRun n commands out s → IsCutShort s c v
+    → IsSound v

@@ -1,0 +1,13 @@
+use Rattle.std.proofs.Common.{◌∙◌}
+use Rattle.event_lists.specs.Events.{settle_events}
+use Rattle.event_lists.proofs.Events.{settle-done}
+use Rattle.promise_laws.proofs.CutShort.{way-whole}
+use Rattle.world_drain.proofs.Later.{on-any}
+use Rattle.run_session.proofs.settling.settle_text.Goals as goal
+
+pub returns-in_err-settled-clause-err : goal.returns-in_err-settled-clause-err
+returns-in_err-settled-clause-err c = on-any c.from_residual.result c.in_err-settled.ensures.err
+
+pub returns-clause-err : goal.returns-clause-err
+returns-clause-err c =
+    on-any c.of_line.result (way-whole c.args.w.now c.settle.new.w (settle_events c.args.w.now) (c.in_ok-settled.ensures.after ∙ (settle-done c.args.w.now).there))
