@@ -1,14 +1,12 @@
 //! The packets in the channels.
 
 ghost use Rattle.std.specs.Prelude.{◌≡◌, ◌<◌, ◌≤◌, length, replicate, not, ◌&&◌, if◌then◌else◌, slice_index_or};
-ghost use Rattle.std.specs.Prelude.{slice_set, Option, Some, None, IsSome, is_some, is_none, option_map, option_copied};
+ghost use Rattle.std.specs.Prelude.{slice_set, Option, Some, None, is_some, is_none, option_map, option_copied};
 ghost use Rattle.std.specs.Prelude.{IfOk, IfSome, IfErr, OnOk, true, false};
 ghost use Rattle.std.specs.List.{list_all};
-ghost use Rattle.packet_defs.specs.Packet.{front_turn, stripped};
 ghost use Rattle.packet_defs.specs.Burst.{flipped, may_flip};
 ghost use Rattle.link_defs.specs.Links.{Held};
 ghost use Rattle.channel_slots.specs.Full.{full_from};
-ghost use Rattle.channel_slots.specs.Passing.{HasTurn, stripped_slot, passed_on};
 
 use myri_packet::Packet;
 use number_marks::{bare, mark, next_marked, unmark};
@@ -55,6 +53,21 @@ impl Slot {
         packet
     }
 
+    /// The packet, and whether a flip has met it.
+    pub fn into_parts(self) -> (Packet, bool)
+        ensures { result ≡ (self.wire, self.marked) }
+    {
+        let Slot { packet, marked } = self;
+        (packet, marked)
+    }
+
+    /// A packet, and whether a flip has met it.
+    pub fn from_parts(packet: Packet, marked: bool) -> Slot
+        ensures { result ≡ record { wire = packet; marked = marked } }
+    {
+        Slot { packet, marked }
+    }
+
     /// Another packet with the same bytes and mark.
     pub fn copy(&self, alloc: Global) -> Result<Slot, AllocError>
         ensures { IfOk result (λ s. s ≡ self.now) }
@@ -63,14 +76,6 @@ impl Slot {
             packet: self.packet.copy(alloc)?,
             marked: self.marked,
         })
-    }
-
-    /// The packet without the route byte in front.
-    pub fn strip(&mut self)
-        requires { IsSome (front_turn self.old.wire) }
-        ensures { self.new ≡ record self.old { wire = stripped self.old.wire } }
-    {
-        self.packet.strip_turn();
     }
 
     /// The packet after a flip, and whether the flip met it: a marked packet is flipped no more.
@@ -187,32 +192,6 @@ impl Slots {
         let _ = replace_at(&mut self.slots, c, Some(slot));
         self.full += 1;
         mark(&mut self.marks, c);
-    }
-
-    /// Moves the packet of a channel on into an empty one, or into the channel itself, without the route byte in
-    /// front. The packet's place alone is written: nothing else of it moves.
-    pub fn pass_on(&mut self, c: usize, next: usize)
-        requires there { c < length self.old }
-        requires next { next < length self.old }
-        requires turn { HasTurn (slice_index_or self.old c None) }
-        requires empty { slice_index_or (slice_set self.old c None) next None ≡ None }
-        ensures { self.new ≡ passed_on self.old c next }
-    {
-        self.slots.swap(c, next);
-        strip_at(&mut self.slots, next);
-        unmark(&mut self.marks, c);
-        mark(&mut self.marks, next);
-    }
-}
-
-// Strips the packet at a place.
-fn strip_at(slots: &mut Vec<Option<Slot>>, c: usize)
-    requires there { c < length slots.old.items }
-    requires turn { HasTurn (slice_index_or slots.old.items c None) }
-    ensures { slots.new.items ≡ slice_set slots.old.items c (stripped_slot (slice_index_or slots.old.items c None)) }
-{
-    if let Some(slot) = &mut slots[c] {
-        slot.strip();
     }
 }
 

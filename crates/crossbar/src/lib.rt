@@ -9,8 +9,8 @@
 //! ```
 #![tactic(auto)]
 
-ghost use Rattle.std.specs.Prelude.{◌≡◌, ◌<◌, ◌≤◌};
-ghost use Rattle.packet_defs.specs.Packet.{difference};
+ghost use Rattle.std.specs.Prelude.{◌≡◌, ◌<◌, ◌≤◌, ℕ, Some, IsSome};
+ghost use Rattle.packet_defs.specs.Packet.{difference, front_turn};
 ghost use Rattle.link_defs.specs.Switch.{aim, aim_of, after_aim};
 
 pub use link_defs::Turned;
@@ -45,11 +45,28 @@ pub fn turn<const P: usize>(entry: u8, p: &mut Packet) -> Turned
     ensures packet { p.new ≡ after_aim result p.old }
     ensures difference { difference p.new ≡ difference p.old }
 {
-    let turned = aim::<P>(entry, p);
-    if let Turned::Out(_) = turned {
-        p.strip();
-    }
+    turn_by(P as u8, entry, p)
+}
+
+/// The same of a switch whose ports are counted where the program runs.
+pub fn turn_by(ports: u8, entry: u8, p: &mut Packet) -> Turned
+    ensures aim { result ≡ aim ports entry p.old }
+    ensures packet { p.new ≡ after_aim result p.old }
+    ensures difference { difference p.new ≡ difference p.old }
+{
+    let turned = aim_by(ports, entry, p);
+    strip_out(turned, p);
     turned
+}
+
+// Strips a packet where it goes out.
+fn strip_out(turned: Turned, p: &mut Packet)
+    requires { (port : ℕ) → turned ≡ Turned.Out port → IsSome (front_turn p.old) }
+    ensures { p.new ≡ after_aim turned p.old }
+{
+    if let Turned::Out(_) = turned {
+        p.strip_turn();
+    }
 }
 
 // Where a turn leads.

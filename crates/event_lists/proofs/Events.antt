@@ -224,10 +224,10 @@ part_try-done mapper dst part w = by (has_staged_answer sent.world dst sent.effe
         done-first (Part dst part) (sends_events staged mapper ++ []) w sent.world tt
         (done-both (sends_events staged mapper) [] staged sent.world sent.world (sends-done staged mapper) (done-same sent.world))
 
-pub part_tries-done : (mapper dst tries part : ℕ) (w : WorldState) → IsDoneBy (tries_events (λ b. b) (part_try mapper dst part) (part_try_events mapper dst part) tries w) w (part_tries mapper dst tries part w).world
+part_tries-done : (mapper dst tries part : ℕ) (w : WorldState) → IsDoneBy (tries_events (λ b. b) (part_try mapper dst part) (part_try_events mapper dst part) tries w) w (part_tries mapper dst tries part w).world
 part_tries-done mapper dst tries part w = tries-done (λ b. b) false (part_try mapper dst part) (part_try_events mapper dst part) (part_try-done mapper dst part) tries w
 
-pub parts-done : (mapper dst tries : ℕ) (ps : List ℕ) (w : WorldState) → IsDoneBy (parts_events mapper dst tries ps w) w (parts_installed mapper dst tries ps w).1
+parts-done : (mapper dst tries : ℕ) (ps : List ℕ) (w : WorldState) → IsDoneBy (parts_events mapper dst tries ps w) w (parts_installed mapper dst tries ps w).1
 parts-done mapper dst tries [] w = done-same w
 parts-done mapper dst tries (p ∷ ps) w = by t.found (parts-done mapper dst tries ps t.world)
   where

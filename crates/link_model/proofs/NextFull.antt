@@ -1,12 +1,8 @@
 -- The next full channel is the least.
-use Rattle.std.proofs.Common.{◌≡◌, ◌≢◌, ◌<◌, ◌≤◌, ◌+◌, ◌-◌, ℕ, zero, suc, Bool, true, false, nat_eq, true≢false, List, length, replicate, get_or, set, Option, Some, None, is_some, refl, sym, ap, ◌∙◌, subst, arith, if◌then◌else◌}
-use Rattle.std.specs.List.{find, range_with_len}
-use Rattle.std.specs.Option.{IfSome, IfNone}
-use Rattle.std.proofs.lemmas.Bool.Decides.{Decides-eqb}
+use Rattle.std.proofs.Common.{◌≡◌, ◌<◌, ◌≤◌, ◌+◌, ◌-◌, ℕ, true, false, length, Some, None, is_some, arith}
 use native.Mathlib.Decide.{dec_lt}
-use Rattle.std.proofs.lemmas.List.{get_or-set_same, get_or-set_other}
-use Rattle.std.proofs.Math.ListN.{length-set, get_or-eq_default}
-use Rattle.link_defs.specs.Links.{Held, LinkState, packet_in}
+use Rattle.std.proofs.Math.ListN.{get_or-eq_default}
+use Rattle.link_defs.specs.Links.{LinkState, packet_in}
 use Rattle.channel_slots.proofs.Fullness.{find-found, find-missed, none-there}
 use Rattle.link_model.specs.Full.{next_full, IsNextFull}
 

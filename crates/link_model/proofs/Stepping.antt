@@ -8,14 +8,17 @@ use Rattle.net_defs.specs.declared.vertex.Vertex.TheVariants.{Host, Switch}
 use Rattle.net_defs.specs.declared.vertex.End.{End}
 use Rattle.net_defs.specs.Network.{Network, ports_of}
 use Rattle.net_defs.specs.Route.{channel_from}
+use Rattle.packet_defs.specs.Packet.{stripped}
 use Rattle.packet_defs.specs.Burst.{flipped, may_flip}
 use Rattle.link_defs.specs.declared.turned.Turned.{Turned}
 use Rattle.link_defs.specs.declared.turned.Turned.TheVariants.{Out, OutOfRange, NotRoute}
+use Rattle.link_defs.specs.declared.moved.Course.{Course}
 use Rattle.link_defs.specs.declared.moved.Course.TheVariants.{Enters}
+use Rattle.link_defs.specs.declared.moved.Moved.TheVariants.{To}
 use Rattle.link_defs.specs.Channel.{channel_count, channel_head}
-use Rattle.link_defs.specs.Switch.{aim}
-use Rattle.link_defs.specs.Links.{Held, LinkState, packet_in, with_packet}
-use Rattle.link_defs.specs.Advance.{course_by_channel, course_out, course_into, course}
+use Rattle.link_defs.specs.Switch.{aim, after_aim}
+use Rattle.link_defs.specs.Links.{Held, LinkState, packet_in, with_packet, emptied}
+use Rattle.link_defs.specs.Advance.{course_by_channel, course_out, course_at, course_into, course, entered, gone_on, advance_of, advance}
 use Rattle.link_defs.specs.Fault.{flip, flip_of}
 use Rattle.link_defs.proofs.Ends.{channel_from-ends}
 use Rattle.channel_slots.proofs.Counting.{set-there}
@@ -47,6 +50,29 @@ entering s c next is = by (packet_in s c) is
     by : (o : Option Held) → option_map (λ held. course s.net c held.wire) o ≡ Some (Enters next) → next < channel_count s.net
     by None e = cc
     by (Some held) e = let to : course s.net c held.wire ≡ Enters next = cc in course-below s.net c held.wire next to
+
+-- a packet that a switch sends on is stripped there
+stripped-out : (n : Network) (s next : ℕ) (t : Turned) (wire : List ℕ) → course_out n s t ≡ Enters next → after_aim t wire ≡ stripped wire
+stripped-out n s next (Out port) wire to = refl
+stripped-out n s next OutOfRange wire to = cc
+stripped-out n s next NotRoute wire to = cc
+
+stripped-at : (n : Network) (wire : List ℕ) (next : ℕ) (v : Vertex) (p : ℕ) → course_at n v p wire ≡ Enters next → after_aim (aim (ports_of n v) p wire) wire ≡ stripped wire
+stripped-at n wire next (Host h) p to = cc
+stripped-at n wire next (Switch s) p to = stripped-out n s next (aim (ports_of n (Switch s)) p wire) wire to
+
+pub stripped-behind : (n : Network) (c next ports : ℕ) (e : End) (wire : List ℕ) → channel_head n c ≡ Some e → ports ≡ ports_of n e.v → course n c wire ≡ Enters next → after_aim (aim ports e.p wire) wire ≡ stripped wire
+stripped-behind n c next ports e wire head count to =
+    ap (λ k. after_aim (aim k e.p wire) wire) count ∙ stripped-at n wire next e.v e.p (sym (ap (λ o. course_into n o wire) head) ∙ to)
+
+-- a channel holds a packet that goes there
+pub same-course : (n : Network) (c : ℕ) (o : Option Held) (held : Held) (to : Course) → o ≡ Some held → option_map (λ h. course n c h.wire) o ≡ Some to → course n c held.wire ≡ to
+same-course n c o held to is e = let all : Some (course n c held.wire) ≡ Some to = sym (ap (option_map (λ (h : Held). course n c h.wire)) is) ∙ e in cc
+
+-- and enters the next one, which is empty once it is taken out
+pub enters-now : (s : LinkState) (c next : ℕ) (held : Held) → packet_in s c ≡ Some held → course s.net c held.wire ≡ Enters next → packet_in (emptied s c) next ≡ None
+    → advance s c ≡ (To next, with_packet (emptied s c) next (Some (record held { wire = stripped held.wire })))
+enters-now s c next held is to free = ap (advance_of s c) is ∙ ap (gone_on s c held) to ∙ ap (entered s c held next) free
 
 -- a flip by whether it meets the packet
 abbrev flip_by : LinkState → ℕ → List ℕ → Bool → Bool × LinkState

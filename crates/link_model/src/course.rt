@@ -2,10 +2,13 @@
 
 ghost use Rattle.std.specs.Prelude.{◌≡◌, ◌<◌, ℕ, true};
 ghost use Rattle.net_defs.specs.Network.{has_port};
+ghost use Rattle.packet_defs.specs.Packet.{stripped};
 ghost use Rattle.link_defs.specs.Channel.{channel_count};
 ghost use Rattle.link_defs.specs.Advance.{course, course_out};
+ghost use Rattle.link_model.specs.Hop.{IsSentOn};
 
-use crossbar::aim_by;
+use channel_slots::Slot;
+use crossbar::{aim_by, turn_by};
 use fabric_wiring::Wiring;
 use link_defs::{Course, Turned, Why};
 use myri_packet::Packet;
@@ -36,4 +39,16 @@ fn course_out(wiring: &Wiring, s: u16, turned: Turned) -> Course
         Turned::OutOfRange => Course::Drops(Why::OutOfRange),
         Turned::NotRoute => Course::Drops(Why::NotRoute),
     }
+}
+
+/// The packet of a channel behind the switch ahead, which turns it: it is known to go on into a channel.
+pub(crate) fn turned(wiring: &Wiring, c: u16, slot: Slot) -> Slot
+    requires there { c < channel_count wiring.now }
+    requires goes { IsSentOn wiring.now c slot.wire }
+    ensures { result ≡ record slot { wire = stripped slot.wire } }
+{
+    let entry = wiring.entry(c);
+    let (mut packet, marked) = slot.into_parts();
+    turn_by(entry.ports, entry.end.p, &mut packet);
+    Slot::from_parts(packet, marked)
 }

@@ -6,7 +6,7 @@ use Rattle.std.proofs.Math.ListN.{set, length-set}
 use Rattle.std.proofs.lemmas.Bool.{and_parts}
 use Rattle.std.proofs.lemmas.Bool.Decides.{nat_tests}
 use Rattle.route_install.specs.declared.installer.Work.{Work}
-use Rattle.route_install.specs.Installing.{Installation, IsAt, IsInstaller, CanBegin, new_work, new_installation, parts_for, is_done, first_open, awaited, is_awaited, one_acked, one_silent, changed, after_ack, after_silence}
+use Rattle.route_install.specs.Installing.{Installation, IsAt, IsInstaller, CanBegin, AreOpen, new_work, new_installation, parts_for, is_done, first_open, awaited, is_awaited, one_acked, one_silent, changed, after_ack, after_silence}
 
 -- the first that isn't done stands at the place
 pub first-at : (done : Work → Bool) (k : ℕ) (ws : List Work) → IsAt done k ws → find (λ w. not (done w)) ws ≡ slice_get ws k
@@ -77,34 +77,34 @@ open-within done k ws at some = within k ws (sym (ap is_some (first-at done k ws
     within (suc k) (w ∷ ws) e = let rest = within k ws e in omega arith
 
 -- an open work has parts and tries left
-pub open-room : (i : Installation) (o : Option Work) → o ≡ first_open i → i.parts ≤ 16 → i.tries ≤ 8 → IfSome o (λ w. (w.acked < 16) × (w.silences < 8))
-open-room i None e p t = tt
-open-room i (Some w) e p t =
-    let undone : is_done i w ≡ false = open-undone (is_done i) w i.works (sym e) in
-    let a : w.acked < i.parts = grind (arith, nat_tests) in
+pub open-room : (i : Installation) (o : Option Work) → o ≡ first_open i → i.tries ≤ 8 → IfSome o (λ w. (w.acked < w.parts) × (w.silences < 8))
+open-room i None e t = tt
+open-room i (Some w) e t =
+    let undone : is_done i.tries w ≡ false = open-undone (is_done i.tries) w i.works (sym e) in
+    let a : w.acked < w.parts = grind (arith, nat_tests) in
     let s : w.silences < i.tries = grind (arith, nat_tests) in
-    (omega arith, omega arith)
+    (a, omega arith)
 
 -- what comes of an acknowledgement, and of a silence
-pub ack-after : (i : Installation) (w : Work) (host part : ℕ) → Some w ≡ first_open i → w.host ≡ host → w.acked ≡ part → record i { works = changed (is_done i) (λ v. one_acked w) i.works } ≡ after_ack i host part
+pub ack-after : (i : Installation) (w : Work) (host part : ℕ) → Some w ≡ first_open i → w.host ≡ host → w.acked ≡ part → record i { works = changed (is_done i.tries) (λ v. one_acked w) i.works } ≡ after_ack i host part
 ack-after i w host part e h p =
     let same : is_awaited (awaited i) host part ≡ is_awaited (Some (w.host, w.acked)) host part = ap (λ o. is_awaited (option_map (λ (v : Work). (v.host, v.acked)) o) host part) (sym e) in
     let a : nat_eq w.host host ≡ true = grind (arith, nat_tests) in
     let b : nat_eq w.acked part ≡ true = grind (arith, nat_tests) in
     let told : is_awaited (Some (w.host, w.acked)) host part ≡ true = rw (a, b) refl in
-    ap (λ (ws : List Work). record i { works = ws }) (changed-first (is_done i) one_acked w i.works (sym e))
-    ∙ sym (ap (λ b. if b then record i { works = changed (is_done i) one_acked i.works } else i) (same ∙ told))
+    ap (λ (ws : List Work). record i { works = ws }) (changed-first (is_done i.tries) one_acked w i.works (sym e))
+    ∙ sym (ap (λ b. if b then record i { works = changed (is_done i.tries) one_acked i.works } else i) (same ∙ told))
 
-pub silence-after : (i : Installation) (w : Work) → Some w ≡ first_open i → record i { works = changed (is_done i) (λ v. one_silent w) i.works } ≡ after_silence i
-silence-after i w e = ap (λ (ws : List Work). record i { works = ws }) (changed-first (is_done i) one_silent w i.works (sym e))
+pub silence-after : (i : Installation) (w : Work) → Some w ≡ first_open i → record i { works = changed (is_done i.tries) (λ v. one_silent w) i.works } ≡ after_silence i
+silence-after i w e = ap (λ (ws : List Work). record i { works = ws }) (changed-first (is_done i.tries) one_silent w i.works (sym e))
 
 -- works that begin aren't done, where there are parts and tries
-fresh : (i : Installation) (hs : List ℕ) → 1 ≤ i.parts → 1 ≤ i.tries → list_all (λ w. not (is_done i w)) (map new_work hs) ≡ true
-fresh i [] p t = refl
-fresh i (h ∷ hs) p t =
-    let a : nat_le i.parts 0 ≡ false = grind (arith, nat_tests) in
-    let b : nat_le i.tries 0 ≡ false = grind (arith, nat_tests) in
-    rw (a, b) (fresh i hs p t)
+pub fresh : (parts tries : ℕ) (hs : List ℕ) → 1 ≤ parts → 1 ≤ tries → list_all (λ w. not (is_done tries w)) (map (new_work parts) hs) ≡ true
+fresh parts tries [] p t = refl
+fresh parts tries (h ∷ hs) p t =
+    let a : nat_le parts 0 ≡ false = grind (arith, nat_tests) in
+    let b : nat_le tries 0 ≡ false = grind (arith, nat_tests) in
+    rw (a, b) (fresh parts tries hs p t)
 
 -- a mapper alone has no work
 alone : (mapper : ℕ) (hosts : List ℕ) → list_any (nat_eq mapper) hosts ≡ true → length hosts ≤ 1 → filter (λ h. not (nat_eq h mapper)) hosts ≡ []
@@ -117,33 +117,28 @@ alone mapper (h ∷ []) any few = by (nat_eq mapper h) refl any
 alone mapper (h ∷ g ∷ hs) any few = absurd (omega arith)
 
 -- no more works than hosts
-few-works : (t : ℕ → Bool) (hs : List ℕ) → length (map new_work (filter t hs)) ≤ length hs
-few-works t [] = omega arith
-few-works t (h ∷ hs) = by (t h) (few-works t hs)
+few-works : (parts : ℕ) (t : ℕ → Bool) (hs : List ℕ) → length (map (new_work parts) (filter t hs)) ≤ length hs
+few-works parts t [] = omega arith
+few-works parts t (h ∷ hs) = by (t h) (few-works parts t hs)
   where
-    by : (b : Bool) → length (map new_work (filter t hs)) ≤ length hs → length (map new_work (if b then h ∷ filter t hs else filter t hs)) ≤ suc (length hs)
+    by : (b : Bool) → length (map (new_work parts) (filter t hs)) ≤ length hs → length (map (new_work parts) (if b then h ∷ filter t hs else filter t hs)) ≤ suc (length hs)
     by true l = omega arith
     by false l = omega arith
 
-pub begins : (mapper : ℕ) (hosts : List ℕ) (tries : ℕ) (i : Installation) → CanBegin mapper hosts tries → i ≡ new_installation mapper hosts tries → IsInstaller i 0
-begins mapper hosts tries i can e = subst (λ (j : Installation). IsInstaller j 0) (sym e) (by (nat_le 2 (length hosts)) refl)
+pub begins : (mapper : ℕ) (hosts : List ℕ) (tries : ℕ) → CanBegin mapper hosts tries → AreOpen (new_installation mapper hosts tries).works tries
+begins mapper hosts tries can = by (nat_le 2 (length hosts)) refl
   where
-    undone : (1 ≤ parts_for hosts) ⊎ (filter (λ h. not (nat_eq h mapper)) hosts ≡ []) → list_all (λ w. not (is_done (new_installation mapper hosts tries) w)) (map new_work (filter (λ h. not (nat_eq h mapper)) hosts)) ≡ true
-    undone (inl p) = fresh (new_installation mapper hosts tries) (filter (λ h. not (nat_eq h mapper)) hosts) p can.some_tries
-    undone (inr n) = ap (λ (hs : List ℕ). list_all (λ w. not (is_done (new_installation mapper hosts tries) w)) (map new_work hs)) n
+    undone : (1 ≤ parts_for hosts) ⊎ (filter (λ h. not (nat_eq h mapper)) hosts ≡ []) → list_all (λ w. not (is_done tries w)) (map (new_work (parts_for hosts)) (filter (λ h. not (nat_eq h mapper)) hosts)) ≡ true
+    undone (inl p) = fresh (parts_for hosts) tries (filter (λ h. not (nat_eq h mapper)) hosts) p can.some_tries
+    undone (inr n) = ap (λ (hs : List ℕ). list_all (λ w. not (is_done tries w)) (map (new_work (parts_for hosts)) hs)) n
 
-    made : (1 ≤ parts_for hosts) ⊎ (filter (λ h. not (nat_eq h mapper)) hosts ≡ []) → IsInstaller (new_installation mapper hosts tries) 0
+    made : (1 ≤ parts_for hosts) ⊎ (filter (λ h. not (nat_eq h mapper)) hosts ≡ []) → AreOpen (new_installation mapper hosts tries).works tries
     made s =
         let few : length hosts ≤ 128 = can.few in
-        let works = few-works (λ h. not (nat_eq h mapper)) hosts in
-        record {
-          few_parts = omega arith;
-          few_tries = can.few_tries;
-          few_works = omega arith;
-          is_at = undone s;
-        }
+        let works = few-works (parts_for hosts) (λ h. not (nat_eq h mapper)) hosts in
+        record { few = omega arith; undone = undone s; few_tries = can.few_tries }
 
-    by : (b : Bool) → nat_le 2 (length hosts) ≡ b → IsInstaller (new_installation mapper hosts tries) 0
+    by : (b : Bool) → nat_le 2 (length hosts) ≡ b → AreOpen (new_installation mapper hosts tries).works tries
     by true two =
         let n : 2 ≤ length hosts = grind (arith, nat_tests) in
         made (inl (omega arith))
@@ -152,25 +147,23 @@ begins mapper hosts tries i can e = subst (λ (j : Installation). IsInstaller j 
         made (inr (alone mapper hosts can.has_mapper n))
 
 -- an installer with its first open work changed: done, or not yet
-pub done-next : (i : Installation) (v : Work) (at : ℕ) (ws : List Work) → ws ≡ set i.works at v → IsInstaller i at → at < length i.works → is_done i v ≡ true → IsInstaller (record i { works = ws }) (at + 1)
+pub done-next : (i : Installation) (v : Work) (at : ℕ) (ws : List Work) → ws ≡ set i.works at v → IsInstaller i at → at < length i.works → is_done i.tries v ≡ true → IsInstaller (record i { works = ws }) (at + 1)
 done-next i v at ws e k l d =
     let one : suc at ≡ at + 1 = omega arith in
     let n : length ws ≡ length i.works = ap length e ∙ length-set i.works at v in
     let few : length i.works ≤ 128 = k.few_works in
     record {
-      few_parts = k.few_parts;
       few_tries = k.few_tries;
       few_works = omega arith;
-      is_at = subst (λ m. IsAt (is_done i) m ws) one (subst (λ (l : List Work). IsAt (is_done i) (suc at) l) (sym e) (goes-on (is_done i) v at i.works k.is_at l d));
+      is_at = subst (λ m. IsAt (is_done i.tries) m ws) one (subst (λ (l : List Work). IsAt (is_done i.tries) (suc at) l) (sym e) (goes-on (is_done i.tries) v at i.works k.is_at l d));
     }
 
-pub undone-same : (i : Installation) (v : Work) (at : ℕ) (ws : List Work) → ws ≡ set i.works at v → IsInstaller i at → is_done i v ≡ false → IsInstaller (record i { works = ws }) at
+pub undone-same : (i : Installation) (v : Work) (at : ℕ) (ws : List Work) → ws ≡ set i.works at v → IsInstaller i at → is_done i.tries v ≡ false → IsInstaller (record i { works = ws }) at
 undone-same i v at ws e k d =
     let n : length ws ≡ length i.works = ap length e ∙ length-set i.works at v in
     let few : length i.works ≤ 128 = k.few_works in
     record {
-      few_parts = k.few_parts;
       few_tries = k.few_tries;
       few_works = omega arith;
-      is_at = subst (λ (l : List Work). IsAt (is_done i) at l) (sym e) (stays-at (is_done i) v at i.works k.is_at d);
+      is_at = subst (λ (l : List Work). IsAt (is_done i.tries) at l) (sym e) (stays-at (is_done i.tries) v at i.works k.is_at d);
     }

@@ -6,10 +6,8 @@ use Rattle.std.specs.List.{filter, list_all, list_any, AllByRecursion}
 use Rattle.world_defs.specs.Table.{part_count}
 use Rattle.route_install.specs.declared.installer.Work.{Work}
 
--- An installation: into how many parts each table is cut, how often a part is tried, and the work for each host but
--- the mapper.
+-- An installation: how often a part is tried, and the work for each host that is sent parts.
 pub record Installation : Type 0 where
-  pub parts : ℕ
   pub tries : ℕ
   pub works : List Work
 
@@ -17,9 +15,9 @@ pub record Installation : Type 0 where
 abbrev pub parts_for : List ℕ → ℕ
 parts_for hosts = part_count (length hosts - 1)
 
--- a host's work before its first part
-abbrev pub new_work : ℕ → Work
-new_work host = record { host = host; acked = 0; silences = 0 }
+-- the work for a host whose table has so many parts, before the first of them
+abbrev pub new_work : (parts host : ℕ) → Work
+new_work parts host = record { host = host; parts = parts; acked = 0; silences = 0 }
 
 -- hosts that rise
 abbrev pub AreHosts : List ℕ → Type 0
@@ -37,26 +35,31 @@ pub record CanBegin (mapper : ℕ) (hosts : List ℕ) (tries : ℕ) : Type 0 whe
 -- an installation by a mapper begins
 abbrev pub new_installation : ℕ → List ℕ → ℕ → Installation
 new_installation mapper hosts tries = record {
-  parts = parts_for hosts;
   tries = tries;
-  works = map new_work (filter (λ h. not (nat_eq h mapper)) hosts);
+  works = map (new_work (parts_for hosts)) (filter (λ h. not (nat_eq h mapper)) hosts);
 }
 
 -- all parts of the host were acknowledged
-abbrev pub is_acked : Installation → Work → Bool
-is_acked i w = nat_le i.parts w.acked
+abbrev pub is_acked : Work → Bool
+is_acked w = nat_le w.parts w.acked
 
--- the host is given up, since one part met silence in each try
-abbrev pub is_given_up : Installation → Work → Bool
-is_given_up i w = nat_le i.tries w.silences
+-- the host is given up, since one part met silence in each of so many tries
+abbrev pub is_given_up : ℕ → Work → Bool
+is_given_up tries w = nat_le tries w.silences
 
 -- a host's work is done: all parts acknowledged, or given up
-abbrev pub is_done : Installation → Work → Bool
-is_done i w = is_acked i w || is_given_up i w
+abbrev pub is_done : ℕ → Work → Bool
+is_done tries w = is_acked w || is_given_up tries w
+
+-- Works that an installation may begin with: at most 128, none of them done, and each part in at most 8 tries.
+pub record AreOpen (works : List Work) (tries : ℕ) : Type 0 where
+  pub few : length works ≤ 128
+  pub undone : list_all (λ w. not (is_done tries w)) works ≡ true
+  pub few_tries : tries ≤ 8
 
 -- the first work that isn't done
 abbrev pub first_open : Installation → Option Work
-first_open i = find (λ w. not (is_done i w)) i.works
+first_open i = find (λ w. not (is_done i.tries w)) i.works
 
 -- the host and the part that are awaited: of the first host whose work isn't done, the first part that isn't
 -- acknowledged
@@ -70,11 +73,11 @@ changed done f (w ∷ ws) = if done w then w ∷ changed done f ws else f w ∷ 
 
 -- its part was acknowledged
 abbrev pub one_acked : Work → Work
-one_acked w = record { host = w.host; acked = w.acked + 1; silences = 0 }
+one_acked w = record { host = w.host; parts = w.parts; acked = w.acked + 1; silences = 0 }
 
 -- its part met silence
 abbrev pub one_silent : Work → Work
-one_silent w = record { host = w.host; acked = w.acked; silences = w.silences + 1 }
+one_silent w = record { host = w.host; parts = w.parts; acked = w.acked; silences = w.silences + 1 }
 
 -- an acknowledgement is the awaited one
 abbrev pub is_awaited : Option (ℕ × ℕ) → ℕ → ℕ → Bool
@@ -84,15 +87,15 @@ is_awaited (Some a) host part = nat_eq a.0 host && nat_eq a.1 part
 -- the installation after an acknowledgement: only the awaited one counts
 abbrev pub after_ack : Installation → ℕ → ℕ → Installation
 after_ack i host part = if is_awaited (awaited i) host part
-    then record i { works = changed (is_done i) one_acked i.works } else i
+    then record i { works = changed (is_done i.tries) one_acked i.works } else i
 
 -- the installation after a silence of the awaited part
 abbrev pub after_silence : Installation → Installation
-after_silence i = record i { works = changed (is_done i) one_silent i.works }
+after_silence i = record i { works = changed (is_done i.tries) one_silent i.works }
 
 -- each part of a host was acknowledged; a host without parts has none that wasn't
 abbrev pub acked_of : Installation → ℕ → Bool
-acked_of i host = list_all (λ w. not (nat_eq w.host host) || is_acked i w) i.works
+acked_of i host = list_all (λ w. not (nat_eq w.host host) || is_acked w) i.works
 
 -- the works before a place are done, and those from it on aren't
 abbrev pub IsAt : (Work → Bool) → ℕ → List Work → Type 0
@@ -102,7 +105,6 @@ IsAt done (suc k) (w ∷ ws) = (done w ≡ true) × IsAt done k ws
 
 -- What an installer keeps: it knows the place of the first work that isn't done.
 pub record IsInstaller (i : Installation) (at : ℕ) : Type 0 where
-  pub few_parts : i.parts ≤ 16
   pub few_tries : i.tries ≤ 8
   pub few_works : length i.works ≤ 128
-  pub is_at : IsAt (is_done i) at i.works
+  pub is_at : IsAt (is_done i.tries) at i.works

@@ -1,23 +1,42 @@
 //! Which part of which table a mapper awaits.
 
-ghost use Rattle.std.specs.Prelude.{◌≡◌, ◌<◌, ◌≤◌, map, not, nat_eq, length, slice_get, slice_set, nat_le, ◌||◌};
+ghost use Rattle.std.specs.Prelude.{◌≡◌, ◌<◌, ◌≤◌, map, not, nat_eq, length, slice_get, slice_set};
 ghost use Rattle.std.specs.Prelude.{is_none, IfOk, IfSome, IsSome};
 ghost use Rattle.std.specs.List.{filter, list_all};
 ghost use Rattle.route_install.specs.Installing.{Installation, CanBegin, new_work, new_installation, parts_for};
-ghost use Rattle.route_install.specs.Installing.{is_done, first_open, awaited, is_awaited, one_acked, one_silent};
-ghost use Rattle.route_install.specs.Installing.{changed, after_ack, after_silence, acked_of};
+ghost use Rattle.route_install.specs.Installing.{AreOpen, is_done, first_open, awaited, is_awaited, one_acked};
+ghost use Rattle.route_install.specs.Installing.{one_silent, changed, after_ack, after_silence, acked_of};
 
 use crate::cut::part_count;
 use route_parts::PartAck;
 use std::alloc::{AllocError, Global};
 use std::marker::Model;
 
-/// The work for a host: how many of its parts were acknowledged, and how often the next one met silence.
+/// The work for a host.
 #[derive(Clone, Copy, Debug, PartialEq, Eq)]
 pub struct Work {
+    /// The address of the host.
     pub host: u16,
+    /// How many parts its table has.
+    pub parts: u8,
+    /// How many of them were acknowledged.
     pub acked: u8,
+    /// How often the next one met silence.
     pub silences: u8,
+}
+
+impl Work {
+    /// The work for a host whose table has so many parts, before the first of them.
+    pub fn new(host: u16, parts: u8) -> Work
+        ensures { result ≡ new_work parts host }
+    {
+        Work {
+            host,
+            parts,
+            acked: 0,
+            silences: 0,
+        }
+    }
 }
 
 /// The work of an installation, host by host and part by part. Contracts see the installation of the definitions.
@@ -26,7 +45,6 @@ pub struct Installer {
     works: Vec<Work>,
     /// The first work that isn't done.
     at: usize,
-    parts: u8,
     tries: u8,
 }
 
@@ -35,9 +53,9 @@ impl Model for Installer {
 
     ghost Value = { Installation };
 
-    ghost view = { λ i. record { parts = i.parts; tries = i.tries; works = i.works.items } };
+    ghost view = { λ i. record { tries = i.tries; works = i.works.items } };
 
-    ghost invariant = { λ i. IsInstaller (record { parts = i.parts; tries = i.tries; works = i.works.items }) i.at };
+    ghost invariant = { λ i. IsInstaller (record { tries = i.tries; works = i.works.items }) i.at };
 }
 
 impl Installer {
@@ -51,18 +69,27 @@ impl Installer {
         requires { CanBegin mapper hosts.now tries }
         ensures { IfOk result (λ i. i ≡ new_installation mapper hosts.now tries) }
     {
-        Ok(Installer {
-            works: works_for(alloc, mapper, hosts)?,
+        let parts = part_count(hosts.len() - 1);
+        let works = works_for(alloc, mapper, hosts, parts)?;
+        Ok(Installer::of_works(works, tries))
+    }
+
+    /// The installation of tables that need not have the same number of parts. A host without parts has no work.
+    pub fn of_works(works: Vec<Work>, tries: u8) -> Installer
+        requires { AreOpen works.items tries }
+        ensures { result ≡ record { tries = tries; works = works.items } }
+    {
+        Installer {
+            works,
             at: 0,
-            parts: part_count(hosts.len() - 1),
             tries,
-        })
+        }
     }
 
     /// The awaited host and part. None exactly where each host is acknowledged whole or given up.
     pub fn next(&self) -> Option<(u16, u8)>
         ensures value { result ≡ awaited self.now }
-        ensures ended { is_none result ≡ list_all (is_done self.now) self.now.works }
+        ensures ended { is_none result ≡ list_all (is_done self.now.tries) self.now.works }
     {
         match self.first_open() {
             Some(work) => Some((work.host, work.acked)),
@@ -104,16 +131,15 @@ impl Installer {
     pub fn acked(&self, host: u16) -> bool
         ensures { result ≡ acked_of self.now host }
     {
-        let parts = self.parts;
         self.works
             .iter()
-            .all(|work| work.host != host || work.acked >= parts)
+            .all(|work| work.host != host || work.acked >= work.parts)
     }
 
     // The first work that isn't done.
     fn first_open(&self) -> Option<Work>
         ensures value { result ≡ first_open self.now }
-        ensures room { IfSome result (λ w. (w.acked < 16) × (w.silences < 8)) }
+        ensures room { IfSome result (λ w. (w.acked < w.parts) × (w.silences < 8)) }
     {
         work_at(&self.works, self.at)
     }
@@ -121,23 +147,24 @@ impl Installer {
     // Puts a work in the place of the first that isn't done.
     fn put(&mut self, work: Work)
         requires { IsSome (first_open self.old) }
-        ensures { self.new ≡ record self.old { works = changed (is_done self.old) (λ w. work) self.old.works } }
+        ensures { self.new ≡ record self.old { works = changed (is_done self.old.tries) (λ w. work) self.old.works } }
     {
         set_at(&mut self.works, self.at, work);
-        if is_done(self.parts, self.tries, work) {
+        if is_done(self.tries, work) {
             self.at += 1;
         }
     }
 }
 
-// The work for all hosts but the mapper.
-fn works_for(alloc: Global, mapper: u16, hosts: &[u16]) -> Result<Vec<Work>, AllocError>
-    ensures { IfOk result (λ works. works.items ≡ map new_work (filter (λ h. not (nat_eq h mapper)) hosts.now)) }
+// The work for all hosts but the mapper, each of whose tables has so many parts.
+fn works_for(alloc: Global, mapper: u16, hosts: &[u16], parts: u8) -> Result<Vec<Work>, AllocError>
+    ensures { IfOk result (λ works.
+        works.items ≡ map (new_work parts) (filter (λ h. not (nat_eq h mapper)) hosts.now)) }
 {
     let mut works = Vec::with_capacity(alloc, hosts.len())?;
     for host in hosts {
         if *host != mapper {
-            works.push(new_work(*host))?;
+            works.push(Work::new(*host, parts))?;
         }
     }
     Ok(works)
@@ -158,27 +185,16 @@ fn set_at(works: &mut Vec<Work>, at: usize, work: Work)
     works[at] = work;
 }
 
-// The work for a host, at its begin.
-fn new_work(host: u16) -> Work
-    ensures { result ≡ new_work host }
+// Whether a work is done, with so many tries of a part.
+fn is_done(tries: u8, work: Work) -> bool
+    ensures { result ≡ is_done tries work }
 {
-    Work {
-        host,
-        acked: 0,
-        silences: 0,
-    }
-}
-
-// Whether a work is done.
-fn is_done(parts: u8, tries: u8, work: Work) -> bool
-    ensures { result ≡ (nat_le parts work.acked || nat_le tries work.silences) }
-{
-    work.acked >= parts || work.silences >= tries
+    work.acked >= work.parts || work.silences >= tries
 }
 
 // A work whose part was acknowledged.
 fn acknowledged(work: Work) -> Work
-    requires { work.acked < 16 }
+    requires { work.acked < work.parts }
     ensures { result ≡ one_acked work }
 {
     Work {

@@ -3,17 +3,16 @@ use Rattle.std.proofs.Common.{◌≡◌, ◌<◌, ◌≤◌, ◌+◌, ℕ, Bool,
 use Rattle.std.specs.Prelude.{IfSome, IsSome, option_map}
 use Rattle.std.specs.List.{AllByRecursion, list_any, range_with_len}
 use Rattle.std.proofs.lemmas.Bool.Decides.{nat_tests}
-use Rattle.std.proofs.lemmas.Option.{same_Some}
 use Rattle.net_defs.proofs.Distinct.{all-weaker}
 use Rattle.net_defs.specs.declared.route.Route.{Route}
 use Rattle.link_defs.specs.Links.{is_idle}
 use Rattle.world_defs.specs.Table.{Adoption, part_count, entries_from}
 use Rattle.world_defs.specs.World.{WorldState, fabric_of, host_count}
 use Rattle.world_defs.specs.Asking.{all_given_up}
-use Rattle.world_defs.specs.Install.{parts_installed, parts_of, hosts_installed, installed}
+use Rattle.world_defs.specs.Install.{parts_of, hosts_installed, installed}
 use Rattle.route_install.specs.Installing.{AreHosts}
 use Rattle.adopted_routes.specs.Adopting.{is_among, IsSetOfHosts, part_count_for}
-use Rattle.event_lists.specs.Events.{parts_events, install_events}
+use Rattle.event_lists.specs.Events.{install_events}
 use Rattle.event_lists.specs.PartWay.{IsPartWay}
 use Rattle.fab_world.specs.Held.{IsMoment}
 use Rattle.table_installing.specs.Installing.{CanInstall}
@@ -100,22 +99,6 @@ parts-are a dst = by (nat_eq dst a.mapper)
     by : (b : Bool) → range_with_len 0 (if b then 0 else count) ≡ (if b then [] else range_with_len 0 count)
     by true = refl
     by false = refl
-
--- what the parts of a host come to is what the definition says of them
-pub host-told : (a : Adoption) (mapper host tries parts : ℕ) (v : WorldState) → v.adopted ≡ Some a → option_map (λ a. a.mapper) v.adopted ≡ Some mapper → parts ≡ part_count_for v.adopted host
-    → parts_installed mapper host tries (range_with_len 0 parts) v ≡ parts_installed a.mapper host tries (parts_of a host) v
-host-told a mapper host tries parts v is adopter count =
-    let one : a.mapper ≡ mapper = same_Some a.mapper mapper (sym (ap (option_map (λ a. a.mapper)) is) ∙ adopter) in
-    ap (λ n. parts_installed mapper host tries (range_with_len 0 n) v) (count ∙ ap (λ o. part_count_for o host) is)
-    ∙ ap (λ ps. parts_installed mapper host tries ps v) (parts-are a host) ∙ ap (λ m. parts_installed m host tries (parts_of a host) v) (sym one)
-
--- and so are their events
-pub host-events : (a : Adoption) (mapper host tries parts : ℕ) (v : WorldState) → v.adopted ≡ Some a → option_map (λ a. a.mapper) v.adopted ≡ Some mapper → parts ≡ part_count_for v.adopted host
-    → parts_events mapper host tries (range_with_len 0 parts) v ≡ parts_events a.mapper host tries (parts_of a host) v
-host-events a mapper host tries parts v is adopter count =
-    let one : a.mapper ≡ mapper = same_Some a.mapper mapper (sym (ap (option_map (λ a. a.mapper)) is) ∙ adopter) in
-    ap (λ n. parts_events mapper host tries (range_with_len 0 n) v) (count ∙ ap (λ o. part_count_for o host) is)
-    ∙ ap (λ ps. parts_events mapper host tries ps v) (parts-are a host) ∙ ap (λ m. parts_events m host tries (parts_of a host) v) (sym one)
 
 -- part of the way along an installation, where routes are adopted
 pub cut-of : (w v : WorldState) (hosts : List ℕ) (tries : ℕ) (o : Option Adoption) → w.adopted ≡ o → ((a : Adoption) → w.adopted ≡ Some a → IsPartWay w (install_events a hosts tries w) v)

@@ -70,8 +70,8 @@ installed-of R k a hosts tries w =
 installs-later : Installs IsLater
 installs-later = record { asks = asks-later; part = λ w dst part. later-step w (step w (Part dst part)).1 (Part dst part) refl }
 
-pub parts-later : (mapper dst tries : ℕ) (ps : List ℕ) (w v : WorldState) → v ≡ (parts_installed mapper dst tries ps w).1 → IsLater w v
-parts-later mapper dst tries ps w v is = subst (IsLater w) (sym is) (parts-of IsLater installs-later mapper dst tries ps w)
+pub try-later : (mapper dst part : ℕ) (w v : WorldState) → v ≡ (part_try mapper dst part w).world → IsLater w v
+try-later mapper dst part w v is = subst (IsLater w) (sym is) (part_try-of IsLater installs-later mapper dst part w)
 
 -- idle links
 stage_at-links : (w : WorldState) (mapper : ℕ) (o : Option RoutePart) (by : Option (List ℤ)) → (stage_at w mapper o by).1.links ≡ w.links

@@ -1,3 +1,5 @@
+pub mod Counts
 pub mod InstallHosts
 pub mod Installs
-pub mod PartTries
+pub mod Lefts
+pub mod Serving

@@ -1,6 +1,6 @@
 //! An installation of adopted routes on their hosts.
 
-ghost use Rattle.std.specs.Prelude.{◌≡◌, ◌≤◌, true, length, Some, option_map, IfOk, IfSome, OnOk, OnErr};
+ghost use Rattle.std.specs.Prelude.{◌≡◌, ◌≤◌, true, length, Some, option_map, is_some, IfOk, IfSome, OnOk, OnErr};
 ghost use Rattle.std.specs.List.{AllByRecursion};
 ghost use Rattle.link_defs.specs.Links.{is_idle};
 ghost use Rattle.world_defs.specs.Table.{Adoption};
@@ -8,12 +8,14 @@ ghost use Rattle.world_defs.specs.World.{fabric_of, host_count};
 ghost use Rattle.world_defs.specs.Install.{hosts_installed, installed};
 ghost use Rattle.event_lists.specs.Events.{hosts_events, install_events};
 ghost use Rattle.event_lists.specs.PartWay.{IsPartWay};
+ghost use Rattle.route_install.specs.Installing.{AreHosts, awaited};
 ghost use Rattle.fab_world.specs.Events.{IsHostOf};
 ghost use Rattle.fab_world.specs.Held.{IsLater};
-ghost use Rattle.table_installing.specs.Installing.{CanInstall};
+ghost use Rattle.table_installing.specs.Installing.{CanInstall, works_of, after_try, acked_among};
 
-use crate::parts::install_parts;
+use crate::parts::part_try;
 use fab_world::World;
+use route_install::{Installer, PartAck, Work};
 use std::alloc::{AllocError, Global};
 use world_drain::give_up_all;
 
@@ -60,7 +62,8 @@ pub fn install(
     })
 }
 
-// The tables of these hosts, in order: how many of them have acknowledged all parts.
+// The tables of these hosts, in order: how many of them have acknowledged all parts. Each try is of the part that the
+// installer awaits.
 fn install_hosts(
     alloc: Global,
     w: &mut World,
@@ -72,6 +75,9 @@ fn install_hosts(
     requires there { IsHostOf w.old mapper }
     requires hosts { AllByRecursion (IsHostOf w.old) hosts.now }
     requires few { length hosts.now ≤ 128 }
+    requires rise { AreHosts hosts.now }
+    requires some_tries { 1 ≤ tries }
+    requires few_tries { tries ≤ 8 }
     ensures acked { (a : Adoption) → w.old.adopted ≡ Some a
         → IfOk result (λ k. hosts_installed a tries hosts.now w.old ≡ (k, w.new)) }
     ensures later { IsLater w.old w.new }
@@ -80,12 +86,56 @@ fn install_hosts(
     ensures fabric { fabric_of w.new ≡ fabric_of w.old }
     ensures hosts { host_count w.new ≡ host_count w.old }
 {
-    let mut acked = 0;
+    let works = works_for(alloc, w, hosts)?;
+    let mut installer = Installer::of_works(works, tries);
+    'serving: while let Some((dst, part)) = installer.next() {
+        let epoch = part_try(alloc, w, mapper, dst, part)?;
+        tell(&mut installer, dst, part, epoch);
+    }
+    Ok(acked_among(&installer, hosts))
+}
+
+// The work for these hosts.
+fn works_for(alloc: Global, w: &World, hosts: &[u16]) -> Result<Vec<Work>, AllocError>
+    ensures { IfOk result (λ works. works.items ≡ works_of w.now.adopted hosts.now) }
+{
+    let mut works = Vec::with_capacity(alloc, hosts.len())?;
     for host in hosts {
         let parts = w.part_count(*host);
-        if install_parts(alloc, w, mapper, *host, parts, tries)? {
-            acked += 1;
+        if 0 < parts {
+            works.push(Work::new(*host, parts))?;
         }
     }
-    Ok(acked)
+    Ok(works)
+}
+
+// The installer hears what came of a try of the awaited part: the acknowledgement of an epoch, or silence.
+fn tell(installer: &mut Installer, dst: u16, part: u8, epoch: Option<u32>)
+    requires { awaited installer.old ≡ Some (dst, part) }
+    ensures { installer.new ≡ after_try installer.old dst part (is_some epoch) }
+{
+    match epoch {
+        Some(epoch) => {
+            let _ = installer.on_ack(PartAck {
+                epoch,
+                host: dst,
+                part,
+            });
+        }
+        None => installer.on_silence(),
+    }
+}
+
+// How many of these hosts have acknowledged all parts.
+fn acked_among(installer: &Installer, hosts: &[u16]) -> u16
+    requires { length hosts.now ≤ 128 }
+    ensures { result ≡ acked_among installer.now hosts.now }
+{
+    let mut count = 0;
+    for host in hosts {
+        if installer.acked(*host) {
+            count += 1;
+        }
+    }
+    count
 }

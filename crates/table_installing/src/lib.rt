@@ -1,17 +1,17 @@
 //! Installations: the tables of adopted routes, sent to their hosts.
 //!
-//! It adopts no routes, and keeps nothing of its own: all that it does are events of the world. `specs/Installing.antt`
-//! says what an installation begins with.
+//! It adopts no routes, and keeps nothing of the world: all that it does are events. Which part is tried next and which
+//! host is given up, `route_install::Installer` says. `specs/Installing.antt` says what an installation begins with.
 //!
 //! ```text
-//!   install --> every host gives up --> host by host, part by part, try by try:
-//!                                          the part alone --> its acknowledgement
+//!   install --> every host gives up --> while the installer awaits a part:
+//!                                          the part alone --> its acknowledgement --> on_ack, or on_silence
 //!                                          inject, drain      inject, drain
 //! ```
 //!
 //! | module | has |
 //! |---|---|
-//! | `parts` | the parts of one host's table |
+//! | `parts` | one try of a part |
 //! | `installing` | an installation |
 #![tactic(auto)]
 

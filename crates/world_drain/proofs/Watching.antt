@@ -1,5 +1,5 @@
 -- What is seen of effects in a row is what is seen of the first, and then of the others.
-use Rattle.std.proofs.Common.{◌≡◌, ℕ, ◌+◌, Bool, true, false, ◌&&◌, ◌||◌, List, [], ◌∷◌, ◌++◌, nat_eq, if◌then◌else◌, Option, Some, None, refl, sym, ◌∙◌, ap, arith}
+use Rattle.std.proofs.Common.{◌≡◌, ℕ, ◌+◌, Bool, true, false, ◌&&◌, ◌||◌, List, [], ◌∷◌, ◌++◌, nat_eq, if◌then◌else◌, Option, Some, None, is_some, refl, sym, ◌∙◌, ap, arith}
 use Rattle.world_defs.specs.declared.heard.Heard.TheVariants.{Probe, Reply, Loop, Routes, RoutesAck, Message, Fragment, NotNext, NoToken, Ack}
 use Rattle.world_defs.specs.declared.effect.Effect.{Effect}
 use Rattle.world_defs.specs.declared.effect.Effect.TheVariants.{Idle, Injected, Moved, Blocked, Arrived, Dropped, Lost, Reset as WasReset, Flipped, Expired, GaveUp, Repeated, Held, Replayed, Staged, Said}
@@ -10,7 +10,7 @@ use Rattle.world_laws.proofs.Draining.{changes-append}
 use Rattle.world_drain.specs.declared.seen.AwaitedPart.{AwaitedPart}
 use Rattle.world_drain.specs.declared.seen.Watch.{Watch}
 use Rattle.world_drain.specs.declared.seen.Seen.{Seen}
-use Rattle.world_drain.specs.Watch.{came_in, acknowledged_in, seen_in, seen_then}
+use Rattle.world_drain.specs.Watch.{came_in, acked_epoch, acknowledged_in, seen_in, seen_then}
 
 first_if : (b : Bool) (from : ℕ) (rest : Option ℕ) → (if b then Some from else rest) ≡ either (if b then Some from else None) rest
 first_if true from rest = refl
@@ -19,6 +19,10 @@ first_if false from rest = refl
 first_or : (b rest : Bool) → (b || rest) ≡ ((b || false) || rest)
 first_or true rest = refl
 first_or false rest = refl
+
+some-or : (b : Bool) (epoch : ℕ) (rest : Option ℕ) (heard : Bool) → is_some rest ≡ heard → is_some (if b then Some epoch else rest) ≡ (b || heard)
+some-or true epoch rest heard same = refl
+some-or false epoch rest heard same = same
 
 either-in-a-row : (a b c : Option ℕ) → either a (either b c) ≡ either (either a b) c
 either-in-a-row (Some x) b c = refl
@@ -137,32 +141,61 @@ come-push dst (Arrived h NotNext) xs = refl
 come-push dst (Arrived h NoToken) xs = refl
 come-push dst (Arrived h Ack) xs = refl
 
-acknowledged-push : (mapper dst part : ℕ) (x : Effect) (xs : List Effect) → is_acknowledged mapper dst part (x ∷ xs) ≡ (is_acknowledged mapper dst part (x ∷ []) || is_acknowledged mapper dst part xs)
-acknowledged-push mapper dst part Idle xs = refl
-acknowledged-push mapper dst part (Injected n) xs = refl
-acknowledged-push mapper dst part (Moved c) xs = refl
-acknowledged-push mapper dst part (Blocked c) xs = refl
-acknowledged-push mapper dst part (Dropped x) xs = refl
-acknowledged-push mapper dst part Lost xs = refl
-acknowledged-push mapper dst part WasReset xs = refl
-acknowledged-push mapper dst part Flipped xs = refl
-acknowledged-push mapper dst part Expired xs = refl
-acknowledged-push mapper dst part GaveUp xs = refl
-acknowledged-push mapper dst part (Repeated s) xs = refl
-acknowledged-push mapper dst part (Held s) xs = refl
-acknowledged-push mapper dst part (Replayed c) xs = refl
-acknowledged-push mapper dst part Staged xs = refl
-acknowledged-push mapper dst part (Said s) xs = refl
-acknowledged-push mapper dst part (Arrived h Probe) xs = refl
-acknowledged-push mapper dst part (Arrived h (Reply n from)) xs = refl
-acknowledged-push mapper dst part (Arrived h (Loop n)) xs = refl
-acknowledged-push mapper dst part (Arrived h Routes) xs = refl
-acknowledged-push mapper dst part (Arrived h (RoutesAck e from p)) xs = first_or (nat_eq h mapper && nat_eq from dst && nat_eq p part) (is_acknowledged mapper dst part xs)
-acknowledged-push mapper dst part (Arrived h Message) xs = refl
-acknowledged-push mapper dst part (Arrived h Fragment) xs = refl
-acknowledged-push mapper dst part (Arrived h NotNext) xs = refl
-acknowledged-push mapper dst part (Arrived h NoToken) xs = refl
-acknowledged-push mapper dst part (Arrived h Ack) xs = refl
+epoch-push : (mapper dst part : ℕ) (x : Effect) (xs : List Effect) → acked_epoch mapper dst part (x ∷ xs) ≡ either (acked_epoch mapper dst part (x ∷ [])) (acked_epoch mapper dst part xs)
+epoch-push mapper dst part Idle xs = refl
+epoch-push mapper dst part (Injected n) xs = refl
+epoch-push mapper dst part (Moved c) xs = refl
+epoch-push mapper dst part (Blocked c) xs = refl
+epoch-push mapper dst part (Dropped x) xs = refl
+epoch-push mapper dst part Lost xs = refl
+epoch-push mapper dst part WasReset xs = refl
+epoch-push mapper dst part Flipped xs = refl
+epoch-push mapper dst part Expired xs = refl
+epoch-push mapper dst part GaveUp xs = refl
+epoch-push mapper dst part (Repeated s) xs = refl
+epoch-push mapper dst part (Held s) xs = refl
+epoch-push mapper dst part (Replayed c) xs = refl
+epoch-push mapper dst part Staged xs = refl
+epoch-push mapper dst part (Said s) xs = refl
+epoch-push mapper dst part (Arrived h Probe) xs = refl
+epoch-push mapper dst part (Arrived h (Reply n from)) xs = refl
+epoch-push mapper dst part (Arrived h (Loop n)) xs = refl
+epoch-push mapper dst part (Arrived h Routes) xs = refl
+epoch-push mapper dst part (Arrived h (RoutesAck e from p)) xs = first_if (nat_eq h mapper && nat_eq from dst && nat_eq p part) e (acked_epoch mapper dst part xs)
+epoch-push mapper dst part (Arrived h Message) xs = refl
+epoch-push mapper dst part (Arrived h Fragment) xs = refl
+epoch-push mapper dst part (Arrived h NotNext) xs = refl
+epoch-push mapper dst part (Arrived h NoToken) xs = refl
+epoch-push mapper dst part (Arrived h Ack) xs = refl
+
+-- it is heard where there is such an epoch
+pub epoch-heard : (mapper dst part : ℕ) (xs : List Effect) → is_some (acked_epoch mapper dst part xs) ≡ is_acknowledged mapper dst part xs
+epoch-heard mapper dst part [] = refl
+epoch-heard mapper dst part (Idle ∷ xs) = epoch-heard mapper dst part xs
+epoch-heard mapper dst part (Injected n ∷ xs) = epoch-heard mapper dst part xs
+epoch-heard mapper dst part (Moved c ∷ xs) = epoch-heard mapper dst part xs
+epoch-heard mapper dst part (Blocked c ∷ xs) = epoch-heard mapper dst part xs
+epoch-heard mapper dst part (Dropped x ∷ xs) = epoch-heard mapper dst part xs
+epoch-heard mapper dst part (Lost ∷ xs) = epoch-heard mapper dst part xs
+epoch-heard mapper dst part (WasReset ∷ xs) = epoch-heard mapper dst part xs
+epoch-heard mapper dst part (Flipped ∷ xs) = epoch-heard mapper dst part xs
+epoch-heard mapper dst part (Expired ∷ xs) = epoch-heard mapper dst part xs
+epoch-heard mapper dst part (GaveUp ∷ xs) = epoch-heard mapper dst part xs
+epoch-heard mapper dst part (Repeated s ∷ xs) = epoch-heard mapper dst part xs
+epoch-heard mapper dst part (Held s ∷ xs) = epoch-heard mapper dst part xs
+epoch-heard mapper dst part (Replayed c ∷ xs) = epoch-heard mapper dst part xs
+epoch-heard mapper dst part (Staged ∷ xs) = epoch-heard mapper dst part xs
+epoch-heard mapper dst part (Said s ∷ xs) = epoch-heard mapper dst part xs
+epoch-heard mapper dst part (Arrived h Probe ∷ xs) = epoch-heard mapper dst part xs
+epoch-heard mapper dst part (Arrived h (Reply n from) ∷ xs) = epoch-heard mapper dst part xs
+epoch-heard mapper dst part (Arrived h (Loop n) ∷ xs) = epoch-heard mapper dst part xs
+epoch-heard mapper dst part (Arrived h Routes ∷ xs) = epoch-heard mapper dst part xs
+epoch-heard mapper dst part (Arrived h (RoutesAck e from p) ∷ xs) = some-or (nat_eq h mapper && nat_eq from dst && nat_eq p part) e (acked_epoch mapper dst part xs) (is_acknowledged mapper dst part xs) (epoch-heard mapper dst part xs)
+epoch-heard mapper dst part (Arrived h Message ∷ xs) = epoch-heard mapper dst part xs
+epoch-heard mapper dst part (Arrived h Fragment ∷ xs) = epoch-heard mapper dst part xs
+epoch-heard mapper dst part (Arrived h NotNext ∷ xs) = epoch-heard mapper dst part xs
+epoch-heard mapper dst part (Arrived h NoToken ∷ xs) = epoch-heard mapper dst part xs
+epoch-heard mapper dst part (Arrived h Ack ∷ xs) = epoch-heard mapper dst part xs
 
 -- effects in a row
 probed-append : (xs ys : List Effect) → probed_host (xs ++ ys) ≡ either (probed_host xs) (probed_host ys)
@@ -200,20 +233,20 @@ come-append dst (x ∷ xs) ys =
     ∙ or-in-a-row (has_part_come dst (x ∷ [])) (has_part_come dst xs) (has_part_come dst ys)
     ∙ sym (ap (λ b. b || has_part_come dst ys) (come-push dst x xs))
 
-acknowledged-append : (mapper dst part : ℕ) (xs ys : List Effect) → is_acknowledged mapper dst part (xs ++ ys) ≡ (is_acknowledged mapper dst part xs || is_acknowledged mapper dst part ys)
-acknowledged-append mapper dst part [] ys = refl
-acknowledged-append mapper dst part (x ∷ xs) ys =
-    acknowledged-push mapper dst part x (xs ++ ys) ∙ ap (λ b. is_acknowledged mapper dst part (x ∷ []) || b) (acknowledged-append mapper dst part xs ys)
-    ∙ or-in-a-row (is_acknowledged mapper dst part (x ∷ [])) (is_acknowledged mapper dst part xs) (is_acknowledged mapper dst part ys)
-    ∙ sym (ap (λ b. b || is_acknowledged mapper dst part ys) (acknowledged-push mapper dst part x xs))
+epoch-append : (mapper dst part : ℕ) (xs ys : List Effect) → acked_epoch mapper dst part (xs ++ ys) ≡ either (acked_epoch mapper dst part xs) (acked_epoch mapper dst part ys)
+epoch-append mapper dst part [] ys = refl
+epoch-append mapper dst part (x ∷ xs) ys =
+    epoch-push mapper dst part x (xs ++ ys) ∙ ap (either (acked_epoch mapper dst part (x ∷ []))) (epoch-append mapper dst part xs ys)
+    ∙ either-in-a-row (acked_epoch mapper dst part (x ∷ [])) (acked_epoch mapper dst part xs) (acked_epoch mapper dst part ys)
+    ∙ sym (ap (λ o. either o (acked_epoch mapper dst part ys)) (epoch-push mapper dst part x xs))
 
 came_in-append : (p : Option AwaitedPart) (xs ys : List Effect) → came_in p (xs ++ ys) ≡ (came_in p xs || came_in p ys)
 came_in-append None xs ys = refl
 came_in-append (Some p) xs ys = come-append p.dst xs ys
 
-acknowledged_in-append : (mapper : ℕ) (p : Option AwaitedPart) (xs ys : List Effect) → acknowledged_in mapper p (xs ++ ys) ≡ (acknowledged_in mapper p xs || acknowledged_in mapper p ys)
+acknowledged_in-append : (mapper : ℕ) (p : Option AwaitedPart) (xs ys : List Effect) → acknowledged_in mapper p (xs ++ ys) ≡ either (acknowledged_in mapper p xs) (acknowledged_in mapper p ys)
 acknowledged_in-append mapper None xs ys = refl
-acknowledged_in-append mapper (Some p) xs ys = acknowledged-append mapper p.dst p.part xs ys
+acknowledged_in-append mapper (Some p) xs ys = epoch-append mapper p.dst p.part xs ys
 
 same_seen : (a b : Seen) → a.changes ≡ b.changes → a.probed ≡ b.probed → a.replied ≡ b.replied → a.returned ≡ b.returned → a.came ≡ b.came → a.acknowledged ≡ b.acknowledged → a ≡ b
 same_seen a b c p r t m k = λ i. record { changes = c i; probed = p i; replied = r i; returned = t i; came = m i; acknowledged = k i }
@@ -254,7 +287,7 @@ then-in-a-row a b c =
     let sum : a.changes + (b.changes + c.changes) ≡ a.changes + b.changes + c.changes = omega arith in
     same_seen (seen_then a (seen_then b c)) (seen_then (seen_then a b) c)
     sum (either-in-a-row a.probed b.probed c.probed) (either-in-a-row a.replied b.replied c.replied) (or-in-a-row a.returned b.returned c.returned)
-    (or-in-a-row a.came b.came c.came) (or-in-a-row a.acknowledged b.acknowledged c.acknowledged)
+    (or-in-a-row a.came b.came c.came) (either-in-a-row a.acknowledged b.acknowledged c.acknowledged)
 
 or-none : (a : Option ℕ) → either a None ≡ a
 or-none (Some x) = refl
@@ -276,7 +309,7 @@ none-came : (p : Option AwaitedPart) → came_in p [] ≡ false
 none-came None = refl
 none-came (Some p) = refl
 
-none-acknowledged : (mapper : ℕ) (p : Option AwaitedPart) → acknowledged_in mapper p [] ≡ false
+none-acknowledged : (mapper : ℕ) (p : Option AwaitedPart) → acknowledged_in mapper p [] ≡ None
 none-acknowledged mapper None = refl
 none-acknowledged mapper (Some p) = refl
 
@@ -285,4 +318,29 @@ pub then-nothing : (watch : Watch) (s : Seen) → seen_then s (seen_in watch [])
 then-nothing watch s =
     same_seen (seen_then s (seen_in watch [])) s (omega arith) (or-none s.probed)
     (ap (either s.replied) (none-replied watch.mapper watch.number) ∙ or-none s.replied) (ap (λ b. s.returned || b) (none-returned watch.mapper watch.number) ∙ or-false s.returned)
-    (ap (λ b. s.came || b) (none-came watch.part) ∙ or-false s.came) (ap (λ b. s.acknowledged || b) (none-acknowledged watch.mapper watch.part) ∙ or-false s.acknowledged)
+    (ap (λ b. s.came || b) (none-came watch.part) ∙ or-false s.came) (ap (either s.acknowledged) (none-acknowledged watch.mapper watch.part) ∙ or-none s.acknowledged)
+
+-- a packet that goes on is one change, and one that waits is none; neither shows anything else
+seen-moved : (watch : Watch) (next : ℕ) → seen_in watch (Moved next ∷ []) ≡ record (seen_in watch []) { changes = 1 }
+seen-moved watch next = by watch.number watch.part
+  where
+    by : (n : Option ℕ) (p : Option AwaitedPart) → seen_in (record watch { number = n; part = p }) (Moved next ∷ []) ≡ record (seen_in (record watch { number = n; part = p }) []) { changes = 1 }
+    by None None = refl
+    by None (Some p) = refl
+    by (Some n) None = refl
+    by (Some n) (Some p) = refl
+
+seen-blocked : (watch : Watch) (next : ℕ) → seen_in watch (Blocked next ∷ []) ≡ seen_in watch []
+seen-blocked watch next = by watch.number watch.part
+  where
+    by : (n : Option ℕ) (p : Option AwaitedPart) → seen_in (record watch { number = n; part = p }) (Blocked next ∷ []) ≡ seen_in (record watch { number = n; part = p }) []
+    by None None = refl
+    by None (Some p) = refl
+    by (Some n) None = refl
+    by (Some n) (Some p) = refl
+
+pub then-moved : (watch : Watch) (s : Seen) (next : ℕ) → seen_then s (seen_in watch (Moved next ∷ [])) ≡ record s { changes = s.changes + 1 }
+then-moved watch s next = ap (seen_then s) (seen-moved watch next) ∙ ap (λ (t : Seen). record t { changes = s.changes + 1 }) (then-nothing watch s)
+
+pub then-blocked : (watch : Watch) (s : Seen) (next : ℕ) → seen_then s (seen_in watch (Blocked next ∷ [])) ≡ s
+then-blocked watch s next = ap (seen_then s) (seen-blocked watch next) ∙ then-nothing watch s

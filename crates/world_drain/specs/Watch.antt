@@ -1,10 +1,13 @@
 -- What a mapper looks for in what happens.
-use Rattle.std.specs.Prelude.{ℕ, ◌+◌, Bool, false, ◌&&◌, ◌||◌, nat_eq, List, Option, Some, None}
+use Rattle.std.specs.Prelude.{ℕ, ◌+◌, Bool, false, ◌&&◌, ◌||◌, nat_eq, List, [], ◌∷◌, Option, Some, None}
+use Rattle.std.specs.Prelude.{if◌then◌else◌}
 use Rattle.world_defs.specs.declared.effect.Effect.{Effect}
+use Rattle.world_defs.specs.declared.effect.Effect.TheVariants.{Arrived}
+use Rattle.world_defs.specs.declared.heard.Heard.TheVariants.{RoutesAck}
 use Rattle.world_defs.specs.Node.{either}
 use Rattle.world_defs.specs.Drain.{changes}
 use Rattle.world_defs.specs.Asking.{probed_host, reply_in, returned_in}
-use Rattle.world_defs.specs.Install.{has_part_come, is_acknowledged}
+use Rattle.world_defs.specs.Install.{has_part_come}
 use Rattle.world_drain.specs.declared.seen.AwaitedPart.{AwaitedPart}
 use Rattle.world_drain.specs.declared.seen.Watch.{Watch}
 use Rattle.world_drain.specs.declared.seen.Seen.{Seen}
@@ -14,10 +17,17 @@ abbrev pub came_in : Option AwaitedPart → List Effect → Bool
 came_in None xs = false
 came_in (Some p) xs = has_part_come p.dst xs
 
--- a mapper heard the acknowledgement of the awaited part
-abbrev pub acknowledged_in : ℕ → Option AwaitedPart → List Effect → Bool
-acknowledged_in mapper None xs = false
-acknowledged_in mapper (Some p) xs = is_acknowledged mapper p.dst p.part xs
+-- the epoch of the first acknowledgement of a host's part that the mapper heard
+abbrev pub acked_epoch : ℕ → ℕ → ℕ → List Effect → Option ℕ
+acked_epoch mapper dst part [] = None
+acked_epoch mapper dst part (Arrived h (RoutesAck epoch from p) ∷ xs) =
+    if nat_eq h mapper && nat_eq from dst && nat_eq p part then Some epoch else acked_epoch mapper dst part xs
+acked_epoch mapper dst part (_ ∷ xs) = acked_epoch mapper dst part xs
+
+-- the epoch of the first acknowledgement of the awaited part that a mapper heard
+abbrev pub acknowledged_in : ℕ → Option AwaitedPart → List Effect → Option ℕ
+acknowledged_in mapper None xs = None
+acknowledged_in mapper (Some p) xs = acked_epoch mapper p.dst p.part xs
 
 -- what a mapper that watches sees in effects
 abbrev pub seen_in : Watch → List Effect → Seen
@@ -38,7 +48,7 @@ seen_then a b = record {
   replied = either a.replied b.replied;
   returned = a.returned || b.returned;
   came = a.came || b.came;
-  acknowledged = a.acknowledged || b.acknowledged;
+  acknowledged = either a.acknowledged b.acknowledged;
 }
 
 -- a mapper heard of its own probe, where that was injected

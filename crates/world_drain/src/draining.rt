@@ -94,8 +94,8 @@ fn advance(
     ensures channels { length w.new.links.channels ≡ length w.old.links.channels }
 {
     match w.hop(c) {
-        Hop::Moved(_) => Ok(seen.then(watch.one_change())),
-        Hop::Blocked(_) => Ok(seen.then(watch.nothing())),
+        Hop::Moved(_) => Ok(seen.one_more()),
+        Hop::Blocked(_) => Ok(seen),
         Hop::Untried => {
             let one = advance_whole(alloc, w, watch, c)?;
             Ok(seen.then(one))

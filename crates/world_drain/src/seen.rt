@@ -2,7 +2,7 @@
 
 ghost use Rattle.std.specs.Prelude.{◌≡◌, ◌≤◌, ◌+◌, ◌^◌, ◌<◌, ◌&&◌, ◌∷◌, [], ℕ, nat_eq, false, Option, Some, None};
 ghost use Rattle.world_defs.specs.Asking.{reply_in, returned_in};
-ghost use Rattle.world_defs.specs.declared.effect.Effect.TheVariants.{Arrived, Moved};
+ghost use Rattle.world_defs.specs.declared.effect.Effect.TheVariants.{Arrived};
 ghost use Rattle.world_drain.specs.Watch.{seen_in, seen_then, is_own, is_awaited_host, is_own_ack};
 
 use world_defs::{Effect, Heard};
@@ -41,8 +41,8 @@ pub struct Seen {
     pub returned: bool,
     /// Whether the host of the awaited part heard a part.
     pub came: bool,
-    /// Whether the mapper heard the acknowledgement of the awaited part.
-    pub acknowledged: bool,
+    /// The epoch of the awaited part's acknowledgement that the mapper heard first.
+    pub acknowledged: Option<u32>,
 }
 
 impl Watch {
@@ -51,13 +51,6 @@ impl Watch {
         ensures { result ≡ seen_in self.now [] }
     {
         seen_nothing(0)
-    }
-
-    /// A packet went on into another channel.
-    pub(crate) fn one_change(&self) -> Seen
-        ensures { (next : ℕ) → result ≡ seen_in self.now (Moved next ∷ []) }
-    {
-        seen_nothing(1)
     }
 
     /// What is seen of one event.
@@ -83,10 +76,10 @@ impl Watch {
             Heard::Loop { number } => seen.returned = self.is_own(host, *number),
             Heard::Routes => seen.came = self.is_awaited_host(host),
             Heard::RoutesAck {
-                epoch: _,
+                epoch,
                 host: from,
                 part,
-            } => seen.acknowledged = self.is_own_ack(host, *from, *part),
+            } if self.is_own_ack(host, *from, *part) => seen.acknowledged = Some(*epoch),
             _ => {}
         }
         seen
@@ -131,7 +124,7 @@ fn seen_nothing(changes: u64) -> Seen
       replied = None;
       returned = false;
       came = false;
-      acknowledged = false;
+      acknowledged = None;
     } }
 {
     Seen {
@@ -140,11 +133,22 @@ fn seen_nothing(changes: u64) -> Seen
         replied: None,
         returned: false,
         came: false,
-        acknowledged: false,
+        acknowledged: None,
     }
 }
 
 impl Seen {
+    /// One change more, which shows nothing else.
+    pub(crate) fn one_more(self) -> Seen
+        requires { self.changes + 1 < 2 ^ 64 }
+        ensures { result ≡ record self { changes = self.changes + 1 } }
+    {
+        Seen {
+            changes: self.changes + 1,
+            ..self
+        }
+    }
+
     /// What is seen where others follow.
     pub(crate) fn then(self, next: Seen) -> Seen
         requires { self.changes + next.changes < 2 ^ 64 }
@@ -156,7 +160,7 @@ impl Seen {
             replied: self.replied.or(next.replied),
             returned: self.returned || next.returned,
             came: self.came || next.came,
-            acknowledged: self.acknowledged || next.acknowledged,
+            acknowledged: self.acknowledged.or(next.acknowledged),
         }
     }
 }

@@ -6,7 +6,7 @@ ghost use Rattle.link_defs.specs.Advance.{advance, course};
 ghost use Rattle.link_model.specs.Hop.{IsHop};
 
 use super::Links;
-use crate::course::course;
+use crate::course::{course, turned};
 use crate::hop::Hop;
 use channel_slots::Slot;
 use link_defs::{Course, Moved};
@@ -78,7 +78,8 @@ impl Links {
         }
     }
 
-    // A channel's packet enters the next channel, if that is empty or the channel itself: whether it did.
+    // A channel's packet enters the next channel, if that is empty or the channel itself: whether it did. The switch
+    // turns it only then, since a packet that waits is as it came.
     fn enter(&mut self, c: u16, next: u16) -> bool
         requires there { c < length self.old.channels }
         requires course { option_map (λ held. course self.old.net c held.wire) (packet_in self.old c)
@@ -88,7 +89,9 @@ impl Links {
         if next != c && self.slots.is_full(usize::from(next)) {
             return false;
         }
-        self.slots.pass_on(usize::from(c), usize::from(next));
+        let slot = self.slots.take(usize::from(c)).unwrap();
+        let slot = turned(&self.wiring, c, slot);
+        self.slots.put(usize::from(next), slot);
         true
     }
 

@@ -15,17 +15,19 @@ is_full-requires c =
     let number = c.from.ensures in
     omega (arith, low, same, view, number)
 
-pub pass_on-requires-clause-next : goal.pass_on-requires-clause-next
-pass_on-requires-clause-next c =
+pub put-requires-clause-there : goal.put-requires-clause-there
+put-requires-clause-there c =
     let low = entering c.args.self.now c.args.c c.args.next c.requires.course in
     let links : IsLinks c.args.self.now = subst IsLinks c.self.view_is c.self.invariant in
     let same = links.slots in
     let view = ap (λ s. length s.channels) c.self.view_is in
     let number = c.from-3.ensures in
-    omega (arith, low, same, view, number)
+    let long = ap length c.take.ensures.slots ∙ length-set {A = Option Held} c.self.inside.slots c.from-2.result None in
+    omega (arith, low, same, view, number, long)
 
 pub invariant_of-self : goal.invariant_of-self
 invariant_of-self c =
     let s = state c.self.inside.wiring c.self.inside.slots c.self.inside.limbo c.self.inside.next_serial in
-    written-links s c.pass_on.new.self
-    (ap length c.pass_on.ensures ∙ length-set {A = Option Held} _ c.from-3.result _ ∙ length-set {A = Option Held} c.self.inside.slots c.from-2.result None) c.self.invariant
+    written-links s c.put.new.self
+    (ap length c.put.ensures ∙ length-set {A = Option Held} c.take.new.self c.from-3.result _
+    ∙ ap length c.take.ensures.slots ∙ length-set {A = Option Held} c.self.inside.slots c.from-2.result None) c.self.invariant

@@ -8,5 +8,5 @@ pub returns-then-work-a-2-clause-after : goal.returns-then-work-a-2-clause-after
 returns-then-work-a-2-clause-after c =
     let i : Installation = c.args.self.now in
     c.put.ensures
-    ∙ ap (λ (v : Work). record i { works = changed (is_done i) (λ w. v) i.works }) c.acknowledged.ensures
+    ∙ ap (λ (v : Work). record i { works = changed (is_done i.tries) (λ w. v) i.works }) c.acknowledged.ensures
     ∙ ack-after i c.in-Some.work c.args.a.host c.args.a.part c.in-Some.ensures.value c.if-work-a.true c.if-work-a-2.true

@@ -8,5 +8,5 @@ pub returns-in-Some : goal.returns-in-Some
 returns-in-Some c =
     let i : Installation = c.args.self.now in
     c.put.ensures
-    ∙ ap (λ (v : Work). record i { works = changed (is_done i) (λ w. v) i.works }) c.silent.ensures
+    ∙ ap (λ (v : Work). record i { works = changed (is_done i.tries) (λ w. v) i.works }) c.silent.ensures
     ∙ silence-after i c.in-Some.work c.in-Some.ensures.value
