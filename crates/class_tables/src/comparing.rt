@@ -1,6 +1,6 @@
 //! Classes compared with the plain closure after each entry of a journal.
 
-ghost use Rattle.std.specs.Prelude.{◌<◌, [], length, IfOk, IfSome};
+ghost use Rattle.std.specs.Prelude.{◌<◌, [], length};
 ghost use Rattle.class_joins.specs.Table.{IsTrueOfOne, StandsFor};
 
 use crate::plain::{Pair, replicates};
@@ -30,24 +30,25 @@ pub(crate) struct Comparison {
     pub(crate) expanded: usize,
 }
 
-/// The journal that grows from host 0 to a depth.
-pub(crate) fn journal_of(
+/// Compares the classes of the journal that grows from host 0 to a depth, after each of its entries; none where there
+/// is no such journal, or it has too many.
+pub(crate) fn compared_on(
     alloc: Global,
     fabric: &Fabric,
     depth: u8,
-) -> Result<Option<Journal>, AllocError>
-    ensures { IfOk result (λ journal. IfSome journal (λ j. IsTrueOfOne j.host j.entries)) }
-{
+) -> Result<Option<Comparison>, AllocError> {
     if fabric.hosts() == 0 || depth > 32 {
         return Ok(None);
     }
     let mut prober = FabricProber::new(fabric, 0);
-    let grown = grow(alloc, &mut prober, depth)?;
-    Ok(Some(grown.journal))
+    match grow(alloc, &mut prober, depth) {
+        Ok(grown) => compared(alloc, &grown.journal),
+        Err(wanting) => Err(wanting),
+    }
 }
 
-/// Compares the classes of a journal after each of its entries; none where it has too many.
-pub(crate) fn compared(alloc: Global, journal: &Journal) -> Result<Option<Comparison>, AllocError>
+// Compares the classes of a journal after each of its entries; none where it has too many.
+fn compared(alloc: Global, journal: &Journal) -> Result<Option<Comparison>, AllocError>
     requires { IsTrueOfOne journal.now.host journal.now.entries }
 {
     if journal.entries().len() > MOST {

@@ -23,7 +23,7 @@ mod plain;
 mod seen;
 mod so_far;
 
-use comparing::{Comparison, compared, journal_of};
+use comparing::{Comparison, compared_on};
 use fabric_file::read_fabric;
 use fabrics::{Grown, JOURNALS};
 use std::alloc::{AllocError, Global};
@@ -43,12 +43,9 @@ fn compared_of(alloc: Global, grown: &Grown) -> Result<Option<Comparison>, Alloc
     if text.len() > 1000 {
         return Ok(None);
     }
-    let Ok(read) = read_fabric(alloc, text) else {
-        return Ok(None);
-    };
-    match journal_of(alloc, &read.fabric, grown.depth)? {
-        Some(journal) => compared(alloc, &journal),
-        None => Ok(None),
+    match read_fabric(alloc, text) {
+        Ok(read) => compared_on(alloc, &read.fabric, grown.depth),
+        Err(_) => Ok(None),
     }
 }
 
