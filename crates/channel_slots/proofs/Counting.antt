@@ -26,6 +26,18 @@ count-le [] = omega arith
 count-le (None ∷ ps) = let h = count-le ps in omega (arith, h)
 count-le (Some held ∷ ps) = let h = count-le ps in omega (arith, h)
 
+-- none is counted exactly where each is empty
+pub none-counted : (ps : List (Option Held)) (k : ℕ) → full_count ps ≡ 0 → get_or ps k None ≡ None
+none-counted [] k e = refl
+none-counted (None ∷ ps) zero e = refl
+none-counted (None ∷ ps) (suc k) e = none-counted ps k (omega (arith, e))
+none-counted (Some held ∷ ps) k e = absurd (omega (arith, e))
+
+pub none-full_count : (ps : List (Option Held)) → ((k : ℕ) → get_or ps k None ≡ None) → full_count ps ≡ 0
+none-full_count [] empty = refl
+none-full_count (None ∷ ps) empty = let h = none-full_count ps (λ k. empty (suc k)) in omega (arith, h)
+none-full_count (Some held ∷ ps) empty = let first : Some held ≡ None = empty 0 in cc
+
 -- a packet more in an empty channel
 pub count-put : (ps : List (Option Held)) (c : ℕ) (held : Held) → c < length ps → get_or ps c None ≡ None → full_count ps + 1 ≡ full_count (set ps c (Some held))
 count-put [] c held h e = absurd (omega arith)

@@ -8,8 +8,8 @@ use Rattle.std.proofs.lemmas.List.{get_or-set_same, get_or-set_other}
 use Rattle.std.proofs.Math.ListN.{length-set, get_or-eq_default}
 use Rattle.link_defs.specs.Links.{Held}
 use Rattle.number_marks.specs.Marks.{mark_at, IsWritten, IsNextMark}
-use Rattle.channel_slots.proofs.Counting.{count-put, count-take}
-use Rattle.channel_slots.specs.Full.{full_of, full_from, IsIndexed}
+use Rattle.channel_slots.proofs.Counting.{count-put, count-take, none-counted, none-full_count}
+use Rattle.channel_slots.specs.Full.{full_of, full_count, full_from, IsLone, IsIndexed}
 
 -- ---- the marks after a write
 -- a channel is written, and its mark
@@ -121,6 +121,32 @@ full-none ps words from marks none = find-range-none (λ k. is_some (get_or ps k
 pub full-next : (ps : List (Option Held)) (words : List ℕ) (from : ℕ) (o : Option ℕ) → ((k : ℕ) → mark_at words k ≡ full_of (get_or ps k None)) → IfSome o (IsNextMark words from) → IfNone o ((k : ℕ) → from ≤ k → mark_at words k ≡ 0) → o ≡ full_from ps from
 full-next ps words from None marks some none = sym (full-none ps words from marks none)
 full-next ps words from (Some c) marks some none = sym (full-some ps words from c marks some)
+
+pub full-idle : (ps : List (Option Held)) (count from : ℕ) → count ≡ full_count ps → count ≡ 0 → None ≡ full_from ps from
+full-idle ps count from counted none = sym (find-range-none (λ k. is_some (get_or ps k None)) (length ps - from) from (λ k low. ap is_some (none-counted ps k (sym counted ∙ none))))
+
+-- ---- the only full channel
+lone-is : (ps : List (Option Held)) (c : ℕ) → full_count ps ≡ 1 → c < length ps → is_some (get_or ps c None) ≡ true → IsLone ps c
+lone-is ps c one low full =
+    let less = count-take ps c full in
+    record {
+      there = low;
+      full = full;
+      others = λ k other. sym (get_or-set_other ps c k None None other) ∙ none-counted (set ps c None) k (omega (arith, less, one));
+    }
+
+pub lone-next : (ps : List (Option Held)) (words : List ℕ) (count : ℕ) (o : Option ℕ) → IsIndexed ps count words → count ≡ 1 → IfSome o (IsNextMark words 0) → IfSome o (IsLone ps)
+lone-next ps words count None is one found = tt
+lone-next ps words count (Some c) is one found =
+    let full : full_of (get_or ps c None) ≡ 1 = sym (is.marks c) ∙ found.marked in
+    let counted = is.counted in
+    lone-is ps c (omega (arith, counted, one)) (full-there ps c full) (full-mark (get_or ps c None) full)
+
+pub lone-none : (ps : List (Option Held)) (words : List ℕ) (count : ℕ) (o : Option ℕ) → IsIndexed ps count words → IfNone o ((k : ℕ) → 0 ≤ k → mark_at words k ≡ 0) → IfNone o (full_count ps ≢ 1)
+lone-none ps words count (Some c) is missed = tt
+lone-none ps words count None is missed = λ one.
+    let none = none-full_count ps (λ k. none-there (get_or ps k None) (bare-mark (get_or ps k None) (sym (is.marks k) ∙ missed k (omega arith)))) in
+    absurd (omega (arith, none, one))
 
 -- ---- the index
 -- an empty list of channels has no full one

@@ -1,6 +1,6 @@
 -- Which channels are full, and the marks of the full ones.
-use Rattle.std.specs.Prelude.{◌≡◌, ℕ, ◌+◌, ◌-◌, ◌*◌, ◌^◌, ◌≤◌, List, [], ◌∷◌, length, slice_index_or, find, Option}
-use Rattle.std.specs.Prelude.{Some, None, is_some}
+use Rattle.std.specs.Prelude.{◌≡◌, ◌≢◌, ℕ, ◌+◌, ◌-◌, ◌*◌, ◌^◌, ◌<◌, ◌≤◌, true, List, [], ◌∷◌, length, slice_index_or}
+use Rattle.std.specs.Prelude.{find, Option, Some, None, is_some}
 use Rattle.std.specs.List.{range_with_len}
 use Rattle.link_defs.specs.Links.{Held}
 use Rattle.number_marks.specs.Marks.{mark_at}
@@ -18,6 +18,12 @@ full_count (p ∷ ps) = full_of p + full_count ps
 -- the first full one from a place on
 abbrev pub full_from : List (Option Held) → ℕ → Option ℕ
 full_from ps from = find (λ c. is_some (slice_index_or ps c None)) (range_with_len from (length ps - from))
+
+-- A channel is full, and no other is.
+pub record IsLone (ps : List (Option Held)) (c : ℕ) : Type 0 where
+  pub there : c < length ps
+  pub full : is_some (slice_index_or ps c None) ≡ true
+  pub others : (k : ℕ) → k ≢ c → slice_index_or ps k None ≡ None
 
 -- The full ones are counted and marked, and there is room for the mark of each.
 pub record IsIndexed (ps : List (Option Held)) (count : ℕ) (words : List ℕ) : Type 0 where

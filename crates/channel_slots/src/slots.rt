@@ -2,11 +2,11 @@
 
 ghost use Rattle.std.specs.Prelude.{◌≡◌, ◌<◌, ◌≤◌, length, replicate, not, ◌&&◌, if◌then◌else◌, slice_index_or};
 ghost use Rattle.std.specs.Prelude.{slice_set, Option, Some, None, is_some, is_none, option_map, option_copied};
-ghost use Rattle.std.specs.Prelude.{IfOk, IfSome, IfErr, OnOk, true, false};
+ghost use Rattle.std.specs.Prelude.{IfOk, IfSome, IfNone, IfErr, OnOk, true, false, ◌≢◌};
 ghost use Rattle.std.specs.List.{list_all};
 ghost use Rattle.packet_defs.specs.Burst.{flipped, may_flip};
 ghost use Rattle.link_defs.specs.Links.{Held};
-ghost use Rattle.channel_slots.specs.Full.{full_from};
+ghost use Rattle.channel_slots.specs.Full.{full_count, full_from, IsLone};
 
 use myri_packet::Packet;
 use number_marks::{bare, mark, next_marked, unmark};
@@ -145,12 +145,29 @@ impl Slots {
         self.full == 0
     }
 
-    /// The first full channel from a number on. It looks at one word of marks for 64 channels.
+    /// The first full channel from a number on. It looks at one word of marks for 64 channels, and at none where all
+    /// channels are empty.
     pub fn next_full(&self, from: usize) -> Option<usize>
         ensures next { result ≡ full_from self.now from }
         ensures there { IfSome result (λ c. c < length self.now) }
     {
-        next_marked(&self.marks, from)
+        if self.full == 0 {
+            None
+        } else {
+            next_marked(&self.marks, from)
+        }
+    }
+
+    /// The channel that is full where no other is. None where several are, or none is. It looks at the count first.
+    pub fn lone(&self) -> Option<usize>
+        ensures lone { IfSome result (IsLone self.now) }
+        ensures none { IfNone result (full_count self.now ≢ 1) }
+    {
+        if self.full == 1 {
+            next_marked(&self.marks, 0)
+        } else {
+            None
+        }
     }
 
     /// What a channel holds.

@@ -8,20 +8,23 @@ use Rattle.world_defs.specs.declared.effect.Effect.{Effect}
 use Rattle.world_defs.specs.declared.effect.Effect.TheVariants.{Moved as MovedTo, Blocked as StaysFor}
 use Rattle.world_defs.specs.declared.fault.Fault.{Fault}
 use Rattle.world_defs.specs.Table.{Adoption, is_other}
-use Rattle.world_defs.specs.World.{WorldState, fabric_of, planned, adopted_by}
+use Rattle.world_defs.specs.World.{WorldState, fabric_of, with_links, planned, adopted_by}
 use Rattle.world_defs.specs.Step.{step}
 use Rattle.world_defs.specs.EightBits.{IsByteFault, IsByteEvent}
 use Rattle.world_laws.proofs.Shapes.{step-kept}
 use Rattle.act_defs.specs.Acts.{Happens, Plans, Adopts, IsSameSet, IsReached}
 use Rattle.act_defs.proofs.Reaching.{reached-next}
 use Rattle.act_defs.proofs.Routes.{not-other}
+use Rattle.link_defs.specs.Links.{LinkState}
+use Rattle.link_model.specs.Hop.{IsRun}
 use Rattle.link_model.specs.declared.hop.Hop.{Hop}
 use Rattle.link_model.specs.declared.hop.Hop.TheVariants.{Moved, Blocked, Untried}
 use Rattle.port_graph.specs.Routes.{HandsBack}
 use Rattle.adopted_routes.specs.Adopting.{IsAdoptable, adopt_refusal}
 use Rattle.adopted_routes.specs.declared.routes.AdoptRefusal.{AdoptRefusal}
 use Rattle.adopted_routes.specs.declared.routes.AdoptRefusal.TheVariants.{Another}
-use Rattle.fab_world.specs.Hop.{IsHopIn}
+use Rattle.fab_world.specs.Hop.{IsHopIn, IsRunIn}
+use Rattle.fab_world.proofs.Hopping.{moved-in}
 
 -- a world that is reached in its fabric
 abbrev pub IsReachedNow : WorldState → Type 0
@@ -40,6 +43,14 @@ pub hop-reached : (w v : WorldState) (c : ℕ) (h : Hop) → IsReachedNow w → 
 hop-reached w v c (Moved next) is now = event-reached w v (Advance c) (MovedTo next) tt is now
 hop-reached w v c (Blocked next) is now = event-reached w v (Advance c) (StaysFor next) tt is now
 hop-reached w v c Untried is now = subst IsReachedNow (sym now) is
+
+along-reached : (w : WorldState) (c : ℕ) (links : LinkState) (hops at : ℕ) → IsReachedNow w → IsRun w.links c hops at links → IsReachedNow (with_links w links)
+along-reached w c links hops at is IsRun.not_begun = is
+along-reached w c links hops at is (IsRun.further {hops = n} {at = b} {next = d} {now = now} {after = after} before went) =
+    event-reached (with_links w now) (with_links w after) (Advance b) (MovedTo d) tt (along-reached w c now n b is before) (moved-in w now after b d went)
+
+pub run-reached : (w v : WorldState) (c hops at : ℕ) → IsReachedNow w → IsRunIn w c hops at v → IsReachedNow v
+run-reached w v c hops at is (run, rest) = subst IsReachedNow (sym rest) (along-reached w c v.links hops at is run)
 
 pub plan-reached : {E : Type 0} (w v : WorldState) (ahead : ℕ) (fault : Fault) (r : Result ℕ E) → 1 ≤ ahead → IsByteFault fault → IsReachedNow w → IfOk r (λ number. planned w ahead fault ≡ (number, v)) → OnErr r (v ≡ w) → IsReachedNow v
 plan-reached w v ahead fault (Ok number) far low is ok err =

@@ -1,10 +1,11 @@
--- A hop: an advance into the next channel, or one that is blocked.
+-- A hop: an advance into the next channel, or one that is blocked; and a run of hops.
 use Rattle.std.specs.Prelude.{◌≡◌, ℕ}
+use Rattle.link_model.specs.Hop.{IsRun}
 use Rattle.link_model.specs.declared.hop.Hop.{Hop}
 use Rattle.link_model.specs.declared.hop.Hop.TheVariants.{Moved, Blocked, Untried}
 use Rattle.world_defs.specs.declared.event.Event.TheVariants.{Advance}
 use Rattle.world_defs.specs.declared.effect.Effect.TheVariants.{Moved as MovedTo, Blocked as StaysFor}
-use Rattle.world_defs.specs.World.{WorldState}
+use Rattle.world_defs.specs.World.{WorldState, with_links}
 use Rattle.world_defs.specs.Step.{step}
 
 -- a hop that moved its packet, or found it blocked, is the advance; else nothing has changed
@@ -12,3 +13,7 @@ abbrev pub IsHopIn : WorldState → ℕ → Hop → WorldState → Type 0
 IsHopIn w c (Moved next) v = step w (Advance c) ≡ (MovedTo next, v)
 IsHopIn w c (Blocked next) v = step w (Advance c) ≡ (StaysFor next, v)
 IsHopIn w c Untried v = v ≡ w
+
+-- the links made a run from a channel, of so many hops, to this channel, and nothing else has changed
+abbrev pub IsRunIn : WorldState → ℕ → ℕ → ℕ → WorldState → Type 0
+IsRunIn w c hops at v = IsRun w.links c hops at v.links × (v ≡ with_links w v.links)

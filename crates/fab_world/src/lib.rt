@@ -27,7 +27,7 @@ mod world;
 
 pub use adopted_routes::AdoptRefusal;
 pub use client_host::{Message, Said, TokenPlace};
-pub use faulty_links::Hop;
+pub use faulty_links::{Hop, Run};
 pub use port_graph::{Fabric, RouteSet};
 pub use world::World;
 pub use world_defs::{Cause, ClientCause, Effect, Event, Fault, Heard};

@@ -1,12 +1,15 @@
 //! The world.
 
-ghost use Rattle.std.specs.Prelude.{◌≡◌, ◌≤◌, ◌<◌, ◌^◌, ℕ, length, true, is_some, option_map, Some, None, IfOk};
+ghost use Rattle.std.specs.Prelude.{◌≡◌, ◌≢◌, ◌≤◌, ◌<◌, ◌^◌, ℕ, length, true, is_some, option_map, Some, None, IfOk};
 ghost use Rattle.std.specs.Prelude.{nat_lt, IfSome, IfNone, OnOk, OnErr};
 ghost use Rattle.net_defs.specs.Route.{channel_from};
 ghost use Rattle.link_defs.specs.Channel.{channel_count, channel_tail, channel_head};
 ghost use Rattle.link_defs.specs.Hops.{total_hops};
 ghost use Rattle.link_defs.specs.Links.{packet_in, is_idle};
+ghost use Rattle.link_defs.specs.declared.moved.Moved.TheVariants.{To};
+ghost use Rattle.link_defs.specs.Advance.{advance};
 ghost use Rattle.link_defs.specs.Fault.{next_limbo};
+ghost use Rattle.channel_slots.specs.Full.{full_count, IsLone};
 ghost use Rattle.link_model.specs.Full.{IsNextFull};
 ghost use Rattle.port_graph.specs.Routes.{HandsBack};
 ghost use Rattle.gm_defs.specs.Body.{is_prio};
@@ -24,12 +27,12 @@ ghost use Rattle.host_ports.specs.Held.{place_at};
 ghost use Rattle.adopted_routes.specs.Adopting.{IsAdoptable, adopt_refusal, part_count_for};
 ghost use Rattle.fab_world.specs.Events.{IsHostOf, IsChannelOf, IsGiven};
 ghost use Rattle.fab_world.specs.Held.{IsMoment, IsOfHosts};
-ghost use Rattle.fab_world.specs.Hop.{IsHopIn};
+ghost use Rattle.fab_world.specs.Hop.{IsHopIn, IsRunIn};
 
 use crate::machine::Machine;
 use adopted_routes::AdoptRefusal;
 use client_host::{Message, TokenPlace};
-use faulty_links::Hop;
+use faulty_links::{Hop, Run};
 use net_defs::End;
 use port_graph::{Fabric, RouteSet};
 use std::alloc::{AllocError, Global};
@@ -98,6 +101,20 @@ impl World {
         ensures channels { length self.new.links.channels ≡ length self.old.links.channels }
     {
         self.machine.hop(c)
+    }
+
+    /// The only packet in the channels goes on from channel to channel, until its next advance leads into none: how
+    /// far. It is in this channel.
+    pub fn run(&mut self, c: u16) -> Run
+        requires { IsLone self.old.links.channels c }
+        ensures run { IsRunIn self.old c result.hops result.at self.new }
+        ensures lone { IsLone self.new.links.channels result.at }
+        ensures last { (next : ℕ) → (advance self.new.links result.at).0 ≢ To next }
+        ensures few { result.hops ≤ 1107 }
+        ensures fabric { fabric_of self.new ≡ fabric_of self.old }
+        ensures hosts { host_count self.new ≡ host_count self.old }
+    {
+        self.machine.run(c)
     }
 
     /// Adopts routes: a host is their adopter from now on, and its table is theirs at once. The same routes may be
@@ -217,6 +234,15 @@ impl World {
         ensures none { IfNone result ((k : ℕ) → from ≤ k → packet_in self.now.links k ≡ None) }
     {
         self.machine.links.next_full(from)
+    }
+
+    /// The channel that holds a packet where no other does. None where several do, or none does. It looks at a count
+    /// first.
+    pub fn lone(&self) -> Option<u16>
+        ensures lone { IfSome result (IsLone self.now.links.channels) }
+        ensures none { IfNone result (full_count self.now.links.channels ≢ 1) }
+    {
+        self.machine.links.lone()
     }
 
     /// At least the hops that all packets in channels have left: so many advances at most change something before

@@ -1,21 +1,10 @@
 -- A packet has no more hops left than it has bytes, and empty channels have none.
-use Rattle.std.proofs.Common.{◌≡◌, ◌<◌, ◌≤◌, ◌+◌, ◌-◌, ℕ, zero, suc, Bool, true, false, if◌then◌else◌, List, [], ◌∷◌, length, Option, Some, None, refl, ◌∙◌, ap, subst, arith}
+use Rattle.std.proofs.Common.{◌≡◌, ◌<◌, ◌≤◌, ◌+◌, ℕ, zero, suc, List, [], ◌∷◌, length, Option, Some, None, refl, ◌∙◌, ap, subst, arith}
 use Rattle.std.specs.Prelude.{slice_index_or, take, option_map}
 use Rattle.std.specs.Option.{unwrap_or}
-use Rattle.std.proofs.lemmas.List.{length-take}
-use Rattle.std.specs.List.{prefix_len}
-use Rattle.packet_defs.specs.RouteByte.{is_route_byte}
-use Rattle.packet_defs.specs.Packet.{head}
 use Rattle.link_defs.specs.Links.{Held}
 use Rattle.link_defs.specs.Hops.{hops_left, hops_of, hops_in}
-
-prefix-few : (test : ℕ → Bool) (xs : List ℕ) → prefix_len test xs ≤ length xs
-prefix-few test [] = omega arith
-prefix-few test (x ∷ xs) = by (test x) (prefix-few test xs)
-  where
-    by : (b : Bool) → prefix_len test xs ≤ length xs → (if b then 1 + prefix_len test xs else 0) ≤ suc (length xs)
-    by true h = omega (arith, h)
-    by false h = omega arith
+use Rattle.link_model.proofs.Runs.{hops-few}
 
 -- the hops of the first so many channels
 abbrev pub hops_below : List (Option Held) → ℕ → ℕ
@@ -45,13 +34,7 @@ pub below-all : (ps : List (Option Held)) → hops_below ps (length ps) ≡ hops
 below-all [] = refl
 below-all (p ∷ ps) = let h = below-all ps in omega (arith, h)
 
-pub hops-few : (wire : List ℕ) → 0 < length wire → hops_left wire ≤ length wire
-hops-few wire some =
-    let front = prefix-few is_route_byte (head wire) in
-    let short = length-take (length wire - 1) wire in
-    omega (arith, some, front, short)
-
--- of a channel with this packet
+-- a channel has no more hops left than its packet has bytes
 pub hops-of : (o : Option Held) (wire : List ℕ) → 0 < length wire → Some wire ≡ option_map (λ held. held.wire) o → hops_of o ≤ length wire
 hops-of None wire some e = cc
 hops-of (Some held) wire some e =

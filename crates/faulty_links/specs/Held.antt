@@ -13,6 +13,7 @@ use Rattle.world_defs.specs.Node.{NodeState, Outgoing, packet_for, after_sending
 use Rattle.world_defs.specs.Hearing.{hear}
 use Rattle.world_defs.specs.World.{WorldState, host_count, last_count, node_at, with_node, with_drop}
 use Rattle.world_defs.specs.Step.{lost, advanced, arrived, inject_one, planned_strikes}
+use Rattle.link_model.specs.Hop.{IsRun}
 use Rattle.link_model.specs.declared.hop.Hop.{Hop}
 use Rattle.link_model.specs.declared.hop.Hop.TheVariants.{Moved as Hopped, Blocked as Waits, Untried}
 
@@ -116,6 +117,10 @@ abbrev pub IsHopOf : LinksAndPlan → ℕ → Hop → LinksAndPlan → Type 0
 IsHopOf old c (Hopped next) new = (w : WorldState) → advanced (with_part w old) c ≡ (MovedTo next, with_part w new)
 IsHopOf old c (Waits next) new = (w : WorldState) → advanced (with_part w old) c ≡ (Blocked next, with_part w new)
 IsHopOf old c Untried new = new ≡ old
+
+-- the links made a run from a channel, of so many hops, to this channel, and nothing else has changed
+abbrev pub IsRunOf : LinksAndPlan → ℕ → ℕ → ℕ → LinksAndPlan → Type 0
+IsRunOf old c hops at new = IsRun old.links c hops at new.links × (new ≡ record old { links = new.links })
 
 -- a world with its own part is that world
 abbrev pub WorldHasItsPart : Type 0

@@ -1,12 +1,13 @@
 //! Links with a plan of faults and counts: reading them.
 
-ghost use Rattle.std.specs.Prelude.{◌≡◌, ◌<◌, ◌≤◌, ◌^◌, ℕ, length, Some, None, option_map, IfOk, IfSome, IfNone};
+ghost use Rattle.std.specs.Prelude.{◌≡◌, ◌≢◌, ◌<◌, ◌≤◌, ◌^◌, ℕ, length, Some, None, option_map, IfOk, IfSome, IfNone};
 ghost use Rattle.net_defs.specs.Network.{IsFabric};
 ghost use Rattle.net_defs.specs.Route.{channel_from};
 ghost use Rattle.link_defs.specs.Channel.{channel_count, channel_tail, channel_head};
 ghost use Rattle.link_defs.specs.Hops.{total_hops};
 ghost use Rattle.link_defs.specs.Links.{packet_in, is_idle};
 ghost use Rattle.link_defs.specs.Fault.{next_limbo};
+ghost use Rattle.channel_slots.specs.Full.{full_count, IsLone};
 ghost use Rattle.link_model.specs.Full.{next_full, IsNextFull};
 ghost use Rattle.world_defs.specs.World.{new_world};
 ghost use Rattle.faulty_links.specs.Held.{of_world, can_inject};
@@ -94,6 +95,15 @@ impl FaultyLinks {
         ensures none { IfNone result ((k : ℕ) → from ≤ k → packet_in self.now.links k ≡ None) }
     {
         self.links.next_full(from)
+    }
+
+    /// The channel that holds a packet where no other does. None where several do, or none does. It looks at a count
+    /// first.
+    pub fn lone(&self) -> Option<u16>
+        ensures lone { IfSome result (IsLone self.now.links.channels) }
+        ensures none { IfNone result (full_count self.now.links.channels ≢ 1) }
+    {
+        self.links.lone()
     }
 
     /// The least serial in limbo that isn't below a number.

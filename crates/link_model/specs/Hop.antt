@@ -1,6 +1,7 @@
 -- A hop: an advance of a packet that another channel takes, or that waits for one.
-use Rattle.std.specs.Prelude.{◌≡◌, ℕ, List}
+use Rattle.std.specs.Prelude.{◌≡◌, ℕ, ◌+◌, List}
 use Rattle.net_defs.specs.Network.{Network}
+use Rattle.packet_defs.specs.Packet.{stripped}
 use Rattle.link_defs.specs.declared.moved.Course.TheVariants.{Enters}
 use Rattle.link_defs.specs.declared.moved.Moved.TheVariants.{To, Blocked as StaysFor}
 use Rattle.link_defs.specs.Links.{LinkState}
@@ -17,3 +18,17 @@ IsHop old c Untried new = new ≡ old
 -- a switch sends a channel's packet on into a channel
 abbrev pub IsSentOn : Network → ℕ → List ℕ → Type 0
 IsSentOn n c wire = (next : ℕ) × (course n c wire ≡ Enters next)
+
+-- Hops of a packet by its own bytes, whatever the channels hold: from a channel with these bytes, in so many hops, to
+-- this channel with those.
+pub data IsSentAlong (n : Network) (c : ℕ) (wire : List ℕ) : ℕ → ℕ → List ℕ → Type 0 where
+  not_yet : IsSentAlong n c wire 0 c wire
+  one_more : {hops at next : ℕ} {now : List ℕ} → IsSentAlong n c wire hops at now → course n at now ≡ Enters next
+      → IsSentAlong n c wire (hops + 1) next (stripped now)
+
+-- Advances in a row, each of the channel that the packet of the one before entered: of this channel first, so many, to
+-- this channel and these links.
+pub data IsRun (s : LinkState) (c : ℕ) : ℕ → ℕ → LinkState → Type 0 where
+  not_begun : IsRun s c 0 c s
+  further : {hops at next : ℕ} {now after : LinkState} → IsRun s c hops at now → advance now at ≡ (To next, after)
+      → IsRun s c (hops + 1) next after

@@ -1,12 +1,13 @@
 //! Where a channel's packet goes, whatever the other channels hold.
 
-ghost use Rattle.std.specs.Prelude.{◌≡◌, ◌<◌, ℕ, true};
+ghost use Rattle.std.specs.Prelude.{◌≡◌, ◌≢◌, ◌<◌, ◌≤◌, ℕ, true};
 ghost use Rattle.net_defs.specs.Network.{has_port};
 ghost use Rattle.packet_defs.specs.Packet.{stripped};
 ghost use Rattle.link_defs.specs.Channel.{channel_count};
 ghost use Rattle.link_defs.specs.Advance.{course, course_out};
-ghost use Rattle.link_model.specs.Hop.{IsSentOn};
+ghost use Rattle.link_model.specs.Hop.{IsSentOn, IsSentAlong};
 
+use crate::hop::Run;
 use channel_slots::Slot;
 use crossbar::{aim_by, turn_by};
 use fabric_wiring::Wiring;
@@ -47,8 +48,36 @@ pub(crate) fn turned(wiring: &Wiring, c: u16, slot: Slot) -> Slot
     requires goes { IsSentOn wiring.now c slot.wire }
     ensures { result ≡ record slot { wire = stripped slot.wire } }
 {
-    let entry = wiring.entry(c);
     let (mut packet, marked) = slot.into_parts();
-    turn_by(entry.ports, entry.end.p, &mut packet);
+    turn(wiring, c, &mut packet);
     Slot::from_parts(packet, marked)
+}
+
+// The switch ahead of a channel turns its packet, which is known to go on into a channel.
+fn turn(wiring: &Wiring, c: u16, packet: &mut Packet)
+    requires there { c < channel_count wiring.now }
+    requires goes { IsSentOn wiring.now c packet.old }
+    ensures { packet.new ≡ stripped packet.old }
+{
+    let entry = wiring.entry(c);
+    turn_by(entry.ports, entry.end.p, packet);
+}
+
+/// The packet of a channel goes on, whatever the channels hold, until it leaves them: how far. Each switch turns it.
+pub(crate) fn follow(wiring: &Wiring, c: u16, packet: &mut Packet) -> Run
+    requires { c < channel_count wiring.now }
+    ensures along { IsSentAlong wiring.now c packet.old result.hops result.at packet.new }
+    ensures there { result.at < channel_count wiring.now }
+    ensures last { (next : ℕ) → course wiring.now result.at packet.new ≢ Course.Enters next }
+    ensures few { result.hops ≤ 1107 }
+{
+    let _few = packet.wire();
+    let mut at = c;
+    let mut hops = 0;
+    while let Course::Enters(next) = course(wiring, at, packet) {
+        turn(wiring, at, packet);
+        at = next;
+        hops += 1;
+    }
+    Run { hops, at }
 }

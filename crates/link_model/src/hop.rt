@@ -1,4 +1,4 @@
-//! What a hop came to.
+//! What a hop came to, and a run of hops.
 
 /// What a hop made of a channel's packet.
 #[derive(Clone, Copy, Debug, PartialEq, Eq)]
@@ -9,4 +9,13 @@ pub enum Hop {
     Blocked(u16),
     /// Nothing was tried: the channel holds no packet, or one that goes into no other channel.
     Untried,
+}
+
+/// How far a packet went from channel to channel.
+#[derive(Clone, Copy, Debug, PartialEq, Eq)]
+pub struct Run {
+    /// How many channels it entered.
+    pub hops: u16,
+    /// The channel that it is in now.
+    pub at: u16,
 }

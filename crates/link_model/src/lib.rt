@@ -7,7 +7,7 @@
 //! | module | has |
 //! |---|---|
 //! | `course` | where a channel's packet goes |
-//! | `hop` | what a hop came to |
+//! | `hop` | what a hop came to, and a run of hops |
 //! | `limbo` | the packets that a cable keeps back |
 //! | `links` | the links: reading them, filling them, an advance, the faults |
 //! | `walking` | a packet alone in the links, to the end of its walk |
@@ -19,7 +19,7 @@ mod limbo;
 mod links;
 mod walking;
 
-pub use hop::Hop;
+pub use hop::{Hop, Run};
 pub use link_defs::{Moved, Replayed, Turned, Why};
 pub use links::{Links, Occupied};
 pub use walking::walk_alone;

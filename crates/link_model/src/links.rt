@@ -1,12 +1,13 @@
 //! The links of a fabric: reading them, and putting packets into them.
 
 ghost use Rattle.std.specs.Prelude.{◌≡◌, ◌<◌, ◌≤◌, ℕ, length, Some, None, option_map, option_copied, is_ok, IfOk};
-ghost use Rattle.std.specs.Prelude.{IfErr, IfSome, IfNone};
+ghost use Rattle.std.specs.Prelude.{◌≢◌, IfErr, IfSome, IfNone};
 ghost use Rattle.net_defs.specs.Network.{IsFabric};
 ghost use Rattle.net_defs.specs.Route.{channel_from};
 ghost use Rattle.link_defs.specs.Channel.{channel_count, channel_tail, channel_head};
 ghost use Rattle.link_defs.specs.Links.{empty_links, packet_in, is_idle, put};
 ghost use Rattle.link_defs.specs.Fault.{next_limbo};
+ghost use Rattle.channel_slots.specs.Full.{full_count, IsLone};
 ghost use Rattle.link_model.specs.Full.{next_full, IsNextFull};
 
 mod advance;
@@ -117,6 +118,19 @@ impl Links {
     {
         let _few = self.channels();
         match self.slots.next_full(usize::from(from)) {
+            Some(c) => Some(c as u16),
+            None => None,
+        }
+    }
+
+    /// The channel that holds a packet where no other does. None where several do, or none does. It looks at a count
+    /// first.
+    pub fn lone(&self) -> Option<u16>
+        ensures lone { IfSome result (IsLone self.now.channels) }
+        ensures none { IfNone result (full_count self.now.channels ≢ 1) }
+    {
+        let _few = self.channels();
+        match self.slots.lone() {
             Some(c) => Some(c as u16),
             None => None,
         }

@@ -6,6 +6,8 @@ pub mod Injects
 pub mod Later
 pub mod Leading
 pub mod Limbo
+pub mod Lone
+pub mod Parts
 pub mod Passed
 pub mod Passing
 pub mod Quiet

@@ -27,7 +27,7 @@ pub record Passed (watch : Watch) (first now : WorldState) (from : ℕ) (seen : 
   pub hosts : host_count now ≡ host_count first
   pub channels : length now.links.channels ≡ length first.links.channels
 
-whole : (w : WorldState) → advances_from w 0 (length w.links.channels) ≡ pass w
+pub whole : (w : WorldState) → advances_from w 0 (length w.links.channels) ≡ pass w
 unfolding pass
 whole w = let e : length w.links.channels - 0 ≡ length w.links.channels = omega arith in ap (λ n. steps w (map Advance (range_with_len 0 n))) e
 

@@ -26,7 +26,7 @@ front-idle watch w c cs e =
     (ap (λ r. seen_in watch r.0) first ∙ seen-idle watch (steps w (map Advance cs)).0, ap (λ r. r.1) first)
 
 -- advances of so many channels from one on show and do what those of others do
-abbrev AreSame : Watch → WorldState → (from all next rest : ℕ) → Type 0
+abbrev pub AreSame : Watch → WorldState → (from all next rest : ℕ) → Type 0
 AreSame watch w from all next rest =
     (seen_in watch (steps w (map Advance (range_with_len from all))).0 ≡ seen_in watch (steps w (map Advance (range_with_len next rest))).0)
     × ((steps w (map Advance (range_with_len from all))).1 ≡ (steps w (map Advance (range_with_len next rest))).1)

@@ -1,12 +1,13 @@
 -- What is seen of effects in a row is what is seen of the first, and then of the others.
-use Rattle.std.proofs.Common.{◌≡◌, ℕ, ◌+◌, Bool, true, false, ◌&&◌, ◌||◌, List, [], ◌∷◌, ◌++◌, nat_eq, if◌then◌else◌, Option, Some, None, is_some, refl, sym, ◌∙◌, ap, arith}
+use Rattle.std.proofs.Common.{◌≡◌, ℕ, ◌+◌, Bool, true, false, ◌&&◌, ◌||◌, List, [], ◌∷◌, ◌++◌, nat_eq, if◌then◌else◌, Option, Some, None, is_some, refl, sym, ◌∙◌, ap, arith, true≢false}
 use Rattle.world_defs.specs.declared.heard.Heard.TheVariants.{Probe, Reply, Loop, Routes, RoutesAck, Message, Fragment, NotNext, NoToken, Ack}
 use Rattle.world_defs.specs.declared.effect.Effect.{Effect}
 use Rattle.world_defs.specs.declared.effect.Effect.TheVariants.{Idle, Injected, Moved, Blocked, Arrived, Dropped, Lost, Reset as WasReset, Flipped, Expired, GaveUp, Repeated, Held, Replayed, Staged, Said}
 use Rattle.world_defs.specs.Node.{either}
 use Rattle.world_defs.specs.Asking.{probed_host, replied_host, has_returned, reply_in, returned_in}
 use Rattle.world_defs.specs.Install.{has_part_come, is_acknowledged}
-use Rattle.world_laws.proofs.Draining.{changes-append}
+use Rattle.world_defs.specs.Drain.{changed, changes}
+use Rattle.world_laws.proofs.Draining.{changes-push, changes-append}
 use Rattle.world_drain.specs.declared.seen.AwaitedPart.{AwaitedPart}
 use Rattle.world_drain.specs.declared.seen.Watch.{Watch}
 use Rattle.world_drain.specs.declared.seen.Seen.{Seen}
@@ -320,6 +321,19 @@ then-nothing watch s =
     (ap (either s.replied) (none-replied watch.mapper watch.number) ∙ or-none s.replied) (ap (λ b. s.returned || b) (none-returned watch.mapper watch.number) ∙ or-false s.returned)
     (ap (λ b. s.came || b) (none-came watch.part) ∙ or-false s.came) (ap (either s.acknowledged) (none-acknowledged watch.mapper watch.part) ∙ or-none s.acknowledged)
 
+-- nor does nothing before it, and so many changes that show nothing add themselves alone
+nothing-then : (watch : Watch) (s : Seen) → seen_then (seen_in watch []) s ≡ s
+nothing-then watch s =
+    same_seen (seen_then (seen_in watch []) s) s (omega arith) refl
+    (ap (λ o. either o s.replied) (none-replied watch.mapper watch.number)) (ap (λ b. b || s.returned) (none-returned watch.mapper watch.number))
+    (ap (λ b. b || s.came) (none-came watch.part)) (ap (λ o. either o s.acknowledged) (none-acknowledged watch.mapper watch.part))
+
+abbrev pub hopped : Watch → ℕ → Seen
+hopped watch n = record (seen_in watch []) { changes = n }
+
+pub hopped-then : (watch : Watch) (n : ℕ) (s : Seen) → seen_then (hopped watch n) s ≡ record s { changes = n + s.changes }
+hopped-then watch n s = ap (λ (t : Seen). record t { changes = n + s.changes }) (nothing-then watch s)
+
 -- a packet that goes on is one change, and one that waits is none; neither shows anything else
 seen-moved : (watch : Watch) (next : ℕ) → seen_in watch (Moved next ∷ []) ≡ record (seen_in watch []) { changes = 1 }
 seen-moved watch next = by watch.number watch.part
@@ -344,3 +358,33 @@ then-moved watch s next = ap (seen_then s) (seen-moved watch next) ∙ ap (λ (t
 
 pub then-blocked : (watch : Watch) (s : Seen) (next : ℕ) → seen_then s (seen_in watch (Blocked next ∷ [])) ≡ s
 then-blocked watch s next = ap (seen_then s) (seen-blocked watch next) ∙ then-nothing watch s
+
+-- an event that changed nothing shows nothing
+pub unchanged-nothing : (watch : Watch) (x : Effect) → changed x ≡ false → seen_in watch (x ∷ []) ≡ seen_in watch []
+unchanged-nothing watch Idle e = seen-idle watch []
+unchanged-nothing watch (Blocked c) e = seen-blocked watch c
+unchanged-nothing watch (Injected n) e = absurd (true≢false e)
+unchanged-nothing watch (Moved c) e = absurd (true≢false e)
+unchanged-nothing watch (Arrived h x) e = absurd (true≢false e)
+unchanged-nothing watch (Dropped x) e = absurd (true≢false e)
+unchanged-nothing watch Lost e = absurd (true≢false e)
+unchanged-nothing watch WasReset e = absurd (true≢false e)
+unchanged-nothing watch Flipped e = absurd (true≢false e)
+unchanged-nothing watch Expired e = absurd (true≢false e)
+unchanged-nothing watch GaveUp e = absurd (true≢false e)
+unchanged-nothing watch (Repeated s) e = absurd (true≢false e)
+unchanged-nothing watch (Held s) e = absurd (true≢false e)
+unchanged-nothing watch (Replayed c) e = absurd (true≢false e)
+unchanged-nothing watch Staged e = absurd (true≢false e)
+unchanged-nothing watch (Said s) e = absurd (true≢false e)
+
+-- nor do several
+pub unchanged-all : (watch : Watch) (xs : List Effect) → changes xs ≡ 0 → seen_in watch xs ≡ seen_in watch []
+unchanged-all watch [] e = refl
+unchanged-all watch (x ∷ xs) e = by (changed x) refl (unchanged-all watch xs)
+  where
+    by : (t : Bool) → changed x ≡ t → (changes xs ≡ 0 → seen_in watch xs ≡ seen_in watch []) → seen_in watch (x ∷ xs) ≡ seen_in watch []
+    by true c rest = let a = changes-push x xs true c in absurd (omega (arith, a, e))
+    by false c rest =
+        let a = changes-push x xs false c in
+        seen-push watch x xs ∙ ap (λ s. seen_then s (seen_in watch xs)) (unchanged-nothing watch x c) ∙ sym (seen-append watch [] xs) ∙ rest (omega (arith, a, e))

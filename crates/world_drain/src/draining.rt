@@ -8,7 +8,9 @@ ghost use Rattle.world_defs.specs.Step.{step};
 ghost use Rattle.world_defs.specs.Drain.{changes, channels_of, pass, drain};
 ghost use Rattle.event_lists.specs.Events.{drain_events};
 ghost use Rattle.event_lists.specs.PartWay.{IsPartWay};
+ghost use Rattle.channel_slots.specs.Full.{IsLone};
 ghost use Rattle.world_drain.specs.Watch.{seen_in, seen_then};
+ghost use Rattle.world_drain.specs.Part.{IsDrainedTo};
 
 use crate::seen::{Seen, Watch};
 use fab_world::{Event, Hop, World};
@@ -40,15 +42,64 @@ pub fn drain_watching(alloc: Global, w: &mut World, watch: Watch) -> Result<Seen
     ensures fabric { fabric_of w.new ≡ fabric_of w.old }
     ensures hosts { host_count w.new ≡ host_count w.old }
 {
+    let first = run_out(alloc, w, &watch)?;
+    if w.links_idle() {
+        return Ok(first);
+    }
+    let rest = drain_by_passes(alloc, w, &watch)?;
+    Ok(first.then(rest))
+}
+
+// A packet that is alone in the links leaves them. Where they hold more, or none, nothing happens yet.
+fn run_out(alloc: Global, w: &mut World, watch: &Watch) -> Result<Seen, AllocError>
+    ensures part { IfOk result (IsDrainedTo watch.now w.old w.new) }
+    ensures few { IfOk result (λ s. s.changes ≤ 1108) }
+    ensures heard { IfOk result (λ s. IfSome s.probed (λ h. h < host_count w.old)) }
+    ensures err { OnErr result (IsPartWay w.old (drain_events w.old) w.new) }
+    ensures fabric { fabric_of w.new ≡ fabric_of w.old }
+    ensures hosts { host_count w.new ≡ host_count w.old }
+{
+    match w.lone() {
+        Some(c) => run_from(alloc, w, watch, c),
+        None => Ok(watch.nothing()),
+    }
+}
+
+// The same of the packet of the only full channel: its hops at once, and then the advance by which it leaves.
+fn run_from(alloc: Global, w: &mut World, watch: &Watch, c: u16) -> Result<Seen, AllocError>
+    requires { IsLone w.old.links.channels c }
+    ensures part { IfOk result (IsDrainedTo watch.now w.old w.new) }
+    ensures few { IfOk result (λ s. s.changes ≤ 1108) }
+    ensures heard { IfOk result (λ s. IfSome s.probed (λ h. h < host_count w.old)) }
+    ensures err { OnErr result (IsPartWay w.old (drain_events w.old) w.new) }
+    ensures fabric { fabric_of w.new ≡ fabric_of w.old }
+    ensures hosts { host_count w.new ≡ host_count w.old }
+{
+    let run = w.run(c);
+    let last = advance_whole(alloc, w, watch, run.at)?;
+    Ok(last.behind(u64::from(run.hops)))
+}
+
+// Passes until none changes anything, or no packet is left.
+fn drain_by_passes(alloc: Global, w: &mut World, watch: &Watch) -> Result<Seen, AllocError>
+    ensures seen { IfOk result (λ s. s ≡ seen_in watch.now (drain w.old).0) }
+    ensures few { IfOk result (λ s. s.changes ≤ 1275264) }
+    ensures heard { IfOk result (λ s. IfSome s.probed (λ h. h < host_count w.old)) }
+    ensures after { OnOk result (w.new ≡ (drain w.old).1) }
+    ensures err { OnErr result (IsPartWay w.old (drain_events w.old) w.new) }
+    ensures fabric { fabric_of w.new ≡ fabric_of w.old }
+    ensures hosts { host_count w.new ≡ host_count w.old }
+{
     let _few = w.hops_bound();
     let mut seen = watch.nothing();
-    loop {
-        let once = pass(alloc, w, &watch)?;
+    'passing: while !w.links_idle() {
+        let once = pass(alloc, w, watch)?;
         if once.changes == 0 {
             return Ok(seen);
         }
         seen = seen.then(once);
     }
+    Ok(seen)
 }
 
 // One pass: an advance of each full channel by rising number. Those that are empty have nothing to advance.

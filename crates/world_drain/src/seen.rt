@@ -149,6 +149,17 @@ impl Seen {
         }
     }
 
+    /// What is seen where so many changes went before, which showed nothing else.
+    pub(crate) fn behind(self, changes: u64) -> Seen
+        requires { changes + self.changes < 2 ^ 64 }
+        ensures { result ≡ record self { changes = changes + self.changes } }
+    {
+        Seen {
+            changes: changes + self.changes,
+            ..self
+        }
+    }
+
     /// What is seen where others follow.
     pub(crate) fn then(self, next: Seen) -> Seen
         requires { self.changes + next.changes < 2 ^ 64 }

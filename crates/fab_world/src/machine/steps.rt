@@ -1,13 +1,16 @@
 //! A channel's packet goes on.
 
-ghost use Rattle.std.specs.Prelude.{◌≡◌, length, IfOk, OnErr};
+ghost use Rattle.std.specs.Prelude.{◌≡◌, ◌≢◌, ◌≤◌, ℕ, length, IfOk, OnErr};
+ghost use Rattle.link_defs.specs.declared.moved.Moved.TheVariants.{To};
+ghost use Rattle.link_defs.specs.Advance.{advance};
+ghost use Rattle.channel_slots.specs.Full.{IsLone};
 ghost use Rattle.world_defs.specs.Step.{advanced};
 ghost use Rattle.world_defs.specs.World.{fabric_of, host_count};
 ghost use Rattle.fab_world.specs.Events.{IsChannelOf};
-ghost use Rattle.fab_world.specs.Hop.{IsHopIn};
+ghost use Rattle.fab_world.specs.Hop.{IsHopIn, IsRunIn};
 
 use super::Machine;
-use faulty_links::Hop;
+use faulty_links::{Hop, Run};
 use std::alloc::{AllocError, Global};
 use world_defs::Effect;
 
@@ -34,5 +37,16 @@ impl Machine {
         ensures { IsHopIn self.old c result self.new }
     {
         self.links.hop(c)
+    }
+
+    /// The packet of the only full channel goes on as far as channels take it.
+    pub(crate) fn run(&mut self, c: u16) -> Run
+        requires { IsLone self.old.links.channels c }
+        ensures run { IsRunIn self.old c result.hops result.at self.new }
+        ensures lone { IsLone self.new.links.channels result.at }
+        ensures last { (next : ℕ) → (advance self.new.links result.at).0 ≢ To next }
+        ensures few { result.hops ≤ 1107 }
+    {
+        self.links.run(c)
     }
 }

@@ -1,13 +1,15 @@
 //! One step of a channel.
 
-ghost use Rattle.std.specs.Prelude.{◌≡◌, ◌<◌, length, None, option_map, IfSome};
+ghost use Rattle.std.specs.Prelude.{◌≡◌, ◌≢◌, ◌<◌, ◌≤◌, ℕ, length, None, option_map, IfSome};
+ghost use Rattle.link_defs.specs.Advance.{advance};
+ghost use Rattle.channel_slots.specs.Full.{IsLone};
 ghost use Rattle.world_defs.specs.World.{WorldState};
 ghost use Rattle.world_defs.specs.Step.{advanced, cause_at_switch, cause_at_host};
-ghost use Rattle.faulty_links.specs.Held.{with_part, reaching, IsHeardAt, IsToldOf, CountsDrop, IsHopOf};
+ghost use Rattle.faulty_links.specs.Held.{with_part, reaching, IsHeardAt, IsToldOf, CountsDrop, IsHopOf, IsRunOf};
 
 use super::FaultyLinks;
 use link_defs::{Moved, Why};
-use link_model::Hop;
+use link_model::{Hop, Run};
 use myri_packet::Packet;
 use net_defs::{End, Vertex};
 use packet_defs::HostDrop;
@@ -66,6 +68,18 @@ impl FaultyLinks {
         ensures { IsHopOf self.old c result self.new }
     {
         self.links.hop(c)
+    }
+
+    /// The only packet in the channels goes on from channel to channel, until its next advance leads into none: how
+    /// far. It is in this channel.
+    pub fn run(&mut self, c: u16) -> Run
+        requires { IsLone self.old.links.channels c }
+        ensures run { IsRunOf self.old c result.hops result.at self.new }
+        ensures lone { IsLone self.new.links.channels result.at }
+        ensures last { (next : ℕ) → (advance self.new.links result.at).0 ≢ Moved.To next }
+        ensures few { result.hops ≤ 1107 }
+    {
+        self.links.run(c)
     }
 
     /// A host heard the packet of a channel, which leaves that, and counts as dropped where the host dropped it: what

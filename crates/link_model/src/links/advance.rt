@@ -1,13 +1,14 @@
 //! One step of a channel.
 
-ghost use Rattle.std.specs.Prelude.{◌≡◌, ◌<◌, length, Some, IsSome, option_map, if◌then◌else◌};
+ghost use Rattle.std.specs.Prelude.{◌≡◌, ◌≢◌, ◌<◌, ◌≤◌, ℕ, length, Some, IsSome, option_map, if◌then◌else◌};
 ghost use Rattle.link_defs.specs.Links.{packet_in, emptied};
 ghost use Rattle.link_defs.specs.Advance.{advance, course};
-ghost use Rattle.link_model.specs.Hop.{IsHop};
+ghost use Rattle.channel_slots.specs.Full.{IsLone};
+ghost use Rattle.link_model.specs.Hop.{IsHop, IsRun};
 
 use super::Links;
-use crate::course::{course, turned};
-use crate::hop::Hop;
+use crate::course::{course, follow, turned};
+use crate::hop::{Hop, Run};
 use channel_slots::Slot;
 use link_defs::{Course, Moved};
 use myri_packet::Packet;
@@ -42,6 +43,23 @@ impl Links {
             }
             _ => Hop::Untried,
         }
+    }
+
+    /// The only packet in the channels goes on from channel to channel, until its next advance leads into none: how
+    /// far. It is in this channel. It takes no memory: the packet is taken out once, and put down where it comes to.
+    pub fn run(&mut self, c: u16) -> Run
+        requires { IsLone self.old.channels c }
+        ensures run { IsRun self.old c result.hops result.at self.new }
+        ensures lone { IsLone self.new.channels result.at }
+        ensures last { (next : ℕ) → (advance self.new result.at).0 ≢ Moved.To next }
+        ensures few { result.hops ≤ 1107 }
+    {
+        let slot = self.slots.take(usize::from(c)).unwrap();
+        let (mut packet, marked) = slot.into_parts();
+        let run = follow(&self.wiring, c, &mut packet);
+        let slot = Slot::from_parts(packet, marked);
+        self.slots.put(usize::from(run.at), slot);
+        run
     }
 
     // Where a channel's packet goes.

@@ -1,39 +1,41 @@
-use Rattle.std.proofs.Common.{arith}
-use Rattle.event_lists.proofs.Drained.{drain-within}
-use Rattle.world_drain.proofs.Drained.{ran-end, ran-few}
+use Rattle.std.proofs.Common.{◌<◌, ap, subst, sym, ◌∙◌, arith}
+use Rattle.std.specs.Option.{IfSome}
+use Rattle.world_defs.specs.World.{host_count}
+use Rattle.world_drain.specs.Watch.{seen_then}
 use Rattle.world_drain.proofs.Later.{on-any}
-use Rattle.world_drain.proofs.Running.{running-none, running-on, fewer-hops}
+use Rattle.world_drain.proofs.Passed.{first-heard}
+use Rattle.world_drain.proofs.Parts.{drained-idle}
 use Rattle.world_drain.proofs.draining.drain_watching.Goals as goal
 
-pub loop-once-init : goal.loop-once-init
-loop-once-init c = running-none c.args.watch c.args.w.now c.nothing-seen.result c.nothing-seen.ensures
+pub returns-in_err-first-clause-err : goal.returns-in_err-first-clause-err
+returns-in_err-first-clause-err c = on-any c.from_residual.result c.in_err-first.ensures.err
 
-pub returns-in_err-once-clause-err : goal.returns-in_err-once-clause-err
-returns-in_err-once-clause-err c = on-any c.from_residual.result (c.loop-once.invariant.way c.pass.new.w (drain-within c.loop-once.w c.pass.new.w c.in_err-once.ensures.err))
+pub returns-then-links_idle-clause-seen : goal.returns-then-links_idle-clause-seen
+returns-then-links_idle-clause-seen c =
+    (drained-idle c.args.watch c.args.w.now c.run_out.new.w c.in_ok-first.first c.in_ok-first.ensures.part (sym c.links_idle.ensures ∙ c.if-links_idle.true)).0
 
-pub returns-then-once-eq0-clause-seen : goal.returns-then-once-eq0-clause-seen
-returns-then-once-eq0-clause-seen c =
-    let once = c.in_ok-once.ensures in
-    (ran-end c.args.watch c.args.w.now c.loop-once.w c.pass.new.w c.loop-once.seen c.in_ok-once.once c.loop-once.invariant.ran once.seen once.after c.if-once-eq0.true).0
+pub returns-then-links_idle-clause-after : goal.returns-then-links_idle-clause-after
+returns-then-links_idle-clause-after c =
+    (drained-idle c.args.watch c.args.w.now c.run_out.new.w c.in_ok-first.first c.in_ok-first.ensures.part (sym c.links_idle.ensures ∙ c.if-links_idle.true)).1
 
-pub returns-then-once-eq0-clause-after : goal.returns-then-once-eq0-clause-after
-returns-then-once-eq0-clause-after c =
-    let once = c.in_ok-once.ensures in
-    (ran-end c.args.watch c.args.w.now c.loop-once.w c.pass.new.w c.loop-once.seen c.in_ok-once.once c.loop-once.invariant.ran once.seen once.after c.if-once-eq0.true).1
+pub returns-in_err-rest-clause-err : goal.returns-in_err-rest-clause-err
+returns-in_err-rest-clause-err c = on-any c.from_residual-in_err-rest.result (c.in_ok-first.ensures.part.way c.drain_by_passes.new.w c.in_err-rest.ensures.err)
 
-pub then-seen-requires : goal.then-seen-requires
-then-seen-requires c =
-    let few = ran-few c.args.watch c.args.w.now c.loop-once.w c.loop-once.seen c.in_ok-once.once c.loop-once.invariant.ran c.in_ok-once.ensures.seen in
-    let bound = c.hops_bound-few.ensures.enough in
-    let small = c.hops_bound-few.ensures.few in
-    omega (arith, few, bound, small)
+pub then-requires : goal.then-requires
+then-requires c =
+    let first = c.in_ok-first.ensures.few in
+    let rest = c.in_ok-rest.ensures.few in
+    omega (arith, first, rest)
 
-pub loop-once-smaller : goal.loop-once-smaller
-loop-once-smaller c =
-    fewer-hops c.args.watch c.loop-once.w c.pass.new.w c.in_ok-once.once c.in_ok-once.ensures.seen c.in_ok-once.ensures.after c.if-once-eq0.false
+pub returns-clause-seen : goal.returns-clause-seen
+returns-clause-seen c = c.then.ensures ∙ ap (seen_then c.in_ok-first.first) c.in_ok-rest.ensures.seen ∙ c.in_ok-first.ensures.part.shown
 
-pub loop-once-preserved : goal.loop-once-preserved
-loop-once-preserved c =
-    let once = c.in_ok-once.ensures in
-    running-on c.args.watch c.args.w.now c.loop-once.w c.pass.new.w c.loop-once.seen c.in_ok-once.once c.then-seen.result
-    c.loop-once.invariant once.seen once.heard once.after c.if-once-eq0.false once.fabric once.hosts c.then-seen.ensures
+pub returns-clause-heard : goal.returns-clause-heard
+returns-clause-heard c =
+    let first = c.in_ok-first in
+    let rest = c.in_ok-rest in
+    subst (λ s. IfSome s.probed (λ h. h < host_count c.args.w.now)) (sym c.then.ensures)
+    (first-heard (host_count c.args.w.now) (host_count c.run_out.new.w) first.first.probed rest.rest.probed first.ensures.hosts first.ensures.heard rest.ensures.heard)
+
+pub returns-clause-after : goal.returns-clause-after
+returns-clause-after c = c.in_ok-rest.ensures.after ∙ c.in_ok-first.ensures.part.after

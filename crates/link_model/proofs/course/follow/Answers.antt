@@ -1,0 +1,34 @@
+use Rattle.std.proofs.Common.{◌+◌, sym, refl, arith}
+use Rattle.link_model.proofs.Runs.{hops-most, following-none, following-on, hop-fewer}
+use Rattle.link_model.proofs.course.follow.Goals as goal
+
+pub loop-next-init : goal.loop-next-init
+loop-next-init c = following-none c.args.wiring.now c.args.c c.args.packet.now c.requires
+
+pub turn-requires-clause-goes : goal.turn-requires-clause-goes
+turn-requires-clause-goes c = (c.in-Enters.next, sym c.in-Enters.ensures)
+
+pub overflow_add-hops : goal.overflow_add-hops
+overflow_add-hops c =
+    let few = c.loop-next.invariant.few in
+    let most = hops-most c.args.packet.now c.wire-few.result.now c.wire-few.ensures.bytes c.wire-few.ensures.some c.wire-few.ensures.few in
+    omega (arith, few, most)
+
+pub loop-next-smaller : goal.loop-next-smaller
+loop-next-smaller c =
+    let fewer = hop-fewer c.args.wiring.now c.loop-next.at c.in-Enters.next c.loop-next.packet c.turn.new.packet (sym c.in-Enters.ensures) c.turn.ensures in
+    omega (arith, fewer)
+
+pub loop-next-preserved : goal.loop-next-preserved
+loop-next-preserved c =
+    following-on c.args.wiring.now c.args.c c.args.packet.now c.loop-next.packet c.turn.new.packet c.loop-next.hops c.loop-next.at c.in-Enters.next (c.loop-next.hops + 1)
+    c.loop-next.invariant (sym c.in-Enters.ensures) c.turn.ensures refl
+
+pub returns-clause-along : goal.returns-clause-along
+returns-clause-along c = c.loop-next.invariant.along
+
+pub returns-clause-few : goal.returns-clause-few
+returns-clause-few c =
+    let few = c.loop-next.invariant.few in
+    let most = hops-most c.args.packet.now c.wire-few.result.now c.wire-few.ensures.bytes c.wire-few.ensures.some c.wire-few.ensures.few in
+    omega (arith, few, most)
