@@ -10,7 +10,7 @@ ghost use Rattle.fab_report.specs.Words.{behind};
 
 use crate::words::bytes_word;
 use line_writing::Word::{Number, Text};
-use line_writing::{append_behind, append_words};
+use line_writing::{append_behind, append_spaced, append_words};
 use port_graph::{Fabric, Vertex};
 use run_defs::ClientCall;
 use std::alloc::AllocError;
@@ -56,7 +56,7 @@ fn append_said(text: &mut Vec<u8>, f: &Fabric, said: &Said) -> Result<(), AllocE
     ensures { OnOk result (text.new.items ≡ text.old.items ++ behind (said_words f.now said.now)) }
 {
     match said {
-        Said::Done => append_behind(text, &[Text(b"done")]),
+        Said::Done => append_spaced(text, &Text(b"done")),
         Said::Count(count) => append_behind(text, &[Text(b"done"), Number(u64::from(*count))]),
         Said::Token(token) => append_behind(text, &[Text(b"token"), Number(u64::from(*token))]),
         Said::Sent(token) => append_behind(
@@ -70,7 +70,7 @@ fn append_said(text: &mut Vec<u8>, f: &Fabric, said: &Said) -> Result<(), AllocE
             prio,
             body,
         } => append_received(text, f, *token, *from, *sport, *prio, body.bytes()),
-        Said::Nothing => append_behind(text, &[Text(b"nothing")]),
+        Said::Nothing => append_spaced(text, &Text(b"nothing")),
         Said::Refused(cause) => append_refused(text, *cause),
     }
 }

@@ -24,13 +24,16 @@ use port_graph::{Fabric, Place, Vertex};
 use run_defs::{InstallCause, Line};
 use std::alloc::{AllocError, Global};
 
+// The bytes that are taken for a line at once. Most lines are shorter, so that their text never moves.
+const LINE_ROOM: usize = 48;
+
 /// The text of a line with its end. The hosts, switches and ends that it names are of the fabric, whose names it is
 /// printed with.
 pub fn print_line(alloc: Global, l: &Line, f: &Fabric) -> Result<Vec<u8>, AllocError>
     requires there { AreThere f.now l.now }
     ensures text { IfOk result (λ text. text.items ≡ line_text f.now l.now) }
 {
-    let mut text = Vec::new(alloc);
+    let mut text = Vec::with_capacity(alloc, LINE_ROOM)?;
     print_line_onto(&mut text, l, f)?;
     Ok(text)
 }

@@ -9,7 +9,7 @@ ghost use Rattle.fab_report.specs.Words.{behind};
 
 use crate::words::{turn_word, vertex_word};
 use line_writing::Word::{Number, Text};
-use line_writing::{append_behind, append_words};
+use line_writing::{append_behind, append_marked, append_words};
 use map_defs::MapVertex;
 use port_graph::{Fabric, Vertex};
 use run_defs::MapWords;
@@ -110,11 +110,27 @@ fn append_turns(text: &mut Vec<u8>, turns: &[i8]) -> Result<(), AllocError>
     Ok(())
 }
 
-// A turn behind other words.
+// A turn behind other words. Most words of a report are turns, so none is made a `Word` first.
 fn append_turn(text: &mut Vec<u8>, turn: i8) -> Result<(), AllocError>
     ensures { OnOk result (text.new.items ≡ text.old.items ++ 32 ∷ turn_text turn) }
 {
-    append_behind(text, &[turn_word(turn)])
+    text.push(b' ')?;
+    append_bare_turn(text, turn)
+}
+
+// A turn.
+fn append_bare_turn(text: &mut Vec<u8>, turn: i8) -> Result<(), AllocError>
+    ensures { OnOk result (text.new.items ≡ text.old.items ++ turn_text turn) }
+{
+    let size = u64::from(turn.unsigned_abs());
+    if turn > 0 {
+        append_marked(text, b'+', size)
+    } else if turn < 0 {
+        append_marked(text, b'-', size)
+    } else {
+        text.push(b'0')?;
+        Ok(())
+    }
 }
 
 /// `rank V P R`

@@ -9,7 +9,7 @@ ghost use Rattle.fab_report.specs.Words.{behind};
 
 use gm_defs::TokenPlace;
 use line_writing::Word::{Entry, Number, Text};
-use line_writing::{append_behind, append_words};
+use line_writing::{append_behind, append_spaced, append_words};
 use port_graph::{Fabric, Vertex};
 use run_defs::PlaceEntry;
 use std::alloc::AllocError;
@@ -62,7 +62,7 @@ fn append_place(text: &mut Vec<u8>, entry: PlaceEntry) -> Result<(), AllocError>
     ensures { OnOk result (text.new.items ≡ text.old.items ++ 32 ∷ place_text entry) }
 {
     let place = word_of(entry.place);
-    append_behind(text, &[Entry(u64::from(entry.number), place)])
+    append_spaced(text, &Entry(u64::from(entry.number), place))
 }
 
 // The word of a place; `client` where its client has the token.

@@ -12,5 +12,5 @@
 mod word;
 mod words;
 
-pub use word::Word;
-pub use words::{append_behind, append_line, append_words};
+pub use word::{Word, append_marked};
+pub use words::{append_behind, append_line, append_spaced, append_words};

@@ -22,7 +22,8 @@ pub enum Word<'a> {
     Hex(&'a [u8]),
 }
 
-/// Puts a word behind a text.
+/// Puts a word behind a text. Most words are written with less than a call takes, so it stands in its callers.
+#[inline(always)]
 pub(crate) fn append_word(text: &mut Vec<u8>, word: &Word) -> Result<(), AllocError>
     ensures { OnOk result (text.new.items ≡ text.old.items ++ word_text word.now) }
 {
@@ -36,6 +37,7 @@ pub(crate) fn append_word(text: &mut Vec<u8>, word: &Word) -> Result<(), AllocEr
 }
 
 // A number in decimal. Most have one digit, which needs no buffer.
+#[inline(always)]
 fn append_number(text: &mut Vec<u8>, number: u64) -> Result<(), AllocError>
     ensures { OnOk result (text.new.items ≡ text.old.items ++ decimal number) }
 {
@@ -55,7 +57,8 @@ fn append_digit(text: &mut Vec<u8>, number: u8) -> Result<(), AllocError>
     Ok(())
 }
 
-// A number of any digits.
+// A number of any digits. Its buffer is no part of what each word pays for.
+#[inline(never)]
 fn append_digits(text: &mut Vec<u8>, number: u64) -> Result<(), AllocError>
     ensures { OnOk result (text.new.items ≡ text.old.items ++ decimal number) }
 {
@@ -63,8 +66,10 @@ fn append_digits(text: &mut Vec<u8>, number: u64) -> Result<(), AllocError>
     text.extend_from_slice(buffer.format(number).as_bytes())
 }
 
-// A mark, and a number behind it.
-fn append_marked(text: &mut Vec<u8>, mark: u8, number: u64) -> Result<(), AllocError>
+/// Puts a mark and a number behind a text, as [`Word::Marked`] is written. Where memory is wanting, a part of them may
+/// stand there.
+#[inline(always)]
+pub fn append_marked(text: &mut Vec<u8>, mark: u8, number: u64) -> Result<(), AllocError>
     ensures { OnOk result (text.new.items ≡ text.old.items ++ mark ∷ decimal number) }
 {
     text.push(mark)?;
@@ -72,6 +77,7 @@ fn append_marked(text: &mut Vec<u8>, mark: u8, number: u64) -> Result<(), AllocE
 }
 
 // A number with what stands for it.
+#[inline(never)]
 fn append_entry(text: &mut Vec<u8>, number: u64, value: &[u8]) -> Result<(), AllocError>
     ensures { OnOk result (text.new.items ≡ text.old.items ++ (decimal number ++ codes "=" ++ value.now)) }
 {
@@ -81,6 +87,7 @@ fn append_entry(text: &mut Vec<u8>, number: u64, value: &[u8]) -> Result<(), All
 }
 
 // Two hexadecimal digits for each byte.
+#[inline(never)]
 fn append_hex(text: &mut Vec<u8>, bytes: &[u8]) -> Result<(), AllocError>
     ensures { OnOk result (text.new.items ≡ text.old.items ++ encode_lower bytes.now) }
 {

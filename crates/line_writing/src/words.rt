@@ -40,8 +40,9 @@ pub fn append_behind(text: &mut Vec<u8>, words: &[Word]) -> Result<(), AllocErro
     Ok(())
 }
 
-// A word with a space before it.
-fn append_spaced(text: &mut Vec<u8>, word: &Word) -> Result<(), AllocError>
+/// Puts a word with a space before it behind a text. Where memory is wanting, a part of it may stand there.
+#[inline(always)]
+pub fn append_spaced(text: &mut Vec<u8>, word: &Word) -> Result<(), AllocError>
     ensures { OnOk result (text.new.items ≡ text.old.items ++ 32 ∷ word_text word.now) }
 {
     text.push(b' ')?;

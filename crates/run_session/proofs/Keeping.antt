@@ -1,5 +1,5 @@
 -- That a session keeps maps and routes that are right.
-use Rattle.std.proofs.Common.{◌≡◌, ℕ, ◌≤◌, true, Option, Some, refl, sym, ◌∙◌, ap, subst, arith}
+use Rattle.std.proofs.Common.{◌≡◌, ℕ, ◌≤◌, true, Option, Some, None, refl, sym, ◌∙◌, ap, subst, arith}
 use Rattle.link_defs.specs.Links.{is_idle}
 use Rattle.net_defs.specs.declared.vertex.Vertex.TheVariants.{Host}
 use Rattle.net_defs.specs.Network.{Network, has_vertex}
@@ -13,7 +13,7 @@ use Rattle.run_defs.specs.declared.line.MapWords.{MapWords}
 use Rattle.run_defs.specs.declared.line.MapWords.TheVariants.{Complete, Doubtful, IncompleteDepth, IncompleteNodes}
 use Rattle.run_defs.specs.Mapped.{IsMapped}
 use Rattle.run_defs.specs.Run.{hosts_by_address}
-use Rattle.run_defs.specs.Session.{LastMap, LastRoutes, new_session}
+use Rattle.run_defs.specs.Session.{LastMap, LastRoutes}
 use Rattle.mapping_laws.specs.Laws.{CanMap}
 use Rattle.mapping_laws.proofs.Made.{made_map_is_connected, made_map_is_map, made_map_is_right}
 use Rattle.map_canon.specs.Printing.{AreOfFabric}
@@ -27,9 +27,9 @@ use Rattle.run_session.specs.declared.mapping.MapOrder.{MapOrder}
 use Rattle.run_session.specs.Kept.{IsKeptMap, AreKeptRoutes, IsKept, IsLastMap, AreLastRoutes}
 use Rattle.run_session.specs.Told.{IsMadeOver, AreRoutesTold}
 
--- a new session keeps neither
-pub new_kept : (n : Network) → IsKept (new_session n)
-new_kept n = record { complete = λ l e. cc; routes = λ l e. cc }
+-- a session with neither a map nor routes keeps both
+pub none_kept : (w : WorldState) → IsKept (session_of w None None)
+none_kept w = record { complete = λ l e. cc; routes = λ l e. cc }
 
 -- what is kept over one world is kept over another of the same fabric
 pub kept-over : (w v : WorldState) (made : Option LastMap) (found : Option LastRoutes) → fabric_of v ≡ fabric_of w → IsLastMap (fabric_of w) made → AreLastRoutes (fabric_of w) found → IsKept (session_of v made found)

@@ -1,4 +1,4 @@
-//! Every command, over the parts of a session.
+//! Every command that makes no map, over the parts of a session.
 
 ghost use Rattle.std.specs.Prelude.{◌≡◌, ℕ, false, IfOk, OnErr};
 ghost use Rattle.link_defs.specs.Links.{empty_links, is_idle};
@@ -7,13 +7,13 @@ ghost use Rattle.run_defs.specs.declared.command.Command.TheVariants.{Map};
 ghost use Rattle.fab_script.specs.Ranges.{IsCommandOf};
 ghost use Rattle.promise_laws.specs.CutShort.{IsCutShort};
 ghost use Rattle.world_commands.specs.Done.{session_of};
-ghost use Rattle.run_session.specs.Kept.{IsKept, IsLastMap, AreLastRoutes};
+ghost use Rattle.run_session.specs.Kept.{IsLastMap, AreLastRoutes};
 ghost use Rattle.run_session.specs.Obeyed.{IsObeyed};
 
 use crate::circuit_links::circuit;
 use crate::installing::install_text;
 use crate::last::{LastFound, LastMade};
-use crate::mapping::{busy_text, map, map_ordered};
+use crate::mapping::busy_text;
 use crate::routing::routes;
 use crate::settling::settle_text;
 use fab_report::Printed;
@@ -23,41 +23,10 @@ use run_defs::Command;
 use std::alloc::{AllocError, Global};
 use world_commands::do_one;
 
-/// Does a command over the parts of a session: the world then, and what it printed, unless memory was wanting; then the
-/// world is one that a prefix of its acts leads to.
-pub(crate) fn obey(
-    alloc: Global,
-    world: World,
-    links: &mut Links,
-    last_map: &mut Option<LastMade>,
-    last_routes: &mut Option<LastFound>,
-    c: &Command,
-) -> (World, Result<Printed, AllocError>)
-    requires command { IsCommandOf (fabric_of world) c.now }
-    requires kept { IsKept (session_of world last_map.old last_routes.old) }
-    requires links { links.old ≡ empty_links (fabric_of world) }
-    ensures obeyed { IfOk result.1 (λ p. IsObeyed (session_of world last_map.old last_routes.old) c.now
-        (session_of result.0 last_map.new last_routes.new) p) }
-    ensures kept { IsKept (session_of result.0 last_map.new last_routes.new) }
-    ensures links { links.new ≡ links.old }
-    ensures fabric { fabric_of result.0 ≡ fabric_of world }
-    ensures same_map { OnErr result.1 (last_map.new ≡ last_map.old) }
-    ensures same_routes { OnErr result.1 (last_routes.new ≡ last_routes.old) }
-    ensures cut { OnErr result.1 (IsCutShort (session_of world last_map.old last_routes.old) c.now result.0) }
-{
-    match map_ordered(&world, c) {
-        Some(order) => map(alloc, world, last_map, order),
-        None => {
-            let mut world = world;
-            let text = obey_here(alloc, &mut world, links, last_map, last_routes, c);
-            (world, text)
-        }
-    }
-}
-
-// Does a command that makes no map: `map` only where that is refused.
+/// Does a command that makes no map: `map` only where that is refused. Where memory is wanting, the world is one that a
+/// prefix of its acts leads to.
 #[tactic(auto, using(crate::proofs::Obeying::done_so, crate::proofs::Obeying::busy_so, crate::proofs::Obeying::circuit_so, crate::proofs::Installs::installed_so))]
-fn obey_here(
+pub(crate) fn obey_here(
     alloc: Global,
     w: &mut World,
     links: &mut Links,

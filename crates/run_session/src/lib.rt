@@ -17,14 +17,15 @@
 //! ```
 //!
 //! A session's type keeps what the routes rest on (`specs/Kept.antt`): a last map that says complete is its mapper's
-//! part of the fabric. It keeps too that its own links are empty, of which contracts see nothing. It is taken apart
-//! once a command, and put together once.
+//! part of the fabric. It keeps too that its own links are empty, of which contracts see nothing. It stands
+//! behind a box, so that a session that is handed on is a pointer.
 //!
 //! | module | has |
 //! |---|---|
 //! | `session` | the session |
+//! | `held` | what it holds, behind its box |
 //! | `last` | the last map and the last routes |
-//! | `commands` | every command, over the parts of a session |
+//! | `commands` | every command that makes no map, over the parts of a session |
 //! | `mapping` | a map made over a world, with its text |
 //! | `circuit_links` | a map of its circuit links, with its text |
 //! | `routing` | the routes of a map, with their text |
@@ -34,6 +35,7 @@
 
 mod circuit_links;
 mod commands;
+mod held;
 mod installing;
 mod last;
 mod mapping;

@@ -8,8 +8,7 @@ ghost use Rattle.promise_laws.specs.CutShort.{IsCutShort};
 ghost use Rattle.run_session.specs.Kept.{IsKept};
 ghost use Rattle.run_session.specs.Obeyed.{IsObeyed, IsObeyedIn};
 
-use crate::commands::obey;
-use crate::last::{LastFound, LastMade};
+use crate::held::Held;
 use fab_report::Printed;
 use fab_world::{Fabric, World};
 use link_model::Links;
@@ -22,44 +21,41 @@ use std::marker::Model;
 /// A walk's packet takes links of its own, which are empty between commands, so that it meets no other packet. It
 /// must be spent, by [`Session::end`].
 pub struct Session {
-    world: World,
-    links: Links,
-    last_map: Option<LastMade>,
-    last_routes: Option<LastFound>,
+    held: Box<Held>,
 }
 
 impl Model for Session {
     ghost use Rattle.run_defs.specs.Session.{SessionState};
-    ghost use Rattle.std.specs.Prelude.{◌≡◌};
-    ghost use Rattle.link_defs.specs.Links.{empty_links};
-    ghost use Rattle.world_defs.specs.World.{fabric_of};
-    ghost use Rattle.run_session.specs.Kept.{IsKept};
 
     ghost Value = { SessionState };
 
-    ghost view = { λ s. record { world = s.world; last_map = s.last_map; last_routes = s.last_routes } };
-
-    ghost invariant = { λ s. IsKept (record { world = s.world; last_map = s.last_map; last_routes = s.last_routes })
-        × (s.links ≡ empty_links (fabric_of s.world)) };
+    ghost view = { λ s. s.held.value };
 }
 
 impl Session {
     /// The session of a fabric before its first command.
-    #[tactic(auto, using(crate::proofs::Keeping::new_kept))]
     pub fn new(alloc: Global, fabric: Fabric) -> Result<Session, AllocError>
         ensures { IfOk result (λ s. s ≡ new_session fabric) }
     {
         let world = World::new(alloc, fabric)?;
         match Links::new(alloc, world.fabric()) {
-            Ok(links) => Ok(Session {
-                world,
-                links,
-                last_map: None,
-                last_routes: None,
-            }),
+            Ok(links) => Session::boxed(alloc, Held::new(world, links)),
             Err(wanting) => {
                 world.end();
                 Err(wanting)
+            }
+        }
+    }
+
+    // The session that holds this.
+    fn boxed(alloc: Global, held: Held) -> Result<Session, AllocError>
+        ensures { IfOk result (λ s. s ≡ held) }
+    {
+        match Box::new(alloc, held) {
+            Ok(held) => Ok(Session { held }),
+            Err(wanting) => {
+                wanting.value.end();
+                Err(AllocError)
             }
         }
     }
@@ -101,19 +97,9 @@ impl Session {
         ensures kept_routes { IfErr result (λ r. r.0.last_routes ≡ self.last_routes) }
         ensures cut { IfErr result (λ r. IsCutShort self c.now r.0.world) }
     {
-        let Session {
-            world,
-            mut links,
-            mut last_map,
-            mut last_routes,
-        } = self;
-        let (world, printed) = obey(alloc, world, &mut links, &mut last_map, &mut last_routes, c);
-        let session = Session {
-            world,
-            links,
-            last_map,
-            last_routes,
-        };
+        let Session { mut held } = self;
+        let printed = held.obey(alloc, c);
+        let session = Session { held };
         match printed {
             Ok(printed) => Ok((session, printed)),
             Err(wanting) => Err((session, wanting)),
@@ -124,7 +110,7 @@ impl Session {
     pub fn world(&self) -> &World
         ensures { result.now ≡ self.now.world }
     {
-        &self.world
+        self.held.world()
     }
 
     /// What it keeps: a last map that says complete is one to compute routes of, and the last routes are those of
@@ -132,17 +118,12 @@ impl Session {
     pub fn kept(&self)
         ensures { IsKept self.now }
     {
-        let _ = &self.last_map;
+        self.held.kept();
     }
 
     /// Spends it. Takes no memory.
     pub fn end(self) {
-        let Session {
-            world,
-            links: _,
-            last_map: _,
-            last_routes: _,
-        } = self;
-        world.end();
+        let Session { held } = self;
+        Box::into_inner(held).end();
     }
 }

@@ -1,0 +1,158 @@
+//! What a session holds, behind its box.
+
+ghost use Rattle.std.specs.Prelude.{◌≡◌, true, Option, Some, None, IfOk, OnErr};
+ghost use Rattle.link_defs.specs.Links.{empty_links, is_idle};
+ghost use Rattle.world_defs.specs.World.{fabric_of};
+ghost use Rattle.run_defs.specs.Session.{LastRoutes};
+ghost use Rattle.fab_script.specs.Ranges.{IsCommandOf};
+ghost use Rattle.promise_laws.specs.CutShort.{IsCutShort};
+ghost use Rattle.world_commands.specs.Done.{session_of};
+ghost use Rattle.run_session.specs.Holding.{world_in};
+ghost use Rattle.run_session.specs.Kept.{IsKept, IsLastMap};
+ghost use Rattle.run_session.specs.Obeyed.{IsObeyed};
+ghost use Rattle.run_session.specs.Told.{map_of};
+
+use crate::commands::obey_here;
+use crate::last::{LastFound, LastMade};
+use crate::mapping::{MapOrder, map, map_ordered};
+use fab_report::Printed;
+use fab_world::World;
+use link_model::Links;
+use run_defs::Command;
+use std::alloc::{AllocError, Global};
+use std::marker::Model;
+
+/// The world, the links of walks, the last map and the last routes.
+///
+/// The world stands in a slot, which is empty only while a map is made: its mapper takes the world by value.
+pub(crate) struct Held {
+    world: Option<World>,
+    links: Links,
+    last_map: Option<LastMade>,
+    last_routes: Option<LastFound>,
+}
+
+impl Model for Held {
+    ghost use Rattle.std.specs.Prelude.{◌≡◌, Some};
+    ghost use Rattle.link_defs.specs.Links.{empty_links};
+    ghost use Rattle.world_defs.specs.World.{fabric_of};
+    ghost use Rattle.run_defs.specs.Session.{SessionState};
+    ghost use Rattle.world_commands.specs.Done.{session_of};
+    ghost use Rattle.run_session.specs.Holding.{world_in};
+    ghost use Rattle.run_session.specs.Kept.{IsKept};
+
+    ghost Value = { SessionState };
+
+    ghost view = { λ h. session_of (world_in h.world) h.last_map h.last_routes };
+
+    ghost invariant = { λ h. IsKept (session_of (world_in h.world) h.last_map h.last_routes)
+        × (h.links ≡ empty_links (fabric_of (world_in h.world))) × (h.world ≡ Some (world_in h.world)) };
+}
+
+impl Held {
+    /// A world with links of its fabric, and neither a map nor routes.
+    #[tactic(auto, using(crate::proofs::Keeping::none_kept))]
+    pub(crate) fn new(world: World, links: Links) -> Held
+        requires { links ≡ empty_links (fabric_of world) }
+        ensures { result ≡ session_of world None None }
+    {
+        Held {
+            world: Some(world),
+            links,
+            last_map: None,
+            last_routes: None,
+        }
+    }
+
+    /// Does a command. Where memory is wanting, the world is one that a prefix of the command's acts leads to, and the
+    /// last map and the last routes are as they were.
+    pub(crate) fn obey(&mut self, alloc: Global, c: &Command) -> Result<Printed, AllocError>
+        requires command { IsCommandOf (fabric_of self.old.world) c.now }
+        ensures obeyed { IfOk result (λ p. IsObeyed self.old c.now self.new p) }
+        ensures fabric { fabric_of self.new.world ≡ fabric_of self.old.world }
+        ensures kept_map { OnErr result (self.new.last_map ≡ self.old.last_map) }
+        ensures kept_routes { OnErr result (self.new.last_routes ≡ self.old.last_routes) }
+        ensures cut { OnErr result (IsCutShort self.old c.now self.new.world) }
+    {
+        let Some(world) = &mut self.world else {
+            unreachable!()
+        };
+        match map_ordered(world, c) {
+            Some(order) => map_slot(alloc, &mut self.world, &mut self.last_map, order),
+            None => obey_here(
+                alloc,
+                world,
+                &mut self.links,
+                &self.last_map,
+                &mut self.last_routes,
+                c,
+            ),
+        }
+    }
+
+    /// Its world.
+    pub(crate) fn world(&self) -> &World
+        ensures { result.now ≡ self.now.world }
+    {
+        match &self.world {
+            Some(world) => world,
+            None => unreachable!(),
+        }
+    }
+
+    /// What it keeps.
+    pub(crate) fn kept(&self)
+        ensures { IsKept self.now }
+    {
+        let _ = &self.last_map;
+    }
+
+    /// Spends it. Takes no memory.
+    pub(crate) fn end(self) {
+        let Held {
+            world,
+            links: _,
+            last_map: _,
+            last_routes: _,
+        } = self;
+        end_slot(world);
+    }
+}
+
+// Ends the world of a slot, if there is one.
+fn end_slot(slot: Option<World>) {
+    if let Some(world) = slot {
+        world.end();
+    }
+}
+
+// Maps from a host of an idle world, which leaves its slot for that and comes back. It is no part of its caller's
+// frame, which the other commands pay for.
+#[inline(never)]
+fn map_slot(
+    alloc: Global,
+    slot: &mut Option<World>,
+    last_map: &mut Option<LastMade>,
+    order: MapOrder,
+) -> Result<Printed, AllocError>
+    requires there { slot.old ≡ Some (world_in slot.old) }
+    requires idle { is_idle (world_in slot.old).links ≡ true }
+    requires order { IsCommandOf (fabric_of (world_in slot.old)) (map_of order) }
+    requires kept { IsLastMap (fabric_of (world_in slot.old)) last_map.old }
+    ensures there { slot.new ≡ Some (world_in slot.new) }
+    ensures obeyed { IfOk result (λ p. (found : Option LastRoutes)
+        → IsObeyed (session_of (world_in slot.old) last_map.old found) (map_of order)
+        (session_of (world_in slot.new) last_map.new found) p) }
+    ensures kept { IsLastMap (fabric_of (world_in slot.old)) last_map.new }
+    ensures fabric { fabric_of (world_in slot.new) ≡ fabric_of (world_in slot.old) }
+    ensures err { OnErr result (last_map.new ≡ last_map.old) }
+    ensures cut { OnErr result ((found : Option LastRoutes)
+        → IsCutShort (session_of (world_in slot.old) last_map.old found) (map_of order) (world_in slot.new)) }
+{
+    let Some(world) = slot.take() else {
+        unreachable!()
+    };
+    let (world, printed) = map(alloc, world, last_map, order);
+    end_slot(slot.replace(world));
+    printed
+}
