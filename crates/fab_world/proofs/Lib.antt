@@ -6,4 +6,6 @@ pub mod Injecting
 pub mod Moments
 pub mod Places
 pub mod Reaching
+pub mod Resting
+pub mod Stepped
 pub mod Waiting

@@ -33,7 +33,7 @@ below-is w p ss o h is count low =
     let inside : h < length (fabric_of w).hosts = subst (λ v. h < length (fabric_of v).hosts) is low in
     subst (λ n. h < n) (sym count) inside
 
-within : {p : LinksAndPlan} {ss : List ServedHost} {o : Option Adoption} {w : WorldState} {h i : ℕ} {x : ServedHost} → IsAt p ss o w h i x → i < length ss
+pub within : {p : LinksAndPlan} {ss : List ServedHost} {o : Option Adoption} {w : WorldState} {h i : ℕ} {x : ServedHost} → IsAt p ss o w h i x → i < length ss
 within {p} {ss} {o} {w} {h} {i} {x} a =
     let count = count-is p ss o w a.is in
     let below = a.below in
@@ -41,7 +41,7 @@ within {p} {ss} {o} {w} {h} {i} {x} a =
     omega (arith, count, below, at)
 
 -- a value that was read within a list is the one at its place
-read-within : (ss : List ServedHost) (i : ℕ) (x : ServedHost) → i < length ss → x ≡ slice_index_or ss i x → x ≡ slice_index_or ss i no_host
+pub read-within : (ss : List ServedHost) (i : ℕ) (x : ServedHost) → i < length ss → x ≡ slice_index_or ss i x → x ≡ slice_index_or ss i no_host
 read-within [] i x h e = absurd (omega arith)
 read-within (y ∷ ss) zero x h e = e
 read-within (y ∷ ss) (suc i) x h e = read-within ss i x (omega arith) e

@@ -1,7 +1,8 @@
 //! The hosts of a world, by address, each with the clients of its ports.
 
-ghost use Rattle.std.specs.Prelude.{◌≡◌, ◌<◌, length, slice_index_or};
+ghost use Rattle.std.specs.Prelude.{◌≡◌, ◌<◌, length, true, slice_index_or};
 ghost use Rattle.client_host.specs.Hosts.{no_host};
+ghost use Rattle.fab_world.specs.Resting.{IsAtRest};
 
 use client_host::ClientHost;
 
@@ -19,4 +20,13 @@ pub(crate) fn host_at(hosts: &[ClientHost], host: u16) -> &ClientHost
     ensures { result.now ≡ slice_index_or hosts.now host no_host }
 {
     &hosts[usize::from(host)]
+}
+
+/// Whether a host has nothing staged, nothing to send and nothing unacknowledged.
+#[tactic(auto, using(crate::proofs::Waiting::none_waits))]
+pub(crate) fn is_at_rest(host: &ClientHost) -> bool
+    ensures rests { result ≡ true → IsAtRest host.now.host host.now.state }
+    ensures wakes { IsAtRest host.now.host host.now.state → result ≡ true }
+{
+    !host.has_staged() && !host.has_to_send() && !host.has_unacked()
 }

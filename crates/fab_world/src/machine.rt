@@ -1,9 +1,10 @@
 //! The links, the hosts and the adopted routes of a world.
 
-ghost use Rattle.std.specs.Prelude.{◌≡◌, IfOk};
+ghost use Rattle.std.specs.Prelude.{◌≡◌, ◌≤◌, ℕ, IfOk, IfSome, IfNone};
 ghost use Rattle.net_defs.specs.Network.{IsFabric};
 ghost use Rattle.world_defs.specs.World.{host_count, new_world, node_at};
 ghost use Rattle.fab_world.specs.Events.{IsHostOf};
+ghost use Rattle.fab_world.specs.Resting.{IsNextAwake, RestsIn};
 
 mod adopting;
 mod calls;
@@ -12,31 +13,34 @@ mod injection;
 mod staging;
 mod steps;
 
-use crate::hosts::{count_of, host_at};
+use crate::hosts::{count_of, host_at, is_at_rest};
 use adopted_routes::AdoptedRoutes;
 use client_host::{ClientHost, end_hosts, new_hosts};
 use faulty_links::FaultyLinks;
+use number_marks::Marks;
 use port_graph::Fabric;
 use std::alloc::{AllocError, Global};
 use std::marker::Model;
 
-/// Links and hosts, as many as the fabric has, and the routes that are adopted. It must be spent, by [`Machine::end`].
+/// Links and hosts, as many as the fabric has, and the routes that are adopted. A host that isn't marked as awake is at
+/// rest, and isn't looked at. It must be spent, by [`Machine::end`].
 pub(crate) struct Machine {
     pub(crate) links: FaultyLinks,
     pub(crate) hosts: Vec<ClientHost>,
+    pub(crate) awake: Marks,
     pub(crate) adopted: AdoptedRoutes,
 }
 
 impl Model for Machine {
     ghost use Rattle.world_defs.specs.World.{WorldState};
     ghost use Rattle.fab_world.specs.Held.{world_of};
-    ghost use Rattle.client_host.specs.Hosts.{AreHosts};
+    ghost use Rattle.fab_world.specs.Resting.{AreWatched};
 
     ghost Value = { WorldState };
 
     ghost view = { λ m. world_of m.links m.hosts.items m.adopted };
 
-    ghost invariant = { λ m. AreHosts m.hosts.items };
+    ghost invariant = { λ m. AreWatched m.hosts.items m.awake };
 }
 
 impl Machine {
@@ -46,11 +50,13 @@ impl Machine {
         ensures fabric { IsFabric f.now }
     {
         let count = f.hosts();
+        let awake = Marks::new(alloc, usize::from(count))?;
         let links = FaultyLinks::new(alloc, f)?;
         match new_hosts(alloc, count) {
             Ok(hosts) => Ok(Machine {
                 links,
                 hosts,
+                awake,
                 adopted: AdoptedRoutes::new(),
             }),
             Err(wanting) => {
@@ -77,11 +83,33 @@ impl Machine {
         host_at(&self.hosts, host)
     }
 
+    /// The least host that isn't below an address and may not be at rest. Those before it are.
+    pub(crate) fn next_awake(&self, from: u16) -> Option<u16>
+        ensures found { IfSome result (IsNextAwake self.now from) }
+        ensures none { IfNone result ((h : ℕ) → from ≤ h → IsHostOf self.now h → RestsIn self.now h) }
+    {
+        match self.awake.next(usize::from(from)) {
+            Some(host) if host < self.hosts.len() => Some(host as u16),
+            _ => None,
+        }
+    }
+
+    /// A host that is at rest isn't looked at any more, until it changes.
+    pub(crate) fn rest(&mut self, host: u16)
+        requires { IsHostOf self.old host }
+        ensures { self.new ≡ self.old }
+    {
+        if is_at_rest(self.at(host)) {
+            self.awake.unmark(usize::from(host));
+        }
+    }
+
     /// Spends links and hosts, with whatever their ports hold.
     pub(crate) fn end(self) {
         let Machine {
             links,
             hosts,
+            awake: _,
             adopted: _,
         } = self;
         links.end();

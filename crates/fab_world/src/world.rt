@@ -18,8 +18,8 @@ ghost use Rattle.world_defs.specs.Node.{has_staged, to_send, port_at, unacknowle
 ghost use Rattle.world_defs.specs.Traffic.{sent_on, got_on};
 ghost use Rattle.world_defs.specs.Table.{active_epoch};
 ghost use Rattle.world_defs.specs.World.{fabric_of, host_count, new_world, node_at, planned, adopted_by};
-ghost use Rattle.world_defs.specs.EightBits.{IsByteFault};
-ghost use Rattle.world_defs.specs.EightBits.{IsByteEvent};
+ghost use Rattle.world_defs.specs.EightBits.{IsByteFault, IsByteEvent};
+ghost use Rattle.world_defs.specs.declared.event.Event.TheVariants.{Ask, Inject, Advance};
 ghost use Rattle.world_defs.specs.Step.{step};
 ghost use Rattle.act_defs.specs.Acts.{IsReached};
 ghost use Rattle.world_defs.specs.Settle.{unacknowledged_from};
@@ -28,12 +28,13 @@ ghost use Rattle.adopted_routes.specs.Adopting.{IsAdoptable, adopt_refusal, part
 ghost use Rattle.fab_world.specs.Events.{IsHostOf, IsChannelOf, IsGiven};
 ghost use Rattle.fab_world.specs.Held.{IsMoment, IsOfHosts};
 ghost use Rattle.fab_world.specs.Hop.{IsHopIn, IsRunIn};
+ghost use Rattle.fab_world.specs.Resting.{IsNextAwake, RestsIn};
 
 use crate::machine::Machine;
 use adopted_routes::AdoptRefusal;
 use client_host::{Message, TokenPlace};
 use faulty_links::{Hop, Run};
-use net_defs::End;
+use net_defs::{End, Walk};
 use port_graph::{Fabric, RouteSet};
 use std::alloc::{AllocError, Global};
 use std::marker::Model;
@@ -89,6 +90,47 @@ impl World {
     {
         flips_have_a_byte(&e);
         self.machine.step(alloc, e)
+    }
+
+    /// A host stages a probe by a walk, in the place of what it has staged: [`World::step`] of [`Event::Ask`], which
+    /// wants no memory.
+    pub fn ask(&mut self, host: u16, walk: Walk, looped: bool)
+        requires there { IsHostOf self.old host }
+        requires short { looped ≡ true → length walk ≤ 31 }
+        ensures after { self.new ≡ (step self.old (Ask host walk looped)).1 }
+        ensures fabric { fabric_of self.new ≡ fabric_of self.old }
+        ensures hosts { host_count self.new ≡ host_count self.old }
+        ensures channels { length self.new.links.channels ≡ length self.old.links.channels }
+        ensures adopted { self.new.adopted ≡ self.old.adopted }
+    {
+        self.machine.ask(host, walk, looped);
+    }
+
+    /// [`World::step`] of [`Event::Inject`]. Want of memory changes nothing.
+    pub fn inject(&mut self, alloc: Global, host: u16) -> Result<Effect, AllocError>
+        requires { IsHostOf self.old host }
+        ensures ok { IfOk result (λ x. step self.old (Inject host) ≡ (x, self.new)) }
+        ensures err { OnErr result (self.new ≡ self.old) }
+        ensures fabric { fabric_of self.new ≡ fabric_of self.old }
+        ensures hosts { host_count self.new ≡ host_count self.old }
+        ensures channels { length self.new.links.channels ≡ length self.old.links.channels }
+        ensures adopted { self.new.adopted ≡ self.old.adopted }
+    {
+        self.machine.inject(alloc, host)
+    }
+
+    /// [`World::step`] of [`Event::Advance`]. Want of memory changes nothing.
+    pub fn advance(&mut self, alloc: Global, c: u16) -> Result<Effect, AllocError>
+        requires { IsChannelOf self.old c }
+        ensures ok { IfOk result (λ x. step self.old (Advance c) ≡ (x, self.new)) }
+        ensures host { IfOk result (IsOfHosts (host_count self.old)) }
+        ensures err { OnErr result (self.new ≡ self.old) }
+        ensures fabric { fabric_of self.new ≡ fabric_of self.old }
+        ensures hosts { host_count self.new ≡ host_count self.old }
+        ensures channels { length self.new.links.channels ≡ length self.old.links.channels }
+        ensures adopted { self.new.adopted ≡ self.old.adopted }
+    {
+        self.machine.advance(alloc, c)
     }
 
     /// An advance of a channel into the next one, or one that is blocked. Anything else is left to the event itself,
@@ -295,6 +337,23 @@ impl World {
         ensures few { result < 2 ^ 63 }
     {
         self.machine.links.planned()
+    }
+
+    /// The least host that isn't below an address and may not be at rest: each of those before it has nothing staged,
+    /// nothing to send and nothing unacknowledged. It looks at one bit for each host.
+    pub fn next_awake(&self, from: u16) -> Option<u16>
+        ensures found { IfSome result (IsNextAwake self.now from) }
+        ensures none { IfNone result ((h : ℕ) → from ≤ h → IsHostOf self.now h → RestsIn self.now h) }
+    {
+        self.machine.next_awake(from)
+    }
+
+    /// [`World::next_awake`] passes by a host that is at rest, from now on until the host changes.
+    pub fn rest(&mut self, host: u16)
+        requires { IsHostOf self.old host }
+        ensures { self.new ≡ self.old }
+    {
+        self.machine.rest(host);
     }
 
     /// How many fragments of a host to a peer aren't acknowledged, sent or not, of both priorities.

@@ -9,10 +9,10 @@ ghost use Rattle.event_lists.specs.Events.{host_try_events, loop_try_events, tri
 ghost use Rattle.event_lists.specs.PartWay.{IsPartWay};
 ghost use Rattle.fab_world.specs.Events.{IsHostOf};
 
-use fab_world::{Event, World};
+use fab_world::World;
 use net_defs::{End, Vertex, Walk};
 use std::alloc::{AllocError, Global};
-use world_drain::{Watch, drain_watching, happen};
+use world_drain::{Watch, drain_watching};
 
 /// A host's injection: whether no injection was left for it, and its number.
 #[derive(Clone, Copy)]
@@ -187,7 +187,8 @@ fn stage(
     ensures hosts { host_count w.new ≡ host_count w.old }
 {
     let walk = walk.copied(alloc)?;
-    happen(alloc, w, Event::Ask { host, walk, looped })
+    w.ask(host, walk, looped);
+    Ok(())
 }
 
 // A host puts what it has to send first into its channel. Want of memory changes nothing.

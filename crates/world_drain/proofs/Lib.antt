@@ -1,3 +1,4 @@
+pub mod AtRest
 pub mod Drained
 pub mod EventRows
 pub mod Expiries

@@ -13,7 +13,7 @@ ghost use Rattle.world_drain.specs.Watch.{seen_in, seen_then};
 ghost use Rattle.world_drain.specs.Part.{IsDrainedTo};
 
 use crate::seen::{Seen, Watch};
-use fab_world::{Event, Hop, World};
+use fab_world::{Hop, World};
 use std::alloc::{AllocError, Global};
 
 /// Advances packets until none moves any more: how many advances changed something, at most the hops that the packets
@@ -166,6 +166,6 @@ fn advance_whole(alloc: Global, w: &mut World, watch: &Watch, c: u16) -> Result<
     ensures hosts { host_count w.new ≡ host_count w.old }
     ensures channels { length w.new.links.channels ≡ length w.old.links.channels }
 {
-    let effect = w.step(alloc, Event::Advance(c))?;
+    let effect = w.advance(alloc, c)?;
     Ok(watch.see(&effect))
 }

@@ -12,23 +12,38 @@ use crate::happening::happen;
 use fab_world::{Event, World};
 use std::alloc::{AllocError, Global};
 
-/// Every host gives up what it staged, by rising address. Want of memory leaves a world that a prefix of these events
-/// leads to.
+/// Every host gives up what it staged, by rising address. Those at rest have staged nothing, and those that are at rest
+/// then are passed by from now on. Want of memory leaves a world that a prefix of these events leads to.
 pub fn give_up_all(alloc: Global, w: &mut World) -> Result<(), AllocError>
     ensures after { OnOk result (w.new ≡ all_given_up w.old) }
     ensures err { OnErr result (IsPartWay w.old (map GiveUp (addresses w.old)) w.new) }
     ensures fabric { fabric_of w.new ≡ fabric_of w.old }
     ensures hosts { host_count w.new ≡ host_count w.old }
 {
-    for host in 0..w.hosts() {
+    let _few = w.hosts();
+    let mut from = 0;
+    while let Some(host) = w.next_awake(from) {
         give_up(alloc, w, host)?;
+        from = host + 1;
     }
     Ok(())
 }
 
-// A host gives up what it staged. Of the many hosts few have staged anything, and where nothing stands the event
-// would be idle.
+// A host gives up what it staged. Where it is at rest then, it is passed by from now on.
 fn give_up(alloc: Global, w: &mut World, host: u16) -> Result<(), AllocError>
+    requires { IsHostOf w.old host }
+    ensures after { OnOk result (w.new ≡ (step w.old (GiveUp host)).1) }
+    ensures err { OnErr result (w.new ≡ w.old) }
+    ensures fabric { fabric_of w.new ≡ fabric_of w.old }
+    ensures hosts { host_count w.new ≡ host_count w.old }
+{
+    drop_staged(alloc, w, host)?;
+    w.rest(host);
+    Ok(())
+}
+
+// A host drops what it staged. Where nothing stands the event would be idle.
+fn drop_staged(alloc: Global, w: &mut World, host: u16) -> Result<(), AllocError>
     requires { IsHostOf w.old host }
     ensures after { OnOk result (w.new ≡ (step w.old (GiveUp host)).1) }
     ensures err { OnErr result (w.new ≡ w.old) }

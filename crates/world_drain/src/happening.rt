@@ -34,7 +34,7 @@ pub fn inject(alloc: Global, w: &mut World, host: u16) -> Result<Option<u64>, Al
     ensures fabric { fabric_of w.new ≡ fabric_of w.old }
     ensures hosts { host_count w.new ≡ host_count w.old }
 {
-    let effect = w.step(alloc, Event::Inject(host))?;
+    let effect = w.inject(alloc, host)?;
     Ok(number_of(&effect))
 }
 

@@ -51,14 +51,17 @@ fn is_quiet(w: &World) -> bool
     w.next_limbo(0).is_none() && none_sends(w)
 }
 
-// Whether no host has anything to send.
+// Whether no host has anything to send. One at rest has nothing.
 fn none_sends(w: &World) -> bool
     ensures { result ≡ list_all (λ h. is_none (to_send h (node_at w.now h))) (addresses w.now) }
 {
-    for host in 0..w.hosts() {
+    let _few = w.hosts();
+    let mut from = 0;
+    while let Some(host) = w.next_awake(from) {
         if w.has_to_send(host) {
             return false;
         }
+        from = host + 1;
     }
     true
 }
@@ -79,15 +82,18 @@ fn pass(alloc: Global, w: &mut World) -> Result<Told, AllocError>
     Ok(Told { moved, resets }.then(replayed))
 }
 
-// An injection of each host, by rising address: whether one wasn't idle.
+// An injection of each host, by rising address: whether one wasn't idle. Of a host at rest it would be.
 fn inject_all(alloc: Global, w: &mut World) -> Result<bool, AllocError>
     ensures moved { IfOk result (λ b. b ≡ nat_lt 0 (changes (steps w.old (map Inject (addresses w.old))).0)) }
     ensures after { OnOk result (w.new ≡ (steps w.old (map Inject (addresses w.old))).1) }
     ensures err { OnErr result (IsPartWay w.old (map Inject (addresses w.old)) w.new) }
 {
+    let _few = w.hosts();
     let mut moved = false;
-    for host in 0..w.hosts() {
+    let mut from = 0;
+    while let Some(host) = w.next_awake(from) {
         moved |= inject_due(alloc, w, host)?;
+        from = host + 1;
     }
     Ok(moved)
 }

@@ -128,13 +128,16 @@ fn round(alloc: Global, w: &mut World) -> Result<u64, AllocError>
     passes(alloc, w)
 }
 
-// An expiry for each pair with something unacknowledged, by host and then by peer.
+// An expiry for each pair with something unacknowledged, by host and then by peer. A host at rest has none.
 fn expire_all(alloc: Global, w: &mut World) -> Result<(), AllocError>
     ensures after { OnOk result (w.new ≡ after_all w.old (expiries w.old)) }
     ensures err { OnErr result (IsPartWay w.old (expiries w.old) w.new) }
 {
-    for host in 0..w.hosts() {
+    let _few = w.hosts();
+    let mut from = 0;
+    while let Some(host) = w.next_awake(from) {
         expire_host_due(alloc, w, host)?;
+        from = host + 1;
     }
     Ok(())
 }

@@ -12,9 +12,12 @@ pub fn unacked(w: &World) -> u64
     ensures few { result ≤ 140737488322560 }
 {
     w.moment();
+    let _few = w.hosts();
     let mut sum = 0;
-    for host in 0..w.hosts() {
+    let mut from = 0;
+    while let Some(host) = w.next_awake(from) {
         sum += unacked_of(w, host);
+        from = host + 1;
     }
     sum
 }

@@ -28,7 +28,9 @@ impl Machine {
         ensures unchanged { OnErr result (self.new ≡ self.old) }
     {
         let table = self.adopted.adopt(alloc, mapper, set)?;
-        self.hosts[usize::from(mapper)].take_table(table);
+        let at = usize::from(mapper);
+        self.hosts[at].take_table(table);
+        self.awake.mark(at);
         Ok(())
     }
 
@@ -52,7 +54,9 @@ impl Machine {
         ensures { stage_at self.old sent.mapper (Some sent.part) (Some sent.by) ≡ (result, self.new) }
     {
         let PartToSend { mapper, part, by } = sent;
-        self.hosts[usize::from(mapper)].part(part, by);
+        let at = usize::from(mapper);
+        self.hosts[at].part(part, by);
+        self.awake.mark(at);
         Effect::Staged
     }
 }

@@ -25,7 +25,9 @@ impl Machine {
         ensures ok { IfOk result (λ x. IsCallAt self.old host port (λ n c. begun n port sends recvs c) x self.new) }
         ensures err { OnErr result (self.new ≡ self.old) }
     {
-        let said = self.hosts[usize::from(host)].begin(alloc, port, sends, recvs)?;
+        let at = usize::from(host);
+        let said = self.hosts[at].begin(alloc, port, sends, recvs)?;
+        self.awake.mark(at);
         Ok(Effect::Said(said))
     }
 
@@ -34,7 +36,10 @@ impl Machine {
         requires port { port < 8 }
         ensures { IsCallAt self.old host port (λ n c. closed n port c) result self.new }
     {
-        Effect::Said(self.hosts[usize::from(host)].close(port))
+        let at = usize::from(host);
+        let said = self.hosts[at].close(port);
+        self.awake.mark(at);
+        Effect::Said(said)
     }
 
     pub(crate) fn provide(
@@ -50,7 +55,9 @@ impl Machine {
         ensures ok { IfOk result (λ x. IsCallAt self.old host port (λ n c. provided_by n port size prio c) x self.new) }
         ensures err { OnErr result (self.new ≡ self.old) }
     {
-        let said = self.hosts[usize::from(host)].provide(alloc, port, size, prio)?;
+        let at = usize::from(host);
+        let said = self.hosts[at].provide(alloc, port, size, prio)?;
+        self.awake.mark(at);
         Ok(Effect::Said(said))
     }
 
@@ -73,7 +80,9 @@ impl Machine {
         ensures ok { IfOk result (λ x. IsSendingAt self.old host (wanted port dest dport prio len seed) x self.new) }
         ensures err { OnErr result (self.new ≡ self.old) }
     {
-        let said = self.hosts[usize::from(host)].send(alloc, port, dest, dport, prio, len, seed)?;
+        let at = usize::from(host);
+        let said = self.hosts[at].send(alloc, port, dest, dport, prio, len, seed)?;
+        self.awake.mark(at);
         Ok(Effect::Said(said))
     }
 
@@ -83,6 +92,9 @@ impl Machine {
         ensures call { IsCallAt self.old host port (λ n c. polled_by n port c) result self.new }
         ensures sender { IsOfHosts (host_count self.old) result }
     {
-        Effect::Said(self.hosts[usize::from(host)].poll(port))
+        let at = usize::from(host);
+        let said = self.hosts[at].poll(port);
+        self.awake.mark(at);
+        Effect::Said(said)
     }
 }

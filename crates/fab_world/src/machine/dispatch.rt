@@ -22,7 +22,10 @@ impl Machine {
         ensures err { OnErr result (self.new ≡ self.old) }
     {
         match e {
-            Event::Ask { host, walk, looped } => Ok(self.ask(host, walk, looped)),
+            Event::Ask { host, walk, looped } => {
+                self.ask(host, walk, looped);
+                Ok(Effect::Staged)
+            }
             Event::Inject(host) => self.inject(alloc, host),
             Event::Advance(c) => self.advance(alloc, c),
             Event::Lose(c) => Ok(self.links.lose(c)),

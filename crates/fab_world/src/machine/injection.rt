@@ -67,7 +67,9 @@ impl Machine {
     {
         match self.links.inject(alloc, c, packet) {
             Ok(effect) => {
-                self.hosts[usize::from(host)].staged();
+                let at = usize::from(host);
+                self.hosts[at].staged();
+                self.awake.mark(at);
                 Ok(effect)
             }
             Err((_, wanting)) => Err(wanting),

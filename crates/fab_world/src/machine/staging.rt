@@ -9,13 +9,14 @@ use net_defs::Walk;
 use world_defs::Effect;
 
 impl Machine {
-    pub(crate) fn ask(&mut self, host: u16, walk: Walk, looped: bool) -> Effect
+    pub(crate) fn ask(&mut self, host: u16, walk: Walk, looped: bool)
         requires there { IsHostOf self.old host }
         requires short { looped ≡ true → length walk ≤ 31 }
-        ensures { asked self.old host walk looped ≡ (result, self.new) }
+        ensures { asked self.old host walk looped ≡ (Effect.Staged, self.new) }
     {
-        self.hosts[usize::from(host)].ask(walk, looped);
-        Effect::Staged
+        let at = usize::from(host);
+        self.hosts[at].ask(walk, looped);
+        self.awake.mark(at);
     }
 
     pub(crate) fn expire(&mut self, host: u16, peer: u16) -> Effect
@@ -23,14 +24,20 @@ impl Machine {
         requires peer { IsHostOf self.old peer }
         ensures { expired self.old host peer ≡ (result, self.new) }
     {
-        done_or_idle(self.hosts[usize::from(host)].expire(peer), Effect::Expired)
+        let at = usize::from(host);
+        let done = self.hosts[at].expire(peer);
+        self.awake.mark(at);
+        done_or_idle(done, Effect::Expired)
     }
 
     pub(crate) fn give_up(&mut self, host: u16) -> Effect
         requires { IsHostOf self.old host }
         ensures { gave_up self.old host ≡ (result, self.new) }
     {
-        done_or_idle(self.hosts[usize::from(host)].give_up(), Effect::GaveUp)
+        let at = usize::from(host);
+        let done = self.hosts[at].give_up();
+        self.awake.mark(at);
+        done_or_idle(done, Effect::GaveUp)
     }
 }
 

@@ -24,7 +24,9 @@ impl Machine {
     {
         match self.links.reaching(c) {
             Some((host, packet)) => {
-                let arrival = self.hosts[usize::from(host)].on_packet(alloc, packet)?;
+                let at = usize::from(host);
+                let arrival = self.hosts[at].on_packet(alloc, packet)?;
+                self.awake.mark(at);
                 Ok(self.links.heard(c, host, arrival))
             }
             None => Ok(self.links.advance(c)),

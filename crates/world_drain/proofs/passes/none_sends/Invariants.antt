@@ -7,4 +7,7 @@ use Rattle.world_drain.proofs.passes.none_sends.Given as goal
 
 abbrev pub invariant-loop-host : goal.invariant-loop-host
 invariant-loop-host l =
-    list_all (λ h. is_none (to_send h (node_at l.w h))) (range_with_len l.host (host_count l.w - l.host)) ≡ list_all (λ h. is_none (to_send h (node_at l.w h))) (addresses l.w)
+    list_all (λ h. is_none (to_send h (node_at l.w h))) (range_with_len l.from (host_count l.w - l.from)) ≡ list_all (λ h. is_none (to_send h (node_at l.w h))) (addresses l.w)
+
+abbrev pub decreases-loop-host : goal.decreases-loop-host
+decreases-loop-host l = host_count l.w - l.from

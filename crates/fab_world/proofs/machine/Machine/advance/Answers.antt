@@ -4,38 +4,44 @@ use Rattle.world_defs.specs.Hearing.{hear}
 use Rattle.fab_world.specs.Held.{world_of}
 use Rattle.fab_world.proofs.Answers.{on-any-err}
 use Rattle.fab_world.proofs.HostEvents.{heard-is}
-use Rattle.fab_world.proofs.Places.{IsAt, count-is, below-is, kept-in-state, kept-same, same}
+use Rattle.fab_world.proofs.Places.{IsAt, count-is, below-is, kept-in-state, same}
+use Rattle.fab_world.proofs.Resting.{marked, still-watched, has-mark}
 use Rattle.fab_world.proofs.machine.Machine.advance.Goals as goal
+
+pub mark-requires : goal.mark-requires
+mark-requires c =
+    has-mark c.self.inside.links c.self.inside.hosts.items c.self.inside.adopted c.args.self.now c.self.inside.awake c.in-Some.host c.from-at.result c.self.view_is c.self.invariant
+    (below-is c.args.self.now c.self.inside.links c.self.inside.hosts.items c.self.inside.adopted c.in-Some.host c.self.view_is c.requires.hosts c.in-Some.ensures.host) c.from-at.ensures
 
 pub index_mut-requires : goal.index_mut-requires
 index_mut-requires c =
     let count = count-is c.self.inside.links c.self.inside.hosts.items c.self.inside.adopted c.args.self.now c.self.view_is in
     let low = below-is c.args.self.now c.self.inside.links c.self.inside.hosts.items c.self.inside.adopted c.in-Some.host c.self.view_is c.requires.hosts c.in-Some.ensures.host in
-    let at = c.from.ensures in
+    let at = c.from-at.ensures in
     omega (arith, count, low, at)
 
 pub invariant_of-self : goal.invariant_of-self
 invariant_of-self c =
-    let at : IsAt c.self.inside.links c.self.inside.hosts.items c.self.inside.adopted c.args.self.now c.in-Some.host c.from.result c.index_mut.result.now =
-    record { is = c.self.view_is; kept = c.self.invariant; below = below-is c.args.self.now c.self.inside.links c.self.inside.hosts.items c.self.inside.adopted c.in-Some.host c.self.view_is c.requires.hosts c.in-Some.ensures.host; at = c.from.ensures; there = c.index_mut.ensures.value } in
-    kept-same c.on_packet.new.self at c.in_err-arrival-in-Some.ensures.unchanged
+    let at : IsAt c.self.inside.links c.self.inside.hosts.items c.self.inside.adopted c.args.self.now c.in-Some.host c.from-at.result c.index_mut.result.now =
+    record { is = c.self.view_is; kept = c.self.invariant.hosts; below = below-is c.args.self.now c.self.inside.links c.self.inside.hosts.items c.self.inside.adopted c.in-Some.host c.self.view_is c.requires.hosts c.in-Some.ensures.host; at = c.from-at.ensures; there = c.index_mut.ensures.value } in
+    still-watched c.self.inside.awake c.on_packet.new.self at c.self.invariant c.in_err-arrival-in-Some.ensures.unchanged
 
 pub invariant_of-self-in-Some : goal.invariant_of-self-in-Some
 invariant_of-self-in-Some c =
-    let at : IsAt c.self.inside.links c.self.inside.hosts.items c.self.inside.adopted c.args.self.now c.in-Some.host c.from.result c.index_mut.result.now =
-    record { is = c.self.view_is; kept = c.self.invariant; below = below-is c.args.self.now c.self.inside.links c.self.inside.hosts.items c.self.inside.adopted c.in-Some.host c.self.view_is c.requires.hosts c.in-Some.ensures.host; at = c.from.ensures; there = c.index_mut.ensures.value } in
-    kept-in-state c.on_packet.new.self (hear c.index_mut.result.now.host c.index_mut.result.now.hosts c.index_mut.result.now.state c.in-Some.packet.now).1 at c.in_ok-arrival-in-Some.ensures.after
+    let at : IsAt c.self.inside.links c.self.inside.hosts.items c.self.inside.adopted c.args.self.now c.in-Some.host c.from-at.result c.index_mut.result.now =
+    record { is = c.self.view_is; kept = c.self.invariant.hosts; below = below-is c.args.self.now c.self.inside.links c.self.inside.hosts.items c.self.inside.adopted c.in-Some.host c.self.view_is c.requires.hosts c.in-Some.ensures.host; at = c.from-at.ensures; there = c.index_mut.ensures.value } in
+    marked c.self.inside.awake c.mark.new.self c.on_packet.new.self at c.self.invariant (kept-in-state c.on_packet.new.self (hear c.index_mut.result.now.host c.index_mut.result.now.hosts c.index_mut.result.now.state c.in-Some.packet.now).1 at c.in_ok-arrival-in-Some.ensures.after) c.mark.ensures
 
 pub returns-in_err-arrival-in-Some-clause-err : goal.returns-in_err-arrival-in-Some-clause-err
 returns-in_err-arrival-in-Some-clause-err c =
-    let at : IsAt c.self.inside.links c.self.inside.hosts.items c.self.inside.adopted c.args.self.now c.in-Some.host c.from.result c.index_mut.result.now =
-    record { is = c.self.view_is; kept = c.self.invariant; below = below-is c.args.self.now c.self.inside.links c.self.inside.hosts.items c.self.inside.adopted c.in-Some.host c.self.view_is c.requires.hosts c.in-Some.ensures.host; at = c.from.ensures; there = c.index_mut.ensures.value } in
+    let at : IsAt c.self.inside.links c.self.inside.hosts.items c.self.inside.adopted c.args.self.now c.in-Some.host c.from-at.result c.index_mut.result.now =
+    record { is = c.self.view_is; kept = c.self.invariant.hosts; below = below-is c.args.self.now c.self.inside.links c.self.inside.hosts.items c.self.inside.adopted c.in-Some.host c.self.view_is c.requires.hosts c.in-Some.ensures.host; at = c.from-at.ensures; there = c.index_mut.ensures.value } in
     on-any-err c.from_residual.result (same c.on_packet.new.self at c.in_err-arrival-in-Some.ensures.unchanged)
 
 pub returns-in_ok-arrival-in-Some-clause-ok : goal.returns-in_ok-arrival-in-Some-clause-ok
 returns-in_ok-arrival-in-Some-clause-ok c =
-    let at : IsAt c.self.inside.links c.self.inside.hosts.items c.self.inside.adopted c.args.self.now c.in-Some.host c.from.result c.index_mut.result.now =
-    record { is = c.self.view_is; kept = c.self.invariant; below = below-is c.args.self.now c.self.inside.links c.self.inside.hosts.items c.self.inside.adopted c.in-Some.host c.self.view_is c.requires.hosts c.in-Some.ensures.host; at = c.from.ensures; there = c.index_mut.ensures.value } in
+    let at : IsAt c.self.inside.links c.self.inside.hosts.items c.self.inside.adopted c.args.self.now c.in-Some.host c.from-at.result c.index_mut.result.now =
+    record { is = c.self.view_is; kept = c.self.invariant.hosts; below = below-is c.args.self.now c.self.inside.links c.self.inside.hosts.items c.self.inside.adopted c.in-Some.host c.self.view_is c.requires.hosts c.in-Some.ensures.host; at = c.from-at.ensures; there = c.index_mut.ensures.value } in
     heard-is c.args.c c.on_packet.new.self c.in-Some.packet.now c.in_ok-arrival-in-Some.arrival c.heard.result c.heard.new.self at c.in-Some.ensures.heard c.in_ok-arrival-in-Some.ensures.heard c.in_ok-arrival-in-Some.ensures.after c.heard.ensures
 
 pub returns-in-None-clause-ok : goal.returns-in-None-clause-ok

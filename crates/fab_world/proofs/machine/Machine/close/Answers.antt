@@ -3,16 +3,22 @@ use Rattle.world_defs.specs.Node.{NodeState}
 use Rattle.world_defs.specs.Client.{ClientState, closed}
 use Rattle.client_host.specs.Held.{client_in}
 use Rattle.fab_world.proofs.Places.{IsAt, kept-called, called}
+use Rattle.fab_world.proofs.Resting.{marked, has-mark}
 use Rattle.fab_world.proofs.machine.Machine.close.Goals as goal
+
+pub mark-requires : goal.mark-requires
+mark-requires c =
+    has-mark c.self.inside.links c.self.inside.hosts.items c.self.inside.adopted c.args.self.now c.self.inside.awake c.args.host c.from-at.result c.self.view_is c.self.invariant
+    c.requires.there c.from-at.ensures
 
 pub invariant_of-self : goal.invariant_of-self
 invariant_of-self c =
-    let at : IsAt c.self.inside.links c.self.inside.hosts.items c.self.inside.adopted c.args.self.now c.args.host c.from.result c.index_mut.result.now =
-    record { is = c.self.view_is; kept = c.self.invariant; below = c.requires.there; at = c.from.ensures; there = c.index_mut.ensures.value } in
-    kept-called c.args.port c.close.new.self (closed c.index_mut.result.now.state c.args.port (client_in c.index_mut.result.now c.args.port)) at c.close.ensures.after
+    let at : IsAt c.self.inside.links c.self.inside.hosts.items c.self.inside.adopted c.args.self.now c.args.host c.from-at.result c.index_mut.result.now =
+    record { is = c.self.view_is; kept = c.self.invariant.hosts; below = c.requires.there; at = c.from-at.ensures; there = c.index_mut.ensures.value } in
+    marked c.self.inside.awake c.mark.new.self c.close-said.new.self at c.self.invariant (kept-called c.args.port c.close-said.new.self (closed c.index_mut.result.now.state c.args.port (client_in c.index_mut.result.now c.args.port)) at c.close-said.ensures.after) c.mark.ensures
 
 pub returns : goal.returns
 returns c =
-    let at : IsAt c.self.inside.links c.self.inside.hosts.items c.self.inside.adopted c.args.self.now c.args.host c.from.result c.index_mut.result.now =
-    record { is = c.self.view_is; kept = c.self.invariant; below = c.requires.there; at = c.from.ensures; there = c.index_mut.ensures.value } in
-    called c.args.port c.close.new.self (λ (n : NodeState) (o : Option ClientState). closed n c.args.port o) c.close.result at c.close.ensures.said c.close.ensures.after
+    let at : IsAt c.self.inside.links c.self.inside.hosts.items c.self.inside.adopted c.args.self.now c.args.host c.from-at.result c.index_mut.result.now =
+    record { is = c.self.view_is; kept = c.self.invariant.hosts; below = c.requires.there; at = c.from-at.ensures; there = c.index_mut.ensures.value } in
+    called c.args.port c.close-said.new.self (λ (n : NodeState) (o : Option ClientState). closed n c.args.port o) c.close-said.result at c.close-said.ensures.said c.close-said.ensures.after

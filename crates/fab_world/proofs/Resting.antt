@@ -1,0 +1,146 @@
+-- Hosts at rest and the marks of the others, as a world's hosts change.
+use Rattle.std.proofs.Common.{◌≡◌, ◌<◌, ◌≤◌, ◌+◌, ◌*◌, ◌/◌, ℕ, zero, suc, Bool, true, false, true≢false, nat_eq, List, [], ◌∷◌, length, replicate, Option, None, is_some, option_map, refl, sym, ap, subst, ◌∙◌, arith, if◌then◌else◌}
+use Rattle.std.specs.Prelude.{slice_index_or, slice_set, option_and_then}
+use Rattle.std.proofs.lemmas.Bool.Decides.{Decides-eqb}
+use Rattle.std.proofs.lemmas.List.{set-get_or, length-set, length-map, length-replicate, get_or-map, get_or-set_other, get_or-replicate}
+use Rattle.gm_defs.specs.Connection.{due, unacknowledged}
+use Rattle.gm_defs.specs.Fragment.{frame_of}
+use Rattle.number_marks.specs.Marks.{mark_at, IsWritten, IsNextMark}
+use Rattle.world_defs.specs.Table.{Adoption}
+use Rattle.world_defs.specs.Lane.{LaneState, new_lane}
+use Rattle.world_defs.specs.Node.{NodeState, FrameAnswer, Fragment, new_node, lane_at, lane_of, lane_count, lane_route, lanes_of, sends_on, owed_on, due_on, either, first_some, to_send, unacknowledged_to}
+use Rattle.world_defs.specs.World.{WorldState, host_count, node_at}
+use Rattle.faulty_links.specs.Held.{LinksAndPlan}
+use Rattle.client_host.specs.Held.{ServedHost}
+use Rattle.client_host.specs.Hosts.{AreHosts, states, no_host}
+use Rattle.fab_world.specs.Held.{world_of}
+use Rattle.fab_world.specs.Resting.{IsAtRest, RestsIn, IsNextAwake, AreWatched}
+use Rattle.fab_world.proofs.Places.{IsAt, count-is, within, read-within}
+
+-- ---- a host before anything happened
+new-lane : (count k : ℕ) → slice_index_or (replicate count new_lane) k new_lane ≡ new_lane
+new-lane zero k = refl
+new-lane (suc count) zero = refl
+new-lane (suc count) (suc k) = new-lane count k
+
+none-first : {A : Type 0} (f : ℕ → Option A) (ks : List ℕ) → ((k : ℕ) → f k ≡ None) → first_some f ks ≡ None
+none-first f [] none = refl
+none-first f (k ∷ ks) none = ap (λ o. either o (first_some f ks)) (none k) ∙ none-first f ks none
+
+nothing-owed : (hosts k : ℕ) → owed_on (new_node hosts) k ≡ None
+nothing-owed hosts k =
+    ap (λ (l : LaneState). if l.owes then option_map (λ by. FrameAnswer k l.taken by) (lane_route (new_node hosts) k) else None) (new-lane (lane_count hosts) k)
+
+nothing-due : (host hosts k : ℕ) → due_on host (new_node hosts) k ≡ None
+nothing-due host hosts k =
+    ap (λ (l : LaneState). option_and_then (λ f. option_map (λ by. Fragment k f.0 f.1 by) (lane_route (new_node hosts) k)) (option_and_then (λ seq. frame_of (sends_on host k) l.sent seq) (due l.sender)))
+    (new-lane (lane_count hosts) k)
+
+nothing-sent : (host hosts : ℕ) → to_send host (new_node hosts) ≡ None
+unfolding to_send
+nothing-sent host hosts =
+    let n : NodeState = new_node hosts in
+    ap (λ o. either o (first_some (due_on host n) (lanes_of n))) (none-first (owed_on n) (lanes_of n) (nothing-owed hosts))
+    ∙ none-first (due_on host n) (lanes_of n) (nothing-due host hosts)
+
+all-acknowledged : (hosts peer : ℕ) → unacknowledged_to (new_node hosts) peer ≡ 0
+all-acknowledged hosts peer =
+    let none : (k : ℕ) → unacknowledged (lane_at (new_node hosts) k).sender ≡ 0 = λ k. ap (λ (l : LaneState). unacknowledged l.sender) (new-lane (lane_count hosts) k) in
+    let a = none (lane_of peer 0) in
+    let b = none (lane_of peer 1) in
+    omega (arith, a, b)
+
+new-rests : (host hosts : ℕ) → IsAtRest host (new_node hosts)
+new-rests host hosts = record { unstaged = refl; silent = ap is_some (nothing-sent host hosts); acknowledged = all-acknowledged hosts }
+
+pub new-watched : (ss : List ServedHost) (hosts : ℕ) (awake : List ℕ) → AreHosts ss → states ss ≡ replicate hosts (new_node hosts) → length awake ≡ hosts / 64 + 1 → AreWatched ss awake
+new-watched ss hosts awake are new size =
+    let count : length ss ≡ hosts = sym (length-map ss (λ s. s.state)) ∙ (ap length new ∙ length-replicate hosts (new_node hosts)) in
+    record {
+      hosts = are;
+      room = omega (arith, count, size);
+      rest = λ h low none.
+          let below : h < hosts = omega (arith, low, count) in
+          let is : (slice_index_or ss h no_host).state ≡ new_node hosts =
+          sym (get_or-map (λ s. s.state) ss h no_host (new_node 0) low) ∙ (ap (λ l. slice_index_or l h (new_node 0)) new ∙ get_or-replicate hosts h (new_node hosts) (new_node 0) below) in
+          subst (IsAtRest h) (sym is) (new-rests h hosts);
+    }
+
+-- ---- a host changes, and is marked
+-- a host of the world has its place among the marks
+pub has-mark : (p : LinksAndPlan) (ss : List ServedHost) (o : Option Adoption) (w : WorldState) (awake : List ℕ) (h i : ℕ) → world_of p ss o ≡ w → AreWatched ss awake → h < host_count w → i ≡ h → i < 64 * length awake
+has-mark p ss o w awake h i is a low at =
+    let count = count-is p ss o w is in
+    let room = a.room in
+    omega (arith, count, room, low, at)
+
+pub marked : {p : LinksAndPlan} {ss : List ServedHost} {o : Option Adoption} {w : WorldState} {h i : ℕ} {x : ServedHost} (awake now : List ℕ) (q : ServedHost) → IsAt p ss o w h i x → AreWatched ss awake → AreHosts (slice_set ss i q)
+    → IsWritten awake now i 1 → AreWatched (slice_set ss i q) now
+marked {p} {ss} {o} {w} {h} {i} {x} awake now q at a are written = record {
+  hosts = are;
+  room = let l = length-set ss i q in let r = a.room in let s = written.size in omega (arith, l, r, s);
+  rest = λ k low none. by k low none (nat_eq k i) refl;
+}
+  where
+    by : (k : ℕ) → k < length (slice_set ss i q) → mark_at now k ≡ 0 → (t : Bool) → nat_eq k i ≡ t → IsAtRest k (slice_index_or (slice_set ss i q) k no_host).state
+    by k low none true e =
+        let same : k ≡ i = (Decides-eqb k i).0 e in
+        let one : mark_at now k ≡ 1 = ap (mark_at now) same ∙ written.here in
+        absurd (omega (arith, one, none))
+    by k low none false e =
+        let differs : k ≡ i → ⊥ = λ f. true≢false (sym ((Decides-eqb k i).1 f) ∙ e) in
+        let long = length-set ss i q in
+        let there : slice_index_or (slice_set ss i q) k no_host ≡ slice_index_or ss k no_host = get_or-set_other ss i k q no_host differs in
+        subst (λ (s : ServedHost). IsAtRest k s.state) (sym there) (a.rest k (omega (arith, low, long)) (sym (written.others k differs) ∙ none))
+
+-- where one of the hosts stays as it is, so do all, and the marks
+pub still-watched : {p : LinksAndPlan} {ss : List ServedHost} {o : Option Adoption} {w : WorldState} {h i : ℕ} {x : ServedHost} (awake : List ℕ) (q : ServedHost) → IsAt p ss o w h i x → AreWatched ss awake → q ≡ x → AreWatched (slice_set ss i q) awake
+still-watched {p} {ss} {o} {w} {h} {i} {x} awake q at a e =
+    let there : x ≡ slice_index_or ss i no_host = read-within ss i x (within at) at.there in
+    subst (λ l. AreWatched l awake) (sym (ap (slice_set ss i) (e ∙ there) ∙ set-get_or ss i no_host)) a
+
+-- ---- a host that is at rest loses its mark
+pub rested : (p : LinksAndPlan) (ss : List ServedHost) (o : Option Adoption) (w : WorldState) (awake now : List ℕ) (h i : ℕ) → world_of p ss o ≡ w → AreWatched ss awake → h < host_count w → i ≡ h → RestsIn w h
+    → IsWritten awake now i 0 → AreWatched ss now
+rested p ss o w awake now h i is a low at rests written = record {
+  hosts = a.hosts;
+  room = let r = a.room in let s = written.size in omega (arith, r, s);
+  rest = λ k below none. by k below none (nat_eq k i) refl;
+}
+  where
+    by : (k : ℕ) → k < length ss → mark_at now k ≡ 0 → (t : Bool) → nat_eq k i ≡ t → IsAtRest k (slice_index_or ss k no_host).state
+    by k below none true e =
+        let same : k ≡ h = (Decides-eqb k i).0 e ∙ at in
+        let state : node_at w k ≡ (slice_index_or ss k no_host).state = ap (λ v. node_at v k) (sym is) ∙ get_or-map (λ s. s.state) ss k no_host (new_node 0) below in
+        subst (IsAtRest k) state (subst (RestsIn w) (sym same) rests)
+    by k below none false e =
+        let differs : k ≡ i → ⊥ = λ f. true≢false (sym ((Decides-eqb k i).1 f) ∙ e) in
+        a.rest k below (sym (written.others k differs) ∙ none)
+
+-- ---- the next host that may not be at rest
+rests-there : (p : LinksAndPlan) (ss : List ServedHost) (o : Option Adoption) (w : WorldState) (awake : List ℕ) (k : ℕ) → world_of p ss o ≡ w → AreWatched ss awake → k < length ss → mark_at awake k ≡ 0 → RestsIn w k
+rests-there p ss o w awake k is a low none =
+    subst (λ v. RestsIn v k) is (subst (IsAtRest k) (sym (get_or-map (λ s. s.state) ss k no_host (new_node 0) low)) (a.rest k low none))
+
+pub awake-next : (p : LinksAndPlan) (ss : List ServedHost) (o : Option Adoption) (w : WorldState) (awake : List ℕ) (from h : ℕ) → world_of p ss o ≡ w → AreWatched ss awake → IsNextMark awake from h → h < length ss → IsNextAwake w from h
+awake-next p ss o w awake from h is a next low =
+    let count = count-is p ss o w is in
+    record {
+      above = next.above;
+      there = omega (arith, low, count);
+      passed = λ k above below. rests-there p ss o w awake k is a (omega (arith, below, low)) (next.passed k above below);
+    }
+
+-- behind the last mark all are at rest
+pub none-awake : (p : LinksAndPlan) (ss : List ServedHost) (o : Option Adoption) (w : WorldState) (awake : List ℕ) (from : ℕ) → world_of p ss o ≡ w → AreWatched ss awake → ((k : ℕ) → from ≤ k → mark_at awake k ≡ 0)
+    → (h : ℕ) → from ≤ h → h < host_count w → RestsIn w h
+none-awake p ss o w awake from is a bare h above low =
+    let count = count-is p ss o w is in
+    rests-there p ss o w awake h is a (omega (arith, low, count)) (bare h above)
+
+-- and where the next mark is of no host
+pub mark-past : (p : LinksAndPlan) (ss : List ServedHost) (o : Option Adoption) (w : WorldState) (awake : List ℕ) (from n : ℕ) → world_of p ss o ≡ w → AreWatched ss awake → IsNextMark awake from n → length ss ≤ n
+    → (h : ℕ) → from ≤ h → h < host_count w → RestsIn w h
+mark-past p ss o w awake from n is a next past h above low =
+    let count = count-is p ss o w is in
+    rests-there p ss o w awake h is a (omega (arith, low, count)) (next.passed h above (omega (arith, low, count, past)))
