@@ -10,7 +10,7 @@ use Rattle.journal_defs.specs.Edges.{is_among}
 use Rattle.journal_defs.proofs.Reach.{among-parts, among-self}
 use Rattle.map_defs.specs.declared.vertex.MapCable.{MapCable}
 use Rattle.map_defs.specs.NetMap.{NetMap, IsMap, host_of_vertex, is_switch_vertex}
-use Rattle.map_defs.specs.Core.{side, is_hostless, hostless_side, cut_off, cut_off_by, is_switch_bridge, is_outside, core_of}
+use Rattle.map_defs.specs.Core.{side, is_hostless, hostless_side, cut_off, cut_off_by, is_outside, core_of}
 use Rattle.core_map.specs.Marks.{marks_of, either, outside_of, outside_by}
 use Rattle.core_map.proofs.Sides.{map-at, long-numbers, side-low}
 
@@ -201,9 +201,6 @@ filter-push test (y ∷ ys) x = by (test y) (filter-push test ys x)
     by : (b : Bool) → filter test (ys ++ x ∷ []) ≡ filter test ys ++ (if test x then x ∷ [] else []) → cond b (y ∷ filter test (ys ++ x ∷ [])) (filter test (ys ++ x ∷ [])) ≡ cond b (y ∷ filter test ys) (filter test ys) ++ (if test x then x ∷ [] else [])
     by true e = ap (λ l. y ∷ l) e
     by false e = e
-
-pub bridges-more : (m : NetMap) (k : ℕ) → filter (is_switch_bridge m) (numbers_below (k + 1)) ≡ filter (is_switch_bridge m) (numbers_below k) ++ (if is_switch_bridge m k then k ∷ [] else [])
-bridges-more m k = ap (filter (is_switch_bridge m)) (ap numbers_below (add-one k)) ∙ filter-push (is_switch_bridge m) (numbers_below k) k
 
 -- both vertices of the cable at a place
 pub cable-low : (n : ℕ) (cs : List MapCable) (k : ℕ) (c : MapCable) → AllByRecursion (λ c. (c.v < n) × (c.w < n)) cs → slice_get cs k ≡ Some c → (c.v < n) × (c.w < n)

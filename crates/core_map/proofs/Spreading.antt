@@ -68,7 +68,7 @@ spread-keeps bs v w u e = by (spreads bs v w)
     by true = set-keeps bs w u e
     by false = e
 
-set-at : (bs : List Bool) (w u : ℕ) → get_or (set bs w true) u false ≡ true → (u ≡ w) ⊎ (get_or bs u false ≡ true)
+pub set-at : (bs : List Bool) (w u : ℕ) → get_or (set bs w true) u false ≡ true → (u ≡ w) ⊎ (get_or bs u false ≡ true)
 set-at [] w u e = absurd (false≢true e)
 set-at (b ∷ bs) zero zero e = inl refl
 set-at (b ∷ bs) zero (suc u) e = inr e

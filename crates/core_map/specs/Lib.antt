@@ -1,2 +1,3 @@
+pub mod Lasting
 pub mod Laws
 pub mod Marks

@@ -7,8 +7,10 @@ ghost use Rattle.map_defs.specs.NetMap.{IsMap, host_of_vertex, is_switch_vertex}
 ghost use Rattle.map_defs.specs.Core.{bridges_of, core_of, cut_off_by, hostless_side, is_hostless, is_switch_bridge};
 ghost use Rattle.map_defs.specs.Core.{side};
 ghost use Rattle.fabric_map.specs.Growing.{with_core};
+ghost use Rattle.core_map.specs.Lasting.{AreLasting, IsBetweenSwitches};
 ghost use Rattle.core_map.specs.Marks.{marks_of, either, joins_host, outside_of, outside_by, with_side};
 
+use crate::lasting::lasting;
 use crate::side::side;
 use fabric_map::{FabricMap, MapCable, MapVertex};
 use std::alloc::{AllocError, Global};
@@ -57,9 +59,10 @@ fn flipped(alloc: Global, marks: &[bool]) -> Result<Vec<bool>, AllocError>
 fn outside(alloc: Global, m: &FabricMap) -> Result<Vec<bool>, AllocError>
     ensures { IfOk result (λ outside. outside.items ≡ outside_of m.now) }
 {
+    let lasting = lasting(alloc, m)?;
     let mut outside = no_marks(alloc, m)?;
     for k in 0..m.cables().len() {
-        add_cut_off(alloc, m, k, &mut outside)?;
+        add_cut_off(alloc, m, k, &lasting, &mut outside)?;
     }
     Ok(outside)
 }
@@ -69,35 +72,44 @@ fn add_cut_off(
     alloc: Global,
     m: &FabricMap,
     k: usize,
+    lasting: &[bool],
     outside: &mut [bool],
 ) -> Result<(), AllocError>
     requires cable { k < length m.now.cables }
+    requires lasting { AreLasting m.now lasting.now }
     requires before { outside.old ≡ outside_by m.now k }
     ensures { OnOk result (outside.new ≡ outside_by m.now (k + 1)) }
 {
     let c = cable_at(m, k);
     if is_switch(m, c.v) && is_switch(m, c.w) {
-        add_side(alloc, m, k, c.v, outside)?;
-        add_side(alloc, m, k, c.w, outside)?;
+        add_side(alloc, m, k, c.v, lasting, outside)?;
+        add_side(alloc, m, k, c.w, lasting, outside)?;
     }
     Ok(())
 }
 
-// Marks the side of a vertex without a cable, if it has no host. Of a vertex that an earlier cable cuts off, that
-// cable has marked whatever this one would: nothing is searched.
+// Marks the side of a vertex without a cable between two switches, if it has no host. The side of a vertex that lasts
+// has one, and what an earlier cable cuts off is marked by that: in both cases nothing is searched.
 fn add_side(
     alloc: Global,
     m: &FabricMap,
     k: usize,
     v: u32,
+    lasting: &[bool],
     outside: &mut [bool],
 ) -> Result<(), AllocError>
     requires cable { k < length m.now.cables }
+    requires between { IsBetweenSwitches m.now k }
     requires vertex { v < length m.now.vertices }
+    requires lasting { AreLasting m.now lasting.now }
     requires long { length outside.old ≡ length m.now.vertices }
     ensures added { OnOk result (outside.new ≡ with_side m.now k v outside.old) }
     ensures same { length outside.new ≡ length outside.old }
 {
+    let _ = m.vertices();
+    if lasting[v as usize] {
+        return Ok(());
+    }
     if outside[v as usize] {
         return Ok(());
     }
@@ -203,16 +215,16 @@ fn joins_host(m: &FabricMap, c: MapCable, v: u32) -> bool
     (c.v == v && is_host(m, c.w as usize)) || (c.w == v && is_host(m, c.v as usize))
 }
 
-// No vertex is marked.
-fn no_marks(alloc: Global, m: &FabricMap) -> Result<Vec<bool>, AllocError>
+/// No vertex is marked.
+pub(crate) fn no_marks(alloc: Global, m: &FabricMap) -> Result<Vec<bool>, AllocError>
     ensures { IfOk result (λ marks. marks.items ≡ marks_of m.now []) }
 {
     let marks = vec![in alloc; false; m.vertices().len()]?;
     Ok(marks)
 }
 
-// The cable of a number.
-fn cable_at(m: &FabricMap, k: usize) -> MapCable
+/// The cable of a number.
+pub(crate) fn cable_at(m: &FabricMap, k: usize) -> MapCable
     requires { k < length m.now.cables }
     ensures there { slice_get m.now.cables k ≡ Some result }
     ensures first { result.v < length m.now.vertices }
@@ -266,8 +278,8 @@ fn is_switch(m: &FabricMap, v: u32) -> bool
     }
 }
 
-// Whether a vertex is a host.
-fn is_host(m: &FabricMap, v: usize) -> bool
+/// Whether a vertex is a host.
+pub(crate) fn is_host(m: &FabricMap, v: usize) -> bool
     ensures { result ≡ is_some (host_of_vertex m.now v) }
 {
     match m.vertices().get(v) {

@@ -142,17 +142,16 @@ place-turn k l = and_from (int_le (negsuc 14) (pos k -ℤ pos 15)) (int_le (pos 
 place-number : (k : ℕ) → nat_abs ((pos k -ℤ pos 15) +ℤ pos 15) ≡ k
 place-number k = let e : (pos k -ℤ pos 15) +ℤ pos 15 ≡ pos k = omega (arith, ints) in ap nat_abs e
 
--- where no port of a vertex has a far end in the table, all are near
-pub near-bare : (cs : List MapCable) (table : List (Option NodePort)) (d : MapPort) → IsTableOf cs table → ((k : ℕ) → k < 31 → get_or table (31 * d.v + k) None ≡ None) → are_near cs d ≡ true
-near-bare cs table d is bare = near-by_places cs d is.turns each
+-- a port at whose place the table has no far end has no cable
+pub place-none : (cs : List MapCable) (table : List (Option NodePort)) (v k : ℕ) → IsTableOf cs table → k < 31 → get_or table (31 * v + k) None ≡ None → far_port cs (port_of_place v k) ≡ None
+place-none cs table v k is l bare = no-end (far_port cs (port_of_place v k)) none
   where
-    no-end : (o : Option MapPort) → far_end o ≡ None → is_some o ≡ false
+    no-end : (o : Option MapPort) → far_end o ≡ None → o ≡ None
     no-end None e = refl
-    no-end (Some x) e = absurd (true≢false (ap is_some e))
+    no-end (Some x) e = cc
 
-    each : (k : ℕ) → k < 31 → is_some (far_port cs (port_of_place d.v k)) ≡ true → is_turn ((pos k -ℤ pos 15) -ℤ d.p) ≡ true
-    each k l some =
-        let turn : IsTurn (pos k -ℤ pos 15) = place-turn k l in
-        let place : place_of_port (port_of_place d.v k) ≡ 31 * d.v + k = ap (λ n. 31 * d.v + n) (place-number k) in
-        let none : far_end (far_port cs (port_of_place d.v k)) ≡ None = sym (is.far_ends (port_of_place d.v k) turn) ∙ ap (λ n. get_or table n None) place ∙ bare k l in
-        absurd (false≢true (sym (no-end (far_port cs (port_of_place d.v k)) none) ∙ some))
+    place : place_of_port (port_of_place v k) ≡ 31 * v + k
+    place = ap (λ n. 31 * v + n) (place-number k)
+
+    none : far_end (far_port cs (port_of_place v k)) ≡ None
+    none = sym (is.far_ends (port_of_place v k) (place-turn k l)) ∙ ap (λ n. get_or table n None) place ∙ bare

@@ -1,5 +1,5 @@
 -- A table of far ends: 31 places for each vertex, one for each port from -15 to 15.
-use Rattle.std.specs.Prelude.{◌≡◌, ℕ, ◌+◌, ◌*◌, ℤ, pos, ◌+ℤ◌, nat_abs, List, slice_index_or, Option, None, option_map}
+use Rattle.std.specs.Prelude.{◌≡◌, ℕ, ◌+◌, ◌*◌, ℤ, pos, ◌+ℤ◌, ◌-ℤ◌, nat_abs, List, slice_index_or, Option, None, option_map}
 use Rattle.std.specs.List.{AllByRecursion}
 use Rattle.net_defs.specs.Turn.{IsTurn}
 use Rattle.map_defs.specs.declared.vertex.MapCable.{MapCable}
@@ -9,6 +9,10 @@ use Rattle.port_table.specs.declared.end.NodePort.{NodePort}
 -- the place of a port
 abbrev pub place_of_port : MapPort → ℕ
 place_of_port d = 31 * d.v + nat_abs (d.p +ℤ pos 15)
+
+-- the port at a place of a vertex
+abbrev pub port_at : ℕ → ℕ → MapPort
+port_at v i = record { v = v; p = pos i -ℤ pos 15 }
 
 -- a port as a pair of its vertex and its number
 abbrev pub pair_of : MapPort → ℕ × ℤ

@@ -12,7 +12,8 @@ ghost use Rattle.net_defs.specs.Turn.{is_turn, IsTurn};
 ghost use Rattle.std.specs.List.{AllByRecursion};
 ghost use Rattle.map_defs.specs.NetMap.{MapPort, first_end, second_end, far_port, map_ends};
 ghost use Rattle.fabric_map.specs.Growing.{are_near};
-ghost use Rattle.fabric_map.specs.Table.{end_of, far_pair, pair_of_end, place_of_port};
+ghost use Rattle.fabric_map.specs.Table.{end_of, far_pair, pair_of_end, place_of_port, port_at};
+ghost use Rattle.port_table.specs.Ends.{IsOutside};
 
 use map_defs::MapCable;
 use port_table::{NodePort, PortTable};
@@ -71,27 +72,25 @@ impl Cabling {
         }
     }
 
+    /// The places of a vertex's ports at which a cable may end: from the first one up to the second.
+    pub(crate) fn span(&self, v: u32) -> (usize, usize)
+        ensures first { result.0 ≤ 31 }
+        ensures end { result.1 ≤ 31 }
+        ensures outside { (i : ℕ) → i < 31 → IsOutside result.0 result.1 i → far_port self.now (port_at v i) ≡ None }
+    {
+        self.far.span(v as usize)
+    }
+
     /// Whether each cabled port of the vertex is at most 15 from this port.
     pub(crate) fn are_near(&self, v: u32, p: i8) -> bool
         requires { IsTurn p }
         ensures { result ≡ are_near self.now record { v = v; p = p } }
     {
-        if self.far.is_bare(v as usize) {
-            true
-        } else {
-            self.are_all_near(v, p)
-        }
-    }
-
-    // The same, port by port.
-    fn are_all_near(&self, v: u32, p: i8) -> bool
-        requires { IsTurn p }
-        ensures { result ≡ are_near self.now record { v = v; p = p } }
-    {
         let _ = &self.cables;
-        for k in 0..PORT_PLACES {
+        let places = self.span(v);
+        for k in places.0..places.1 {
             let q = port_at(k);
-            if self.far(v, q).is_some() && !is_close(q, p) {
+            if !is_close(q, p) && self.far(v, q).is_some() {
                 return false;
             }
         }

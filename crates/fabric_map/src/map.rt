@@ -12,7 +12,8 @@ ghost use Rattle.fabric_map.specs.Growing.{with_core};
 ghost use Rattle.fabric_map.specs.Growing.{has_host, host_refusal, switch_refusal, cable_refusal, is_full as fullness};
 ghost use Rattle.fabric_map.specs.Growing.{may_have, is_used};
 ghost use Rattle.fabric_map.specs.Listing.{addresses_of};
-ghost use Rattle.fabric_map.specs.Table.{far_pair};
+ghost use Rattle.fabric_map.specs.Table.{far_pair, port_at};
+ghost use Rattle.port_table.specs.Ends.{IsOutside};
 
 use crate::cabling::{Cabling, is_close, is_port};
 use crate::fault::MapFault;
@@ -90,6 +91,16 @@ impl FabricMap {
         ensures there { IfSome result (λ e. (e.0 < length self.now.vertices) × IsTurn e.1) }
     {
         self.cabling.far(v, p)
+    }
+
+    /// The ports of a vertex at which a cable may end, by their places, 0 for -15 to 30 for 15: from the first one up to
+    /// the second.
+    pub fn span(&self, v: u32) -> (usize, usize)
+        ensures first { result.0 ≤ 31 }
+        ensures end { result.1 ≤ 31 }
+        ensures outside { (i : ℕ) → i < 31 → IsOutside result.0 result.1 i → map_far self.now (port_at v i) ≡ None }
+    {
+        self.cabling.span(v)
     }
 
     /// The vertex of a host, by its address.

@@ -1,11 +1,13 @@
 -- A map keeps the rules of maps, and the far end of each port, when its cables are put in order.
-use Rattle.std.proofs.Common.{◌≡◌, ◌+◌, ◌*◌, ℕ, zero, suc, List, [], ◌∷◌, ◌++◌, length, Option, Some, None, refl, ap, sym, ◌∙◌, subst, arith}
+use Rattle.std.proofs.Common.{◌≡◌, ◌<◌, ◌≤◌, ◌+◌, ◌-◌, ◌*◌, ◌/◌, ◌%◌, pos, ◌-ℤ◌, ℕ, zero, suc, List, [], ◌∷◌, ◌++◌, length, Option, Some, None, refl, ap, sym, ◌∙◌, subst, arith}
 use Rattle.map_defs.specs.declared.vertex.MapCable.{MapCable}
 use Rattle.map_defs.specs.NetMap.{NetMap, MapPort, IsMap, map_far}
 use Rattle.map_defs.proofs.Ports.{far_is_cabled}
 use Rattle.fabric_map.specs.Growing.{IsFabricMap, with_cable, with_cables}
 use Rattle.fabric_map.proofs.Grown.{map-cable}
-use Rattle.map_quotient.specs.InOrder.{port_of_place, cable_from, cables_below, in_order}
+use Rattle.port_table.specs.Ends.{IsOutside}
+use Rattle.fabric_map.specs.Table.{port_at}
+use Rattle.map_quotient.specs.InOrder.{port_of_place, rising_cable, cable_from, cables_below, in_order}
 use Rattle.map_quotient.proofs.Ordered.{ordered_to, ordered-next, ordered-skip, ordered-only, ordered-each}
 use Rattle.map_quotient.proofs.Taken.{next-taken}
 
@@ -57,3 +59,20 @@ cables-next m k old new c is from added = ap (λ (n : NetMap). n.cables) (ordere
 
 pub cables-skip : (m : NetMap) (k : ℕ) (old : List MapCable) → old ≡ cables_below m k → cable_from m (port_of_place k) ≡ None → old ≡ cables_below m (k + 1)
 cables-skip m k old is from = is ∙ ap (λ (n : NetMap). n.cables) (ordered-skip m (ordered_to m k) k refl from)
+
+-- places without a cable add none
+pub cables-none : (m : NetMap) (k gap : ℕ) → ((i : ℕ) → k ≤ i → i < k + gap → map_far m (port_of_place i) ≡ None) → cables_below m k ≡ cables_below m (k + gap)
+cables-none m k zero none = let same : k ≡ k + 0 = omega arith in ap (cables_below m) same
+cables-none m k (suc gap) none =
+    let before : cables_below m k ≡ cables_below m (k + gap) = cables-none m k gap (λ i low high. none i low (omega (arith, high))) in
+    let last : cable_from m (port_of_place (k + gap)) ≡ None = ap (rising_cable (port_of_place (k + gap))) (none (k + gap) (omega arith) (omega arith)) in
+    let end : k + gap + 1 ≡ k + suc gap = omega arith in
+    cables-skip m (k + gap) (cables_below m k) before last ∙ ap (cables_below m) end
+
+-- a place outside of its vertex's span has none
+pub outside-none : (m : NetMap) (v first end k : ℕ) → ((i : ℕ) → i < 31 → IsOutside first end i → map_far m (port_at v i) ≡ None) → 31 * v ≤ k → k < 31 * v + 31 → IsOutside first end (k - 31 * v) → map_far m (port_of_place k) ≡ None
+outside-none m v first end k bare low high out =
+    let number : k / 31 ≡ v = omega (arith, low, high) in
+    let place : k % 31 ≡ k - 31 * v = omega (arith, low, high) in
+    let same : port_of_place k ≡ port_at v (k - 31 * v) = (λ j. record { v = number j; p = pos (place j) -ℤ pos 15 }) in
+    ap (map_far m) same ∙ bare (k - 31 * v) (omega (arith, low, high)) out

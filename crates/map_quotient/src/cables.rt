@@ -1,6 +1,6 @@
 //! The cables of a map in the order of a report: each at its lesser end, by vertex, then by port.
 
-ghost use Rattle.std.specs.Prelude.{◌≡◌, ◌*◌, ◌<◌, ◌^◌, length, None, OnOk, IfOk};
+ghost use Rattle.std.specs.Prelude.{◌≡◌, ◌+◌, ◌*◌, ◌<◌, ◌^◌, length, None, OnOk, IfOk};
 ghost use Rattle.fabric_map.specs.Growing.{IsFabricMap, cable_refusal, with_cable};
 ghost use Rattle.map_quotient.specs.InOrder.{cable_from, cables_below, in_order, port_of_place};
 
@@ -29,12 +29,26 @@ fn ordered(alloc: Global, map: &FabricMap) -> Result<Vec<MapCable>, AllocError>
     ensures is_map { IsFabricMap map.now }
 {
     let mut cables = Vec::with_capacity(alloc, map.cables().len())?;
-    for place in 0..PORTS * map.vertices().len() {
+    for v in 0..map.vertices().len() {
+        add_cables_of(map, v, &mut cables)?;
+    }
+    Ok(cables)
+}
+
+// Adds the cables whose first end is a port of a vertex. Most vertices of a large map have one cable, and one port is
+// looked at.
+fn add_cables_of(map: &FabricMap, v: usize, cables: &mut Vec<MapCable>) -> Result<(), AllocError>
+    requires few { v < 2 ^ 32 }
+    requires before { cables.old.items ≡ cables_below map.now (31 * v) }
+    ensures { OnOk result (cables.new.items ≡ cables_below map.now (31 * v + 31)) }
+{
+    let places = map.span(v as u32);
+    for place in PORTS * v + places.0..PORTS * v + places.1 {
         if let Some(cable) = cable_from(map, place) {
             cables.push(cable)?;
         }
     }
-    Ok(cables)
+    Ok(())
 }
 
 // The cable whose first end is the port at a place.

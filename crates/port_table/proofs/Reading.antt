@@ -1,5 +1,5 @@
 -- What stands at a place of a table, and how many rows there are.
-use Rattle.std.proofs.Common.{◌≡◌, ◌≢◌, ◌<◌, ◌≤◌, ◌⊎◌, inl, inr, ℕ, zero, suc, ◌+◌, ◌*◌, ◌/◌, ◌%◌, List, [], ◌∷◌, Bool, true, false, nat_eq, nat_lt, length, get_or, set, Option, None, refl, ap, sym, ◌∙◌, true≢false, arith}
+use Rattle.std.proofs.Common.{◌≡◌, ◌≢◌, ◌<◌, ◌≤◌, ◌⊎◌, inl, inr, ℕ, zero, suc, ◌+◌, ◌*◌, ◌/◌, ◌%◌, List, [], ◌∷◌, Bool, true, false, nat_eq, nat_lt, length, get_or, set, Option, Some, None, ℤ, if◌then◌else◌, refl, ap, sym, ◌∙◌, true≢false, arith}
 use Rattle.std.proofs.lemmas.Bool.Decides.{Decides-eqb, nat_tests}
 use Rattle.std.proofs.Math.ListN.{length-set}
 use Rattle.std.proofs.lemmas.List.{get_or_past}
@@ -7,7 +7,7 @@ use Rattle.std.proofs.lemmas.List.FromFn.{length-map-range_with_len, get_or-map-
 use Rattle.port_table.specs.declared.end.NodePort.{NodePort}
 use Rattle.port_table.specs.declared.table.Known.{Known}
 use Rattle.port_table.specs.declared.table.Known.TheVariants.{Nothing, One, Row}
-use Rattle.port_table.specs.Ends.{one_at, known_at, look, entry, dense, rows_of, row_count}
+use Rattle.port_table.specs.Ends.{one_at, known_at, look, entry, dense, rows_of, row_count, IsOutside}
 
 -- numbers are one or differ
 pub nat-cases : (m n : ℕ) → (m ≡ n) ⊎ (m ≢ n)
@@ -79,6 +79,15 @@ row-room ks n p e l is =
     let s = length-set ks n (Row 0) in
     omega (arith, c, z, f, s)
 
--- nothing stands at the places of a number of which nothing is known
-pub bare-place : (ks : List Known) (rows : List (Option NodePort)) (n i : ℕ) → i < 31 → known_at ks n ≡ Nothing → get_or (dense ks rows) (31 * n + i) None ≡ None
-bare-place ks rows n i l e = at-dense ks rows (31 * n + i) ∙ entry-at ks rows n i l ∙ ap (λ x. look rows x i) e
+-- what stands at a place of a number
+pub number-place : (ks : List Known) (rows : List (Option NodePort)) (n i : ℕ) → i < 31 → get_or (dense ks rows) (31 * n + i) None ≡ look rows (known_at ks n) i
+number-place ks rows n i l = at-dense ks rows (31 * n + i) ∙ entry-at ks rows n i l
+
+-- nothing stands outside of the span of what is known
+pub outside-one : (rows : List (Option NodePort)) (p : ℕ) (q : ℤ) (n i : ℕ) → IsOutside p (p + 1) i → look rows (One p q n) i ≡ None
+outside-one rows p q n i (inl l) = ap (λ b. if b then Some (record { node = n; port = q }) else None) (eq-other p i (λ e. absurd (omega (arith, l, e))))
+outside-one rows p q n i (inr l) = ap (λ b. if b then Some (record { node = n; port = q }) else None) (eq-other p i (λ e. absurd (omega (arith, l, e))))
+
+pub outside-row : (rows : List (Option NodePort)) (r i : ℕ) → i < 31 → IsOutside 0 31 i → look rows (Row r) i ≡ None
+outside-row rows r i l (inl out) = absurd (omega (arith, out))
+outside-row rows r i l (inr out) = absurd (omega (arith, l, out))

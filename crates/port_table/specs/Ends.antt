@@ -1,5 +1,5 @@
 -- Far ends in memory: 31 places for each number, of which one end is kept beside the number and more in a row.
-use Rattle.std.specs.Prelude.{◌≡◌, ◌≢◌, ℕ, ◌+◌, ◌*◌, ◌/◌, ◌%◌, ◌<◌, ◌≤◌, nat_eq, if◌then◌else◌, List, []}
+use Rattle.std.specs.Prelude.{◌≡◌, ◌≢◌, ◌⊎◌, ℕ, ◌+◌, ◌*◌, ◌/◌, ◌%◌, ◌<◌, ◌≤◌, nat_eq, if◌then◌else◌, List, []}
 use Rattle.std.specs.Prelude.{◌∷◌, length, map, slice_index_or, Option, Some, None}
 use Rattle.std.specs.List.{range_with_len}
 use Rattle.port_table.specs.declared.end.NodePort.{NodePort}
@@ -43,6 +43,19 @@ entry ks rows k = look rows (known_at ks (k / 31)) (k % 31)
 -- what is known at all places, 31 a number
 abbrev pub dense : List Known → List (Option NodePort) → List (Option NodePort)
 dense ks rows = map (entry ks rows) (range_with_len 0 (31 * length ks))
+
+-- a place is before a first one, or not before a last
+abbrev pub IsOutside : ℕ → ℕ → ℕ → Type 0
+IsOutside first end i = (i < first) ⊎ (end ≤ i)
+
+-- an end that is alone has a place
+abbrev pub HasPlace : Known → Type 0
+HasPlace known = (p : ℕ) (e : NodePort) → known ≡ one_at p e → p < 31
+
+-- nothing stands outside of these places of a number of which this is known
+abbrev pub IsSpanOf : Known → ℕ → ℕ → Type 0
+IsSpanOf known first end = (rows : List (Option NodePort)) (i : ℕ) → i < 31 → IsOutside first end i
+    → look rows known i ≡ None
 
 -- one for a number with a row
 abbrev pub rows_of : Known → ℕ

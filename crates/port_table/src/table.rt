@@ -1,10 +1,9 @@
 //! The table of far ends.
 
 ghost use Rattle.std.specs.Prelude.{◌≡◌, ◌≢◌, ℕ, ◌<◌, ◌≤◌, ◌+◌, ◌*◌, ◌^◌, [], length, set, slice_index_or, None, Some};
-ghost use Rattle.std.specs.Prelude.{true, false, vec_capacity, OnOk};
+ghost use Rattle.std.specs.Prelude.{false, vec_capacity, OnOk};
 ghost use Rattle.port_table.specs.Ends.{AddsPlaces, AddsRow, HasRoomForNumber, IsSound, PutsAt, alone, known_at, look};
-ghost use Rattle.port_table.specs.Ends.{one_at};
-ghost use Rattle.port_table.specs.declared.table.Known.TheVariants.{Nothing};
+ghost use Rattle.port_table.specs.Ends.{one_at, HasPlace, IsOutside, IsSpanOf};
 
 use crate::end::NodePort;
 use crate::rows::Rows;
@@ -81,14 +80,17 @@ impl PortTable {
         }
     }
 
-    /// Whether nothing is known at any place of a number; where it isn't told, something may be known or not.
-    pub fn is_bare(&self, number: usize) -> bool
-        ensures { result ≡ true → (i : ℕ) → i < 31 → slice_index_or self.now.items (31 * number + i) None ≡ None }
+    /// The places of a number at which an end may be known: from the first one up to the second.
+    pub fn span(&self, number: usize) -> (usize, usize)
+        ensures first { result.0 ≤ 31 }
+        ensures end { result.1 ≤ 31 }
+        ensures outside { (i : ℕ) → i < 31 → IsOutside result.0 result.1 i
+            → slice_index_or self.now.items (31 * number + i) None ≡ None }
     {
         if number < self.known.len() {
-            is_nothing(known_of(&self.known, number))
+            span_of(known_of(&self.known, number))
         } else {
-            true
+            (0, 0)
         }
     }
 
@@ -213,13 +215,20 @@ fn looked(known: &Vec<Known>, rows: &Rows, number: usize, place: usize) -> Optio
     }
 }
 
-// Whether nothing is known.
-fn is_nothing(known: Known) -> bool
-    ensures { result ≡ true → known ≡ Nothing }
+// The places at which an end may be known, where this is known of a number.
+fn span_of(known: Known) -> (usize, usize)
+    requires { HasPlace known }
+    ensures first { result.0 ≤ 31 }
+    ensures end { result.1 ≤ 31 }
+    ensures outside { IsSpanOf known result.0 result.1 }
 {
     match known {
-        Known::Nothing => true,
-        Known::One(_, _, _) | Known::Row(_) => false,
+        Known::Nothing => (0, 0),
+        Known::One(at, _, _) => {
+            let place = usize::from(at);
+            (place, place + 1)
+        }
+        Known::Row(_) => (0, PLACES),
     }
 }
 

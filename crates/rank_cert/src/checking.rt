@@ -1,6 +1,6 @@
 //! The check of routes against ranks.
 
-ghost use Rattle.std.specs.Prelude.{◌≡◌, ◌↔◌, IsOk, IfOk, IfErr, OnOk, if◌then◌else◌, Option, Some, None, All};
+ghost use Rattle.std.specs.Prelude.{◌≡◌, ◌↔◌, [], IsOk, IfOk, IfErr, OnOk, if◌then◌else◌, Option, Some, None, All};
 ghost use Rattle.std.specs.List.{AllByRecursion};
 ghost use Rattle.net_defs.specs.Turn.{IsTurn};
 ghost use Rattle.map_defs.specs.Routing.{LeadsTo, channels_on, led_to};
@@ -12,7 +12,7 @@ ghost use Rattle.rank_cert.specs.Checking.{rank_after, ranked_by, Tells, AreOfOn
 ghost use Rattle.rank_cert.specs.Following.{unpair, channels_after, port_of_pair};
 
 use crate::fault::CheckFault;
-use crate::following::{far_of, led_to, next_port, port_of_host};
+use crate::following::{far_of, led_to, next_by, port_of_host};
 use crate::ranks::Ranks;
 use fabric_map::FabricMap;
 use port_graph::{Route, RouteSet};
@@ -109,16 +109,18 @@ fn walked(
     let mut at = start;
     let mut before = None;
     for turn in turns {
+        let far = far_of(m, at);
         let rank = rank_at(at, k);
-        match fault_at(m, before, at, rank) {
+        match fault_at(m, before, at, far, rank) {
             None => {}
             Some(fault) => return Err(fault),
         }
         before = ranked(at, rank);
-        at = next_port(m, at, *turn);
+        at = next_by(m, at, far, *turn);
     }
-    match fault_at(m, before, at, rank_at(at, k)) {
-        None => Ok(far_of(m, at)),
+    let end = far_of(m, at);
+    match fault_at(m, before, at, end, rank_at(at, k)) {
+        None => Ok(end),
         Some(last) => Err(last),
     }
 }
@@ -133,18 +135,22 @@ fn rank_at(at: Option<(u32, i8)>, k: &Ranks) -> Option<u64>
     }
 }
 
-// The fault of the channel that leaves by a port, if one does, with its rank, after the channel before it.
+// The fault of the channel that leaves by a port, if one does, with its rank, after the channel before it. One does where
+// there is a far end.
 fn fault_at(
     m: &FabricMap,
     before: Option<((u32, i8), u64)>,
     at: Option<(u32, i8)>,
+    far: Option<(u32, i8)>,
     rank: Option<u64>,
 ) -> Option<CheckFault>
+    requires { far ≡ far_pair (led_to m.now (unpair at) []) }
     ensures { result ≡ fault_by before (channels_after m.now (unpair at)) rank }
 {
+    let _ = m;
     match at {
         None => None,
-        Some((v, p)) => match m.map_far(v, p) {
+        Some((v, p)) => match far {
             None => None,
             Some(_) => fault_of(before, (v, p), rank),
         },

@@ -1,6 +1,6 @@
 //! Where a route leads on a map, port after port.
 
-ghost use Rattle.std.specs.Prelude.{◌≡◌, [], All};
+ghost use Rattle.std.specs.Prelude.{◌≡◌, [], All, IfSome};
 ghost use Rattle.net_defs.specs.Turn.{IsTurn};
 ghost use Rattle.map_defs.specs.Routing.{led_to, turned_to, port_of_host};
 ghost use Rattle.fabric_map.specs.Table.{far_pair};
@@ -32,7 +32,8 @@ pub(crate) fn led_to(m: &FabricMap, start: Option<(u32, i8)>, turns: &[i8]) -> O
 
 /// The port at the other end of the cable at a port.
 pub(crate) fn far_of(m: &FabricMap, at: Option<(u32, i8)>) -> Option<(u32, i8)>
-    ensures { result ≡ far_pair (led_to m.now (unpair at) []) }
+    ensures far { result ≡ far_pair (led_to m.now (unpair at) []) }
+    ensures turn { IfSome result (λ e. IsTurn e.1) }
 {
     match at {
         None => None,
@@ -45,9 +46,24 @@ pub(crate) fn next_port(m: &FabricMap, at: Option<(u32, i8)>, turn: i8) -> Optio
     requires { IsTurn turn }
     ensures { result ≡ far_pair (next_after m.now (unpair at) turn) }
 {
+    next_by(m, at, far_of(m, at), turn)
+}
+
+/// The same where the port at the other end of the cable is known.
+pub(crate) fn next_by(
+    m: &FabricMap,
+    at: Option<(u32, i8)>,
+    far: Option<(u32, i8)>,
+    turn: i8,
+) -> Option<(u32, i8)>
+    requires turn { IsTurn turn }
+    requires far { far ≡ far_pair (led_to m.now (unpair at) []) }
+    requires entered { IfSome far (λ e. IsTurn e.1) }
+    ensures { result ≡ far_pair (next_after m.now (unpair at) turn) }
+{
     match at {
         None => None,
-        Some((v, p)) => match m.map_far(v, p) {
+        Some(_) => match far {
             None => None,
             Some((w, q)) => turned_to(m, w, q, turn),
         },

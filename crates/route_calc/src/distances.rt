@@ -7,7 +7,7 @@
 //!           went up alone   went down        went up alone   went down
 //! ```
 
-ghost use Rattle.std.specs.Prelude.{◌≡◌, ◌<◌, ◌+◌, ◌*◌, false, length, IfOk};
+ghost use Rattle.std.specs.Prelude.{◌≡◌, ◌<◌, ◌+◌, ◌*◌, true, false, length, IfOk};
 ghost use Rattle.map_defs.specs.NetMap.{is_switch_vertex};
 ghost use Rattle.map_defs.specs.Orientation.{order_of};
 ghost use Rattle.route_calc.specs.Exits.{all_exits};
@@ -117,13 +117,35 @@ fn lower(far: &mut [u8], exits: &[Exit], v: u32, down: bool) -> bool
     }
 }
 
-// The least distance that a port leads to.
+// The least distance that a port leads to. Each kind of packet has a loop of its own, with one question less a port.
 fn nearest(far: &[u8], exits: &[Exit], down: bool) -> u8
     ensures { result ≡ nearest_after far.now down 255 exits.now }
 {
+    if down {
+        nearest_down(far, exits)
+    } else {
+        nearest_at_all(far, exits)
+    }
+}
+
+// The least distance that a port leads to, to a packet that went down.
+fn nearest_down(far: &[u8], exits: &[Exit]) -> u8
+    ensures { result ≡ nearest_after far.now true 255 exits.now }
+{
     let mut least = FAR;
     for exit in exits {
-        least = least_with(far, down, least, *exit);
+        least = least_with(far, true, least, *exit);
+    }
+    least
+}
+
+// The least distance that a port leads to, to a packet that went up alone.
+fn nearest_at_all(far: &[u8], exits: &[Exit]) -> u8
+    ensures { result ≡ nearest_after far.now false 255 exits.now }
+{
+    let mut least = FAR;
+    for exit in exits {
+        least = least_with(far, false, least, *exit);
     }
     least
 }

@@ -2,7 +2,7 @@
 use Rattle.std.proofs.Common.{◌≡◌, ℕ, List, [], ◌∷◌, map, refl, sym, ap, subst}
 use Rattle.std.specs.Prelude.{Result, Ok, Err, IfOk, OnErr}
 use Rattle.world_defs.specs.declared.event.Event.{Event}
-use Rattle.world_defs.specs.declared.event.Event.TheVariants.{Inject, Replay, Reset}
+use Rattle.world_defs.specs.declared.event.Event.TheVariants.{Replay, Reset}
 use Rattle.world_defs.specs.World.{WorldState}
 use Rattle.world_defs.specs.Step.{step, steps}
 use Rattle.world_defs.specs.Drain.{channels_of, resets_of, reset_count, clear}
@@ -27,9 +27,6 @@ settles-any = record { clears = clears-any; inject = λ h. tt; replay = λ s. tt
 
 events-later : (w v : WorldState) (f : ℕ → Event) (ns : List ℕ) → v ≡ (steps w (map f ns)).1 → IsLater w v
 events-later w v f ns is = subst (IsLater w) (sym is) (steps-along IsLater Any along-later w (map f ns) (all-map Any f (λ n. tt) ns))
-
-pub injects-later : (w v : WorldState) (hs : List ℕ) → v ≡ (steps w (map Inject hs)).1 → IsLater w v
-injects-later w v hs is = events-later w v Inject hs is
 
 -- resets that came to their end, or were cut off
 pub resets-later : {E : Type 0} (w v : WorldState) (r : Result ℕ E) → IfOk r (λ n. reset_count (steps w (resets_of w)) ≡ (n, v)) → OnErr r (IsPartWay w (resets_of w) v) → IsLater w v

@@ -17,9 +17,6 @@ later-both u v w (es, is) (fs, on) = (es ++ fs, on ∙ ap (λ x. after_all x fs)
 pub later-step : (w v : WorldState) (e : Event) → v ≡ (step w e).1 → IsLater w v
 later-step w v e is = (e ∷ [], is)
 
-pub later-still : (w v : WorldState) → v ≡ w → IsLater w v
-later-still w v is = ([], is)
-
 pub way-later : {es : List Event} (w v : WorldState) → IsPartWay w es v → IsLater w v
 way-later w v p = (p.done, p.there)
 

@@ -8,12 +8,6 @@ use Rattle.fab_world.specs.Held.{IsMoment}
 pub record Summing (f : ℕ → ℕ) (count from sum : ℕ) : Type 0 where
   pub rest : sum + sum_of (map f (range_with_len from (count - from))) ≡ sum_of (map f (range_with_len 0 count))
 
-pub summing-none : (f : ℕ → ℕ) (count : ℕ) → Summing f count 0 0
-summing-none f count =
-    let e : count - 0 ≡ count = omega arith in
-    let whole : sum_of (map f (range_with_len 0 (count - 0))) ≡ sum_of (map f (range_with_len 0 count)) = ap (λ n. sum_of (map f (range_with_len 0 n))) e in
-    record { rest = omega (arith, whole) }
-
 pub summing-on : (f : ℕ → ℕ) (count from sum next : ℕ) → Summing f count from sum → from < count → next ≡ sum + f from → Summing f count (from + 1) next
 summing-on f count from sum next s low is =
     let left : count - from ≡ suc (count - (from + 1)) = omega (arith, low) in

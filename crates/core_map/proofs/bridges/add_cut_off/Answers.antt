@@ -5,6 +5,22 @@ use Rattle.core_map.proofs.Cutting.{long-before, sides-added, none-added}
 use Rattle.core_map.proofs.bridges.add_cut_off.Goals as goal
 use Rattle.core_map.proofs.bridges.add_cut_off.Goals.{else-is_switch-via-then-is_switch+else-is_switch-2, else-is_switch-via-else-is_switch}
 
+pub add_side-requires-clause-between : goal.add_side-requires-clause-between
+add_side-requires-clause-between c = record {
+  cable = c.cable_at-c.result;
+  there = c.cable_at-c.ensures.there;
+  first = sym c.is_switch.ensures ∙ c.if-is_switch.true;
+  second = sym c.is_switch-then-is_switch.ensures ∙ c.if-is_switch-2.true;
+}
+
+pub add_side-requires-then-is_switch-2-clause-between : goal.add_side-requires-then-is_switch-2-clause-between
+add_side-requires-then-is_switch-2-clause-between c = record {
+  cable = c.cable_at-c.result;
+  there = c.cable_at-c.ensures.there;
+  first = sym c.is_switch.ensures ∙ c.if-is_switch.true;
+  second = sym c.is_switch-then-is_switch.ensures ∙ c.if-is_switch-2.true;
+}
+
 pub add_side-requires-clause-long : goal.add_side-requires-clause-long
 add_side-requires-clause-long c = ap length c.requires.before ∙ long-before c.args.m.now c.args.k c.cable_at-c.result c.cable_at-c.ensures.is_map c.cable_at-c.ensures.there
 

@@ -21,15 +21,15 @@ loop-turn-preserved c =
     let lt : i < length ts = c.loop-turn-test.true in
     let t : ℤ = get_or ts i (pos 0) in
     let same : to_z w8 (of_z w8 t) ≡ t = to_z-of_z w8 t (turn-fits t (c.requires i (pos 0) lt)) in
-    let next : unpair c.next_port-at.result ≡ next_after m (unpair at) t =
-    ap unpair (c.next_port-at.ensures ∙ ap (λ z. far_pair (next_after m (unpair at) z)) same) ∙ unpair-pair (next_after m (unpair at) t) in
+    let next : unpair c.next_by-at.result ≡ next_after m (unpair at) t =
+    ap unpair (c.next_by-at.ensures ∙ ap (λ z. far_pair (next_after m (unpair at) z)) same) ∙ unpair-pair (next_after m (unpair at) t) in
     let step : fault_along ks before (channels_on m (unpair at) (drop i ts)) ≡ first_of_two (fault_along ks before (channels_after m (unpair at))) (fault_along ks (ranked_at ks (unpair at)) (channels_on m (next_after m (unpair at) t) (drop (i + 1) ts))) =
     at_drop_more (λ l. fault_along ks before (channels_on m (unpair at) l)) ts i (pos 0) lt ∙ fault-step m ks before (unpair at) t (drop (i + 1) ts) in
     let none : fault_along ks before (channels_after m (unpair at)) ≡ None =
     sym (c.in-None.ensures ∙ ap (fault_by before (channels_after m (unpair at))) c.rank_at-rank.ensures ∙ fault-there m ks before (unpair at)) in
     record {
       fault =
-          ap (λ b. fault_along ks b (channels_on m (unpair c.next_port-at.result) (drop (i + 1) ts))) (c.ranked-before.ensures ∙ ap (ranked_by (unpair at)) c.rank_at-rank.ensures ∙ ranked-there ks (unpair at))
+          ap (λ b. fault_along ks b (channels_on m (unpair c.next_by-at.result) (drop (i + 1) ts))) (c.ranked-before.ensures ∙ ap (ranked_by (unpair at)) c.rank_at-rank.ensures ∙ ranked-there ks (unpair at))
           ∙ ap (λ o. fault_along ks (ranked_at ks (unpair at)) (channels_on m o (drop (i + 1) ts))) next
           ∙ sym (ap (λ f. first_of_two f (fault_along ks (ranked_at ks (unpair at)) (channels_on m (next_after m (unpair at) t) (drop (i + 1) ts)))) none)
           ∙ sym step
