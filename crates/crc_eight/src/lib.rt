@@ -7,7 +7,7 @@
 //!   front | block | block | block     x^127 leaves 1, so a block of 127 bytes counts alike wherever it stands:
 //!                                     the bytes have the CRC of the sum of all blocks
 //!
-//!   front | slice | slice | slice     CRC after a slice of sixteen bytes
+//!   front | slice | slice | slice     CRC after a slice of sixteen bytes, and in front of those, of four
 //!                                         = what the CRC before it adds + what each of its bytes adds
 //! ```
 #![tactic(auto)]

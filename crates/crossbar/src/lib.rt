@@ -10,7 +10,7 @@
 #![tactic(auto)]
 
 ghost use Rattle.std.specs.Prelude.{◌≡◌, ◌<◌, ◌≤◌, ℕ, Some, IsSome};
-ghost use Rattle.packet_defs.specs.Packet.{difference, front_turn};
+ghost use Rattle.packet_defs.specs.Packet.{difference, front_turn, stripped};
 ghost use Rattle.link_defs.specs.Switch.{aim, aim_of, after_aim};
 
 pub use link_defs::Turned;
@@ -59,13 +59,23 @@ pub fn turn_by(ports: u8, entry: u8, p: &mut Packet) -> Turned
     turned
 }
 
+/// Sends out a packet that is known to go out of a switch: it is stripped, as by [`turn_by`], and its way isn't looked
+/// at again.
+pub fn send_out(p: &mut Packet)
+    requires { IsSome (front_turn p.old) }
+    ensures packet { p.new ≡ stripped p.old }
+    ensures difference { difference p.new ≡ difference p.old }
+{
+    p.strip_turn();
+}
+
 // Strips a packet where it goes out.
 fn strip_out(turned: Turned, p: &mut Packet)
     requires { (port : ℕ) → turned ≡ Turned.Out port → IsSome (front_turn p.old) }
     ensures { p.new ≡ after_aim turned p.old }
 {
     if let Turned::Out(_) = turned {
-        p.strip_turn();
+        send_out(p);
     }
 }
 

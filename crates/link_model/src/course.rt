@@ -9,7 +9,7 @@ ghost use Rattle.link_model.specs.Hop.{IsSentOn, IsSentAlong};
 
 use crate::hop::Run;
 use channel_slots::Slot;
-use crossbar::{aim_by, turn_by};
+use crossbar::{aim_by, send_out};
 use fabric_wiring::Wiring;
 use link_defs::{Course, Turned, Why};
 use myri_packet::Packet;
@@ -59,8 +59,7 @@ fn turn(wiring: &Wiring, c: u16, packet: &mut Packet)
     requires goes { IsSentOn wiring.now c packet.old }
     ensures { packet.new ≡ stripped packet.old }
 {
-    let entry = wiring.entry(c);
-    turn_by(entry.ports, entry.end.p, packet);
+    send_out(packet);
 }
 
 /// The packet of a channel goes on, whatever the channels hold, until it leaves them: how far. Each switch turns it.

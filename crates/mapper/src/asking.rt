@@ -8,7 +8,7 @@ ghost use Rattle.mapper.specs.Growths.{IsAsk, IsLostAsk, IsNextWalk, IsNextEntry
 
 use crate::tree::Tree;
 use net_defs::{Answer, Walk};
-use probe::{Entry, JournalPush, Prober};
+use probe::{Entry, Prober};
 use std::alloc::{AllocError, Global};
 
 /// Asks a walk, and puts it with its answer at the end of the journal.
@@ -42,14 +42,9 @@ fn keep(alloc: Global, tree: &mut Tree, walk: Walk, answer: Answer) -> Result<()
 {
     let entry = Entry { walk, answer };
     tree.classes.push(alloc, &entry)?;
-    match tree.journal.push(alloc, entry) {
-        Ok(()) => {
-            tree.nodes += node_count(answer);
-            Ok(())
-        }
-        Err((_, JournalPush::NoMemory)) => Err(AllocError),
-        Err((_, JournalPush::Known)) => unreachable!(),
-    }
+    tree.journal.push_new(alloc, entry)?;
+    tree.nodes += node_count(answer);
+    Ok(())
 }
 
 // How many nodes an answer makes.

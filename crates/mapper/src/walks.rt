@@ -1,6 +1,6 @@
 //! Walks that go on by a turn.
 
-ghost use Rattle.std.specs.Prelude.{◌≡◌, ◌<◌, ◌++◌, ◌∷◌, [], length, All, None, IfOk};
+ghost use Rattle.std.specs.Prelude.{◌≡◌, ◌<◌, ◌+◌, ◌++◌, ◌∷◌, [], length, take, All, None, IfOk};
 ghost use Rattle.net_defs.specs.Turn.{IsTurn, walk_refusal};
 ghost use Rattle.mapper.specs.Turns.{turn_at};
 
@@ -9,6 +9,9 @@ use std::alloc::{AllocError, Global};
 
 /// How many turns a node has.
 pub const TURNS: u8 = 30;
+
+// The most turns of a walk.
+const MAX_TURNS: usize = 64;
 
 /// The turn that is asked as number `step`, from 0: the turns rise from -15 to 15, without 0.
 pub fn turn_at(step: u8) -> i8
@@ -37,10 +40,19 @@ pub(crate) fn onward(alloc: Global, front: &[i8], turn: i8) -> Result<Walk, Allo
     requires turn { IsTurn turn }
     ensures { IfOk result (λ walk. walk ≡ front.now ++ turn ∷ []) }
 {
-    let mut turns = Vec::with_capacity(alloc, front.len() + 1)?;
-    turns.extend_from_slice(front)?;
-    turns.push(turn)?;
-    walk_of(alloc, &turns)
+    let turns = one_more(front, turn);
+    walk_of(alloc, &turns[..=front.len()])
+}
+
+// Turns with one more behind them, and zeros behind that.
+fn one_more(front: &[i8], turn: i8) -> [i8; MAX_TURNS]
+    requires { length front.now < MAX_TURNS }
+    ensures { take (length front.now + 1) result ≡ front.now ++ turn ∷ [] }
+{
+    let mut turns = [0; MAX_TURNS];
+    turns[..front.len()].copy_from_slice(front);
+    turns[front.len()] = turn;
+    turns
 }
 
 // The walk of turns that are one.

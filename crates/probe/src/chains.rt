@@ -119,8 +119,9 @@ fn is_same(walk: &[i8], other: &[i8]) -> bool
     walk == other
 }
 
-/// Room for one walk more, with at most two walks a bucket: what more buckets save in looks they take in memory. More
-/// buckets come to those that are there, so that no two sets of them stand at once.
+/// Room for one walk more, with at most two walks a bucket: what more buckets save in looks they take in memory. Where
+/// there are so many, the buckets become four times as many, and all walks are chained anew: a third as often as by
+/// twice the buckets. More buckets come to those that are there, so that no two sets of them stand at once.
 pub(crate) fn make_room<W: WalkList>(walks: &W, chains: &mut Chains) -> Result<(), AllocError>
     requires chained { IsChained (W.list walks.now) chains.old.latest.items chains.old.before.items }
     requires enough { length (W.list walks.now) ≤ 2 * length chains.old.latest.items }
@@ -136,7 +137,7 @@ pub(crate) fn make_room<W: WalkList>(walks: &W, chains: &mut Chains) -> Result<(
     }
     chains.before.reserve(1)?;
     if count / 2 >= chains.latest.len() {
-        chains.latest.resize(count + 1, 0)?;
+        chains.latest.resize(2 * count + 1, 0)?;
         chain_all(walks, chains);
     }
     Ok(())

@@ -9,7 +9,7 @@ use crate::chains::{Chains, add, find, hash_of, make_room, no_chains};
 use crate::walk_list::WalkList;
 use journal_defs::Entry;
 use net_defs::Answer;
-use std::alloc::Global;
+use std::alloc::{AllocError, Global};
 use std::marker::Model;
 
 /// Why a journal doesn't take an entry.
@@ -74,6 +74,20 @@ impl Journal {
             Some(at) => Some(self.entries[at].answer),
             None => None,
         }
+    }
+
+    /// Adds an entry at the end whose walk is known not to stand in the journal. It isn't looked for.
+    pub fn push_new(&mut self, alloc: Global, e: Entry) -> Result<(), AllocError>
+        requires { is_asked self.old.entries e.walk ≡ false }
+        ensures ok { OnOk result (self.new ≡ with_entry self.old e) }
+        ensures err { OnErr result (self.new ≡ self.old) }
+    {
+        let hash = hash_of(e.walk.turns());
+        self.entries.reserve(1)?;
+        make_room(&self.entries, &mut self.chains)?;
+        self.entries.push_reserved(e);
+        add(&mut self.chains, hash);
+        Ok(())
     }
 
     /// Adds an entry at the end. A refused entry is handed back, and the journal is as before.

@@ -3,11 +3,12 @@
 ghost use Rattle.std.specs.Prelude.{◌≡◌};
 ghost use Rattle.packet_defs.specs.RouteByte.{is_route_byte, route_byte, turn_of};
 
-/// The route byte of a turn: 0x80 + (turn mod 64).
+/// The route byte of a turn: 0x80 + (turn mod 64). With 128 more no turn is below 0, and its remainder is the same: the
+/// last six bits.
 pub fn route_byte(turn: i8) -> u8
     ensures { result ≡ route_byte turn }
 {
-    0x80 + turn.rem_euclid(64) as u8
+    0x80 + (i16::from(turn) + 128) as u8 % 64
 }
 
 /// The turn of a route byte: 0x80 to 0x8F stand for 0 to 15, 0xB1 to 0xBF for -15 to -1. None of any other byte.
