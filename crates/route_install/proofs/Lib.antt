@@ -5,3 +5,4 @@ pub mod Works
 pub mod Gathering
 pub mod Ruled
 pub mod Sets
+pub mod Rising

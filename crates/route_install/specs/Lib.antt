@@ -1,3 +1,4 @@
 pub mod Collecting
+pub mod Finding
 pub mod Installing
 pub mod Laws

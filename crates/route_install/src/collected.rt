@@ -1,11 +1,9 @@
 //! The parts of a table that came so far.
 
-ghost use Rattle.std.specs.Prelude.{◌≡◌, ◌<◌, ◌∷◌, [], length, find, nat_eq, is_some, slice_get, slice_set};
-ghost use Rattle.std.specs.Prelude.{option_copied, option_map, OnOk, OnErr};
+ghost use Rattle.std.specs.Prelude.{◌≡◌, ◌<◌, ◌∷◌, [], length, slice_get, slice_set, OnOk, OnErr};
 ghost use Rattle.world_defs.specs.Table.{with_part, joined_below};
-ghost use Rattle.route_install.specs.Collecting.{AreNumbered, joined_all, place_of, has_number, are_all};
+ghost use Rattle.route_install.specs.Collecting.{place_of, has_number, are_all};
 
-use net_defs::Walk;
 use route_parts::{EntryList, TableEntry};
 use std::alloc::AllocError;
 use std::marker::Model;
@@ -39,7 +37,7 @@ impl Collected {
         self.part
     }
 
-    fn entries(&self) -> &[TableEntry]
+    pub(crate) fn entries(&self) -> &[TableEntry]
         ensures { result.now ≡ self.now.1 }
     {
         self.entries.list()
@@ -89,31 +87,6 @@ pub(crate) fn are_all(parts: &[Collected], count: u8) -> bool
     } else {
         has_number(parts, usize::from(count - 1), count - 1)
     }
-}
-
-/// The route to a host, by the first entry for it.
-pub(crate) fn route_in<'a>(parts: &'a [Collected], to: u16) -> Option<&'a Walk>
-    ensures { option_copied result ≡ option_map (λ e. e.walk) (find (λ e. nat_eq e.to to) (joined_all parts.now)) }
-{
-    for part in parts {
-        match walk_in(part.entries(), to) {
-            Some(walk) => return Some(walk),
-            None => {}
-        }
-    }
-    None
-}
-
-// The route to a host, by the first of these entries for it.
-fn walk_in<'a>(entries: &'a [TableEntry], to: u16) -> Option<&'a Walk>
-    ensures { option_copied result ≡ option_map (λ e. e.walk) (find (λ e. nat_eq e.to to) entries.now) }
-{
-    for entry in entries {
-        if entry.to == to {
-            return Some(&entry.walk);
-        }
-    }
-    None
 }
 
 // The place of the first part that isn't below a number.

@@ -13,6 +13,7 @@
 //! |---|---|
 //! | `cut` | parts of a set of routes |
 //! | `collected` | parts by rising number |
+//! | `finding` | where the entry for a host stands |
 //! | `table` | a host's table |
 //! | `installer` | which part is awaited next |
 //! | `laws` | what comes of parts in any order |
@@ -20,6 +21,7 @@
 
 mod collected;
 mod cut;
+mod finding;
 mod installer;
 mod laws;
 mod table;

@@ -4,8 +4,9 @@ ghost use Rattle.std.specs.Prelude.{◌≡◌, option_copied, IfOk, OnOk, OnErr}
 ghost use Rattle.world_defs.specs.Table.{new_table, whole_table, active_epoch, table_route, is_epoch, applied, joined};
 ghost use Rattle.route_install.specs.Collecting.{with_one};
 
-use crate::collected::{Collected, are_all, put_alone, put_part, route_in};
+use crate::collected::{Collected, are_all, put_alone, put_part};
 use crate::cut::entries_from;
+use crate::finding::{are_rising, route_in};
 use net_defs::Walk;
 use port_graph::RouteSet;
 use route_parts::{EntryList, RoutePart};
@@ -24,11 +25,15 @@ pub struct Table {
     collected: Vec<Collected>,
     active_epoch: Option<u32>,
     active: Vec<Collected>,
+    /// Whether the hosts of the active entries rise.
+    rising: bool,
 }
 
 impl Model for Table {
     ghost use Rattle.world_defs.specs.Table.{TableState};
-    ghost use Rattle.route_install.specs.Collecting.{HostTable, AreNumbered, active_of};
+    ghost use Rattle.std.specs.Prelude.{◌≡◌};
+    ghost use Rattle.route_install.specs.Collecting.{HostTable, AreNumbered, active_of, joined_all};
+    ghost use Rattle.route_install.specs.Finding.{are_rising};
 
     ghost Value = { HostTable };
 
@@ -41,7 +46,7 @@ impl Model for Table {
       };
     } };
 
-    ghost invariant = { λ t. AreNumbered t.collected.items };
+    ghost invariant = { λ t. AreNumbered t.collected.items × (t.rising ≡ are_rising (joined_all t.active.items)) };
 }
 
 impl Table {
@@ -55,6 +60,7 @@ impl Table {
             collected: Vec::new(alloc),
             active_epoch: None,
             active: Vec::new(alloc),
+            rising: true,
         }
     }
 
@@ -64,12 +70,14 @@ impl Table {
     {
         let mut active = Vec::with_capacity(alloc, 1)?;
         active.push(Collected::new(0, entries_from(alloc, r, host)?))?;
+        let rising = are_rising(&active);
         Ok(Table {
             host,
             epoch,
             collected: Vec::new(alloc),
             active_epoch: Some(epoch),
             active,
+            rising,
         })
     }
 
@@ -103,8 +111,17 @@ impl Table {
         ensures { option_copied result ≡ table_route self.now.state to }
     {
         match self.active_epoch {
-            Some(_) => route_in(&self.active, to),
+            Some(_) => route_in(&self.active, self.rising, self.likely_place(to), to),
             None => None,
+        }
+    }
+
+    // The place of a host's entry, where all hosts of the fabric are in the map.
+    fn likely_place(&self, to: u16) -> usize {
+        if to > self.host {
+            usize::from(to - 1)
+        } else {
+            usize::from(to)
         }
     }
 
@@ -143,6 +160,7 @@ impl Table {
             mem::swap(&mut self.collected, &mut self.active);
             self.collected.clear();
             self.active_epoch = Some(self.epoch);
+            self.rising = are_rising(&self.active);
             Applied::Active
         } else {
             Applied::Part

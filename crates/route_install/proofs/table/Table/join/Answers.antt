@@ -17,7 +17,7 @@ returns-then-are_all-clause-state c =
     let made : List Numbered → List Numbered → Applied × TableState = λ qs rs. (Active, record { epoch = e; collected = qs; active = Some (record { epoch = e; entries = joined_all rs }) }) in
     ap (λ qs. made qs c.swap.new.y.items) c.clear.ensures.items
     ∙ ap (made []) front
-    ∙ sym (joined-active t c.args.parts c.self.invariant yes)
+    ∙ sym (joined-active t c.args.parts c.self.invariant.0 yes)
     ∙ ap (joined c.args.parts) same
 
 pub returns-else-are_all-clause-state : goal.returns-else-are_all-clause-state
@@ -27,5 +27,5 @@ returns-else-are_all-clause-state c =
     let same : t ≡ c.args.self.now.state = ap (λ (s : HostTable). s.state) c.self.view_is in
     let no : are_all c.args.parts ps ≡ false = sym (c.are_all.ensures ∙ ap (are_all c.args.parts) c.deref.ensures.value) ∙ c.if-are_all.false in
     ap (λ (s : TableState). (Part, s)) (sym same)
-    ∙ sym (joined-part t c.args.parts c.self.invariant no)
+    ∙ sym (joined-part t c.args.parts c.self.invariant.0 no)
     ∙ ap (joined c.args.parts) same

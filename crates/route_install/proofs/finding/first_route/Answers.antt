@@ -3,7 +3,7 @@ use Rattle.std.specs.Prelude.{find}
 use Rattle.mapping_defs.specs.Mapping.{RouteEntry}
 use Rattle.route_install.specs.Collecting.{Numbered, joined_all}
 use Rattle.route_install.proofs.Numbers.{found-at, first-some, first-none}
-use Rattle.route_install.proofs.collected.route_in.Goals as goal
+use Rattle.route_install.proofs.finding.first_route.Goals as goal
 
 pub returns-in-Some : goal.returns-in-Some
 returns-in-Some c =
