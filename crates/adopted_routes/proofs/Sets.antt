@@ -85,4 +85,4 @@ pub set-of-hosts : (n : Network) (hosts mapper epoch : ℕ) (routes : List Route
 set-of-hosts n hosts mapper epoch routes f count low up may =
     let ends = ends-there n hosts routes f count may.lead in
     let small : length n.hosts ≤ 128 = f.few_hosts in
-    record { mapper = low; ends = ends; few = λ h. let few = few-entries h hosts routes up ends in omega (arith, few, small, count) }
+    record { mapper = low; ends = ends; in_order = up; whole = may.whole; apart = may.apart; few = λ h. let few = few-entries h hosts routes up ends in omega (arith, few, small, count) }

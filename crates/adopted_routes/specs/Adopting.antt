@@ -29,11 +29,16 @@ pub record IsAdoptable (n : Network) (mapper : ℕ) (routes : List Route) : Type
   pub number : ℕ → ℕ
   pub rises : (c d : ℕ) → IsBefore (channels_of_all n routes) c d → number c < number d
 
--- What a world of so many hosts keeps of an adopted set: its adopter is a host, its routes go from hosts to hosts,
--- and each host's table fits into sixteen parts.
+-- What a world of so many hosts keeps of an adopted set: its adopter is a host, its routes go from hosts to hosts, in
+-- their order; of the adopter and the hosts that they name each has one to each other, and none to itself; and each
+-- host's table fits into sixteen parts.
 pub record IsSetOfHosts (hosts : ℕ) (a : Adoption) : Type 0 where
   pub mapper : a.mapper < hosts
   pub ends : AllByRecursion (λ r. (r.from < hosts) × (r.to < hosts)) a.routes
+  pub in_order : AreRising a.routes
+  pub whole : (g h : ℕ) → is_among a.mapper a.routes g ≡ true → is_among a.mapper a.routes h ≡ true → g ≢ h
+      → HasRoute a.routes g h
+  pub apart : AllByRecursion (λ r. r.from ≢ r.to) a.routes
   pub few : (h : ℕ) → length (entries_from a.routes h) ≤ 128
 
 -- routes that a host may adopt in a fabric are a set of its hosts

@@ -22,6 +22,7 @@ ghost use Rattle.world_defs.specs.EightBits.{IsByteFault, IsByteEvent};
 ghost use Rattle.world_defs.specs.declared.event.Event.TheVariants.{Ask, Inject, Advance};
 ghost use Rattle.world_defs.specs.Step.{step};
 ghost use Rattle.act_defs.specs.Acts.{IsReached};
+ghost use Rattle.message_laws.specs.Untouched.{HandsBackBy};
 ghost use Rattle.world_defs.specs.Settle.{unacknowledged_from};
 ghost use Rattle.host_ports.specs.Held.{place_at};
 ghost use Rattle.adopted_routes.specs.Adopting.{IsAdoptable, adopt_refusal, part_count_for};
@@ -77,11 +78,13 @@ impl World {
         }
     }
 
-    /// One event: its effect, and the world after it. Want of memory changes nothing.
+    /// One event: its effect, and the world after it. A close that says how many buffers it hands back hands back as
+    /// many as were provided, each as it was provided. Want of memory changes nothing.
     pub fn step(&mut self, alloc: Global, e: Event) -> Result<Effect, AllocError>
         requires { IsGiven self.old e }
         ensures ok { IfOk result (λ x. step self.old e ≡ (x, self.new)) }
         ensures host { IfOk result (IsOfHosts (host_count self.old)) }
+        ensures back { IfOk result (HandsBackBy self.old e) }
         ensures err { OnErr result (self.new ≡ self.old) }
         ensures fabric { fabric_of self.new ≡ fabric_of self.old }
         ensures hosts { host_count self.new ≡ host_count self.old }

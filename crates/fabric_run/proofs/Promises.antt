@@ -28,7 +28,7 @@ use Rattle.fab_script.specs.Ranges.{IsCommandOf as IsSaid}
 use Rattle.fab_script.proofs.Ranged.{reading_ranged}
 use Rattle.run_laws.specs.Acts.{IsActOf}
 use Rattle.run_laws.proofs.Reaching.{run_has_no_cycle}
-use Rattle.install_laws.proofs.Lines.{line-true}
+use Rattle.install_line_laws.proofs.Lines.{line-true}
 use Rattle.settle_line_laws.proofs.Lines.{line-true as settled-true}
 use Rattle.mapping_laws.proofs.Printed.{circuit_maps_are_true, deep_circuit_maps_are_cores}
 use Rattle.print_laws.proofs.Pieces.{complete_maps_read_back, circuit_maps_read_back}

@@ -26,7 +26,7 @@ use Rattle.run_defs.specs.Headline.{HasPrinted, IsQuiet}
 use Rattle.act_defs.specs.Acts.{AlwaysSound}
 use Rattle.map_canon.specs.Reading.{map_reading}
 use Rattle.mapping_laws.specs.Circuits.{HasPrintedCircuit}
-use Rattle.install_laws.specs.Runs.{IsInstalledLine}
+use Rattle.install_line_laws.specs.Runs.{IsInstalledLine}
 use Rattle.settle_line_laws.specs.Lines.{IsSettledLine}
 use Rattle.promise_laws.specs.CommandActs.{HasSoundActs}
 use Rattle.promise_laws.specs.CutShort.{IsCutShort}

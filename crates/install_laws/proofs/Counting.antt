@@ -7,8 +7,8 @@ use Rattle.world_defs.specs.World.{WorldState}
 use Rattle.world_defs.specs.Asking.{all_given_up}
 use Rattle.world_defs.specs.Install.{host_counted, hosts_installed, installed}
 use Rattle.install_laws.specs.Cause.{host_installed}
-use Rattle.install_laws.specs.Counts.{EachIsAcknowledged, CountsAtMostAll, CountsAllWhereAcknowledged, UnharmedCountsAll}
-use Rattle.install_laws.proofs.Installing.{misses-cost}
+use Rattle.install_laws.specs.Counts.{EachIsAcknowledged, CountsAtMostAll, CountsAllWhereAcknowledged, UnharmedCountsAll, InstallingTellsCause}
+use Rattle.install_laws.proofs.Installing.{missed-harmed, misses-cost}
 
 most-counted : (r : Bool × WorldState) (rest : WorldState → ℕ × WorldState) (k : ℕ) → (rest r.1).0 ≤ k → (host_counted r rest).0 ≤ k + 1
 most-counted (true, v) rest k most = omega (arith, most)
@@ -68,3 +68,6 @@ unharmed-all a hosts tries w can some left same =
     let most = counts-most a hosts tries w in
     let least = no-less tries (length hosts) (installed a hosts tries w).0 some (omega (arith, cost, same)) in
     omega (arith, most, least)
+
+pub tells-cause : InstallingTellsCause
+tells-cause a hosts tries w can some left = record { missed = missed-harmed a hosts tries w can left; unharmed = unharmed-all a hosts tries w can some left }

@@ -12,8 +12,8 @@ use Rattle.ask_laws.proofs.Lone.{IsBare, is-bare, bare-idle}
 use Rattle.ask_laws.proofs.Ready.{kept-start}
 use Rattle.act_defs.specs.Acts.{Act, Happens, Plans, Adopts, acted, acted_all, IsReached}
 use Rattle.table_laws.proofs.Steps.{IsAdopted}
-use Rattle.mapping_laws.proofs.Worlds.{installed-of}
-use Rattle.run_laws.proofs.Leads.{Leads, leads-both, along-leads}
+use Rattle.install_laws.proofs.Worlds.{installed-of}
+use Rattle.install_laws.proofs.Leads.{Leads, along-leads, reached-further}
 use Rattle.install_laws.specs.Premises.{CanInstall}
 use Rattle.install_laws.specs.Kept.{IsInstallKept, InstallingKeeps, InstallingEndsIdle, CanInstallAgain}
 use Rattle.install_laws.specs.Cause.{MissedHostsWereHarmed}
@@ -42,7 +42,7 @@ record IsInstallation (n : Network) (a : Adoption) (tries : ℕ) (hosts : List �
 installable : (a : Adoption) (hosts : List ℕ) (w : WorldState) → CanInstall a hosts w → IsInstallable (fabric_of w) a
 installable a hosts w can =
     let it : IsAdopted (fabric_of w) a = subst (λ o. IfSome o (IsAdopted (fabric_of w))) can.adopted (reached-of (fabric_of w) w can.reached).adopted in
-    record { fabric = can.reached.fabric; epoch = it.epoch; in_order = can.in_order; ways = are-ways (fabric_of w) a.routes can.reached.fabric it.adoptable.lead can.few_turns }
+    record { fabric = can.reached.fabric; epoch = it.epoch; in_order = can.set.in_order; ways = are-ways (fabric_of w) a.routes can.reached.fabric it.adoptable.lead can.set.few_turns }
 
 pub start-between : (a : Adoption) (hosts : List ℕ) (w : WorldState) → CanInstall a hosts w → Between (fabric_of w) a (all_given_up w)
 start-between a hosts w can =
@@ -53,7 +53,7 @@ installation : (a : Adoption) (hosts : List ℕ) (tries : ℕ) (w : WorldState) 
 unfolding installed
 installation a hosts tries w can =
     let start : WorldState = all_given_up w in
-    let all = hosts-so (fabric_of w) a tries hosts start (installable a hosts w can) can.joined (start-between a hosts w can) in
+    let all = hosts-so (fabric_of w) a tries hosts start (installable a hosts w can) can.set.joined (start-between a hosts w can) in
     record { hosts_are = all; kept = kept-both w start (hosts_installed a tries hosts start).1 (kept-ask w start (kept-start w)) all.kept }
 
 pub missed-harmed : MissedHostsWereHarmed
@@ -76,12 +76,6 @@ installing-idle a hosts tries w can =
     ap is_idle (is-bare l e) ∙ bare-idle l
 
 -- and again
-pub reached-further : (n : Network) (w v : WorldState) → IsReached n w → Leads w v → IsReached n v
-reached-further n w v r l =
-    let start : Leads (new_world n) w = record { acts = r.acts; may = r.may; there = r.leads } in
-    let on = leads-both (new_world n) w v start l in
-    record { fabric = r.fabric; acts = on.acts; may = on.may; leads = on.there }
-
 pub install-again : CanInstallAgain
 install-again a hosts tries w can =
     let v : WorldState = (installed a hosts tries w).1 in
@@ -91,7 +85,5 @@ install-again a hosts tries w can =
       reached = subst (λ n. IsReached n v) (sym k.fabric) on;
       idle = installing-idle a hosts tries w can;
       adopted = k.adopted ∙ can.adopted;
-      in_order = can.in_order;
-      few_turns = can.few_turns;
-      joined = can.joined;
+      set = can.set;
     }

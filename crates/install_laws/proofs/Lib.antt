@@ -1,3 +1,5 @@
+pub mod Worlds
+pub mod Leads
 mod Tables
 mod Epochs
 mod Parts
@@ -6,8 +8,6 @@ mod Heard
 mod Trying
 mod Walking
 pub mod Installing
-mod Counting
+pub mod Counting
 mod Unplanned
 mod TwoHosts
-pub mod Shortest
-pub mod Lines

@@ -10,18 +10,19 @@ use Rattle.world_defs.specs.Asking.{sends}
 use Rattle.world_defs.specs.Install.{part_try, installed}
 use Rattle.table_laws.specs.Examples.{adopted_world}
 use Rattle.table_laws.proofs.TwoHosts.{adopted-reached}
-use Rattle.run_laws.proofs.Leads.{leads-plan}
+use Rattle.install_laws.proofs.Leads.{leads-plan, reached-further}
 use Rattle.install_laws.specs.Examples.{BothCanInstall, BothAreCounted, LostPartIsMissed, LostAnswerIsMissed, SecondTryCounts}
-use Rattle.install_laws.proofs.Installing.{reached-further}
 
 pub both-can_install : BothCanInstall
 both-can_install = record {
   reached = reached-further _ adopted_world _ adopted-reached (leads-plan adopted_world 1 Lose (omega arith) tt);
   idle = refl;
   adopted = refl;
-  in_order = ((refl, tt), (tt, tt));
-  few_turns = (omega arith, (omega arith, tt));
-  joined = (λ other. absurd (other refl), (λ other. record { there = record { place = 0; route = _; there = refl; from = refl; to = refl }; back = record { place = 1; route = _; there = refl; from = refl; to = refl } }, tt));
+  set = record {
+    in_order = ((refl, tt), (tt, tt));
+    few_turns = (omega arith, (omega arith, tt));
+    joined = (λ other. absurd (other refl), (λ other. record { there = record { place = 0; route = _; there = refl; from = refl; to = refl }; back = record { place = 1; route = _; there = refl; from = refl; to = refl } }, tt));
+  };
 }
 
 pub both-counted : BothAreCounted

@@ -9,7 +9,7 @@ use Rattle.world_defs.specs.EightBits.{IsByteEvent}
 use Rattle.world_laws.proofs.Leaves.{Follows, FollowsCalls, step-leaves}
 use Rattle.world_laws.proofs.Along.{Along}
 use Rattle.world_defs.proofs.Strikes.{Strike, strike_view}
-use Rattle.mapping_laws.proofs.Worlds.{installed-of}
+use Rattle.install_laws.proofs.Worlds.{installed-of}
 use Rattle.install_laws.specs.Counts.{UnplannedCountsAll}
 use Rattle.install_laws.proofs.Counting.{unharmed-all}
 

@@ -6,7 +6,7 @@ use Rattle.world_defs.specs.World.{WorldState, last_count}
 use Rattle.world_defs.specs.Asking.{all_given_up}
 use Rattle.world_defs.specs.Install.{installed}
 use Rattle.install_laws.specs.Premises.{CanInstall}
-use Rattle.install_laws.specs.Cause.{host_installed}
+use Rattle.install_laws.specs.Cause.{host_installed, EachMissedWasHarmed}
 
 -- of these hosts, one after another, each has all its parts acknowledged
 abbrev pub EachIsAcknowledged : Adoption → ℕ → List ℕ → WorldState → Type 0
@@ -47,3 +47,16 @@ UnplannedCountsAll =
     → ((number : ℕ) → w.injected < number → number ≤ (installed a hosts tries w).1.injected
     → lookup (nat_eq number) w.plan ≡ None)
     → (installed a hosts tries w).0 ≡ length hosts
+
+-- What the count of an installation tells: each host that isn't counted has a part each of whose tries met a planned
+-- loss, hold or flip, on the part or on its acknowledgement; so all hosts are counted where none did.
+pub record TellsCause (a : Adoption) (hosts : List ℕ) (tries acked : ℕ) (w v : WorldState) : Type 0 where
+  pub missed : EachMissedWasHarmed a tries hosts (all_given_up w)
+  pub unharmed : v.harmed ≡ w.harmed → acked ≡ length hosts
+
+-- it does where a part has a try at least and injections are left
+abbrev pub InstallingTellsCause : Type 0
+InstallingTellsCause =
+    (a : Adoption) (hosts : List ℕ) (tries : ℕ) (w : WorldState) → CanInstall a hosts w → 0 < tries
+    → (installed a hosts tries w).1.injected < last_count
+    → TellsCause a hosts tries (installed a hosts tries w).0 w (installed a hosts tries w).1

@@ -3,4 +3,3 @@ pub mod Kept
 pub mod Cause
 pub mod Counts
 pub mod Examples
-pub mod Runs

@@ -12,13 +12,21 @@ pub record IsJoined (a : Adoption) (host : ℕ) : Type 0 where
   pub there : HasRoute a.routes a.mapper host
   pub back : HasRoute a.routes host a.mapper
 
+-- each route of a set has at most 64 turns, as many as a part carries
+abbrev pub HasFewTurns : Adoption → Type 0
+HasFewTurns a = AllByRecursion (λ r. length r.walk ≤ 64) a.routes
+
+-- A set that can be installed on these hosts: its routes stand in their order, and each has few turns; and to each of
+-- the hosts but the adopter a route leads, and one back.
+pub record IsForHosts (a : Adoption) (hosts : List ℕ) : Type 0 where
+  pub in_order : AreRising a.routes
+  pub few_turns : HasFewTurns a
+  pub joined : AllByRecursion (λ h. h ≢ a.mapper → IsJoined a h) hosts
+
 -- An installation of the adopted set on these hosts, in a world that acts which may happen lead to: the links are
--- idle; the set's routes stand in their order, and each has at most 64 turns, as many as a part carries; and to each
--- of the hosts but the adopter a route leads, and one back.
+-- idle.
 pub record CanInstall (a : Adoption) (hosts : List ℕ) (w : WorldState) : Type 0 where
   pub reached : IsReached (fabric_of w) w
   pub idle : is_idle w.links ≡ true
   pub adopted : w.adopted ≡ Some a
-  pub in_order : AreRising a.routes
-  pub few_turns : AllByRecursion (λ r. length r.walk ≤ 64) a.routes
-  pub joined : AllByRecursion (λ h. h ≢ a.mapper → IsJoined a h) hosts
+  pub set : IsForHosts a hosts

@@ -2,7 +2,7 @@
 
 ghost use Rattle.install_laws.specs.Cause.{MissedHostsWereHarmed};
 ghost use Rattle.install_laws.specs.Counts.{CountsAtMostAll, CountsAllWhereAcknowledged, EachMissCostsFaults};
-ghost use Rattle.install_laws.specs.Counts.{UnharmedCountsAll, UnplannedCountsAll};
+ghost use Rattle.install_laws.specs.Counts.{UnharmedCountsAll, UnplannedCountsAll, InstallingTellsCause};
 
 /// Each host that an installation doesn't count has a part each of whose tries met a planned fault, on the part or on
 /// its acknowledgement.
@@ -12,9 +12,11 @@ pub fn missed_hosts()
 {}
 
 /// At most all hosts are counted; all exactly where each part was acknowledged, and so where no planned fault harms.
+/// What a count tells is the cause of each host that isn't counted, and this.
 pub fn counted_hosts()
     ensures at_most { CountsAtMostAll }
     ensures acknowledged { CountsAllWhereAcknowledged }
     ensures unharmed { UnharmedCountsAll }
     ensures unplanned { UnplannedCountsAll }
+    ensures cause { InstallingTellsCause }
 {}

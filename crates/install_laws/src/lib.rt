@@ -1,7 +1,7 @@
 //! Why an installation counts fewer hosts than it has, and what it leaves as it was.
 //!
-//! It installs nothing, and leaves open whether a counted host's table is active behind the installation. Read
-//! `specs/Cause.antt` first.
+//! It installs nothing, and leaves open whether a counted host's table is active behind the installation; what the line
+//! of an installation says in a run is `install_line_laws`. Read `specs/Cause.antt` first.
 //!
 //! | file of `specs/` | says |
 //! |---|---|
@@ -9,16 +9,13 @@
 //! | `Cause` | that each host that isn't counted has a part each of whose tries met a planned fault |
 //! | `Counts` | how many hosts are counted, and when all are |
 //! | `Kept` | what an installation leaves as it was, and that the same set can be installed again |
-//! | `Runs` | that each `installed K of N` of a run has this cause |
 //! | `Examples` | installations in which a part or its acknowledgement is lost |
 #![tactic(auto)]
 
 mod cause;
 mod kept;
-mod running;
 mod worked;
 
 pub use cause::{counted_hosts, missed_hosts};
 pub use kept::kept_by_installations;
-pub use running::{installed_lines, short_routes};
 pub use worked::lost_packets;

@@ -33,7 +33,7 @@ use Rattle.run_defs.specs.Headline.{IsCommandOf}
 use Rattle.mapping_laws.specs.Runs.{IsSessionOf}
 use Rattle.mapping_laws.specs.Held.{IsRightMap, HoldsRight, RunHoldsRight}
 use Rattle.mapping_laws.proofs.Made.{mapping_keeps, made_map_is_map, made_map_is_right, made_map_is_connected}
-use Rattle.mapping_laws.proofs.Worlds.{event-set, settle-set, installed-set}
+use Rattle.install_laws.proofs.Worlds.{event-set, settle-set, installed-set}
 use Rattle.mapping_laws.proofs.Sessions.{can-map-now, does-stays, new-session}
 
 -- the last routes were adopted

@@ -1,7 +1,6 @@
 pub mod Asks
 pub mod Circuits
 pub mod Made
-pub mod Worlds
 pub mod Sessions
 pub mod Printed
 pub mod Holding

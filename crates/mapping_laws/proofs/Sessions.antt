@@ -26,7 +26,7 @@ use Rattle.mapping_laws.specs.Laws.{CanMap}
 use Rattle.run_defs.specs.Headline.{IsCommandOf}
 use Rattle.mapping_laws.specs.Runs.{IsSessionOf, RunKeepsWorld}
 use Rattle.mapping_laws.proofs.Made.{mapping_keeps}
-use Rattle.mapping_laws.proofs.Worlds.{Stays, stays-same, stays-both, stays-event, stays-settle, stays-plan, stays-adopted, stays-installed}
+use Rattle.install_laws.proofs.Worlds.{Stays, stays-same, stays-both, stays-event, stays-settle, stays-plan, stays-adopted, stays-installed}
 
 -- an outcome, where there is one, keeps the world
 abbrev StaysIn : SessionState → Option Outcome → Type 0

@@ -1,6 +1,6 @@
 //! What holds of the tokens of ports, after every list of acts: events, plans of faults, adoptions of routes.
 //!
-//! It holds no token, and says nothing of what is in a buffer: that is `token_laws`. Read `specs/Owned.antt`.
+//! It holds no token, and says nothing of what is in a buffer: that is `message_laws`. Read `specs/Owned.antt`.
 //!
 //! | file of `specs/` | says |
 //! |---|---|

@@ -4,7 +4,7 @@ use Rattle.world_defs.specs.World.{WorldState, new_world}
 use Rattle.act_defs.specs.Acts.{acted_all, IsReached}
 use Rattle.table_laws.proofs.Dependencies.{installed-no_cycle}
 use Rattle.owner_laws.proofs.Owners.{always-owned}
-use Rattle.order_laws.proofs.Worlds.{got-front}
+use Rattle.message_laws.proofs.Worlds.{got-front}
 use Rattle.mapping_laws.proofs.Printed.{complete_maps_are_true, deep_maps_are_complete}
 use Rattle.promise_laws.specs.Promised.{MomentsAreSound, RunsArePromised}
 

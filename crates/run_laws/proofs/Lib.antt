@@ -1,4 +1,3 @@
-pub mod Leads
 pub mod OneCircuit
 pub mod OneMapping
 pub mod OneRoutes

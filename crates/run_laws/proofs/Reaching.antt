@@ -1,5 +1,6 @@
 -- Acts that may happen lead from each session's world to the next.
 use Rattle.std.proofs.Common.{◌≡◌, ℕ, Bool, true, false, not, List, [], ◌∷◌, map, Option, Some, None, option_map, refl, sym, ◌∙◌, ap, subst, if◌then◌else◌}
+use Rattle.std.specs.Prelude.{ℤ}
 use Rattle.std.specs.List.{AllByRecursion}
 use Rattle.net_defs.specs.declared.vertex.End.{End}
 use Rattle.net_defs.specs.Network.{Network, IsFabric}
@@ -10,15 +11,17 @@ use Rattle.world_defs.specs.declared.event.Event.TheVariants.{Begin, Close, Prov
 use Rattle.world_defs.specs.declared.effect.Effect.{Effect}
 use Rattle.world_defs.specs.World.{WorldState, fabric_of, new_world, adopted_by}
 use Rattle.world_defs.specs.Step.{step}
+use Rattle.world_defs.specs.Asking.{ask}
 use Rattle.world_defs.specs.Install.{installed}
 use Rattle.world_defs.specs.EightBits.{IsByteEvent}
+use Rattle.ask_laws.proofs.Along.{ask-of}
 use Rattle.run_defs.specs.declared.command.Command.{Command}
 use Rattle.run_defs.specs.declared.command.Command.TheVariants.{Walk, Map, Circuit, Routes, Install, Begin as BeginCommand, Close as CloseCommand, Poll as PollCommand, Tokens, Provide as ProvideCommand, Send as SendCommand, Plan, Step, Settle, Finish}
 use Rattle.run_defs.specs.declared.command.StepLine.{StepLine}
 use Rattle.run_defs.specs.declared.command.StepLine.TheVariants.{Inject, GiveUp, Advance, Lose, Repeat, Hold, Reset, Flip, Expire, Replay}
 use Rattle.run_defs.specs.declared.line.Line.TheVariants.{MapBusy, InstallRefused}
 use Rattle.run_defs.specs.declared.line.InstallCause.TheVariants.{Busy, Installed as OtherInstalled}
-use Rattle.run_defs.specs.Mapped.{AskedAll}
+use Rattle.run_defs.specs.Mapped.{AskedAll, asked_all}
 use Rattle.run_defs.specs.Output.{Piece}
 use Rattle.run_defs.specs.Session.{SessionState, LastMap, LastRoutes, new_session, complete_map}
 use Rattle.run_defs.specs.Outcome.{Outcome, says_only, on_channel, event_of, stepped, step_or_idle, fault_of, adoption_of, install_done, install_now, install, map_refused, routes_refused, outcome}
@@ -31,12 +34,12 @@ use Rattle.table_laws.proofs.Dependencies.{installed-no_cycle}
 use Rattle.run_defs.specs.Headline.{IsCommandOf}
 use Rattle.mapping_laws.specs.Runs.{IsSessionOf}
 use Rattle.mapping_laws.specs.Held.{HoldsRight}
-use Rattle.mapping_laws.proofs.Worlds.{settle-of, installed-of}
+use Rattle.install_laws.proofs.Worlds.{asks-of, settle-of, installed-of}
 use Rattle.mapping_laws.proofs.Sessions.{does-stays, new-session}
 use Rattle.mapping_laws.proofs.Holding.{does-hold, new-holds}
 use Rattle.run_laws.specs.Acts.{IsActOf, IsByteStep, RunIsReached, RunHasNoCycle}
 use Rattle.run_laws.proofs.Ranked.{right_routes_are_adoptable}
-use Rattle.run_laws.proofs.Leads.{Leads, leads-same, leads-both, leads-event, leads-plan, leads-adoption, leads-asks, along-leads}
+use Rattle.install_laws.proofs.Leads.{Leads, leads-same, leads-both, leads-event, leads-plan, leads-adoption, along-leads}
 use Rattle.act_defs.proofs.Routes.{not-other}
 
 -- such a command is one over the fabric
@@ -45,6 +48,13 @@ command-of n (Map host depth tries) is = is
 command-of n (Circuit host depth) is = is
 command-of n (Plan ahead kind) is = is.1
 command-of n c is = tt
+
+-- asks in a row
+leads-asks : (host tries : ℕ) (walks : List (List ℤ)) (w : WorldState) → Leads w (asked_all host tries walks w).world
+leads-asks host tries [] w = leads-same w
+leads-asks host tries (walk ∷ walks) w =
+    let v : WorldState = (ask host tries walk w).world in
+    leads-both w v (asked_all host tries walks v).world (ask-of Leads (asks-of Leads along-leads) w host tries walk) (leads-asks host tries walks v)
 
 -- a session whose last routes may be adopted
 abbrev pub LastAdoptable : Network → SessionState → Type 0

@@ -15,7 +15,7 @@ use Rattle.world_defs.specs.Lane.{LaneState, Ticket, new_lane, lane_acknowledged
 use Rattle.world_defs.specs.Node.{NodeState, lane_at, with_lane, port_at, with_port, given_up}
 use Rattle.world_defs.specs.Hearing.{port_fits, message_of, frame_lane, ack_lane, delivered_after, frame_heard, frame_took, all_finished, hear}
 use Rattle.world_laws.proofs.Lists.{at-set}
-use Rattle.window_laws.proofs.Heard.{IsHeard, quietly, of_frame, of_ack, hear-is}
+use Rattle.message_laws.proofs.Heard.{IsHeard, quietly, of_frame, of_ack, hear-is}
 
 -- a sender stays, or its base rises
 pub data SenderCalm (s t : SenderState) : Type 0 where

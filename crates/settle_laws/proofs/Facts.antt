@@ -17,10 +17,10 @@ use Rattle.world_defs.specs.Node.{prio_place, lane_of, prio_of, sending_lane, ta
 use Rattle.world_defs.proofs.Lanes.{peer_of-lane, prio_of-lane, lane_of-below}
 use Rattle.world_laws.specs.Shape.{IsWorld}
 use Rattle.act_defs.specs.Acts.{IsReached}
-use Rattle.order_laws.proofs.Worlds.{reached-ordered}
-use Rattle.window_laws.specs.Windows.{IsWindow}
-use Rattle.window_laws.proofs.Windows.{windows-hold}
-use Rattle.window_laws.proofs.Taken.{reached-world}
+use Rattle.message_laws.proofs.Worlds.{reached-ordered}
+use Rattle.message_laws.specs.Windows.{IsWindow}
+use Rattle.message_laws.proofs.Windows.{windows-hold}
+use Rattle.message_laws.proofs.Taken.{reached-world}
 use Rattle.settle_laws.proofs.Frames.{IsByRules}
 
 pub record Facts (n : Network) (key : ConnectionKey) (k : ℕ) (fragment : FragmentOf) (w : WorldState) : Type 0 where

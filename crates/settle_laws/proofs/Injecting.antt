@@ -24,7 +24,7 @@ use Rattle.world_defs.specs.Traffic.{sender_on, sent_on, taken_on}
 use Rattle.world_defs.proofs.Lanes.{peer_of-lane, prio_of-lane}
 use Rattle.world_defs.specs.Step.{planned_strikes, sent_out}
 use Rattle.world_laws.proofs.Lists.{at-set}
-use Rattle.window_laws.proofs.Numbers.{due-number}
+use Rattle.message_laws.proofs.Numbers.{due-number}
 use Rattle.settle_laws.proofs.Views.{InjectOf, unstruck-links}
 use Rattle.settle_laws.proofs.Leading.{LeadsTo, place-leads}
 use Rattle.settle_laws.proofs.Ways.{OnWay, keep-there, new-there, still-way}

@@ -1,5 +1,5 @@
 -- A fragment that is the next to take, and that its port doesn't take, is its message's first: no token is filling with the message, and none that isn't filling fits it.
-use Rattle.std.proofs.Common.{◌≡◌, ◌<◌, ◌+◌, ◌*◌, ℕ, zero, suc, Bool, true, false, ◌&&◌, List, [], ◌∷◌, length, nat_eq, Option, Some, None, is_some, inl, inr, refl, sym, ap, ◌∙◌, subst, arith, true≢false, if◌then◌else◌}
+use Rattle.std.proofs.Common.{◌≡◌, ◌<◌, ◌+◌, ◌*◌, ℕ, zero, suc, Bool, true, false, List, [], ◌∷◌, length, nat_eq, Option, Some, None, is_some, inl, inr, refl, sym, ap, ◌∙◌, subst, arith, true≢false, if◌then◌else◌}
 use Rattle.std.specs.Prelude.{slice_get}
 use Rattle.std.specs.List.{filter}
 use Rattle.std.proofs.lemmas.Bool.Decides.{nat_tests}
@@ -21,10 +21,10 @@ use Rattle.world_defs.specs.Node.{lane_of, lane_at, port_at}
 use Rattle.world_defs.specs.Hearing.{port_takes, port_fits, port_has_begun}
 use Rattle.world_defs.specs.World.{WorldState, node_at}
 use Rattle.world_defs.specs.Traffic.{sent_on, got_on, coming_on, taken_on}
-use Rattle.order_laws.specs.Order.{HasCome}
-use Rattle.order_laws.proofs.Worlds.{taken-come}
-use Rattle.filling_laws.specs.Filling.{filling_in, IsFillingWith, IsTied}
-use Rattle.filling_laws.proofs.Worlds.{coming-tied}
+use Rattle.message_laws.specs.Order.{HasCome}
+use Rattle.message_laws.proofs.Worlds.{taken-come}
+use Rattle.message_laws.specs.Filling.{filling_in, IsFillingWith, IsTied}
+use Rattle.message_laws.proofs.Fillings.{coming-tied}
 use Rattle.settle_laws.proofs.Facts.{Facts, comes-of, prio-of}
 
 -- one of a list of which it is all that passes

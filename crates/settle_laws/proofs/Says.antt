@@ -23,7 +23,7 @@ use Rattle.world_defs.proofs.Lanes.{peer_of-lane}
 use Rattle.world_defs.proofs.Lists.{each-set}
 use Rattle.world_defs.proofs.Calls.{Call}
 use Rattle.world_laws.proofs.Lists.{at-set}
-use Rattle.window_laws.proofs.Heard.{IsHeard, quietly, of_frame, of_ack, hear-is}
+use Rattle.message_laws.proofs.Heard.{IsHeard, quietly, of_frame, of_ack, hear-is}
 
 -- a message names a port of its receiver, and a priority
 pub record IsFor (m : Message) : Type 0 where

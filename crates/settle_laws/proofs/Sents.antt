@@ -1,5 +1,5 @@
 -- After every list of acts: messages were sent from ports to hosts with a route, those that were got name a port and a priority, and provided tokens have priorities.
-use Rattle.std.proofs.Common.{◌≡◌, ◌<◌, ℕ, Bool, true, false, List, [], ◌∷◌, ◌++◌, length, nat_lt, Some, None, is_some, refl, sym, ap, ◌∙◌, subst, arith}
+use Rattle.std.proofs.Common.{◌≡◌, ◌<◌, ℕ, Bool, true, false, List, [], ◌∷◌, length, nat_lt, Some, None, is_some, refl, sym, ap, ◌∙◌, subst, arith}
 use Rattle.std.specs.Prelude.{slice_get}
 use Rattle.std.specs.List.{AllByRecursion}
 use Rattle.std.proofs.lemmas.Bool.Decides.{nat_tests}
@@ -18,10 +18,10 @@ use Rattle.world_defs.specs.World.{WorldState, host_count, node_at, new_world}
 use Rattle.world_defs.specs.Traffic.{sent_on, got_on}
 use Rattle.world_laws.specs.Shape.{IsWorld}
 use Rattle.act_defs.specs.Acts.{Act, acted, MayAct, IsReached}
-use Rattle.order_laws.proofs.Frames.{get-front}
-use Rattle.window_laws.proofs.Hosts.{Rules, acted-goes}
-use Rattle.window_laws.proofs.Windows.{numbers_of, reached-windowed}
-use Rattle.window_laws.proofs.Taken.{reached-world}
+use Rattle.message_laws.proofs.Frames.{get-front}
+use Rattle.message_laws.proofs.Hosts.{Rules, acted-goes}
+use Rattle.message_laws.proofs.Windows.{numbers_of, reached-windowed}
+use Rattle.message_laws.proofs.Taken.{reached-world}
 use Rattle.world_defs.proofs.Lists.{each-replicate}
 use Rattle.act_defs.proofs.Reaching.{reached-next, reached-has}
 use Rattle.settle_laws.proofs.Says.{IsFor, PortFits, SentSo, NodeSays, says-quiet, hear-says, sent-says, expired-says, call-says}

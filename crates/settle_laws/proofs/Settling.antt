@@ -28,8 +28,9 @@ use Rattle.world_laws.proofs.Meanings.{base-test, none_left-settled}
 use Rattle.world_laws.proofs.Along.{Along, clear-along, expiries-along, round_pass-along, round-along, settles-along}
 use Rattle.world_laws.proofs.Reached.{settles-of}
 use Rattle.act_defs.specs.Acts.{IsReached}
-use Rattle.order_laws.proofs.Worlds.{reached-ordered}
-use Rattle.window_laws.proofs.Windows.{reached-windowed}
+use Rattle.message_laws.proofs.Worlds.{reached-ordered}
+use Rattle.message_laws.proofs.Windows.{reached-windowed}
+use Rattle.settle_laws.specs.Premises.{HasRoutesBack}
 use Rattle.settle_laws.specs.Settles.{SentHasRoute, SettleEndsSettled}
 use Rattle.world_defs.proofs.Kept.{step-adopted}
 use Rattle.settle_laws.proofs.Routes.{table-route, has-active, route-leads, route-in, in-route}
@@ -99,18 +100,14 @@ table-cable n w h to is e = by (table_route (node_at w h).table to) refl e
     by None g d = absurd (true≢false (sym d))
     by (Some walk) g d = has-cable n h to walk (route-leads n w h to walk is g).0
 
--- each route of the set has one back
-abbrev AreJoined : WorldState → Type 0
-AreJoined w = (place : ℕ) (route : Route) → slice_get (adopted_routes w) place ≡ Some route → HasRoute (adopted_routes w) route.to route.from
-
-route-back : (n : Network) (z : WorldState) (a b : ℕ) → IsReached n z → AreJoined z → is_some (table_route (node_at z a).table b) ≡ true → is_some (node_at z a).table.active ≡ true → is_some (node_at z b).table.active ≡ true → is_some (table_route (node_at z b).table a) ≡ true
+route-back : (n : Network) (z : WorldState) (a b : ℕ) → IsReached n z → HasRoutesBack z → is_some (table_route (node_at z a).table b) ≡ true → is_some (node_at z a).table.active ≡ true → is_some (node_at z b).table.active ≡ true → is_some (table_route (node_at z b).table a) ≡ true
 route-back n z a b is joined there active back =
     let x : HasRoute (adopted_routes z) a b = route-in (adopted_routes z) a b (sym (ap is_some (table-route n z a b is active)) ∙ there) in
     let y : HasRoute (adopted_routes z) b a = subst (λ t. HasRoute (adopted_routes z) t a) x.to (subst (HasRoute (adopted_routes z) x.route.to) x.from (joined x.place x.route x.there)) in
     ap is_some (table-route n z b a is back) ∙ in-route (adopted_routes z) b a y.place y.route y.there y.from y.to
 
 -- a connection behind the last round
-module _ (flows : PlainDrainsIdle) (n : Network) (w : WorldState) (s : Stretch) (round : IsRound w s) (is : IsReached n w) (net : fabric_of w ≡ n) (idle : is_idle w.links ≡ true) (few : s.world.struck ≤ w.struck) (left : s.world.injected < last_count) (joined : AreJoined s.world) (key : ConnectionKey) (low : key.src < host_count w) (below : key.dst < host_count w) (same : (sender_on s.world key).base ≡ (sender_on w key).base) (some : (sender_on w key).base < (sender_on w key).next) where
+module _ (flows : PlainDrainsIdle) (n : Network) (w : WorldState) (s : Stretch) (round : IsRound w s) (is : IsReached n w) (net : fabric_of w ≡ n) (idle : is_idle w.links ≡ true) (few : s.world.struck ≤ w.struck) (left : s.world.injected < last_count) (joined : HasRoutesBack s.world) (key : ConnectionKey) (low : key.src < host_count w) (below : key.dst < host_count w) (same : (sender_on s.world key).base ≡ (sender_on w key).base) (some : (sender_on w key).base < (sender_on w key).next) where
   abbrev k : ℕ
   k = (sender_on w key).base
 
@@ -184,7 +181,7 @@ neither true y e = absurd (true≢false e)
 neither false y e = (refl, e)
 
 -- the last round
-round-settled : PlainDrainsIdle → (n : Network) (w : WorldState) (s : Stretch) → IsRound w s → is_last_round w s.world ≡ true → IsReached n w → fabric_of w ≡ n → is_idle w.links ≡ true → s.world.injected < last_count → AreJoined s.world → IsSettled s.world
+round-settled : PlainDrainsIdle → (n : Network) (w : WorldState) (s : Stretch) → IsRound w s → is_last_round w s.world ≡ true → IsReached n w → fabric_of w ≡ n → is_idle w.links ≡ true → s.world.injected < last_count → HasRoutesBack s.world → IsSettled s.world
 round-settled flows n w s round e is net idle left joined = by (nat_eq (unacknowledged_in s.world) 0) refl
   where
     z : WorldState
@@ -233,20 +230,20 @@ along-net = record { same = λ w. refl; both = λ u v w k l. l ∙ k; event = λ
 along-adopted : Along (λ w v. v.adopted ≡ w.adopted) IsOfSettle
 along-adopted = record { same = λ w. refl; both = λ u v w k l. l ∙ k; event = λ w e q. step-adopted w e }
 
-rounds-settled : PlainDrainsIdle → (n : Network) (w : WorldState) (r : Rounds) → AllRounds w r → IsReached n w → fabric_of w ≡ n → is_idle w.links ≡ true → r.world.injected < last_count → AreJoined r.world → IsSettled r.world
+rounds-settled : PlainDrainsIdle → (n : Network) (w : WorldState) (r : Rounds) → AllRounds w r → IsReached n w → fabric_of w ≡ n → is_idle w.links ≡ true → r.world.injected < last_count → HasRoutesBack r.world → IsSettled r.world
 rounds-settled flows n w r (AllRounds.last_round {s = s} one e) is net idle left joined = round-settled flows n w s one e is net idle left joined
 rounds-settled flows n w r (AllRounds.another_round {s = s} {r = rest} one e more d) is net idle left joined =
     let reached-then : IsReached n s.world = round-along (λ w v. IsReached n w → IsReached n v) IsOfSettle (along-reached n) settles-of w s one is in
     let net-then : fabric_of s.world ≡ n = round-along (λ w v. fabric_of v ≡ fabric_of w) IsOfSettle along-net settles-of w s one ∙ net in
     subst (λ t. IsSettled t.world) (sym d)
-    (rounds-settled flows n s.world rest more reached-then net-then (passes-idle one.passes (after_all w (expiries w)) s one.through) (subst (λ t. t.world.injected < last_count) d left) (subst (λ t. AreJoined t.world) d joined))
+    (rounds-settled flows n s.world rest more reached-then net-then (passes-idle one.passes (after_all w (expiries w)) s one.through) (subst (λ t. t.world.injected < last_count) d left) (subst (λ t. HasRoutesBack t.world) d joined))
 
 pub settle-settled : PlainDrainsIdle → SettleEndsSettled
 settle-settled flows w r can s left =
     let n : Network = fabric_of w in
     let v : WorldState = (clear w).1 in
     let same : r.world.adopted ≡ w.adopted = settles-along (λ w v. v.adopted ≡ w.adopted) IsOfSettle along-adopted settles-of w r s in
-    let joined : AreJoined r.world = subst (λ o. (place : ℕ) (route : Route) → slice_get (routes_in o) place ≡ Some route → HasRoute (routes_in o) route.to route.from) (sym same) can.joined in
+    let joined : HasRoutesBack r.world = subst (λ o. (place : ℕ) (route : Route) → slice_get (routes_in o) place ≡ Some route → HasRoute (routes_in o) route.to route.from) (sym same) can.joined in
     let is : IsReached n v = clear-along (λ w v. IsReached n w → IsReached n v) IsOfSettle (along-reached n) settles-of.clears w can.reached in
     let net : fabric_of v ≡ n = clear-along (λ w v. fabric_of v ≡ fabric_of w) IsOfSettle along-net settles-of.clears w in
-    subst (λ t. IsSettled t.world) (sym s.whole) (rounds-settled flows n v s.rest s.rounds is net (clear-idle w) (subst (λ t. t.world.injected < last_count) s.whole left) (subst (λ t. AreJoined t.world) s.whole joined))
+    subst (λ t. IsSettled t.world) (sym s.whole) (rounds-settled flows n v s.rest s.rounds is net (clear-idle w) (subst (λ t. t.world.injected < last_count) s.whole left) (subst (λ t. HasRoutesBack t.world) s.whole joined))

@@ -6,12 +6,10 @@ use Rattle.std.proofs.lemmas.Bool.Decides.{nat_tests}
 use Rattle.std.proofs.lemmas.List.{get_or_past}
 use Rattle.std.proofs.lemmas.Option.{same_Some}
 use Rattle.net_defs.specs.Network.{Network}
-use Rattle.gm_defs.specs.declared.message.Message.{Message}
 use Rattle.gm_defs.specs.declared.frame.FrameHead.{FrameHead}
 use Rattle.gm_defs.specs.declared.frame.ConnectionKey.{ConnectionKey}
 use Rattle.gm_defs.specs.Connection.{SenderState, window, due}
-use Rattle.gm_defs.specs.Fragment.{Fragment as FragmentOf, fragments, whole_below, head_of, frame_of}
-use Rattle.gm_defs.specs.declared.token.Filling.{Filling}
+use Rattle.gm_defs.specs.Fragment.{Fragment as FragmentOf, whole_below, head_of, frame_of}
 use Rattle.gm_defs.specs.Token.{PortState, Provided, size_for_length, is_size, is_from, is_filling_for, is_free_for}
 use Rattle.world_defs.specs.Sound.{IsPrefix}
 use Rattle.world_defs.specs.Table.{table_route}
@@ -21,9 +19,9 @@ use Rattle.world_defs.specs.World.{WorldState, node_at}
 use Rattle.world_defs.specs.Traffic.{sender_on, sent_on, got_on}
 use Rattle.world_defs.proofs.Lanes.{peer_of-lane}
 use Rattle.world_defs.specs.Settled.{IsWaiting}
-use Rattle.order_laws.proofs.Worlds.{got-front, taken-come}
+use Rattle.message_laws.proofs.Worlds.{got-front, taken-come}
 use Rattle.settle_laws.proofs.Says.{IsFor, PortFits}
-use Rattle.order_laws.proofs.Frames.{get-front}
+use Rattle.message_laws.proofs.Frames.{get-front}
 use Rattle.settle_laws.proofs.Sents.{reached-said}
 use Rattle.settle_laws.proofs.Still.{Still}
 use Rattle.settle_laws.proofs.Refused.{not-begun}

@@ -19,7 +19,7 @@ use Rattle.act_defs.specs.Acts.{AreAdoptable}
 use Rattle.table_laws.specs.Examples.{adopted_world}
 use Rattle.table_laws.proofs.Dependencies.{adopted-adoptable}
 use Rattle.table_laws.proofs.TwoHosts.{adopted-reached}
-use Rattle.order_laws.specs.Examples.{ten}
+use Rattle.message_laws.specs.Examples.{ten}
 use Rattle.settle_laws.specs.Examples.{lost_acts, LostWorldCanSettle, LostFrameIsSentAgain, bare_acts, bare_world, BareWorldCanSettle, MessageWaitsForToken}
 
 setup-adoptable : AreAdoptable two_hosts setup_routes

@@ -9,7 +9,7 @@ use Rattle.world_defs.specs.Traffic.{got_on}
 use Rattle.world_defs.specs.Settle.{unacknowledged_in, settle}
 use Rattle.world_defs.specs.Settled.{IsWaiting}
 use Rattle.act_defs.specs.Acts.{Act, Happens, Adopts, acted_all}
-use Rattle.order_laws.specs.Examples.{ten}
+use Rattle.message_laws.specs.Examples.{ten}
 use Rattle.settle_laws.specs.Premises.{CanSettle}
 
 -- both hosts have their routes, and their ports are open; a buffer is provided, the message is sent, and its frame is

@@ -31,7 +31,7 @@ use Rattle.run_defs.specs.Outcome.{Outcome, says_only, event_of, stepped, step_o
 use Rattle.run_defs.specs.Run.{Does, Runs}
 use Rattle.run_defs.specs.Run.Does.{determined, maps, circuits, routes}
 use Rattle.run_defs.specs.Run.Runs.{ended, goes_on}
-use Rattle.mapping_laws.proofs.Worlds.{SameSet, event-set, asks-of, settle-set, installed-set}
+use Rattle.install_laws.proofs.Worlds.{SameSet, event-set, asks-of, settle-set, installed-set}
 
 -- routes of some map
 pub record AreOfMap (all : List Route) : Type 0 where

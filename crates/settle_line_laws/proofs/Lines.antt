@@ -9,15 +9,16 @@ use Rattle.map_defs.specs.Orientation.{order_of}
 use Rattle.net_defs.specs.RouteSet.{HasRoute}
 use Rattle.world_defs.specs.Table.{Adoption}
 use Rattle.world_defs.specs.World.{WorldState, fabric_of, last_count}
-use Rattle.world_defs.specs.Traffic.{routes_in, sent_on, got_on}
+use Rattle.world_defs.specs.Traffic.{routes_in}
 use Rattle.world_defs.specs.Settle.{Rounds, unacknowledged_in, settle}
 use Rattle.world_defs.specs.Settled.{IsSettled}
 use Rattle.world_laws.specs.Shape.{HasSenders}
 use Rattle.world_laws.specs.Settling.{Settles}
 use Rattle.world_laws.proofs.Rounds.{settle-settles, settles-bounded}
 use Rattle.act_defs.specs.Acts.{IsReached}
-use Rattle.window_laws.proofs.Windows.{reached-windowed}
-use Rattle.window_laws.proofs.Reaching.{settle-got}
+use Rattle.message_laws.specs.Got.{IsAllGot}
+use Rattle.message_laws.proofs.Windows.{reached-windowed}
+use Rattle.message_laws.proofs.Reaching.{settle-got}
 use Rattle.run_defs.specs.declared.command.Command.{Command}
 use Rattle.run_defs.specs.declared.command.Command.TheVariants.{Map, Circuit, Plan, Settle}
 use Rattle.run_defs.specs.declared.line.Line.TheVariants.{Settle as SettleLine}
@@ -95,7 +96,7 @@ line-so s next rounds resets unacked can p =
       lawful = λ clears. sym p.reset_count ∙ none-printed r.resets last_count (settle-flows (fabric_of w) w can.reached clears);
       left = sym p.left ∙ ap unacknowledged_in after;
       settled = λ left. subst IsSettled after (settle-ends_settled w r can is (subst (λ (v : WorldState). v.injected < last_count) (sym after) left));
-      got = λ none c. subst (λ v. got_on v c ≡ sent_on v c) after (settle-got (fabric_of w) w can.reached (p.left ∙ none) c);
+      got = λ none. subst IsAllGot after (settle-got (fabric_of w) w can.reached (p.left ∙ none));
     }
 
 pub line-true : SettledLineIsTrue

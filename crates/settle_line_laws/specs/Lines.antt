@@ -2,9 +2,8 @@
 use Rattle.std.specs.Prelude.{◌≡◌, ℕ, ◌+◌, ◌<◌, ◌≤◌, List, ◌∷◌, length}
 use Rattle.std.specs.List.{AllByRecursion}
 use Rattle.net_defs.specs.Network.{Network, IsFabric}
-use Rattle.gm_defs.specs.declared.frame.ConnectionKey.{ConnectionKey}
 use Rattle.world_defs.specs.World.{fabric_of, last_count}
-use Rattle.world_defs.specs.Traffic.{IsLawfulTraffic, sent_on, got_on}
+use Rattle.world_defs.specs.Traffic.{IsLawfulTraffic}
 use Rattle.world_defs.specs.Settle.{unacknowledged_in, settle}
 use Rattle.world_defs.specs.Settled.{IsSettled}
 use Rattle.run_defs.specs.declared.command.Command.{Command}
@@ -15,6 +14,7 @@ use Rattle.run_defs.specs.Session.{SessionState}
 use Rattle.run_defs.specs.Run.{Does, IsRun}
 use Rattle.run_laws.specs.Acts.{IsActOf}
 use Rattle.lawful_laws.specs.Moments.{settle_clears}
+use Rattle.message_laws.specs.Got.{IsAllGot}
 use Rattle.settle_laws.specs.Premises.{CanSettle}
 
 -- behind every run a settle can be made over the run's fabric: acts that may happen lead there, and each route of the
@@ -36,7 +36,7 @@ pub record IsSettledLine (s next : SessionState) (rounds resets unacked : ℕ) :
   pub lawful : AllByRecursion IsLawfulTraffic (settle_clears s.world) → resets ≡ 0
   pub left : unacked ≡ unacknowledged_in next.world
   pub settled : next.world.injected < last_count → IsSettled next.world
-  pub got : unacked ≡ 0 → (c : ConnectionKey) → got_on next.world c ≡ sent_on next.world c
+  pub got : unacked ≡ 0 → IsAllGot next.world
 
 -- every such line behind a run says so
 abbrev pub SettledLineIsTrue : Type 0

@@ -44,7 +44,7 @@ among-there n mapper routes h low ends e = by (nat_eq h mapper) refl e
     by false p t = any routes ends t
 
 -- what holds of every member holds of all
-members : (P : ℕ → Type 0) (hs : List ℕ) → ((h : ℕ) → list_any (nat_eq h) hs ≡ true → P h) → AllByRecursion P hs
+pub members : (P : ℕ → Type 0) (hs : List ℕ) → ((h : ℕ) → list_any (nat_eq h) hs ≡ true → P h) → AllByRecursion P hs
 members P [] f = tt
 members P (h ∷ hs) f =
     let own : nat_eq h h ≡ true = grind (arith, nat_tests) in

@@ -1,7 +1,7 @@
 //! What ties the sends in a host's queues, the tickets on its lanes and the messages that aren't finished, and keeps
 //! them tied whatever the host does.
 //!
-//! It holds no host, and speaks of one alone: that it holds in each world that is reached is `token_laws`. Read
+//! It holds no host, and speaks of one alone: that it holds in each world that is reached is `message_laws`. Read
 //! `specs/Tickets.antt` first.
 //!
 //! ```text

@@ -1,13 +1,15 @@
 //! A settle: rounds, each of which sends again what isn't acknowledged.
 
-ghost use Rattle.std.specs.Prelude.{◌≡◌, ◌≤◌, ◌||◌, true, not, nat_eq, nat_lt, min, length, IfOk, OnOk, OnErr};
+ghost use Rattle.std.specs.Prelude.{◌≡◌, ◌≤◌, ◌<◌, ◌||◌, true, not, nat_eq, nat_lt, min, length, IfOk, OnOk, OnErr};
 ghost use Rattle.link_defs.specs.Links.{is_idle};
 ghost use Rattle.world_defs.specs.World.{fabric_of, host_count, last_count};
 ghost use Rattle.world_defs.specs.declared.event.Event.TheVariants.{Expire};
 ghost use Rattle.world_defs.specs.Step.{step, after_all};
 ghost use Rattle.world_defs.specs.Settle.{unacknowledged_in, expiries_of, expiries, round, round_bound, settle};
+ghost use Rattle.world_defs.specs.Settled.{IsSettled};
 ghost use Rattle.event_lists.specs.Events.{round_events, rounds_events, settle_events};
 ghost use Rattle.event_lists.specs.PartWay.{IsPartWay};
+ghost use Rattle.message_laws.specs.Got.{IsAllGot};
 ghost use Rattle.fab_world.specs.Events.{IsHostOf};
 ghost use Rattle.world_drain.specs.Rounds.{AreRounds};
 ghost use Rattle.world_drain.specs.Settling.{capped};
@@ -31,13 +33,16 @@ pub struct Settled {
 }
 
 /// Settles a world: a clear, and then rounds, at least one, up to one that leaves nothing unacknowledged or that
-/// helps nothing. It answers no more rounds than one and those that fragments and planned faults allow. Want of
-/// memory leaves a world that a prefix of its events leads to.
+/// helps nothing. It answers no more rounds than one and those that fragments and planned faults allow. Where
+/// injections are left, the world is settled then; and where it answers that nothing is unacknowledged, all that was
+/// sent is got. Want of memory leaves a world that a prefix of its events leads to.
 pub fn settle(alloc: Global, w: &mut World) -> Result<Settled, AllocError>
     ensures after { OnOk result (w.new ≡ (settle w.old).world) }
     ensures rounds { IfOk result (λ s. s.rounds ≡ (settle w.old).rounds) }
     ensures resets { IfOk result (λ s. s.resets ≡ min (settle w.old).resets last_count) }
     ensures unacked { IfOk result (λ s. s.unacked ≡ unacknowledged_in w.new) }
+    ensures settled { OnOk result (w.new.injected < last_count → IsSettled w.new) }
+    ensures got { IfOk result (λ s. s.unacked ≡ 0 → IsAllGot w.new) }
     ensures err { OnErr result (IsPartWay w.old (settle_events w.old) w.new) }
     ensures idle { OnOk result (is_idle w.new.links ≡ true) }
     ensures fabric { fabric_of w.new ≡ fabric_of w.old }
@@ -46,6 +51,7 @@ pub fn settle(alloc: Global, w: &mut World) -> Result<Settled, AllocError>
     ensures adopted { w.new.adopted ≡ w.old.adopted }
 {
     w.moment();
+    w.reached();
     let first = clear(alloc, w)?;
     let rest = all_rounds(alloc, w)?;
     Ok(Settled {

@@ -1,4 +1,4 @@
-use Rattle.install_laws.proofs.Counting.{counts-most, counts-all, unharmed-all}
+use Rattle.install_laws.proofs.Counting.{counts-most, counts-all, unharmed-all, tells-cause}
 use Rattle.install_laws.proofs.Unplanned.{unplanned-all}
 use Rattle.install_laws.proofs.cause.counted_hosts.Goals as goal
 
@@ -13,3 +13,6 @@ returns-clause-unharmed c = unharmed-all
 
 pub returns-clause-unplanned : goal.returns-clause-unplanned
 returns-clause-unplanned c = unplanned-all
+
+pub returns-clause-cause : goal.returns-clause-cause
+returns-clause-cause c = tells-cause

@@ -6,6 +6,7 @@ use Rattle.world_defs.specs.Install.{hosts_installed}
 use Rattle.event_lists.proofs.Installed.{install-given_up, install-hosts}
 use Rattle.fab_world.specs.Held.{IsLater}
 use Rattle.fab_world.proofs.Moments.{later-adopted, later-channels, set-stays}
+use Rattle.table_installing.proofs.Causes.{tells}
 use Rattle.table_installing.proofs.InstallHosts.{few-hosts, fewer-hosts, adopter-there, told, idle-behind, cut-of}
 use Rattle.world_drain.proofs.Later.{later-both, way-later, on-any}
 use Rattle.world_drain.proofs.GivingUp.{given_up-later}
@@ -91,6 +92,11 @@ returns-clause-acked c =
     let v : WorldState = c.give_up_all.new.w in
     told w v c.match-adopter.w c.args.hosts.now c.args.tries c.match-adopter.acked w.adopted refl c.in_ok-give_up_all.ensures.after
     (later-adopted w v (given_up-later w v c.in_ok-give_up_all.ensures.after)) (served c)
+
+pub returns-clause-cause : goal.returns-clause-cause
+returns-clause-cause c =
+    let w : WorldState = c.args.w.now in
+    tells (host_count w) w c.match-adopter.w c.args.hosts.now c.args.tries c.match-adopter.acked w.adopted refl c.reached.ensures c.moment.ensures.kept.adopted c.requires.idle c.requires.named c.requires.some (returns-clause-acked c)
 
 pub returns-clause-idle : goal.returns-clause-idle
 returns-clause-idle c =

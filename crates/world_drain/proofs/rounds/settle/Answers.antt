@@ -1,7 +1,12 @@
-use Rattle.std.proofs.Common.{ap, sym}
+use Rattle.std.proofs.Common.{ap, sym, ◌∙◌, subst}
+use Rattle.world_defs.specs.World.{WorldState, fabric_of}
+use Rattle.world_defs.specs.Settle.{unacknowledged_in}
+use Rattle.message_laws.specs.Got.{IsAllGot}
+use Rattle.message_laws.proofs.Reaching.{settle-got}
 use Rattle.event_lists.proofs.Settled.{settle-clear, settle-rounds}
 use Rattle.fab_world.specs.Held.{IsLater}
 use Rattle.fab_world.proofs.Moments.{later-fabric, later-hosts, later-channels, later-adopted}
+use Rattle.world_drain.proofs.Back.{ends-settled}
 use Rattle.world_drain.proofs.EventRows.{clear-later}
 use Rattle.world_drain.proofs.Later.{later-both, way-later, on-any}
 use Rattle.world_drain.proofs.RoundRows.{rounds-later}
@@ -51,6 +56,17 @@ returns-clause-rounds c = (settled c).number
 
 pub returns-clause-resets : goal.returns-clause-resets
 returns-clause-resets c = (settled c).counted
+
+-- so it ends settled, and where nothing is unacknowledged all is got
+pub returns-clause-settled : goal.returns-clause-settled
+returns-clause-settled c =
+    ends-settled c.args.w.now c.all_rounds.new.w c.moment.ensures.kept c.reached.ensures (settled c).after
+
+pub returns-clause-got : goal.returns-clause-got
+returns-clause-got c none =
+    let w : WorldState = c.args.w.now in
+    let after = (settled c).after in
+    subst IsAllGot (sym after) (settle-got (fabric_of w) w c.reached.ensures (ap unacknowledged_in (sym after) ∙ (sym c.in_ok-rest.ensures.unacked ∙ none)))
 
 pub returns-clause-idle : goal.returns-clause-idle
 returns-clause-idle c = (settled c).idle

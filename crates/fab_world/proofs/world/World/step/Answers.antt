@@ -1,7 +1,9 @@
 use Rattle.std.proofs.Common.{ap, sym, subst, ◌∙◌, length}
 use Rattle.world_defs.specs.World.{WorldState, fabric_of, host_count}
 use Rattle.fab_world.specs.Held.{IsOfHosts, IsPolledOfHosts}
-use Rattle.fab_world.proofs.Answers.{if-ok-both}
+use Rattle.message_laws.specs.Untouched.{HandsBackBy}
+use Rattle.message_laws.proofs.Buffers.{closed-untouched}
+use Rattle.fab_world.proofs.Answers.{if-ok, if-ok-both}
 use Rattle.fab_world.proofs.Arriving.{effect-hosts}
 use Rattle.fab_world.proofs.Stepped.{IsStepped, stepped}
 use Rattle.fab_world.proofs.world.World.step.Goals as goal
@@ -21,6 +23,13 @@ returns-clause-host c =
     (λ x h polled. subst (λ n. IsOfHosts n x) (ap host_count c.self.view_is)
     (subst (IsOfHosts (host_count w)) (ap (λ p. p.0) h) (effect-hosts w c.args.e c.self.invariant.0 (subst (IsPolledOfHosts (host_count w) c.args.e) (sym (ap (λ p. p.0) h)) polled))))
     c.step.ensures.ok c.step.ensures.polled
+
+pub returns-clause-back : goal.returns-clause-back
+returns-clause-back c =
+    let w : WorldState = c.self.inside.machine in
+    if-ok c.step.result
+    (λ x now. subst (λ v. HandsBackBy v c.args.e x) c.self.view_is (subst (HandsBackBy w c.args.e) (ap (λ p. p.0) now) (closed-untouched (fabric_of w) w c.self.invariant.2 c.args.e)))
+    c.step.ensures.ok
 
 pub returns-clause-fabric : goal.returns-clause-fabric
 returns-clause-fabric c = (left c).fabric ∙ ap fabric_of c.self.view_is

@@ -1,0 +1,288 @@
+-- Along every run the last routes are those of a right map: so they can be installed, and the line of an installation is true.
+use Rattle.std.proofs.Common.{◌≡◌, ◌≢◌, ◌<◌, ℕ, Bool, true, false, not, ◌||◌, List, [], ◌∷◌, map, length, nat_eq, Option, Some, None, cond, inl, inr, refl, sym, ◌∙◌, ap, subst, true≢false, arith, if◌then◌else◌}
+use Rattle.std.specs.List.{AllByRecursion, list_any, filter}
+use Rattle.std.proofs.lemmas.Bool.Decides.{Decides-eqb, nat_tests}
+use Rattle.std.proofs.lemmas.Option.{same_Some}
+use Rattle.net_defs.specs.declared.vertex.Vertex.TheVariants.{Host}
+use Rattle.net_defs.specs.Network.{Network, IsFabric, has_vertex}
+use Rattle.link_defs.specs.Links.{is_idle}
+use Rattle.journal_defs.specs.Part.{Path, IsInPart}
+use Rattle.journal_defs.proofs.Members.{IsMember}
+use Rattle.map_defs.specs.NetMap.{host_of_vertex, hosts_of}
+use Rattle.map_defs.specs.Sameness.{address_of}
+use Rattle.map_laws.proofs.Listed.{member-host}
+use Rattle.world_defs.specs.declared.event.Event.{Event}
+use Rattle.world_defs.specs.declared.effect.Effect.{Effect}
+use Rattle.world_defs.specs.World.{WorldState, last_count, addresses, adopted_by}
+use Rattle.world_defs.specs.Step.{step}
+use Rattle.world_defs.specs.Install.{installed}
+use Rattle.run_defs.specs.declared.command.Command.{Command}
+use Rattle.run_defs.specs.declared.command.Command.TheVariants.{Walk, Map, Circuit, Routes, Install, Begin as BeginCommand, Close as CloseCommand, Poll as PollCommand, Tokens, Provide as ProvideCommand, Send as SendCommand, Plan, Step, Settle, Finish}
+use Rattle.run_defs.specs.declared.line.Line.TheVariants.{MapBusy, Installed, InstallRefused}
+use Rattle.run_defs.specs.declared.line.InstallCause.{InstallCause}
+use Rattle.run_defs.specs.declared.line.InstallCause.TheVariants.{NoRoutes, Busy, Installed as OtherInstalled}
+use Rattle.run_defs.specs.Output.{Piece, OneLine, lines}
+use Rattle.run_defs.specs.Session.{SessionState, LastMap, LastRoutes, new_session, is_complete, complete_map}
+use Rattle.run_defs.specs.Outcome.{Outcome, says_only, event_of, stepped, step_or_idle, table_line, adoption_of, install_done, install_now, install, map_refused, routes_refused, outcome}
+use Rattle.world_defs.specs.Table.{is_other}
+use Rattle.run_defs.specs.Run.{Does, Runs}
+use Rattle.run_defs.specs.Run.Does.{determined, maps, circuits, routes}
+use Rattle.run_defs.specs.Run.Runs.{ended, goes_on}
+use Rattle.run_defs.specs.Headline.{IsCommandOf}
+use Rattle.act_defs.specs.Acts.{AreAdoptable, IsReached}
+use Rattle.mapping_laws.specs.Runs.{IsSessionOf}
+use Rattle.mapping_laws.specs.Held.{HoldsRight}
+use Rattle.mapping_laws.proofs.Sessions.{does-stays, new-session}
+use Rattle.mapping_laws.proofs.Holding.{does-hold, new-holds}
+use Rattle.run_laws.specs.Acts.{IsActOf}
+use Rattle.install_laws.proofs.Leads.{leads-adoption, reached-further}
+use Rattle.run_laws.proofs.Ranked.{right_routes_are_adoptable}
+use Rattle.run_laws.proofs.Reaching.{run_is_reached}
+use Rattle.install_laws.specs.Premises.{IsJoined}
+use Rattle.install_line_laws.specs.Runs.{RightRoutesAreShort, IsSetOfMap, RunRoutesAreOfMap, RunCanInstall, IsInstalledLine, InstalledLineIsTrue}
+use Rattle.install_laws.proofs.Installing.{missed-harmed}
+use Rattle.install_laws.proofs.Counting.{counts-most, unharmed-all}
+use Rattle.act_defs.proofs.Routes.{not-other}
+use Rattle.install_line_laws.proofs.Shortest.{least-all-short}
+
+host-there : (n : Network) (h : ℕ) → h < length n.hosts → has_vertex n (Host h) ≡ true
+host-there n h low = grind (arith, nat_tests)
+
+pub right-short : RightRoutesAreShort
+right-short n host m rs f low right are = least-all-short n host m _ rs f (host-there n host low) right are.least
+
+-- a determined command leaves the last map and the last routes
+abbrev LastIn : SessionState → Option Outcome → Type 0
+LastIn s None = Unit {0}
+LastIn s (Some o) = (o.after.last_map ≡ s.last_map) × (o.after.last_routes ≡ s.last_routes)
+
+stepped-last : (s : SessionState) (r : Effect × WorldState) → LastIn s (Some (stepped s r))
+stepped-last s (x, w) = (refl, refl)
+
+step-last : (s : SessionState) (o : Option Event) → LastIn s (Some (step_or_idle s o))
+step-last s None = (refl, refl)
+step-last s (Some e) = stepped-last s (step s.world e)
+
+done-last : (s : SessionState) (hosts : List ℕ) (r : ℕ × WorldState) → LastIn s (Some (install_done s hosts r))
+done-last s hosts (acked, w) = (refl, refl)
+
+install-last : (s : SessionState) (tries : ℕ) (o : Option LastRoutes) → LastIn s (Some (install s tries o))
+install-last s tries None = (refl, refl)
+install-last s tries (Some l) = by (not (is_idle s.world.links)) (is_other l.routes s.world.adopted)
+  where
+    by : (busy other : Bool) → LastIn s (Some (if busy then says_only s (InstallRefused Busy ∷ []) else if other then says_only s (InstallRefused OtherInstalled ∷ []) else install_now s l tries))
+    by true other = (refl, refl)
+    by false true = (refl, refl)
+    by false false = done-last s l.hosts (installed (adoption_of l) l.hosts tries (adopted_by s.world l.mapper l.routes))
+
+refused-last : (s : SessionState) (o : Option LastMap) → LastIn s (routes_refused s o)
+refused-last s None = (refl, refl)
+refused-last s (Some l) = tt
+
+busy-last : (s : SessionState) (host : ℕ) → LastIn s (map_refused s host)
+busy-last s host = by (is_idle s.world.links)
+  where
+    by : (idle : Bool) → LastIn s (if idle then None else Some (says_only s (MapBusy host ∷ [])))
+    by true = tt
+    by false = (refl, refl)
+
+outcome-last : (s : SessionState) (c : Command) → LastIn s (outcome s c)
+outcome-last s (Map host depth tries) = busy-last s host
+outcome-last s (Circuit host depth) = tt
+outcome-last s Routes = refused-last s (complete_map s.last_map)
+outcome-last s (Install tries) = install-last s tries s.last_routes
+outcome-last s (Step line) = step-last s (event_of s.world line)
+outcome-last s (Walk host walk) = (refl, refl)
+outcome-last s (BeginCommand h port sends recvs) = (refl, refl)
+outcome-last s (CloseCommand h port) = (refl, refl)
+outcome-last s (PollCommand h port) = (refl, refl)
+outcome-last s (Tokens h port) = (refl, refl)
+outcome-last s (ProvideCommand h port size prio) = (refl, refl)
+outcome-last s (SendCommand h port dest dport prio len seed) = (refl, refl)
+outcome-last s (Plan ahead kind) = (refl, refl)
+outcome-last s Settle = (refl, refl)
+outcome-last s Finish = (refl, refl)
+
+-- A session that a run leads to.
+record IsLed (n : Network) (s : SessionState) : Type 0 where
+  session : IsSessionOf n s
+  holds : HoldsRight n s
+  mapper : (l : LastMap) → complete_map s.last_map ≡ Some l → l.mapper < length n.hosts
+  set : (l : LastRoutes) → s.last_routes ≡ Some l → IsSetOfMap n l
+
+-- what of it a command leaves
+record IsLast (n : Network) (s : SessionState) : Type 0 where
+  mapper : (l : LastMap) → complete_map s.last_map ≡ Some l → l.mapper < length n.hosts
+  set : (l : LastRoutes) → s.last_routes ≡ Some l → IsSetOfMap n l
+
+last-same : (n : Network) (s next : SessionState) → IsLed n s → next.last_map ≡ s.last_map → next.last_routes ≡ s.last_routes → IsLast n next
+last-same n s next led e f = record { mapper = λ l is. led.mapper l (ap complete_map (sym e) ∙ is); set = λ l is. led.set l (sym f ∙ is) }
+
+-- a map that was just made
+same-map : (r l : LastMap) → complete_map (Some r) ≡ Some l → r ≡ l
+same-map r l e = by (is_complete r.words) e
+  where
+    by : (b : Bool) → cond b (Some r) None ≡ Some l → r ≡ l
+    by true p = cc
+    by false p = cc
+
+-- routes that were just computed
+filter-passes : (test : ℕ → Bool) (hs : List ℕ) → AllByRecursion (λ h. test h ≡ true) (filter test hs)
+filter-passes test [] = tt
+filter-passes test (h ∷ hs) = by (test h) refl (filter-passes test hs)
+  where
+    by : (b : Bool) → test h ≡ b → AllByRecursion (λ h. test h ≡ true) (filter test hs) → AllByRecursion (λ h. test h ≡ true) (if b then h ∷ filter test hs else filter test hs)
+    by true e rest = (e, rest)
+    by false e rest = rest
+
+kept-set : (n : Network) (r l : LastRoutes) → IsSetOfMap n r → Some r ≡ Some l → IsSetOfMap n l
+kept-set n r l is e = let one : r ≡ l = cc in subst (IsSetOfMap n) one is
+
+does-last : {s next : SessionState} {c : Command} {out : List Piece} → (n : Network) → IsActOf n c → IsLed n s → Does s c out next → IsLast n next
+does-last {s = s} {next = next} {c = c} n of_n led (determined e) = let k = subst (LastIn s) e (outcome-last s c) in last-same n s next led k.0 k.1
+does-last {s = s} {next = next} n of_n led (maps {host = host} {depth = depth} {tries = tries} after j m words none made printed left) =
+    let r : LastMap = record { mapper = host; words = words; made = m } in
+    subst (IsLast n) (sym left) (record { mapper = λ l e. subst (λ (x : LastMap). x.mapper < length n.hosts) (same-map r l e) of_n.0; set = led.set })
+does-last {s = s} {next = next} n of_n led (circuits told left) = last-same n s next led (ap (λ (x : SessionState). x.last_map) left) (ap (λ (x : SessionState). x.last_routes) left)
+does-last {s = s} {next = next} n of_n led (routes l found complete are printed left) =
+    let k = led.holds.complete l complete in
+    let hosts : List ℕ = filter (λ h. list_any (nat_eq h) (hosts_of l.made.vertices)) (addresses s.world) in
+    let r : LastRoutes = record { mapper = l.mapper; hosts = hosts; routes = found } in
+    let is : IsSetOfMap n r = record {
+      made = l.made;
+      is_host = led.mapper l complete;
+      rules = k.rules;
+      right = k.right;
+      routes = are;
+      hosts = filter-passes (λ h. list_any (nat_eq h) (hosts_of l.made.vertices)) (addresses s.world);
+    } in
+    subst (IsLast n) (sym left) (record { mapper = led.mapper; set = λ x e. kept-set n r x is e })
+
+command-of : (n : Network) (c : Command) → IsActOf n c → IsCommandOf n c
+command-of n (Map host depth tries) is = is
+command-of n (Circuit host depth) is = is
+command-of n (Plan ahead kind) is = is.1
+command-of n c is = tt
+
+runs-led : {s last : SessionState} {cs : List Command} {out : List Piece} → (n : Network) → IsFabric n → AllByRecursion (IsActOf n) cs → IsLed n s → Runs s cs out last → IsLed n last
+runs-led n f all led ended = led
+runs-led {s = s} n f all led (goes_on {next = next} {c = c} d r e) =
+    let of_n = command-of n c all.0 in
+    let on = does-last n all.0 led d in
+    let now : IsLed n next = record { session = does-stays n f of_n led.session d; holds = does-hold n f of_n led.session led.holds d; mapper = on.mapper; set = on.set } in
+    runs-led n f all.1 now r
+
+run-led : (n : Network) (commands : List Command) (out : List Piece) (s : SessionState) → IsFabric n → AllByRecursion (IsActOf n) commands → Runs (new_session n) commands out s → IsLed n s
+run-led n commands out s f all r = runs-led n f all (record { session = new-session n; holds = new-holds n; mapper = λ l e. cc; set = λ l e. cc }) r
+
+pub run-set : RunRoutesAreOfMap
+run-set n commands out s l f all r are = (run-led n commands out s f all r).set l are
+
+-- a host of the map is joined to the mapper
+any-member : (h : ℕ) (hs : List ℕ) → list_any (nat_eq h) hs ≡ true → IsMember h hs
+any-member h [] e = absurd (true≢false (sym e))
+any-member h (g ∷ gs) e = by (nat_eq h g) refl e (any-member h gs)
+  where
+    by : (b : Bool) → nat_eq h g ≡ b → (b || list_any (nat_eq h) gs) ≡ true → (list_any (nat_eq h) gs ≡ true → IsMember h gs) → IsMember h (g ∷ gs)
+    by true p q rest = inl ((Decides-eqb h g).0 p)
+    by false p q rest = inr (rest q)
+
+all-joined : (n : Network) (l : LastRoutes) (k : IsSetOfMap n l) (hs : List ℕ) → AllByRecursion (λ h. list_any (nat_eq h) (hosts_of k.made.vertices) ≡ true) hs → AllByRecursion (λ h. h ≢ l.mapper → IsJoined (adoption_of l) h) hs
+all-joined n l k [] all = tt
+all-joined n l k (h ∷ hs) all = (joined, all-joined n l k hs all.1)
+  where
+    own : IsInPart n l.mapper (Host l.mapper)
+    own = record { cables = 0; path = Path.here }
+
+    mapper : host_of_vertex k.made (k.right.origin (Host l.mapper)) ≡ Some l.mapper
+    mapper = sym (k.right.addresses (k.right.origin (Host l.mapper)) (k.right.origin_in (Host l.mapper) own)) ∙ ap address_of (k.right.image_origin (Host l.mapper) own)
+
+    joined : h ≢ l.mapper → IsJoined (adoption_of l) h
+    joined other =
+        let v = member-host k.made.vertices h (any-member h (hosts_of k.made.vertices) all.0) in
+        let u : ℕ = k.right.origin (Host l.mapper) in
+        record { there = k.routes.whole u v.0 l.mapper h mapper v.1 (λ e. other (sym e)); back = k.routes.whole v.0 u h l.mapper v.1 mapper other }
+
+-- the last routes are adopted
+pub run-can_install : RunCanInstall
+run-can_install n commands out s l f all r are idle other =
+    let led = run-led n commands out s f all r in
+    let k = led.set l are in
+    let w : WorldState = adopted_by s.world l.mapper l.routes in
+    let net = led.session.fabric in
+    let may = right_routes_are_adoptable n l.mapper k.made l.routes f k.rules k.right k.routes in
+    let adopts = leads-adoption s.world l.mapper l.routes (subst (λ m. AreAdoptable m l.routes) (sym net) may) (not-other l.routes s.world.adopted other) in
+    record {
+      reached = subst (λ m. IsReached m w) (sym net) (reached-further n s.world w (run_is_reached n commands out s f all r) adopts);
+      idle = idle;
+      adopted = refl;
+      set = record {
+        in_order = k.routes.in_order;
+        few_turns = right-short n l.mapper k.made l.routes f k.is_host k.right k.routes;
+        joined = all-joined n l k l.hosts k.hosts;
+      };
+    }
+
+-- what an installation prints
+record Prints (s next : SessionState) (tries acked total : ℕ) : Type 0 where
+  last : LastRoutes
+  are : s.last_routes ≡ Some last
+  idle : is_idle s.world.links ≡ true
+  same : is_other last.routes s.world.adopted ≡ false
+  counted : installed (adoption_of last) last.hosts tries (adopted_by s.world last.mapper last.routes) ≡ (acked, next.world)
+  all : total ≡ length last.hosts
+
+abbrev PrintsIn : SessionState → ℕ → ℕ → ℕ → List Piece → Option Outcome → SessionState → Type 0
+PrintsIn s tries acked total rest o next = o ≡ Some (record { output = OneLine (Installed acked total) ∷ rest; after = next }) → Prints s next tries acked total
+
+done-prints : (s next : SessionState) (tries acked total : ℕ) (rest : List Piece) (l : LastRoutes) (r : ℕ × WorldState) → s.last_routes ≡ Some l → is_idle s.world.links ≡ true → is_other l.routes s.world.adopted ≡ false → installed (adoption_of l) l.hosts tries (adopted_by s.world l.mapper l.routes) ≡ r → PrintsIn s tries acked total rest (Some (install_done s l.hosts r)) next
+done-prints s next tries acked total rest l (k, w) are idle same is e =
+    let said : Outcome = record { output = OneLine (Installed acked total) ∷ rest; after = next } in
+    let o : install_done s l.hosts (k, w) ≡ said = same_Some (install_done s l.hosts (k, w)) said e in
+    let printed : OneLine (Installed k (length l.hosts)) ∷ lines (map (table_line w) l.hosts) ≡ OneLine (Installed acked total) ∷ rest = ap (λ (x : Outcome). x.output) o in
+    let one : k ≡ acked = cc in
+    let all : length l.hosts ≡ total = cc in
+    let after : w ≡ next.world = ap (λ (x : Outcome). x.after.world) o in
+    record { last = l; are = are; idle = idle; same = same; counted = is ∙ (λ i. (one i, after i)); all = sym all }
+
+-- a refusal is another line
+refusal-prints : (s next : SessionState) (tries acked total : ℕ) (rest : List Piece) (cause : InstallCause) → PrintsIn s tries acked total rest (Some (says_only s (InstallRefused cause ∷ []))) next
+refusal-prints s next tries acked total rest cause e =
+    let said : Outcome = record { output = OneLine (Installed acked total) ∷ rest; after = next } in
+    let o : says_only s (InstallRefused cause ∷ []) ≡ said = same_Some (says_only s (InstallRefused cause ∷ [])) said e in
+    let printed : OneLine (InstallRefused cause) ∷ [] ≡ OneLine (Installed acked total) ∷ rest = ap (λ (x : Outcome). x.output) o in
+    absurd (no_line printed)
+  where
+    no_line : OneLine (InstallRefused cause) ∷ [] ≡ OneLine (Installed acked total) ∷ rest → ⊥
+    no_line e = cc
+
+install-prints : (s next : SessionState) (tries acked total : ℕ) (rest : List Piece) (o : Option LastRoutes) → s.last_routes ≡ o → PrintsIn s tries acked total rest (Some (install s tries o)) next
+install-prints s next tries acked total rest None are e = refusal-prints s next tries acked total rest NoRoutes e
+install-prints s next tries acked total rest (Some l) are e = by (is_idle s.world.links) (is_other l.routes s.world.adopted) refl refl e
+  where
+    by : (idle other : Bool) → is_idle s.world.links ≡ idle → is_other l.routes s.world.adopted ≡ other → PrintsIn s tries acked total rest (Some (if not idle then says_only s (InstallRefused Busy ∷ []) else if other then says_only s (InstallRefused OtherInstalled ∷ []) else install_now s l tries)) next
+    by false other p q d = refusal-prints s next tries acked total rest Busy d
+    by true true p q d = refusal-prints s next tries acked total rest OtherInstalled d
+    by true false p q d = done-prints s next tries acked total rest l (installed (adoption_of l) l.hosts tries (adopted_by s.world l.mapper l.routes)) are p q refl d
+
+line-so : (n : Network) (commands : List Command) (out : List Piece) (s next : SessionState) (tries acked total : ℕ) → IsFabric n → AllByRecursion (IsActOf n) commands → Runs (new_session n) commands out s → Prints s next tries acked total → IsInstalledLine s next tries acked total
+line-so n commands out s next tries acked total f all r p =
+    let w : WorldState = adopted_by s.world p.last.mapper p.last.routes in
+    let can = run-can_install n commands out s p.last f all r p.are p.idle p.same in
+    let there : next.world.injected < last_count → (installed (adoption_of p.last) p.last.hosts tries w).1.injected < last_count = λ left. subst (λ v. v.injected < last_count) (sym (ap (λ x. x.1) p.counted)) left in
+    let count : (installed (adoption_of p.last) p.last.hosts tries w).0 ≡ acked = ap (λ x. x.0) p.counted in
+    let most = counts-most (adoption_of p.last) p.last.hosts tries w in
+    let total_is = p.all in
+    record {
+      last = p.last;
+      are = p.are;
+      counted = p.counted;
+      all = p.all;
+      at_most = omega (arith, most, count, total_is);
+      cause = λ left. missed-harmed (adoption_of p.last) p.last.hosts tries w can (there left);
+      unharmed = λ some left same. sym count ∙ unharmed-all (adoption_of p.last) p.last.hosts tries w can some (there left) (ap (λ x. x.1.harmed) p.counted ∙ same) ∙ sym p.all;
+    }
+
+pub line-true : InstalledLineIsTrue
+line-true n commands out rest s next tries acked total f all r (determined e) =
+    line-so n commands out s next tries acked total f all r (install-prints s next tries acked total rest s.last_routes refl e)

@@ -1,0 +1,10 @@
+pub mod Order
+pub mod Says
+pub mod Windows
+pub mod Got
+pub mod Filling
+pub mod Unfinished
+pub mod Untouched
+pub mod Received
+pub mod Returned
+pub mod Examples

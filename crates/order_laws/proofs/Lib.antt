@@ -1,5 +1,0 @@
-pub mod Lanes
-pub mod Frames
-pub mod Nodes
-pub mod Worlds
-pub mod Arriving

@@ -1,5 +1,0 @@
-use Rattle.order_laws.proofs.Worlds.{sent-of_priority}
-use Rattle.order_laws.proofs.order.messages_of_a_priority.Goals as goal
-
-pub returns : goal.returns
-returns c = record { sent = sent-of_priority }

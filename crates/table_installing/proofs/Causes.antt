@@ -1,0 +1,40 @@
+-- What an installation tells of the hosts that it doesn't count.
+use Rattle.std.proofs.Common.{◌≡◌, ◌≢◌, ◌<◌, ◌≤◌, ℕ, true, ◌||◌, nat_eq, List, Option, Some, None, sym, ap, ◌∙◌, subst, arith}
+use Rattle.std.specs.Prelude.{IfSome}
+use Rattle.std.specs.List.{AllByRecursion, list_any}
+use Rattle.std.proofs.lemmas.Bool.Decides.{nat_tests}
+use Rattle.link_defs.specs.Links.{is_idle}
+use Rattle.world_defs.specs.Table.{Adoption}
+use Rattle.world_defs.specs.World.{WorldState, fabric_of, last_count}
+use Rattle.world_defs.specs.Install.{installed}
+use Rattle.act_defs.specs.Acts.{IsReached}
+use Rattle.install_laws.specs.Premises.{HasFewTurns, IsJoined, CanInstall}
+use Rattle.install_laws.specs.Counts.{TellsCause}
+use Rattle.install_laws.proofs.Counting.{tells-cause}
+use Rattle.adopted_routes.specs.Adopting.{is_among, IsSetOfHosts}
+use Rattle.table_installing.proofs.InstallHosts.{members}
+
+told-cause : (w u : WorldState) (hosts : List ℕ) (tries acked : ℕ) (a : Adoption) → CanInstall a hosts w → 1 ≤ tries → installed a hosts tries w ≡ (acked, u)
+    → u.injected < last_count → TellsCause a hosts tries acked w u
+told-cause w u hosts tries acked a can some told left =
+    let first : (installed a hosts tries w).0 ≡ acked = ap (λ r. r.0) told in
+    let last : (installed a hosts tries w).1 ≡ u = ap (λ r. r.1) told in
+    let cause = tells-cause a hosts tries w can (omega (arith, some)) (subst (λ (v : WorldState). v.injected < last_count) (sym last) left) in
+    record { missed = cause.missed; unharmed = λ same. sym first ∙ cause.unharmed (ap (λ (v : WorldState). v.harmed) last ∙ same) }
+
+-- the hosts that an adopted set names are joined to its adopter
+joined : (n : ℕ) (a : Adoption) (hosts : List ℕ) → IsSetOfHosts n a → ((h : ℕ) → list_any (nat_eq h) hosts ≡ is_among a.mapper a.routes h)
+    → AllByRecursion (λ h. h ≢ a.mapper → IsJoined a h) hosts
+joined n a hosts s named =
+    let own : nat_eq a.mapper a.mapper ≡ true = grind (arith, nat_tests) in
+    let first : is_among a.mapper a.routes a.mapper ≡ true = ap (λ b. b || list_any (λ r. nat_eq r.from a.mapper || nat_eq r.to a.mapper) a.routes) own in
+    members (λ h. h ≢ a.mapper → IsJoined a h) hosts
+    (λ h e other. record { there = s.whole a.mapper h first (sym (named h) ∙ e) (λ f. other (sym f)); back = s.whole h a.mapper (sym (named h) ∙ e) first other })
+
+pub tells : (n : ℕ) (w u : WorldState) (hosts : List ℕ) (tries acked : ℕ) (o : Option Adoption) → w.adopted ≡ o → IsReached (fabric_of w) w → IfSome o (IsSetOfHosts n) → is_idle w.links ≡ true
+    → IfSome o (λ a. (h : ℕ) → list_any (nat_eq h) hosts ≡ is_among a.mapper a.routes h) → 1 ≤ tries
+    → IfSome o (λ a. installed a hosts tries w ≡ (acked, u)) → IfSome o (λ a. HasFewTurns a → u.injected < last_count → TellsCause a hosts tries acked w u)
+tells n w u hosts tries acked None is reached set idle named some told = tt
+tells n w u hosts tries acked (Some a) is reached set idle named some told =
+    λ few left.
+    told-cause w u hosts tries acked a (record { reached = reached; idle = idle; adopted = is; set = record { in_order = set.in_order; few_turns = few; joined = joined n a hosts set named } }) some told left

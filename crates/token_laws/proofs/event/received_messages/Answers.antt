@@ -1,5 +1,0 @@
-use Rattle.token_laws.proofs.Arrivals.{received-messages}
-use Rattle.token_laws.proofs.event.received_messages.Goals as goal
-
-pub returns : goal.returns
-returns c = record { messages = received-messages }

@@ -1,8 +1,0 @@
-use Rattle.token_laws.proofs.Matched.{queue-unfinished, each-once}
-use Rattle.token_laws.proofs.queue.unfinished_sends.Goals as goal
-
-pub returns-clause-queue : goal.returns-clause-queue
-returns-clause-queue c = queue-unfinished
-
-pub returns-clause-each : goal.returns-clause-each
-returns-clause-each c = each-once

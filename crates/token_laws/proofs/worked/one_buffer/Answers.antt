@@ -1,8 +1,0 @@
-use Rattle.token_laws.proofs.Working.{buffer-provided, close-hands-back}
-use Rattle.token_laws.proofs.worked.one_buffer.Goals as goal
-
-pub returns-clause-provided : goal.returns-clause-provided
-returns-clause-provided c = buffer-provided
-
-pub returns-clause-closed : goal.returns-clause-closed
-returns-clause-closed c = close-hands-back

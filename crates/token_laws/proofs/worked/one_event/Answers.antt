@@ -1,8 +1,0 @@
-use Rattle.token_laws.proofs.Working.{message-received, buffer-returned}
-use Rattle.token_laws.proofs.worked.one_event.Goals as goal
-
-pub returns-clause-received : goal.returns-clause-received
-returns-clause-received c = message-received
-
-pub returns-clause-returned : goal.returns-clause-returned
-returns-clause-returned c = buffer-returned

@@ -1,9 +1,0 @@
-pub mod Heard
-pub mod Sends
-pub mod Hosts
-pub mod Numbers
-pub mod Windows
-pub mod Honest
-pub mod Taken
-pub mod Arriving
-pub mod Reaching

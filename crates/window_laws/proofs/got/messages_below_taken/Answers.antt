@@ -1,5 +1,0 @@
-use Rattle.window_laws.proofs.Taken.{got-below}
-use Rattle.window_laws.proofs.got.messages_below_taken.Goals as goal
-
-pub returns : goal.returns
-returns c = record { got = got-below }

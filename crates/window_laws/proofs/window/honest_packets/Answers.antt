@@ -1,5 +1,0 @@
-use Rattle.window_laws.proofs.Honest.{traffic-honest}
-use Rattle.window_laws.proofs.window.honest_packets.Goals as goal
-
-pub returns : goal.returns
-returns c = record { honest = traffic-honest }

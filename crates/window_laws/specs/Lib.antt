@@ -1,3 +1,0 @@
-pub mod Windows
-pub mod Got
-pub mod Examples
