@@ -1,10 +1,12 @@
-//! Classes compared with the plain closure after each entry of a journal.
+//! Classes compared, after each entry of a journal, with the plain closure and with classes made at once.
 
 ghost use Rattle.std.specs.Prelude.{◌<◌, [], length};
 ghost use Rattle.class_joins.specs.Table.{IsTrueOfOne, StandsFor};
 
-use crate::plain::{Pair, replicates};
-use crate::seen::{ClassedNode, joined, seen, seen_at};
+use crate::at_once::are_those_at_once;
+use crate::plain::{Pair, are_the_same, replicates};
+use crate::prefix::put;
+use crate::seen::{ClassedNode, joined, nodes_of};
 use crate::so_far::SoFar;
 use mapper::grow;
 use port_graph::Fabric;
@@ -22,6 +24,8 @@ pub(crate) struct Comparison {
     pub(crate) asks: usize,
     /// After how many of them the classes are those of the plain closure.
     pub(crate) agreed: usize,
+    /// After how many of them they are those of the journal so far, made at once.
+    pub(crate) at_once: usize,
     /// How many nodes there are at the end.
     pub(crate) nodes: usize,
     /// How many pairs of them are of one class.
@@ -90,10 +94,13 @@ fn go_on<'j>(
 {
     let entries = j.entries();
     let mut compared = no_comparison();
+    let mut journal = Journal::new(alloc, j.host());
     for e in entries {
         classes.push(alloc, e)?;
         so_far.push(e)?;
+        put(alloc, &mut journal, e)?;
         compare(alloc, entries, so_far, classes, &mut compared)?;
+        compare_at_once(alloc, &journal, classes, &mut compared)?;
     }
     Ok(compared)
 }
@@ -102,10 +109,28 @@ const fn no_comparison() -> Comparison {
     Comparison {
         asks: 0,
         agreed: 0,
+        at_once: 0,
         nodes: 1,
         pairs: 1,
         expanded: 0,
     }
+}
+
+// Compares classes with those of the journal so far, made at once.
+fn compare_at_once(
+    alloc: Global,
+    journal: &Journal,
+    classes: &Classes,
+    compared: &mut Comparison,
+) -> Result<(), AllocError>
+    requires true_of_one { IsTrueOfOne journal.now.host journal.now.entries }
+    requires few { length journal.now.entries < 4294967295 }
+    requires some { 0 < length classes.now.nodes }
+{
+    if are_those_at_once(alloc, journal, classes)? {
+        compared.at_once = compared.at_once.saturating_add(1);
+    }
+    Ok(())
 }
 
 // Compares classes with the entries so far.
@@ -129,36 +154,6 @@ fn compare(
     compared.pairs = pairs.len();
     compared.expanded = count_expanded(&nodes);
     Ok(())
-}
-
-// What classes tell of the mapper's host, and of each walk that found something.
-fn nodes_of(
-    alloc: Global,
-    entries: &[Entry],
-    classes: &Classes,
-) -> Result<Vec<ClassedNode>, AllocError>
-    requires { 0 < length classes.now.nodes }
-{
-    let mut nodes = vec![in alloc; seen(classes, 0)]?;
-    for e in entries {
-        if let Some(node) = seen_at(classes, &e.walk) {
-            nodes.push(node)?;
-        }
-    }
-    Ok(nodes)
-}
-
-// Whether two lists, in which no pair stands twice, have the same pairs.
-fn are_the_same(pairs: &[Pair], plain: &[Pair]) -> bool {
-    if pairs.len() != plain.len() {
-        return false;
-    }
-    for pair in plain {
-        if !pairs.contains(pair) {
-            return false;
-        }
-    }
-    true
 }
 
 // Whether just those nodes are expanded of which a replicate has all its turns asked.

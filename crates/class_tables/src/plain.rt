@@ -32,6 +32,19 @@ pub(crate) fn replicates(
     Ok(pairs)
 }
 
+/// Whether two lists, in which no pair stands twice, have the same pairs.
+pub(crate) fn are_the_same(pairs: &[Pair], plain: &[Pair]) -> bool {
+    if pairs.len() != plain.len() {
+        return false;
+    }
+    for pair in plain {
+        if !pairs.contains(pair) {
+            return false;
+        }
+    }
+    true
+}
+
 // One round of the rules.
 fn follow(alloc: Global, walks: &[&[i8]], pairs: &mut Vec<Pair>) -> Result<(), AllocError> {
     let known = pairs.to_vec(alloc)?;

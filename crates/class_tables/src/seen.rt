@@ -5,6 +5,7 @@ ghost use Rattle.std.specs.Prelude.{◌<◌, length};
 use crate::plain::Pair;
 use net_defs::Walk;
 use port_align::ClassFrame;
+use probe::Entry;
 use replicate_merge::Classes;
 use std::alloc::{AllocError, Global};
 
@@ -16,8 +17,8 @@ pub(crate) struct ClassedNode {
     pub(crate) expanded: bool,
 }
 
-/// What classes tell of a node.
-pub(crate) fn seen(classes: &Classes, node: u32) -> ClassedNode
+// What classes tell of a node.
+fn seen(classes: &Classes, node: u32) -> ClassedNode
     requires { node < length classes.now.nodes }
 {
     let frame = classes.class_of(node);
@@ -25,13 +26,30 @@ pub(crate) fn seen(classes: &Classes, node: u32) -> ClassedNode
     ClassedNode { frame, expanded }
 }
 
-/// What they tell of the node of a walk; none where the walk found nothing.
+// What they tell of the node of a walk; none where the walk found nothing.
 #[tactic(auto, using(std::proofs::lemmas::Option::slice_get_within))]
-pub(crate) fn seen_at(classes: &Classes, walk: &Walk) -> Option<ClassedNode> {
+fn seen_at(classes: &Classes, walk: &Walk) -> Option<ClassedNode> {
     match classes.node_of(walk) {
         Some(node) => Some(seen(classes, node)),
         None => None,
     }
+}
+
+/// What classes tell of the mapper's host, and of each walk that found something.
+pub(crate) fn nodes_of(
+    alloc: Global,
+    entries: &[Entry],
+    classes: &Classes,
+) -> Result<Vec<ClassedNode>, AllocError>
+    requires { 0 < length classes.now.nodes }
+{
+    let mut nodes = vec![in alloc; seen(classes, 0)]?;
+    for e in entries {
+        if let Some(node) = seen_at(classes, &e.walk) {
+            nodes.push(node)?;
+        }
+    }
+    Ok(nodes)
 }
 
 // How far apart two nodes lie in their class.

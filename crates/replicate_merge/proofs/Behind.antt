@@ -23,6 +23,8 @@ use Rattle.class_joins.specs.Longer.IsInFront.{of_mapper, of_node}
 use Rattle.class_joins.specs.Longer.IsNewWay.{of_host, from_front, to_front, to_behind, from_behind}
 use Rattle.replicate_merge.specs.Cables.{AddsCables, both_ways, host_ways}
 use Rattle.class_joins.specs.Nodes.{nodes_of}
+use Rattle.replicate_merge.specs.Own.{AreOwnWays, IsOwnWay}
+use Rattle.replicate_merge.specs.Own.IsOwnWay.{of_host as own_host, from_front as own_from, to_front as own_to}
 use Rattle.replicate_merge.specs.Cables.AddsCables.{from_mapper, from_node, from_none}
 use Rattle.replicate_merge.specs.Onward.{AddsBelow, AreNewWays, AreOnce, IsBehind, is_known, known_among}
 use Rattle.replicate_merge.specs.Onward.IsBehind.{down, up}
@@ -125,8 +127,8 @@ module _ (walks : List (List ℤ)) (once : AreOnce (nodes_of walks)) (e : Entry)
   abbrev nodes : List Node
   nodes = nodes_of walks
 
-  host-only : (a : Answer) → e.answer ≡ a → (w : Way) → Has ([] ++ host_ways (Some a) n) w → IsNewWay nodes e n w
-  host-only (HostAnswer h) is w there = of_host h is (one-of (Host h n) w there)
+  host-only : (a : Answer) → e.answer ≡ a → (w : Way) → Has ([] ++ host_ways (Some a) n) w → IsOwnWay nodes e n w
+  host-only (HostAnswer h) is w there = own_host h is (one-of (Host h n) w there)
   host-only Switch is w there = absurd (no-way w there)
   host-only Nothing is w there = absurd (no-way w there)
 
@@ -135,7 +137,7 @@ module _ (walks : List (List ℤ)) (once : AreOnce (nodes_of walks)) (e : Entry)
   host-few Switch = omega arith
   host-few Nothing = omega arith
 
-  hosts-only : (w : Way) → Has hosts w → IsNewWay nodes e n w
+  hosts-only : (w : Way) → Has hosts w → IsOwnWay nodes e n w
   hosts-only w h = host-only e.answer refl w (subst (λ (ws : List Way). Has ws w) is_hosts h)
 
   hosts-few : length hosts ≤ 1
@@ -149,7 +151,7 @@ module _ (walks : List (List ℤ)) (once : AreOnce (nodes_of walks)) (e : Entry)
   -- the cables to the node in front
   record AreFrontWays : Type 0 where
     pub few : length ways ≤ 3
-    pub only : (w : Way) → Has ways w → IsNewWay nodes e n w
+    pub only : (w : Way) → Has ways w → IsOwnWay nodes e n w
     pub hosts_kept : (w : Way) → Has hosts w → Has ways w
     pub from : (m : ℕ) (p : ℤ) (w : Way) → m < length nodes → IsInFront (node_at nodes m) p e.walk → w ≡ Cable m p n (pos 0) → Has ways w
     pub to : (m : ℕ) (p : ℤ) (w : Way) → m < length nodes → IsInFront (node_at nodes m) p e.walk → w ≡ Cable n (pos 0) m p → Has ways w
@@ -167,13 +169,13 @@ module _ (walks : List (List ℤ)) (once : AreOnce (nodes_of walks)) (e : Entry)
       back : (w : Way) → Has (hosts ++ both_ways f t n) w → Has ways w
       back w h = subst (λ (ws : List Way). Has ws w) (sym is) h
 
-      which : (w : Way) → Has hosts w ⊎ Has (both_ways f t n) w → IsNewWay nodes e n w
+      which : (w : Way) → Has hosts w ⊎ Has (both_ways f t n) w → IsOwnWay nodes e n w
       which w (inl h) = hosts-only w h
       which w (inr h) = by (two-of (Cable f t n (pos 0)) (Cable n (pos 0) f t) w h)
         where
-          by : (w ≡ Cable f t n (pos 0)) ⊎ (w ≡ Cable n (pos 0) f t) → IsNewWay nodes e n w
-          by (inl q) = from_front f t below front q
-          by (inr q) = to_front f t below front q
+          by : (w ≡ Cable f t n (pos 0)) ⊎ (w ≡ Cable n (pos 0) f t) → IsOwnWay nodes e n w
+          by (inl q) = own_from f t below front q
+          by (inr q) = own_to f t below front q
 
   front-ways : AddsCables walks e.walk n hosts ways → AreFrontWays
   front-ways (from_mapper empty is) = both 0 (pos 0) is (omega arith) (of_mapper refl refl empty) one
@@ -207,23 +209,42 @@ module _ (walks : List (List ℤ)) (once : AreOnce (nodes_of walks)) (e : Entry)
   abbrev front : AreFrontWays
   front = front-ways cables
 
-  others : (new : List Way) → ((w : Way) → Has ways w → Has new w) → (w : Way) → IsNewWay nodes e n w → Has new w ⊎ ((p : ℤ) × IsBehind nodes e.walk n p w)
-  others new more w (of_host a is q) = inl (more w (front.hosts_kept w (hosts-there a w is q)))
-  others new more w (from_front m p l x q) = inl (more w (front.from m p w l x q))
-  others new more w (to_front m p l x q) = inl (more w (front.to m p w l x q))
+  -- the own ways of the entry
+  pub own-ways : AreOwnWays nodes e n ways
+  own-ways = record { few = front.few; only = front.only; all = λ w o. there w o }
+    where
+      there : (w : Way) → IsOwnWay nodes e n w → Has ways w
+      there w (own_host a is q) = front.hosts_kept w (hosts-there a w is q)
+      there w (own_from m p l x q) = front.from m p w l x q
+      there w (own_to m p l x q) = front.to m p w l x q
+
+-- the ways that an entry adds: its own, and those to nodes behind
+module _ (walks : List (List ℤ)) (e : Entry) (n : ℕ) (ways : List Way) (own : AreOwnWays (nodes_of walks) e n ways) where
+  abbrev ms : List Node
+  ms = nodes_of walks
+
+  own-new : (w : Way) → IsOwnWay ms e n w → IsNewWay ms e n w
+  own-new w (own_host a is q) = of_host a is q
+  own-new w (own_from m p l x q) = from_front m p l x q
+  own-new w (own_to m p l x q) = to_front m p l x q
+
+  others : (new : List Way) → ((w : Way) → Has ways w → Has new w) → (w : Way) → IsNewWay ms e n w → Has new w ⊎ ((p : ℤ) × IsBehind ms e.walk n p w)
+  others new more w (of_host a is q) = inl (more w (own.all w (own_host a is q)))
+  others new more w (from_front m p l x q) = inl (more w (own.all w (own_from m p l x q)))
+  others new more w (to_front m p l x q) = inl (more w (own.all w (own_to m p l x q)))
   others new more w (to_behind x p l at q) = inr (p, down x l at q)
   others new more w (from_behind x p l at q) = inr (p, up x l at q)
 
   -- without nodes behind
-  pub ways-plain : AreNewWays nodes e n false ways
+  pub ways-plain : AreNewWays ms e n false ways
   ways-plain = record {
-    few = (let f = front.few in omega arith);
-    only = front.only;
+    few = (let f = own.few in omega arith);
+    only = λ w h. own-new w (own.only w h);
     behind = λ a p w t b. absurd (true≢false (sym a));
     others = others ways (λ w h. h);
   }
 
-  behind-new : (p : ℤ) (w : Way) → IsBehind nodes e.walk n p w → IsNewWay nodes e n w
+  behind-new : (p : ℤ) (w : Way) → IsBehind ms e.walk n p w → IsNewWay ms e n w
   behind-new p w (down x l at q) = to_behind x p l at q
   behind-new p w (up x l at q) = from_behind x p l at q
 
@@ -231,14 +252,14 @@ module _ (walks : List (List ℤ)) (once : AreOnce (nodes_of walks)) (e : Entry)
   place-of p t = let s = shift p t in (nat_abs (p +ℤ pos 15), s.0, sym s.1)
 
   -- with each node behind
-  pub ways-ahead : (all : List Way) → AddsBelow nodes e.walk n 31 ways all → AreNewWays nodes e n true all
+  pub ways-ahead : (all : List Way) → AddsBelow ms e.walk n 31 ways all → AreNewWays ms e n true all
   ways-ahead all b = record {
-    few = (let f = front.few in let g = b.few in omega arith);
+    few = (let f = own.few in let g = b.few in omega arith);
     only = λ w h. by w (b.only w h);
-    behind = λ a p w t x. (let k = place-of p t in b.all k.0 k.1 w (subst (λ q. IsBehind nodes e.walk n q w) (sym k.2) x));
+    behind = λ a p w t x. (let k = place-of p t in b.all k.0 k.1 w (subst (λ q. IsBehind ms e.walk n q w) (sym k.2) x));
     others = others all b.kept;
   }
     where
-      by : (w : Way) → Has ways w ⊎ ((p : ℤ) × IsBehind nodes e.walk n p w) → IsNewWay nodes e n w
-      by w (inl h) = front.only w h
+      by : (w : Way) → Has ways w ⊎ ((p : ℤ) × IsBehind ms e.walk n p w) → IsNewWay ms e n w
+      by w (inl h) = own-new w (own.only w h)
       by w (inr x) = behind-new x.0 w x.1

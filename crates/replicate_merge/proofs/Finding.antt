@@ -8,7 +8,7 @@ use Rattle.class_joins.specs.Nodes.{nodes_of}
 use Rattle.class_joins.proofs.Telling.{count-nodes}
 
 -- no more walks than entries
-reached-few : (es : List Entry) → length (reached es) ≤ length es
+pub reached-few : (es : List Entry) → length (reached es) ≤ length es
 reached-few [] = omega arith
 reached-few (e ∷ es) = by (is_found e.answer) (reached-few es)
   where

@@ -1,10 +1,13 @@
 pub mod Appending
 pub mod Behind
 pub mod Counting
+pub mod Entries
 pub mod Finding
 pub mod Merging
 pub mod Nexts
+pub mod NodesAtOnce
 pub mod Orphans
+pub mod OrphansAtOnce
 pub mod Prefixes
 pub mod Pushed
 pub mod Reading
@@ -12,3 +15,6 @@ pub mod Stands
 pub mod Starts
 pub mod Turned
 pub mod Turns
+pub mod TurnsAtOnce
+pub mod WaysAtOnce
+pub mod Wholes

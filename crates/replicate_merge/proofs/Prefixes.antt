@@ -23,17 +23,17 @@ walks-take P es zero all = tt
 walks-take P [] (suc i) all = tt
 walks-take P (e ∷ es) (suc i) all = (all.0, walks-take P es i all.1)
 
-walk-at : (P : List ℤ → Type 0) (es : List Entry) (i : ℕ) (e : Entry) → AllByRecursion P (map (λ (x : Entry). x.walk) es) → slice_get es i ≡ Some e → P e.walk
+pub walk-at : (P : List ℤ → Type 0) (es : List Entry) (i : ℕ) (e : Entry) → AllByRecursion P (map (λ (x : Entry). x.walk) es) → slice_get es i ≡ Some e → P e.walk
 walk-at P [] i e all at = cc
 walk-at P (x ∷ es) zero e all at = let one : x ≡ e = cc in subst (λ (y : Entry). P y.walk) one all.0
 walk-at P (x ∷ es) (suc i) e all at = walk-at P es i e all.1 at
 
-once-take : (es : List Entry) (i : ℕ) → IsJournal es → IsJournal (take i es)
+pub once-take : (es : List Entry) (i : ℕ) → IsJournal es → IsJournal (take i es)
 once-take es zero once = tt
 once-take [] (suc i) once = tt
 once-take (e ∷ es) (suc i) once = (walks-take (λ v. e.walk ≢ v) es i once.0, once-take es i once.1)
 
-fresh-take : (es : List Entry) (i : ℕ) (e : Entry) → slice_get es i ≡ Some e → IsJournal es → is_asked (take i es) e.walk ≡ false
+pub fresh-take : (es : List Entry) (i : ℕ) (e : Entry) → slice_get es i ≡ Some e → IsJournal es → is_asked (take i es) e.walk ≡ false
 fresh-take [] i e at once = cc
 fresh-take (x ∷ es) zero e at once = refl
 fresh-take (x ∷ es) (suc i) e at once =

@@ -5,6 +5,7 @@ use Rattle.std.proofs.lemmas.Bool.{false≢true}
 use Rattle.net_defs.specs.Turn.{is_turn}
 use Rattle.net_defs.specs.Examples.{two_hosts}
 use Rattle.net_defs.proofs.TwoHosts.{two_hosts_fabric}
+use Rattle.journal_defs.specs.declared.entry.Entry.{Entry}
 use Rattle.journal_defs.specs.Replicates.{Replicates}
 use Rattle.journal_defs.specs.Replicates.Replicates.{same}
 use Rattle.journal_defs.specs.Tree.{Node, Leads, host_of, node_below}
@@ -24,6 +25,7 @@ use Rattle.class_joins.specs.Adding.AddsEnd.{is_learnt, is_met}
 use Rattle.class_joins.specs.Asked.{CountsAsked, asked_turns}
 use Rattle.class_joins.specs.Heads.{MarksNames, head_at, own_head}
 use Rattle.class_joins.specs.Kept.{IsKept, IsShaped}
+use Rattle.replicate_merge.specs.AtOnce.{IsHostAlone}
 use Rattle.replicate_merge.specs.Seen.{class_table, kept_of}
 use Rattle.port_table.specs.Ends.{AddsPlaces}
 use Rattle.class_joins.specs.Rounds.{IsSettling, IsSettlingIn}
@@ -52,9 +54,9 @@ none-known (Address a) = refl
 none-known (Port c p) = no-ends p (is_turn p) refl
 
 -- the tables of the mapper's host alone, without ways
-base : (host : ℕ) (ends : List (Option NodePort)) → AddsPlaces [] ends → IsSettling host [] [] (Mapper ∷ []) [] (own_frame 0 ∷ []) ends [] [] (own_head 0 0 ∷ []) (0 ∷ []) (false ∷ [])
-base host ends adds = record {
-  truth = true_of_none host;
+base : (host : ℕ) (j : List Entry) → IsTrueOfOne host j → (ends : List (Option NodePort)) → AddsPlaces [] ends → IsSettling host j j (Mapper ∷ []) [] (own_frame 0 ∷ []) ends [] [] (own_head 0 0 ∷ []) (0 ∷ []) (false ∷ [])
+base host j truth ends adds = record {
+  truth = truth;
   knows = record {
     ways = λ w h. absurd (no-way w h);
     sound = record { framed = refl; placed = placed; rooted = rooted; replicates = replicates };
@@ -77,7 +79,7 @@ base host ends adds = record {
     rooted zero l = refl
     rooted (suc n) l = absurd (omega arith)
 
-    replicates : (n : ℕ) → n < 1 → Replicates host [] (node_at (Mapper ∷ []) n) (node_at (Mapper ∷ []) (frame_at (own_frame 0 ∷ []) n).class) (frame_at (own_frame 0 ∷ []) n).offset
+    replicates : (n : ℕ) → n < 1 → Replicates host j (node_at (Mapper ∷ []) n) (node_at (Mapper ∷ []) (frame_at (own_frame 0 ∷ []) n).class) (frame_at (own_frame 0 ∷ []) n).offset
     replicates zero l = same refl
     replicates (suc n) l = absurd (omega arith)
 
@@ -108,7 +110,7 @@ base host ends adds = record {
     no-walk-there zero w l e = cc
     no-walk-there (suc n) w l e = absurd (omega arith)
 
-    marked : MarksNames [] (Mapper ∷ []) (own_frame 0 ∷ []) (own_head 0 0 ∷ []) (false ∷ [])
+    marked : MarksNames j (Mapper ∷ []) (own_frame 0 ∷ []) (own_head 0 0 ∷ []) (false ∷ [])
     marked zero l = ((λ e. cc), (λ x. absurd (no-walk-there x.number x.walk x.below x.node)))
     marked (suc n) l = absurd (omega arith)
 
@@ -145,29 +147,37 @@ none-same old new h s = record {
   marks = s.marks ∙ h.marks;
 }
 
-start-settled : (host : ℕ) (t : Joined) → IsStart t → IsSettlingIn host [] [] (Mapper ∷ []) [] t t.todo.items
-start-settled host t s =
-    subst (λ (l : List Meeting). IsSettling host [] [] (Mapper ∷ []) [] t.frames.items t.ends.items t.hosts.items l t.heads.heads.items t.heads.names.items t.heads.marks.items) (sym s.todo)
-    (subst (λ (l : List HostNode). IsSettling host [] [] (Mapper ∷ []) [] t.frames.items t.ends.items l [] t.heads.heads.items t.heads.names.items t.heads.marks.items) (sym s.hosts)
-    (subst (λ (l : List Bool). IsSettling host [] [] (Mapper ∷ []) [] t.frames.items t.ends.items [] [] t.heads.heads.items t.heads.names.items l) (sym s.marks)
-    (subst (λ (l : List ℕ). IsSettling host [] [] (Mapper ∷ []) [] t.frames.items t.ends.items [] [] t.heads.heads.items l (false ∷ [])) (sym s.names)
-    (subst (λ (l : List Head). IsSettling host [] [] (Mapper ∷ []) [] t.frames.items t.ends.items [] [] l (0 ∷ []) (false ∷ [])) (sym s.heads)
-    (subst (λ (l : List ClassFrame). IsSettling host [] [] (Mapper ∷ []) [] l t.ends.items [] [] (own_head 0 0 ∷ []) (0 ∷ []) (false ∷ [])) (sym s.frames) (base host t.ends.items s.ends))))))
+start-settled : (host : ℕ) (j : List Entry) → IsTrueOfOne host j → (t : Joined) → IsStart t → IsSettlingIn host j j (Mapper ∷ []) [] t t.todo.items
+start-settled host j truth t s =
+    subst (λ (l : List Meeting). IsSettling host j j (Mapper ∷ []) [] t.frames.items t.ends.items t.hosts.items l t.heads.heads.items t.heads.names.items t.heads.marks.items) (sym s.todo)
+    (subst (λ (l : List HostNode). IsSettling host j j (Mapper ∷ []) [] t.frames.items t.ends.items l [] t.heads.heads.items t.heads.names.items t.heads.marks.items) (sym s.hosts)
+    (subst (λ (l : List Bool). IsSettling host j j (Mapper ∷ []) [] t.frames.items t.ends.items [] [] t.heads.heads.items t.heads.names.items l) (sym s.marks)
+    (subst (λ (l : List ℕ). IsSettling host j j (Mapper ∷ []) [] t.frames.items t.ends.items [] [] t.heads.heads.items l (false ∷ [])) (sym s.names)
+    (subst (λ (l : List Head). IsSettling host j j (Mapper ∷ []) [] t.frames.items t.ends.items [] [] l (0 ∷ []) (false ∷ [])) (sym s.heads)
+    (subst (λ (l : List ClassFrame). IsSettling host j j (Mapper ∷ []) [] l t.ends.items [] [] (own_head 0 0 ∷ []) (0 ∷ []) (false ∷ [])) (sym s.frames) (base host j truth t.ends.items s.ends))))))
 
 module _ (host : ℕ) (none one two : Joined) (h : HasNoNodes none) (a : AddsNode false none one) (adds : AddsEnd (Address host) (far_end (Host host 0)) (known_at one.hosts.items one.ends.items) (known_at two.hosts.items two.ends.items) one.todo.items two.todo.items) (frames : two.frames ≡ one.frames) (heads : two.heads ≡ one.heads) (ends : length two.ends.items ≡ length one.ends.items) where
   s : IsStart one
   s = start-of none one h a
 
   -- no pair is open
-  pub start-closed : two.todo.items ≡ []
+  start-closed : two.todo.items ≡ []
   start-closed = by adds
     where
       by : AddsEnd (Address host) (far_end (Host host 0)) (known_at one.hosts.items one.ends.items) (known_at two.hosts.items two.ends.items) one.todo.items two.todo.items → two.todo.items ≡ []
       by (is_learnt l kept) = kept ∙ s.todo
       by (is_met first old other met) = let both : None ≡ Some first = ap (λ (l : List HostNode). known_at l one.ends.items (Address host)) (sym s.hosts) ∙ old in cc
 
-  settled : IsSettlingIn host [] [] (Mapper ∷ []) (Host host 0 ∷ []) two []
-  settled = subst (λ (l : List Meeting). IsSettlingIn host [] [] (Mapper ∷ []) (Host host 0 ∷ []) two l) start-closed (way-added host [] [] (Mapper ∷ []) [] one two (Host host 0) (start-settled host one s) (omega arith, refl) adds frames heads ends)
+  settled : (j : List Entry) → IsTrueOfOne host j → IsSettlingIn host j j (Mapper ∷ []) (Host host 0 ∷ []) two []
+  settled j truth = subst (λ (l : List Meeting). IsSettlingIn host j j (Mapper ∷ []) (Host host 0 ∷ []) two l) start-closed (way-added host j j (Mapper ∷ []) [] one two (Host host 0) (start-settled host j truth one s) (omega arith, refl) adds frames heads ends)
+
+  -- the mapper's host alone
+  pub start-alone : IsHostAlone host two
+  start-alone = record { settled = settled; closed = start-closed }
+
+module _ (host : ℕ) (two : Joined) (alone : IsHostAlone host two) where
+  settled-none : IsSettlingIn host [] [] (Mapper ∷ []) (Host host 0 ∷ []) two []
+  settled-none = alone.settled [] (true_of_none host)
 
   are : AreWays host [] (Mapper ∷ []) (Host host 0 ∷ [])
   are = record {
@@ -197,7 +207,7 @@ module _ (host : ℕ) (none one two : Joined) (h : HasNoNodes none) (a : AddsNod
   kept = record {
     ways = Host host 0 ∷ [];
     are = are;
-    settled = settled;
+    settled = settled-none;
     asked = counts;
     orphans = record { only = λ w e. absurd (false≢true e); each = λ w t e. cc; none = λ e w t q. absurd (false≢true q) };
   }
@@ -211,7 +221,7 @@ module _ (host : ℕ) (none one two : Joined) (h : HasNoNodes none) (a : AddsNod
   pub start-table : (walks orphans : List (List ℤ)) (asked : List ℕ) → walks ≡ [] → IsTable (class_table walks (kept_of two asked orphans false) two.heads.marks.items)
   start-table walks orphans asked p =
       subst (λ (l : List (List ℤ)). IsTable (class_table l (kept_of two asked orphans false) two.heads.marks.items)) (sym p)
-      (table-kept host [] [] (Mapper ∷ []) (Host host 0 ∷ []) two.frames.items two.ends.items two.hosts.items two.heads.heads.items two.heads.names.items two.heads.marks.items settled (kept_of two asked orphans false) (omega arith))
+      (table-kept host [] [] (Mapper ∷ []) (Host host 0 ∷ []) two.frames.items two.ends.items two.hosts.items two.heads.heads.items two.heads.names.items two.heads.marks.items settled-none (kept_of two asked orphans false) (omega arith))
 
   pub start-shape : (orphans : List (List ℤ)) (asked : List ℕ) → asked ≡ 0 ∷ [] → IsShaped (kept_of two asked orphans false)
-  start-shape orphans asked r = shape-kept host [] [] (Mapper ∷ []) (Host host 0 ∷ []) two.frames.items two.ends.items two.hosts.items two.heads.heads.items two.heads.names.items two.heads.marks.items settled asked orphans false (subst (λ (l : List ℕ). CountsAsked [] (Mapper ∷ []) l) (sym r) counts)
+  start-shape orphans asked r = shape-kept host [] [] (Mapper ∷ []) (Host host 0 ∷ []) two.frames.items two.ends.items two.hosts.items two.heads.heads.items two.heads.names.items two.heads.marks.items settled-none asked orphans false (subst (λ (l : List ℕ). CountsAsked [] (Mapper ∷ []) l) (sym r) counts)

@@ -1,7 +1,9 @@
+pub mod AtOnce
 pub mod Behind
 pub mod Between
 pub mod Cables
 pub mod Merged
 pub mod Next
 pub mod Onward
+pub mod Own
 pub mod Seen

@@ -14,19 +14,19 @@ ghost use Rattle.replicate_merge.specs.Between.{AddsEntry, CountsTurn, HasSeenFr
 ghost use Rattle.replicate_merge.specs.Between.{turns_of, with_orphan};
 ghost use Rattle.replicate_merge.specs.Merged.{without_tables};
 
+use crate::at_once::joined_at_once;
 use crate::fronts::{Front, front_of};
+use crate::journals::{count_turns, found_walks, orphans_of};
 use crate::merged::Merged;
 use crate::pushing::{asked_behind, ways_added};
-use crate::ways::is_found;
-use class_joins::{Joined, Way};
+use crate::starting::lone_host;
+use crate::ways::{TURNS, is_found};
+use class_joins::Joined;
 use net_defs::Walk;
 use port_align::ClassFrame;
 use probe::{Entry, Journal, WalkIndex};
 use std::alloc::{AllocError, Global};
 use std::marker::Model;
-
-// How many turns a node has.
-const TURNS: u8 = 30;
 
 /// The classes of a journal's nodes. Contracts see the nodes by number, their frames, and which classes have an
 /// expanded member.
@@ -38,7 +38,7 @@ pub struct Classes {
     walks: WalkIndex,
     // The walks that found nothing and had no node in front when they were asked.
     orphans: WalkIndex,
-    // Whether any walk had no node in front when it was asked.
+    // Whether any walk may have had no node in front when it was asked.
     ahead: bool,
     // How many of its 30 turns are asked, for each node.
     asked: Vec<u8>,
@@ -66,15 +66,9 @@ impl Classes {
     pub fn new(alloc: Global, host: u16) -> Result<Classes, AllocError>
         ensures { IfOk result (λ c. StandsFor host [] c) }
     {
-        let mut joined = Joined::new(alloc);
-        joined.reserve(1)?;
         let mut asked = Vec::new(alloc);
         asked.push(0)?;
-        joined.add_node(false);
-        joined.add_way(&Way::Host {
-            address: host,
-            node: 0,
-        });
+        let joined = lone_host(alloc, host)?;
         Ok(Classes {
             walks: WalkIndex::new(alloc),
             orphans: WalkIndex::new(alloc),
@@ -84,18 +78,24 @@ impl Classes {
         })
     }
 
-    /// The classes of a journal whose answers other than Nothing are true of one fabric.
+    /// The classes of a journal whose answers other than Nothing are true of one fabric: all its nodes and all its ways
+    /// at once, whatever the order of its entries. The next pushes look behind each new node.
     pub fn from_journal(alloc: Global, j: &Journal) -> Result<Classes, AllocError>
         requires true_of_one { IsTrueOfOne j.now.host j.now.entries }
         requires few { length j.now.entries < 4294967295 }
         ensures { IfOk result (λ c. StandsFor j.now.host j.now.entries c) }
     {
-        let entries = j.entries();
-        let mut classes = Classes::new(alloc, j.host())?;
-        for e in entries {
-            classes.push(alloc, e)?;
-        }
-        Ok(classes)
+        let walks = found_walks(alloc, j)?;
+        let asked = count_turns(alloc, j, &walks)?;
+        let orphans = orphans_of(alloc, j, &walks)?;
+        let joined = joined_at_once(alloc, j, &walks, &asked)?;
+        Ok(Classes {
+            walks,
+            orphans,
+            ahead: true,
+            asked,
+            joined,
+        })
     }
 
     /// Goes on to the journal with one entry more. All memory is taken before the first change.

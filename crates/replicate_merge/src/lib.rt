@@ -13,8 +13,9 @@
 //! ways that begin at one spot end at one spot, so the two nodes in front of host b are one switch, whose ports lie
 //! 3 apart.
 //!
-//! `class_joins` joins the classes: an entry adds a node and its ways, and then pairs of ports that are one are joined until none is
-//! open. So each entry costs what it changes.
+//! `class_joins` joins the classes: an entry adds a node and its ways, and then pairs of ports that are one are joined
+//! until none is open. So each entry costs what it changes. The classes of a whole journal are made at once: all nodes,
+//! then all ways, and then the joins, whatever the order of the entries.
 //!
 //! | module | has |
 //! |---|---|
@@ -23,12 +24,18 @@
 //! | `fronts` | what stands in front of a walk |
 //! | `pushing` | the ways that an entry adds |
 //! | `ways` | the ways of a node |
+//! | `starting` | the mapper's host alone |
+//! | `journals` | the nodes, asked turns and orphans of a whole journal |
+//! | `at_once` | the classes of a whole journal joined at once |
 #![tactic(auto)]
 
+mod at_once;
 mod classes;
 mod fronts;
+mod journals;
 mod merged;
 mod pushing;
+mod starting;
 mod ways;
 
 pub use classes::Classes;

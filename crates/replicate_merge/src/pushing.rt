@@ -7,7 +7,7 @@ ghost use Rattle.class_joins.specs.Nodes.{nodes_of};
 ghost use Rattle.replicate_merge.specs.Onward.{AddsBelow, AreNewWays, AreOnce, is_known, known_among};
 ghost use Rattle.replicate_merge.specs.Behind.{AddsBehind};
 
-use crate::ways::{push_both, push_cables, push_host};
+use crate::ways::{own_ways, push_both};
 use class_joins::Way;
 use net_defs::Answer;
 use probe::WalkIndex;
@@ -34,9 +34,7 @@ pub(crate) fn ways_added(
         (length walks.now + 1) ahead ways.items) }
 {
     let node = (walks.len() + 1) as u32;
-    let mut ways = Vec::new(alloc);
-    push_host(&mut ways, Some(answer), node)?;
-    push_cables(&mut ways, walks, walk, node)?;
+    let mut ways = own_ways(alloc, walks, walk, answer, node)?;
     if !ahead {
         return Ok(ways);
     }

@@ -1,13 +1,19 @@
 //! The ways of one node.
 
-ghost use Rattle.std.specs.Prelude.{◌≡◌, ◌+◌, ◌++◌, ◌<◌, ◌^◌, length, OnOk};
+ghost use Rattle.std.specs.Prelude.{◌≡◌, ◌+◌, ◌++◌, ◌<◌, ◌^◌, length, Some, IfOk, OnOk};
 ghost use Rattle.journal_defs.specs.Tree.{is_found};
+ghost use Rattle.class_joins.specs.Nodes.{nodes_of};
 ghost use Rattle.replicate_merge.specs.Cables.{host_ways, both_ways, AddsCables};
+ghost use Rattle.replicate_merge.specs.Onward.{AreOnce};
+ghost use Rattle.replicate_merge.specs.Own.{AreOwnWays};
 
 use class_joins::Way;
 use net_defs::Answer;
 use probe::WalkIndex;
-use std::alloc::AllocError;
+use std::alloc::{AllocError, Global};
+
+/// How many turns a node has.
+pub(crate) const TURNS: u8 = 30;
 
 /// Whether a host or a switch was found.
 pub(crate) fn is_found(answer: Answer) -> bool
@@ -19,12 +25,27 @@ pub(crate) fn is_found(answer: Answer) -> bool
     }
 }
 
-/// Adds the way of a node that is a host.
-pub(crate) fn push_host(
-    ways: &mut Vec<Way>,
-    answer: Option<Answer>,
+/// The ways that an entry tells of by itself: of the host at its node, and between its node and the one in front.
+pub(crate) fn own_ways(
+    alloc: Global,
+    walks: &WalkIndex,
+    walk: &[i8],
+    answer: Answer,
     node: u32,
-) -> Result<(), AllocError>
+) -> Result<Vec<Way>, AllocError>
+    requires few { length walks.now + 1 < 2 ^ 32 }
+    requires once { AreOnce (nodes_of walks.now) }
+    ensures { IfOk result (λ ways. AreOwnWays (nodes_of walks.now) (record { walk = walk.now; answer = answer }) node
+        ways.items) }
+{
+    let mut ways = Vec::new(alloc);
+    push_host(&mut ways, Some(answer), node)?;
+    push_cables(&mut ways, walks, walk, node)?;
+    Ok(ways)
+}
+
+// Adds the way of a node that is a host.
+fn push_host(ways: &mut Vec<Way>, answer: Option<Answer>, node: u32) -> Result<(), AllocError>
     ensures { OnOk result (ways.new.items ≡ ways.old.items ++ host_ways answer node) }
 {
     if let Some(Answer::Host(address)) = answer {
@@ -33,8 +54,8 @@ pub(crate) fn push_host(
     Ok(())
 }
 
-/// Adds the ways between a node and the one in front of it, where that is there.
-pub(crate) fn push_cables(
+// Adds the ways between a node and the one in front of it, where that is there.
+fn push_cables(
     ways: &mut Vec<Way>,
     walks: &WalkIndex,
     walk: &[i8],

@@ -1,7 +1,5 @@
-use Rattle.std.proofs.Common.{◌≡◌, ◌+◌, ◌++◌, [], List, false, true, Some, length, ap, sym, ◌∙◌, subst}
+use Rattle.std.proofs.Common.{◌≡◌, ◌+◌, false, true, length, sym, subst}
 use Rattle.journal_defs.specs.declared.entry.Entry.{Entry}
-use Rattle.class_joins.specs.declared.way.Way.{Way}
-use Rattle.replicate_merge.specs.Cables.{host_ways}
 use Rattle.class_joins.specs.Nodes.{nodes_of}
 use Rattle.replicate_merge.specs.Onward.{AreNewWays}
 use Rattle.replicate_merge.proofs.Behind.{ways-ahead, ways-plain}
@@ -12,22 +10,18 @@ returns-then-not-ahead c =
     let walks = c.args.walks.now in
     let e : Entry = record { walk = c.args.walk.now; answer = c.args.answer } in
     let n = c.len.result + 1 in
-    let hosts = c.push_host.new.ways.items in
-    let ways = c.push_cables.new.ways.items in
-    let is_hosts : hosts ≡ [] ++ host_ways (Some c.args.answer) n = c.in_ok-push_host.ensures ∙ ap (λ (l : List Way). l ++ host_ways (Some c.args.answer) n) c.new-ways.ensures.items in
+    let ways = c.in_ok-ways.ways.items in
     let off : c.args.ahead ≡ false = c.if-not-ahead.true in
     subst (λ b. AreNewWays (nodes_of walks) e (length walks + 1) b ways) (sym off)
-    (subst (λ k. AreNewWays (nodes_of walks) e (k + 1) false ways) c.len.ensures (ways-plain walks c.requires.once e n hosts ways is_hosts c.in_ok-push_cables.ensures))
+    (subst (λ k. AreNewWays (nodes_of walks) e (k + 1) false ways) c.len.ensures (ways-plain walks e n ways c.in_ok-ways.ensures))
 
 pub returns : goal.returns
 returns c =
     let walks = c.args.walks.now in
     let e : Entry = record { walk = c.args.walk.now; answer = c.args.answer } in
     let n = c.len.result + 1 in
-    let hosts = c.push_host.new.ways.items in
-    let ways = c.push_cables.new.ways.items in
-    let is_hosts : hosts ≡ [] ++ host_ways (Some c.args.answer) n = c.in_ok-push_host.ensures ∙ ap (λ (l : List Way). l ++ host_ways (Some c.args.answer) n) c.new-ways.ensures.items in
+    let ways = c.in_ok-ways.ways.items in
     let all = c.push_all_behind.new.ways.items in
     let on : c.args.ahead ≡ true = c.if-not-ahead.false in
     subst (λ b. AreNewWays (nodes_of walks) e (length walks + 1) b all) (sym on)
-    (subst (λ k. AreNewWays (nodes_of walks) e (k + 1) true all) c.len.ensures (ways-ahead walks c.requires.once e n hosts ways is_hosts c.in_ok-push_cables.ensures all c.in_ok-push_all_behind.ensures))
+    (subst (λ k. AreNewWays (nodes_of walks) e (k + 1) true all) c.len.ensures (ways-ahead walks e n ways c.in_ok-ways.ensures all c.in_ok-push_all_behind.ensures))

@@ -1,6 +1,0 @@
-use Rattle.std.proofs.Common.{take}
-use Rattle.class_joins.specs.Table.{StandsFor}
-use Rattle.replicate_merge.proofs.classes.Classes.from_journal.Given as goal
-
-abbrev pub invariant-loop-e : goal.invariant-loop-e
-invariant-loop-e l = StandsFor l.j.host (take l.e-index l.entries) l.classes
