@@ -15,7 +15,7 @@ use Rattle.world_drain.specs.declared.seen.Watch.{Watch}
 use Rattle.world_drain.specs.declared.seen.Seen.{Seen}
 use Rattle.world_drain.specs.Watch.{seen_in, seen_then}
 use Rattle.world_drain.proofs.Watching.{seen-append}
-use Rattle.world_drain.proofs.Passing.{pass-end}
+use Rattle.world_drain.proofs.Passing.{empty-still, pass-end}
 use Rattle.world_drain.proofs.Passed.{whole}
 
 -- advances of which none changed anything leave the world
@@ -42,7 +42,7 @@ pass-same w e = advances-same w (channels_of w) e
 -- a pass over links without a packet changes nothing
 pub idle-rests : (watch : Watch) (w : WorldState) → is_idle w.links ≡ true → changes (pass w).0 ≡ 0
 idle-rests watch w idle =
-    let end = pass-end watch w 0 (length w.links.channels) (λ k low. idle-empty w.links.channels idle k) in
+    let end = pass-end watch w 0 (length w.links.channels) (λ k low. empty-still w k (idle-empty w.links.channels idle k)) in
     ap (λ r. changes r.0) (sym (whole w)) ∙ ap (λ s. s.changes) end.0
 
 -- Passes that each changed something lead from the first world to this one, and this is seen of them.

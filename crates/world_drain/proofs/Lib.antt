@@ -18,6 +18,7 @@ pub mod Resets
 pub mod Risen
 pub mod RoundRows
 pub mod Running
+pub mod Sleeping
 pub mod Summing
 pub mod Telling
 pub mod Tries

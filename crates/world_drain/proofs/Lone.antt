@@ -29,7 +29,7 @@ use Rattle.world_drain.specs.declared.seen.Seen.{Seen}
 use Rattle.world_drain.specs.Watch.{seen_in, seen_then}
 use Rattle.world_drain.specs.Part.{IsDrainedTo}
 use Rattle.world_drain.proofs.Watching.{then-in-a-row, then-nothing, then-moved, hopped, hopped-then, unchanged-nothing}
-use Rattle.world_drain.proofs.Passing.{empty-idle, skip-empty, advances_from, pass-on, pass-end}
+use Rattle.world_drain.proofs.Passing.{empty-idle, empty-still, skip-empty, advances_from, pass-on, pass-end}
 use Rattle.world_drain.proofs.Passed.{whole}
 use Rattle.world_drain.proofs.Parts.{drained-none, drained-still, drained-on, drained-pass}
 
@@ -49,10 +49,10 @@ range-parts f (suc first) from all next rest a n =
 abbrev AreStill : WorldState → List Event → Type 0
 AreStill w es = AllByRecursion (λ e. (step w e).1 ≡ w) es
 
-empty-still : (w : WorldState) (n from : ℕ) → ((k : ℕ) → from ≤ k → k < from + n → packet_in w.links k ≡ None) → AreStill w (map Advance (range_with_len from n))
-empty-still w zero from empty = tt
-empty-still w (suc n) from empty =
-    (ap (λ r. r.1) (empty-idle w from (empty from (omega arith) (omega arith))), empty-still w n (from + 1) (λ k low high. empty k (omega (arith, low)) (omega (arith, high))))
+empties-still : (w : WorldState) (n from : ℕ) → ((k : ℕ) → from ≤ k → k < from + n → packet_in w.links k ≡ None) → AreStill w (map Advance (range_with_len from n))
+empties-still w zero from empty = tt
+empties-still w (suc n) from empty =
+    (ap (λ r. r.1) (empty-idle w from (empty from (omega arith) (omega arith))), empties-still w n (from + 1) (λ k low high. empty k (omega (arith, low)) (omega (arith, high))))
 
 heads : (d e : Event) (ds es : List Event) → d ∷ ds ≡ e ∷ es → d ≡ e
 heads d e ds es is = cc
@@ -105,7 +105,7 @@ first-pass : (watch : Watch) (w v : WorldState) (x : Effect) (c at : ℕ) → Is
 first-pass watch w v x c at s =
     let count = length w.links.channels in
     let low = s.low in
-    let on = pass-on watch w 0 count c (omega arith) low (λ k a b. s.others k (λ same. omega (arith, same, b))) in (
+    let on = pass-on watch w 0 count c (omega arith) low (λ k a b. empty-still w k (s.others k (λ same. omega (arith, same, b)))) in (
       ap (λ r. seen_in watch r.0) (sym (whole w)) ∙ on.0 ∙ ap (λ r. seen_then (seen_in watch (r.0 ∷ [])) (seen_in watch (advances_from r.1 (c + 1) count).0)) s.is,
       ap (λ r. r.1) (sym (whole w)) ∙ on.1 ∙ ap (λ r. (advances_from r.1 (c + 1) count).1) s.is,
     )
@@ -114,7 +114,7 @@ first-pass watch w v x c at s =
 below : (watch : Watch) (w v : WorldState) (x : Effect) (c at : ℕ) → IsLoneStep w v x c at → at ≤ c → IsDrainedTo watch w v (seen_in watch (x ∷ []))
 below watch w v x c at s low =
     let first = first-pass watch w v x c at s in
-    let end = pass-end watch v (c + 1) (length w.links.channels) (λ k high. s.left k (λ same. omega (arith, same, high, low))) in
+    let end = pass-end watch v (c + 1) (length w.links.channels) (λ k high. empty-still v k (s.left k (λ same. omega (arith, same, high, low)))) in
     let shown : seen_in watch (pass w).0 ≡ seen_in watch (x ∷ []) = first.0 ∙ ap (seen_then (seen_in watch (x ∷ []))) end.0 ∙ then-nothing watch (seen_in watch (x ∷ [])) in
     let there : (pass w).1 ≡ v = first.1 ∙ end.1 in
     subst (λ u. IsDrainedTo watch w u (seen_in watch (x ∷ []))) there (subst (IsDrainedTo watch w (pass w).1) shown (drained-pass watch w))
@@ -124,7 +124,7 @@ first-led : (watch : Watch) (w v : WorldState) (x : Effect) (c at : ℕ) → IsL
 first-led watch w v x c at s =
     let none : c + 1 - (c + 1) ≡ 0 = omega arith in
     let all : c + 1 - 0 ≡ c + 1 = omega arith in
-    let on = pass-on watch w 0 (c + 1) c (omega arith) (omega arith) (λ k a b. s.others k (λ same. omega (arith, same, b))) in
+    let on = pass-on watch w 0 (c + 1) c (omega arith) (omega arith) (λ k a b. empty-still w k (s.others k (λ same. omega (arith, same, b)))) in
     sym (ap (λ r. r.1) s.is)
     ∙ sym (ap (λ n. (steps (step w (Advance c)).1 (map Advance (range_with_len (c + 1) n))).1) none)
     ∙ sym on.1
@@ -157,7 +157,7 @@ way-above watch w v u x c at s high some same p =
     events = drain-goes_on w some ∙ ap (λ es. es ++ more) (all-channels w c count s.low refl) ∙ append_assoc front back more
 
     still : AreStill v front
-    still = empty-still v (c + 1) 0 (λ k a b. s.left k (λ e. omega (arith, e, b, high)))
+    still = empties-still v (c + 1) 0 (λ k a b. s.left k (λ e. omega (arith, e, b, high)))
 
     by : (b : Bool) → nat_eq (changes (pass v).0) 0 ≡ b → IsPartWay v (back ++ more) u
     by true is =

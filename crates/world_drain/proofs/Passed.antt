@@ -2,7 +2,6 @@
 use Rattle.std.proofs.Common.{◌≡◌, ◌<◌, ◌≤◌, ℕ, ◌+◌, ◌-◌, [], ◌∷◌, map, length, Option, Some, None, refl, sym, ◌∙◌, ap, subst, arith}
 use Rattle.std.specs.Prelude.{IfSome}
 use Rattle.std.specs.List.{range_with_len}
-use Rattle.link_defs.specs.Links.{packet_in}
 use Rattle.world_defs.specs.declared.event.Event.TheVariants.{Advance}
 use Rattle.world_defs.specs.Node.{either}
 use Rattle.world_defs.specs.World.{WorldState, fabric_of, host_count}
@@ -13,8 +12,9 @@ use Rattle.event_lists.proofs.PartWay.{way-first, way-next}
 use Rattle.world_drain.specs.declared.seen.Watch.{Watch}
 use Rattle.world_drain.specs.declared.seen.Seen.{Seen}
 use Rattle.world_drain.specs.Watch.{seen_in, seen_then}
+use Rattle.world_drain.specs.Awake.{IsStill}
 use Rattle.world_drain.proofs.Watching.{seen-append, then-in-a-row, then-nothing}
-use Rattle.world_drain.proofs.Passing.{empty-idle, advances_from, pass-on, pass-end}
+use Rattle.world_drain.proofs.Passing.{still-world, advances_from, pass-on, pass-end}
 
 pub record Passed (watch : Watch) (first now : WorldState) (from : ℕ) (seen : Seen) : Type 0 where
   pub within : from ≤ length now.links.channels
@@ -53,14 +53,14 @@ first-heard n m None (Some h) e f g = subst (λ k. h < k) e g
 first-heard n m None None e f g = tt
 
 pub passed-on : (watch : Watch) (first now next : WorldState) (from c : ℕ) (seen one both : Seen) → Passed watch first now from seen
-    → from ≤ c → c < length now.links.channels → ((k : ℕ) → from ≤ k → k < c → packet_in now.links k ≡ None)
+    → from ≤ c → c < length now.links.channels → ((k : ℕ) → from ≤ k → k < c → IsStill now k)
     → one ≡ seen_in watch ((step now (Advance c)).0 ∷ []) → one.changes ≤ 1 → IfSome one.probed (λ h. h < host_count now) → next ≡ (step now (Advance c)).1
     → fabric_of next ≡ fabric_of now → host_count next ≡ host_count now → length next.links.channels ≡ length now.links.channels → both ≡ seen_then seen one
     → Passed watch first next (c + 1) both
-passed-on watch first now next from c seen one both p low high empty shows few heard is net hosts channels made =
+passed-on watch first now next from c seen one both p low high still shows few heard is net hosts channels made =
     let count = length now.links.channels in
     let rest = seen_in watch (advances_from next (c + 1) (length next.links.channels)).0 in
-    let on = pass-on watch now from count c low high empty in
+    let on = pass-on watch now from count c low high still in
     let same : advances_from next (c + 1) (length next.links.channels) ≡ advances_from (step now (Advance c)).1 (c + 1) count =
     ap (λ n. advances_from next (c + 1) n) channels ∙ ap (λ w. advances_from w (c + 1) count) is in
     let changes : both.changes ≡ seen.changes + one.changes = ap (λ s. s.changes) made in
@@ -76,15 +76,15 @@ passed-on watch first now next from c seen one both p low high empty shows few h
           ∙ ap (seen_then seen) (sym on.0) ∙ p.shown;
       after = ap (λ r. r.1) same ∙ sym on.1 ∙ p.after;
       heard = subst (λ s. IfSome s.probed (λ h. h < host_count first)) (sym made) (first-heard (host_count first) (host_count now) seen.probed one.probed p.hosts p.heard heard);
-      way = λ v q. p.way v (way-next Advance now next v from (length first.links.channels) c low (omega (arith, high, as_many)) (λ k a b. sym (ap (λ r. r.1) (empty-idle now k (empty k a b)))) is q);
+      way = λ v q. p.way v (way-next Advance now next v from (length first.links.channels) c low (omega (arith, high, as_many)) (λ k a b. sym (still-world now k (still k a b))) is q);
       fabric = net ∙ p.fabric;
       hosts = hosts ∙ p.hosts;
       channels = channels ∙ p.channels;
     }
 
--- at the end all channels from here on are empty
+-- at the end no channel from here on may change anything
 pub passed-all : (watch : Watch) (first now : WorldState) (from : ℕ) (seen : Seen) → Passed watch first now from seen
-    → ((k : ℕ) → from ≤ k → packet_in now.links k ≡ None) → (seen ≡ seen_in watch (pass first).0) × (now ≡ (pass first).1)
-passed-all watch first now from seen p empty =
-    let end = pass-end watch now from (length now.links.channels) empty in
+    → ((k : ℕ) → from ≤ k → IsStill now k) → (seen ≡ seen_in watch (pass first).0) × (now ≡ (pass first).1)
+passed-all watch first now from seen p still =
+    let end = pass-end watch now from (length now.links.channels) still in
     (sym (then-nothing watch seen) ∙ ap (seen_then seen) (sym end.0) ∙ p.shown, sym end.1 ∙ p.after)

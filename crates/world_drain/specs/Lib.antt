@@ -1,3 +1,4 @@
+pub mod Awake
 pub mod Part
 pub mod Rounds
 pub mod Settling

@@ -12,9 +12,13 @@ ghost use Rattle.channel_slots.specs.Full.{IsLone};
 ghost use Rattle.world_drain.specs.Watch.{seen_in, seen_then};
 ghost use Rattle.world_drain.specs.Part.{IsDrainedTo};
 
+use crate::crowded::drain_crowded;
 use crate::seen::{Seen, Watch};
 use fab_world::{Hop, World};
 use std::alloc::{AllocError, Global};
+
+// From so many packets that a pass moved on, channels that wait are worth a note.
+const MANY: u64 = 16;
 
 /// Advances packets until none moves any more: how many advances changed something, at most the hops that the packets
 /// had left. Want of memory leaves a world that a prefix of the drain's events leads to.
@@ -46,8 +50,46 @@ pub fn drain_watching(alloc: Global, w: &mut World, watch: Watch) -> Result<Seen
     if w.links_idle() {
         return Ok(first);
     }
-    let rest = drain_by_passes(alloc, w, &watch)?;
+    let rest = drain_rest(alloc, w, &watch)?;
     Ok(first.then(rest))
+}
+
+// A pass, and then the drain of what it leaves.
+fn drain_rest(alloc: Global, w: &mut World, watch: &Watch) -> Result<Seen, AllocError>
+    ensures seen { IfOk result (λ s. s ≡ seen_in watch.now (drain w.old).0) }
+    ensures few { IfOk result (λ s. s.changes ≤ 1275264) }
+    ensures heard { IfOk result (λ s. IfSome s.probed (λ h. h < host_count w.old)) }
+    ensures after { OnOk result (w.new ≡ (drain w.old).1) }
+    ensures err { OnErr result (IsPartWay w.old (drain_events w.old) w.new) }
+    ensures fabric { fabric_of w.new ≡ fabric_of w.old }
+    ensures hosts { host_count w.new ≡ host_count w.old }
+{
+    let _few = w.hops_bound();
+    let once = pass(alloc, w, watch)?;
+    let rest = drain_behind(alloc, w, watch, once.changes)?;
+    Ok(once.then(rest))
+}
+
+// A drain behind a pass with so many changes. Where many packets are on their way, many may wait at each pass.
+fn drain_behind(
+    alloc: Global,
+    w: &mut World,
+    watch: &Watch,
+    changes: u64,
+) -> Result<Seen, AllocError>
+    ensures seen { IfOk result (λ s. s ≡ seen_in watch.now (drain w.old).0) }
+    ensures few { IfOk result (λ s. s.changes ≤ 1275264) }
+    ensures heard { IfOk result (λ s. IfSome s.probed (λ h. h < host_count w.old)) }
+    ensures after { OnOk result (w.new ≡ (drain w.old).1) }
+    ensures err { OnErr result (IsPartWay w.old (drain_events w.old) w.new) }
+    ensures fabric { fabric_of w.new ≡ fabric_of w.old }
+    ensures hosts { host_count w.new ≡ host_count w.old }
+{
+    if changes < MANY {
+        drain_by_passes(alloc, w, watch)
+    } else {
+        drain_crowded(alloc, w, watch)
+    }
 }
 
 // A packet that is alone in the links leaves them. Where they hold more, or none, nothing happens yet.

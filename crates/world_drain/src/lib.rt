@@ -17,6 +17,8 @@
 //! |---|---|
 //! | `seen` | what a mapper looks for in what happens |
 //! | `draining` | a drain |
+//! | `crowded` | a drain of many packets, in which channels that wait for another are passed by |
+//! | `awake` | the channels that may go on |
 //! | `happening` | one event, and what is told of it |
 //! | `giving_up` | every host gives up what it staged |
 //! | `clearing` | a clear |
@@ -25,7 +27,9 @@
 //! | `rounds` | a settle |
 #![tactic(auto)]
 
+mod awake;
 mod clearing;
+mod crowded;
 mod draining;
 mod giving_up;
 mod happening;

@@ -19,7 +19,7 @@ returns-then-links_idle-clause-after c =
     (drained-idle c.args.watch c.args.w.now c.run_out.new.w c.in_ok-first.first c.in_ok-first.ensures.part (sym c.links_idle.ensures ∙ c.if-links_idle.true)).1
 
 pub returns-in_err-rest-clause-err : goal.returns-in_err-rest-clause-err
-returns-in_err-rest-clause-err c = on-any c.from_residual-in_err-rest.result (c.in_ok-first.ensures.part.way c.drain_by_passes.new.w c.in_err-rest.ensures.err)
+returns-in_err-rest-clause-err c = on-any c.from_residual-in_err-rest.result (c.in_ok-first.ensures.part.way c.drain_rest.new.w c.in_err-rest.ensures.err)
 
 pub then-requires : goal.then-requires
 then-requires c =

@@ -1,0 +1,173 @@
+//! Channels of a drain that may go on.
+//!
+//! A channel whose packet was found waiting for another one sleeps until that is emptied: so it is tried again where
+//! something has changed for it, and not at each pass.
+//!
+//! ```text
+//!   places    c c c . .. .    c . .. .    ..        a row of 16 for each channel: those that wait for it
+//!   counts    3               1           ..        how many of each row are in use
+//! ```
+
+ghost use Rattle.std.specs.Prelude.{◌≡◌, ◌≢◌, ℕ, ◌+◌, ◌*◌, ◌<◌, ◌≤◌, length, slice_index_or, slice_set, None, IfOk};
+ghost use Rattle.std.specs.Prelude.{IfSome, IfNone};
+ghost use Rattle.link_defs.specs.Links.{packet_in};
+ghost use Rattle.number_marks.specs.Marks.{IsWritten, mark_at};
+ghost use Rattle.world_drain.specs.Awake.{AreAwake, AreAwakeBut, AreAwakeOnce, IsNextAwake, IsStill, WaitsFor};
+
+use fab_world::World;
+use number_marks::Marks;
+use std::alloc::{AllocError, Global};
+
+// How many channels may wait for one. More stay awake.
+const PLACES: u16 = 16;
+
+/// The channels that are awake, and for each channel those that wait for it.
+#[derive(Drop)]
+pub(crate) struct Awake {
+    marks: Marks,
+    places: Vec<u16>,
+    counts: Vec<u16>,
+}
+
+impl Awake {
+    /// Each channel that holds a packet is awake.
+    pub(crate) fn new(alloc: Global, w: &World) -> Result<Awake, AllocError>
+        ensures { IfOk result (λ a. AreAwake w.now.links a.marks a.places.items a.counts.items) }
+    {
+        let channels = usize::from(w.channels());
+        let mut marks = Marks::new(alloc, channels)?;
+        mark_full(w, &mut marks);
+        let places = vec![in alloc; 0; 16 * channels]?;
+        let counts = vec![in alloc; 0; channels]?;
+        Ok(Awake {
+            marks,
+            places,
+            counts,
+        })
+    }
+
+    /// The least channel that is awake and isn't below a number. An advance of one before it would change nothing.
+    pub(crate) fn next(&self, w: &World, from: u16) -> Option<u16>
+        requires { AreAwake w.now.links self.now.marks self.now.places.items self.now.counts.items }
+        ensures found { IfSome result (IsNextAwake w.now from) }
+        ensures none { IfNone result ((c : ℕ) → from ≤ c → IsStill w.now c) }
+    {
+        match self.marks.next(usize::from(from)) {
+            Some(c) if c < usize::from(w.channels()) => Some(c as u16),
+            _ => None,
+        }
+    }
+
+    /// A channel's packet waits for another channel: it sleeps, if there is a place for it in that one's row.
+    pub(crate) fn blocked(&mut self, w: &World, c: u16, next: u16)
+        requires awake { AreAwake w.now.links self.old.marks self.old.places.items self.old.counts.items }
+        requires waits { WaitsFor w.now.links c next }
+        requires there { c < length w.now.links.channels }
+        ensures { AreAwake w.now.links self.new.marks self.new.places.items self.new.counts.items }
+    {
+        let _few = w.channels();
+        let count = number_at(&self.counts, next);
+        if count < PLACES {
+            put(&mut self.places, PLACES * next + count, c);
+            put(&mut self.counts, next, count + 1);
+            unmark(&mut self.marks, c);
+        }
+    }
+
+    /// A channel's packet has gone on into another one, which is awake now, and so are those that waited for the first.
+    pub(crate) fn moved(&mut self, w: &World, c: u16, next: u16)
+        requires awake { AreAwakeOnce w.now.links c next self.old.marks self.old.places.items self.old.counts.items }
+        requires there { c < length w.now.links.channels }
+        requires next { next < length w.now.links.channels }
+        ensures { AreAwake w.now.links self.new.marks self.new.places.items self.new.counts.items }
+    {
+        let _few = w.channels();
+        unmark(&mut self.marks, c);
+        mark(&mut self.marks, next);
+        self.wake(w, c);
+    }
+
+    /// A channel is empty, and those that waited for it are awake.
+    pub(crate) fn left(&mut self, w: &World, c: u16)
+        requires awake { AreAwakeBut w.now.links c self.old.marks self.old.places.items self.old.counts.items }
+        requires gone { packet_in w.now.links c ≡ None }
+        requires there { c < length w.now.links.channels }
+        ensures { AreAwake w.now.links self.new.marks self.new.places.items self.new.counts.items }
+    {
+        let _few = w.channels();
+        unmark(&mut self.marks, c);
+        self.wake(w, c);
+    }
+
+    // Those in the row of a channel are awake.
+    fn wake(&mut self, w: &World, c: u16)
+        requires awake { AreAwakeBut w.now.links c self.old.marks self.old.places.items self.old.counts.items }
+        requires there { c < length w.now.links.channels }
+        ensures { AreAwake w.now.links self.new.marks self.new.places.items self.new.counts.items }
+    {
+        let _few = w.channels();
+        let first = PLACES * c;
+        let end = first + number_at(&self.counts, c);
+        mark_all(&self.places, first, end, &mut self.marks);
+        put(&mut self.counts, c, 0);
+    }
+}
+
+// Marks each channel that holds a packet.
+fn mark_full(w: &World, marks: &mut Marks)
+    requires { length w.now.links.channels ≤ 64 * length marks.old }
+    ensures size { length marks.new ≡ length marks.old }
+    ensures full { (c : ℕ) → mark_at marks.new c ≡ 0 → packet_in w.now.links c ≡ None }
+{
+    let _few = w.channels();
+    let mut from = 0;
+    while let Some(c) = w.next_full(from) {
+        mark(marks, c);
+        from = c + 1;
+    }
+}
+
+// Marks the channels that stand from one place up to another.
+fn mark_all(places: &Vec<u16>, first: u16, end: u16, marks: &mut Marks)
+    requires within { end ≤ length places.now.items }
+    requires low { (i : ℕ) → slice_index_or places.now.items i 0 < 64 * length marks.old }
+    ensures size { length marks.new ≡ length marks.old }
+    ensures kept { (c : ℕ) → mark_at marks.new c ≡ 0 → mark_at marks.old c ≡ 0 }
+    ensures marked { (i : ℕ) → first ≤ i → i < end → mark_at marks.new (slice_index_or places.now.items i 0) ≡ 1 }
+{
+    for at in first..end {
+        mark(marks, number_at(places, at));
+    }
+}
+
+// Marks a channel.
+fn mark(marks: &mut Marks, c: u16)
+    requires { c < 64 * length marks.old }
+    ensures { IsWritten marks.old marks.new c 1 }
+{
+    marks.mark(usize::from(c));
+}
+
+// Takes a channel's mark away.
+fn unmark(marks: &mut Marks, c: u16)
+    requires { c < 64 * length marks.old }
+    ensures { IsWritten marks.old marks.new c 0 }
+{
+    marks.unmark(usize::from(c));
+}
+
+// The number at a place.
+fn number_at(numbers: &Vec<u16>, at: u16) -> u16
+    requires { at < length numbers.now.items }
+    ensures { result ≡ slice_index_or numbers.now.items at 0 }
+{
+    numbers[usize::from(at)]
+}
+
+// Puts a number at a place.
+fn put(numbers: &mut Vec<u16>, at: u16, number: u16)
+    requires { at < length numbers.old.items }
+    ensures { numbers.new.items ≡ slice_set numbers.old.items at number }
+{
+    numbers[usize::from(at)] = number;
+}
