@@ -1,5 +1,5 @@
--- Hosts at rest and the marks of the others, as a world's hosts change.
-use Rattle.std.proofs.Common.{◌≡◌, ◌<◌, ◌≤◌, ◌+◌, ◌*◌, ◌/◌, ℕ, zero, suc, Bool, true, false, true≢false, nat_eq, List, [], ◌∷◌, length, replicate, Option, None, is_some, option_map, refl, sym, ap, subst, ◌∙◌, arith, if◌then◌else◌}
+-- Silent hosts, hosts at rest and the marks of the others, as a world's hosts change.
+use Rattle.std.proofs.Common.{◌≡◌, ◌<◌, ◌≤◌, ◌+◌, ◌/◌, ℕ, zero, suc, Bool, true, false, true≢false, nat_eq, List, [], ◌∷◌, length, replicate, Option, None, is_some, option_map, refl, sym, ap, subst, ◌∙◌, arith, if◌then◌else◌}
 use Rattle.std.specs.Prelude.{slice_index_or, slice_set, option_and_then}
 use Rattle.std.proofs.lemmas.Bool.Decides.{Decides-eqb}
 use Rattle.std.proofs.lemmas.List.{set-get_or, length-set, length-map, length-replicate, get_or-map, get_or-set_other, get_or-replicate}
@@ -14,7 +14,8 @@ use Rattle.faulty_links.specs.Held.{LinksAndPlan}
 use Rattle.client_host.specs.Held.{ServedHost}
 use Rattle.client_host.specs.Hosts.{AreHosts, states, no_host}
 use Rattle.fab_world.specs.Held.{world_of}
-use Rattle.fab_world.specs.Resting.{IsAtRest, RestsIn, IsNextAwake, AreWatched}
+use Rattle.fab_world.specs.declared.host_marks.HostMarks.{HostMarks}
+use Rattle.fab_world.specs.Resting.{IsSilent, IsAtRest, IsSilentIn, RestsIn, IsNextBusy, IsNextAwake, HasPlace, IsMarked, AreMarked, AreWatched}
 use Rattle.fab_world.proofs.Places.{IsAt, count-is, within, read-within}
 
 -- ---- a host before anything happened
@@ -50,97 +51,135 @@ all-acknowledged hosts peer =
     let b = none (lane_of peer 1) in
     omega (arith, a, b)
 
-new-rests : (host hosts : ℕ) → IsAtRest host (new_node hosts)
-new-rests host hosts = record { unstaged = refl; silent = ap is_some (nothing-sent host hosts); acknowledged = all-acknowledged hosts }
+new-silent : (host hosts : ℕ) → IsSilent host (new_node hosts)
+new-silent host hosts = record { unstaged = refl; unsending = ap is_some (nothing-sent host hosts) }
 
-pub new-watched : (ss : List ServedHost) (hosts : ℕ) (awake : List ℕ) → AreHosts ss → states ss ≡ replicate hosts (new_node hosts) → length awake ≡ hosts / 64 + 1 → AreWatched ss awake
-new-watched ss hosts awake are new size =
-    let count : length ss ≡ hosts = sym (length-map ss (λ s. s.state)) ∙ (ap length new ∙ length-replicate hosts (new_node hosts)) in
-    record {
-      hosts = are;
-      room = omega (arith, count, size);
-      rest = λ h low none.
-          let below : h < hosts = omega (arith, low, count) in
-          let is : (slice_index_or ss h no_host).state ≡ new_node hosts =
-          sym (get_or-map (λ s. s.state) ss h no_host (new_node 0) low) ∙ (ap (λ l. slice_index_or l h (new_node 0)) new ∙ get_or-replicate hosts h (new_node hosts) (new_node 0) below) in
-          subst (IsAtRest h) (sym is) (new-rests h hosts);
+-- ---- marks of one kind
+module _ (P : ℕ → NodeState → Type 0) where
+  new-marked : (ss : List ServedHost) (hosts : ℕ) (marks : List ℕ) → states ss ≡ replicate hosts (new_node hosts) → length marks ≡ hosts / 64 + 1 → ((h : ℕ) → P h (new_node hosts)) → AreMarked P ss marks
+  new-marked ss hosts marks new size holds =
+      let count : length ss ≡ hosts = sym (length-map ss (λ s. s.state)) ∙ (ap length new ∙ length-replicate hosts (new_node hosts)) in
+      record {
+        room = omega (arith, count, size);
+        bare = λ h low none.
+            let below : h < hosts = omega (arith, low, count) in
+            let is : (slice_index_or ss h no_host).state ≡ new_node hosts =
+            sym (get_or-map (λ s. s.state) ss h no_host (new_node 0) low) ∙ (ap (λ l. slice_index_or l h (new_node 0)) new ∙ get_or-replicate hosts h (new_node hosts) (new_node 0) below) in
+            subst (P h) (sym is) (holds h);
+      }
+
+  -- a host changes, and is marked
+  marked-by : (ss : List ServedHost) (i : ℕ) (old now : List ℕ) (q : ServedHost) → AreMarked P ss old → IsWritten old now i 1 → AreMarked P (slice_set ss i q) now
+  marked-by ss i old now q a written = record {
+    room = let l = length-set ss i q in let r = a.room in let s = written.size in omega (arith, l, r, s);
+    bare = λ k low none. by k low none (nat_eq k i) refl;
+  }
+    where
+      by : (k : ℕ) → k < length (slice_set ss i q) → mark_at now k ≡ 0 → (t : Bool) → nat_eq k i ≡ t → P k (slice_index_or (slice_set ss i q) k no_host).state
+      by k low none true e =
+          let same : k ≡ i = (Decides-eqb k i).0 e in
+          let one : mark_at now k ≡ 1 = ap (mark_at now) same ∙ written.here in
+          absurd (omega (arith, one, none))
+      by k low none false e =
+          let differs : k ≡ i → ⊥ = λ f. true≢false (sym ((Decides-eqb k i).1 f) ∙ e) in
+          let long = length-set ss i q in
+          let there : slice_index_or (slice_set ss i q) k no_host ≡ slice_index_or ss k no_host = get_or-set_other ss i k q no_host differs in
+          subst (λ (s : ServedHost). P k s.state) (sym there) (a.bare k (omega (arith, low, long)) (sym (written.others k differs) ∙ none))
+
+  module _ (p : LinksAndPlan) (ss : List ServedHost) (o : Option Adoption) (w : WorldState) where
+    -- a host of which it holds loses its mark
+    unmarked : (old now : List ℕ) (h i : ℕ) → world_of p ss o ≡ w → AreMarked P ss old → i ≡ h → P h (node_at w h) → IsWritten old now i 0 → AreMarked P ss now
+    unmarked old now h i is a at holds written = record {
+      room = let r = a.room in let s = written.size in omega (arith, r, s);
+      bare = λ k below none. by k below none (nat_eq k i) refl;
     }
+      where
+        by : (k : ℕ) → k < length ss → mark_at now k ≡ 0 → (t : Bool) → nat_eq k i ≡ t → P k (slice_index_or ss k no_host).state
+        by k below none true e =
+            let same : k ≡ h = (Decides-eqb k i).0 e ∙ at in
+            let state : node_at w k ≡ (slice_index_or ss k no_host).state = ap (λ v. node_at v k) (sym is) ∙ get_or-map (λ s. s.state) ss k no_host (new_node 0) below in
+            subst (P k) state (subst (λ j. P j (node_at w j)) (sym same) holds)
+        by k below none false e =
+            let differs : k ≡ i → ⊥ = λ f. true≢false (sym ((Decides-eqb k i).1 f) ∙ e) in
+            a.bare k below (sym (written.others k differs) ∙ none)
 
--- ---- a host changes, and is marked
--- a host of the world has its place among the marks
-pub has-mark : (p : LinksAndPlan) (ss : List ServedHost) (o : Option Adoption) (w : WorldState) (awake : List ℕ) (h i : ℕ) → world_of p ss o ≡ w → AreWatched ss awake → h < host_count w → i ≡ h → i < 64 * length awake
-has-mark p ss o w awake h i is a low at =
-    let count = count-is p ss o w is in
-    let room = a.room in
-    omega (arith, count, room, low, at)
+    -- it holds of one that isn't marked
+    holds-there : (marks : List ℕ) (k : ℕ) → world_of p ss o ≡ w → AreMarked P ss marks → k < length ss → mark_at marks k ≡ 0 → P k (node_at w k)
+    holds-there marks k is a low none =
+        subst (λ v. P k (node_at v k)) is (subst (P k) (sym (get_or-map (λ s. s.state) ss k no_host (new_node 0) low)) (a.bare k low none))
 
-pub marked : {p : LinksAndPlan} {ss : List ServedHost} {o : Option Adoption} {w : WorldState} {h i : ℕ} {x : ServedHost} (awake now : List ℕ) (q : ServedHost) → IsAt p ss o w h i x → AreWatched ss awake → AreHosts (slice_set ss i q)
-    → IsWritten awake now i 1 → AreWatched (slice_set ss i q) now
-marked {p} {ss} {o} {w} {h} {i} {x} awake now q at a are written = record {
+    -- of those before the next mark
+    passed-by : (marks : List ℕ) (from h : ℕ) → world_of p ss o ≡ w → AreMarked P ss marks → IsNextMark marks from h → h < length ss → (k : ℕ) → from ≤ k → k < h → P k (node_at w k)
+    passed-by marks from h is a next low k above below = holds-there marks k is a (omega (arith, below, low)) (next.passed k above below)
+
+    -- of all behind the last mark
+    pub none-marked : (marks : List ℕ) (from : ℕ) → world_of p ss o ≡ w → AreMarked P ss marks → ((k : ℕ) → from ≤ k → mark_at marks k ≡ 0) → (h : ℕ) → from ≤ h → h < host_count w → P h (node_at w h)
+    none-marked marks from is a bare h above low =
+        let count = count-is p ss o w is in
+        holds-there marks h is a (omega (arith, low, count)) (bare h above)
+
+    -- and of all where the next mark is of no host
+    pub mark-past : (marks : List ℕ) (from n : ℕ) → world_of p ss o ≡ w → AreMarked P ss marks → IsNextMark marks from n → length ss ≤ n → (h : ℕ) → from ≤ h → h < host_count w → P h (node_at w h)
+    mark-past marks from n is a next past h above low =
+        let count = count-is p ss o w is in
+        holds-there marks h is a (omega (arith, low, count)) (next.passed h above (omega (arith, low, count, past)))
+
+-- ---- both kinds
+pub new-watched : (ss : List ServedHost) (hosts : ℕ) (m : HostMarks) → AreHosts ss → states ss ≡ replicate hosts (new_node hosts) → length m.awake ≡ hosts / 64 + 1 → length m.busy ≡ hosts / 64 + 1 → AreWatched ss m
+new-watched ss hosts m are new awake busy = record {
   hosts = are;
-  room = let l = length-set ss i q in let r = a.room in let s = written.size in omega (arith, l, r, s);
-  rest = λ k low none. by k low none (nat_eq k i) refl;
+  awake = new-marked IsAtRest ss hosts m.awake new awake (λ h. record { silent = new-silent h hosts; acknowledged = all-acknowledged hosts });
+  busy = new-marked IsSilent ss hosts m.busy new busy (λ h. new-silent h hosts);
 }
-  where
-    by : (k : ℕ) → k < length (slice_set ss i q) → mark_at now k ≡ 0 → (t : Bool) → nat_eq k i ≡ t → IsAtRest k (slice_index_or (slice_set ss i q) k no_host).state
-    by k low none true e =
-        let same : k ≡ i = (Decides-eqb k i).0 e in
-        let one : mark_at now k ≡ 1 = ap (mark_at now) same ∙ written.here in
-        absurd (omega (arith, one, none))
-    by k low none false e =
-        let differs : k ≡ i → ⊥ = λ f. true≢false (sym ((Decides-eqb k i).1 f) ∙ e) in
-        let long = length-set ss i q in
-        let there : slice_index_or (slice_set ss i q) k no_host ≡ slice_index_or ss k no_host = get_or-set_other ss i k q no_host differs in
-        subst (λ (s : ServedHost). IsAtRest k s.state) (sym there) (a.rest k (omega (arith, low, long)) (sym (written.others k differs) ∙ none))
+
+-- a host of the world has its place among the marks
+pub has-mark : (p : LinksAndPlan) (ss : List ServedHost) (o : Option Adoption) (w : WorldState) (m : HostMarks) (h i : ℕ) → world_of p ss o ≡ w → AreWatched ss m → h < host_count w → i ≡ h → HasPlace m i
+has-mark p ss o w m h i is a low at =
+    let count = count-is p ss o w is in
+    let awake = a.awake.room in
+    let busy = a.busy.room in
+    record { awake = omega (arith, count, awake, low, at); busy = omega (arith, count, busy, low, at) }
+
+-- a host changes, and is marked
+pub marked : {p : LinksAndPlan} {ss : List ServedHost} {o : Option Adoption} {w : WorldState} {h i : ℕ} {x : ServedHost} (m now : HostMarks) (q : ServedHost) → IsAt p ss o w h i x → AreWatched ss m → AreHosts (slice_set ss i q)
+    → IsMarked m now i → AreWatched (slice_set ss i q) now
+marked {p} {ss} {o} {w} {h} {i} {x} m now q at a are written = record {
+  hosts = are;
+  awake = marked-by IsAtRest ss i m.awake now.awake q a.awake written.awake;
+  busy = marked-by IsSilent ss i m.busy now.busy q a.busy written.busy;
+}
 
 -- where one of the hosts stays as it is, so do all, and the marks
-pub still-watched : {p : LinksAndPlan} {ss : List ServedHost} {o : Option Adoption} {w : WorldState} {h i : ℕ} {x : ServedHost} (awake : List ℕ) (q : ServedHost) → IsAt p ss o w h i x → AreWatched ss awake → q ≡ x → AreWatched (slice_set ss i q) awake
-still-watched {p} {ss} {o} {w} {h} {i} {x} awake q at a e =
+pub still-watched : {p : LinksAndPlan} {ss : List ServedHost} {o : Option Adoption} {w : WorldState} {h i : ℕ} {x : ServedHost} (m : HostMarks) (q : ServedHost) → IsAt p ss o w h i x → AreWatched ss m → q ≡ x → AreWatched (slice_set ss i q) m
+still-watched {p} {ss} {o} {w} {h} {i} {x} m q at a e =
     let there : x ≡ slice_index_or ss i no_host = read-within ss i x (within at) at.there in
-    subst (λ l. AreWatched l awake) (sym (ap (slice_set ss i) (e ∙ there) ∙ set-get_or ss i no_host)) a
+    subst (λ l. AreWatched l m) (sym (ap (slice_set ss i) (e ∙ there) ∙ set-get_or ss i no_host)) a
 
--- ---- a host that is at rest loses its mark
-pub rested : (p : LinksAndPlan) (ss : List ServedHost) (o : Option Adoption) (w : WorldState) (awake now : List ℕ) (h i : ℕ) → world_of p ss o ≡ w → AreWatched ss awake → h < host_count w → i ≡ h → RestsIn w h
-    → IsWritten awake now i 0 → AreWatched ss now
-rested p ss o w awake now h i is a low at rests written = record {
+-- a host that is silent is busy no more
+pub quieted : (p : LinksAndPlan) (ss : List ServedHost) (o : Option Adoption) (w : WorldState) (m : HostMarks) (busy : List ℕ) (h i : ℕ) → world_of p ss o ≡ w → AreWatched ss m → i ≡ h → IsSilentIn w h
+    → IsWritten m.busy busy i 0 → AreWatched ss (record m { busy = busy })
+quieted p ss o w m busy h i is a at silent written = record {
   hosts = a.hosts;
-  room = let r = a.room in let s = written.size in omega (arith, r, s);
-  rest = λ k below none. by k below none (nat_eq k i) refl;
+  awake = a.awake;
+  busy = unmarked IsSilent p ss o w m.busy busy h i is a.busy at silent written;
 }
-  where
-    by : (k : ℕ) → k < length ss → mark_at now k ≡ 0 → (t : Bool) → nat_eq k i ≡ t → IsAtRest k (slice_index_or ss k no_host).state
-    by k below none true e =
-        let same : k ≡ h = (Decides-eqb k i).0 e ∙ at in
-        let state : node_at w k ≡ (slice_index_or ss k no_host).state = ap (λ v. node_at v k) (sym is) ∙ get_or-map (λ s. s.state) ss k no_host (new_node 0) below in
-        subst (IsAtRest k) state (subst (RestsIn w) (sym same) rests)
-    by k below none false e =
-        let differs : k ≡ i → ⊥ = λ f. true≢false (sym ((Decides-eqb k i).1 f) ∙ e) in
-        a.rest k below (sym (written.others k differs) ∙ none)
 
--- ---- the next host that may not be at rest
-rests-there : (p : LinksAndPlan) (ss : List ServedHost) (o : Option Adoption) (w : WorldState) (awake : List ℕ) (k : ℕ) → world_of p ss o ≡ w → AreWatched ss awake → k < length ss → mark_at awake k ≡ 0 → RestsIn w k
-rests-there p ss o w awake k is a low none =
-    subst (λ v. RestsIn v k) is (subst (IsAtRest k) (sym (get_or-map (λ s. s.state) ss k no_host (new_node 0) low)) (a.rest k low none))
+-- and one that is at rest is awake no more
+pub rested : (p : LinksAndPlan) (ss : List ServedHost) (o : Option Adoption) (w : WorldState) (m : HostMarks) (awake : List ℕ) (h i : ℕ) → world_of p ss o ≡ w → AreWatched ss m → i ≡ h → RestsIn w h
+    → IsWritten m.awake awake i 0 → AreWatched ss (record m { awake = awake })
+rested p ss o w m awake h i is a at rests written = record {
+  hosts = a.hosts;
+  awake = unmarked IsAtRest p ss o w m.awake awake h i is a.awake at rests written;
+  busy = a.busy;
+}
 
-pub awake-next : (p : LinksAndPlan) (ss : List ServedHost) (o : Option Adoption) (w : WorldState) (awake : List ℕ) (from h : ℕ) → world_of p ss o ≡ w → AreWatched ss awake → IsNextMark awake from h → h < length ss → IsNextAwake w from h
+-- the next host that may not be at rest, and the next that may not be silent
+pub awake-next : (p : LinksAndPlan) (ss : List ServedHost) (o : Option Adoption) (w : WorldState) (awake : List ℕ) (from h : ℕ) → world_of p ss o ≡ w → AreMarked IsAtRest ss awake → IsNextMark awake from h → h < length ss → IsNextAwake w from h
 awake-next p ss o w awake from h is a next low =
     let count = count-is p ss o w is in
-    record {
-      above = next.above;
-      there = omega (arith, low, count);
-      passed = λ k above below. rests-there p ss o w awake k is a (omega (arith, below, low)) (next.passed k above below);
-    }
+    record { above = next.above; there = omega (arith, low, count); passed = passed-by IsAtRest p ss o w awake from h is a next low }
 
--- behind the last mark all are at rest
-pub none-awake : (p : LinksAndPlan) (ss : List ServedHost) (o : Option Adoption) (w : WorldState) (awake : List ℕ) (from : ℕ) → world_of p ss o ≡ w → AreWatched ss awake → ((k : ℕ) → from ≤ k → mark_at awake k ≡ 0)
-    → (h : ℕ) → from ≤ h → h < host_count w → RestsIn w h
-none-awake p ss o w awake from is a bare h above low =
+pub busy-next : (p : LinksAndPlan) (ss : List ServedHost) (o : Option Adoption) (w : WorldState) (busy : List ℕ) (from h : ℕ) → world_of p ss o ≡ w → AreMarked IsSilent ss busy → IsNextMark busy from h → h < length ss → IsNextBusy w from h
+busy-next p ss o w busy from h is a next low =
     let count = count-is p ss o w is in
-    rests-there p ss o w awake h is a (omega (arith, low, count)) (bare h above)
-
--- and where the next mark is of no host
-pub mark-past : (p : LinksAndPlan) (ss : List ServedHost) (o : Option Adoption) (w : WorldState) (awake : List ℕ) (from n : ℕ) → world_of p ss o ≡ w → AreWatched ss awake → IsNextMark awake from n → length ss ≤ n
-    → (h : ℕ) → from ≤ h → h < host_count w → RestsIn w h
-mark-past p ss o w awake from n is a next past h above low =
-    let count = count-is p ss o w is in
-    rests-there p ss o w awake h is a (omega (arith, low, count)) (next.passed h above (omega (arith, low, count, past)))
+    record { above = next.above; there = omega (arith, low, count); passed = passed-by IsSilent p ss o w busy from h is a next low }

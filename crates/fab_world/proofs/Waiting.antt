@@ -1,5 +1,5 @@
 -- Whether something of a host isn't acknowledged, as the sum over its peers tells.
-use Rattle.std.proofs.Common.{◌≡◌, ◌<◌, ◌≤◌, ◌+◌, ℕ, zero, suc, Bool, true, false, not, nat_eq, nat_lt, List, [], ◌∷◌, map, length, refl, sym, ap, subst, arith}
+use Rattle.std.proofs.Common.{◌≡◌, ◌<◌, ◌≤◌, ◌+◌, ℕ, zero, suc, Bool, true, false, nat_eq, nat_lt, List, [], ◌∷◌, map, length, refl, sym, ap, subst, arith}
 use Rattle.std.specs.List.{range_with_len}
 use Rattle.std.proofs.lemmas.Bool.Decides.{nat_tests}
 use Rattle.world_defs.specs.Node.{NodeState, peer_of, prio_of, lane_of, unacknowledged_on, unacknowledged_to}
@@ -9,7 +9,6 @@ use Rattle.world_defs.proofs.Lanes.{lane_of-parts, lane-within, peer_of-below}
 use Rattle.nic_node.proofs.Waiting.{IsTold}
 use Rattle.fab_world.specs.Held.{IsMoment}
 use Rattle.fab_world.specs.Events.{IsHostOf}
-use Rattle.fab_world.specs.Resting.{IsAtRest}
 
 -- a sum of zeros, and one with something in it
 none-in-sum : (f : ℕ → ℕ) (ps : List ℕ) → ((p : ℕ) → f p ≡ 0) → sum_of (map f ps) ≡ 0
@@ -57,15 +56,3 @@ pub told-by-sum : (w v : WorldState) (n : NodeState) (host : ℕ) (b : Bool) →
 told-by-sum w v n host b is m there at none some =
     subst (λ u. b ≡ nat_lt 0 (unacknowledged_from u host)) is
     (by-sum w host b m (subst (λ u. IsHostOf u host) (sym is) there) (subst (λ s. IsTold s b) at (none, some)))
-
--- a host at rest has nothing unacknowledged
-pub none_waits : (host : ℕ) (n : NodeState) (b : Bool) → (b ≡ true → (lane : ℕ) × (lane < length n.lanes) × (0 < unacknowledged_on n lane)) → IsAtRest host n → not b ≡ true
-none_waits host n false some rest = refl
-none_waits host n true some rest = by (some refl)
-  where
-    by : ((lane : ℕ) × (lane < length n.lanes) × (0 < unacknowledged_on n lane)) → false ≡ true
-    by (lane, low, waits) =
-        let same : unacknowledged_on n (lane_of (peer_of lane) (prio_of lane)) ≡ unacknowledged_on n lane = ap (unacknowledged_on n) (lane_of-parts lane) in
-        let share = lane-within n (peer_of lane) (prio_of lane) in
-        let none = rest.acknowledged (peer_of lane) in
-        absurd (omega (arith, same, share, none, waits))

@@ -2,7 +2,7 @@
 
 ghost use Rattle.std.specs.Prelude.{◌≡◌, ◌<◌, length, true, slice_index_or};
 ghost use Rattle.client_host.specs.Hosts.{no_host};
-ghost use Rattle.fab_world.specs.Resting.{IsAtRest};
+ghost use Rattle.fab_world.specs.Resting.{IsSilent};
 
 use client_host::ClientHost;
 
@@ -22,11 +22,10 @@ pub(crate) fn host_at(hosts: &[ClientHost], host: u16) -> &ClientHost
     &hosts[usize::from(host)]
 }
 
-/// Whether a host has nothing staged, nothing to send and nothing unacknowledged.
-#[tactic(auto, using(crate::proofs::Waiting::none_waits))]
-pub(crate) fn is_at_rest(host: &ClientHost) -> bool
-    ensures rests { result ≡ true → IsAtRest host.now.host host.now.state }
-    ensures wakes { IsAtRest host.now.host host.now.state → result ≡ true }
+/// Whether a host has nothing staged and nothing to send.
+pub(crate) fn is_silent(host: &ClientHost) -> bool
+    ensures silent { result ≡ true → IsSilent host.now.host host.now.state }
+    ensures speaks { IsSilent host.now.host host.now.state → result ≡ true }
 {
-    !host.has_staged() && !host.has_to_send() && !host.has_unacked()
+    !host.has_staged() && !host.has_to_send()
 }

@@ -16,11 +16,13 @@
 //!
 //! | module | has |
 //! |---|---|
+//! | `host_marks` | which hosts are looked at |
 //! | `hosts` | hosts by address |
 //! | `machine` | links, hosts and adopted routes, and each event of theirs |
 //! | `world` | the world: what it keeps, and every event |
 #![tactic(auto)]
 
+mod host_marks;
 mod hosts;
 mod machine;
 mod world;

@@ -4,7 +4,7 @@ ghost use Rattle.std.specs.Prelude.{◌≡◌, ◌≤◌, ℕ, IfOk, IfSome, IfN
 ghost use Rattle.net_defs.specs.Network.{IsFabric};
 ghost use Rattle.world_defs.specs.World.{host_count, new_world, node_at};
 ghost use Rattle.fab_world.specs.Events.{IsHostOf};
-ghost use Rattle.fab_world.specs.Resting.{IsNextAwake, RestsIn};
+ghost use Rattle.fab_world.specs.Resting.{IsNextAwake, IsNextBusy, IsSilentIn, RestsIn};
 
 mod adopting;
 mod calls;
@@ -13,21 +13,21 @@ mod injection;
 mod staging;
 mod steps;
 
-use crate::hosts::{count_of, host_at, is_at_rest};
+use crate::host_marks::HostMarks;
+use crate::hosts::{count_of, host_at, is_silent};
 use adopted_routes::AdoptedRoutes;
 use client_host::{ClientHost, end_hosts, new_hosts};
 use faulty_links::FaultyLinks;
-use number_marks::Marks;
 use port_graph::Fabric;
 use std::alloc::{AllocError, Global};
 use std::marker::Model;
 
 /// Links and hosts, as many as the fabric has, and the routes that are adopted. A host that isn't marked as awake is at
-/// rest, and isn't looked at. It must be spent, by [`Machine::end`].
+/// rest, one that isn't marked as busy is silent, and neither is looked at. It must be spent, by [`Machine::end`].
 pub(crate) struct Machine {
     pub(crate) links: FaultyLinks,
     pub(crate) hosts: Vec<ClientHost>,
-    pub(crate) awake: Marks,
+    pub(crate) marks: HostMarks,
     pub(crate) adopted: AdoptedRoutes,
 }
 
@@ -40,7 +40,7 @@ impl Model for Machine {
 
     ghost view = { λ m. world_of m.links m.hosts.items m.adopted };
 
-    ghost invariant = { λ m. AreWatched m.hosts.items m.awake };
+    ghost invariant = { λ m. AreWatched m.hosts.items m.marks };
 }
 
 impl Machine {
@@ -50,13 +50,13 @@ impl Machine {
         ensures fabric { IsFabric f.now }
     {
         let count = f.hosts();
-        let awake = Marks::new(alloc, usize::from(count))?;
+        let marks = HostMarks::new(alloc, count)?;
         let links = FaultyLinks::new(alloc, f)?;
         match new_hosts(alloc, count) {
             Ok(hosts) => Ok(Machine {
                 links,
                 hosts,
-                awake,
+                marks,
                 adopted: AdoptedRoutes::new(),
             }),
             Err(wanting) => {
@@ -88,19 +88,43 @@ impl Machine {
         ensures found { IfSome result (IsNextAwake self.now from) }
         ensures none { IfNone result ((h : ℕ) → from ≤ h → IsHostOf self.now h → RestsIn self.now h) }
     {
-        match self.awake.next(usize::from(from)) {
+        match self.marks.awake.next(usize::from(from)) {
             Some(host) if host < self.hosts.len() => Some(host as u16),
             _ => None,
         }
     }
 
-    /// A host that is at rest isn't looked at any more, until it changes.
+    /// The least host that isn't below an address and may not be silent. Those before it are.
+    pub(crate) fn next_busy(&self, from: u16) -> Option<u16>
+        ensures found { IfSome result (IsNextBusy self.now from) }
+        ensures none { IfNone result ((h : ℕ) → from ≤ h → IsHostOf self.now h → IsSilentIn self.now h) }
+    {
+        match self.marks.busy.next(usize::from(from)) {
+            Some(host) if host < self.hosts.len() => Some(host as u16),
+            _ => None,
+        }
+    }
+
+    /// A host that is silent isn't busy any more, and one that is at rest isn't awake, until it changes.
     pub(crate) fn rest(&mut self, host: u16)
         requires { IsHostOf self.old host }
         ensures { self.new ≡ self.old }
     {
-        if is_at_rest(self.at(host)) {
-            self.awake.unmark(usize::from(host));
+        if is_silent(self.at(host)) {
+            self.rest_silent(host);
+        }
+    }
+
+    // The same of a host that is silent.
+    fn rest_silent(&mut self, host: u16)
+        requires there { IsHostOf self.old host }
+        requires silent { IsSilentIn self.old host }
+        ensures { self.new ≡ self.old }
+    {
+        let waits = self.at(host).has_unacked();
+        self.marks.busy.unmark(usize::from(host));
+        if !waits {
+            self.marks.awake.unmark(usize::from(host));
         }
     }
 
@@ -109,7 +133,7 @@ impl Machine {
         let Machine {
             links,
             hosts,
-            awake: _,
+            marks: _,
             adopted: _,
         } = self;
         links.end();

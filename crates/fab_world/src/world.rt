@@ -29,7 +29,7 @@ ghost use Rattle.adopted_routes.specs.Adopting.{IsAdoptable, adopt_refusal, part
 ghost use Rattle.fab_world.specs.Events.{IsHostOf, IsChannelOf, IsGiven};
 ghost use Rattle.fab_world.specs.Held.{IsMoment, IsOfHosts};
 ghost use Rattle.fab_world.specs.Hop.{IsHopIn, IsRunIn};
-ghost use Rattle.fab_world.specs.Resting.{IsNextAwake, RestsIn};
+ghost use Rattle.fab_world.specs.Resting.{IsNextAwake, IsNextBusy, IsSilentIn, RestsIn};
 
 use crate::machine::Machine;
 use adopted_routes::AdoptRefusal;
@@ -342,8 +342,7 @@ impl World {
         self.machine.links.planned()
     }
 
-    /// The least host that isn't below an address and may not be at rest: each of those before it has nothing staged,
-    /// nothing to send and nothing unacknowledged. It looks at one bit for each host.
+    /// The least host that isn't below an address and may not be at rest: silent, and with nothing unacknowledged.
     pub fn next_awake(&self, from: u16) -> Option<u16>
         ensures found { IfSome result (IsNextAwake self.now from) }
         ensures none { IfNone result ((h : ℕ) → from ≤ h → IsHostOf self.now h → RestsIn self.now h) }
@@ -351,12 +350,21 @@ impl World {
         self.machine.next_awake(from)
     }
 
-    /// [`World::next_awake`] passes by a host that is at rest, from now on until the host changes.
+    /// From now on, until the host changes, [`World::next_busy`] passes it by where it is silent, and
+    /// [`World::next_awake`] where it is at rest.
     pub fn rest(&mut self, host: u16)
         requires { IsHostOf self.old host }
         ensures { self.new ≡ self.old }
     {
         self.machine.rest(host);
+    }
+
+    /// The least host that isn't below an address and may not be silent: with nothing staged and nothing to send.
+    pub fn next_busy(&self, from: u16) -> Option<u16>
+        ensures found { IfSome result (IsNextBusy self.now from) }
+        ensures none { IfNone result ((h : ℕ) → from ≤ h → IsHostOf self.now h → IsSilentIn self.now h) }
+    {
+        self.machine.next_busy(from)
     }
 
     /// How many fragments of a host to a peer aren't acknowledged, sent or not, of both priorities.

@@ -1,11 +1,11 @@
--- Hosts at rest are passed by: what would happen of them changes nothing.
+-- Hosts that are silent or at rest are passed by: what would happen of them changes nothing.
 use Rattle.std.proofs.Common.{◌≡◌, ◌<◌, ◌≤◌, ℕ, zero, suc, ◌+◌, ◌-◌, Bool, false, ◌||◌, ◌&&◌, nat_lt, Option, Some, None, is_some, List, [], ◌∷◌, map, is_none, true, refl, sym, ◌∙◌, ap, subst, arith}
 use Rattle.std.specs.List.{list_all, range_with_len}
 use Rattle.world_defs.specs.Node.{to_send, unacknowledged_to}
 use Rattle.world_defs.specs.World.{WorldState, host_count, addresses, node_at, sum_of}
 use Rattle.world_defs.specs.Step.{after_all}
 use Rattle.world_defs.specs.Settle.{unacknowledged_from, expiries_of}
-use Rattle.fab_world.specs.Resting.{RestsIn}
+use Rattle.fab_world.specs.Resting.{IsSilentIn, RestsIn}
 use Rattle.world_drain.proofs.GivingUp.{GivingUp, giving-on, give_up-idle}
 use Rattle.world_drain.proofs.Injects.{Injecting, injecting-on, inject-idle}
 use Rattle.world_drain.proofs.Quiet.{all-on, none-is}
@@ -20,14 +20,14 @@ pass-by P (suc gap) from on p =
     subst P (omega arith) further
 
 -- the same up to a host that is found, and up to the end
-module _ (P : ℕ → Type 0) (w : WorldState) (from : ℕ) (on : (h : ℕ) → RestsIn w h → h < host_count w → P h → P (h + 1)) where
-  pub up-to : (host : ℕ) → from ≤ host → host < host_count w → ((h : ℕ) → from ≤ h → h < host → RestsIn w h) → P from → P host
+module _ (R P : ℕ → Type 0) (w : WorldState) (from : ℕ) (on : (h : ℕ) → R h → h < host_count w → P h → P (h + 1)) where
+  pub up-to : (host : ℕ) → from ≤ host → host < host_count w → ((h : ℕ) → from ≤ h → h < host → R h) → P from → P host
   up-to host above there passed p =
       let all : P (from + (host - from)) =
       pass-by P (host - from) from (λ h low high q. on h (passed h low (omega (arith, above, high))) (omega (arith, above, high, there)) q) p in
       subst P (omega (arith, above)) all
 
-  pub to-end : ((h : ℕ) → from ≤ h → h < host_count w → RestsIn w h) → P from → P (from + (host_count w - from))
+  pub to-end : ((h : ℕ) → from ≤ h → h < host_count w → R h) → P from → P (from + (host_count w - from))
   to-end passed p = pass-by P (host_count w - from) from (λ h low high q. on h (passed h low (omega (arith, low, high))) (omega (arith, low, high)) q) p
 
 -- ---- what is summed of them
@@ -40,15 +40,15 @@ rests-none w h r = sum-none (unacknowledged_to (node_at w h)) (addresses w) r.ac
 
 -- ---- each of the rows
 module _ (first now : WorldState) where
-  pub giving-by : (h : ℕ) → RestsIn now h → h < host_count now → GivingUp first now h → GivingUp first now (h + 1)
+  pub giving-by : (h : ℕ) → IsSilentIn now h → h < host_count now → GivingUp first now h → GivingUp first now (h + 1)
   giving-by h r low g =
       let same = g.hosts in
       giving-on first now now h g (omega (arith, low, same)) (give_up-idle now h r.unstaged) refl refl
 
-  pub injecting-by : (moved : Bool) (h : ℕ) → RestsIn now h → h < host_count now → Injecting first now h moved → Injecting first now (h + 1) moved
+  pub injecting-by : (moved : Bool) (h : ℕ) → IsSilentIn now h → h < host_count now → Injecting first now h moved → Injecting first now (h + 1) moved
   injecting-by moved h r low g =
       let same = g.hosts in
-      let idle = inject-idle now h r.silent in
+      let idle = inject-idle now h r.unsending in
       injecting-on first now now h moved false moved g (omega (arith, low, same)) idle.0 idle.1 (or-none moved) refl
     where
       or-none : (b : Bool) → b ≡ (b || false)
@@ -62,10 +62,10 @@ module _ (first now : WorldState) where
       expiring_all-on first now now h g (omega (arith, low, same)) (ap (after_all now) (sym none)) refl
 
 module _ (w : WorldState) where
-  pub silent-by : (whole : Bool) (h : ℕ) → RestsIn w h → h < host_count w
+  pub silent-by : (whole : Bool) (h : ℕ) → IsSilentIn w h → h < host_count w
       → list_all (λ h. is_none (to_send h (node_at w h))) (range_with_len h (host_count w - h)) ≡ whole
       → list_all (λ h. is_none (to_send h (node_at w h))) (range_with_len (h + 1) (host_count w - (h + 1))) ≡ whole
-  silent-by whole h r low all = all-on (λ h. is_none (to_send h (node_at w h))) (host_count w) h whole low (none-is (to_send h (node_at w h)) r.silent) all
+  silent-by whole h r low all = all-on (λ h. is_none (to_send h (node_at w h))) (host_count w) h whole low (none-is (to_send h (node_at w h)) r.unsending) all
 
   pub summing-by : (sum : ℕ) (h : ℕ) → RestsIn w h → h < host_count w → Summing (unacknowledged_from w) (host_count w) h sum → Summing (unacknowledged_from w) (host_count w) (h + 1) sum
   summing-by sum h r low s =

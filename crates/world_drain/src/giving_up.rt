@@ -12,8 +12,8 @@ use crate::happening::happen;
 use fab_world::{Event, World};
 use std::alloc::{AllocError, Global};
 
-/// Every host gives up what it staged, by rising address. Those at rest have staged nothing, and those that are at rest
-/// then are passed by from now on. Want of memory leaves a world that a prefix of these events leads to.
+/// Every host gives up what it staged, by rising address. Silent ones have staged nothing, and those that are silent or
+/// at rest then are passed by from now on. Want of memory leaves a world that a prefix of these events leads to.
 pub fn give_up_all(alloc: Global, w: &mut World) -> Result<(), AllocError>
     ensures after { OnOk result (w.new ≡ all_given_up w.old) }
     ensures err { OnErr result (IsPartWay w.old (map GiveUp (addresses w.old)) w.new) }
@@ -22,14 +22,14 @@ pub fn give_up_all(alloc: Global, w: &mut World) -> Result<(), AllocError>
 {
     let _few = w.hosts();
     let mut from = 0;
-    while let Some(host) = w.next_awake(from) {
+    while let Some(host) = w.next_busy(from) {
         give_up(alloc, w, host)?;
         from = host + 1;
     }
     Ok(())
 }
 
-// A host gives up what it staged. Where it is at rest then, it is passed by from now on.
+// A host gives up what it staged. Where it is silent or at rest then, it is passed by from now on.
 fn give_up(alloc: Global, w: &mut World, host: u16) -> Result<(), AllocError>
     requires { IsHostOf w.old host }
     ensures after { OnOk result (w.new ≡ (step w.old (GiveUp host)).1) }

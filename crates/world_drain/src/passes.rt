@@ -51,13 +51,13 @@ fn is_quiet(w: &World) -> bool
     w.next_limbo(0).is_none() && none_sends(w)
 }
 
-// Whether no host has anything to send. One at rest has nothing.
+// Whether no host has anything to send. A silent one has nothing.
 fn none_sends(w: &World) -> bool
     ensures { result ≡ list_all (λ h. is_none (to_send h (node_at w.now h))) (addresses w.now) }
 {
     let _few = w.hosts();
     let mut from = 0;
-    while let Some(host) = w.next_awake(from) {
+    while let Some(host) = w.next_busy(from) {
         if w.has_to_send(host) {
             return false;
         }
@@ -82,7 +82,7 @@ fn pass(alloc: Global, w: &mut World) -> Result<Told, AllocError>
     Ok(Told { moved, resets }.then(replayed))
 }
 
-// An injection of each host, by rising address: whether one wasn't idle. Of a host at rest it would be.
+// An injection of each host, by rising address: whether one wasn't idle. Of a silent host it would be.
 fn inject_all(alloc: Global, w: &mut World) -> Result<bool, AllocError>
     ensures moved { IfOk result (λ b. b ≡ nat_lt 0 (changes (steps w.old (map Inject (addresses w.old))).0)) }
     ensures after { OnOk result (w.new ≡ (steps w.old (map Inject (addresses w.old))).1) }
@@ -91,7 +91,7 @@ fn inject_all(alloc: Global, w: &mut World) -> Result<bool, AllocError>
     let _few = w.hosts();
     let mut moved = false;
     let mut from = 0;
-    while let Some(host) = w.next_awake(from) {
+    while let Some(host) = w.next_busy(from) {
         moved |= inject_due(alloc, w, host)?;
         from = host + 1;
     }

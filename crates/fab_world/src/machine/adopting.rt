@@ -30,7 +30,7 @@ impl Machine {
         let table = self.adopted.adopt(alloc, mapper, set)?;
         let at = usize::from(mapper);
         self.hosts[at].take_table(table);
-        self.awake.mark(at);
+        self.marks.mark(at);
         Ok(())
     }
 
@@ -56,7 +56,7 @@ impl Machine {
         let PartToSend { mapper, part, by } = sent;
         let at = usize::from(mapper);
         self.hosts[at].part(part, by);
-        self.awake.mark(at);
+        self.marks.mark(at);
         Effect::Staged
     }
 }

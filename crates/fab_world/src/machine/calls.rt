@@ -27,7 +27,7 @@ impl Machine {
     {
         let at = usize::from(host);
         let said = self.hosts[at].begin(alloc, port, sends, recvs)?;
-        self.awake.mark(at);
+        self.marks.mark(at);
         Ok(Effect::Said(said))
     }
 
@@ -38,7 +38,7 @@ impl Machine {
     {
         let at = usize::from(host);
         let said = self.hosts[at].close(port);
-        self.awake.mark(at);
+        self.marks.mark(at);
         Effect::Said(said)
     }
 
@@ -57,7 +57,7 @@ impl Machine {
     {
         let at = usize::from(host);
         let said = self.hosts[at].provide(alloc, port, size, prio)?;
-        self.awake.mark(at);
+        self.marks.mark(at);
         Ok(Effect::Said(said))
     }
 
@@ -82,7 +82,7 @@ impl Machine {
     {
         let at = usize::from(host);
         let said = self.hosts[at].send(alloc, port, dest, dport, prio, len, seed)?;
-        self.awake.mark(at);
+        self.marks.mark(at);
         Ok(Effect::Said(said))
     }
 
@@ -94,7 +94,7 @@ impl Machine {
     {
         let at = usize::from(host);
         let said = self.hosts[at].poll(port);
-        self.awake.mark(at);
+        self.marks.mark(at);
         Effect::Said(said)
     }
 }

@@ -69,7 +69,7 @@ impl Machine {
             Ok(effect) => {
                 let at = usize::from(host);
                 self.hosts[at].staged();
-                self.awake.mark(at);
+                self.marks.mark(at);
                 Ok(effect)
             }
             Err((_, wanting)) => Err(wanting),

@@ -16,7 +16,7 @@ impl Machine {
     {
         let at = usize::from(host);
         self.hosts[at].ask(walk, looped);
-        self.awake.mark(at);
+        self.marks.mark(at);
     }
 
     pub(crate) fn expire(&mut self, host: u16, peer: u16) -> Effect
@@ -26,7 +26,7 @@ impl Machine {
     {
         let at = usize::from(host);
         let done = self.hosts[at].expire(peer);
-        self.awake.mark(at);
+        self.marks.mark(at);
         done_or_idle(done, Effect::Expired)
     }
 
@@ -36,7 +36,7 @@ impl Machine {
     {
         let at = usize::from(host);
         let done = self.hosts[at].give_up();
-        self.awake.mark(at);
+        self.marks.mark(at);
         done_or_idle(done, Effect::GaveUp)
     }
 }

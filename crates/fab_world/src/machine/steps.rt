@@ -26,7 +26,7 @@ impl Machine {
             Some((host, packet)) => {
                 let at = usize::from(host);
                 let arrival = self.hosts[at].on_packet(alloc, packet)?;
-                self.awake.mark(at);
+                self.marks.mark(at);
                 Ok(self.links.heard(c, host, arrival))
             }
             None => Ok(self.links.advance(c)),

@@ -3,6 +3,7 @@ use Rattle.std.specs.List.{range_with_len}
 use Rattle.world_defs.specs.declared.event.Event.TheVariants.{GiveUp}
 use Rattle.world_defs.specs.World.{host_count}
 use Rattle.event_lists.proofs.PartWay.{way-still}
+use Rattle.fab_world.specs.Resting.{IsSilentIn}
 use Rattle.world_drain.proofs.AtRest.{up-to, to-end, giving-by}
 use Rattle.world_drain.proofs.GivingUp.{GivingUp, giving-none, giving-on, giving-all}
 use Rattle.world_drain.proofs.Later.{on-any}
@@ -14,18 +15,18 @@ loop-host-init c = giving-none c.args.w.now
 pub returns-in_err-give_up-clause-err : goal.returns-in_err-give_up-clause-err
 returns-in_err-give_up-clause-err c =
     let f = c.in-Some.ensures.found in
-    let at = up-to (GivingUp c.args.w.now c.loop-host.w) c.loop-host.w c.loop-host.from (giving-by c.args.w.now c.loop-host.w) c.in-Some.host f.above f.there f.passed c.loop-host.invariant in
+    let at = up-to (IsSilentIn c.loop-host.w) (GivingUp c.args.w.now c.loop-host.w) c.loop-host.w c.loop-host.from (giving-by c.args.w.now c.loop-host.w) c.in-Some.host f.above f.there f.passed c.loop-host.invariant in
     let left = map GiveUp (range_with_len c.in-Some.host (host_count c.args.w.now - c.in-Some.host)) in
     on-any c.from_residual.result (at.way c.give_up.new.w (way-still c.loop-host.w c.give_up.new.w left c.in_err-give_up.ensures.err))
 
 pub loop-host-preserved : goal.loop-host-preserved
 loop-host-preserved c =
     let f = c.in-Some.ensures.found in
-    let at = up-to (GivingUp c.args.w.now c.loop-host.w) c.loop-host.w c.loop-host.from (giving-by c.args.w.now c.loop-host.w) c.in-Some.host f.above f.there f.passed c.loop-host.invariant in
+    let at = up-to (IsSilentIn c.loop-host.w) (GivingUp c.args.w.now c.loop-host.w) c.loop-host.w c.loop-host.from (giving-by c.args.w.now c.loop-host.w) c.in-Some.host f.above f.there f.passed c.loop-host.invariant in
     let low : c.in-Some.host < host_count c.args.w.now = omega (arith, f.there, c.loop-host.invariant.hosts) in
     giving-on c.args.w.now c.loop-host.w c.give_up.new.w c.in-Some.host at low c.in_ok-give_up.ensures.after c.in_ok-give_up.ensures.fabric c.in_ok-give_up.ensures.hosts
 
 pub returns-clause-after : goal.returns-clause-after
 returns-clause-after c =
-    let all = to-end (GivingUp c.args.w.now c.loop-host.w) c.loop-host.w c.loop-host.from (giving-by c.args.w.now c.loop-host.w) c.in_default.ensures.none c.loop-host.invariant in
+    let all = to-end (IsSilentIn c.loop-host.w) (GivingUp c.args.w.now c.loop-host.w) c.loop-host.w c.loop-host.from (giving-by c.args.w.now c.loop-host.w) c.in_default.ensures.none c.loop-host.invariant in
     giving-all c.args.w.now c.loop-host.w (c.loop-host.from + (host_count c.loop-host.w - c.loop-host.from)) all (omega (arith, c.loop-host.invariant.hosts))

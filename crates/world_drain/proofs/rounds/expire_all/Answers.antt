@@ -1,5 +1,6 @@
 use Rattle.std.proofs.Common.{◌<◌, ◌-◌, ◌+◌, arith}
 use Rattle.world_defs.specs.World.{host_count}
+use Rattle.fab_world.specs.Resting.{RestsIn}
 use Rattle.world_drain.proofs.AtRest.{up-to, to-end, expiring-by}
 use Rattle.world_drain.proofs.Expiries.{ExpiringAll, expiring_all-none, expiring_all-on, expiring_all-cut, expiring_all-all}
 use Rattle.world_drain.proofs.Later.{on-any}
@@ -11,7 +12,7 @@ loop-host-init c = expiring_all-none c.args.w.now
 pub returns-in_err-expire_host_due-clause-err : goal.returns-in_err-expire_host_due-clause-err
 returns-in_err-expire_host_due-clause-err c =
     let f = c.in-Some.ensures.found in
-    let at = up-to (ExpiringAll c.args.w.now c.loop-host.w) c.loop-host.w c.loop-host.from (expiring-by c.args.w.now c.loop-host.w) c.in-Some.host f.above f.there f.passed c.loop-host.invariant in
+    let at = up-to (RestsIn c.loop-host.w) (ExpiringAll c.args.w.now c.loop-host.w) c.loop-host.w c.loop-host.from (expiring-by c.args.w.now c.loop-host.w) c.in-Some.host f.above f.there f.passed c.loop-host.invariant in
     let low : c.in-Some.host < host_count c.args.w.now = omega (arith, f.there, c.loop-host.invariant.hosts) in
     on-any c.from_residual.result
     (expiring_all-cut c.args.w.now c.loop-host.w c.expire_host_due.new.w c.in-Some.host at low c.in_err-expire_host_due.ensures.err)
@@ -19,11 +20,11 @@ returns-in_err-expire_host_due-clause-err c =
 pub loop-host-preserved : goal.loop-host-preserved
 loop-host-preserved c =
     let f = c.in-Some.ensures.found in
-    let at = up-to (ExpiringAll c.args.w.now c.loop-host.w) c.loop-host.w c.loop-host.from (expiring-by c.args.w.now c.loop-host.w) c.in-Some.host f.above f.there f.passed c.loop-host.invariant in
+    let at = up-to (RestsIn c.loop-host.w) (ExpiringAll c.args.w.now c.loop-host.w) c.loop-host.w c.loop-host.from (expiring-by c.args.w.now c.loop-host.w) c.in-Some.host f.above f.there f.passed c.loop-host.invariant in
     let low : c.in-Some.host < host_count c.args.w.now = omega (arith, f.there, c.loop-host.invariant.hosts) in
     expiring_all-on c.args.w.now c.loop-host.w c.expire_host_due.new.w c.in-Some.host at low c.in_ok-expire_host_due.ensures.after c.in_ok-expire_host_due.ensures.hosts
 
 pub returns-clause-after : goal.returns-clause-after
 returns-clause-after c =
-    let all = to-end (ExpiringAll c.args.w.now c.loop-host.w) c.loop-host.w c.loop-host.from (expiring-by c.args.w.now c.loop-host.w) c.in_default.ensures.none c.loop-host.invariant in
+    let all = to-end (RestsIn c.loop-host.w) (ExpiringAll c.args.w.now c.loop-host.w) c.loop-host.w c.loop-host.from (expiring-by c.args.w.now c.loop-host.w) c.in_default.ensures.none c.loop-host.invariant in
     expiring_all-all c.args.w.now c.loop-host.w (c.loop-host.from + (host_count c.loop-host.w - c.loop-host.from)) all (omega (arith, c.loop-host.invariant.hosts))

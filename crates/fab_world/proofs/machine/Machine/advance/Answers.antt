@@ -10,7 +10,7 @@ use Rattle.fab_world.proofs.machine.Machine.advance.Goals as goal
 
 pub mark-requires : goal.mark-requires
 mark-requires c =
-    has-mark c.self.inside.links c.self.inside.hosts.items c.self.inside.adopted c.args.self.now c.self.inside.awake c.in-Some.host c.from-at.result c.self.view_is c.self.invariant
+    has-mark c.self.inside.links c.self.inside.hosts.items c.self.inside.adopted c.args.self.now c.self.inside.marks c.in-Some.host c.from-at.result c.self.view_is c.self.invariant
     (below-is c.args.self.now c.self.inside.links c.self.inside.hosts.items c.self.inside.adopted c.in-Some.host c.self.view_is c.requires.hosts c.in-Some.ensures.host) c.from-at.ensures
 
 pub index_mut-requires : goal.index_mut-requires
@@ -24,13 +24,13 @@ pub invariant_of-self : goal.invariant_of-self
 invariant_of-self c =
     let at : IsAt c.self.inside.links c.self.inside.hosts.items c.self.inside.adopted c.args.self.now c.in-Some.host c.from-at.result c.index_mut.result.now =
     record { is = c.self.view_is; kept = c.self.invariant.hosts; below = below-is c.args.self.now c.self.inside.links c.self.inside.hosts.items c.self.inside.adopted c.in-Some.host c.self.view_is c.requires.hosts c.in-Some.ensures.host; at = c.from-at.ensures; there = c.index_mut.ensures.value } in
-    still-watched c.self.inside.awake c.on_packet.new.self at c.self.invariant c.in_err-arrival-in-Some.ensures.unchanged
+    still-watched c.self.inside.marks c.on_packet.new.self at c.self.invariant c.in_err-arrival-in-Some.ensures.unchanged
 
 pub invariant_of-self-in-Some : goal.invariant_of-self-in-Some
 invariant_of-self-in-Some c =
     let at : IsAt c.self.inside.links c.self.inside.hosts.items c.self.inside.adopted c.args.self.now c.in-Some.host c.from-at.result c.index_mut.result.now =
     record { is = c.self.view_is; kept = c.self.invariant.hosts; below = below-is c.args.self.now c.self.inside.links c.self.inside.hosts.items c.self.inside.adopted c.in-Some.host c.self.view_is c.requires.hosts c.in-Some.ensures.host; at = c.from-at.ensures; there = c.index_mut.ensures.value } in
-    marked c.self.inside.awake c.mark.new.self c.on_packet.new.self at c.self.invariant (kept-in-state c.on_packet.new.self (hear c.index_mut.result.now.host c.index_mut.result.now.hosts c.index_mut.result.now.state c.in-Some.packet.now).1 at c.in_ok-arrival-in-Some.ensures.after) c.mark.ensures
+    marked c.self.inside.marks c.mark.new.self c.on_packet.new.self at c.self.invariant (kept-in-state c.on_packet.new.self (hear c.index_mut.result.now.host c.index_mut.result.now.hosts c.index_mut.result.now.state c.in-Some.packet.now).1 at c.in_ok-arrival-in-Some.ensures.after) c.mark.ensures
 
 pub returns-in_err-arrival-in-Some-clause-err : goal.returns-in_err-arrival-in-Some-clause-err
 returns-in_err-arrival-in-Some-clause-err c =

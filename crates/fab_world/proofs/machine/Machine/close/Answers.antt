@@ -8,14 +8,14 @@ use Rattle.fab_world.proofs.machine.Machine.close.Goals as goal
 
 pub mark-requires : goal.mark-requires
 mark-requires c =
-    has-mark c.self.inside.links c.self.inside.hosts.items c.self.inside.adopted c.args.self.now c.self.inside.awake c.args.host c.from-at.result c.self.view_is c.self.invariant
+    has-mark c.self.inside.links c.self.inside.hosts.items c.self.inside.adopted c.args.self.now c.self.inside.marks c.args.host c.from-at.result c.self.view_is c.self.invariant
     c.requires.there c.from-at.ensures
 
 pub invariant_of-self : goal.invariant_of-self
 invariant_of-self c =
     let at : IsAt c.self.inside.links c.self.inside.hosts.items c.self.inside.adopted c.args.self.now c.args.host c.from-at.result c.index_mut.result.now =
     record { is = c.self.view_is; kept = c.self.invariant.hosts; below = c.requires.there; at = c.from-at.ensures; there = c.index_mut.ensures.value } in
-    marked c.self.inside.awake c.mark.new.self c.close-said.new.self at c.self.invariant (kept-called c.args.port c.close-said.new.self (closed c.index_mut.result.now.state c.args.port (client_in c.index_mut.result.now c.args.port)) at c.close-said.ensures.after) c.mark.ensures
+    marked c.self.inside.marks c.mark.new.self c.close-said.new.self at c.self.invariant (kept-called c.args.port c.close-said.new.self (closed c.index_mut.result.now.state c.args.port (client_in c.index_mut.result.now c.args.port)) at c.close-said.ensures.after) c.mark.ensures
 
 pub returns : goal.returns
 returns c =

@@ -9,14 +9,14 @@ use Rattle.std.specs.Prelude.{Some}
 
 pub mark-requires : goal.mark-requires
 mark-requires c =
-    has-mark c.self.inside.links c.self.inside.hosts.items c.self.inside.adopted c.args.self.now c.self.inside.awake c.args.sent.mapper c.from-at.result c.self.view_is c.self.invariant
+    has-mark c.self.inside.links c.self.inside.hosts.items c.self.inside.adopted c.args.self.now c.self.inside.marks c.args.sent.mapper c.from-at.result c.self.view_is c.self.invariant
     c.requires.there c.from-at.ensures
 
 pub invariant_of-self : goal.invariant_of-self
 invariant_of-self c =
     let at : IsAt c.self.inside.links c.self.inside.hosts.items c.self.inside.adopted c.args.self.now c.args.sent.mapper c.from-at.result c.index_mut.result.now =
     record { is = c.self.view_is; kept = c.self.invariant.hosts; below = c.requires.there; at = c.from-at.ensures; there = c.index_mut.ensures.value } in
-    marked c.self.inside.awake c.mark.new.self c.part.new.self at c.self.invariant (kept-in-state c.part.new.self (record c.index_mut.result.now.state { staged = Some (StagedPart c.args.sent.part c.args.sent.by) }) at c.part.ensures) c.mark.ensures
+    marked c.self.inside.marks c.mark.new.self c.part.new.self at c.self.invariant (kept-in-state c.part.new.self (record c.index_mut.result.now.state { staged = Some (StagedPart c.args.sent.part c.args.sent.by) }) at c.part.ensures) c.mark.ensures
 
 pub returns : goal.returns
 returns c =
