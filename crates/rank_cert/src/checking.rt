@@ -135,8 +135,8 @@ fn rank_at(at: Option<(u32, i8)>, k: &Ranks) -> Option<u64>
     }
 }
 
-// The fault of the channel that leaves by a port, if one does, with its rank, after the channel before it. One does where
-// there is a far end.
+// The fault of the channel that leaves by a port, if one does, with its rank, after the channel before it. One does
+// where there is a far end.
 fn fault_at(
     m: &FabricMap,
     before: Option<((u32, i8), u64)>,

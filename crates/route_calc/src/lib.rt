@@ -14,8 +14,9 @@
 //! them, one sweep finds all, and a second one sees that nothing is left.
 //!
 //! ```text
-//!   a ---- s ---- t ---- b      To b, the distances of b, t and s are 0, 1 and 2. From s, the least port that leads to a distance
-//!   -      2      1      0      of at most 1 is the one to t, from t the one to b. A host leads nowhere on.
+//!   a ---- s ---- t ---- b      To b, the distances of b, t and s are 0, 1 and 2. From s, the least port that leads
+//!   -      2      1      0      to a distance of at most 1 is the one to t, from t the one to b. A host leads nowhere
+//!                               on.
 //! ```
 //!
 //! | module | has |

@@ -11,7 +11,7 @@
 //!   Routes, no such map    routes refused nomap
 //!   Routes                 the last map, which says complete --> routes --> their lines; the routes are kept
 //!   Install, refused       install refused noroutes, busy or installed
-//!   Install                the last routes --> adopted --> their parts, host by host --> its line, then each host's table
+//!   Install                the last routes --> adopted --> their parts, host by host --> its line, then the tables
 //!   Settle                 a clear, and rounds of sending again --> its line
 //!   all others             at most one event of the world --> its line (`world_commands`)
 //! ```
