@@ -17,9 +17,9 @@ END
 printf '%s\n' '### Base crates of definitions' '| `net_defs` | a |' '| `map_defs` | b |' '| `run_defs` | c |' '### Laws' '| `map_laws` | d |' \
   '| `fabric_run` | e |' '### The program' '| `gone_laws` | f |' > "$root/docs/ARCHITECTURE.md"
 printf '## %s\n' 'Base crates of definitions' > "$root/docs/PROVED.md"
-printf '### `%s`: what it promises\n' net_defs map_defs run_defs >> "$root/docs/PROVED.md"
+printf '| `%s` | what it promises |\n' net_defs map_defs run_defs >> "$root/docs/PROVED.md"
 printf '## %s\n' 'Laws' 'The program' >> "$root/docs/PROVED.md"
-printf '### `%s`: what it promises\n' map_laws >> "$root/docs/PROVED.md"
+printf '| `%s` | what it promises |\n' map_laws >> "$root/docs/PROVED.md"
 printf '%s\n' '| `far` | `crates/net_defs/specs/Network.antt` | ? |' '| `near` | `crates/net_defs/specs/Network.antt` | ? |' > "$root/docs/DEFINITIONS.md"
 printf 'abbrev pub far : A\n' > "$root/crates/net_defs/specs/Network.antt"
 draw-crates "$root" > "$root/docs/pictures/laws.svg"
