@@ -135,6 +135,13 @@ lone-is ps c one low full =
       others = λ k other. sym (get_or-set_other ps c k None None other) ∙ none-counted (set ps c None) k (omega (arith, less, one));
     }
 
+some-mark : (o : Option Held) → is_some o ≡ true → full_of o ≡ 1
+some-mark None e = cc
+some-mark (Some held) e = refl
+
+pub lone-at : (ps : List (Option Held)) (words : List ℕ) (count c : ℕ) → IsIndexed ps count words → count ≡ 1 → is_some (get_or ps c None) ≡ true → IsLone ps c
+lone-at ps words count c is one full = lone-is ps c (sym is.counted ∙ one) (full-there ps c (some-mark (get_or ps c None) full)) full
+
 pub lone-next : (ps : List (Option Held)) (words : List ℕ) (count : ℕ) (o : Option ℕ) → IsIndexed ps count words → count ≡ 1 → IfSome o (IsNextMark words 0) → IfSome o (IsLone ps)
 lone-next ps words count None is one found = tt
 lone-next ps words count (Some c) is one found =

@@ -106,6 +106,8 @@ impl Slot {
 pub struct Slots {
     slots: Vec<Option<Slot>>,
     full: usize,
+    // The channel that was filled last: where one channel alone is full, it is most often this one.
+    last: usize,
     marks: Vec<u64>,
 }
 
@@ -134,6 +136,7 @@ impl Slots {
         Ok(Slots {
             slots,
             full: 0,
+            last: 0,
             marks: bare(alloc, channels)?,
         })
     }
@@ -158,15 +161,18 @@ impl Slots {
         }
     }
 
-    /// The channel that is full where no other is. None where several are, or none is. It looks at the count first.
+    /// The channel that is full where no other is. None where several are, or none is. It looks at the count first,
+    /// and then at the channel that was filled last.
     pub fn lone(&self) -> Option<usize>
         ensures lone { IfSome result (IsLone self.now) }
         ensures none { IfNone result (full_count self.now ≢ 1) }
     {
-        if self.full == 1 {
-            next_marked(&self.marks, 0)
-        } else {
+        if self.full != 1 {
             None
+        } else if is_full_at(&self.slots, self.last) {
+            Some(self.last)
+        } else {
+            next_marked(&self.marks, 0)
         }
     }
 
@@ -208,7 +214,18 @@ impl Slots {
     {
         let _ = replace_at(&mut self.slots, c, Some(slot));
         self.full += 1;
+        self.last = c;
         mark(&mut self.marks, c);
+    }
+}
+
+// Whether there is a packet at a place; there is none where no channel is.
+fn is_full_at(slots: &[Option<Slot>], c: usize) -> bool
+    ensures { result ≡ is_some (slice_index_or slots.now c None) }
+{
+    match slots.get(c) {
+        Some(slot) => slot.is_some(),
+        None => false,
     }
 }
 

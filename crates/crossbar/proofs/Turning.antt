@@ -15,11 +15,8 @@ out-turn ports entry port wire e = by (front_turn wire) e
     by None e = cc
     by (Some turn) e = refl
 
-pub stripped-keeps : (wire : List ℕ) → is_some (front_turn wire) ≡ true → difference (stripped wire) ≡ difference wire
-stripped-keeps wire turn = strip_keeps wire (two_bytes wire turn)
-
 out-keeps : (ports entry port : ℕ) (wire : List ℕ) → aim ports entry wire ≡ Out port → difference (stripped wire) ≡ difference wire
-out-keeps ports entry port wire e = stripped-keeps wire (out-turn ports entry port wire e)
+out-keeps ports entry port wire e = strip_keeps wire (two_bytes wire (out-turn ports entry port wire e))
 
 pub aimed-keeps : (ports entry : ℕ) (wire : List ℕ) (t : Turned) → t ≡ aim ports entry wire → difference (after_aim t wire) ≡ difference wire
 aimed-keeps ports entry wire (Out port) e = out-keeps ports entry port wire (sym e)

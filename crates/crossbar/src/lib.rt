@@ -10,7 +10,7 @@
 #![tactic(auto)]
 
 ghost use Rattle.std.specs.Prelude.{◌≡◌, ◌<◌, ◌≤◌, ℕ, Some, IsSome};
-ghost use Rattle.packet_defs.specs.Packet.{difference, front_turn, stripped};
+ghost use Rattle.packet_defs.specs.Packet.{difference, front_turn};
 ghost use Rattle.link_defs.specs.Switch.{aim, aim_of, after_aim};
 
 pub use link_defs::Turned;
@@ -45,28 +45,9 @@ pub fn turn<const P: usize>(entry: u8, p: &mut Packet) -> Turned
     ensures packet { p.new ≡ after_aim result p.old }
     ensures difference { difference p.new ≡ difference p.old }
 {
-    turn_by(P as u8, entry, p)
-}
-
-/// The same of a switch whose ports are counted where the program runs.
-pub fn turn_by(ports: u8, entry: u8, p: &mut Packet) -> Turned
-    ensures aim { result ≡ aim ports entry p.old }
-    ensures packet { p.new ≡ after_aim result p.old }
-    ensures difference { difference p.new ≡ difference p.old }
-{
-    let turned = aim_by(ports, entry, p);
+    let turned = aim::<P>(entry, p);
     strip_out(turned, p);
     turned
-}
-
-/// Sends out a packet that is known to go out of a switch: it is stripped, as by [`turn_by`], and its way isn't looked
-/// at again.
-pub fn send_out(p: &mut Packet)
-    requires { IsSome (front_turn p.old) }
-    ensures packet { p.new ≡ stripped p.old }
-    ensures difference { difference p.new ≡ difference p.old }
-{
-    p.strip_turn();
 }
 
 // Strips a packet where it goes out.
@@ -75,7 +56,7 @@ fn strip_out(turned: Turned, p: &mut Packet)
     ensures { p.new ≡ after_aim turned p.old }
 {
     if let Turned::Out(_) = turned {
-        send_out(p);
+        p.strip_turn();
     }
 }
 

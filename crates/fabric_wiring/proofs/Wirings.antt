@@ -1,12 +1,14 @@
 -- The tables of a wiring.
-use Rattle.std.proofs.Common.{◌≡◌, ◌≢◌, ◌<◌, ◌+◌, ◌*◌, ℕ, zero, suc, Bool, true, false, nat_eq, List, [], ◌∷◌, ◌++◌, length, take, drop, replicate, get_or, set, Option, Some, None, refl, sym, ap, ◌∙◌, subst, add-one, ◌/◌, ◌%◌, arith, append_assoc, true≢false, if◌then◌else◌}
+use Rattle.std.proofs.Common.{◌≡◌, ◌≢◌, ◌<◌, ◌+◌, ◌*◌, ℕ, zero, suc, Bool, true, false, nat_eq, nat_lt, List, [], ◌∷◌, ◌++◌, length, take, drop, replicate, get_or, set, Option, Some, None, refl, sym, ap, ◌∙◌, subst, add-one, ◌/◌, ◌%◌, arith, append_assoc, true≢false, if◌then◌else◌}
 use Rattle.std.specs.List.{slice_get, AllByRecursion}
-use Rattle.std.specs.Option.{option_map}
+use Rattle.std.specs.Option.{option_map, option_map_or}
+use Rattle.std.proofs.lemmas.Bool.Decides.{nat_tests}
 use Rattle.std.proofs.lemmas.List.{length-replicate, replicate-append-replicate, get_or-set_same, get_or-set_other}
 use Rattle.std.proofs.Math.ListN.{length-set}
 use Rattle.net_defs.specs.declared.vertex.End.{End}
 use Rattle.net_defs.specs.declared.vertex.Cable.{Cable}
-use Rattle.net_defs.specs.Network.{Network, IsFabric, has_port, ports_of, same_end, ends_of}
+use Rattle.net_defs.specs.declared.vertex.Vertex.TheVariants.{Switch}
+use Rattle.net_defs.specs.Network.{Network, NamedSwitch, IsFabric, has_port, is_port_count, ports_of, same_end, ends_of}
 use Rattle.net_defs.specs.Route.{channel_out, channel_from}
 use Rattle.net_defs.proofs.Ends.{same_end-true, same_end-refl, same_end-false}
 use Rattle.net_defs.proofs.Distinct.{all-weaker}
@@ -78,17 +80,30 @@ head-port n c d f is = by (slice_get n.cables (c / 2)) refl is
     by None got to = cc
     by (Some cable) got to = let same : (if nat_eq (c % 2) 0 then cable.b else cable.a) ≡ d = cc in subst (λ x. has_port n x ≡ true) same (end_by (nat_eq (c % 2) 0) cable got)
 
+-- a switch that has a port has as many as a switch may have
+switch-counted : (ws : List NamedSwitch) (s p : ℕ) → AllByRecursion (λ w. is_port_count w.ports ≡ true) ws → nat_lt p (option_map_or (λ w. w.ports) (slice_get ws s) 0) ≡ true → is_port_count (option_map_or (λ w. w.ports) (slice_get ws s) 0) ≡ true
+switch-counted [] s p all h = grind (arith, nat_tests)
+switch-counted (w ∷ ws) zero p all h = all.0
+switch-counted (w ∷ ws) (suc s) p all h = switch-counted ws s p all.1 h
+
+counted-there : (n : Network) (e : End) (s : ℕ) → IsFabric n → has_port n e ≡ true → e.v ≡ Switch s → is_port_count (ports_of n e.v) ≡ true
+counted-there n e s f there is =
+    let at : nat_lt e.p (ports_of n (Switch s)) ≡ true = sym (ap (λ v. nat_lt e.p (ports_of n v)) is) ∙ there in
+    ap (λ v. is_port_count (ports_of n v)) is ∙ switch-counted n.switches s e.p f.port_counts at
+
 -- what an entry tells of its channel
 pub record IsEntry (n : Network) (c : ℕ) (e : Entry) : Type 0 where
   pub end : channel_head n c ≡ Some e.end
   pub ports : e.ports ≡ ports_of n e.end.v
   pub there : has_port n e.end ≡ true
+  pub switch : (s : ℕ) → e.end.v ≡ Switch s → is_port_count e.ports ≡ true
 
 pub entry-there : (n m : Network) (entries there : List Entry) (c at : ℕ) (e : Entry) → IsFabric n → entries ≡ entries_of n n.cables → n ≡ m → there ≡ entries → at ≡ c → slice_get there at ≡ Some e → IsEntry m c e
 entry-there n m entries there c at e f same view whole place is =
     let got : slice_get (entries_of n n.cables) c ≡ Some e = ap (slice_get (entries_of n n.cables)) (sym place) ∙ ap (λ l. slice_get l at) (sym (whole ∙ same)) ∙ is in
     let parts = entry-of n (channel_head n c) e (sym (entries-get n n.cables c) ∙ got) in
-    subst (λ x. IsEntry x c e) view (record { end = parts.0; ports = parts.1; there = head-port n c e.end f parts.0 })
+    let there = head-port n c e.end f parts.0 in
+    subst (λ x. IsEntry x c e) view (record { end = parts.0; ports = parts.1; there = there; switch = λ s is. ap is_port_count parts.1 ∙ counted-there n e.end s f there is })
 
 drop-got : {X : Type 0} (xs : List X) (k : ℕ) (x : X) → slice_get xs k ≡ Some x → drop k xs ≡ x ∷ drop (suc k) xs
 drop-got [] k x is = cc

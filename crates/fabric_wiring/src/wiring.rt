@@ -1,9 +1,9 @@
 //! The wiring of a fabric in flat tables.
 
-ghost use Rattle.std.specs.Prelude.{◌≡◌, ◌<◌, ◌≤◌, ◌*◌, ◌/◌, slice_get, replicate, length, drop, true, Some, None};
+ghost use Rattle.std.specs.Prelude.{◌≡◌, ◌<◌, ◌≤◌, ℕ, ◌*◌, ◌/◌, slice_get, replicate, length, drop, true, Some, None};
 ghost use Rattle.std.specs.Prelude.{slice_index_or, IfOk, IfSome};
 ghost use Rattle.std.specs.List.{AllByRecursion};
-ghost use Rattle.net_defs.specs.Network.{ends_of, has_port, ports_of, IsFabric};
+ghost use Rattle.net_defs.specs.Network.{ends_of, has_port, is_port_count, ports_of, IsFabric};
 ghost use Rattle.net_defs.specs.Route.{channel_from};
 ghost use Rattle.link_defs.specs.Channel.{channel_count, channel_tail, channel_head};
 ghost use Rattle.port_graph.specs.Table.{is_possible, place_of_end};
@@ -104,6 +104,7 @@ impl Wiring {
         ensures end { channel_head self.now c ≡ Some result.end }
         ensures ports { result.ports ≡ ports_of self.now result.end.v }
         ensures there { has_port self.now result.end ≡ true }
+        ensures switch { (s : ℕ) → result.end.v ≡ Vertex.Switch s → is_port_count result.ports ≡ true }
     {
         entry_at(&self.entries, usize::from(c))
     }

@@ -1,6 +1,5 @@
 -- What the calls need of a course, and of the channels.
 use Rattle.std.proofs.Common.{◌≡◌, ◌<◌, ℕ, Bool, true, false, not, ◌&&◌, List, length, Option, Some, None, refl, sym, ap, ◌∙◌, subst, if◌then◌else◌}
-use Rattle.std.specs.Prelude.{ℤ, IsSome}
 use Rattle.std.specs.Option.{option_map, IfSome}
 use Rattle.std.specs.List.{AllByRecursion}
 use Rattle.link_defs.specs.Shape.{IsLinks}
@@ -9,7 +8,7 @@ use Rattle.net_defs.specs.declared.vertex.Vertex.TheVariants.{Host, Switch}
 use Rattle.net_defs.specs.declared.vertex.End.{End}
 use Rattle.net_defs.specs.Network.{Network, ports_of}
 use Rattle.net_defs.specs.Route.{channel_from}
-use Rattle.packet_defs.specs.Packet.{front_turn, stripped}
+use Rattle.packet_defs.specs.Packet.{stripped}
 use Rattle.packet_defs.specs.Burst.{flipped, may_flip}
 use Rattle.link_defs.specs.declared.turned.Turned.{Turned}
 use Rattle.link_defs.specs.declared.turned.Turned.TheVariants.{Out, OutOfRange, NotRoute}
@@ -17,7 +16,7 @@ use Rattle.link_defs.specs.declared.moved.Course.{Course}
 use Rattle.link_defs.specs.declared.moved.Course.TheVariants.{Enters}
 use Rattle.link_defs.specs.declared.moved.Moved.TheVariants.{To}
 use Rattle.link_defs.specs.Channel.{channel_count, channel_head}
-use Rattle.link_defs.specs.Switch.{aim, aim_of}
+use Rattle.link_defs.specs.Switch.{aim, after_aim}
 use Rattle.link_defs.specs.Links.{Held, LinkState, packet_in, with_packet, emptied}
 use Rattle.link_defs.specs.Advance.{course_by_channel, course_out, course_at, course_into, course, entered, gone_on, advance_of, advance}
 use Rattle.link_defs.specs.Fault.{flip, flip_of}
@@ -52,21 +51,19 @@ entering s c next is = by (packet_in s c) is
     by None e = cc
     by (Some held) e = let to : course s.net c held.wire ≡ Enters next = cc in course-below s.net c held.wire next to
 
--- a packet that a switch sends on has a turn in front
-turn-out : (n : Network) (s next ports entry : ℕ) (o : Option ℤ) → course_out n s (aim_of ports entry o) ≡ Enters next → IsSome o
-turn-out n s next ports entry None to = cc
-turn-out n s next ports entry (Some turn) to = refl
+-- a packet that a switch sends on is stripped there
+stripped-out : (n : Network) (s next : ℕ) (t : Turned) (wire : List ℕ) → course_out n s t ≡ Enters next → after_aim t wire ≡ stripped wire
+stripped-out n s next (Out port) wire to = refl
+stripped-out n s next OutOfRange wire to = cc
+stripped-out n s next NotRoute wire to = cc
 
-turn-at : (n : Network) (wire : List ℕ) (next : ℕ) (v : Vertex) (p : ℕ) → course_at n v p wire ≡ Enters next → IsSome (front_turn wire)
-turn-at n wire next (Host h) p to = cc
-turn-at n wire next (Switch s) p to = turn-out n s next (ports_of n (Switch s)) p (front_turn wire) to
+stripped-at : (n : Network) (wire : List ℕ) (next : ℕ) (v : Vertex) (p : ℕ) → course_at n v p wire ≡ Enters next → after_aim (aim (ports_of n v) p wire) wire ≡ stripped wire
+stripped-at n wire next (Host h) p to = cc
+stripped-at n wire next (Switch s) p to = stripped-out n s next (aim (ports_of n (Switch s)) p wire) wire to
 
-turn-head : (n : Network) (wire : List ℕ) (next : ℕ) (o : Option End) → course_into n o wire ≡ Enters next → IsSome (front_turn wire)
-turn-head n wire next None to = cc
-turn-head n wire next (Some e) to = turn-at n wire next e.v e.p to
-
-pub turn-there : (n : Network) (c next : ℕ) (wire : List ℕ) → course n c wire ≡ Enters next → IsSome (front_turn wire)
-turn-there n c next wire to = turn-head n wire next (channel_head n c) to
+pub stripped-behind : (n : Network) (c next ports : ℕ) (e : End) (wire : List ℕ) → channel_head n c ≡ Some e → ports ≡ ports_of n e.v → course n c wire ≡ Enters next → after_aim (aim ports e.p wire) wire ≡ stripped wire
+stripped-behind n c next ports e wire head count to =
+    ap (λ k. after_aim (aim k e.p wire) wire) count ∙ stripped-at n wire next e.v e.p (sym (ap (λ o. course_into n o wire) head) ∙ to)
 
 -- a channel holds a packet that goes there
 pub same-course : (n : Network) (c : ℕ) (o : Option Held) (held : Held) (to : Course) → o ≡ Some held → option_map (λ h. course n c h.wire) o ≡ Some to → course n c held.wire ≡ to

@@ -1,15 +1,16 @@
 //! Where a channel's packet goes, whatever the other channels hold.
 
 ghost use Rattle.std.specs.Prelude.{◌≡◌, ◌≢◌, ◌<◌, ◌≤◌, ℕ, true};
-ghost use Rattle.net_defs.specs.Network.{has_port};
+ghost use Rattle.net_defs.specs.Network.{has_port, is_port_count, ports_of};
 ghost use Rattle.packet_defs.specs.Packet.{stripped};
+ghost use Rattle.link_defs.specs.Switch.{aim, after_aim};
 ghost use Rattle.link_defs.specs.Channel.{channel_count};
 ghost use Rattle.link_defs.specs.Advance.{course, course_out};
 ghost use Rattle.link_model.specs.Hop.{IsSentOn, IsSentAlong};
 
 use crate::hop::Run;
 use channel_slots::Slot;
-use crossbar::{aim_by, send_out};
+use crossbar::{aim, aim_by, turn};
 use fabric_wiring::Wiring;
 use link_defs::{Course, Turned, Why};
 use myri_packet::Packet;
@@ -49,17 +50,67 @@ pub(crate) fn turned(wiring: &Wiring, c: u16, slot: Slot) -> Slot
     ensures { result ≡ record slot { wire = stripped slot.wire } }
 {
     let (mut packet, marked) = slot.into_parts();
-    turn(wiring, c, &mut packet);
+    turn_on(wiring, c, &mut packet);
     Slot::from_parts(packet, marked)
 }
 
 // The switch ahead of a channel turns its packet, which is known to go on into a channel.
-fn turn(wiring: &Wiring, c: u16, packet: &mut Packet)
+fn turn_on(wiring: &Wiring, c: u16, packet: &mut Packet)
     requires there { c < channel_count wiring.now }
     requires goes { IsSentOn wiring.now c packet.old }
     ensures { packet.new ≡ stripped packet.old }
 {
-    send_out(packet);
+    let entry = wiring.entry(c);
+    turn_at(entry.ports, entry.end.p, packet);
+}
+
+// A switch turns a packet, by the call for its number of ports.
+fn turn_at(ports: u8, entry: u8, packet: &mut Packet) -> Turned
+    requires counted { is_port_count ports ≡ true }
+    requires entered { entry < ports }
+    ensures aim { result ≡ aim ports entry packet.old }
+    ensures packet { packet.new ≡ after_aim result packet.old }
+{
+    match ports {
+        4 => turn::<4>(entry, packet),
+        8 => turn::<8>(entry, packet),
+        _ => turn::<16>(entry, packet),
+    }
+}
+
+// Where the packet of a channel goes. Where that is into a channel, the switch ahead turns it. Aim and turn stand in one
+// function for each number of ports, so that compilers see that they look at the same byte.
+fn go_on(wiring: &Wiring, c: u16, packet: &mut Packet) -> Course
+    requires { c < channel_count wiring.now }
+    ensures course { result ≡ course wiring.now c packet.old }
+    ensures on { (next : ℕ) → result ≡ Course.Enters next → packet.new ≡ stripped packet.old }
+    ensures stays { ((next : ℕ) → result ≢ Course.Enters next) → packet.new ≡ packet.old }
+{
+    let entry = wiring.entry(c);
+    match entry.end.v {
+        Vertex::Host(h) => Course::Arrives(h),
+        Vertex::Switch(s) => match entry.ports {
+            4 => go_through::<4>(wiring, s, entry.end.p, packet),
+            8 => go_through::<8>(wiring, s, entry.end.p, packet),
+            _ => go_through::<16>(wiring, s, entry.end.p, packet),
+        },
+    }
+}
+
+// The same of a packet that enters a switch of P ports by one of them.
+fn go_through<const P: usize>(wiring: &Wiring, s: u16, entry: u8, packet: &mut Packet) -> Course
+    requires counted { ports_of wiring.now (Vertex.Switch s) ≡ P }
+    requires entered { entry < P }
+    requires few { P ≤ 16 }
+    ensures course { result ≡ course_out wiring.now s (aim P entry packet.old) }
+    ensures on { (next : ℕ) → result ≡ Course.Enters next → packet.new ≡ stripped packet.old }
+    ensures stays { ((next : ℕ) → result ≢ Course.Enters next) → packet.new ≡ packet.old }
+{
+    let course = course_out(wiring, s, aim::<P>(entry, packet));
+    if let Course::Enters(_) = course {
+        turn::<P>(entry, packet);
+    }
+    course
 }
 
 /// The packet of a channel goes on, whatever the channels hold, until it leaves them: how far. Each switch turns it.
@@ -73,8 +124,7 @@ pub(crate) fn follow(wiring: &Wiring, c: u16, packet: &mut Packet) -> Run
     let _few = packet.wire();
     let mut at = c;
     let mut hops = 0;
-    while let Course::Enters(next) = course(wiring, at, packet) {
-        turn(wiring, at, packet);
+    while let Course::Enters(next) = go_on(wiring, at, packet) {
         at = next;
         hops += 1;
     }

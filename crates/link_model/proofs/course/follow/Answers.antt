@@ -1,12 +1,10 @@
-use Rattle.std.proofs.Common.{◌+◌, sym, refl, arith}
+use Rattle.std.proofs.Common.{◌+◌, sym, refl, subst, arith}
+use Rattle.link_model.specs.Hop.{IsSentAlong}
 use Rattle.link_model.proofs.Runs.{hops-most, following-none, following-on, hop-fewer}
 use Rattle.link_model.proofs.course.follow.Goals as goal
 
 pub loop-next-init : goal.loop-next-init
 loop-next-init c = following-none c.args.wiring.now c.args.c c.args.packet.now c.requires
-
-pub turn-requires-clause-goes : goal.turn-requires-clause-goes
-turn-requires-clause-goes c = (c.in-Enters.next, sym c.in-Enters.ensures)
 
 pub overflow_add-hops : goal.overflow_add-hops
 overflow_add-hops c =
@@ -16,16 +14,16 @@ overflow_add-hops c =
 
 pub loop-next-smaller : goal.loop-next-smaller
 loop-next-smaller c =
-    let fewer = hop-fewer c.args.wiring.now c.loop-next.at c.in-Enters.next c.loop-next.packet c.turn.new.packet (sym c.in-Enters.ensures) c.turn.ensures in
+    let fewer = hop-fewer c.args.wiring.now c.loop-next.at c.in-Enters.next c.loop-next.packet c.go_on.new.packet (sym c.in-Enters.ensures.course) (c.in-Enters.ensures.on c.in-Enters.next refl) in
     omega (arith, fewer)
 
 pub loop-next-preserved : goal.loop-next-preserved
 loop-next-preserved c =
-    following-on c.args.wiring.now c.args.c c.args.packet.now c.loop-next.packet c.turn.new.packet c.loop-next.hops c.loop-next.at c.in-Enters.next (c.loop-next.hops + 1)
-    c.loop-next.invariant (sym c.in-Enters.ensures) c.turn.ensures refl
+    following-on c.args.wiring.now c.args.c c.args.packet.now c.loop-next.packet c.go_on.new.packet c.loop-next.hops c.loop-next.at c.in-Enters.next (c.loop-next.hops + 1)
+    c.loop-next.invariant (sym c.in-Enters.ensures.course) (c.in-Enters.ensures.on c.in-Enters.next refl) refl
 
 pub returns-clause-along : goal.returns-clause-along
-returns-clause-along c = c.loop-next.invariant.along
+returns-clause-along c = subst (IsSentAlong c.args.wiring.now c.args.c c.args.packet.now c.loop-next.hops c.loop-next.at) (sym (c.go_on.ensures.stays c.in_default.not-Enters)) c.loop-next.invariant.along
 
 pub returns-clause-few : goal.returns-clause-few
 returns-clause-few c =

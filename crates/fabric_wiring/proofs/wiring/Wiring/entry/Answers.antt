@@ -25,3 +25,8 @@ pub returns-clause-there : goal.returns-clause-there
 returns-clause-there c =
     (entry-there c.self.inside.fabric.value c.args.self.now c.self.inside.entries.items c.deref.result.now c.args.c c.from.result c.entry_at.result c.self.invariant.fabric c.self.invariant.entered
     c.self.view_is c.deref.ensures.value c.from.ensures c.entry_at.ensures).there
+
+pub returns-clause-switch : goal.returns-clause-switch
+returns-clause-switch c =
+    (entry-there c.self.inside.fabric.value c.args.self.now c.self.inside.entries.items c.deref.result.now c.args.c c.from.result c.entry_at.result c.self.invariant.fabric c.self.invariant.entered
+    c.self.view_is c.deref.ensures.value c.from.ensures c.entry_at.ensures).switch
