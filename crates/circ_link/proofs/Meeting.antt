@@ -83,6 +83,25 @@ pub or-either : (a b : Bool) → (a || b) ≡ true → (a ≡ true) ⊎ (b ≡ t
 or-either true b e = inl refl
 or-either false b e = inr e
 
+-- exits that meet no cable again meet no channel again
+fewer-met : (n : Network) (e : End) (es : List End) → list_any (meets n true e) es ≡ false → list_any (meets n false e) es ≡ false
+fewer-met n e [] p = refl
+fewer-met n e (d ∷ es) p = by (same_end d e) (is_end (far n e) d) (list_any (meets n true e) es) (list_any (meets n false e) es) p (fewer-met n e es)
+  where
+    by : (a b c x : Bool) → ((a || b) || c) ≡ false → (c ≡ false → x ≡ false) → ((a || false) || x) ≡ false
+    by true b c x p f = absurd (true≢false p)
+    by false true c x p f = absurd (true≢false p)
+    by false false c x p f = f p
+
+pub free_as_channels : (n : Network) (es : List End) → are_free n true es ≡ true → are_free n false es ≡ true
+free_as_channels n [] p = refl
+free_as_channels n (e ∷ es) p = by (list_any (meets n true e) es) (are_free n true es) (list_any (meets n false e) es) (are_free n false es) p (fewer-met n e es) (free_as_channels n es)
+  where
+    by : (a b x y : Bool) → (not a && b) ≡ true → (a ≡ false → x ≡ false) → (b ≡ true → y ≡ true) → (not x && y) ≡ true
+    by true b x y p f g = absurd (true≢false (sym p))
+    by false b true y p f g = absurd (true≢false (f refl))
+    by false b false y p f g = g p
+
 -- a cable leads on from each exit
 cable-at : (n : Network) (e : End) (c : ℕ) → IsFabric n → (x : IsExit n e c) → Joins n (cable_of c) e x.other
 cable-at n e c f x =

@@ -1,10 +1,10 @@
 //! The circuit places of walks that go on from one walk.
 
-ghost use Rattle.std.specs.Prelude.{◌≡◌, ◌+◌, ◌<◌, ◌≤◌, ◌||◌, ◌++◌, ◌∷◌, [], length, take, true, Some};
+ghost use Rattle.std.specs.Prelude.{◌≡◌, ◌+◌, ◌<◌, ◌≤◌, ◌||◌, ◌++◌, ◌∷◌, [], length, take, true, false, Some};
 ghost use Rattle.std.specs.List.{list_any};
 ghost use Rattle.net_defs.specs.Network.{far, same_end, IsFabric};
 ghost use Rattle.circ_defs.specs.Circuit.{circuit_place};
-ghost use Rattle.circ_link.specs.Exits.{IsFollowed, end_from, exit_from, held_on, held_on_at};
+ghost use Rattle.circ_link.specs.Exits.{IsFollowed, are_free, end_from, exit_from, held_on, held_on_at};
 
 use crate::circuit::{MAX_EXITS, are_free, circ_place, exit_at, follow, host_end, is_met};
 use net_defs::{End, Place, Vertex};
@@ -114,9 +114,18 @@ fn go_to(f: &Fabric, host: u16, walk: &mut Front, turns: &[i8])
         walk.count = turns.len();
         walk.turns[..turns.len()].copy_from_slice(turns);
         walk.entered = follow(f, host, turns, &mut walk.exits);
-        walk.channels = are_free(f, &walk.exits[..turns.len() + 1], false);
         walk.cables = are_free(f, &walk.exits[..turns.len() + 1], true);
+        walk.channels = are_channels_free(f, &walk.exits[..turns.len() + 1], walk.cables);
     }
+}
+
+// Whether no exit is left twice. Where no cable is crossed twice, none is.
+#[tactic(auto, using(crate::proofs::Meeting::free_as_channels))]
+fn are_channels_free(f: &Fabric, exits: &[End], cables: bool) -> bool
+    requires { cables ≡ are_free f.now true exits.now }
+    ensures { result ≡ are_free f.now false exits.now }
+{
+    cables || are_free(f, exits, false)
 }
 
 // The circuit place of a walk that was followed, with a turn more.

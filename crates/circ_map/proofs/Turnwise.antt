@@ -1,6 +1,7 @@
 -- The tree is asked in order, turn by turn and entry by entry.
-use Rattle.std.proofs.Common.{◌≡◌, ◌≢◌, ◌<◌, ◌≤◌, ◌+◌, ℕ, suc, List, [], ◌∷◌, ◌++◌, length, Bool, true, false, not, ◌&&◌, Some, sym, ◌∙◌, subst, ap, refl, arith, true≢false, ◌⊎◌, inl, inr, if◌then◌else◌, is_some}
+use Rattle.std.proofs.Common.{◌≡◌, ◌≢◌, ◌<◌, ◌≤◌, ◌+◌, ◌-◌, ℕ, suc, List, [], ◌∷◌, ◌++◌, length, take, Bool, true, false, not, ◌&&◌, Some, sym, ◌∙◌, subst, ap, refl, arith, true≢false, ◌⊎◌, inl, inr, if◌then◌else◌, is_some}
 use Rattle.std.specs.Prelude.{ℤ, slice_get}
+use Rattle.std.proofs.Math.Seq.{take-append_seam}
 use Rattle.std.proofs.lemmas.Bool.{false≢true, cases_order}
 use Rattle.std.proofs.lemmas.Bool.Decides.{nat_tests}
 use Rattle.std.proofs.lemmas.Option.{slice_get_within}
@@ -22,7 +23,7 @@ use Rattle.circ_defs.specs.Asking.{IsNextOfTree, IsOfTree, IsTreeGrowing, found_
 use Rattle.circ_defs.specs.Asking.IsOfTree.{first, onward}
 use Rattle.circ_defs.specs.Asking.IsTreeGrowing.{nothing, more}
 use Rattle.circ_class_laws.proofs.Growing.{growing-once}
-use Rattle.circ_map.specs.Growing.{IsAskedBefore, IsAsking, IsChild, IsEarlier, IsOpen, IsPassed, IsShut, IsWhole, goes_on, is_full, kept_after, told}
+use Rattle.circ_map.specs.Growing.{IsAskedBefore, IsAsking, IsChild, IsEarlier, IsOpen, IsPassed, IsShut, IsWhole, front_of, goes_on, is_full, kept_after, told}
 use Rattle.circ_map.proofs.Finding.{IsOldOrLast, answered-found, found-at, found_of-push, get-old, get-push, nodes-length}
 use Rattle.circ_map.proofs.Finding.IsOldOrLast.{old, last}
 
@@ -416,3 +417,13 @@ turn-first n host depth found after count w none empty kept counted =
 -- the prober's fabric and host stay as they were
 pub asking-same : (n o : Network) (host h depth : ℕ) (found : List Entry) (asks at : ℕ) → o ≡ n → h ≡ host → IsAsking o h depth found asks at 0 → IsAsking n host depth found asks at 0
 asking-same n o host h depth found asks at f m a = subst (λ z. IsAsking z host depth found asks at 0) f (subst (λ z. IsAsking o z depth found asks at 0) m a)
+
+-- a walk with a turn more, up to its last turn
+pub front-onward : (f w : List ℤ) (t : ℤ) → w ≡ f ++ t ∷ [] → front_of w ≡ f
+front-onward f w t is =
+    let long : length w ≡ length f + 1 = ap length is ∙ length-append f (t ∷ []) in
+    let one : length w - 1 ≡ length f = omega arith in
+    ap (λ k. take k w) one ∙ ap (take (length f)) is ∙ take-append_seam f (t ∷ [])
+
+pub some-onward : (f w : List ℤ) (t : ℤ) → w ≡ f ++ t ∷ [] → 0 < length w
+some-onward f w t is = let long : length w ≡ length f + 1 = ap length is ∙ length-append f (t ∷ []) in omega arith

@@ -1,9 +1,8 @@
 -- How the whole tree is asked: what was found is kept, and each switch among it is expanded in its turn.
-use Rattle.std.specs.Prelude.{◌≡◌, ◌⊎◌, ℕ, ◌+◌, ◌*◌, ◌<◌, ◌≤◌, ℤ, Bool, true, ◌&&◌, not, List, [], ◌∷◌, ◌++◌, length}
-use Rattle.std.specs.Prelude.{nat_lt, slice_get, All, Some, if◌then◌else◌}
+use Rattle.std.specs.Prelude.{◌≡◌, ◌⊎◌, ℕ, ◌+◌, ◌-◌, ◌*◌, ◌<◌, ◌≤◌, ℤ, Bool, true, ◌&&◌, not, List, [], ◌∷◌, ◌++◌}
+use Rattle.std.specs.Prelude.{length, nat_lt, slice_get, take, Some, if◌then◌else◌}
 use Rattle.net_defs.specs.declared.place.Answer.TheVariants.{Switch}
 use Rattle.net_defs.specs.Network.{Network}
-use Rattle.net_defs.specs.Turn.{IsTurn}
 use Rattle.journal_defs.specs.declared.entry.Entry.{Entry}
 use Rattle.journal_defs.specs.Walks.{walk_below}
 use Rattle.journal_defs.specs.Tree.{is_asked, is_found}
@@ -53,9 +52,9 @@ pub record IsOpen (depth : ℕ) (found : List Entry) (at : ℕ) (w : List ℤ) :
   pub near : crossed entry.walk < depth
   pub is : w ≡ entry.walk
 
--- turns of a walk that may have one turn more
-abbrev pub IsFront : List ℤ → Type 0
-IsFront w = (length w < 64) × All IsTurn w
+-- a walk up to its last turn
+abbrev pub front_of : List ℤ → List ℤ
+front_of w = take (length w - 1) w
 
 -- the entry at a place isn't one to expand
 abbrev pub IsShut : ℕ → List Entry → ℕ → Type 0

@@ -5,12 +5,12 @@ ghost use Rattle.std.specs.Prelude.{IfOk, IfSome, OnOk, IsTrue, ◌↔◌};
 ghost use Rattle.net_defs.specs.declared.place.Answer.{Answer};
 ghost use Rattle.journal_defs.specs.declared.entry.Entry.{Entry};
 ghost use Rattle.journal_defs.specs.Growth.{crossed};
-ghost use Rattle.circ_map.specs.Growing.{IsAsking, IsFront, IsOpen, IsPassed, IsShut};
+ghost use Rattle.circ_map.specs.Growing.{IsAsking, IsOpen, IsPassed, IsShut, front_of};
 
 use crate::asking::ask;
 use crate::prober::CircProber;
 use crate::tree::Tree;
-use crate::walks::{onward, with_room};
+use crate::walks::onward;
 use mapper::{TURNS, turn_at};
 use net_defs::{Answer, Walk};
 use probe::Entry;
@@ -36,23 +36,24 @@ pub(crate) fn expand<P: CircProber>(
     ensures same_mapper { P.mapper p.new ≡ P.mapper p.old }
 {
     match open_walk(alloc, &tree.found, depth, at)? {
-        Some(mut front) => expand_walk(alloc, p, tree, depth, at, &mut front),
+        Some(mut walk) => expand_walk(alloc, p, tree, depth, at, &mut walk),
         None => Ok(true),
     }
 }
 
-// Asks the turns of a walk that found a switch near enough, in rising order.
+// Asks the turns of a walk that found a switch near enough, in rising order: each is put at the end of one walk, of
+// which what was found takes a copy.
 fn expand_walk<P: CircProber>(
     alloc: Global,
     p: &mut P,
     tree: &mut Tree,
     depth: u8,
     at: usize,
-    front: &mut Vec<i8>,
+    walk: &mut Walk,
 ) -> Result<bool, AllocError>
     requires shallow { depth ≤ 32 }
-    requires open { IsOpen depth tree.old.found.items at front.old.items }
-    requires walk { IsFront front.old.items }
+    requires open { IsOpen depth tree.old.found.items at (front_of walk.old) }
+    requires some { 0 < length walk.old }
     requires asking { IsAsking (P.fabric p.old) (P.mapper p.old) depth tree.old.found.items tree.old.asks at 0 }
     ensures goes_on { result ≡ Ok true → IsAsking (P.fabric p.old)
         (P.mapper p.old) depth tree.new.found.items tree.new.asks (at + 1) 0 }
@@ -62,31 +63,31 @@ fn expand_walk<P: CircProber>(
     ensures same_mapper { P.mapper p.new ≡ P.mapper p.old }
 {
     for step in 0..TURNS {
-        let walk = onward(alloc, front, turn_at(step))?;
-        if !ask(p, tree, walk)? {
+        walk.turn_last(turn_at(step));
+        if !ask(alloc, p, tree, walk)? {
             return Ok(false);
         }
     }
     Ok(true)
 }
 
-// The turns of the entry at a place, if it is a switch that is near enough.
+// The walk of the entry at a place with a turn more, if it is a switch that is near enough.
 fn open_walk(
     alloc: Global,
     found: &[Entry],
     depth: u8,
     at: usize,
-) -> Result<Option<Vec<i8>>, AllocError>
+) -> Result<Option<Walk>, AllocError>
     requires shallow { depth ≤ 32 }
     requires there { at < length found.now }
-    ensures open { IfOk result (λ front. IfSome front (λ w. IsOpen depth found.now at w.items)) }
-    ensures walk { IfOk result (λ front. IfSome front (λ w. IsFront w.items)) }
+    ensures open { IfOk result (λ walk. IfSome walk (λ w. IsOpen depth found.now at (front_of w))) }
+    ensures some { IfOk result (λ walk. IfSome walk (λ w. 0 < length w)) }
     ensures shut { result ≡ Ok None → IsShut depth found.now at }
 {
     let e = &found[at];
     let turns = e.walk.turns();
     if is_switch(e.answer) && turns.len() + 1 < usize::from(depth) {
-        Ok(Some(with_room(alloc, turns)?))
+        Ok(Some(onward(alloc, turns, 0)?))
     } else {
         Ok(None)
     }

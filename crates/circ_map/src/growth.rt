@@ -61,6 +61,6 @@ pub(crate) fn started<P: CircProber>(
         asks: 0,
     };
     let walk = empty_walk(alloc)?;
-    let _more = ask(p, &mut tree, walk)?;
+    let _more = ask(alloc, p, &mut tree, &walk)?;
     Ok(tree)
 }

@@ -1,32 +1,22 @@
 //! Walks that go on by a turn.
 
-ghost use Rattle.std.specs.Prelude.{◌≡◌, ◌<◌, ◌++◌, ◌∷◌, [], length, All, None, IfOk, OnOk};
+ghost use Rattle.std.specs.Prelude.{◌≡◌, ◌<◌, ◌++◌, ◌∷◌, [], length, All, None, IfOk};
 ghost use Rattle.net_defs.specs.Turn.{IsTurn, walk_refusal};
 
 use net_defs::{Walk, WalkFault};
 use std::alloc::{AllocError, Global};
 
-/// The turns of a walk, with room for one more.
-pub(crate) fn with_room(alloc: Global, walk: &[i8]) -> Result<Vec<i8>, AllocError>
-    ensures { IfOk result (λ front. front.items ≡ walk.now) }
-{
-    let mut front = Vec::with_capacity(alloc, walk.len() + 1)?;
-    front.extend_from_slice(walk)?;
-    Ok(front)
-}
-
-/// A walk with a turn more. The turns in front of it stay as they were.
-pub(crate) fn onward(alloc: Global, front: &mut Vec<i8>, turn: i8) -> Result<Walk, AllocError>
-    requires short { length front.old.items < 64 }
-    requires front { All IsTurn front.old.items }
+/// A walk with a turn more.
+pub(crate) fn onward(alloc: Global, front: &[i8], turn: i8) -> Result<Walk, AllocError>
+    requires short { length front.now < 64 }
+    requires front { All IsTurn front.now }
     requires turn { IsTurn turn }
-    ensures onward { IfOk result (λ walk. walk ≡ front.old.items ++ turn ∷ []) }
-    ensures same { OnOk result (front.new.items ≡ front.old.items) }
+    ensures { IfOk result (λ walk. walk ≡ front.now ++ turn ∷ []) }
 {
-    front.push(turn)?;
-    let walk = walk_of(alloc, front)?;
-    let _turn = front.pop();
-    Ok(walk)
+    let mut turns = Vec::with_capacity(alloc, front.len() + 1)?;
+    turns.extend_from_slice(front)?;
+    turns.push(turn)?;
+    walk_of(alloc, &turns)
 }
 
 // The walk of turns that are one.

@@ -1,6 +1,6 @@
 //! The turns of a walk: in the walk itself where they are few, else in a block of their own.
 
-ghost use Rattle.std.specs.Prelude.{◌≡◌, ◌≤◌, length, IfOk};
+ghost use Rattle.std.specs.Prelude.{◌≡◌, ◌≤◌, ◌<◌, ◌-◌, ◌++◌, ◌∷◌, [], length, take, IfOk};
 ghost use Rattle.net_defs.specs.TurnList.{IsSound, turns_in};
 
 use std::alloc::{AllocError, Global};
@@ -38,6 +38,20 @@ impl TurnList {
         match self {
             TurnList::Few(count, places) => &places[..usize::from(*count)],
             TurnList::Many(turns) => turns.as_slice(),
+        }
+    }
+
+    /// Puts a turn in the place of the last one.
+    pub(crate) fn put_last(&mut self, turn: i8)
+        requires sound { IsSound self.old }
+        requires some { 0 < length (turns_in self.old) }
+        ensures turns { turns_in self.new ≡ take (length (turns_in self.old) - 1) (turns_in self.old) ++ turn ∷ [] }
+        ensures sound { IsSound self.new }
+    {
+        let last = self.turns().len() - 1;
+        match self {
+            TurnList::Few(_, places) => places[last] = turn,
+            TurnList::Many(turns) => turns[last] = turn,
         }
     }
 }

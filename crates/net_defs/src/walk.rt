@@ -1,6 +1,6 @@
 //! A walk: the turns that a packet takes, one at each switch.
 
-ghost use Rattle.std.specs.Prelude.{◌≡◌, ◌≤◌, length, IfOk, All};
+ghost use Rattle.std.specs.Prelude.{◌≡◌, ◌≤◌, ◌<◌, ◌-◌, ◌++◌, ◌∷◌, [], length, take, IfOk, All};
 ghost use Rattle.net_defs.specs.Refusal.{Refuses};
 ghost use Rattle.std.specs.List.{list_all};
 ghost use Rattle.net_defs.specs.Turn.{is_turn, IsTurn, walk_refusal};
@@ -80,6 +80,15 @@ impl Walk {
     {
         let turns = TurnList::new(alloc, self.turns())?;
         Ok(Walk { turns })
+    }
+
+    /// Puts a turn in the place of the last one. It takes no memory.
+    pub fn turn_last(&mut self, turn: i8)
+        requires turn { IsTurn turn }
+        requires some { 0 < length self.old }
+        ensures { self.new ≡ take (length self.old - 1) self.old ++ turn ∷ [] }
+    {
+        self.turns.put_last(turn);
     }
 }
 

@@ -1,9 +1,10 @@
-use Rattle.std.proofs.Common.{◌≡◌, ◌++◌, ◌∷◌, [], subst, ◌∙◌, arith}
+use Rattle.std.proofs.Common.{◌≡◌, ◌++◌, ◌∷◌, [], List, subst, ◌∙◌, to_z, of_z, w8, arith}
+use Rattle.std.specs.Prelude.{ℤ}
 use Rattle.std.proofs.lemmas.Option.{slice_get_within}
 use Rattle.mapper.specs.Turns.{turn_at}
 use Rattle.mapper.proofs.Adding.{walk-turn}
-use Rattle.circ_map.specs.Growing.{IsAsking}
-use Rattle.circ_map.proofs.Turnwise.{turn-next, turn-passed, turn-open, asking-entry}
+use Rattle.circ_map.specs.Growing.{IsAsking, front_of}
+use Rattle.circ_map.proofs.Turnwise.{asking-entry, front-onward, some-onward, turn-next, turn-open, turn-passed}
 use Rattle.circ_map.proofs.expanding.expand_walk.Goals as goal
 
 pub ask-requires : goal.ask-requires
@@ -19,20 +20,25 @@ ask-requires g c =
 pub returns-then-not-branch-clause-passed : goal.returns-then-not-branch-clause-passed
 returns-then-not-branch-clause-passed g c e =
     let p = g.P.CircProber in
-    let walk : c.in_ok-walk.walk ≡ c.args.front.now.items ++ turn_at c.loop-step.step ∷ [] = subst (λ l. c.in_ok-walk.walk ≡ l ++ turn_at c.loop-step.step ∷ []) c.loop-step.invariant.same_front (walk-turn c.loop-step.front.items c.in_ok-walk.walk c.turn_at.result (turn_at c.loop-step.step) c.turn_at.ensures.in_range c.in_ok-walk.ensures.onward c.turn_at.ensures.value) in
-    turn-passed (p.fabric c.args.p.now) (p.fabric c.loop-step.p) (p.mapper c.args.p.now) (p.mapper c.loop-step.p) c.args.depth c.loop-step.tree.found.items c.ask.new.tree.found.items c.loop-step.tree.asks c.ask.new.tree.asks c.args.at c.loop-step.step c.args.front.now.items c.in_ok-walk.walk c.in_ok-ask.field-0
+    let front : List ℤ = front_of c.args.walk.now in
+    let w : List ℤ = c.turn_last.new.self in
+    let walk : w ≡ front ++ turn_at c.loop-step.step ∷ [] = walk-turn front w c.turn_at.result (turn_at c.loop-step.step) c.turn_at.ensures.in_range (subst (λ l. w ≡ l ++ to_z w8 (of_z w8 c.turn_at.result) ∷ []) c.loop-step.invariant.same_front c.turn_last.ensures) c.turn_at.ensures.value in
+    turn-passed (p.fabric c.args.p.now) (p.fabric c.loop-step.p) (p.mapper c.args.p.now) (p.mapper c.loop-step.p) c.args.depth c.loop-step.tree.found.items c.ask.new.tree.found.items c.loop-step.tree.asks c.ask.new.tree.asks c.args.at c.loop-step.step front w c.in_ok-ask.field-0
     c.loop-step.invariant.asking c.loop-step.invariant.open_at c.loop-step-test.true c.loop-step.invariant.same_fabric c.loop-step.invariant.same_mapper walk c.in_ok-ask.ensures.goes_on c.in_ok-ask.ensures.found c.in_ok-ask.ensures.counted c.if-not-branch.true
 
 pub loop-step-preserved : goal.loop-step-preserved
 loop-step-preserved g c =
     let p = g.P.CircProber in
-    let walk : c.in_ok-walk.walk ≡ c.args.front.now.items ++ turn_at c.loop-step.step ∷ [] = subst (λ l. c.in_ok-walk.walk ≡ l ++ turn_at c.loop-step.step ∷ []) c.loop-step.invariant.same_front (walk-turn c.loop-step.front.items c.in_ok-walk.walk c.turn_at.result (turn_at c.loop-step.step) c.turn_at.ensures.in_range c.in_ok-walk.ensures.onward c.turn_at.ensures.value) in
+    let front : List ℤ = front_of c.args.walk.now in
+    let w : List ℤ = c.turn_last.new.self in
+    let walk : w ≡ front ++ turn_at c.loop-step.step ∷ [] = walk-turn front w c.turn_at.result (turn_at c.loop-step.step) c.turn_at.ensures.in_range (subst (λ l. w ≡ l ++ to_z w8 (of_z w8 c.turn_at.result) ∷ []) c.loop-step.invariant.same_front c.turn_last.ensures) c.turn_at.ensures.value in
     record {
-      asking = turn-next (p.fabric c.args.p.now) (p.fabric c.loop-step.p) (p.mapper c.args.p.now) (p.mapper c.loop-step.p) c.args.depth c.loop-step.tree.found.items c.ask.new.tree.found.items c.loop-step.tree.asks c.ask.new.tree.asks c.args.at c.loop-step.step c.args.front.now.items c.in_ok-walk.walk c.in_ok-ask.field-0
+      asking = turn-next (p.fabric c.args.p.now) (p.fabric c.loop-step.p) (p.mapper c.args.p.now) (p.mapper c.loop-step.p) c.args.depth c.loop-step.tree.found.items c.ask.new.tree.found.items c.loop-step.tree.asks c.ask.new.tree.asks c.args.at c.loop-step.step front w c.in_ok-ask.field-0
           c.loop-step.invariant.asking c.loop-step.invariant.open_at c.loop-step-test.true c.loop-step.invariant.same_fabric c.loop-step.invariant.same_mapper walk c.in_ok-ask.ensures.goes_on c.in_ok-ask.ensures.found c.in_ok-ask.ensures.counted c.if-not-branch.false;
-      open_at = turn-open (p.fabric c.args.p.now) (p.fabric c.loop-step.p) (p.mapper c.args.p.now) (p.mapper c.loop-step.p) c.args.depth c.loop-step.tree.found.items c.ask.new.tree.found.items c.loop-step.tree.asks c.ask.new.tree.asks c.args.at c.loop-step.step c.args.front.now.items c.in_ok-walk.walk c.in_ok-ask.field-0
+      open_at = turn-open (p.fabric c.args.p.now) (p.fabric c.loop-step.p) (p.mapper c.args.p.now) (p.mapper c.loop-step.p) c.args.depth c.loop-step.tree.found.items c.ask.new.tree.found.items c.loop-step.tree.asks c.ask.new.tree.asks c.args.at c.loop-step.step front w c.in_ok-ask.field-0
           c.loop-step.invariant.asking c.loop-step.invariant.open_at c.loop-step-test.true c.loop-step.invariant.same_fabric c.loop-step.invariant.same_mapper walk c.in_ok-ask.ensures.goes_on c.in_ok-ask.ensures.found c.in_ok-ask.ensures.counted;
-      same_front = c.in_ok-walk.ensures.same ∙ c.loop-step.invariant.same_front;
+      some = some-onward front w (turn_at c.loop-step.step) walk;
+      same_front = front-onward front w (turn_at c.loop-step.step) walk;
       host = c.in_ok-ask.ensures.host ∙ c.loop-step.invariant.host;
       same_fabric = c.in_ok-ask.ensures.same_fabric ∙ c.loop-step.invariant.same_fabric;
       same_mapper = c.in_ok-ask.ensures.same_mapper ∙ c.loop-step.invariant.same_mapper;
