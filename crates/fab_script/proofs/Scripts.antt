@@ -1,5 +1,5 @@
 -- One line more of a script, and the range of the turns that were read.
-use Rattle.std.proofs.Common.{◌≡◌, ◌<◌, ◌≤◌, ℕ, zero, suc, ℤ, pos, List, [], ◌∷◌, ◌++◌, Bool, true, false, ◌&&◌, length, nat_le, nat_lt, nat_eq, Some, None, Result, Ok, Err, refl, ap, sym, ◌∙◌, append_assoc, arith, if◌then◌else◌}
+use Rattle.std.proofs.Common.{◌≡◌, ◌<◌, ◌≤◌, ℕ, zero, suc, ℤ, pos, List, [], ◌∷◌, ◌++◌, Bool, true, false, ◌&&◌, length, nat_le, nat_lt, nat_eq, Some, None, Result, Ok, Err, IsOk, is_ok, refl, ap, sym, subst, ◌∙◌, append_assoc, arith, if◌then◌else◌}
 use Rattle.std.specs.List.{list_all}
 use Rattle.std.specs.Str.Parse.{digits_value}
 use Rattle.std.proofs.lemmas.Bool.Decides.{nat_tests}
@@ -14,7 +14,7 @@ use Rattle.fab_text.specs.Line.{TextLine, words_of}
 use Rattle.fab_text.specs.Fault.{FirstFault, as_kind, at_line, and_then}
 use Rattle.run_defs.specs.declared.command.Command.{Command}
 use Rattle.run_defs.specs.Script.{command_of, ended, is_end, script_from, turns_of}
-use Rattle.fab_script.specs.Lists.{behind, read_behind, read_from}
+use Rattle.fab_script.specs.Lists.{behind, where_sound, sound_from}
 
 -- one item more behind others
 pub behind-one : {X E : Type 0} (done : List X) (x : X) (r : Result (List X) E) → behind done (behind (x ∷ []) r) ≡ behind (done ++ x ∷ []) r
@@ -31,11 +31,27 @@ pub script-more : (past : ℕ) (n : Network) (ls rest : List TextLine) (l : Text
     → script_from past n ls ≡ and_then (at_line l.number (command_of n (words_of l.bytes))) (λ c. behind (c ∷ []) (script_from past n rest))
 script-more past n ls rest l e s = ap (script_from past n) e ∙ sym (ap (from_line past n l rest) s)
 
--- a line that comes is read
-pub read-some : (n : Network) (ls rest : List TextLine) (l : TextLine) → ls ≡ l ∷ rest → 0 < length (read_from n ls)
-read-some n ls rest l e =
-    let one : length (read_from n ls) ≡ suc (length (if is_end (words_of l.bytes) then [] else read_behind (command_of n (words_of l.bytes)) (read_from n rest))) = ap (λ k. length (read_from n k)) e in
-    omega (arith, one)
+-- the sound lines from a line on, where it is `end`, and where it isn't
+abbrev sound_line : Network → TextLine → List TextLine → Bool → List TextLine
+sound_line n l ls last =
+    if last then where_sound (ended ls) (l ∷ []) else where_sound (command_of n (words_of l.bytes)) (l ∷ sound_from n ls)
+
+where_sound-some : {X E : Type 0} (r : Result X E) (l : TextLine) (ls : List TextLine) → IsOk r → 0 < length (where_sound r (l ∷ ls))
+where_sound-some (Ok x) l ls o = omega arith
+where_sound-some (Err e) l ls o = cc
+
+-- a line of a command is sound
+pub sound-line : (n : Network) (ls rest : List TextLine) (l : TextLine) → ls ≡ l ∷ rest → false ≡ is_end (words_of l.bytes) → IsOk (command_of n (words_of l.bytes)) → 0 < length (sound_from n ls)
+sound-line n ls rest l e s o =
+    subst (λ k. 0 < length k) (sym (ap (sound_from n) e ∙ sym (ap (sound_line n l rest) s))) (where_sound-some (command_of n (words_of l.bytes)) l (sound_from n rest) o)
+
+pub sound-command : (n : Network) (ls rest : List TextLine) (l : TextLine) (c : Command) → ls ≡ l ∷ rest → false ≡ is_end (words_of l.bytes) → command_of n (words_of l.bytes) ≡ Ok c → 0 < length (sound_from n ls)
+sound-command n ls rest l c e s g = sound-line n ls rest l e s (ap is_ok g)
+
+-- and so is `end`, where nothing that says something follows it
+pub sound-end : (n : Network) (ls rest : List TextLine) (l : TextLine) → ls ≡ l ∷ rest → true ≡ is_end (words_of l.bytes) → IsOk (ended rest) → 0 < length (sound_from n ls)
+sound-end n ls rest l e s o =
+    subst (λ k. 0 < length k) (sym (ap (sound_from n) e ∙ sym (ap (sound_line n l rest) s))) (where_sound-some (ended rest) l [] o)
 
 -- one command more
 pub script-kept : (past : ℕ) (n : Network) (all : Result (List Command) FirstFault) (done new : List Command) (ls rest : List TextLine) (l : TextLine) (c : Command)

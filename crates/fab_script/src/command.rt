@@ -1,6 +1,6 @@
 //! One line of a script: the command that it says, or its first fault.
 
-ghost use Rattle.std.specs.Prelude.{◌≡◌};
+ghost use Rattle.std.specs.Prelude.{◌≡◌, IsErrOf, IsOk};
 ghost use Rattle.fab_text.specs.Line.{words_of};
 ghost use Rattle.fab_text.specs.Fault.{LineGives};
 ghost use Rattle.run_defs.specs.Script.{command_as, command_by, command_of, line_kinds};
@@ -16,13 +16,14 @@ use port_graph::Fabric;
 use run_defs::Command;
 use std::alloc::Global;
 
-/// The command that a line says.
+/// The command that a line says. A line that has a fault takes no memory.
 pub(crate) fn read_command(
     alloc: Global,
     fabric: &Fabric,
     line: &[u8],
 ) -> Result<Command, LineFault>
-    ensures { LineGives (command_of fabric.now (words_of line.now)) result }
+    ensures reading { LineGives (command_of fabric.now (words_of line.now)) result }
+    ensures memory { IsErrOf result LineFault.NoMemory → IsOk (command_of fabric.now (words_of line.now)) }
 {
     let mut args = words(line);
     match args.next_word() {
@@ -33,7 +34,8 @@ pub(crate) fn read_command(
 
 // The command of a line that begins with this word.
 fn read_as(alloc: Global, fabric: &Fabric, first: &[u8], args: Words) -> Result<Command, LineFault>
-    ensures { LineGives (command_as fabric.now first.now (words_of args.entry)) result }
+    ensures reading { LineGives (command_as fabric.now first.now (words_of args.entry)) result }
+    ensures memory { IsErrOf result LineFault.NoMemory → IsOk (command_as fabric.now first.now (words_of args.entry)) }
 {
     if first == b"walk".as_slice() {
         return walk(alloc, fabric, args);

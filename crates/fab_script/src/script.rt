@@ -1,11 +1,11 @@
 //! All lines of a script.
 
-ghost use Rattle.std.specs.Prelude.{◌≡◌, ◌<◌, ◌≤◌, ◌+◌, length, IfOk, IsErrOf};
+ghost use Rattle.std.specs.Prelude.{◌≡◌, ◌<◌, ◌≤◌, ◌+◌, length, IfOk, IsErrOf, IsOk};
 ghost use Rattle.std.specs.List.{AllByRecursion};
 ghost use Rattle.fab_text.specs.Line.{lines_left, words_of};
 ghost use Rattle.fab_text.specs.Fault.{TextGives};
 ghost use Rattle.run_defs.specs.Script.{ended, is_end, script_reading};
-ghost use Rattle.fab_script.specs.Lists.{behind, lines_read};
+ghost use Rattle.fab_script.specs.Lists.{behind, sound_lines};
 ghost use Rattle.fab_script.specs.Ranges.{IsCommandOf};
 
 use crate::command::read_command;
@@ -51,8 +51,8 @@ pub fn read_script(alloc: Global, text: &[u8], line: u32, f: &Fabric) -> Result<
     requires { line + length text.now ≤ 4294967290 }
     // Exactly the commands that the lines say, or exactly the first fault.
     ensures reading { TextGives (script_reading f.now line text.now) result }
-    // Memory may be wanting only at a line that is read, up to the first fault.
-    ensures memory { IsErrOf result TextFault.NoMemory → 0 < length (lines_read f.now line text.now) }
+    // Memory may be wanting only where a line stands before the first fault: one that has a fault takes none.
+    ensures memory { IsErrOf result TextFault.NoMemory → 0 < length (sound_lines f.now line text.now) }
     // They name hosts and ends of the fabric, with numbers in the ranges of their places.
     ensures ranged { IfOk result (λ s. AllByRecursion (IsCommandOf f.now) s) }
 {
@@ -63,7 +63,7 @@ pub fn read_script(alloc: Global, text: &[u8], line: u32, f: &Fabric) -> Result<
 fn read_lines(alloc: Global, text: &[u8], line: u32, f: &Fabric) -> Result<Script, TextFault>
     requires { line + length text.now ≤ 4294967290 }
     ensures reading { TextGives (script_reading f.now line text.now) result }
-    ensures memory { IsErrOf result TextFault.NoMemory → 0 < length (lines_read f.now line text.now) }
+    ensures memory { IsErrOf result TextFault.NoMemory → 0 < length (sound_lines f.now line text.now) }
 {
     let mut commands = Vec::new(alloc);
     let mut left = Lines::numbered_from(line + 1, text);
@@ -87,7 +87,8 @@ fn read_lines(alloc: Global, text: &[u8], line: u32, f: &Fabric) -> Result<Scrip
 
 // The commands with `end` behind them, where nothing that says something follows it.
 fn finished(mut commands: Vec<Command>, mut left: Lines) -> Result<Script, TextFault>
-    ensures { TextGives (behind commands.items (ended (lines_left left.entry))) result }
+    ensures reading { TextGives (behind commands.items (ended (lines_left left.entry))) result }
+    ensures memory { IsErrOf result TextFault.NoMemory → IsOk (ended (lines_left left.entry)) }
 {
     if let Some((line, _)) = left.next_line() {
         return Err(TextFault::At {

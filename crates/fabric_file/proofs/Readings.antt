@@ -1,6 +1,6 @@
 -- One line more of the fabric part, and the names of a fabric that was read.
 use Rattle.std.proofs.Common.{◌≡◌, ◌<◌, ℕ, suc, List, [], ◌∷◌, ◌++◌, ◌+◌, ◌-◌, arith, lit≤, length, Bool, true, false, map, Option, Some, None, Result, Ok, Err, refl, ap, sym, subst, ◌∙◌, append_assoc, if◌then◌else◌}
-use Rattle.std.specs.Prelude.{codes, bytes_eq}
+use Rattle.std.specs.Prelude.{codes, bytes_eq, IsOk}
 use Rattle.std.specs.List.{AllByRecursion}
 use Rattle.std.proofs.lemmas.List.{map-append}
 use Rattle.net_defs.specs.declared.fault.GraphFault.{GraphFault}
@@ -19,7 +19,7 @@ use Rattle.fab_text.specs.Line.{TextLine, lines_left, line_count, words_of, one_
 use Rattle.fab_text.specs.Fault.{FirstFault, LineLeaves, TextGives, fault_at, at_line, and_then}
 use Rattle.fabric_file.specs.declared.reading.FabricText.{FabricText}
 use Rattle.fabric_file.specs.Declaring.{declared, is_script, unless, where_there, number_word, end_word, host_declared, host_line, switch_declared, switch_line, cable_declared, cable_line, cable_between}
-use Rattle.fabric_file.specs.Reading.{fabric_from, fabric_reading, read_behind, read_from, AreNamed}
+use Rattle.fabric_file.specs.Reading.{fabric_from, fabric_reading, sound_behind, sound_from, AreNamed}
 
 -- what the lines from a line on say, where it is `script`, and where it isn't
 abbrev from_line : ℕ → ℕ → Network → TextLine → List TextLine → Bool → Result FabricText FirstFault
@@ -37,12 +37,22 @@ pub from-script : (size past : ℕ) (n : Network) (ls rest : List TextLine) (l :
     → fabric_from size past n ls ≡ Ok (record { fabric = n; next = size - length l.after; line = l.number })
 from-script size past n ls rest l e s = ap (fabric_from size past n) e ∙ sym (ap (from_line size past n l rest) s)
 
--- a line that isn't `script` is read
-pub read-some : (n : Network) (ls rest : List TextLine) (l : TextLine) → ls ≡ l ∷ rest → false ≡ is_script (words_of l.bytes) → 0 < length (read_from n ls)
-read-some n ls rest l e s =
-    let behind = read_behind (declared n (words_of l.bytes)) (λ m. read_from m rest) in
-    let one : length (read_from n ls) ≡ suc (length behind) = ap (λ k. length (read_from n k)) e ∙ sym (ap (λ b. length (if b then [] else l ∷ behind)) s) in
+-- a line that declares something is sound
+pub sound-some : (n m : Network) (ls rest : List TextLine) (l : TextLine) → ls ≡ l ∷ rest → false ≡ is_script (words_of l.bytes) → declared n (words_of l.bytes) ≡ Ok m → 0 < length (sound_from n ls)
+sound-some n m ls rest l e s d =
+    let one : length (sound_from n ls) ≡ suc (length (sound_from m rest)) =
+    ap (λ k. length (sound_from n k)) e
+    ∙ sym (ap (λ b. length (if b then [] else sound_behind l (declared n (words_of l.bytes)) (λ m. sound_from m rest))) s)
+    ∙ ap (λ r. length (sound_behind l r (λ m. sound_from m rest))) d in
     omega (arith, one)
+
+-- and so is one at which memory is wanting
+pub sound-wanting : (n : Network) (ls rest : List TextLine) (l : TextLine) → ls ≡ l ∷ rest → false ≡ is_script (words_of l.bytes) → IsOk (declared n (words_of l.bytes)) → 0 < length (sound_from n ls)
+sound-wanting n ls rest l e s o = by (declared n (words_of l.bytes)) refl o
+  where
+    by : (r : Result Network FaultKind) → declared n (words_of l.bytes) ≡ r → IsOk r → 0 < length (sound_from n ls)
+    by (Ok m) d o = sound-some n m ls rest l e s d
+    by (Err kind) d o = cc
 
 -- a line that declares something
 pub from-kept : (size past : ℕ) (n m : Network) (ls rest : List TextLine) (l : TextLine) → ls ≡ l ∷ rest → false ≡ is_script (words_of l.bytes)

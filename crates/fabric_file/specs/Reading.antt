@@ -24,21 +24,21 @@ abbrev pub fabric_reading : List ℕ → Result FabricText FirstFault
 fabric_reading text = fabric_from (length text) (line_count text + 1) empty_network
     (lines_left (record { number = 1; text = text }))
 
--- the lines that are read behind one: none where it has a fault
-abbrev pub read_behind : Result Network FaultKind → (Network → List TextLine) → List TextLine
-read_behind (Ok n) behind = behind n
-read_behind (Err kind) behind = []
+-- a line, where it has no fault, and the lines of those behind it
+abbrev pub sound_behind : TextLine → Result Network FaultKind → (Network → List TextLine) → List TextLine
+sound_behind l (Ok n) behind = l ∷ behind n
+sound_behind l (Err kind) behind = []
 
--- the lines that are read of some: those before `script`, up to the first that has a fault
-abbrev pub read_from : Network → List TextLine → List TextLine
-read_from n [] = []
-read_from n (l ∷ ls) =
+-- those of some lines that stand before `script`, and before the first that has a fault
+abbrev pub sound_from : Network → List TextLine → List TextLine
+sound_from n [] = []
+sound_from n (l ∷ ls) =
     if is_script (words_of l.bytes) then []
-    else l ∷ read_behind (declared n (words_of l.bytes)) (λ m. read_from m ls)
+    else sound_behind l (declared n (words_of l.bytes)) (λ m. sound_from m ls)
 
--- The lines of the fabric part that are read: those before `script`, up to the first that has a fault.
-abbrev pub lines_read : List ℕ → List TextLine
-lines_read text = read_from empty_network (lines_left (record { number = 1; text = text }))
+-- The sound lines of the fabric part: those before `script`, and before the first that has a fault.
+abbrev pub sound_lines : List ℕ → List TextLine
+sound_lines text = sound_from empty_network (lines_left (record { number = 1; text = text }))
 
 -- each vertex has a name of the text's form
 abbrev pub AreNamed : Network → Type 0

@@ -1,6 +1,6 @@
 //! A line of the fabric part: its words, and what they declare or their first fault.
 
-ghost use Rattle.std.specs.Prelude.{◌≡◌};
+ghost use Rattle.std.specs.Prelude.{◌≡◌, IsErrOf, IsOk};
 ghost use Rattle.fab_text.specs.Line.{words_of};
 ghost use Rattle.fab_text.specs.Fault.{LineLeaves};
 ghost use Rattle.fabric_file.specs.Declaring.{declared, declared_as, host_line, switch_line, cable_line, host_declared};
@@ -27,9 +27,10 @@ pub(crate) fn is_script(line: &[u8]) -> bool
     }
 }
 
-/// Adds what a line declares.
+/// Adds what a line declares. A line that has a fault takes no memory.
 pub(crate) fn declare(alloc: Global, fabric: &mut Fabric, line: &[u8]) -> Result<(), LineFault>
-    ensures { LineLeaves (declared fabric.old (words_of line.now)) fabric.new result }
+    ensures reading { LineLeaves (declared fabric.old (words_of line.now)) fabric.new result }
+    ensures memory { IsErrOf result LineFault.NoMemory → IsOk (declared fabric.old (words_of line.now)) }
 {
     let mut args = words(line);
     match args.next_word() {
@@ -45,7 +46,8 @@ fn declare_as(
     first: &[u8],
     args: Words,
 ) -> Result<(), LineFault>
-    ensures { LineLeaves (declared_as fabric.old first.now (words_of args.entry)) fabric.new result }
+    ensures reading { LineLeaves (declared_as fabric.old first.now (words_of args.entry)) fabric.new result }
+    ensures memory { IsErrOf result LineFault.NoMemory → IsOk (declared_as fabric.old first.now (words_of args.entry)) }
 {
     if first == b"host".as_slice() {
         declare_host(alloc, fabric, args)
@@ -60,7 +62,8 @@ fn declare_as(
 
 // `host NAME`
 fn declare_host(alloc: Global, fabric: &mut Fabric, args: Words) -> Result<(), LineFault>
-    ensures { LineLeaves (host_line fabric.old (words_of args.entry)) fabric.new result }
+    ensures reading { LineLeaves (host_line fabric.old (words_of args.entry)) fabric.new result }
+    ensures memory { IsErrOf result LineFault.NoMemory → IsOk (host_line fabric.old (words_of args.entry)) }
 {
     match args.one() {
         Some(name) => add_host(alloc, fabric, name),
@@ -69,7 +72,8 @@ fn declare_host(alloc: Global, fabric: &mut Fabric, args: Words) -> Result<(), L
 }
 
 fn add_host(alloc: Global, fabric: &mut Fabric, name: &[u8]) -> Result<(), LineFault>
-    ensures { LineLeaves (host_declared fabric.old name.now) fabric.new result }
+    ensures reading { LineLeaves (host_declared fabric.old name.now) fabric.new result }
+    ensures memory { IsErrOf result LineFault.NoMemory → IsOk (host_declared fabric.old name.now) }
 {
     if !is_name(name) {
         return Err(LineFault::Wrong(FaultKind::BadWord));
@@ -79,7 +83,8 @@ fn add_host(alloc: Global, fabric: &mut Fabric, name: &[u8]) -> Result<(), LineF
 
 // `switch NAME PORTS`
 fn declare_switch(alloc: Global, fabric: &mut Fabric, args: Words) -> Result<(), LineFault>
-    ensures { LineLeaves (switch_line fabric.old (words_of args.entry)) fabric.new result }
+    ensures reading { LineLeaves (switch_line fabric.old (words_of args.entry)) fabric.new result }
+    ensures memory { IsErrOf result LineFault.NoMemory → IsOk (switch_line fabric.old (words_of args.entry)) }
 {
     match args.two() {
         Some((name, ports)) => add_switch(alloc, fabric, name, ports),
@@ -93,7 +98,8 @@ fn add_switch(
     name: &[u8],
     ports: &[u8],
 ) -> Result<(), LineFault>
-    ensures { LineLeaves (switch_declared fabric.old name.now ports.now) fabric.new result }
+    ensures reading { LineLeaves (switch_declared fabric.old name.now ports.now) fabric.new result }
+    ensures memory { IsErrOf result LineFault.NoMemory → IsOk (switch_declared fabric.old name.now ports.now) }
 {
     if !is_name(name) {
         return Err(LineFault::Wrong(FaultKind::BadWord));
@@ -107,7 +113,8 @@ fn add_switch(
 
 // `cable V P W Q`
 fn declare_cable(fabric: &mut Fabric, args: Words) -> Result<(), LineFault>
-    ensures { LineLeaves (cable_line fabric.old (words_of args.entry)) fabric.new result }
+    ensures reading { LineLeaves (cable_line fabric.old (words_of args.entry)) fabric.new result }
+    ensures memory { IsErrOf result LineFault.NoMemory → IsOk (cable_line fabric.old (words_of args.entry)) }
 {
     match args.four() {
         Some(((v, p), (w, q))) => add_cable(fabric, v, p, w, q),
@@ -116,7 +123,8 @@ fn declare_cable(fabric: &mut Fabric, args: Words) -> Result<(), LineFault>
 }
 
 fn add_cable(fabric: &mut Fabric, v: &[u8], p: &[u8], w: &[u8], q: &[u8]) -> Result<(), LineFault>
-    ensures { LineLeaves (cable_declared fabric.old v.now p.now w.now q.now) fabric.new result }
+    ensures reading { LineLeaves (cable_declared fabric.old v.now p.now w.now q.now) fabric.new result }
+    ensures memory { IsErrOf result LineFault.NoMemory → IsOk (cable_declared fabric.old v.now p.now w.now q.now) }
 {
     match (read_end(v, p), read_end(w, q)) {
         (Err(kind), _) => Err(LineFault::Wrong(kind)),
@@ -133,7 +141,8 @@ fn join(
     w: Option<Vertex>,
     q: u8,
 ) -> Result<(), LineFault>
-    ensures { LineLeaves (cable_between fabric.old v p w q) fabric.new result }
+    ensures reading { LineLeaves (cable_between fabric.old v p w q) fabric.new result }
+    ensures memory { IsErrOf result LineFault.NoMemory → IsOk (cable_between fabric.old v p w q) }
 {
     match (v, w) {
         (Some(v), Some(w)) => added(fabric.add_cable(End { v, p }, End { v: w, p: q })),

@@ -3,7 +3,7 @@
 ghost use Rattle.std.specs.Prelude.{◌≡◌, ◌<◌, ◌≤◌, ◌+◌, ◌-◌, length, IfOk, IsErrOf};
 ghost use Rattle.fab_text.specs.Fault.{TextGives};
 ghost use Rattle.net_defs.specs.Network.{IsFabric};
-ghost use Rattle.fabric_file.specs.Reading.{fabric_reading, lines_read, AreNamed};
+ghost use Rattle.fabric_file.specs.Reading.{fabric_reading, sound_lines, AreNamed};
 
 use crate::declaring::{declare, is_script};
 use fab_text::{FaultKind, TextFault, line_count, lines};
@@ -29,8 +29,8 @@ pub fn read_fabric(alloc: Global, text: &[u8]) -> Result<FabricText, TextFault>
     requires { length text.now ≤ 4294967290 }
     // Exactly the fabric that the lines declare, or exactly the first fault.
     ensures reading { TextGives (fabric_reading text.now) result }
-    // Memory may be wanting only at a line that is read, up to the first fault.
-    ensures memory { IsErrOf result TextFault.NoMemory → 0 < length (lines_read text.now) }
+    // Memory may be wanting only where a line stands before the first fault: one that has a fault takes none.
+    ensures memory { IsErrOf result TextFault.NoMemory → 0 < length (sound_lines text.now) }
     ensures fabric { IfOk result (λ t. IsFabric t.fabric) }
     ensures named { IfOk result (λ t. AreNamed t.fabric) }
     ensures inside { IfOk result (λ t. t.next ≤ length text.now) }

@@ -1,7 +1,7 @@
 -- Route bytes that stand for the routes they say.
-use Rattle.std.specs.Prelude.{ℕ, ℤ, Bool, ◌&&◌, List, nat_lt, nat_le, is_some, Option, Some, None, option_map}
+use Rattle.std.specs.Prelude.{ℕ, ℤ, Bool, ◌&&◌, List, nat_lt, nat_le, Option, Some, None, option_map}
 use Rattle.std.specs.Prelude.{option_and_then}
-use Rattle.packet_defs.specs.RouteByte.{turn_of, turns_of}
+use Rattle.packet_defs.specs.RouteByte.{turns_of}
 use Rattle.route_parts.specs.declared.head.Head.{Head}
 use Rattle.mapping_defs.specs.Mapping.{RouteEntry, RoutePart, Front, entries_front, whole}
 

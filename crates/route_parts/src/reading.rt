@@ -15,7 +15,7 @@ use crate::part::RoutePart;
 use crate::routes::{entry_front, rise_from, route_front};
 use net_defs::Walk;
 use std::alloc::Global;
-use turn_bytes::walk_of;
+use turn_bytes::{TurnFault, walk_of};
 
 /// The part of these numbers whose routes are all of the bytes.
 pub(crate) fn part_behind(alloc: Global, head: Head, bytes: &[u8]) -> Result<RoutePart, BodyFault>
@@ -69,18 +69,20 @@ fn read_part(alloc: Global, head: Head, back: &[u8], count: u8, bytes: &[u8]) ->
     })
 }
 
-// The route of bytes that are known to be one.
+// The route of bytes that are known to be one. None where memory is wanting.
 fn read_route(alloc: Global, bytes: &[u8]) -> Option<Walk>
-    requires { length bytes.now ≤ 64 }
+    requires few { length bytes.now ≤ 64 }
+    requires turns { IsSome (turns_of bytes.now) }
     ensures { IfSome result (λ walk. turns_of bytes.now ≡ Some walk) }
 {
     match walk_of(alloc, bytes) {
         Ok(walk) => Some(walk),
-        Err(_) => None,
+        Err(TurnFault::NoMemory) => None,
+        Err(TurnFault::Malformed) => unreachable!(),
     }
 }
 
-// The entries whose bytes are known to be some.
+// The entries whose bytes are known to be some. None where memory is wanting.
 fn read_entries(alloc: Global, count: u8, bytes: &[u8]) -> Option<EntryList>
     requires { rise_from None count bytes.now ≡ true }
     ensures { IfSome result (λ entries. whole (entries_front count bytes.now) ≡ Some entries) }

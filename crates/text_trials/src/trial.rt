@@ -24,7 +24,8 @@ pub fn try_row<T: TopCall>(alloc: Global, row: &Row) -> Result<Option<Difference
     try_text::<T>(alloc, &row.words, &row.text, row.wanted())
 }
 
-/// Runs a text whose reads and writes all succeed, and tells what differs from what is wanted.
+/// Runs a text whose reads and writes all succeed, and tells what differs from what is wanted. There is room for the
+/// wanted report before the run, so that no write of it takes memory.
 pub fn try_text<T: TopCall>(
     alloc: Global,
     words: &[Word],
@@ -32,7 +33,7 @@ pub fn try_text<T: TopCall>(
     wanted: Wanted<'_>,
 ) -> Result<Option<Difference>, AllocError> {
     let source = MemSource::new(text.to_vec(alloc)?, PIECE, Vec::new(alloc));
-    let sink = MemSink::new(alloc, PIECE, Vec::new(alloc));
+    let sink = MemSink::with_room(alloc, wanted.report.len(), PIECE, Vec::new(alloc))?;
     try_run::<T>(alloc, words, source, sink, wanted)
 }
 

@@ -1,5 +1,5 @@
 -- Turns that are read from their bytes, one after another.
-use Rattle.std.proofs.Common.{◌≡◌, ◌≢◌, ◌<◌, ◌≤◌, ◌+◌, ◌-◌, ◌^◌, ℕ, suc, List, [], ◌∷◌, ◌++◌, Bool, true, false, ◌&&◌, length, map, get_or, take, drop, nat_eq, nat_le, nat_lt, Option, Some, None, option_map, refl, ap, sym, ◌∙◌, subst, true≢false, arith, append_assoc, if◌then◌else◌}
+use Rattle.std.proofs.Common.{◌≡◌, ◌<◌, ◌≤◌, ◌+◌, ℕ, suc, List, [], ◌∷◌, ◌++◌, true, false, length, get_or, take, drop, nat_lt, Option, Some, None, option_map, refl, ap, sym, ◌∙◌, subst, arith, append_assoc, if◌then◌else◌}
 use Rattle.std.specs.Prelude.{ℤ, pos, negsuc, int_le, option_and_then}
 use Rattle.std.proofs.Math.ListN.{set}
 use Rattle.std.proofs.Math.Seq.{drop-cons}
@@ -9,8 +9,9 @@ use mir.Val.{to_z, of_z, SFits}
 use Rattle.std.specs.List.{list_all}
 use Rattle.std.proofs.lemmas.Bool.{and_parts}
 use Rattle.std.proofs.lemmas.Bool.Decides.{nat_tests}
-use Rattle.std.proofs.lemmas.List.{take_all, take_more_set, drop_all, length-drop}
-use Rattle.net_defs.specs.Turn.{is_turn}
+use Rattle.std.proofs.lemmas.List.{take_more_set, drop_all, append-nil}
+use Rattle.net_defs.specs.declared.walk.WalkFault.TheVariants.{TooLong, TurnRange}
+use Rattle.net_defs.specs.Turn.{is_turn, walk_refusal}
 use Rattle.packet_defs.specs.RouteByte.{turn_of, turns_of}
 use Rattle.packet_defs.proofs.RouteBytes.{turn_of-only}
 
@@ -61,3 +62,16 @@ turn-fits byte t e =
   where
     fits : (t : ℤ) → int_le (negsuc 14) t ≡ true → int_le t (pos 15) ≡ true → SFits w8 t
     fits t a b = grind (arith, ints)
+
+-- the turns of at most 64 bytes, once all are read, are a walk
+pub turns-walk : (bs : List ℕ) (ts : List ℤ) → length bs ≤ 64 → turns_of bs ≡ option_map (λ us. take (length bs) ts ++ us) (turns_of (drop (length bs) bs)) → walk_refusal (take (length bs) ts) ≡ None
+turns-walk bs ts few read =
+    let front = take (length bs) ts in
+    let all : turns_of bs ≡ Some front =
+    read
+    ∙ ap (λ (l : List ℕ). option_map (λ us. front ++ us) (turns_of l)) (drop_all (length bs) bs (omega arith))
+    ∙ ap Some (append-nil front) in
+    let both = turns_of-turns bs front all in
+    let same : length front ≡ length bs = both.1 in
+    let short : nat_lt 64 (length front) ≡ false = grind (arith, nat_tests) in
+    λ i. if short i then Some TooLong else if both.0 i then None else Some TurnRange

@@ -1,13 +1,13 @@
 //! Routes within a body: the number of turns, then one byte for each.
 
-ghost use Rattle.std.specs.Prelude.{◌≡◌, ◌≤◌, ◌++◌, ◌∷◌, length, map, take, All, IfOk, OnOk};
-ghost use Rattle.net_defs.specs.Turn.{IsTurn};
+ghost use Rattle.std.specs.Prelude.{◌≡◌, ◌≤◌, ◌++◌, ◌∷◌, length, map, take, All, IfOk, IfErr, OnOk, None};
+ghost use Rattle.net_defs.specs.Turn.{IsTurn, walk_refusal};
 ghost use Rattle.net_defs.specs.Refusal.{Refuses};
 ghost use Rattle.packet_defs.specs.RouteByte.{route_byte, turns_of};
 ghost use Rattle.turn_bytes.specs.Reading.{missing};
 
 use crate::table::{route_byte, turn_of};
-use net_defs::Walk;
+use net_defs::{Walk, WalkFault};
 use std::alloc::{AllocError, Global};
 
 /// Why bytes can't be read as turns.
@@ -60,8 +60,18 @@ pub fn walk_of(alloc: Global, bytes: &[u8]) -> Result<Walk, TurnFault>
             None => return Err(TurnFault::Malformed),
         }
     }
-    match Walk::new(alloc, &turns[..bytes.len()]) {
+    walk_in(alloc, &turns[..bytes.len()])
+}
+
+// The walk of turns that are one.
+fn walk_in(alloc: Global, turns: &[i8]) -> Result<Walk, TurnFault>
+    requires { walk_refusal turns.now ≡ None }
+    ensures ok { IfOk result (λ walk. walk ≡ turns.now) }
+    ensures refused { IfErr result (λ fault. fault ≡ TurnFault.NoMemory) }
+{
+    match Walk::new(alloc, turns) {
         Ok(walk) => Ok(walk),
-        Err(_) => Err(TurnFault::NoMemory),
+        Err(WalkFault::NoMemory) => Err(TurnFault::NoMemory),
+        Err(WalkFault::TooLong | WalkFault::TurnRange) => unreachable!(),
     }
 }

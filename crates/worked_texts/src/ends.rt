@@ -55,7 +55,7 @@ fn try_reads<T: TopCall>(
     };
     for call in 1..=reads {
         let source = MemSource::new(row.text.to_vec(alloc)?, 1, vec![in alloc; call]?);
-        let sink = MemSink::new(alloc, PIECE, Vec::new(alloc));
+        let sink = MemSink::with_room(alloc, wanted.report.len(), PIECE, Vec::new(alloc))?;
         let found = try_run::<T>(alloc, &row.words, source, sink, wanted)?;
         if found.is_some() {
             return Ok(found);
@@ -68,7 +68,8 @@ fn try_reads<T: TopCall>(
 fn try_writes<T: TopCall>(alloc: Global, row: &Row) -> Result<Option<Difference>, AllocError> {
     for taken in 0..row.report.len() {
         let source = MemSource::new(row.text.to_vec(alloc)?, row.text.len(), Vec::new(alloc));
-        let sink = MemSink::new(alloc, 1, vec![in alloc; number(taken).saturating_add(1)]?);
+        let fail = vec![in alloc; number(taken).saturating_add(1)]?;
+        let sink = MemSink::with_room(alloc, row.report.len(), 1, fail)?;
         let wanted = Wanted {
             status: WRITE_FAULT,
             report: &row.report[..taken],

@@ -40,7 +40,7 @@ fn try_spaces<T: TopCall>(
 ) -> io::Result<()> {
     let alloc = rt.alloc();
     let source = MemSource::new(vec![in alloc; b' '; count]?, PIECE, Vec::new(alloc));
-    let sink = MemSink::new(alloc, PIECE, Vec::new(alloc));
+    let sink = MemSink::with_room(alloc, report.len(), PIECE, Vec::new(alloc))?;
     let found = try_run::<T>(
         alloc,
         &run_word(alloc)?,

@@ -1,7 +1,7 @@
 use Rattle.std.proofs.Common.{◌≡◌, ◌+◌, ◌++◌, ◌∷◌, [], ap, ◌∙◌, if◌then◌else◌}
 use Rattle.fab_text.specs.Line.{TextLine, line_count, lines_left}
 use Rattle.run_defs.specs.Script.{script_from}
-use Rattle.fab_script.proofs.Scripts.{read-some, script-kept}
+use Rattle.fab_script.proofs.Scripts.{sound-command, script-kept}
 use Rattle.fab_script.proofs.script.read_lines.Goals as goal
 
 pub lines-preserved : goal.lines-preserved
@@ -16,6 +16,6 @@ lines-preserved c =
           script-kept past c.args.f.now (script_from past c.args.f.now (lines_left c.numbered_from-left.result)) done c.push.new.self.items
           (lines_left c.lines.left) (lines_left c.next_line.new.self)
           l command
-          c.lines.invariant.same c.in-Some.ensures.lines c.if-is_end.ensures c.in-Ok.ensures pushed;
-      some_read = λ more. c.lines.invariant.some_read (read-some c.args.f.now (lines_left c.lines.left) (lines_left c.next_line.new.self) l c.in-Some.ensures.lines);
+          c.lines.invariant.same c.in-Some.ensures.lines c.if-is_end.ensures c.in-Ok.ensures.reading pushed;
+      some_sound = λ more. c.lines.invariant.some_sound (sound-command c.args.f.now (lines_left c.lines.left) (lines_left c.next_line.new.self) l command c.in-Some.ensures.lines c.if-is_end.ensures c.in-Ok.ensures.reading);
     }

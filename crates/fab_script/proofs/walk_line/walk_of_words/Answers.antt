@@ -1,5 +1,4 @@
-use Rattle.std.proofs.Common.{ap, sym, ◌∙◌}
-use Rattle.net_defs.specs.Turn.{walk_refusal}
+use Rattle.std.proofs.Common.{ap, sym, take, ◌∙◌}
 use Rattle.fab_text.specs.Line.{words_of}
 use Rattle.run_defs.specs.Script.{turns_of}
 use Rattle.fab_script.proofs.Scripts.{turns-walk}
@@ -7,5 +6,4 @@ use Rattle.fab_script.proofs.walk_line.walk_of_words.Goals as goal
 
 pub walk_of-requires : goal.walk_of-requires
 walk_of-requires c =
-    ap walk_refusal c.deref.ensures.value
-    ∙ turns-walk (words_of c.args.turns.now) c.in-Ok.turns.items (ap (λ l. turns_of (words_of l)) (sym c.words.ensures) ∙ c.in-Ok.ensures) c.requires
+    turns-walk (words_of c.args.turns.now) (take c.in-Ok.count c.read_turns.new.turns) (ap (λ l. turns_of (words_of l)) (sym c.words.ensures) ∙ sym c.in-Ok.ensures.said) c.requires
