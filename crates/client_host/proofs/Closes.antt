@@ -1,7 +1,6 @@
 -- What the closing of a port comes to.
-use Rattle.std.proofs.Common.{◌≡◌, ◌<◌, ◌≤◌, ◌^◌, ◌++◌, ℕ, Bool, true, false, List, [], ◌∷◌, length, map, nat_lt, Option, Some, None, option_map, refl, sym, ap, subst, ◌∙◌, arith, if◌then◌else◌}
+use Rattle.std.proofs.Common.{◌≡◌, ◌<◌, ◌^◌, ◌++◌, ℕ, Bool, true, false, List, length, map, nat_lt, Option, Some, None, option_map, refl, sym, ap, subst, ◌∙◌, arith, if◌then◌else◌}
 use Rattle.std.specs.Prelude.{is_some, IfSome}
-use Rattle.std.specs.List.{filter}
 use Rattle.std.proofs.lemmas.List.{length-map}
 use Rattle.std.proofs.lemmas.Option.{same_Some, none-some}
 use Rattle.gm_defs.specs.Token.{PortState}
@@ -66,20 +65,11 @@ closing-refused n port c e is = close-bar n port c (port_at n port) e is
 -- the counts of a refusal are of 32 bits, since a port has no more tokens than 16 bits count
 counts : (u r f : ℕ) (a b c : Bool) (e : NodeClose)
     → option_map close_word (if a then Some (CloseRefusal.Busy u) else if b then Some (CloseRefusal.Unread r) else if c then Some (CloseRefusal.Filling f) else None) ≡ Some e
-    → u < 2 ^ 32 → r < 2 ^ 32 → f < 2 ^ 32 → IsCounted e
-counts u r f true b c e is x y z = subst IsCounted (same_Some (CloseBusy u) e is) x
-counts u r f false true c e is x y z = subst IsCounted (same_Some (CloseUnread r) e is) y
-counts u r f false false true e is x y z = subst IsCounted (same_Some (CloseFilling f) e is) z
-counts u r f false false false e is x y z = absurd (none-some e is)
-
--- no more tokens are filling than are provided
-filter-few : {A : Type 0} (test : A → Bool) (xs : List A) → length (filter test xs) ≤ length xs
-filter-few test [] = omega arith
-filter-few test (x ∷ xs) = by (test x) (filter-few test xs)
-  where
-    by : (b : Bool) → length (filter test xs) ≤ length xs → length (if b then x ∷ filter test xs else filter test xs) ≤ length (x ∷ xs)
-    by true few = omega (arith, few)
-    by false few = omega (arith, few)
+    → u < 2 ^ 32 → r < 2 ^ 32 → IsCounted e
+counts u r f true b c e is x y = subst IsCounted (same_Some (CloseBusy u) e is) x
+counts u r f false true c e is x y = subst IsCounted (same_Some (CloseUnread r) e is) y
+counts u r f false false true e is x y = subst IsCounted (same_Some (CloseFilling f) e is) tt
+counts u r f false false false e is x y = absurd (none-some e is)
 
 pub bar-counted : (host hosts port : ℕ) (o : Option PortState) (c : OpenClient) (e : NodeClose) → IsTied host hosts port o (Some c) → c.minted_sends < 65536 → c.minted_recvs < 65536
     → close_bar o ≡ Some e → IsCounted e
@@ -90,9 +80,8 @@ bar-counted host hosts port (Some p) c e tied sends recvs is =
     let l = events-counted p.events in
     let s = tied.minted_sends in
     let r = tied.minted_recvs in
-    let f = filter-few (λ x. is_some x.filling) p.provided in
     counts (unfinished p) (unread p) (filling_count p) (nat_lt 0 (unfinished p)) (nat_lt 0 (unread p)) (nat_lt 0 (filling_count p)) e is
-    (omega (arith, a, s, sends)) (omega (arith, a, b, l, s, r, sends, recvs)) (omega (arith, b, r, f, recvs))
+    (omega (arith, a, s, sends)) (omega (arith, a, b, l, s, r, sends, recvs))
 
 -- each token count of a client is of 16 bits
 abbrev pub IsFew : OpenClient → Type 0

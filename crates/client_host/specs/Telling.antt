@@ -1,6 +1,7 @@
 -- What a client is told of what its host refused.
-use Rattle.std.specs.Prelude.{ℕ, ◌<◌, ◌^◌, Option, Some, None, if◌then◌else◌}
+use Rattle.std.specs.Prelude.{ℕ, ◌<◌, ◌^◌, Bool, true, false, Option, Some, None, if◌then◌else◌}
 use Rattle.gm_defs.specs.Port.{is_bad_size}
+use Rattle.gm_port.specs.declared.ask.SendAsk.{SendAsk}
 use Rattle.host_ports.specs.declared.ask.NodeClose.{NodeClose}
 use Rattle.host_ports.specs.declared.ask.NodeClose.TheVariants.{NotOpen as NothingToClose, Busy as CloseBusy}
 use Rattle.host_ports.specs.declared.ask.NodeClose.TheVariants.{Unread as CloseUnread, Filling as CloseFilling}
@@ -11,6 +12,11 @@ use Rattle.nic_node.specs.declared.refusal.NodeSend.TheVariants.{Spent as SendSp
 use Rattle.world_defs.specs.declared.client.ClientCause.{ClientCause}
 use Rattle.world_defs.specs.declared.client.ClientCause.TheVariants.{NotOpen, TooLong, NoRoute, Spent, Busy, Unread}
 use Rattle.world_defs.specs.declared.client.ClientCause.TheVariants.{BadSize, Filling}
+use Rattle.world_defs.specs.declared.effect.Said.{Said}
+use Rattle.world_defs.specs.declared.effect.Said.TheVariants.{Refused}
+use Rattle.world_defs.specs.Node.{NodeState}
+use Rattle.world_defs.specs.Client.{send_refusal}
+use Rattle.world_defs.specs.Step.{wanted}
 
 -- a refusal to close, as the client is told of it
 abbrev pub close_cause : NodeClose → ClientCause
@@ -19,12 +25,12 @@ close_cause (CloseBusy n) = Busy n
 close_cause (CloseUnread n) = Unread n
 close_cause (CloseFilling n) = Filling n
 
--- the count of a refusal to close is of 32 bits
+-- the count of a refusal to close is of 32 bits: that of tokens that are filling is so by its type
 abbrev pub IsCounted : NodeClose → Type 0
 IsCounted NothingToClose = Unit {0}
 IsCounted (CloseBusy n) = n < 2 ^ 32
 IsCounted (CloseUnread n) = n < 2 ^ 32
-IsCounted (CloseFilling n) = n < 2 ^ 32
+IsCounted (CloseFilling n) = Unit {0}
 
 -- a buffer isn't provided for its size or its priority
 abbrev pub size_cause : ℕ → ℕ → Option ClientCause
@@ -39,3 +45,15 @@ send_cause BufferShort = None
 send_cause SendNoRoute = Some NoRoute
 send_cause SendSpent = Some Spent
 send_cause NoMemory = None
+
+-- why a message isn't accepted, whatever its port and its bytes are
+abbrev pub ask_refusal : NodeState → SendAsk → Option ClientCause
+ask_refusal n a = send_refusal n (wanted 0 a.dest a.dport a.prio a.len 0)
+
+-- a refusal is told before any memory is asked for: each but those for a message's route and for its numbers, which the
+-- host knows once the message's bytes are in a buffer
+abbrev pub is_told_first : Said → Bool
+is_told_first (Refused NoRoute) = false
+is_told_first (Refused Spent) = false
+is_told_first (Refused cause) = true
+is_told_first _ = false

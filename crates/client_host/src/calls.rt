@@ -1,11 +1,12 @@
 //! The calls of a host's clients.
 
-ghost use Rattle.std.specs.Prelude.{◌≡◌, ◌<◌, option_map, IfOk, OnOk, OnErr};
+ghost use Rattle.std.specs.Prelude.{◌≡◌, ◌<◌, false, option_map, IfOk, OnOk, OnErr};
 ghost use Rattle.world_defs.specs.Node.{port_at};
 ghost use Rattle.world_defs.specs.Client.{begun, closed, provided_by, sent_by, polled_by};
 ghost use Rattle.world_defs.specs.Step.{wanted};
 ghost use Rattle.host_ports.specs.Held.{place_at};
 ghost use Rattle.client_host.specs.Held.{client_in, after_call, IsFromHosts};
+ghost use Rattle.client_host.specs.Telling.{is_told_first};
 
 use crate::closing::close;
 use crate::host::ClientHost;
@@ -34,6 +35,8 @@ impl ClientHost {
             said ≡ (begun self.old.state port sends recvs (client_in self.old port)).said) }
         ensures after { OnOk result (self.new ≡ after_call self.old port
             (begun self.old.state port sends recvs (client_in self.old port))) }
+        ensures wanting { OnErr result (is_told_first
+            (begun self.old.state port sends recvs (client_in self.old port)).said ≡ false) }
         ensures unchanged { OnErr result (self.new ≡ self.old) }
     {
         let slot = &mut self.clients[usize::from(port)];
@@ -66,6 +69,8 @@ impl ClientHost {
             said ≡ (provided_by self.old.state port size prio (client_in self.old port)).said) }
         ensures after { OnOk result (self.new ≡ after_call self.old port
             (provided_by self.old.state port size prio (client_in self.old port))) }
+        ensures wanting { OnErr result (is_told_first
+            (provided_by self.old.state port size prio (client_in self.old port)).said ≡ false) }
         ensures unchanged { OnErr result (self.new ≡ self.old) }
     {
         let slot = &mut self.clients[usize::from(port)];
@@ -92,6 +97,8 @@ impl ClientHost {
             said ≡ (sent_by self.old.state (wanted port dest dport prio len seed) (client_in self.old port)).said) }
         ensures after { OnOk result (self.new ≡ after_call self.old port
             (sent_by self.old.state (wanted port dest dport prio len seed) (client_in self.old port))) }
+        ensures wanting { OnErr result (is_told_first
+            (sent_by self.old.state (wanted port dest dport prio len seed) (client_in self.old port)).said ≡ false) }
         ensures unchanged { OnErr result (self.new ≡ self.old) }
     {
         let slot = &mut self.clients[usize::from(port)];

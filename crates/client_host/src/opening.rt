@@ -1,13 +1,14 @@
 //! A port is opened.
 
-ghost use Rattle.std.specs.Prelude.{◌≡◌, ◌<◌, IfOk, OnOk, OnErr};
+ghost use Rattle.std.specs.Prelude.{◌≡◌, ◌<◌, false, IfOk, OnOk, OnErr};
 ghost use Rattle.world_defs.specs.Node.{port_at};
 ghost use Rattle.world_defs.specs.Client.{begun};
 ghost use Rattle.nic_node.specs.Held.{in_state};
+ghost use Rattle.client_host.specs.Telling.{is_told_first};
 ghost use Rattle.client_host.specs.Tied.{held_of, opened_where, IsTied};
 
 use crate::returning::retire;
-use nic_node::NicNode;
+use nic_node::{NicNode, NodeBegin};
 use port_client::Client;
 use std::alloc::{AllocError, Global};
 use world_defs::{ClientCause, Said};
@@ -28,6 +29,8 @@ pub(crate) fn begin(
     ensures node { OnOk result (node.new ≡ in_state node.old
         (begun node.old.state port sends recvs (held_of slot.old)).node) }
     ensures client { OnOk result (slot.new ≡ opened_where node.old.host port sends recvs slot.old) }
+    ensures wanting { OnErr result (is_told_first
+        (begun node.old.state port sends recvs (held_of slot.old)).said ≡ false) }
     ensures node_stays { OnErr result (node.new ≡ node.old) }
     ensures client_stays { OnErr result (slot.new ≡ slot.old) }
 {
@@ -40,10 +43,11 @@ pub(crate) fn begin(
             put(slot, client);
             Ok(Said::Done)
         }
-        Err(_) => {
+        Err(NodeBegin::NoMemory) => {
             retire(alloc, client);
             Err(AllocError)
         }
+        Err(NodeBegin::Already) => unreachable!(),
     }
 }
 

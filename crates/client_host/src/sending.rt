@@ -1,18 +1,18 @@
 //! A message is sent.
 
-ghost use Rattle.std.specs.Prelude.{◌≡◌, ◌⊎◌, ◌<◌, ◌≤◌, ◌+◌, ◌%◌, is_some, true, Some, None, option_map, IfOk, IfErr};
+ghost use Rattle.std.specs.Prelude.{◌≡◌, ◌⊎◌, ◌<◌, ◌≤◌, ◌+◌, ◌%◌, length, is_some, true, false, Some, None, IfOk, IfErr};
 ghost use Rattle.std.specs.Prelude.{OnOk, OnErr, MatchResult};
 ghost use Rattle.std.specs.Option.{ForSome};
 ghost use Rattle.gm_defs.specs.Body.{message_limit};
 ghost use Rattle.gm_defs.specs.Token.{place_of_send};
-ghost use Rattle.gm_defs.specs.Port.{sent_with};
+ghost use Rattle.gm_defs.specs.Port.{is_too_long};
 ghost use Rattle.gm_tokens.specs.Token.{token_at};
-ghost use Rattle.world_defs.specs.Lane.{with_message};
-ghost use Rattle.world_defs.specs.Node.{lane_of, lane_at, with_lane, port_at, with_port};
-ghost use Rattle.world_defs.specs.Client.{client_bytes, wanted_message, send_refusal, sent_by};
+ghost use Rattle.world_defs.specs.Node.{port_at};
+ghost use Rattle.world_defs.specs.Client.{client_bytes, sent_by};
 ghost use Rattle.world_defs.specs.Step.{wanted};
 ghost use Rattle.nic_node.specs.Held.{in_state};
-ghost use Rattle.client_host.specs.Telling.{send_cause};
+ghost use Rattle.nic_node.specs.Accepting.{accepted};
+ghost use Rattle.client_host.specs.Telling.{send_cause, ask_refusal, is_told_first};
 ghost use Rattle.client_host.specs.Tied.{held_of, now_holding, IsTied};
 
 use crate::telling::refused;
@@ -44,6 +44,8 @@ pub(crate) fn send(
         (sent_by node.old.state (wanted port a.dest a.dport a.prio a.len seed) (held_of slot.old)).node) }
     ensures client { OnOk result (slot.new ≡ now_holding slot.old
         (sent_by node.old.state (wanted port a.dest a.dport a.prio a.len seed) (held_of slot.old)).client) }
+    ensures wanting { OnErr result (is_told_first (sent_by node.old.state
+        (wanted port a.dest a.dport a.prio a.len seed) (held_of slot.old)).said ≡ false) }
     ensures node_stays { OnErr result (node.new ≡ node.old) }
     ensures client_stays { OnErr result (slot.new ≡ slot.old) }
 {
@@ -74,6 +76,8 @@ fn send_open(
     ensures client { OnOk result (Some client.new
         ≡ now_holding (Some client.old) (sent_by node.old.state (wanted port a.dest a.dport a.prio a.len seed)
         (Some client.old.held)).client) }
+    ensures wanting { OnErr result (is_told_first (sent_by node.old.state
+        (wanted port a.dest a.dport a.prio a.len seed) (Some client.old.held)).said ≡ false) }
     ensures node_stays { OnErr result (node.new ≡ node.old) }
     ensures client_stays { OnErr result (client.new ≡ client.old) }
 {
@@ -90,7 +94,7 @@ fn send_open(
 }
 
 // A token sends the message of a new buffer. It comes back where that is refused, with the cause, or with none for
-// want of memory.
+// want of memory. A message that is too long is refused before any memory is asked for.
 fn send_token(
     alloc: Global,
     node: &mut NicNode,
@@ -107,16 +111,12 @@ fn send_token(
     requires dest { a.dest < node.old.hosts }
     requires dport { a.dport < 8 }
     requires prio { a.prio < 2 }
-    ensures refused { MatchResult result (λ _. send_refusal node.old.state
-        (wanted port a.dest a.dport a.prio a.len seed) ≡ None) (λ e.
-        (e.1 ≡ send_refusal node.old.state (wanted port a.dest a.dport a.prio a.len seed)) ⊎ (e.1 ≡ None)) }
+    ensures refused { MatchResult result (λ _. ask_refusal node.old.state a ≡ None) (λ e.
+        (e.1 ≡ ask_refusal node.old.state a) ⊎ (e.1 ≡ None)) }
+    ensures too_long { IfErr result (λ e. is_too_long a.len ≡ true → e.1 ≡ Some ClientCause.TooLong) }
     ensures number { IfOk result (λ n. n ≡ token.number) }
     ensures sent { OnOk result (node.new ≡ in_state node.old
-        (with_port (with_lane node.old.state (lane_of a.dest a.prio) (with_message
-        (lane_at node.old.state (lane_of a.dest a.prio))
-        (wanted_message (wanted port a.dest a.dport a.prio a.len seed))
-        (record { port = port; token = token.number }))) port
-        (option_map (λ p. sent_with p token.number (client_bytes a.len seed)) (port_at node.old.state port)))) }
+        (accepted node.old.state port token.number a (client_bytes a.len seed))) }
     ensures handed_back { IfErr result (λ e. e.0 ≡ token) }
     ensures unchanged { OnErr result (node.new ≡ node.old) }
 {
@@ -124,17 +124,45 @@ fn send_token(
         return Err((token, Some(ClientCause::TooLong)));
     }
     match client_bytes(alloc, a.len, seed) {
-        Ok(bytes) => {
-            let number = token.number();
-            match node.send(alloc, port, token, register(bytes), a) {
-                Ok(()) => Ok(number),
-                Err((token, buffer, refusal)) => {
-                    release(buffer);
-                    Err((token, cause_of(refusal)))
-                }
-            }
-        }
+        Ok(bytes) => send_bytes(alloc, node, port, token, a, bytes),
         Err(_) => Err((token, None)),
+    }
+}
+
+// A token sends a message of these bytes. It comes back exactly where that is refused, with the cause, and for want of
+// memory with none.
+fn send_bytes(
+    alloc: Global,
+    node: &mut NicNode,
+    port: u8,
+    token: SendToken,
+    a: SendAsk,
+    bytes: Vec<u8>,
+) -> Result<u16, (SendToken, Option<ClientCause>)>
+    requires port { port < 8 }
+    requires open { is_some (port_at node.old.state port) ≡ true }
+    requires own { token ≡ token_at node.old.host port token.number }
+    requires minted { ForSome (port_at node.old.state port) (λ p. token.number < p.sends) }
+    requires free { ForSome (port_at node.old.state port) (λ p. place_of_send p token.number ≡ None) }
+    requires dest { a.dest < node.old.hosts }
+    requires dport { a.dport < 8 }
+    requires prio { a.prio < 2 }
+    requires whole { length bytes.items ≡ a.len }
+    ensures refused { MatchResult result (λ _. ask_refusal node.old.state a ≡ None) (λ e.
+        e.1 ≡ ask_refusal node.old.state a) }
+    ensures number { IfOk result (λ n. n ≡ token.number) }
+    ensures sent { OnOk result (node.new ≡ in_state node.old
+        (accepted node.old.state port token.number a bytes.items)) }
+    ensures handed_back { IfErr result (λ e. e.0 ≡ token) }
+    ensures unchanged { OnErr result (node.new ≡ node.old) }
+{
+    let number = token.number();
+    match node.send(alloc, port, token, register(bytes), a) {
+        Ok(()) => Ok(number),
+        Err((token, buffer, refusal)) => {
+            release(buffer);
+            Err((token, cause_of(refusal)))
+        }
     }
 }
 

@@ -27,7 +27,7 @@ pub(crate) fn close_cause(refusal: NodeClose) -> ClientCause
         NodeClose::NotOpen => ClientCause::NotOpen,
         NodeClose::Busy(n) => ClientCause::Busy(n as u32),
         NodeClose::Unread(n) => ClientCause::Unread(n as u32),
-        NodeClose::Filling(n) => ClientCause::Filling(n as u32),
+        NodeClose::Filling(n) => ClientCause::Filling(n),
     }
 }
 

@@ -34,21 +34,35 @@ impl Receiver {
         }
     }
 
-    /// A frame of this connection arrives; `fits` says whether a token takes its fragment. Part is answered where that
-    /// isn't the last of its message.
+    /// What a frame of this connection comes to; `fits` says whether a token takes its fragment. NotNext where its number
+    /// isn't the next, else NoToken where none takes it, else Whole or Part, as the fragment is the last of its message
+    /// or not. Nothing is taken yet.
+    pub fn would_take(&self, h: &FrameHead, fits: bool) -> Took
+        ensures { result ≡ took self.now.taken h.now.seq fits (is_last h.now.total h.now.offset) }
+    {
+        if h.seq != self.taken {
+            Took::NotNext
+        } else if !fits {
+            Took::NoToken
+        } else if h.is_last() {
+            Took::Whole
+        } else {
+            Took::Part
+        }
+    }
+
+    /// A frame of this connection arrives, and is taken where it would be.
     pub fn on_frame(&mut self, h: &FrameHead, fits: bool) -> Took
         requires { is_head h.now ≡ true }
         ensures took { result ≡ took self.old.taken h.now.seq fits (is_last h.now.total h.now.offset) }
         ensures taken { self.new ≡ record self.old { taken = taken_after self.old.taken result } }
     {
-        if h.seq != self.taken {
-            return Took::NotNext;
+        let took = self.would_take(h, fits);
+        match took {
+            Took::Whole | Took::Part => self.taken += 1,
+            Took::NoToken | Took::NotNext => {}
         }
-        if !fits {
-            return Took::NoToken;
-        }
-        self.taken += 1;
-        if h.is_last() { Took::Whole } else { Took::Part }
+        took
     }
 
     /// The acknowledgement of what was taken.

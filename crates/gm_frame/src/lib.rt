@@ -9,12 +9,10 @@
 //! ```
 #![tactic(auto)]
 
-mod key;
 mod reading;
 mod writing;
 
-pub use gm_defs::{Ack, Blob, ConnectionKey, FrameHead, GmBody, Malformed};
-pub use key::key_of;
+pub use gm_defs::{Ack, Blob, FrameHead, GmBody, Malformed};
 pub use reading::{decode, part_of};
 pub use writing::{encode_ack, encode_frame};
 

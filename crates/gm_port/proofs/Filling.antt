@@ -1,12 +1,12 @@
 -- What tokens of a port are filling with stays right: a fragment fills its token on, and no other begins for its host and priority.
-use Rattle.std.proofs.Common.{◌≡◌, ◌<◌, ◌≤◌, ◌+◌, ◌-◌, ℕ, Bool, true, false, ◌&&◌, min, nat_eq, nat_lt, nat_le, List, [], ◌∷◌, ◌++◌, length, find, Option, Some, None, IfSome, is_some, refl, sym, ap, ◌∙◌, subst, arith, length-append, if◌then◌else◌}
+use Rattle.std.proofs.Common.{◌≡◌, ◌<◌, ◌≤◌, ◌-◌, ℕ, Bool, true, false, ◌&&◌, nat_eq, List, [], ◌∷◌, length, Some, None, IfSome, refl, sym, ap, ◌∙◌, subst, arith, length-append}
 use Rattle.std.specs.List.{AllByRecursion, filter}
 use Rattle.std.proofs.lemmas.Bool.Decides.{nat_tests}
 use Rattle.net_defs.proofs.Distinct.{all-push}
 use Rattle.gm_defs.specs.declared.frame.FrameHead.{FrameHead}
 use Rattle.gm_defs.specs.Body.{piece, is_last}
 use Rattle.gm_defs.specs.Token.{Provided, PortState, room, is_size, size_for_length, fits, IsFilling, IsFillingRight, AreFilling, is_from, is_filling_for, takes_at, taker}
-use Rattle.gm_defs.specs.Port.{with_first, filling_with, going_on_with, provided_with, delivered}
+use Rattle.gm_defs.specs.Port.{with_first, filling_with, going_on_with}
 use Rattle.gm_defs.proofs.Choices.{both}
 use Rattle.gm_defs.proofs.Found.{IsSplit, split, all-left, all-replaced, all-found, filter-append, filter-none, none-passes, replaced-other, replaced-first, replaced-count, without-count}
 use Rattle.gm_defs.proofs.Takers.{IsFound, found, IsTaker, passes-taker, Delivery, delivery}

@@ -1,5 +1,5 @@
 -- What a head by the rules says of its fragment, and the room of a token that fits.
-use Rattle.std.proofs.Common.{◌≡◌, ◌≤◌, ◌-◌, ℕ, Bool, true, false, ◌&&◌, min, nat_eq, nat_lt, nat_le, Option, Some, None, refl, sym, subst, true≢false, arith}
+use Rattle.std.proofs.Common.{◌≡◌, ◌≤◌, ◌-◌, ℕ, Bool, true, ◌&&◌, min, nat_eq, nat_lt, nat_le, Option, Some, None, refl, sym, subst, true≢false, arith}
 use Rattle.std.proofs.lemmas.Bool.Decides.{nat_tests}
 use Rattle.gm_defs.specs.declared.frame.FrameHead.{FrameHead}
 use Rattle.gm_defs.specs.Body.{piece, message_limit, number_limit, is_prio, is_offset, is_head}

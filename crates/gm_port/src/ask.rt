@@ -39,5 +39,5 @@ pub enum CloseRefusal {
     /// So many events wait.
     Unread(usize),
     /// So many provided tokens hold a part of a message.
-    Filling(usize),
+    Filling(u32),
 }

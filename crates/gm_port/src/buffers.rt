@@ -87,10 +87,12 @@ impl BufferList {
     }
 
     /// How many tokens are filling.
-    pub(crate) fn filling(&self) -> usize
+    pub(crate) fn filling(&self) -> u32
         ensures { result ≡ length (filter (λ r. is_some r.filling) self.now.provided) }
     {
-        count_filling(&self.provided)
+        // No more tokens are provided than a port has, which 16 bits count.
+        let _limit = self.limit;
+        count_filling(&self.provided) as u32
     }
 
     /// Takes a token in, behind the others.

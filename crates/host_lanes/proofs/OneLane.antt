@@ -15,13 +15,13 @@ use Rattle.gm_defs.proofs.Choices.{both}
 use Rattle.gm_defs.proofs.Numbers.{length-fragments, fragments-append, next-fragment}
 use Rattle.gm_conn.specs.declared.desc.Desc.{Desc}
 use Rattle.gm_conn.specs.declared.desc.Due.{Due}
-use Rattle.gm_conn.specs.Halves.{Outgoing, Incoming, IsOutgoing, WaitsFor, AreOf, Describes, is_desc, first, place_below, due_at, due_frame, finished, heard_ack, without_finished}
+use Rattle.gm_conn.specs.Halves.{Outgoing, Incoming, IsOutgoing, WaitsFor, AreOf, Describes, is_desc, first, place_below, due_at, message_of, due_frame, finished, heard_ack, oldest_finished, without_finished}
 use Rattle.gm_conn.proofs.Messages.{within}
 use Rattle.gm_conn.proofs.Connections.{due-some}
 use Rattle.gm_conn.proofs.Finished.{heard-finished, heard-none, finished-less, finished-pushed}
 use Rattle.gm_conn.proofs.Sent.{of-push, of-drop, of-count, waits-last, below-waiting, due-of-message}
-use Rattle.world_defs.specs.Lane.{Ticket}
-use Rattle.host_lanes.specs.Lane.{other_way, head_of_frame, IsLane}
+use Rattle.world_defs.specs.Lane.{Ticket, finished_by, lane_acknowledged}
+use Rattle.host_lanes.specs.Lane.{HostLane, in_state, other_way, head_of_frame, IsLane}
 
 -- ---- what is finished
 
@@ -236,13 +236,29 @@ same-without k n v w u same kept h enough e =
       waits = λ ms h. subst (λ x. WaitsFor x ms) (sym e) (without-waits w ms (same.waits ms h));
     }
 
--- where none was finished before, an acknowledgement finishes as many messages as descriptors
-pub heard-all : (v w : Outgoing) (r : Incoming) (ms : List Message) (ts : List Ticket) (n k messages : ℕ) → IsOutgoing v → IsLane v r ms ts → w ≡ record v { numbers = acknowledged v.numbers n }
-    → messages + finished v ≡ finished w → k ≡ whole_below ms (acknowledged v.numbers n).base - whole_below ms v.numbers.base → k ≡ finished w
-heard-all v w r ms ts n k messages kept peer e all is =
-    let none = peer.unfinished in
-    let same : messages ≡ finished w = omega (arith, none, all) in
-    is ∙ sym (finished-lane v ms n messages kept peer.waits peer.numbered (all ∙ ap finished e)) ∙ same
+-- a finished descriptor is there where one is counted
+pub oldest-there : (w : Outgoing) → 0 < finished w → oldest_finished w ≡ None → ⊥
+oldest-there w up none = by w.waiting refl
+  where
+    some : nat_lt 0 (finished w) ≡ true
+    some = grind (arith, nat_tests)
+
+    first-none : slice_get w.waiting 0 ≡ None
+    first-none = sym (ap (λ t. if t then slice_get w.waiting 0 else None) some) ∙ none
+
+    by : (ds : List Desc) → w.waiting ≡ ds → ⊥
+    by [] e =
+        let zero : finished w ≡ 0 = ap (λ (l : List Desc). whole_below (map message_of l) (w.numbers.base - (w.numbers.next - length (fragments (map message_of l))))) e in
+        omega (arith, zero, up)
+    by (d ∷ ds) e = none-some d (sym (sym (ap (λ l. slice_get l 0) e) ∙ first-none))
+
+-- what a lane is once an acknowledgement was heard, and so many sends wait no more
+pub heard-state : (p : HostLane) (u : Outgoing) (ts : List Ticket) (n k : ℕ) → k ≡ finished_by p.state n → u.key ≡ p.key → u.numbers ≡ acknowledged p.state.sender n → ts ≡ drop k p.state.pending
+    → record { key = u.key; state = record p.state { sender = u.numbers; pending = ts } } ≡ in_state p (lane_acknowledged p.state n)
+heard-state p u ts n k is key numbers gone = λ i. record {
+  key = key i;
+  state = record p.state { sender = numbers i; pending = (gone ∙ ap (λ c. drop c p.state.pending) is) i };
+}
 
 -- an acknowledgement was heard, and what it finished is taken out
 pub heard-lane : (v w u : Outgoing) (r : Incoming) (ms : List Message) (ts : List Ticket) (n k : ℕ) → IsLane v r ms ts → w ≡ record v { numbers = acknowledged v.numbers n } → k ≡ finished w → SameBut k w u

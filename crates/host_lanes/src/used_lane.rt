@@ -214,8 +214,7 @@ impl UsedLane {
         ensures { self.new ≡ in_state self.old (lane_acknowledged self.old.state next) }
     {
         self.sender.in_order();
-        let finished = self.finished_by(next);
-        let _messages = self.sender.on_ack(next);
+        let finished = self.sender.on_ack(next) as usize;
         drop_tickets(&mut self.pending, finished);
         drop_finished(&mut self.sender, finished);
     }
@@ -236,7 +235,7 @@ impl UsedLane {
             (lane_after self.old.state t (message_of h.now part.now))) }
         ensures err { OnErr result (self.new ≡ self.old) }
     {
-        let took = took_of(self.receiver.ack().next, h, fits);
+        let took = self.receiver.would_take(h, fits);
         keep(alloc, &mut self.got, &mut self.coming, took, h, part)?;
         self.owes = true;
         Ok(self.receiver.on_frame(h, fits))
@@ -254,21 +253,6 @@ impl UsedLane {
         ensures { result.now ≡ self.now.state.got }
     {
         &self.got
-    }
-}
-
-// What is made of a frame where so many were taken.
-fn took_of(taken: u32, h: &FrameHead, fits: bool) -> Took
-    ensures { result ≡ took taken h.now.seq fits (is_last h.now.total h.now.offset) }
-{
-    if h.seq != taken {
-        Took::NotNext
-    } else if !fits {
-        Took::NoToken
-    } else if h.is_last() {
-        Took::Whole
-    } else {
-        Took::Part
     }
 }
 
@@ -371,7 +355,7 @@ fn drop_tickets(pending: &mut VecDeque<Ticket>, count: usize)
     }
 }
 
-// Takes so many finished descriptors out of a sender, which keeps its numbers.
+// Takes so many finished descriptors out of a sender, which has as many and keeps its numbers.
 fn drop_finished(sender: &mut Sender, count: usize)
     requires { count ≤ finished sender.old }
     ensures key { sender.new.key ≡ sender.old.key }
@@ -382,6 +366,9 @@ fn drop_finished(sender: &mut Sender, count: usize)
 {
     for _ in 0..count {
         sender.in_order();
-        let _desc = sender.take_finished();
+        match sender.take_finished() {
+            Some(_desc) => {}
+            None => unreachable!(),
+        }
     }
 }

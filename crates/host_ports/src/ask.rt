@@ -41,7 +41,7 @@ pub enum NodeClose {
     /// So many events wait.
     Unread(usize),
     /// So many provided tokens hold the beginning of a message.
-    Filling(usize),
+    Filling(u32),
 }
 
 /// The port isn't open.

@@ -213,14 +213,6 @@ impl Ports {
         slot::abandon(&mut self.ports[usize::from(port)])
     }
 
-    /// Whether a port is open.
-    pub fn is_open(&self, port: u8) -> bool
-        requires { port < 8 }
-        ensures { result ≡ is_some (open_at self.now port) }
-    {
-        self.ports[usize::from(port)].is_some()
-    }
-
     /// The place of a send token or of a receive token of a port, by its number. None where the client has it, or the
     /// port isn't open.
     pub fn place(&self, port: u8, send: bool, number: u16) -> Option<TokenPlace>

@@ -136,14 +136,6 @@ impl NicNode {
         self.ports.poll(port)
     }
 
-    /// Whether a port is open.
-    pub fn is_open(&self, port: u8) -> bool
-        requires { port < 8 }
-        ensures { result ≡ is_some (port_at self.now.state port) }
-    {
-        self.ports.is_open(port)
-    }
-
     /// The place of a send token or of a receive token of a port, by its number. None where the client has it, or the
     /// port isn't open.
     pub fn token_place(&self, port: u8, send: bool, number: u16) -> Option<TokenPlace>

@@ -1,9 +1,8 @@
 -- The tokens of a client, as contracts see them.
-use Rattle.std.proofs.Common.{◌≡◌, ℕ, zero, suc, ◌+◌, ◌<◌, ◌≤◌, List, [], ◌∷◌, ◌++◌, length, nat_eq, ◌||◌, refl, sym, ap, ◌∙◌, subst, append-nil, arith}
+use Rattle.std.proofs.Common.{◌≡◌, ℕ, zero, suc, ◌+◌, ◌<◌, ◌≤◌, List, [], ◌∷◌, ◌++◌, length, refl, sym, ap, ◌∙◌, subst, append-nil, arith}
 use Rattle.std.proofs.lemmas.List.{map-append, length-map}
-use Rattle.std.specs.List.{range_with_len, list_any, AllByRecursion}
+use Rattle.std.specs.List.{range_with_len, AllByRecursion}
 use Rattle.net_defs.specs.Network.{Apart}
-use Rattle.gm_defs.specs.Token.{has_number}
 use Rattle.gm_tokens.specs.declared.bank.Bank.{Bank}
 use Rattle.gm_tokens.specs.Token.{Token, token_at}
 use Rattle.gm_tokens.specs.Minted.{tokens, AreAll}
@@ -53,11 +52,6 @@ opened-kept bank host port sends recvs ss rs send_room recv_room b s r sroom rro
   send_roomy = sroom;
   recv_roomy = rroom;
 }
-
--- a number among those of tokens
-pub named : (ts : List Token) (number : ℕ) → list_any (λ t. nat_eq number t.number) ts ≡ has_number (numbers_of ts) number
-named [] number = refl
-named (t ∷ ts) number = ap (λ b. nat_eq number t.number || b) (named ts number)
 
 -- all tokens, those held and others
 pub all-joined : (host port bank_count count : ℕ) (held others joined : List Token) → bank_count ≡ count → AreOwn host port held → joined ≡ held ++ others

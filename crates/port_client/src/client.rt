@@ -1,12 +1,11 @@
 //! The client of an open port.
 
 ghost use Rattle.std.specs.Prelude.{◌≡◌, ◌<◌, ◌++◌, ◌∷◌, [], length, drop, slice_get, option_map, IfOk};
-ghost use Rattle.gm_defs.specs.Token.{has_number};
 ghost use Rattle.gm_tokens.specs.Token.{token_at};
 ghost use Rattle.gm_tokens.specs.Minted.{AreAll};
 ghost use Rattle.port_client.specs.Held.{opened_client, with_sends, with_recvs, tokens_of};
 
-use crate::held::{joined_recvs, joined_sends, names_recv, names_send};
+use crate::held::{joined_recvs, joined_sends};
 use gm_tokens::{Bank, Minted, NoMemory, RecvToken, SendToken};
 use std::alloc::Global;
 use std::collections::VecDeque;
@@ -120,20 +119,6 @@ impl Client {
         ensures { self.new ≡ with_recvs self.old (t.number ∷ self.old.held.recvs) }
     {
         self.recvs.push_front_reserved(t);
-    }
-
-    /// Whether it holds the send token of this number.
-    pub fn holds_send(&self, number: u16) -> bool
-        ensures { result ≡ has_number self.now.held.sends number }
-    {
-        names_send(&self.sends, number)
-    }
-
-    /// Whether it holds the receive token of this number.
-    pub fn holds_recv(&self, number: u16) -> bool
-        ensures { result ≡ has_number self.now.held.recvs number }
-    {
-        names_recv(&self.recvs, number)
     }
 
     /// Spends all tokens of the opening: those that it holds, and those handed in. Takes no memory.

@@ -1,7 +1,6 @@
 //! Lists of tokens.
 
-ghost use Rattle.std.specs.Prelude.{◌≡◌, ◌≤◌, ◌+◌, ◌++◌, length, nat_eq};
-ghost use Rattle.std.specs.List.{list_any};
+ghost use Rattle.std.specs.Prelude.{◌≡◌, ◌≤◌, ◌+◌, ◌++◌, length};
 ghost use Rattle.std.specs.VecDeque.{deque_capacity};
 
 use gm_tokens::{RecvToken, SendToken};
@@ -31,18 +30,4 @@ pub(crate) fn joined_recvs(mut held: VecDeque<RecvToken>, others: Vec<RecvToken>
     }
     rest.destroy_empty();
     held.into_vec()
-}
-
-/// Whether a send token of this number is among these.
-pub(crate) fn names_send(held: &VecDeque<SendToken>, number: u16) -> bool
-    ensures { result ≡ list_any (λ t. nat_eq number t.number) held.now.items }
-{
-    held.iter().any(|t| number == t.number())
-}
-
-/// Whether a receive token of this number is among these.
-pub(crate) fn names_recv(held: &VecDeque<RecvToken>, number: u16) -> bool
-    ensures { result ≡ list_any (λ t. nat_eq number t.number) held.now.items }
-{
-    held.iter().any(|t| number == t.number())
 }

@@ -5,7 +5,7 @@ use Rattle.client_host.specs.Telling.{size_cause}
 use Rattle.client_host.specs.Tied.{now_holding}
 use Rattle.client_host.proofs.Tokens.{taken-is, none-taken, free-recv}
 use Rattle.client_host.proofs.Returns.{returned-recv}
-use Rattle.client_host.proofs.Calling.{unless, provided_call, providing-none, providing-some, none-left-recvs, told-said, told-node, told-client}
+use Rattle.client_host.proofs.Calling.{unless, provided_call, providing-none, providing-some, none-left-recvs, told-said, told-node, told-client, told-first, provide-wanting}
 use Rattle.client_host.proofs.providing.provide_open.Goals as goal
 
 pub provide_token-requires-clause-free : goal.provide_token-requires-clause-free
@@ -66,6 +66,16 @@ returns-in-Err-clause-client c =
     let made = providing-some n.host n.hosts n.state c.args.port c.args.size c.args.prio k t.number c.requires.tied (taken-is k.host k.port k.held.recvs t first).first in
     told-client c.in-Err.cause (size_cause c.args.size c.args.prio) n k (provided_call n.state c.args.port c.args.size c.args.prio k.held t.number) _ c.refused.result c.return_recv.new.self c.refused.ensures.told made (inl c.in-Err.ensures.refused)
     (returned-recv k c.take_recv.new.self c.return_recv.new.self t c.in-Err.token first c.in-Err.ensures.handed_back c.take_recv.ensures.rest c.return_recv.ensures)
+
+pub returns-in-Err-clause-wanting : goal.returns-in-Err-clause-wanting
+returns-in-Err-clause-wanting c =
+    let n = c.args.node.now in
+    let k = c.args.client.now in
+    let t = c.in-Some.token in
+    let first = sym c.take_recv.ensures.token ∙ c.in-Some.is in
+    told-first c.refused.result c.in-Err.cause (size_cause c.args.size c.args.prio) n.state k.held (provided_call n.state c.args.port c.args.size c.args.prio k.held t.number) _ c.refused.ensures.wanting
+    (providing-some n.host n.hosts n.state c.args.port c.args.size c.args.prio k t.number c.requires.tied (taken-is k.host k.port k.held.recvs t first).first)
+    (λ none. provide-wanting n.state c.args.port c.args.size c.args.prio k.held t.number (sym c.in-Err.ensures.refused ∙ none))
 
 pub returns-in-None-clause-said : goal.returns-in-None-clause-said
 returns-in-None-clause-said c =

@@ -1,9 +1,14 @@
-use Rattle.std.proofs.Common.{◌∙◌, ap}
+use Rattle.std.proofs.Common.{◌≡◌, ◌∙◌, OnOk, length, ap, subst}
 use Rattle.nic_node.specs.Held.{in_state}
-use Rattle.client_host.proofs.Sends.{accepted-is}
+use Rattle.nic_node.specs.Accepting.{accepted}
+use Rattle.client_host.proofs.Sends.{bytes-counted}
 use Rattle.client_host.proofs.sending.send_token.Goals as goal
 
-pub returns-in-Ok-send-clause-sent : goal.returns-in-Ok-send-clause-sent
-returns-in-Ok-send-clause-sent c =
+pub send_bytes-requires-clause-whole : goal.send_bytes-requires-clause-whole
+send_bytes-requires-clause-whole c = ap length c.in-Ok.ensures ∙ bytes-counted c.args.a.len c.args.seed
+
+pub returns-in-Ok-clause-sent : goal.returns-in-Ok-clause-sent
+returns-in-Ok-clause-sent c =
     let n = c.args.node.now in
-    c.in-Ok-send.ensures.sent ∙ ap (in_state n) (accepted-is n.state c.args.port c.args.token.number c.args.a c.args.seed c.register.result (c.register.ensures ∙ c.in-Ok.ensures))
+    subst (λ b. OnOk c.send_bytes.result (c.send_bytes.new.node ≡ in_state n (accepted n.state c.args.port c.args.token.number c.args.a b)))
+    c.in-Ok.ensures c.send_bytes.ensures.sent

@@ -1,4 +1,4 @@
-use Rattle.std.proofs.Common.{◌≡◌, ◌+◌, ◌<◌, ℕ, suc, Bool, List, ap, ◌∙◌, cond, arith, sym, take, length, is_some, count_by, true, false}
+use Rattle.std.proofs.Common.{◌≡◌, ◌+◌, ◌<◌, ℕ, suc, Bool, List, ap, ◌∙◌, cond, arith, sym, take, length, is_some, count_by}
 use Rattle.std.specs.Prelude.{slice_get}
 use Rattle.gm_port.specs.Table.{Place, is_held}
 use Rattle.gm_port.proofs.Tables.{count-more}

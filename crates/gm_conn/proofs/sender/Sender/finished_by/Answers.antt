@@ -1,5 +1,5 @@
-use Rattle.std.proofs.Common.{◌≡◌, ◌≤◌, ◌-◌, ◌+◌, sym, ap, ◌∙◌, subst, arith}
-use Rattle.gm_conn.specs.Halves.{first, place_below, finished}
+use Rattle.std.proofs.Common.{◌≤◌, ◌-◌, sym, ap, ◌∙◌, subst, arith}
+use Rattle.gm_conn.specs.Halves.{first, place_below}
 use Rattle.gm_conn.proofs.Finished.{finished-by, finished-up, taken-up, heard-none, place-most}
 use Rattle.gm_conn.proofs.sender.Sender.finished_by.Goals as goal
 

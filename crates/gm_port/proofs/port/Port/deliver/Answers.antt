@@ -1,8 +1,8 @@
 use Rattle.std.proofs.Common.{◌≡◌, true, sym, ap, subst, ◌∙◌}
-use Rattle.gm_defs.specs.Token.{can_take, AreFilling}
+use Rattle.gm_defs.specs.Token.{can_take}
 use Rattle.gm_defs.specs.Port.{delivered}
 use Rattle.gm_port.specs.Opened.{OpenPort, IsPort}
-use Rattle.gm_port.proofs.Ports.{fill-found, fill-room, fill-within, fill-port, fill-seen}
+use Rattle.gm_port.proofs.Ports.{fill-room, fill-within, fill-port, fill-seen}
 use Rattle.gm_port.proofs.port.Port.deliver.Goals as goal
 
 pub fill-requires-clause-taken : goal.fill-requires-clause-taken

@@ -1,34 +1,49 @@
-use Rattle.std.proofs.Common.{◌≡◌, ◌∙◌, ◌-◌, sym, ap, subst, arith}
-use Rattle.gm_defs.specs.Fragment.{whole_below}
-use Rattle.gm_defs.specs.Connection.{acknowledged}
+use Rattle.std.proofs.Common.{◌≡◌, ◌∙◌, sym, ap, subst, arith}
 use Rattle.gm_conn.specs.Halves.{finished}
-use Rattle.world_defs.specs.Lane.{finished_by}
-use Rattle.host_lanes.specs.Lane.{IsLane}
-use Rattle.host_lanes.proofs.OneLane.{heard-all, heard-lane}
+use Rattle.world_defs.specs.Lane.{finished_by, lane_acknowledged}
+use Rattle.host_lanes.specs.Lane.{HostLane, IsLane, in_state}
+use Rattle.host_lanes.proofs.OneLane.{finished-lane, heard-lane, heard-state}
 use Rattle.host_lanes.proofs.used_lane.UsedLane.on_ack.Goals as goal
 
 pub drop_finished-requires : goal.drop_finished-requires
 drop_finished-requires c =
-    let v = c.self.inside.sender in
-    let ms = c.self.inside.sent.items in
-    let is : c.finished_by-finished.result ≡ whole_below ms (acknowledged v.numbers c.args.next).base - whole_below ms v.numbers.base =
-    c.finished_by-finished.ensures ∙ ap (λ p. finished_by p.state c.args.next) (sym c.self.view_is) in
-    let all : c.finished_by-finished.result ≡ finished c.on_ack-messages.new.self =
-    heard-all v c.on_ack-messages.new.self c.self.inside.receiver ms c.self.inside.pending.items c.args.next c.finished_by-finished.result c.on_ack-messages.result
-    c.in_order.ensures c.self.invariant c.on_ack-messages.ensures.new c.on_ack-messages.ensures.messages is in
-    omega (arith, all)
+    let all = c.on_ack-finished.ensures.messages in
+    let none = c.self.invariant.unfinished in
+    omega (arith, all, none)
 
 pub invariant_of-self : goal.invariant_of-self
 invariant_of-self c =
     let v = c.self.inside.sender in
     let ms = c.self.inside.sent.items in
-    let is : c.finished_by-finished.result ≡ whole_below ms (acknowledged v.numbers c.args.next).base - whole_below ms v.numbers.base =
-    c.finished_by-finished.ensures ∙ ap (λ p. finished_by p.state c.args.next) (sym c.self.view_is) in
-    let all : c.finished_by-finished.result ≡ finished c.on_ack-messages.new.self =
-    heard-all v c.on_ack-messages.new.self c.self.inside.receiver ms c.self.inside.pending.items c.args.next c.finished_by-finished.result c.on_ack-messages.result
-    c.in_order.ensures c.self.invariant c.on_ack-messages.ensures.new c.on_ack-messages.ensures.messages is in
+    let messages = c.on_ack-finished.ensures.messages in
+    let none = c.self.invariant.unfinished in
+    let all : c.on_ack-finished.result ≡ finished c.on_ack-finished.new.self = omega (arith, messages, none) in
     let left = c.drop_finished.ensures in
     subst (λ ts. IsLane c.drop_finished.new.sender c.self.inside.receiver ms ts) (sym c.drop_tickets.ensures)
-    (heard-lane v c.on_ack-messages.new.self c.drop_finished.new.sender c.self.inside.receiver ms c.self.inside.pending.items c.args.next c.finished_by-finished.result
-    c.self.invariant c.on_ack-messages.ensures.new all
+    (heard-lane v c.on_ack-finished.new.self c.drop_finished.new.sender c.self.inside.receiver ms c.self.inside.pending.items c.args.next c.on_ack-finished.result
+    c.self.invariant c.on_ack-finished.ensures.new all
     (record { key = left.key; numbers = left.numbers; fewer = left.fewer; left = left.left; waits = left.waits }))
+
+pub returns : goal.returns
+returns c =
+    let v = c.self.inside.sender in
+    let p : HostLane = record {
+      key = v.key;
+      state = record {
+        sender = v.numbers;
+        sent = c.self.inside.sent.items;
+        pending = c.self.inside.pending.items;
+        got = c.self.inside.got.items;
+        coming = c.self.inside.coming.items;
+        taken = c.self.inside.receiver.taken;
+        owes = c.self.inside.owes;
+      };
+    } in
+    let new = c.on_ack-finished.ensures.new in
+    let left = c.drop_finished.ensures in
+    let is : c.on_ack-finished.result ≡ finished_by p.state c.args.next =
+    finished-lane v c.self.inside.sent.items c.args.next c.on_ack-finished.result c.in_order.ensures c.self.invariant.waits c.self.invariant.numbered
+    (c.on_ack-finished.ensures.messages ∙ ap finished new) in
+    heard-state p c.drop_finished.new.sender c.drop_tickets.new.pending.items c.args.next c.on_ack-finished.result is
+    (left.key ∙ ap (λ w. w.key) new) (left.numbers ∙ ap (λ w. w.numbers) new) c.drop_tickets.ensures
+    ∙ ap (λ q. in_state q (lane_acknowledged q.state c.args.next)) c.self.view_is
