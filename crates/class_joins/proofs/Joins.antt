@@ -16,8 +16,8 @@ use Rattle.class_joins.specs.Heads.{head_at}
 use Rattle.class_joins.specs.HeadSteps.{IsJoinedByHeads, IsJoinedByMarks}
 use Rattle.class_joins.specs.Rounds.{IsOriented, IsSettling, IsSettlingIn, IsSettlingSome, KeepsSettling}
 use Rattle.class_joins.proofs.Lists.{among-last}
-use Rattle.class_joins.proofs.Rounds.{first-least, first-number, least-turn, names-inside, round-joined, round-passed, second-least, second-number}
-use Rattle.class_joins.proofs.Steps.{CanPair, can-pair, pair-range, pair-small, pair-there}
+use Rattle.class_joins.proofs.Rounds.{base-turn, first-least, first-number, least-turn, names-inside, round-joined, round-passed, second-least, second-number}
+use Rattle.class_joins.proofs.Steps.{CanPair, can-pair, pair-range, pair-small, pair-there, pair-turn}
 
 -- what a join asks of the tables
 pub record AsksOfJoin (ns : List Node) (t : Joined) (from to : ℕ) (by : ℤ) : Type 0 where
@@ -29,6 +29,8 @@ pub record AsksOfJoin (ns : List Node) (t : Joined) (from to : ℕ) (by : ℤ) :
   pub headed : length t.heads.heads.items ≡ length t.frames.items
   pub walked : length t.frames.items ≡ length ns
   pub small : IsTurn by
+  pub turns : (n : ℕ) → n < length t.frames.items → IsTurn (frame_at t.frames.items n).offset
+  pub base_turn : IsTurn (head_at t.heads.heads.items from).base
   pub there : (n : ℕ) → n < length t.frames.items → (frame_at t.frames.items n).class ≡ from → IsTurn ((frame_at t.frames.items n).offset +ℤ by)
   pub in_range : (p : ℤ) → end_at t.ends.items from p ≢ None → IsTurn (p +ℤ by)
   pub first : (head_at t.heads.heads.items from).number < length t.heads.names.items
@@ -80,6 +82,8 @@ module _ (ns : List Node) (t : Joined) (rest : List Meeting) (m : Meeting) where
           headed = headed ∙ sym framed;
           walked = framed;
           small = pair-small x.host x.journal ns x.ways t.frames.items t.ends.items t.hosts.items rest m s.truth s.knows from to by c;
+          turns = λ n l. pair-turn x.host x.journal ns x.ways t.frames.items t.ends.items t.hosts.items rest m s.truth s.knows from to by c n (let i : n < length ns = omega arith in i);
+          base_turn = base-turn x.host x.journal x.asks ns x.ways t.frames.items t.ends.items t.hosts.items rest m t.heads.heads.items t.heads.names.items t.heads.marks.items s from to by c;
           there = λ n l e. pair-there x.host x.journal ns x.ways t.frames.items t.ends.items t.hosts.items rest m s.truth s.knows from to by c n (let i : n < length ns = omega arith in i) e;
           in_range = pair-range x.host x.journal ns x.ways t.frames.items t.ends.items t.hosts.items rest m s.truth s.knows from to by c;
           first = first-number x.host x.journal x.asks ns x.ways t.frames.items t.ends.items t.hosts.items rest m t.heads.heads.items t.heads.names.items t.heads.marks.items s from to by c;

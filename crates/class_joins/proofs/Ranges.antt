@@ -1,8 +1,9 @@
 -- Ports that lead somewhere are ports of one switch, so as ports of a class they are from -15 to 15.
-use Rattle.std.proofs.Common.{◌≡◌, ◌<◌, ℕ, true, List, Some, arith}
-use Rattle.std.specs.Prelude.{ℤ, pos, ◌+ℤ◌}
+use Rattle.std.proofs.Common.{◌≡◌, ◌<◌, ℕ, true, List, Some, ap, ◌∙◌, arith, to_z, of_z, w8, w16, SFits}
+use Rattle.std.specs.Prelude.{ℤ, pos, negsuc, ◌+ℤ◌, int_le}
+use Rattle.std.proofs.lemmas.Bool.{and_parts}
 use Rattle.std.proofs.lemmas.Bool.Decides.{nat_tests}
-use Rattle.std.proofs.lemmas.Int.{ints}
+use Rattle.std.proofs.lemmas.Int.{ints, to_z-of_z}
 use Rattle.net_defs.specs.declared.vertex.End.{End}
 use Rattle.net_defs.specs.Network.{Network, IsFabric, far, has_port}
 use Rattle.net_defs.specs.Turn.{IsTurn}
@@ -17,6 +18,18 @@ use Rattle.class_joins.specs.declared.way.Way.TheVariants.{Host, Cable}
 use Rattle.class_joins.specs.Truth.{IsTrueOfOne}
 use Rattle.class_joins.specs.Ways.{AreSound, IsWay, begins_at, frame_at, node_at}
 use Rattle.class_joins.specs.Adding.{IsTurnSpot}
+
+fits-eight : (b : ℤ) → int_le (negsuc 14) b ≡ true → int_le b (pos 15) ≡ true → SFits w8 b
+fits-eight b low high = grind (arith, ints)
+
+fits-sixteen : (b : ℤ) → int_le (negsuc 14) b ≡ true → int_le b (pos 15) ≡ true → SFits w16 b
+fits-sixteen b low high = grind (arith, ints)
+
+-- a turn of 16 bits is the same of eight
+pub turn-cast : (b : ℤ) → IsTurn b → to_z w8 (of_z w8 (to_z w16 (of_z w16 b))) ≡ b
+turn-cast b t =
+    let two = and_parts (int_le (negsuc 14) b) (int_le b (pos 15)) t in
+    ap (λ x. to_z w8 (of_z w8 x)) (to_z-of_z w16 b (fits-sixteen b two.0 two.1)) ∙ to_z-of_z w8 b (fits-eight b two.0 two.1)
 
 -- a cabled port is one of at most 16
 cabled-below : (n : Network) (d e : End) → IsFabric n → far n d ≡ Some e → d.p < 16

@@ -23,7 +23,7 @@ use Rattle.class_joins.specs.Rounds.{IsSettling}
 use Rattle.class_joins.proofs.Heading.{heads-joined, marks-joined}
 use Rattle.class_joins.proofs.Naming.{stands-named}
 use Rattle.class_joins.proofs.Pairs.{all-closed, pass-pair}
-use Rattle.class_joins.proofs.Steps.{CanPair, pair-done, pair-there}
+use Rattle.class_joins.proofs.Steps.{CanPair, pair-done, pair-there, pair-turn}
 
 -- a pair of one class
 pub round-passed : (host : ℕ) (j asks : List Entry) (ns : List Node) (ws : List Way) (fs : List ClassFrame) (ends : List (Option NodePort)) (hosts : List HostNode) (rest : List Meeting) (m : Meeting) (hs : List Head) (names : List ℕ) (marks : List Bool) → class_at fs m.first ≡ class_at fs m.second → IsSettling host j asks ns ws fs ends hosts (rest ++ m ∷ []) hs names marks → IsSettling host j asks ns ws fs ends hosts rest hs names marks
@@ -52,10 +52,15 @@ module _ (host : ℕ) (j asks : List Entry) (ns : List Node) (ws : List Way) (fs
   pub names-inside : (k n : ℕ) → slice_get names k ≡ Some n → n < length hs
   names-inside k n e = let a = (s.heads.name k n e).0 in let b = s.headed in omega arith
 
-  -- the least node's offset stays a turn
+  based : frame_at fs (head_at hs from).least ≡ record { class = from; offset = (head_at hs from).base }
+  based = subst (λ c. frame_at fs (head_at hs c).least ≡ record { class = c; offset = (head_at hs c).base }) from_class (s.heads.based from can.is_from)
+
+  -- the least node's offset is a turn, and stays one
+  pub base-turn : IsTurn (head_at hs from).base
+  base-turn = subst (λ o. IsTurn o) (ap (λ (f : ClassFrame). f.offset) based) (pair-turn host j ns ws fs ends hosts rest m s.truth s.knows from to by can (head_at hs from).least first-least)
+
   pub least-turn : IsTurn ((head_at hs from).base +ℤ by)
   least-turn =
-      let based = subst (λ c. frame_at fs (head_at hs c).least ≡ record { class = c; offset = (head_at hs c).base }) from_class (s.heads.based from can.is_from) in
       let turn = pair-there host j ns ws fs ends hosts rest m s.truth s.knows from to by can (head_at hs from).least first-least (ap (λ (f : ClassFrame). f.class) based) in
       subst (λ o. IsTurn (o +ℤ by)) (ap (λ (f : ClassFrame). f.offset) based) turn
 

@@ -87,6 +87,10 @@ module _ (host : ℕ) (j : List Entry) (ns : List Node) (ws : List Way) (fs : Li
     pub pair-small : IsTurn by
     pair-small = turn (node_at ns from) (node_at ns to) by can.one
 
+    -- and so are the offsets of all nodes
+    pub pair-turn : (n : ℕ) → n < length ns → IsTurn (frame_at fs n).offset
+    pair-turn n l = turn (node_at ns n) (node_at ns (frame_at fs n).class) (frame_at fs n).offset (k.sound.replicates n l)
+
     over : (n : ℕ) → n < length ns → (frame_at fs n).class ≡ from → Replicates host j (node_at ns n) (node_at ns to) ((frame_at fs n).offset +ℤ by)
     over n l e = along (subst (λ c. Replicates host j (node_at ns n) (node_at ns c) (frame_at fs n).offset) e (k.sound.replicates n l)) can.one
 

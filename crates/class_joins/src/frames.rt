@@ -5,7 +5,7 @@ ghost use Rattle.net_defs.specs.Turn.{IsTurn};
 ghost use Rattle.class_joins.specs.Rings.{AreRings, HasFrameRoom, next_at, spliced};
 ghost use Rattle.class_joins.specs.Ways.{AreJoined, frame_at, moved, own_frame};
 
-use port_align::ClassFrame;
+use port_align::{ClassFrame, compose};
 use std::alloc::{AllocError, Global};
 use std::marker::Model;
 
@@ -98,12 +98,14 @@ impl Frames {
     }
 
     /// Joins one class to another, whose ports lie so far from its own.
-    pub fn join(&mut self, from: u32, to: u32, by: i32)
+    pub fn join(&mut self, from: u32, to: u32, by: i8)
         requires two { from ≢ to }
         requires is_from { from < length self.old.items }
         requires is_to { to < length self.old.items }
         requires first { (frame_at self.old.items from).class ≡ from }
         requires second { (frame_at self.old.items to).class ≡ to }
+        requires small { IsTurn by }
+        requires turns { (n : ℕ) → n < length self.old.items → IsTurn (frame_at self.old.items n).offset }
         requires there { (n : ℕ) → n < length self.old.items → (frame_at self.old.items n).class ≡ from →
             IsTurn ((frame_at self.old.items n).offset +ℤ by) }
         ensures { AreJoined from to by self.old.items self.new.items }
@@ -122,10 +124,12 @@ impl Frames {
 }
 
 // Moves the nodes of a class to another, along the ring of the one.
-fn move_ring(frames: &mut Vec<ClassFrame>, next: &Vec<u32>, from: u32, to: u32, by: i32)
+fn move_ring(frames: &mut Vec<ClassFrame>, next: &Vec<u32>, from: u32, to: u32, by: i8)
     requires rings { AreRings frames.old.items next.now.items }
     requires two { from ≢ to }
     requires is_from { from < length frames.old.items }
+    requires small { IsTurn by }
+    requires turns { (n : ℕ) → n < length frames.old.items → IsTurn (frame_at frames.old.items n).offset }
     requires there { (n : ℕ) → n < length frames.old.items → (frame_at frames.old.items n).class ≡ from →
         IsTurn ((frame_at frames.old.items n).offset +ℤ by) }
     ensures { AreJoined from to by frames.old.items frames.new.items }
@@ -154,8 +158,10 @@ fn follower(next: &Vec<u32>, node: u32) -> u32
 }
 
 // Moves the frame of a node.
-fn move_frame(frames: &mut Vec<ClassFrame>, node: u32, from: u32, to: u32, by: i32)
+fn move_frame(frames: &mut Vec<ClassFrame>, node: u32, from: u32, to: u32, by: i8)
     requires inside { node < length frames.old.items }
+    requires small { IsTurn by }
+    requires turn { (frame_at frames.old.items node).class ≡ from → IsTurn (frame_at frames.old.items node).offset }
     requires there { (frame_at frames.old.items node).class ≡ from →
         IsTurn ((frame_at frames.old.items node).offset +ℤ by) }
     ensures { frames.new.items ≡ set frames.old.items node (moved from to by (frame_at frames.old.items node)) }
@@ -165,8 +171,10 @@ fn move_frame(frames: &mut Vec<ClassFrame>, node: u32, from: u32, to: u32, by: i
 }
 
 // A frame once one class is joined to another.
-fn moved(frame: ClassFrame, from: u32, to: u32, by: i32) -> ClassFrame
-    requires { frame.class ≡ from → IsTurn (frame.offset +ℤ by) }
+fn moved(frame: ClassFrame, from: u32, to: u32, by: i8) -> ClassFrame
+    requires small { IsTurn by }
+    requires turn { frame.class ≡ from → IsTurn frame.offset }
+    requires there { frame.class ≡ from → IsTurn (frame.offset +ℤ by) }
     ensures { result ≡ moved from to by frame }
 {
     if frame.class != from {
@@ -174,7 +182,20 @@ fn moved(frame: ClassFrame, from: u32, to: u32, by: i32) -> ClassFrame
     }
     ClassFrame {
         class: to,
-        offset: (i32::from(frame.offset) + by) as i8,
+        offset: shifted(frame.offset, by),
+    }
+}
+
+/// An offset once the class of its node is joined to one whose ports lie so far from its own.
+pub(crate) fn shifted(offset: i8, by: i8) -> i8
+    requires first { IsTurn offset }
+    requires second { IsTurn by }
+    requires there { IsTurn (offset +ℤ by) }
+    ensures { result ≡ offset +ℤ by }
+{
+    match compose(offset, by) {
+        Some(offset) => offset,
+        None => unreachable!(),
     }
 }
 

@@ -7,6 +7,7 @@ ghost use Rattle.class_joins.specs.Nodes.{nodes_of};
 ghost use Rattle.class_joins.specs.Heads.{head_at, own_head};
 ghost use Rattle.class_joins.specs.HeadSteps.{JoinsHead, DropsNumber, MarksBoth, IsJoinedByHeads, IsJoinedByMarks};
 
+use crate::frames::shifted;
 use crate::merging::is_node_below;
 use probe::WalkIndex;
 
@@ -60,7 +61,7 @@ impl Heads {
     }
 
     /// Joins one class to another, whose ports lie so far from its own.
-    pub fn join(&mut self, walks: &WalkIndex, from: u32, to: u32, by: i16)
+    pub fn join(&mut self, walks: &WalkIndex, from: u32, to: u32, by: i8)
         requires is_from { from < length self.old.heads.items }
         requires is_to { to < length self.old.heads.items }
         requires first { (head_at self.old.heads.items from).number < length self.old.names.items }
@@ -69,6 +70,8 @@ impl Heads {
         requires inside { (k n : ℕ) → slice_get self.old.names.items k ≡ Some n → n < length self.old.heads.items }
         requires least_first { (head_at self.old.heads.items from).least < length walks.now + 1 }
         requires least_second { (head_at self.old.heads.items to).least < length walks.now + 1 }
+        requires small { IsTurn by }
+        requires turn { IsTurn (head_at self.old.heads.items from).base }
         requires base { IsTurn ((head_at self.old.heads.items from).base +ℤ by) }
         ensures heads { IsJoinedByHeads (nodes_of walks.now) from to by self.old.heads.items self.new.heads.items
             self.old.names.items self.new.names.items }
@@ -132,9 +135,11 @@ fn drop_number(heads: &mut Vec<Head>, names: &mut Vec<u32>, marks: &mut Vec<bool
 }
 
 // The head of a class once another was joined to it.
-fn joined(walks: &WalkIndex, old: Head, kept: Head, by: i16) -> Head
+fn joined(walks: &WalkIndex, old: Head, kept: Head, by: i8) -> Head
     requires first { old.least < length walks.now + 1 }
     requires second { kept.least < length walks.now + 1 }
+    requires small { IsTurn by }
+    requires turn { IsTurn old.base }
     requires base { IsTurn (old.base +ℤ by) }
     ensures { JoinsHead (nodes_of walks.now) old kept result by }
 {
@@ -143,7 +148,7 @@ fn joined(walks: &WalkIndex, old: Head, kept: Head, by: i16) -> Head
         return Head {
             number: kept.number,
             least: old.least,
-            base: base_moved(old.base, by),
+            base: shifted(old.base, by),
             count,
         };
     }
@@ -153,12 +158,4 @@ fn joined(walks: &WalkIndex, old: Head, kept: Head, by: i16) -> Head
         base: kept.base,
         count,
     }
-}
-
-// Where the ports of a least node lie in a class whose ports lie so far from those of its own.
-fn base_moved(base: i8, by: i16) -> i8
-    requires { IsTurn (base +ℤ by) }
-    ensures { result ≡ base +ℤ by }
-{
-    (i16::from(base) + by) as i8
 }

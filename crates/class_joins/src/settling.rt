@@ -254,6 +254,7 @@ impl Joined {
         requires headed { length self.old.heads.heads.items ≡ length self.old.frames.items }
         requires walked { length self.old.frames.items ≡ length walks.now + 1 }
         requires small { IsTurn by }
+        requires turns { (n : ℕ) → n < length self.old.frames.items → IsTurn (frame_at self.old.frames.items n).offset }
         requires there { (n : ℕ) → n < length self.old.frames.items → (frame_at self.old.frames.items n).class ≡
             from → IsTurn ((frame_at self.old.frames.items n).offset +ℤ by) }
         requires in_range { (p : ℤ) → end_at self.old.ends.items from p ≢ None → IsTurn (p +ℤ by) }
@@ -265,6 +266,7 @@ impl Joined {
             length self.old.heads.heads.items }
         requires least_first { (head_at self.old.heads.heads.items from).least < length self.old.frames.items }
         requires least_second { (head_at self.old.heads.heads.items to).least < length self.old.frames.items }
+        requires base_turn { IsTurn (head_at self.old.heads.heads.items from).base }
         requires base { IsTurn ((head_at self.old.heads.heads.items from).base +ℤ by) }
         ensures frames { AreJoined from to by self.old.frames.items self.new.frames.items }
         ensures moves { MovesEnds from to by (known_ends self.old.ends.items) (known_ends self.new.ends.items)
@@ -281,9 +283,10 @@ impl Joined {
         ensures few { vec_len self.new.todo ≤ vec_len self.old.todo + 31 }
         ensures capacity { vec_capacity self.new.todo ≡ vec_capacity self.old.todo }
     {
-        self.heads.join(walks, from, to, by);
+        let offset = by as i8;
+        self.heads.join(walks, from, to, offset);
         move_ends(&mut self.ends, &mut self.todo, from, to, by);
-        self.frames.join(from, to, i32::from(by));
+        self.frames.join(from, to, offset);
     }
 }
 

@@ -96,16 +96,6 @@ none-noted m bs e = record {
   leans = λ v t. absurd (false≢true (marked-among m [] v (sym (ap (λ l. slice_index_or l v false) e) ∙ t)));
 }
 
-pub more-noted : (m : NetMap) (i : ℕ) (bs : List Bool) → AreNoted m i bs → AreNoted m (i + 1) bs
-more-noted m i bs a = record { long = a.long; leans = λ v e. let j = a.leans v e in (j.0, omega (arith, j.1), j.2) }
-
-pub set-noted : (m : NetMap) (i : ℕ) (bs : List Bool) (v : ℕ) → AreNoted m i bs → LeansOn m i v → AreNoted m (i + 1) (slice_set bs v true)
-set-noted m i bs v a l = record { long = length-set bs v true ∙ a.long; leans = λ u e. by u (set-at bs v u e) }
-  where
-    by : (u : ℕ) → (u ≡ v) ⊎ (slice_index_or bs u false ≡ true) → (j : ℕ) × (j < i + 1) × LeansOn m j u
-    by u (inl p) = (i, omega arith, subst (LeansOn m i) (sym p) l)
-    by u (inr p) = (more-noted m i bs a).leans u p
-
 -- a noted vertex that another cable joins to one that lasts
 pub noted-lasts : (m : NetMap) (i : ℕ) (bs : List Bool) (v : ℕ) → AreNoted m i bs → slice_index_or bs v false ≡ true → LeansOn m i v → Lasts m v
 noted-lasts m i bs v a e l = let j = a.leans v e in lasts-twice m i j.0 v j.1 l j.2

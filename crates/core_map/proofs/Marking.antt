@@ -1,7 +1,7 @@
 -- Marks of vertices: of two lists together, of none, and whether one of them is a host.
-use Rattle.std.proofs.Common.{◌≡◌, ◌<◌, ◌≤◌, ◌+◌, ℕ, zero, suc, List, [], ◌∷◌, ◌++◌, map, length, replicate, get_or, Bool, true, false, cond, not, ◌&&◌, ◌||◌, Some, is_some, refl, ap, sym, ◌∙◌, subst, true≢false, arith, nat_eq, if◌then◌else◌, add-one, ◌⊎◌, inl, inr}
+use Rattle.std.proofs.Common.{◌≡◌, ◌<◌, ◌≤◌, ◌+◌, ℕ, zero, suc, List, [], ◌∷◌, ◌++◌, map, length, replicate, get_or, Bool, true, false, not, ◌&&◌, ◌||◌, Some, is_some, refl, ap, sym, ◌∙◌, subst, true≢false, arith, nat_eq, if◌then◌else◌, add-one, ◌⊎◌, inl, inr}
 use Rattle.std.specs.Prelude.{slice_get}
-use Rattle.std.specs.List.{AllByRecursion, list_any, filter}
+use Rattle.std.specs.List.{AllByRecursion, list_any}
 use Rattle.std.proofs.lemmas.Bool.{false≢true, or_cases, cases_order}
 use Rattle.std.proofs.lemmas.Bool.Decides.{Decides-eqb}
 use Rattle.std.proofs.lemmas.List.{ext_get_or, get_or-replicate, length-replicate}
@@ -179,28 +179,12 @@ outside-more m k =
     either-map (λ u. list_any (λ i. is_among nat_eq (cut_off_by m i) u) (numbers_below k)) (is_among nat_eq (cut_off_by m k)) (numbers_below (length m.vertices))
     ∙ map-alike (λ u. list_any (λ i. is_among nat_eq (cut_off_by m i) u) (numbers_below k) || is_among nat_eq (cut_off_by m k) u) (λ u. list_any (λ i. is_among nat_eq (cut_off_by m i) u) (numbers_below (k + 1))) (numbers_below (length m.vertices)) (λ u. sym (ap (λ ns. list_any (λ i. is_among nat_eq (cut_off_by m i) u) ns) (ap numbers_below (add-one k)) ∙ any-push (λ i. is_among nat_eq (cut_off_by m i) u) (numbers_below k) k))
 
-pub outside-none : (m : NetMap) → replicate (length m.vertices) false ≡ outside_by m 0
-outside-none m = no_marks m
-
 map-map : (f : Bool → Bool) (g : ℕ → Bool) (ns : List ℕ) → map f (map g ns) ≡ map (λ u. f (g u)) ns
 map-map f g [] = refl
 map-map f g (n ∷ ns) = ap (λ l. f (g n) ∷ l) (map-map f g ns)
 
 pub core-found : (m : NetMap) → map not (outside_of m) ≡ core_of m
 core-found m = map-map not (is_outside m) (numbers_below (length m.vertices))
-
--- the bridges among the first cables
-filter-push : (test : ℕ → Bool) (xs : List ℕ) (x : ℕ) → filter test (xs ++ x ∷ []) ≡ filter test xs ++ (if test x then x ∷ [] else [])
-filter-push test [] x = by (test x)
-  where
-    by : (b : Bool) → cond b (x ∷ []) [] ≡ [] ++ (if b then x ∷ [] else [])
-    by true = refl
-    by false = refl
-filter-push test (y ∷ ys) x = by (test y) (filter-push test ys x)
-  where
-    by : (b : Bool) → filter test (ys ++ x ∷ []) ≡ filter test ys ++ (if test x then x ∷ [] else []) → cond b (y ∷ filter test (ys ++ x ∷ [])) (filter test (ys ++ x ∷ [])) ≡ cond b (y ∷ filter test ys) (filter test ys) ++ (if test x then x ∷ [] else [])
-    by true e = ap (λ l. y ∷ l) e
-    by false e = e
 
 -- both vertices of the cable at a place
 pub cable-low : (n : ℕ) (cs : List MapCable) (k : ℕ) (c : MapCable) → AllByRecursion (λ c. (c.v < n) × (c.w < n)) cs → slice_get cs k ≡ Some c → (c.v < n) × (c.w < n)

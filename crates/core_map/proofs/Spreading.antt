@@ -213,13 +213,3 @@ pub all-without : (P : MapCable → Type 0) (cs : List MapCable) (k : ℕ) → A
 all-without P [] k all = tt
 all-without P (c ∷ cs) zero all = all.1
 all-without P (c ∷ cs) (suc k) all = (all.0, all-without P cs k all.1)
-
-pub all-take : (P : MapCable → Type 0) (cs : List MapCable) (k : ℕ) → AllByRecursion P cs → AllByRecursion P (take k cs)
-all-take P cs zero all = tt
-all-take P [] (suc k) all = tt
-all-take P (c ∷ cs) (suc k) all = (all.0, all-take P cs k all.1)
-
-pub all-drop : (P : MapCable → Type 0) (cs : List MapCable) (k : ℕ) → AllByRecursion P cs → AllByRecursion P (drop k cs)
-all-drop P cs zero all = all
-all-drop P [] (suc k) all = tt
-all-drop P (c ∷ cs) (suc k) all = all-drop P cs k all.1

@@ -1,6 +1,6 @@
 -- The table of far ends: where a port stands in it, and after one more cable.
 use Rattle.std.proofs.Common.{◌≡◌, ◌≢◌, ◌<◌, ℕ, ◌+◌, ◌-◌, ◌*◌, List, [], ◌∷◌, ◌++◌, Bool, true, false, length, get_or, set, Option, Some, None, is_some, refl, ap, sym, ◌∙◌, subst, true≢false, arith, get_or-set_other, get_or-set_same}
-use Rattle.std.specs.Prelude.{ℤ, pos, negsuc, ◌+ℤ◌, ◌-ℤ◌, nat_abs, int_le, option_map}
+use Rattle.std.specs.Prelude.{ℤ, pos, negsuc, ◌+ℤ◌, ◌-ℤ◌, nat_abs, int_le}
 use Rattle.std.specs.List.{AllByRecursion}
 use Rattle.std.proofs.Math.ListN.{length-set}
 use Rattle.std.proofs.lemmas.Bool.{and_from, false≢true}
@@ -15,7 +15,7 @@ use Rattle.map_defs.specs.NetMap.{MapPort, first_end, second_end, same_port, far
 use Rattle.map_defs.proofs.Ports.{same_port-true, same_port-refl}
 use Rattle.map_defs.proofs.Leading.{far-end}
 use Rattle.port_table.specs.declared.end.NodePort.{NodePort}
-use Rattle.fabric_map.specs.Table.{place_of_port, far_pair, far_end, pair_of_end, entry, IsTableOf}
+use Rattle.fabric_map.specs.Table.{place_of_port, far_pair, far_end, entry, IsTableOf}
 use Rattle.fabric_map.specs.Growing.{are_near}
 use Rattle.fabric_map.proofs.Ends.{far_port-push, map_ends-push, end-far, near-from, far-apart}
 
@@ -129,11 +129,6 @@ some-pair (Some e) = refl
 -- a longer table says the same
 pub table-same : (cs : List MapCable) (table long : List (Option NodePort)) → IsTableOf cs table → ((k : ℕ) → get_or long k None ≡ get_or table k None) → IsTableOf cs long
 table-same cs table long is kept = record { turns = is.turns; far_ends = λ d t. kept (place_of_port d) ∙ is.far_ends d t }
-
--- a far end of the table as a pair
-pub pair-of-end : (o : Option MapPort) → option_map pair_of_end (far_end o) ≡ far_pair o
-pair-of-end None = refl
-pair-of-end (Some e) = refl
 
 -- the port at a place of a vertex, and its place
 place-turn : (k : ℕ) → k < 31 → IsTurn (pos k -ℤ pos 15)

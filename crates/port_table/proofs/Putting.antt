@@ -105,16 +105,6 @@ puts-alone ks rows n i v sound below turn was bare = record {
   other = λ m k l d. ap (λ x. look rows x k) (known-other ks n m (alone i v) d);
 }
 
--- nothing is forgotten of a place of which nothing is known
-pub puts-none : (ks : List Known) (rows : List (Option NodePort)) (n i : ℕ) (v : Option NodePort) (p : ℕ) (e : NodePort) → IsSound ks rows → known_at ks n ≡ one_at p e → p ≢ i → v ≡ None → PutsAt n i v ks rows ks rows
-puts-none ks rows n i v p e sound is d none = record {
-  same = refl;
-  sound = sound;
-  here = one-beside rows (known_at ks n) p e i is d ∙ sym none;
-  beside = λ k l x. refl;
-  other = λ m k l x. refl;
-}
-
 -- an end in a row
 module _ (ks : List Known) (rows : List (Option NodePort)) (n i r : ℕ) (v : Option NodePort) (sound : IsSound ks rows) (turn : i < 31) (is : known_at ks n ≡ Row r) where
   news : List (Option NodePort)
@@ -212,9 +202,6 @@ module _ (ks : List Known) (rows : List (Option NodePort)) (n i p row : ℕ) (v 
 
 -- a write at one place of a number is a write at that place of all
 module _ (ks : List Known) (rows : List (Option NodePort)) (new : List Known) (news : List (Option NodePort)) (n i : ℕ) (v : Option NodePort) (puts : PutsAt n i v ks rows new news) (below : n < length ks) (turn : i < 31) where
-  put-place : ℕ
-  put-place = 31 * n + i
-
   put-other : (m : ℕ) → 31 * n + i ≢ m → entry new news m ≡ entry ks rows m
   put-other m d = by (nat-cases n (m / 31))
     where

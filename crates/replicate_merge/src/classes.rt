@@ -6,7 +6,6 @@ ghost use Rattle.net_defs.specs.Turn.{IsTurn};
 ghost use Rattle.journal_defs.specs.Tree.{is_found};
 ghost use Rattle.journal_defs.specs.Tree.Node.{Reached};
 ghost use Rattle.probe.specs.Keeping.{has_walk};
-ghost use Rattle.class_joins.specs.Nodes.{nodes_of};
 ghost use Rattle.class_joins.specs.Table.{IsTrueOfOne, StandsFor};
 ghost use Rattle.replicate_merge.specs.Next.{HasNext, StandsForNext};
 ghost use Rattle.class_joins.specs.Steps.{HasRoomForNode, SameItems};
@@ -190,13 +189,6 @@ impl Classes {
             Some(at) => Some((at + 1) as u32),
             None => None,
         }
-    }
-
-    /// The walks that found a host or a switch, in the journal's order.
-    pub fn walks(&self) -> &WalkIndex
-        ensures { nodes_of result.now ≡ self.now.nodes }
-    {
-        &self.walks
     }
 
     /// Its nodes and their classes, in the memory where they stand. All by which the classes go on ends here.

@@ -1,4 +1,4 @@
-use Rattle.std.proofs.Common.{◌≡◌, ◌≢◌, ◌<◌, List, ap, sym, ◌∙◌, subst, to_z, of_z, w32, rules, SFits}
+use Rattle.std.proofs.Common.{◌≡◌, ◌≢◌, ◌<◌, List, ap, sym, ◌∙◌, subst, to_z, of_z, w8, rules, SFits}
 use Rattle.std.proofs.lemmas.Int.{to_z-of_z}
 use Rattle.port_align.specs.declared.frame.ClassFrame.{ClassFrame}
 use Rattle.class_joins.specs.Rings.{IsMoving, class_size, next_at}
@@ -8,7 +8,7 @@ use Rattle.class_joins.proofs.frames.move_ring.Goals as goal
 
 pub moving-smaller : goal.moving-smaller
 moving-smaller c =
-    let by = to_z w32 (of_z w32 c.args.by) in
+    let by = to_z w8 (of_z w8 c.args.by) in
     let old = c.args.frames.now.items in
     let now = c.moving.frames.items in
     let node = c.moving.node in
@@ -18,7 +18,7 @@ moving-smaller c =
 
 pub moving-preserved : goal.moving-preserved
 moving-preserved c =
-    let by = to_z w32 (of_z w32 c.args.by) in
+    let by = to_z w8 (of_z w8 c.args.by) in
     let old = c.args.frames.now.items in
     let next = c.args.next.now.items in
     let now = c.moving.frames.items in
@@ -33,8 +33,8 @@ returns c =
     let old = c.args.frames.now.items in
     let now = c.moving.frames.items in
     let node = c.moving.node in
-    let fits : SFits w32 c.args.by = search rules in
-    let by : to_z w32 (of_z w32 c.args.by) ≡ c.args.by = to_z-of_z w32 c.args.by fits in
+    let fits : SFits w8 c.args.by = search rules in
+    let by : to_z w8 (of_z w8 c.args.by) ≡ c.args.by = to_z-of_z w8 c.args.by fits in
     let done : (frame_at now node).class ≢ c.args.from = λ e. c.moving-test.false (ap (λ (f : ClassFrame). f.class) c.frame_of.ensures ∙ e) in
     subst (λ b. AreJoined c.args.from c.args.to b old now) by
-    (moving-all c.args.from c.args.to (to_z w32 (of_z w32 c.args.by)) c.args.next.now.items old c.requires.two now node c.moving.invariant done)
+    (moving-all c.args.from c.args.to (to_z w8 (of_z w8 c.args.by)) c.args.next.now.items old c.requires.two now node c.moving.invariant done)

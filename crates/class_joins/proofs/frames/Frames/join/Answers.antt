@@ -1,4 +1,4 @@
-use Rattle.std.proofs.Common.{◌≡◌, ◌<◌, ℕ, List, length, ap, sym, subst, to_z, of_z, w32}
+use Rattle.std.proofs.Common.{◌≡◌, ◌<◌, ℕ, List, length, ap, sym, subst, to_z, of_z, w8}
 use Rattle.port_align.specs.declared.frame.ClassFrame.{ClassFrame}
 use Rattle.class_joins.specs.Rings.{AreRings, FrameTable}
 use Rattle.class_joins.specs.Ways.{frame_at}
@@ -16,4 +16,4 @@ invariant_of-self c =
     let first = subst (λ (l : List ClassFrame). (frame_at l c.args.from).class ≡ c.args.from) items c.requires.first in
     let second = subst (λ (l : List ClassFrame). (frame_at l c.args.to).class ≡ c.args.to) items c.requires.second in
     subst (λ (l : List ℕ). AreRings new l) (sym c.splice.ensures)
-    (rings-spliced c.args.from c.args.to (to_z w32 (of_z w32 c.args.by)) fs new next c.self.invariant c.move_ring.ensures c.requires.two is_from is_to first second)
+    (rings-spliced c.args.from c.args.to (to_z w8 (of_z w8 c.args.by)) fs new next c.self.invariant c.move_ring.ensures c.requires.two is_from is_to first second)

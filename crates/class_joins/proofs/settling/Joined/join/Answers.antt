@@ -1,10 +1,13 @@
-use Rattle.std.proofs.Common.{◌≡◌, sym, subst, arith, to_z, of_z, w32, rules, SFits, w16}
+use Rattle.std.proofs.Common.{◌≡◌, sym, subst, to_z, of_z, rules, SFits, w16}
 use Rattle.std.specs.Prelude.{◌+ℤ◌}
-use Rattle.std.proofs.lemmas.Int.{ints, to_z-of_z}
+use Rattle.std.proofs.lemmas.Int.{to_z-of_z}
 use Rattle.net_defs.specs.Turn.{IsTurn}
+use Rattle.class_joins.specs.Nodes.{nodes_of}
 use Rattle.class_joins.specs.Ways.{AreJoined, frame_at}
 use Rattle.class_joins.specs.Work.{MovesEnds}
 use Rattle.class_joins.specs.Ends.{known_ends}
+use Rattle.class_joins.specs.HeadSteps.{IsJoinedByHeads}
+use Rattle.class_joins.proofs.Ranges.{turn-cast}
 use Rattle.class_joins.proofs.settling.Joined.join.Goals as goal
 
 pub move_ends-requires-clause-in_range : goal.move_ends-requires-clause-in_range
@@ -13,11 +16,12 @@ move_ends-requires-clause-in_range c = λ p some.
     let by : to_z w16 (of_z w16 c.args.by) ≡ c.args.by = to_z-of_z w16 c.args.by fits in
     subst (λ b. IsTurn (p +ℤ b)) (sym by) (c.requires.in_range p some)
 
+pub join-requires-2-clause-small : goal.join-requires-2-clause-small
+join-requires-2-clause-small c = subst (λ b. IsTurn b) (sym (turn-cast c.args.by c.requires.small)) c.requires.small
+
 pub join-requires-2-clause-there : goal.join-requires-2-clause-there
 join-requires-2-clause-there c = λ n l e.
-    let fs = c.args.self.now.frames.items in
-    let by : to_z w32 (of_z w32 c.from.result) ≡ c.args.by = (let e = c.from.ensures in omega (arith, ints)) in
-    subst (λ b. IsTurn ((frame_at fs n).offset +ℤ b)) (sym by) (c.requires.there n l e)
+    subst (λ b. IsTurn ((frame_at c.args.self.now.frames.items n).offset +ℤ b)) (sym (turn-cast c.args.by c.requires.small)) (c.requires.there n l e)
 
 pub returns-clause-moves : goal.returns-clause-moves
 returns-clause-moves c =
@@ -27,8 +31,10 @@ returns-clause-moves c =
     subst (λ b. MovesEnds c.args.from c.args.to b (known_ends old.ends.items) (known_ends c.move_ends.new.ends.items) old.todo.items c.move_ends.new.todo.items) by c.move_ends.ensures.moves
 
 pub returns-clause-frames : goal.returns-clause-frames
-returns-clause-frames c =
-    let fs = c.args.self.now.frames.items in
-    let new = c.join-2.new.self.items in
-    let by : to_z w32 (of_z w32 c.from.result) ≡ c.args.by = (let e = c.from.ensures in omega (arith, ints)) in
-    subst (λ b. AreJoined c.args.from c.args.to b fs new) by c.join-2.ensures
+returns-clause-frames c = subst (λ b. AreJoined c.args.from c.args.to b c.args.self.now.frames.items c.join-2.new.self.items) (turn-cast c.args.by c.requires.small) c.join-2.ensures
+
+pub returns-clause-heads : goal.returns-clause-heads
+returns-clause-heads c =
+    let old = c.args.self.now in
+    subst (λ b. IsJoinedByHeads (nodes_of c.args.walks.now) c.args.from c.args.to b old.heads.heads.items c.join.new.self.heads.items old.heads.names.items c.join.new.self.names.items)
+    (turn-cast c.args.by c.requires.small) c.join.ensures.heads

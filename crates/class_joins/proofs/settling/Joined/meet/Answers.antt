@@ -51,6 +51,12 @@ join-requires-clause-small c =
     let same : to_z w16 (of_z w16 c.in-Some.way.by) ≡ c.in-Some.way.by = to_z-of_z w16 c.in-Some.way.by fits in
     subst (λ b. IsTurn b) (sym same) (join-asks (nodes_of c.args.walks.now) c.args.self.now c.args.self.now.todo.items c.args.meeting c.in-Some.way.from c.in-Some.way.to c.in-Some.way.by c.in-Some.ensures.some c.requires.some).small
 
+pub join-requires-clause-turns : goal.join-requires-clause-turns
+join-requires-clause-turns c = λ n l. (join-asks (nodes_of c.args.walks.now) c.args.self.now c.args.self.now.todo.items c.args.meeting c.in-Some.way.from c.in-Some.way.to c.in-Some.way.by c.in-Some.ensures.some c.requires.some).turns n l
+
+pub join-requires-clause-base_turn : goal.join-requires-clause-base_turn
+join-requires-clause-base_turn c = (join-asks (nodes_of c.args.walks.now) c.args.self.now c.args.self.now.todo.items c.args.meeting c.in-Some.way.from c.in-Some.way.to c.in-Some.way.by c.in-Some.ensures.some c.requires.some).base_turn
+
 pub join-requires-clause-there : goal.join-requires-clause-there
 join-requires-clause-there c = λ n l e.
     let by = c.in-Some.way.by in
