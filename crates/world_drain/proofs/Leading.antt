@@ -1,5 +1,5 @@
 -- A host that injects, with a drain behind it, leads from world to world by events, and so do the other parts of an ask.
-use Rattle.std.proofs.Common.{◌≡◌, ℕ, refl, sym, subst}
+use Rattle.std.proofs.Common.{ℕ, refl}
 use Rattle.world_defs.specs.declared.event.Event.TheVariants.{Ask, Inject, GiveUp}
 use Rattle.world_defs.specs.World.{WorldState}
 use Rattle.world_defs.specs.Step.{step}
@@ -13,9 +13,6 @@ use Rattle.world_drain.proofs.Running.{drain-later}
 sends-later : (w : WorldState) (h : ℕ) → IsLater w (sends w h).world
 unfolding sends
 sends-later w h = later-both w (step w (Inject h)).1 (drain (step w (Inject h)).1).1 (later-step w (step w (Inject h)).1 (Inject h) refl) (drain-later (step w (Inject h)).1 (drain (step w (Inject h)).1).1 refl)
-
-pub sends-world : (w v : WorldState) (h : ℕ) → v ≡ (sends w h).world → IsLater w v
-sends-world w v h is = subst (IsLater w) (sym is) (sends-later w h)
 
 pub asks-later : Asks IsLater
 asks-later = record {

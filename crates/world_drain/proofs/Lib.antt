@@ -4,6 +4,7 @@ pub mod Drained
 pub mod EventRows
 pub mod Expiries
 pub mod GivingUp
+pub mod Heard
 pub mod Injects
 pub mod Later
 pub mod Leading

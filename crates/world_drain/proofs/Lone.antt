@@ -29,7 +29,7 @@ use Rattle.world_drain.specs.declared.seen.Seen.{Seen}
 use Rattle.world_drain.specs.Watch.{seen_in, seen_then}
 use Rattle.world_drain.specs.Part.{IsDrainedTo}
 use Rattle.world_drain.proofs.Watching.{then-in-a-row, then-nothing, then-moved, hopped, hopped-then, unchanged-nothing}
-use Rattle.world_drain.proofs.Passing.{empty-idle, empty-still, skip-empty, advances_from, pass-on, pass-end}
+use Rattle.world_drain.proofs.Passing.{empty-idle, empty-still, step-long, skip-empty, advances_from, pass-on, pass-end}
 use Rattle.world_drain.proofs.Passed.{whole}
 use Rattle.world_drain.proofs.Parts.{drained-none, drained-still, drained-on, drained-pass}
 
@@ -85,9 +85,6 @@ drain-none w none =
 -- what an advance leaves: a packet in one channel at most, of as many
 step-others : (w : WorldState) (c : ℕ) → AreOthersEmpty w.links c → AreOthersEmpty (step w (Advance c)).1.links (behind (advance w.links c).0 c)
 step-others w c others = subst (λ l. AreOthersEmpty l (behind (advance w.links c).0 c)) (sym (advance-links w c)) ((advance-leaves w.links c).others others)
-
-step-long : (w : WorldState) (c : ℕ) → length (step w (Advance c)).1.links.channels ≡ length w.links.channels
-step-long w c = ap (λ l. length l.channels) (advance-links w c) ∙ (advance-leaves w.links c).long
 
 -- A channel, and what its advance shows and leaves, where no other channel holds a packet before, and at most one does then.
 record IsLoneStep (w v : WorldState) (x : Effect) (c at : ℕ) : Type 0 where

@@ -53,9 +53,6 @@ drained-pass watch w = by (nat_eq (changes (pass w).0) 0) refl
           way = λ v p. drain-on w (pass w).1 v some refl p;
         }
 
-pub drained-once : (watch : Watch) (w v : WorldState) (seen : Seen) → seen ≡ seen_in watch (pass w).0 → v ≡ (pass w).1 → IsDrainedTo watch w v seen
-drained-once watch w v seen shown led = subst (λ u. IsDrainedTo watch w u seen) (sym led) (subst (IsDrainedTo watch w (pass w).1) (sym shown) (drained-pass watch w))
-
 -- a drain has ended where no packet is left
 pub drained-idle : (watch : Watch) (first now : WorldState) (seen : Seen) → IsDrainedTo watch first now seen → is_idle now.links ≡ true → (seen ≡ seen_in watch (drain first).0) × (now ≡ (drain first).1)
 drained-idle watch first now seen d idle =

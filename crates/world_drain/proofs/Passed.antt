@@ -1,12 +1,12 @@
 -- A pass under way: what was seen, and what the channels from here on show, is what the whole pass shows.
-use Rattle.std.proofs.Common.{◌≡◌, ◌<◌, ◌≤◌, ℕ, ◌+◌, ◌-◌, [], ◌∷◌, map, length, Option, Some, None, refl, sym, ◌∙◌, ap, subst, arith}
-use Rattle.std.specs.Prelude.{IfSome}
+use Rattle.std.proofs.Common.{◌≡◌, ◌<◌, ◌≤◌, ℕ, ◌+◌, ◌-◌, Bool, true, false, [], ◌∷◌, map, length, refl, sym, ◌∙◌, ap, arith}
 use Rattle.std.specs.List.{range_with_len}
 use Rattle.world_defs.specs.declared.event.Event.TheVariants.{Advance}
-use Rattle.world_defs.specs.Node.{either}
-use Rattle.world_defs.specs.World.{WorldState, fabric_of, host_count}
+use Rattle.world_defs.specs.declared.effect.Effect.{Effect}
+use Rattle.world_defs.specs.World.{WorldState}
 use Rattle.world_defs.specs.Step.{step, steps}
-use Rattle.world_defs.specs.Drain.{channels_of, pass}
+use Rattle.world_defs.specs.Drain.{changed, changes, channels_of, pass}
+use Rattle.world_laws.proofs.Draining.{one_if, changes-push}
 use Rattle.event_lists.specs.PartWay.{IsPartWay}
 use Rattle.event_lists.proofs.PartWay.{way-first, way-next}
 use Rattle.world_drain.specs.declared.seen.Watch.{Watch}
@@ -14,17 +14,14 @@ use Rattle.world_drain.specs.declared.seen.Seen.{Seen}
 use Rattle.world_drain.specs.Watch.{seen_in, seen_then}
 use Rattle.world_drain.specs.Awake.{IsStill}
 use Rattle.world_drain.proofs.Watching.{seen-append, then-in-a-row, then-nothing}
-use Rattle.world_drain.proofs.Passing.{still-world, advances_from, pass-on, pass-end}
+use Rattle.world_drain.proofs.Passing.{still-world, as-long, advances_from, pass-on, pass-end}
 
 pub record Passed (watch : Watch) (first now : WorldState) (from : ℕ) (seen : Seen) : Type 0 where
   pub within : from ≤ length now.links.channels
   pub few : seen.changes ≤ from
   pub shown : seen_then seen (seen_in watch (advances_from now from (length now.links.channels)).0) ≡ seen_in watch (pass first).0
   pub after : (advances_from now from (length now.links.channels)).1 ≡ (pass first).1
-  pub heard : IfSome seen.probed (λ h. h < host_count first)
   pub way : (v : WorldState) → IsPartWay now (map Advance (range_with_len from (length first.links.channels - from))) v → IsPartWay first (map Advance (channels_of first)) v
-  pub fabric : fabric_of now ≡ fabric_of first
-  pub hosts : host_count now ≡ host_count first
   pub channels : length now.links.channels ≡ length first.links.channels
 
 pub whole : (w : WorldState) → advances_from w 0 (length w.links.channels) ≡ pass w
@@ -40,24 +37,28 @@ passed-none watch w nothing e =
       few = omega (arith, none);
       shown = ap (λ s. seen_then s (seen_in watch all.0)) e ∙ sym (seen-append watch [] all.0) ∙ ap (λ r. seen_in watch r.0) (whole w);
       after = ap (λ r. r.1) (whole w);
-      heard = subst (λ s. IfSome s.probed (λ h. h < host_count w)) (sym e) tt;
       way = λ v p. way-first Advance w v (length w.links.channels) p;
-      fabric = refl;
-      hosts = refl;
       channels = refl;
     }
 
-pub first-heard : (n m : ℕ) (a b : Option ℕ) → m ≡ n → IfSome a (λ h. h < n) → IfSome b (λ h. h < m) → IfSome (either a b) (λ h. h < n)
-first-heard n m (Some h) b e f g = f
-first-heard n m None (Some h) e f g = subst (λ k. h < k) e g
-first-heard n m None None e f g = tt
+-- one event changes something or nothing
+pub one-few : (watch : Watch) (x : Effect) (one : Seen) → one ≡ seen_in watch (x ∷ []) → one.changes ≤ 1
+one-few watch x one is =
+    let count = changes-push x [] (changed x) refl in
+    let same : one.changes ≡ changes (x ∷ []) = ap (λ s. s.changes) is in
+    let few = few_if (changed x) in
+    omega (arith, count, same, few)
+  where
+    few_if : (b : Bool) → one_if b ≤ 1
+    few_if true = omega arith
+    few_if false = omega arith
 
 pub passed-on : (watch : Watch) (first now next : WorldState) (from c : ℕ) (seen one both : Seen) → Passed watch first now from seen
     → from ≤ c → c < length now.links.channels → ((k : ℕ) → from ≤ k → k < c → IsStill now k)
-    → one ≡ seen_in watch ((step now (Advance c)).0 ∷ []) → one.changes ≤ 1 → IfSome one.probed (λ h. h < host_count now) → next ≡ (step now (Advance c)).1
-    → fabric_of next ≡ fabric_of now → host_count next ≡ host_count now → length next.links.channels ≡ length now.links.channels → both ≡ seen_then seen one
-    → Passed watch first next (c + 1) both
-passed-on watch first now next from c seen one both p low high still shows few heard is net hosts channels made =
+    → one ≡ seen_in watch ((step now (Advance c)).0 ∷ []) → next ≡ (step now (Advance c)).1 → both ≡ seen_then seen one → Passed watch first next (c + 1) both
+passed-on watch first now next from c seen one both p low high still shows is made =
+    let channels : length next.links.channels ≡ length now.links.channels = as-long now next c is in
+    let few : one.changes ≤ 1 = one-few watch (step now (Advance c)).0 one shows in
     let count = length now.links.channels in
     let rest = seen_in watch (advances_from next (c + 1) (length next.links.channels)).0 in
     let on = pass-on watch now from count c low high still in
@@ -75,10 +76,7 @@ passed-on watch first now next from c seen one both p low high still shows few h
           ∙ ap (λ r. seen_then seen (seen_then (seen_in watch ((step now (Advance c)).0 ∷ [])) (seen_in watch r.0))) same
           ∙ ap (seen_then seen) (sym on.0) ∙ p.shown;
       after = ap (λ r. r.1) same ∙ sym on.1 ∙ p.after;
-      heard = subst (λ s. IfSome s.probed (λ h. h < host_count first)) (sym made) (first-heard (host_count first) (host_count now) seen.probed one.probed p.hosts p.heard heard);
       way = λ v q. p.way v (way-next Advance now next v from (length first.links.channels) c low (omega (arith, high, as_many)) (λ k a b. sym (still-world now k (still k a b))) is q);
-      fabric = net ∙ p.fabric;
-      hosts = hosts ∙ p.hosts;
       channels = channels ∙ p.channels;
     }
 

@@ -1,15 +1,16 @@
 -- A pass over the channels whose advance may change something comes to what a pass over all channels does.
-use Rattle.std.proofs.Common.{◌≡◌, ◌<◌, ◌≤◌, ℕ, zero, suc, ◌+◌, ◌-◌, List, [], ◌∷◌, map, None, refl, sym, ◌∙◌, ap, subst, arith}
+use Rattle.std.proofs.Common.{◌≡◌, ◌<◌, ◌≤◌, ℕ, zero, suc, ◌+◌, ◌-◌, List, [], ◌∷◌, map, length, None, refl, sym, ◌∙◌, ap, subst, arith}
 use Rattle.std.specs.List.{range_with_len}
 use Rattle.link_defs.specs.Links.{packet_in}
 use Rattle.link_defs.specs.Advance.{advance_of}
+use Rattle.link_model.proofs.Runs.{advance-leaves}
 use Rattle.world_defs.specs.declared.event.Event.TheVariants.{Advance}
 use Rattle.world_defs.specs.declared.effect.Effect.{Effect}
 use Rattle.world_defs.specs.declared.effect.Effect.TheVariants.{Idle}
 use Rattle.world_defs.specs.World.{WorldState}
 use Rattle.world_defs.specs.Step.{advanced, advanced_by, step, steps}
 use Rattle.world_defs.specs.Drain.{changed}
-use Rattle.world_laws.proofs.Draining.{advance-changed, advance-world}
+use Rattle.world_laws.proofs.Draining.{advance-links, advance-changed, advance-world}
 use Rattle.world_drain.specs.declared.seen.Watch.{Watch}
 use Rattle.world_drain.specs.Watch.{seen_in, seen_then}
 use Rattle.world_drain.specs.Awake.{IsStill}
@@ -19,6 +20,13 @@ use Rattle.world_drain.proofs.Watching.{seen-append, seen-push, unchanged-nothin
 pub empty-idle : (w : WorldState) (c : ℕ) → packet_in w.links c ≡ None → step w (Advance c) ≡ (Idle, w)
 unfolding advanced
 empty-idle w c e = ap (λ o. advanced_by w (advance_of w.links c o)) e
+
+-- no advance changes how many channels there are
+pub step-long : (w : WorldState) (c : ℕ) → length (step w (Advance c)).1.links.channels ≡ length w.links.channels
+step-long w c = ap (λ l. length l.channels) (advance-links w c) ∙ (advance-leaves w.links c).long
+
+pub as-long : (now next : WorldState) (c : ℕ) → next ≡ (step now (Advance c)).1 → length next.links.channels ≡ length now.links.channels
+as-long now next c is = ap (λ w. length w.links.channels) is ∙ step-long now c
 
 -- so it would change nothing
 pub empty-still : (w : WorldState) (c : ℕ) → packet_in w.links c ≡ None → IsStill w c

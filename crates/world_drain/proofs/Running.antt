@@ -1,16 +1,16 @@
 -- A drain under way: passes that each changed something led here.
 use Rattle.std.proofs.Common.{◌≡◌, ◌≢◌, ◌<◌, List, [], ◌∷◌, map, refl, sym, ◌∙◌, ap, subst, arith}
-use Rattle.std.specs.Prelude.{IfSome}
 use Rattle.link_defs.specs.Hops.{total_hops}
 use Rattle.world_defs.specs.declared.event.Event.{Event}
 use Rattle.world_defs.specs.declared.event.Event.TheVariants.{Advance}
-use Rattle.world_defs.specs.World.{WorldState, fabric_of, host_count}
+use Rattle.world_defs.specs.World.{WorldState}
 use Rattle.world_defs.specs.Step.{step, steps, after_all}
 use Rattle.world_defs.specs.declared.effect.Effect.{Effect}
 use Rattle.world_defs.specs.Drain.{changes, channels_of, pass, drain, Drains}
 use Rattle.world_laws.proofs.Draining.{pass-cost, drain-drains}
 use Rattle.event_lists.specs.Events.{drain_events}
 use Rattle.event_lists.specs.PartWay.{IsPartWay}
+use Rattle.event_lists.proofs.PartWay.{way-still}
 use Rattle.event_lists.proofs.Drained.{drain-on}
 use Rattle.fab_world.specs.Held.{IsLater}
 use Rattle.world_drain.specs.declared.seen.Watch.{Watch}
@@ -18,42 +18,37 @@ use Rattle.world_drain.specs.declared.seen.Seen.{Seen}
 use Rattle.world_drain.specs.Watch.{seen_in, seen_then}
 use Rattle.world_drain.proofs.Drained.{Ran, ran-none, ran-on}
 use Rattle.world_drain.proofs.Later.{later-same, later-both}
-use Rattle.world_drain.proofs.Passed.{first-heard}
 
 pub record Running (watch : Watch) (first now : WorldState) (seen : Seen) : Type 0 where
   pub ran : Ran watch first now seen
-  pub heard : IfSome seen.probed (λ h. h < host_count first)
   pub way : (v : WorldState) → IsPartWay now (drain_events now) v → IsPartWay first (drain_events first) v
-  pub fabric : fabric_of now ≡ fabric_of first
-  pub hosts : host_count now ≡ host_count first
 
 steps-after : (w : WorldState) (es : List Event) → (steps w es).1 ≡ after_all w es
 steps-after w [] = refl
 steps-after w (e ∷ es) = steps-after (step w e).1 es
 
-pass-later : (w : WorldState) → IsLater w (pass w).1
+pub pass-later : (w : WorldState) → IsLater w (pass w).1
 unfolding pass
 pass-later w = (map Advance (channels_of w), steps-after w (map Advance (channels_of w)))
 
 pub running-none : (watch : Watch) (w : WorldState) (nothing : Seen) → nothing ≡ seen_in watch [] → Running watch w w nothing
 running-none watch w nothing e = record {
   ran = subst (Ran watch w w) (sym e) (ran-none watch w);
-  heard = subst (λ s. IfSome s.probed (λ h. h < host_count w)) (sym e) tt;
   way = λ v p. p;
-  fabric = refl;
-  hosts = refl;
 }
 
 pub running-on : (watch : Watch) (first now next : WorldState) (seen once both : Seen) → Running watch first now seen
-    → once ≡ seen_in watch (pass now).0 → IfSome once.probed (λ h. h < host_count now) → next ≡ (pass now).1 → once.changes ≢ 0
-    → fabric_of next ≡ fabric_of now → host_count next ≡ host_count now → both ≡ seen_then seen once → Running watch first next both
-running-on watch first now next seen once both r shown heard is some net hosts made = record {
+    → once ≡ seen_in watch (pass now).0 → next ≡ (pass now).1 → once.changes ≢ 0 → both ≡ seen_then seen once → Running watch first next both
+running-on watch first now next seen once both r shown is some made = record {
   ran = subst (Ran watch first next) (sym made) (ran-on watch first now next seen once r.ran shown is some);
-  heard = subst (λ s. IfSome s.probed (λ h. h < host_count first)) (sym made) (first-heard (host_count first) (host_count now) seen.probed once.probed r.hosts r.heard heard);
   way = λ v p. r.way v (drain-on now next v (λ none. some (ap (λ s. s.changes) shown ∙ none)) is p);
-  fabric = net ∙ r.fabric;
-  hosts = hosts ∙ r.hosts;
 }
+
+-- and is a part of the way along a drain
+pub pass-way : (watch : Watch) (now next : WorldState) (once : Seen) → once ≡ seen_in watch (pass now).0 → next ≡ (pass now).1 → once.changes ≢ 0
+    → IsPartWay now (drain_events now) next
+pass-way watch now next once shown is some =
+    drain-on now next next (λ none. some (ap (λ s. s.changes) shown ∙ none)) is (way-still next next (drain_events next) refl)
 
 -- a pass that changed something leaves fewer hops
 pub fewer-hops : (watch : Watch) (now next : WorldState) (once : Seen) → once ≡ seen_in watch (pass now).0 → next ≡ (pass now).1 → once.changes ≢ 0

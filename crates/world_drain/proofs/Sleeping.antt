@@ -1,6 +1,7 @@
 -- Channels that sleep: an advance of theirs changes nothing, and they sleep on until the channel that they wait for is
 -- emptied.
 use Rattle.std.proofs.Common.{◌≡◌, ◌≢◌, ◌<◌, ◌≤◌, ◌+◌, ◌*◌, ℕ, zero, suc, true, List, [], ◌∷◌, length, get_or, set, Option, Some, None, is_some, ◌⊎◌, inl, inr, ⊎_elim, refl, sym, ap, ◌∙◌, subst, arith}
+use Rattle.std.specs.Prelude.{IfSome, IfNone}
 use Rattle.std.proofs.Math.ListN.{length-set}
 use Rattle.std.proofs.lemmas.Bool.{cases_eq, cases_lt, cases_order, false≢true}
 use Rattle.std.proofs.lemmas.List.{get_or-set_same, get_or-set_other, get_or_past}
@@ -13,6 +14,7 @@ use Rattle.link_defs.specs.Links.{Held, LinkState, packet_in, emptied}
 use Rattle.link_defs.specs.Advance.{course, entered, gone_on, advance_of, advance}
 use Rattle.link_defs.specs.Hops.{changes as moves}
 use Rattle.link_model.proofs.Stepping.{course-below}
+use Rattle.link_model.specs.Full.{IsNextFull}
 use Rattle.link_model.specs.declared.hop.Hop.{Hop}
 use Rattle.link_model.specs.declared.hop.Hop.TheVariants.{Moved, Blocked, Untried}
 use Rattle.number_marks.specs.Marks.{mark_at, IsWritten, IsNextMark}
@@ -22,10 +24,11 @@ use Rattle.world_defs.specs.declared.event.Event.TheVariants.{Advance}
 use Rattle.world_defs.specs.declared.effect.Effect.{Effect}
 use Rattle.world_defs.specs.Node.{NodeState}
 use Rattle.world_defs.specs.Hearing.{hear}
-use Rattle.world_defs.specs.World.{WorldState, host_count, node_at, with_links}
+use Rattle.world_defs.specs.World.{WorldState, fabric_of, host_count, node_at, with_links}
 use Rattle.world_defs.specs.Step.{arrived, advanced_by, advanced, step}
 use Rattle.world_laws.proofs.Draining.{advance-links, advance-changed}
-use Rattle.world_drain.specs.Awake.{WaitsFor, IsListed, Sleeps, HasRows, AreAwake, AreAwakeBut, AreAwakeOnce, hop_of, IsStill, IsNextAwake}
+use Rattle.world_drain.specs.declared.awake.Awake.{Awake}
+use Rattle.world_drain.specs.Awake.{WaitsFor, IsListed, Sleeps, HasRows, AreAwake, AreAwakeBut, AreAwakeOnce, AreAwakeBehind, hop_of, IsStill, IsNextAwake}
 use Rattle.world_drain.proofs.Passing.{empty-still}
 
 -- ---- an advance of the links
@@ -142,7 +145,7 @@ step-hop : (w : WorldState) (c : ℕ) → hop_of (step w (Advance c)).0 ≡ hop_
 unfolding advanced
 step-hop w c = advanced_by-hop w (advance w.links c)
 
-pub step-gone : (w v : WorldState) (c : ℕ) (x : Effect) (h : Hop) → step w (Advance c) ≡ (x, v) → hop_of x ≡ h → IsGone w.links c h v.links
+step-gone : (w v : WorldState) (c : ℕ) (x : Effect) (h : Hop) → step w (Advance c) ≡ (x, v) → hop_of x ≡ h → IsGone w.links c h v.links
 step-gone w v c x h is told =
     let links : (advance w.links c).1 ≡ v.links = sym (advance-links w c) ∙ ap (λ r. r.1.links) is in
     let kind : hop_in (advance w.links c).0 ≡ h = sym (step-hop w c) ∙ ap (λ r. hop_of r.0) is ∙ told in
@@ -291,6 +294,52 @@ moved-but s c next m u m' p n a first second = record {
     by k none apart (inl same) = inl (inl (ap (packet_in s) same ∙ a.gone (λ e. apart (same ∙ e))))
     by k none apart (inr other) = a.sleep k apart (sym (first.others k other) ∙ sym (second.others k apart) ∙ none)
 
+-- those in the row of an emptied channel were marked, and the row is empty
+pub woken : (s : LinkState) (c count : ℕ) (m m' p n n' : List ℕ) → AreAwakeBut s c m p n → c < length n → count ≡ get_or n c 0 → length m' ≡ length m
+    → ((k : ℕ) → mark_at m' k ≡ 0 → mark_at m k ≡ 0) → ((i : ℕ) → 16 * c ≤ i → i < 16 * c + count → mark_at m' (get_or p i 0) ≡ 1)
+    → n' ≡ set n c 0 → AreAwake s m' p n'
+woken s c count m m' p n n' a there is size kept marked made = record {
+  rows = record {
+    marked = omega (arith, a.rows.marked, size);
+    listed = omega (arith, a.rows.listed, long);
+    rows = omega (arith, a.rows.rows, long);
+    few = λ g. few g (cases_eq g c);
+    low = λ i. (let before = a.rows.low i in omega (arith, before, size));
+  };
+  sleep = λ k none. by k none (a.sleep k (kept k none));
+}
+  where
+    long : length n' ≡ length n
+    long = ap length made ∙ length-set n c 0
+
+    few : (g : ℕ) → (g ≡ c) ⊎ (g ≢ c) → get_or n' g 0 ≤ 16
+    few g (inl same) =
+        let here : get_or n' g 0 ≡ 0 = ap (λ l. get_or l g 0) made ∙ ap (λ i. get_or (set n c 0) i 0) same ∙ get_or-set_same n c 0 0 there in
+        omega (arith, here)
+    few g (inr other) =
+        let old : get_or n' g 0 ≡ get_or n g 0 = ap (λ l. get_or l g 0) made ∙ get_or-set_other n c g 0 0 other in
+        let before = a.rows.few g in
+        omega (arith, old, before)
+
+    gone : (k : ℕ) → IsListed p n k c → mark_at m' k ≡ 0 → zero ≡ suc zero
+    gone k l none =
+        let used = l.used in
+        let one = marked (16 * c + l.place) (omega arith) (omega (arith, used, is)) in
+        let same : mark_at m' (get_or p (16 * c + l.place) 0) ≡ mark_at m' k = ap (mark_at m') l.there in
+        omega (arith, none, one, same)
+
+    listed : (k g : ℕ) → mark_at m' k ≡ 0 → IsListed p n k g → (g ≡ c) ⊎ (g ≢ c) → IsListed p n' k g
+    listed k g none l (inl same) = let bad = gone k (subst (λ j. IsListed p n k j) same l) none in cc
+    listed k g none l (inr other) =
+        let old : get_or n' g 0 ≡ get_or n g 0 = ap (λ l. get_or l g 0) made ∙ get_or-set_other n c g 0 0 other in
+        let used = l.used in
+        record { place = l.place; used = omega (arith, used, old); there = l.there }
+
+    by : (k : ℕ) → mark_at m' k ≡ 0 → Sleeps s p n k ⊎ IsListed p n k c → Sleeps s p n' k
+    by k none (inl (inl e)) = inl e
+    by k none (inl (inr (g, x, l))) = inr (g, x, listed k g none l (cases_eq g c))
+    by k none (inr l) = let bad = gone k l none in cc
+
 -- ---- an advance of a channel that is awake
 waits-on : (s t : LinkState) (k g : ℕ) → WaitsFor s k g → t.net ≡ s.net → packet_in t k ≡ packet_in s k → packet_in t g ≡ packet_in s g → WaitsFor t k g
 waits-on s t k g x net one two = record {
@@ -301,7 +350,7 @@ waits-on s t k g x net one two = record {
   other = x.other;
 }
 
-pub on-awake : (s t : LinkState) (c next : ℕ) (m p n : List ℕ) → AreAwake s m p n → IsOn s c next t → AreAwakeOnce t c next m p n
+on-awake : (s t : LinkState) (c next : ℕ) (m p n : List ℕ) → AreAwake s m p n → IsOn s c next t → AreAwakeOnce t c next m p n
 on-awake s t c next m p n a o = record {
   rows = subst (λ k. HasRows k m p n) (sym o.long) a.rows;
   gone = o.gone;
@@ -322,7 +371,7 @@ on-awake s t c next m p n a o = record {
     by k apart (inr other) (inl e) = inl (inl (o.others k other apart ∙ e))
     by k apart (inr other) (inr (g, x, l)) = goes k g other apart x l (cases_eq g c)
 
-pub out-awake : (s t : LinkState) (c : ℕ) (m p n : List ℕ) → AreAwake s m p n → IsOut s c t → AreAwakeBut t c m p n
+out-awake : (s t : LinkState) (c : ℕ) (m p n : List ℕ) → AreAwake s m p n → IsOut s c t → AreAwakeBut t c m p n
 out-awake s t c m p n a o = record { rows = subst (λ k. HasRows k m p n) (sym o.long) a.rows; sleep = λ k none. by k (cases_eq k c) (a.sleep k none) }
   where
     goes : (k g : ℕ) → k ≢ c → WaitsFor s k g → IsListed p n k g → (g ≡ c) ⊎ (g ≢ c) → Sleeps t p n k ⊎ IsListed p n k c
@@ -333,3 +382,33 @@ out-awake s t c m p n a o = record { rows = subst (λ k. HasRows k m p n) (sym o
     by k (inl same) before = inl (inl (ap (packet_in t) same ∙ o.gone))
     by k (inr other) (inl e) = inl (inl (o.others k other ∙ e))
     by k (inr other) (inr (g, x, l)) = goes k g other x l (cases_eq g c)
+
+-- behind an advance, whatever its hop tells
+gone-behind : (s t : LinkState) (c : ℕ) (h : Hop) (m p n : List ℕ) → length s.channels ≡ channel_count s.net → AreAwake s m p n → IsGone s c h t → AreAwakeBehind h t c m p n
+gone-behind s t c (Moved next) m p n long a o = let there = o.there in let same = o.long in (on-awake s t c next m p n a o, omega (arith, there, same, long))
+gone-behind s t c (Blocked next) m p n long a (same, x) = (subst (λ l. AreAwake l m p n) (sym same) a, subst (λ l. WaitsFor l c next) (sym same) x)
+gone-behind s t c Untried m p n long a o = (out-awake s t c m p n a o, o.gone)
+
+step-behind : (w v : WorldState) (c : ℕ) (x : Effect) (h : Hop) (m p n : List ℕ) → length w.links.channels ≡ channel_count (fabric_of w) → AreAwake w.links m p n
+    → step w (Advance c) ≡ (x, v) → hop_of x ≡ h → AreAwakeBehind h v.links c m p n
+step-behind w v c x h m p n long a is told = gone-behind w.links v.links c h m p n long a (step-gone w v c x h is told)
+
+-- of a note, where there is one
+pub step-noted : (w v : WorldState) (c : ℕ) (x : Effect) (h : Hop) (o : Option Awake) → length w.links.channels ≡ channel_count (fabric_of w)
+    → IfSome o (λ a. AreAwake w.links a.marks a.places.items a.counts.items) → step w (Advance c) ≡ (x, v) → hop_of x ≡ h
+    → IfSome o (λ a. AreAwakeBehind h v.links c a.marks a.places.items a.counts.items)
+step-noted w v c x h None long a is told = tt
+step-noted w v c x h (Some a) long awake is told = step-behind w v c x h a.marks a.places.items a.counts.items long awake is told
+
+-- the next full channel is the next whose advance may change something
+pub full-awake : (w : WorldState) (from : ℕ) (o : Option ℕ) → IfSome o (IsNextFull w.links from) → IfSome o (IsNextAwake w from)
+full-awake w from None f = tt
+full-awake w from (Some c) f = record { above = f.above; there = f.there; passed = λ k low high. empty-still w k (f.passed k low high) }
+
+pub none-full : (w : WorldState) (from : ℕ) (o : Option ℕ) → IfNone o ((k : ℕ) → from ≤ k → packet_in w.links k ≡ None) → IfNone o ((k : ℕ) → from ≤ k → IsStill w k)
+none-full w from None e = λ k low. empty-still w k (e k low)
+none-full w from (Some c) e = tt
+
+-- where it is known which hop it is
+pub hop-told : (s : LinkState) (c : ℕ) (h k : Hop) (m p n : List ℕ) → h ≡ k → AreAwakeBehind h s c m p n → AreAwakeBehind k s c m p n
+hop-told s c h k m p n is b = subst (λ o. AreAwakeBehind o s c m p n) is b

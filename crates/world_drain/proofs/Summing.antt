@@ -2,8 +2,7 @@
 use Rattle.std.proofs.Common.{◌≡◌, ◌<◌, ◌≤◌, ℕ, suc, ◌+◌, ◌-◌, false, nat_lt, map, ap, arith}
 use Rattle.std.proofs.lemmas.Bool.Decides.{nat_tests}
 use Rattle.std.specs.List.{range_with_len}
-use Rattle.world_defs.specs.World.{WorldState, host_count, sum_of}
-use Rattle.fab_world.specs.Held.{IsMoment}
+use Rattle.world_defs.specs.World.{sum_of}
 
 pub record Summing (f : ℕ → ℕ) (count from sum : ℕ) : Type 0 where
   pub rest : sum + sum_of (map f (range_with_len from (count - from))) ≡ sum_of (map f (range_with_len 0 count))
@@ -24,9 +23,3 @@ summing-all f count from sum s past =
 
 pub none-left : (n : ℕ) → nat_lt 0 n ≡ false → 0 ≡ n
 none-left n none = grind (arith, nat_tests)
-
-pub few-hosts : (w : WorldState) → IsMoment w → host_count w ≤ 128
-few-hosts w m =
-    let same = m.world.hosts in
-    let few = m.fabric.few_hosts in
-    omega (arith, same, few)

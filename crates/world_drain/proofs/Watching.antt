@@ -34,7 +34,7 @@ or-in-a-row true b c = refl
 or-in-a-row false b c = refl
 
 -- what the first effect adds
-probed-push : (x : Effect) (xs : List Effect) → probed_host (x ∷ xs) ≡ either (probed_host (x ∷ [])) (probed_host xs)
+pub probed-push : (x : Effect) (xs : List Effect) → probed_host (x ∷ xs) ≡ either (probed_host (x ∷ [])) (probed_host xs)
 probed-push Idle xs = refl
 probed-push (Injected n) xs = refl
 probed-push (Moved c) xs = refl
@@ -199,7 +199,7 @@ epoch-heard mapper dst part (Arrived h NoToken ∷ xs) = epoch-heard mapper dst 
 epoch-heard mapper dst part (Arrived h Ack ∷ xs) = epoch-heard mapper dst part xs
 
 -- effects in a row
-probed-append : (xs ys : List Effect) → probed_host (xs ++ ys) ≡ either (probed_host xs) (probed_host ys)
+pub probed-append : (xs ys : List Effect) → probed_host (xs ++ ys) ≡ either (probed_host xs) (probed_host ys)
 probed-append [] ys = refl
 probed-append (x ∷ xs) ys =
     probed-push x (xs ++ ys) ∙ ap (either (probed_host (x ∷ []))) (probed-append xs ys) ∙ either-in-a-row (probed_host (x ∷ [])) (probed_host xs) (probed_host ys)

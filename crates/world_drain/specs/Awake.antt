@@ -57,6 +57,13 @@ pub record AreAwakeOnce (s : LinkState) (left next : ℕ) (marks places counts :
   pub gone : left ≢ next → packet_in s left ≡ None
   pub sleep : (c : ℕ) → c ≢ next → mark_at marks c ≡ 0 → Sleeps s places counts c ⊎ IsListed places counts c left
 
+-- The same behind an advance that a hop tells of, while the marks and rows are still those before it.
+abbrev pub AreAwakeBehind : Hop → LinkState → ℕ → (marks places counts : List ℕ) → Type 0
+AreAwakeBehind (Moved next) s c marks places counts =
+    AreAwakeOnce s c next marks places counts × (next < length s.channels)
+AreAwakeBehind (Blocked next) s c marks places counts = AreAwake s marks places counts × WaitsFor s c next
+AreAwakeBehind Untried s c marks places counts = AreAwakeBut s c marks places counts × (packet_in s c ≡ None)
+
 -- what an effect of an advance tells of a packet that stays in the channels
 abbrev pub hop_of : Effect → Hop
 hop_of (MovedTo next) = Moved next

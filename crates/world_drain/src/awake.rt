@@ -8,13 +8,14 @@
 //!   counts    3               1           ..        how many of each row are in use
 //! ```
 
-ghost use Rattle.std.specs.Prelude.{◌≡◌, ◌≢◌, ℕ, ◌+◌, ◌*◌, ◌<◌, ◌≤◌, length, slice_index_or, slice_set, None, IfOk};
+ghost use Rattle.std.specs.Prelude.{◌≡◌, ℕ, ◌+◌, ◌*◌, ◌<◌, ◌≤◌, length, slice_index_or, slice_set, None, IfOk};
 ghost use Rattle.std.specs.Prelude.{IfSome, IfNone};
 ghost use Rattle.link_defs.specs.Links.{packet_in};
 ghost use Rattle.number_marks.specs.Marks.{IsWritten, mark_at};
-ghost use Rattle.world_drain.specs.Awake.{AreAwake, AreAwakeBut, AreAwakeOnce, IsNextAwake, IsStill, WaitsFor};
+ghost use Rattle.world_drain.specs.Awake.{AreAwake, AreAwakeBut, AreAwakeOnce, AreAwakeBehind, IsNextAwake};
+ghost use Rattle.world_drain.specs.Awake.{IsStill, WaitsFor};
 
-use fab_world::World;
+use fab_world::{Hop, World};
 use number_marks::Marks;
 use std::alloc::{AllocError, Global};
 
@@ -35,10 +36,10 @@ impl Awake {
         ensures { IfOk result (λ a. AreAwake w.now.links a.marks a.places.items a.counts.items) }
     {
         let channels = usize::from(w.channels());
-        let mut marks = Marks::new(alloc, channels)?;
-        mark_full(w, &mut marks);
         let places = vec![in alloc; 0; 16 * channels]?;
         let counts = vec![in alloc; 0; channels]?;
+        let mut marks = Marks::new(alloc, channels)?;
+        mark_full(w, &mut marks);
         Ok(Awake {
             marks,
             places,
@@ -58,8 +59,29 @@ impl Awake {
         }
     }
 
-    /// A channel's packet waits for another channel: it sleeps, if there is a place for it in that one's row.
-    pub(crate) fn blocked(&mut self, w: &World, c: u16, next: u16)
+    /// The marks and rows follow an advance of a channel, of which a hop tells where its packet is now. One that is
+    /// empty wakes those that waited for it, and the one that a packet has entered is awake.
+    pub(crate) fn after(&mut self, w: &World, c: u16, hop: Hop)
+        requires awake { AreAwakeBehind hop w.now.links c self.old.marks self.old.places.items self.old.counts.items }
+        requires there { c < length w.now.links.channels }
+        ensures { AreAwake w.now.links self.new.marks self.new.places.items self.new.counts.items }
+    {
+        match hop {
+            Hop::Moved(next) => {
+                unmark(&mut self.marks, c);
+                mark(&mut self.marks, next);
+                self.wake(w, c);
+            }
+            Hop::Blocked(next) => self.blocked(w, c, next),
+            Hop::Untried => {
+                unmark(&mut self.marks, c);
+                self.wake(w, c);
+            }
+        }
+    }
+
+    // A channel's packet waits for another channel: it sleeps, if there is a place for it in that one's row.
+    fn blocked(&mut self, w: &World, c: u16, next: u16)
         requires awake { AreAwake w.now.links self.old.marks self.old.places.items self.old.counts.items }
         requires waits { WaitsFor w.now.links c next }
         requires there { c < length w.now.links.channels }
@@ -72,31 +94,6 @@ impl Awake {
             put(&mut self.counts, next, count + 1);
             unmark(&mut self.marks, c);
         }
-    }
-
-    /// A channel's packet has gone on into another one, which is awake now, and so are those that waited for the first.
-    pub(crate) fn moved(&mut self, w: &World, c: u16, next: u16)
-        requires awake { AreAwakeOnce w.now.links c next self.old.marks self.old.places.items self.old.counts.items }
-        requires there { c < length w.now.links.channels }
-        requires next { next < length w.now.links.channels }
-        ensures { AreAwake w.now.links self.new.marks self.new.places.items self.new.counts.items }
-    {
-        let _few = w.channels();
-        unmark(&mut self.marks, c);
-        mark(&mut self.marks, next);
-        self.wake(w, c);
-    }
-
-    /// A channel is empty, and those that waited for it are awake.
-    pub(crate) fn left(&mut self, w: &World, c: u16)
-        requires awake { AreAwakeBut w.now.links c self.old.marks self.old.places.items self.old.counts.items }
-        requires gone { packet_in w.now.links c ≡ None }
-        requires there { c < length w.now.links.channels }
-        ensures { AreAwake w.now.links self.new.marks self.new.places.items self.new.counts.items }
-    {
-        let _few = w.channels();
-        unmark(&mut self.marks, c);
-        self.wake(w, c);
     }
 
     // Those in the row of a channel are awake.

@@ -17,7 +17,7 @@
 //! |---|---|
 //! | `seen` | what a mapper looks for in what happens |
 //! | `draining` | a drain |
-//! | `crowded` | a drain of many packets, in which channels that wait for another are passed by |
+//! | `advancing` | its passes over channels; of many packets, those that wait for another channel are passed by |
 //! | `awake` | the channels that may go on |
 //! | `happening` | one event, and what is told of it |
 //! | `giving_up` | every host gives up what it staged |
@@ -27,9 +27,9 @@
 //! | `rounds` | a settle |
 #![tactic(auto)]
 
+mod advancing;
 mod awake;
 mod clearing;
-mod crowded;
 mod draining;
 mod giving_up;
 mod happening;

@@ -108,20 +108,15 @@ fn progress_of(w: &World) -> Progress
     }
 }
 
-// Whether a round that led so far was the last: nothing is left, or it didn't help. Nothing is offered meanwhile, so
-// that what isn't acknowledged gets less exactly where a base rises.
+// Whether a round that led so far was the last: nothing is left, or it didn't help, since nothing more was acknowledged
+// and no planned fault struck. Nothing is offered meanwhile, so that what isn't acknowledged gets less exactly where a
+// base rises.
 fn is_last(before: Progress, now: Progress) -> bool
     ensures { result ≡ (nat_eq now.unacked 0 || not
         (nat_lt now.unacked before.unacked || nat_lt before.struck now.struck)) }
 {
-    now.unacked == 0 || !has_helped(before, now)
-}
-
-// Whether something more was acknowledged, or a planned fault struck.
-fn has_helped(before: Progress, now: Progress) -> bool
-    ensures { result ≡ (nat_lt now.unacked before.unacked || nat_lt before.struck now.struck) }
-{
-    now.unacked < before.unacked || before.struck < now.struck
+    let helped = now.unacked < before.unacked || before.struck < now.struck;
+    now.unacked == 0 || !helped
 }
 
 // A round: an expiry for each pair with something unacknowledged, and then passes. How many channels were reset.

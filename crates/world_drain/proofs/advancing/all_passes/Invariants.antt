@@ -1,13 +1,14 @@
--- Passes that each changed something led here, and each channel that isn't awake sleeps.
+-- Passes that each changed something led here, and each channel that isn't awake by the note sleeps.
+use Rattle.std.specs.Prelude.{IfSome}
 use Rattle.link_defs.specs.Hops.{total_hops}
 use Rattle.world_drain.specs.Awake.{AreAwake}
 use Rattle.world_drain.proofs.Running.{Running}
-use Rattle.world_drain.proofs.crowded.drain_crowded.Given as goal
+use Rattle.world_drain.proofs.advancing.all_passes.Given as goal
 
 abbrev pub invariant-passing : goal.invariant-passing
 invariant-passing l = record {
   running : Running l.watch l.fn.w l.w l.seen;
-  awake : AreAwake l.w.links l.awake.marks l.awake.places.items l.awake.counts.items;
+  noted : IfSome l.noted (λ a. AreAwake l.w.links a.marks a.places.items a.counts.items);
 }
 
 abbrev pub decreases-passing : goal.decreases-passing

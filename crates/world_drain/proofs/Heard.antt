@@ -1,0 +1,93 @@
+-- A probe that is heard in a drain is heard by a host that is there; and a drain keeps the fabric and the hosts.
+use Rattle.std.proofs.Common.{◌≡◌, ◌<◌, ℕ, List, [], ◌∷◌, map, Option, Some, None, refl, sym, ◌∙◌, subst}
+use Rattle.std.specs.Prelude.{IfSome, Result, Ok, Err, IfOk, OnOk, OnErr}
+use Rattle.world_defs.specs.declared.heard.Heard.TheVariants.{Probe, Reply, Loop, Routes, RoutesAck, Message, Fragment, NotNext, NoToken, Ack}
+use Rattle.world_defs.specs.declared.event.Event.TheVariants.{Advance}
+use Rattle.world_defs.specs.declared.effect.Effect.{Effect}
+use Rattle.world_defs.specs.declared.effect.Effect.TheVariants.{Idle, Injected, Moved, Blocked, Arrived, Dropped, Lost, Reset as WasReset, Flipped, Expired, GaveUp, Repeated, Held, Replayed, Staged, Said}
+use Rattle.world_defs.specs.Node.{either}
+use Rattle.world_defs.specs.World.{WorldState, host_count}
+use Rattle.world_defs.specs.Step.{step, steps}
+use Rattle.world_defs.specs.Drain.{channels_of, pass, drain, Drains}
+use Rattle.world_defs.specs.Asking.{probed_host}
+use Rattle.world_laws.proofs.Draining.{drain-drains}
+use Rattle.event_lists.specs.Events.{drain_events}
+use Rattle.event_lists.specs.PartWay.{IsPartWay}
+use Rattle.fab_world.specs.Held.{IsMoment, IsLater, IsOfHosts}
+use Rattle.fab_world.proofs.Arriving.{effect-hosts}
+use Rattle.fab_world.proofs.Moments.{step-moment, later-moment, later-hosts}
+use Rattle.world_drain.specs.declared.seen.Watch.{Watch}
+use Rattle.world_drain.specs.declared.seen.Seen.{Seen}
+use Rattle.world_drain.specs.Watch.{seen_in}
+use Rattle.world_drain.proofs.Later.{later-step, way-later}
+use Rattle.world_drain.proofs.Running.{pass-later, drain-later}
+use Rattle.world_drain.proofs.Watching.{probed-push, probed-append}
+
+-- a host that is there, where one is named
+abbrev IsThere : ℕ → Option ℕ → Type 0
+IsThere n o = IfSome o (λ h. h < n)
+
+one-there : (count : ℕ) (x : Effect) → IsOfHosts count x → IsThere count (probed_host (x ∷ []))
+one-there count Idle is = tt
+one-there count (Injected n) is = tt
+one-there count (Moved c) is = tt
+one-there count (Blocked c) is = tt
+one-there count (Dropped x) is = tt
+one-there count Lost is = tt
+one-there count WasReset is = tt
+one-there count Flipped is = tt
+one-there count Expired is = tt
+one-there count GaveUp is = tt
+one-there count (Repeated s) is = tt
+one-there count (Held s) is = tt
+one-there count (Replayed c) is = tt
+one-there count Staged is = tt
+one-there count (Said s) is = tt
+one-there count (Arrived h Probe) is = is
+one-there count (Arrived h (Reply n from)) is = tt
+one-there count (Arrived h (Loop n)) is = tt
+one-there count (Arrived h Routes) is = tt
+one-there count (Arrived h (RoutesAck e from part)) is = tt
+one-there count (Arrived h Message) is = tt
+one-there count (Arrived h Fragment) is = tt
+one-there count (Arrived h NotNext) is = tt
+one-there count (Arrived h NoToken) is = tt
+one-there count (Arrived h Ack) is = tt
+
+both-there : (n : ℕ) (a b : Option ℕ) → IsThere n a → IsThere n b → IsThere n (either a b)
+both-there n (Some h) b p q = p
+both-there n None b p q = q
+
+-- ---- advances in a row, a pass, and a drain
+row-there : (n : ℕ) (w : WorldState) (cs : List ℕ) → IsMoment w → host_count w ≡ n → IsThere n (probed_host (steps w (map Advance cs)).0)
+row-there n w [] m e = tt
+row-there n w (c ∷ cs) m e =
+    let x : Effect = (step w (Advance c)).0 in
+    let v : WorldState = (step w (Advance c)).1 in
+    let here : IsOfHosts n x = subst (λ k. IsOfHosts k x) e (effect-hosts w (Advance c) m tt) in
+    let hosts : host_count v ≡ n = later-hosts w v m (later-step w v (Advance c) refl) ∙ e in
+    subst (IsThere n) (sym (probed-push x (steps v (map Advance cs)).0))
+    (both-there n (probed_host (x ∷ [])) (probed_host (steps v (map Advance cs)).0) (one-there n x here) (row-there n v cs (step-moment w (Advance c) m) hosts))
+
+pass-there : (n : ℕ) (w : WorldState) → IsMoment w → host_count w ≡ n → IsThere n (probed_host (pass w).0)
+unfolding pass
+pass-there n w m e = row-there n w (channels_of w) m e
+
+drains-there : (n : ℕ) (w v : WorldState) (xs : List Effect) → IsMoment w → host_count w ≡ n → Drains w xs v → IsThere n (probed_host xs)
+drains-there n w v xs m e (Drains.at_rest none) = tt
+drains-there n w v xs m e (Drains.more {xs = rest} goes d is) =
+    let next : IsLater w (pass w).1 = pass-later w in
+    let behind : IsThere n (probed_host rest) = drains-there n (pass w).1 v rest (later-moment w (pass w).1 m next) (later-hosts w (pass w).1 m next ∙ e) d in
+    subst (λ ys. IsThere n (probed_host ys)) (sym is)
+    (subst (IsThere n) (sym (probed-append (pass w).0 rest)) (both-there n (probed_host (pass w).0) (probed_host rest) (pass-there n w m e) behind))
+
+pub drain-heard : {E : Type 0} (watch : Watch) (w : WorldState) (r : Result Seen E) → IsMoment w → IfOk r (λ s. s ≡ seen_in watch (drain w).0)
+    → IfOk r (λ s. IfSome s.probed (λ h. h < host_count w))
+drain-heard watch w (Ok s) m is =
+    subst (λ (t : Seen). IfSome t.probed (λ h. h < host_count w)) (sym is) (drains-there (host_count w) w (drain w).1 (drain w).0 m refl (drain-drains w))
+drain-heard watch w (Err e) m is = tt
+
+-- ---- a drain that came to its end, or was cut off
+pub drained-later : {A E : Type 0} (w v : WorldState) (r : Result A E) → OnOk r (v ≡ (drain w).1) → OnErr r (IsPartWay w (drain_events w) v) → IsLater w v
+drained-later w v (Ok a) after err = drain-later w v after
+drained-later w v (Err e) after err = way-later w v err
