@@ -5,6 +5,7 @@ pub mod HostEvents
 pub mod Injecting
 pub mod Moments
 pub mod Places
+pub mod Probing
 pub mod Reaching
 pub mod Resting
 pub mod Stepped

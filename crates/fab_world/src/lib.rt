@@ -16,12 +16,14 @@
 //!
 //! | module | has |
 //! |---|---|
+//! | `eight_bits` | the pattern of a flip is a byte |
 //! | `host_marks` | which hosts are looked at |
 //! | `hosts` | hosts by address |
 //! | `machine` | links, hosts and adopted routes, and each event of theirs |
 //! | `world` | the world: what it keeps, and every event |
 #![tactic(auto)]
 
+mod eight_bits;
 mod host_marks;
 mod hosts;
 mod machine;

@@ -10,6 +10,7 @@ mod adopting;
 mod calls;
 mod dispatch;
 mod injection;
+mod probing;
 mod staging;
 mod steps;
 

@@ -18,9 +18,9 @@ ghost use Rattle.world_defs.specs.Node.{has_staged, to_send, port_at, unacknowle
 ghost use Rattle.world_defs.specs.Traffic.{sent_on, got_on};
 ghost use Rattle.world_defs.specs.Table.{active_epoch};
 ghost use Rattle.world_defs.specs.World.{fabric_of, host_count, new_world, node_at, planned, adopted_by};
-ghost use Rattle.world_defs.specs.EightBits.{IsByteFault, IsByteEvent};
 ghost use Rattle.world_defs.specs.declared.event.Event.TheVariants.{Ask, Inject, Advance};
 ghost use Rattle.world_defs.specs.Step.{step};
+ghost use Rattle.world_defs.specs.Asking.{number_of};
 ghost use Rattle.act_defs.specs.Acts.{IsReached};
 ghost use Rattle.message_laws.specs.Untouched.{HandsBackBy};
 ghost use Rattle.world_defs.specs.Settle.{unacknowledged_from};
@@ -31,6 +31,7 @@ ghost use Rattle.fab_world.specs.Held.{IsMoment, IsOfHosts};
 ghost use Rattle.fab_world.specs.Hop.{IsHopIn, IsRunIn};
 ghost use Rattle.fab_world.specs.Resting.{IsNextAwake, IsNextBusy, IsSilentIn, RestsIn};
 
+use crate::eight_bits::{flips_have_a_byte, pattern_is_a_byte};
 use crate::machine::Machine;
 use adopted_routes::AdoptRefusal;
 use client_host::{Message, TokenPlace};
@@ -95,18 +96,27 @@ impl World {
         self.machine.step(alloc, e)
     }
 
-    /// A host stages a probe by a walk, in the place of what it has staged: [`World::step`] of [`Event::Ask`], which
-    /// wants no memory.
-    pub fn ask(&mut self, host: u16, walk: Walk, looped: bool)
+    /// A host stages a probe by a walk, in the place of what it has staged, and puts it into its channel:
+    /// [`World::step`] of [`Event::Ask`] and then of [`Event::Inject`]. It answers the number of the packet, where that
+    /// entered the channel. Want of memory changes nothing.
+    pub fn probe(
+        &mut self,
+        alloc: Global,
+        host: u16,
+        walk: &Walk,
+        looped: bool,
+    ) -> Result<Option<u64>, AllocError>
         requires there { IsHostOf self.old host }
-        requires short { looped ≡ true → length walk ≤ 31 }
-        ensures after { self.new ≡ (step self.old (Ask host walk looped)).1 }
+        requires short { looped ≡ true → length walk.now ≤ 31 }
+        ensures number { IfOk result (λ n. n
+            ≡ number_of (step (step self.old (Ask host walk.now looped)).1 (Inject host)).0) }
+        ensures after { OnOk result
+            (self.new ≡ (step (step self.old (Ask host walk.now looped)).1 (Inject host)).1) }
+        ensures err { OnErr result (self.new ≡ self.old) }
         ensures fabric { fabric_of self.new ≡ fabric_of self.old }
         ensures hosts { host_count self.new ≡ host_count self.old }
-        ensures channels { length self.new.links.channels ≡ length self.old.links.channels }
-        ensures adopted { self.new.adopted ≡ self.old.adopted }
     {
-        self.machine.ask(host, walk, looped);
+        self.machine.probe(alloc, host, walk, looped)
     }
 
     /// [`World::step`] of [`Event::Inject`]. Want of memory changes nothing.
@@ -467,26 +477,3 @@ impl World {
 
 // A fabric ends here alone: a proof goes through its parts wherever it ends.
 fn end_fabric(_fabric: Fabric) {}
-
-// The pattern of a flip has eight bits, planned or not.
-fn flips_have_a_byte(e: &Event)
-    ensures { IsByteEvent e.now }
-{
-    if let Event::Flip {
-        channel: _,
-        bit: _,
-        pattern,
-    } = e
-    {
-        let _byte: u8 = *pattern;
-    }
-}
-
-// The pattern of a planned flip has eight bits.
-fn pattern_is_a_byte(fault: Fault)
-    ensures { IsByteFault fault }
-{
-    if let Fault::Flip { bit: _, pattern } = fault {
-        let _byte: u8 = pattern;
-    }
-}

@@ -1,6 +1,6 @@
 //! The three items.
 
-ghost use Rattle.std.specs.Prelude.{◌≡◌, ◌≤◌, length, true, is_some, Some, IfOk};
+ghost use Rattle.std.specs.Prelude.{◌≡◌, ◌≤◌, length, true, is_some, None, Some, IfOk};
 ghost use Rattle.mapping_defs.specs.Mapping.{is_part};
 ghost use Rattle.world_defs.specs.Node.{StagedProbe, StagedPart};
 ghost use Rattle.host_items.specs.Held.{no_items, is_staged, packet_of_first, packet_of_answer, without_first};
@@ -140,6 +140,13 @@ impl Items {
         } else {
             self.answer = None;
         }
+    }
+
+    /// A probe or a part that was told to send stands no more.
+    pub fn unstage(&mut self)
+        ensures { self.new ≡ record self.old { staged = None } }
+    {
+        self.staged = None;
     }
 
     /// Drops them all. False exactly where none stood.

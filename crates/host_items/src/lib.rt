@@ -29,3 +29,4 @@ pub use items::Items;
 pub use laws::items_are_a_hosts;
 pub use myri_packet::Packet;
 pub use route_parts::RoutePart;
+pub use staged::probe_packet;

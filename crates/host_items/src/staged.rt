@@ -39,8 +39,9 @@ impl StagedItem {
     }
 }
 
-// The packet of a probe.
-fn probe_packet(
+/// The packet of a probe of a walk, injected by a host under a number. A looped one returns to its host: its walk has
+/// at most 31 turns.
+pub fn probe_packet(
     alloc: Global,
     host: u16,
     number: u64,

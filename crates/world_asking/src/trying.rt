@@ -122,8 +122,7 @@ fn host_try(alloc: Global, w: &mut World, mapper: u16, walk: &Walk) -> Result<Ho
     ensures hosts { host_count w.new ≡ host_count w.old }
 {
     let before = w.harmed();
-    stage(alloc, w, mapper, walk, false)?;
-    let probe = inject(alloc, w, mapper)?;
+    let probe = send_probe(alloc, w, mapper, walk, false)?;
     let watch = Watch {
         mapper,
         number: probe.number,
@@ -157,8 +156,7 @@ fn loop_try(alloc: Global, w: &mut World, mapper: u16, walk: &Walk) -> Result<Lo
     ensures hosts { host_count w.new ≡ host_count w.old }
 {
     let before = w.harmed();
-    stage(alloc, w, mapper, walk, true)?;
-    let probe = inject(alloc, w, mapper)?;
+    let probe = send_probe(alloc, w, mapper, walk, true)?;
     let watch = Watch {
         mapper,
         number: probe.number,
@@ -171,24 +169,27 @@ fn loop_try(alloc: Global, w: &mut World, mapper: u16, walk: &Walk) -> Result<Lo
     })
 }
 
-// Stages a probe of a walk at a host. Want of memory changes nothing.
-fn stage(
+// Stages a probe of a walk at a host, which puts it into its channel. Want of memory changes nothing.
+fn send_probe(
     alloc: Global,
     w: &mut World,
     host: u16,
     walk: &Walk,
     looped: bool,
-) -> Result<(), AllocError>
+) -> Result<Injection, AllocError>
     requires there { IsHostOf w.old host }
     requires short { looped ≡ true → length walk.now ≤ 31 }
-    ensures after { OnOk result (w.new ≡ (step w.old (Ask host walk.now looped)).1) }
+    ensures used { IfOk result (λ i. i.used_up ≡ is_used_up (step w.old (Ask host walk.now looped)).1 host) }
+    ensures number { IfOk result (λ i. i.number
+        ≡ number_of (step (step w.old (Ask host walk.now looped)).1 (Inject host)).0) }
+    ensures after { OnOk result (w.new ≡ (step (step w.old (Ask host walk.now looped)).1 (Inject host)).1) }
     ensures err { OnErr result (w.new ≡ w.old) }
     ensures fabric { fabric_of w.new ≡ fabric_of w.old }
     ensures hosts { host_count w.new ≡ host_count w.old }
 {
-    let walk = walk.copied(alloc)?;
-    w.ask(host, walk, looped);
-    Ok(())
+    let used_up = is_used_up(w, host);
+    let number = w.probe(alloc, host, walk, looped)?;
+    Ok(Injection { used_up, number })
 }
 
 // A host puts what it has to send first into its channel. Want of memory changes nothing.
@@ -201,13 +202,21 @@ fn inject(alloc: Global, w: &mut World, host: u16) -> Result<Injection, AllocErr
     ensures fabric { fabric_of w.new ≡ fabric_of w.old }
     ensures hosts { host_count w.new ≡ host_count w.old }
 {
+    let used_up = is_used_up(w, host);
+    let number = world_drain::inject(alloc, w, host)?;
+    Ok(Injection { used_up, number })
+}
+
+// Whether a host has a channel, but no injection is left.
+fn is_used_up(w: &World, host: u16) -> bool
+    requires { IsHostOf w.now host }
+    ensures { result ≡ is_used_up w.now host }
+{
     let port = End {
         v: Vertex::Host(host),
         p: 0,
     };
-    let used_up = w.channel_from(port).is_some() && w.injected() == u64::MAX;
-    let number = world_drain::inject(alloc, w, host)?;
-    Ok(Injection { used_up, number })
+    w.channel_from(port).is_some() && w.injected() == u64::MAX
 }
 
 // Whether both hold.

@@ -1,0 +1,37 @@
+use Rattle.std.proofs.Common.{◌≡◌, ℕ, Option, None, ap, sym, ◌∙◌}
+use Rattle.std.specs.Prelude.{Result, Ok, Err, IfOk, OnOk}
+use Rattle.std.specs.Option.{unwrap_or}
+use Rattle.net_defs.specs.Route.{host_port, channel_from}
+use Rattle.world_defs.specs.declared.effect.Effect.{Effect}
+use Rattle.world_defs.specs.declared.effect.Effect.TheVariants.{Idle}
+use Rattle.world_defs.specs.World.{WorldState, fabric_of}
+use Rattle.world_defs.specs.Step.{asked, injected}
+use Rattle.world_defs.specs.Asking.{number_of}
+use Rattle.faulty_links.specs.Held.{of_world, can_inject}
+use Rattle.fab_world.proofs.Probing.{stays-staged}
+use Rattle.fab_world.proofs.machine.Machine.probe.Goals.{in_default-via-in-Some+else-can_inject, in_default-via-in_default}
+use Rattle.fab_world.proofs.machine.Machine.probe.Goals as goal
+
+idle : (c : goal.After-stage_probe) → injected (asked c.args.self.now c.args.host c.args.walk.now c.args.looped).1 c.args.host ≡ (Idle, (asked c.args.self.now c.args.host c.args.walk.now c.args.looped).1)
+idle c =
+    stays-staged c.args.self.now c.args.host c.args.walk.now c.args.looped c.channel_from.result (c.channel_from.ensures.channel ∙ ap (λ w. channel_from (fabric_of w) (host_port c.args.host)) c.self.view_is)
+    (elim c.in_default.branch [
+      | in_default-via-in-Some+else-can_inject w ↦ λ k is.
+          ap (λ v. can_inject (of_world v) k) (sym c.self.view_is) ∙ ap (can_inject c.self.inside.links) (sym (ap (λ o. unwrap_or o w.in-Some.c) (sym w.in-Some.is ∙ is)))
+          ∙ sym w.can_inject.ensures ∙ w.if-can_inject.false
+      | in_default-via-in_default w ↦ λ k is. absurd (w.in_default.not-Some k is)
+    ])
+
+number-by : {E : Type 0} (r : Result (Option ℕ) E) (e : Effect) → e ≡ Idle → IfOk r (λ n. n ≡ None) → IfOk r (λ n. n ≡ number_of e)
+number-by (Ok n) e is none = none ∙ sym (ap number_of is)
+number-by (Err _) e is none = tt
+
+after-by : {E : Type 0} (r : Result (Option ℕ) E) (v u w : WorldState) → u ≡ w → OnOk r (v ≡ w) → OnOk r (v ≡ u)
+after-by (Ok n) v u w is same = same ∙ sym is
+after-by (Err _) v u w is same = tt
+
+pub returns-in_default-clause-number : goal.returns-in_default-clause-number
+returns-in_default-clause-number c = number-by c.stage_probe.result _ (ap (λ r. r.0) (idle c)) c.stage_probe.ensures.none
+
+pub returns-in_default-clause-after : goal.returns-in_default-clause-after
+returns-in_default-clause-after c = after-by c.stage_probe.result c.stage_probe.new.self _ _ (ap (λ r. r.1) (idle c)) c.stage_probe.ensures.after
