@@ -23,7 +23,9 @@ ghost use Rattle.world_defs.specs.Step.{step};
 ghost use Rattle.world_defs.specs.Asking.{number_of};
 ghost use Rattle.act_defs.specs.Acts.{IsReached};
 ghost use Rattle.message_laws.specs.Untouched.{HandsBackBy};
+ghost use Rattle.message_laws.specs.Windows.{HasWindows};
 ghost use Rattle.world_defs.specs.Settle.{unacknowledged_from};
+ghost use Rattle.world_defs.specs.Sound.{IsSound};
 ghost use Rattle.host_ports.specs.Held.{place_at};
 ghost use Rattle.adopted_routes.specs.Adopting.{IsAdoptable, adopt_refusal, part_count_for};
 ghost use Rattle.fab_world.specs.Events.{IsHostOf, IsChannelOf, IsGiven};
@@ -228,9 +230,12 @@ impl World {
         &self.fabric
     }
 
-    /// What holds of it at every moment.
+    /// What holds of it at every moment. It is sound: no cycle among the installed routes, what was got on each
+    /// connection a prefix of what was sent, one owner for each token. Each connection has its window.
     pub fn moment(&self)
         ensures kept { IsMoment self.now }
+        ensures sound { IsSound self.now }
+        ensures windows { HasWindows self.now }
     {
         let _ = &self.machine;
     }

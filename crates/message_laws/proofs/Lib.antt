@@ -23,3 +23,4 @@ pub mod Arrivals
 pub mod Events
 pub mod Returning
 pub mod Working
+pub mod Sound

@@ -15,10 +15,13 @@ pub record IsWindow (s : SenderState) (taken : ℕ) : Type 0 where
   pub taken_below : taken ≤ s.top
   pub few : s.top ≤ s.base + window
 
--- each connection has its window
+-- each connection of a world has its window
+abbrev pub HasWindows : WorldState → Type 0
+HasWindows w = (c : ConnectionKey) → IsWindow (sender_on w c) (taken_on w c)
+
+-- so has each one of every world that is reached
 abbrev pub WindowsHold : Type 0
-WindowsHold = (n : Network) (w : WorldState) → IsReached n w → (c : ConnectionKey)
-    → IsWindow (sender_on w c) (taken_on w c)
+WindowsHold = (n : Network) (w : WorldState) → IsReached n w → HasWindows w
 
 -- each packet in a channel or in limbo that no flip has met is honest
 abbrev pub TrafficIsHonest : Type 0
