@@ -1,6 +1,6 @@
 pub mod Along
 pub mod Checked
+pub mod Crossed
 pub mod Halves
 pub mod Pairs
 pub mod Places
-pub mod Tables

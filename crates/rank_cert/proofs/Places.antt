@@ -36,13 +36,13 @@ quotient v a l = omega arith
 remainder : (v a : ℕ) → a < 31 → (31 * v + a) % 31 ≡ a
 remainder v a l = omega arith
 
-port-within : (v k : ℕ) → k < 31 → port_at (31 * v + k) ≡ record { v = v; p = pos k -ℤ pos 15 }
-port-within v k l = let a = quotient v k l in let b = remainder v k l in λ i. record { v = a i; p = pos (b i) -ℤ pos 15 }
+pub port_within : (v k : ℕ) → k < 31 → port_at (31 * v + k) ≡ record { v = v; p = pos k -ℤ pos 15 }
+port_within v k l = let a = quotient v k l in let b = remainder v k l in λ i. record { v = a i; p = pos (b i) -ℤ pos 15 }
 
 row : (v : ℕ) → map port_at (map (λ k. 31 * v + k) (numbers_below 31)) ≡ ports_at v
 row v =
     map-map port_at (λ k. 31 * v + k) (numbers_below 31)
-    ∙ map-same (λ k. port_at (31 * v + k)) (λ k. record { v = v; p = pos k -ℤ pos 15 }) (numbers_below 31) (all-numbers (λ k. port_at (31 * v + k) ≡ record { v = v; p = pos k -ℤ pos 15 }) 31 (port-within v))
+    ∙ map-same (λ k. port_at (31 * v + k)) (λ k. record { v = v; p = pos k -ℤ pos 15 }) (numbers_below 31) (all-numbers (λ k. port_at (31 * v + k) ≡ record { v = v; p = pos k -ℤ pos 15 }) 31 (port_within v))
     ∙ refl
 
 -- the ports of all vertices, by places

@@ -1,3 +1,4 @@
 pub mod Checking
+pub mod Crossing
 pub mod Following
 pub mod Listing

@@ -1,10 +1,10 @@
 -- Entries of ranks in the order of their ports, and those of a map's channels, one place after the other.
-use Rattle.std.specs.Prelude.{◌≡◌, ◌<◌, ℕ, ◌+◌, ◌-◌, ◌/◌, ◌%◌, pos, ◌-ℤ◌, slice_index, slice_index_or, length, Bool}
+use Rattle.std.specs.Prelude.{ℕ, ◌+◌, ◌-◌, ◌/◌, ◌%◌, pos, ◌-ℤ◌, slice_index, length, Bool}
 use Rattle.std.specs.Prelude.{true, ◌&&◌, List, [], ◌∷◌, is_some, if◌then◌else◌, Option, Some, None}
 use Rattle.map_defs.specs.declared.rank.RankEntry.{RankEntry}
 use Rattle.map_defs.specs.NetMap.{NetMap, MapPort, port_below, same_port, map_far}
 use Rattle.map_defs.specs.Orientation.{falls}
-use Rattle.map_defs.specs.Ranks.{rank_by, rank_of}
+use Rattle.map_defs.specs.Ranks.{rank_by}
 
 -- the port of an entry
 abbrev pub port_of : RankEntry → MapPort
@@ -41,12 +41,3 @@ rank_at (Some k) d = if same_port (port_of k) d then Some k.rank else None
 abbrev pub rank_between : List ℕ → ℕ → ℕ → ℕ
 rank_between order v w = if falls order v w then length order - 1 - slice_index order v
     else length order + slice_index order v
-
--- A table has at each place the rank of the port there.
-pub record IsTable (ks : List RankEntry) (table : List (Option ℕ)) : Type 0 where
-  pub ranks : (k : ℕ) → k < length table → slice_index_or table k None ≡ rank_of ks (port_at k)
-
--- How entries are found: whether they rise is known, and their table.
-pub record IsFound (ks : List RankEntry) (rising : Bool) (table : List (Option ℕ)) : Type 0 where
-  pub rises : rising ≡ rise_after None ks
-  pub table_is : IsTable ks table

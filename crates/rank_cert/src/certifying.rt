@@ -6,8 +6,8 @@ ghost use Rattle.map_defs.specs.Orientation.{IsOrder};
 ghost use Rattle.map_defs.specs.Ranks.{ranks_of};
 ghost use Rattle.rank_cert.specs.Listing.{entry_at, rank_between};
 
+use crate::crossings::{MAX_PORT, PORTS};
 use crate::ranks::Ranks;
-use crate::table::{MAX_PORT, PORTS};
 use fabric_map::FabricMap;
 use map_defs::RankEntry;
 use std::alloc::{AllocError, Global};

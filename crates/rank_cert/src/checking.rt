@@ -9,11 +9,14 @@ ghost use Rattle.net_defs.specs.Dependencies.{IsBefore, HasNoCycle};
 ghost use Rattle.map_defs.specs.Ranks.{IsCertificate, channels_of_routes};
 ghost use Rattle.rank_cert.specs.Checking.{first_fault, route_fault, fault_along, fault_at, fault_by, leads, are_one};
 ghost use Rattle.rank_cert.specs.Checking.{rank_after, ranked_by, Tells, AreOfOneOrder};
+ghost use Rattle.rank_cert.specs.Crossing.{AreCrossings};
 ghost use Rattle.rank_cert.specs.Following.{unpair, channels_after, port_of_pair};
 
+use crate::crossings::{Crossing, crossings};
 use crate::fault::CheckFault;
 use crate::following::{far_of, led_to, next_by, port_of_host};
 use crate::ranks::Ranks;
+use crate::rising::is_faultless;
 use fabric_map::FabricMap;
 use port_graph::{Route, RouteSet};
 
@@ -40,13 +43,44 @@ pub fn check(m: &FabricMap, r: &RouteSet, k: &Ranks) -> Result<(), CheckFault>
 fn routes_fault(m: &FabricMap, routes: &[Route], k: &Ranks) -> Option<CheckFault>
     ensures { result ≡ first_fault m.now k.now routes.now }
 {
+    let table = crossings(m, k);
+    fault_among(m, &table, routes, k)
+}
+
+// The same, by the channels that have ranks.
+fn fault_among(
+    m: &FabricMap,
+    table: &[Option<Crossing>],
+    routes: &[Route],
+    k: &Ranks,
+) -> Option<CheckFault>
+    requires { AreCrossings m.now k.now table.now }
+    ensures { result ≡ first_fault m.now k.now routes.now }
+{
     for r in routes {
-        let fault = route_fault(m, r, k);
+        let fault = fault_unless_shown(m, table, r, k);
         if fault.is_some() {
             return fault;
         }
     }
     None
+}
+
+// The first fault of a route. Where the table shows that there is none, the route isn't followed port by port.
+fn fault_unless_shown(
+    m: &FabricMap,
+    table: &[Option<Crossing>],
+    r: &Route,
+    k: &Ranks,
+) -> Option<CheckFault>
+    requires { AreCrossings m.now k.now table.now }
+    ensures { result ≡ route_fault m.now k.now r.now }
+{
+    if is_faultless(m, table, r) {
+        None
+    } else {
+        route_fault(m, r, k)
+    }
 }
 
 // The first fault of a route.

@@ -6,7 +6,8 @@
 //! | module | has |
 //! |---|---|
 //! | `ranks` | a list of ranks, and the rank of a channel |
-//! | `table` | the ranks by their ports' places |
+//! | `crossings` | the channels that have ranks, by their ports' places |
+//! | `rising` | routes along which ranks rise |
 //! | `certifying` | the ranks of all channels of a map |
 //! | `following` | where a route leads, and the channels that it crosses |
 //! | `checking` | the check of routes against ranks |
@@ -18,10 +19,11 @@
 
 mod certifying;
 mod checking;
+mod crossings;
 mod fault;
 mod following;
 mod ranks;
-mod table;
+mod rising;
 
 pub use certifying::certify;
 pub use checking::check;

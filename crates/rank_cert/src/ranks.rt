@@ -5,8 +5,8 @@ ghost use Rattle.map_defs.specs.NetMap.{MapPort};
 ghost use Rattle.map_defs.specs.Ranks.{rank_of};
 ghost use Rattle.rank_cert.specs.Listing.{rise_after, comes_after, port_of, rank_at};
 
-use crate::table::{place_in, table_of};
 use map_defs::RankEntry;
+use std::alloc::Global;
 use std::marker::Model;
 
 /// Ranks of channels. Of two entries for one channel the first counts. Contracts see the list of entries.
@@ -15,20 +15,19 @@ pub struct Ranks {
     entries: Vec<RankEntry>,
     // Whether the entries rise by vertex and port, so that one is found by halves.
     rising: bool,
-    // The ranks by place, of as many ports as have one.
-    table: Vec<Option<u64>>,
 }
 
 impl Model for Ranks {
     ghost use Rattle.std.specs.Prelude.{List};
     ghost use Rattle.map_defs.specs.declared.rank.RankEntry.{RankEntry};
-    ghost use Rattle.rank_cert.specs.Listing.{IsFound};
+    ghost use Rattle.std.specs.Prelude.{◌≡◌, None};
+    ghost use Rattle.rank_cert.specs.Listing.{rise_after};
 
     ghost Value = { List RankEntry };
 
     ghost view = { λ k. k.entries.items };
 
-    ghost invariant = { λ k. IsFound k.entries.items k.rising k.table.items };
+    ghost invariant = { λ k. k.rising ≡ rise_after None k.entries.items };
 }
 
 impl Ranks {
@@ -37,12 +36,7 @@ impl Ranks {
         ensures { result ≡ v.items }
     {
         let rising = are_rising(&v);
-        let table = table_of(*v.allocator(), &v);
-        Ranks {
-            entries: v,
-            rising,
-            table,
-        }
+        Ranks { entries: v, rising }
     }
 
     /// The entries.
@@ -52,20 +46,9 @@ impl Ranks {
         &self.entries
     }
 
-    /// The rank of a channel: found by one look where the table has its port, as it has each of those of `certify` on
-    /// a map of some thousand vertices. Else it is found by halves where the entries rise by vertex and port, and one
-    /// by one where they don't.
+    /// The rank of a channel: found by halves where the entries rise by vertex and port, as those of `certify` do, and
+    /// one by one where they don't.
     pub fn rank_of(&self, v: u32, p: i8) -> Option<u64>
-        ensures { result ≡ rank_of self.now record { v = v; p = p } }
-    {
-        match place_in(v, p, self.table.len()) {
-            Some(place) => self.table[place],
-            None => self.found(v, p),
-        }
-    }
-
-    // The rank of a channel by the entries.
-    fn found(&self, v: u32, p: i8) -> Option<u64>
         ensures { result ≡ rank_of self.now record { v = v; p = p } }
     {
         if self.rising {
@@ -73,6 +56,11 @@ impl Ranks {
         } else {
             found_one_by_one(&self.entries, v, p)
         }
+    }
+
+    /// The allocator of the entries.
+    pub(crate) fn allocator(&self) -> Global {
+        *self.entries.allocator()
     }
 }
 

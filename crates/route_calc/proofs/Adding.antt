@@ -12,7 +12,7 @@ use Rattle.map_defs.specs.NetMap.{NetMap}
 use Rattle.net_defs.specs.RouteSet.{HasRoute, route_below}
 use Rattle.port_graph.specs.Routes.{is_above, push_refusal}
 use Rattle.route_calc.specs.Adding.{IsRightRoute, AddsRoutes}
-use Rattle.route_calc.specs.Ways.{HostWays, AreRisingHosts}
+use Rattle.route_calc.specs.Hosts.{HostWays, AreRisingHosts}
 
 -- what stands at a place stands there after more was added
 pub get-before : {X : Type 0} (rs : List X) (r s : X) (k : ℕ) → slice_get rs k ≡ Some s → slice_get (rs ++ r ∷ []) k ≡ Some s

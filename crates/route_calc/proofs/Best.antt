@@ -24,7 +24,7 @@ arrival m order d e = record { v = e.v; port = e.p; down = not (is_up m order d)
 abbrev pub exit_port : (m : NetMap) (order : List ℕ) (near : ℕ → Bool → Bool) (v : ℕ) (down : Bool) → Exit m order near v down → MapPort
 exit_port m order near v down x = port_of_place v x.at
 
-far-exit : (m : NetMap) (order : List ℕ) (near : ℕ → Bool → Bool) (e : Entered) (x : Exit m order near e.v e.down) → best_turn m order near e ≡ Some (((pos x.at -ℤ pos 15) -ℤ e.port), arrival m order (port_of_place e.v x.at) x.far)
+pub far-exit : (m : NetMap) (order : List ℕ) (near : ℕ → Bool → Bool) (e : Entered) (x : Exit m order near e.v e.down) → best_turn m order near e ≡ Some (((pos x.at -ℤ pos 15) -ℤ e.port), arrival m order (port_of_place e.v x.at) x.far)
 far-exit m order near e x = rw (x.is, x.leads) refl
 
 pub best-step : (m : NetMap) (order : List ℕ) (to k : ℕ) (e : Entered) (x : Exit m order (reaches m order to k) e.v e.down) → best_turns m order to (suc k) e ≡ ((pos x.at -ℤ pos 15) -ℤ e.port) ∷ best_turns m order to k (arrival m order (port_of_place e.v x.at) x.far)

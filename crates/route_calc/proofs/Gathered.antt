@@ -6,7 +6,7 @@ use Rattle.net_defs.proofs.Distinct.{all-push}
 use Rattle.map_defs.specs.NetMap.{NetMap, host_of_vertex}
 use Rattle.map_defs.specs.Routing.{vertex_of_host, is_host_named}
 use Rattle.fabric_map.proofs.Listings.{host-any, position-any}
-use Rattle.route_calc.specs.Ways.{HostWays, AreWaysOf, AreRisingHosts, HasWays, AreAllWays}
+use Rattle.route_calc.specs.Hosts.{HostWays, AreWaysOf, AreRisingHosts, HasWays, AreAllWays}
 use Rattle.route_calc.proofs.Adding.{get-before, get-last}
 
 pub record Gathered (m : NetMap) (order : List ℕ) (ws : List HostWays) (a : ℕ) : Type 0 where

@@ -9,7 +9,10 @@ pub mod Least
 pub mod Listed
 pub mod Lowered
 pub mod Made
+pub mod Nearer
+pub mod Numbered
 pub mod Reached
 pub mod Rising
 pub mod Starting
+pub mod Swept
 pub mod Turned

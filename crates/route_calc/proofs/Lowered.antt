@@ -45,7 +45,7 @@ nearest-most : (far : List ℕ) (down : Bool) (least : ℕ) (xs : List Exit) →
 nearest-most far down least [] = omega arith
 nearest-most far down least (x ∷ xs) = let a = nearest-most far down (least_with far down least x) xs in let b = with-most far down least x in omega arith
 
-nearest-below : (far : List ℕ) (down : Bool) (least : ℕ) (xs : List Exit) (x : Exit) → IsMember x xs → is_open down x ≡ true → nearest_after far down least xs ≤ far_at far x.next.v x.next.down
+pub nearest-below : (far : List ℕ) (down : Bool) (least : ℕ) (xs : List Exit) (x : Exit) → IsMember x xs → is_open down x ≡ true → nearest_after far down least xs ≤ far_at far x.next.v x.next.down
 nearest-below far down least [] x i may = absurd i
 nearest-below far down least (y ∷ ys) x (inl e) may =
     let a = nearest-most far down (least_with far down least y) ys in
@@ -128,7 +128,7 @@ place-once v u true false e = absurd (omega arith)
 place-once v u false true e = absurd (omega arith)
 place-once v u false false e = (omega arith, refl)
 
-set-case : (far : List ℕ) (v u x : ℕ) (down phase : Bool) → place_in v down < length far → ((u ≡ v) × (phase ≡ down) × (far_at (set far (place_in v down) x) u phase ≡ x)) ⊎ ((place_in u phase ≢ place_in v down) × (far_at (set far (place_in v down) x) u phase ≡ far_at far u phase))
+pub set-case : (far : List ℕ) (v u x : ℕ) (down phase : Bool) → place_in v down < length far → ((u ≡ v) × (phase ≡ down) × (far_at (set far (place_in v down) x) u phase ≡ x)) ⊎ ((place_in u phase ≢ place_in v down) × (far_at (set far (place_in v down) x) u phase ≡ far_at far u phase))
 set-case far v u x down phase low = by (cases_order (place_in u phase) (place_in v down))
   where
     other : place_in u phase ≢ place_in v down → ((u ≡ v) × (phase ≡ down) × (far_at (set far (place_in v down) x) u phase ≡ x)) ⊎ ((place_in u phase ≢ place_in v down) × (far_at (set far (place_in v down) x) u phase ≡ far_at far u phase))

@@ -10,7 +10,7 @@ use Rattle.map_defs.specs.NetMap.{NetMap}
 use Rattle.net_defs.specs.RouteSet.{HasRoute, AreRising}
 use Rattle.map_defs.specs.Routing.{IsLeastLegal, AreRoutesOf}
 use Rattle.route_calc.specs.Adding.{IsRightRoute, AddsRoutes}
-use Rattle.route_calc.specs.Ways.{HostWays, AreRisingHosts, AreAllWays}
+use Rattle.route_calc.specs.Hosts.{HostWays, AreRisingHosts, AreAllWays}
 use Rattle.route_calc.proofs.Adding.{has-left, has-right, rises}
 
 -- The routes from the first hosts.

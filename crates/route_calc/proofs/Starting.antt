@@ -47,6 +47,13 @@ distance-there m order to k v down far r few d e =
     less-trans : (i j k : ℕ) → i < j → j < k → i < k
     less-trans i j k a b = omega arith
 
+pub distance-low : (m : NetMap) (order : List ℕ) (to k v : ℕ) (down : Bool) (far : List ℕ) → IsMap m → length (switches_of m.vertices) ≤ 64 → AreDistances m order to far → reaches m order to k v down ≡ true → far_at far v down < 255
+distance-low m order to k v down far r few d e =
+    let f = fewest m order to k v down e in
+    let most = distance-few m order to f.channels v down r f.is in
+    let near = le-so (far_at far v down) f.channels (d.each f.channels v down (omega arith) ∙ f.is.near) in
+    omega arith
+
 -- Where a channel leads, as a port.
 record Arrived (m : NetMap) (order : List ℕ) (d : MapPort) (s : Entered) : Type 0 where
   pub entered : MapPort

@@ -25,7 +25,7 @@ pub difference-fits : (p q : ℤ) → IsTurn p → IsTurn q → SFits w8 (p -ℤ
 difference-fits p q s t = grind (arith, ints, nat_tests)
 
 -- what is within so many channels by its distance is so
-within-reaches : (m : NetMap) (order : List ℕ) (to : ℕ) (far : List ℕ) (k : ℕ) → AreDistances m order to far → k < 255 → within far k ≡ reaches m order to k
+pub within-reaches : (m : NetMap) (order : List ℕ) (to : ℕ) (far : List ℕ) (k : ℕ) → AreDistances m order to far → k < 255 → within far k ≡ reaches m order to k
 within-reaches m order to far k d l = λ i v down. d.each k v down l i
 
 pub turns-best : (m : NetMap) (order : List ℕ) (to : ℕ) (far : List ℕ) (k : ℕ) (e : Entered) → IsMap m → AreDistances m order to far → k ≤ 255 → turns_on (all_exits m order) far k e ≡ best_turns m order to k e

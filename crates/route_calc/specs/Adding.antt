@@ -5,7 +5,7 @@ use Rattle.net_defs.specs.declared.route.Route.{Route}
 use Rattle.map_defs.specs.NetMap.{NetMap}
 use Rattle.map_defs.specs.Routing.{IsLeastLegal}
 use Rattle.net_defs.specs.RouteSet.{HasRoute}
-use Rattle.route_calc.specs.Ways.{HostWays}
+use Rattle.route_calc.specs.Hosts.{HostWays}
 
 -- a route between different hosts, the least legal one
 pub record IsRightRoute (m : NetMap) (order : List ℕ) (r : Route) : Type 0 where

@@ -2,6 +2,8 @@ pub mod Adding
 pub mod Exits
 pub mod Far
 pub mod First
+pub mod Firsts
+pub mod Hosts
 pub mod Lowering
 pub mod Reaching
 pub mod Turning

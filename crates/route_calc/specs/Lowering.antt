@@ -1,6 +1,6 @@
 -- Distances that are lowered, sweep by sweep.
-use Rattle.std.specs.Prelude.{◌≡◌, ℕ, ◌+◌, ◌-◌, ◌*◌, ◌<◌, ◌≤◌, Bool, true, false, not, ◌&&◌, List, [], ◌∷◌, length}
-use Rattle.std.specs.Prelude.{replicate, nat_lt, slice_set, if◌then◌else◌, Some}
+use Rattle.std.specs.Prelude.{◌≡◌, ℕ, ◌+◌, ◌-◌, ◌*◌, ◌<◌, ◌≤◌, Bool, true, false, not, ◌&&◌, ◌||◌, List, [], ◌∷◌}
+use Rattle.std.specs.Prelude.{length, replicate, nat_lt, nat_le, slice_set, if◌then◌else◌, Some}
 use Rattle.journal_defs.specs.Counting.{total}
 use Rattle.map_defs.specs.NetMap.{NetMap, MapPort, map_far, is_switch_vertex}
 use Rattle.map_defs.specs.Orientation.{is_up}
@@ -58,3 +58,19 @@ sweep count k = if nat_lt k count then (count - 1 - k, true) else (k - count, fa
 -- Nothing can be lowered at the first places of a sweep.
 pub record AreSettled (m : NetMap) (order : List ℕ) (far : List ℕ) (count : ℕ) : Type 0 where
   pub each : (k : ℕ) → k < count → IsSettled m order far (sweep (length m.vertices) k).0 (sweep (length m.vertices) k).1
+
+-- Channels of a vertex between switches lead up to lesser numbers, and down to none that is lesser.
+pub record IsNumbered (m : NetMap) (order : List ℕ) (v : ℕ) : Type 0 where
+  pub up : (k : ℕ) (e : MapPort) → k < 31 → is_switch_vertex m v ≡ true → is_switch_vertex m e.v ≡ true
+      → map_far m (port_of_place v k) ≡ Some e → is_up m order (port_of_place v k) ≡ true → e.v < v
+  pub down : (k : ℕ) (e : MapPort) → k < 31 → is_switch_vertex m v ≡ true → is_switch_vertex m e.v ≡ true
+      → map_far m (port_of_place v k) ≡ Some e → is_up m order (port_of_place v k) ≡ false → v ≤ e.v
+
+-- vertices are numbered as they stand in the order, where that counts
+abbrev pub AreNumbered : NetMap → List ℕ → Type 0
+AreNumbered m order = (v : ℕ) → IsNumbered m order v
+
+-- a port of a vertex leads to a host, or up to a lesser number, or down to one that isn't
+abbrev pub leads_in_order : NetMap → ℕ → Exit → Bool
+leads_in_order m v x = not (is_switch_vertex m x.next.v)
+    || (if x.next.down then nat_le v x.next.v else nat_lt x.next.v v)

@@ -1,13 +1,10 @@
 -- The least turns to a host, one after the other.
-use Rattle.std.specs.Prelude.{◌≡◌, ℕ, zero, suc, ◌<◌, ℤ, pos, ◌-ℤ◌, Bool, true, false, not, List, [], ◌∷◌, slice_get}
+use Rattle.std.specs.Prelude.{◌≡◌, ℕ, zero, suc, ◌<◌, ℤ, pos, ◌-ℤ◌, Bool, true, false, not, List, [], ◌∷◌}
 use Rattle.std.specs.Prelude.{Option, Some, None, option_map}
-use Rattle.std.specs.List.{AllByRecursion}
-use Rattle.map_defs.specs.NetMap.{NetMap, MapPort, map_far, host_of_vertex}
+use Rattle.map_defs.specs.NetMap.{NetMap, MapPort, map_far}
 use Rattle.map_defs.specs.Orientation.{is_up}
-use Rattle.map_defs.specs.Routing.{vertex_of_host}
 use Rattle.route_calc.specs.declared.entered.Entered.{Entered}
 use Rattle.route_calc.specs.Reaching.{reaches, least_exit, port_of_place}
-use Rattle.route_calc.specs.Far.{AreDistances}
 
 -- where a channel leads
 abbrev pub entered_by : NetMap → List ℕ → MapPort → Option Entered
@@ -37,34 +34,3 @@ best_turns m order to (suc k) e = then_turns (best_turn m order (reaches m order
 pub record IsDistance (m : NetMap) (order : List ℕ) (to k v : ℕ) (down : Bool) : Type 0 where
   pub near : reaches m order to k v down ≡ true
   pub least : (j : ℕ) → j < k → reaches m order to j v down ≡ false
-
--- A host with its vertex, where its cable leads, and the distances to it.
-pub record HostWays : Type 0 where
-  pub host : ℕ
-  pub vertex : ℕ
-  pub start : Option Entered
-  pub far : List ℕ
-
--- the ways to a host of a map
-pub record AreWaysOf (m : NetMap) (order : List ℕ) (w : HostWays) : Type 0 where
-  pub is_vertex : vertex_of_host m w.host ≡ Some w.vertex
-  pub starts : w.start ≡ entered_by m order (record { v = w.vertex; p = pos 0 })
-  pub are_distances : AreDistances m order w.vertex w.far
-
--- the ways rise by host
-abbrev pub AreRisingHosts : List HostWays → Type 0
-AreRisingHosts [] = Unit {0}
-AreRisingHosts (w ∷ ws) = AllByRecursion (λ x. w.host < x.host) ws × AreRisingHosts ws
-
--- the ways to a host are among these
-pub record HasWays (ws : List HostWays) (host : ℕ) : Type 0 where
-  pub place : ℕ
-  pub ways : HostWays
-  pub there : slice_get ws place ≡ Some ways
-  pub same : ways.host ≡ host
-
--- The ways to each host of a map, by address.
-pub record AreAllWays (m : NetMap) (order : List ℕ) (ws : List HostWays) : Type 0 where
-  pub each : AllByRecursion (AreWaysOf m order) ws
-  pub rising : AreRisingHosts ws
-  pub whole : (v h : ℕ) → host_of_vertex m v ≡ Some h → HasWays ws h

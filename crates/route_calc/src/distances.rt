@@ -7,38 +7,41 @@
 //!           went up alone   went down        went up alone   went down
 //! ```
 
-ghost use Rattle.std.specs.Prelude.{◌≡◌, ◌<◌, ◌+◌, ◌*◌, true, false, length, IfOk};
+ghost use Rattle.std.specs.Prelude.{◌≡◌, ℕ, ◌<◌, ◌+◌, ◌*◌, true, false, length, IfOk};
 ghost use Rattle.map_defs.specs.NetMap.{is_switch_vertex};
 ghost use Rattle.map_defs.specs.Orientation.{order_of};
 ghost use Rattle.route_calc.specs.Exits.{all_exits};
 ghost use Rattle.route_calc.specs.Far.{AreDistances, far_at, place_in};
 ghost use Rattle.route_calc.specs.Lowering.{IsStep, IsSettled, AreSettled, first_far, sweep, nearest_after, least_with};
-ghost use Rattle.route_calc.specs.Lowering.{lowers, lowered};
+ghost use Rattle.route_calc.specs.Lowering.{AreNumbered, AreSound, lowers, lowered};
+ghost use Rattle.journal_defs.specs.Counting.{total};
 
 use crate::entered::Exit;
 use crate::exits::Exits;
 use fabric_map::{FabricMap, MapVertex};
 use std::alloc::{AllocError, Global};
 
-// Stands for more channels than any shortest way has.
-const FAR: u8 = 255;
+/// Stands for more channels than any shortest way has.
+pub(crate) const FAR: u8 = 255;
 
 /// The fewest legal channels to a host from each vertex. A distance is lowered to one more than the nearest that a
-/// legal channel leads to, until none can be: in the first sweep where the vertices stand in the order of their
-/// distance from the root, as a mapper numbers them, and once more to see it.
+/// legal channel leads to, until none can be: by one sweep where it is known that vertices are numbered as they stand
+/// in the order, and else until a sweep lowers none.
 pub(crate) fn distances(
     alloc: Global,
     m: &FabricMap,
     exits: &[Exits],
+    numbered: bool,
     to: u32,
 ) -> Result<Vec<u8>, AllocError>
     requires exits { exits.now ≡ all_exits m.now (order_of m.now) }
+    requires numbered { numbered ≡ true → AreNumbered m.now (order_of m.now) }
     requires vertex { to < length m.now.vertices }
     ensures { IfOk result (λ far. AreDistances m.now (order_of m.now) to far.items) }
 {
     let _ = m.vertices();
     let mut far = first_distances(alloc, m, to)?;
-    'lower: while lower_all(m, exits, &mut far) {}
+    'lower: while lower_again(m, exits, numbered, &mut far) {}
     Ok(far)
 }
 
@@ -53,6 +56,20 @@ fn first_distances(alloc: Global, m: &FabricMap, to: u32) -> Result<Vec<u8>, All
     Ok(far)
 }
 
+// Lowers each distance once, and tells whether there may be more to lower.
+fn lower_again(m: &FabricMap, exits: &[Exits], numbered: bool, far: &mut [u8]) -> bool
+    requires exits { exits.now ≡ all_exits m.now (order_of m.now) }
+    requires numbered { numbered ≡ true → AreNumbered m.now (order_of m.now) }
+    requires long { length far.old ≡ 2 * length m.now.vertices }
+    ensures long { length far.new ≡ length far.old }
+    ensures sound { (to : ℕ) → AreSound m.now (order_of m.now) to far.old → AreSound m.now (order_of m.now) to far.new }
+    ensures less { result ≡ true → total far.new < total far.old }
+    ensures settled { result ≡ false → AreSettled m.now (order_of m.now) far.new (2 * length m.now.vertices) }
+{
+    let lowers = lower_all(m, exits, far);
+    if numbered { false } else { lowers }
+}
+
 // Lowers each distance once, and tells whether one was lowered: first those after a channel down, from the last
 // vertex on, since a channel down leads to a later one; then the others, from the first vertex on.
 fn lower_all(m: &FabricMap, exits: &[Exits], far: &mut [u8]) -> bool
@@ -60,6 +77,8 @@ fn lower_all(m: &FabricMap, exits: &[Exits], far: &mut [u8]) -> bool
     requires long { length far.old ≡ 2 * length m.now.vertices }
     ensures step { IsStep m.now (order_of m.now) far.old far.new result }
     ensures settled { result ≡ false → AreSettled m.now (order_of m.now) far.new (2 * length m.now.vertices) }
+    ensures swept { AreNumbered m.now (order_of m.now)
+        → AreSettled m.now (order_of m.now) far.new (2 * length m.now.vertices) }
 {
     let count = m.vertices().len();
     let mut lowers = false;
@@ -92,6 +111,8 @@ fn lower_at(m: &FabricMap, exits: &[Exits], far: &mut [u8], v: usize, down: bool
     requires long { length far.old ≡ 2 * length m.now.vertices }
     ensures step { IsStep m.now (order_of m.now) far.old far.new result }
     ensures settled { result ≡ false → IsSettled m.now (order_of m.now) far.new v down }
+    ensures swept { (k : ℕ) → AreNumbered m.now (order_of m.now) → sweep (length m.now.vertices) k ≡ (v, down)
+        → AreSettled m.now (order_of m.now) far.old k → AreSettled m.now (order_of m.now) far.new (k + 1) }
 {
     let _ = m.vertices();
     if is_switch(m, v as u32) {
@@ -170,8 +191,8 @@ pub(crate) fn far_at(far: &[u8], v: u32, down: bool) -> u8
     if place < far.len() { far[place] } else { FAR }
 }
 
-// The place of a distance.
-fn place_of(v: u32, down: bool) -> usize
+/// The place of a distance.
+pub(crate) fn place_of(v: u32, down: bool) -> usize
     ensures { result ≡ place_in v down }
 {
     if down {
@@ -181,8 +202,8 @@ fn place_of(v: u32, down: bool) -> usize
     }
 }
 
-// Whether a vertex is a switch.
-fn is_switch(m: &FabricMap, v: u32) -> bool
+/// Whether a vertex is a switch.
+pub(crate) fn is_switch(m: &FabricMap, v: u32) -> bool
     ensures { result ≡ is_switch_vertex m.now v }
 {
     match m.vertices().get(v as usize) {

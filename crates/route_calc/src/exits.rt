@@ -1,6 +1,6 @@
 //! The ports by which a packet goes on: a list of the cabled ones for each vertex, made once for a map.
 
-ghost use Rattle.std.specs.Prelude.{◌≡◌, ◌<◌, ◌++◌, All, IfSome, IfOk, OnOk, option_to_list};
+ghost use Rattle.std.specs.Prelude.{◌≡◌, ◌<◌, ◌≤◌, ◌++◌, length, All, IfSome, IfOk, OnOk, option_to_list};
 ghost use Rattle.net_defs.specs.Turn.{IsTurn};
 ghost use Rattle.map_defs.specs.Orientation.{order_of, is_up};
 ghost use Rattle.updown.specs.Oriented.{orientation_of};
@@ -26,7 +26,7 @@ pub(crate) struct Exits {
 }
 
 impl Model for Exits {
-    ghost use Rattle.std.specs.Prelude.{List, All};
+    ghost use Rattle.std.specs.Prelude.{List, ◌≤◌, length, All};
     ghost use Rattle.route_calc.specs.declared.entered.Exit.{Exit};
     ghost use Rattle.route_calc.specs.Exits.{IsInRange};
 
@@ -34,7 +34,7 @@ impl Model for Exits {
 
     ghost view = { λ e. e.list.items };
 
-    ghost invariant = { λ e. All IsInRange e.list.items };
+    ghost invariant = { λ e. All IsInRange e.list.items × (length e.list.items ≤ 31) };
 }
 
 impl Exits {
@@ -54,6 +54,7 @@ impl Exits {
     pub(crate) fn list(&self) -> &[Exit]
         ensures value { result.now ≡ self.now }
         ensures range { All IsInRange result.now }
+        ensures few { length result.now ≤ 31 }
     {
         &self.list
     }

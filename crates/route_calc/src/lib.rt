@@ -10,8 +10,8 @@
 //!
 //! The cabled ports of each vertex are listed once for a map. A sweep over these lists lowers all distances to a
 //! host: first those of packets that went down, from the last vertex on, then the others, from the first. A channel
-//! down leads to a place farther from the root, so where vertices are numbered by that distance, as a mapper numbers
-//! them, one sweep finds all, and a second one sees that nothing is left.
+//! down leads to a place farther from the root, so where switches are numbered by that distance, as a mapper numbers
+//! them, one sweep finds all. Else there are sweeps until nothing is left.
 //!
 //! ```text
 //!   a ---- s ---- t ---- b      To b, the distances of b, t and s are 0, 1 and 2. From s, the least port that leads
@@ -24,6 +24,8 @@
 //! | `entered` | a vertex that was entered by a port, and a port by which a packet goes on |
 //! | `exits` | the cabled ports of each vertex |
 //! | `distances` | how far each vertex is from a host |
+//! | `firsts` | by which port a way goes on from each vertex |
+//! | `numbering` | whether vertices are numbered as they stand in the order |
 //! | `ways` | the ways to one host |
 //! | `pairs` | the routes of all hosts |
 #![tactic(auto)]
@@ -31,6 +33,8 @@
 mod distances;
 mod entered;
 mod exits;
+mod firsts;
+mod numbering;
 mod pairs;
 mod ways;
 

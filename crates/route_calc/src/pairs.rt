@@ -10,16 +10,22 @@ ghost use Rattle.updown.specs.Oriented.{orientation_of};
 ghost use Rattle.port_graph.specs.Routes.{push_refusal};
 ghost use Rattle.route_calc.specs.Adding.{AddsRoutes};
 ghost use Rattle.route_calc.specs.Exits.{all_exits};
-ghost use Rattle.route_calc.specs.Ways.{AreWaysOf, AreAllWays, AreRisingHosts, IsDistance, entered_by};
+ghost use Rattle.route_calc.specs.Hosts.{AreWaysOf, AreAllWays, AreRisingHosts};
+ghost use Rattle.route_calc.specs.Far.{far_at};
+ghost use Rattle.route_calc.specs.Ways.{IsDistance, entered_by};
 
 use crate::entered::Entered;
 use crate::exits::{Exits, all_exits};
+use crate::numbering::are_numbered;
 use crate::ways::Ways;
 use fabric_map::{FabricMap, MapVertex};
 use net_defs::WalkFault;
 use port_graph::{Route, RoutePush, RouteSet, Walk};
 use std::alloc::{AllocError, Global};
 use updown::Orientation;
+
+// The most turns of a walk.
+const MAX_TURNS: usize = 64;
 
 /// One route for each ordered pair of different hosts: the least legal one, by length, then turn by turn.
 pub fn routes(alloc: Global, m: &FabricMap, o: &Orientation) -> Result<RouteSet, AllocError>
@@ -49,10 +55,11 @@ fn all_ways(
     requires exits { exits.now ≡ all_exits m.now (order_of m.now) }
     ensures { IfOk result (λ ws. AreAllWays m.now (order_of m.now) ws.items) }
 {
+    let numbered = are_numbered(m, exits);
     let mut ways = Vec::new(alloc);
     for a in 0..usize::from(greatest_address(m)) + 1 {
         if let Some(vertex) = m.vertex_of_host(a as u16) {
-            let way = Ways::to(alloc, m, o, exits, a as u16, vertex)?;
+            let way = Ways::to(alloc, m, o, exits, numbered, a as u16, vertex)?;
             ways.push(way)?;
         }
     }
@@ -93,10 +100,11 @@ fn add_routes(
     ensures { OnOk result (AddsRoutes m.now (order_of m.now) from.now.host ways.now (length ways.now) set.old set.new) }
 {
     let a = from.host();
+    let mut turns = Vec::with_capacity(alloc, MAX_TURNS)?;
     for to in ways {
         let b = to.host();
         if a != b {
-            let walk = least_walk(alloc, m, exits, from, to)?;
+            let walk = least_walk(alloc, m, exits, from, to, &mut turns)?;
             add_route(
                 Route {
                     from: a,
@@ -122,13 +130,14 @@ fn add_route(r: Route, set: &mut RouteSet) -> Result<(), AllocError>
     }
 }
 
-// The least legal walk from a host to another.
+// The least legal walk from a host to another. Its turns are put together in a list that serves for many walks.
 fn least_walk(
     alloc: Global,
     m: &FabricMap,
     exits: &[Exits],
     from: &Ways,
     to: &Ways,
+    turns: &mut Vec<i8>,
 ) -> Result<Walk, AllocError>
     requires exits { exits.now ≡ all_exits m.now (order_of m.now) }
     requires connected { IsConnected m.now }
@@ -140,8 +149,8 @@ fn least_walk(
 {
     let _ = m.vertices();
     let (start, count) = least_start(m, from, to);
-    let turns = to.turns(alloc, exits, start, count)?;
-    walk_of(alloc, &turns)
+    to.turns(exits, start, count, turns)?;
+    walk_of(alloc, turns)
 }
 
 // The walk of turns that are one.
@@ -167,6 +176,8 @@ fn least_start(m: &FabricMap, from: &Ways, to: &Ways) -> (Entered, u8)
     ensures start { entered_by m.now (order_of m.now) record { v = from.now.vertex; p = pos 0 } ≡ Some result.0 }
     ensures port { IsTurn result.0.port }
     ensures distance { IsDistance m.now (order_of m.now) to.now.vertex result.1 result.0.v result.0.down }
+    ensures far { far_at to.now.far result.0.v result.0.down ≡ result.1 }
+    ensures few { result.1 < 255 }
 {
     let _ = m.vertices();
     match from.start() {

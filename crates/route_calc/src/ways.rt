@@ -1,37 +1,48 @@
 //! The ways to one host.
 
-ghost use Rattle.std.specs.Prelude.{◌≡◌, ◌<◌, All, length, pos, IfOk, IfSome};
+ghost use Rattle.std.specs.Prelude.{◌≡◌, ◌<◌, true, All, length, pos, slice_get, slice_index_or, IfOk, IfSome, OnOk};
 ghost use Rattle.net_defs.specs.Turn.{IsTurn};
 ghost use Rattle.map_defs.specs.Orientation.{order_of};
 ghost use Rattle.updown.specs.Oriented.{orientation_of};
 ghost use Rattle.route_calc.specs.Exits.{IsInRange, all_exits, exits_at};
-ghost use Rattle.route_calc.specs.Far.{AreDistances, far_at};
-ghost use Rattle.route_calc.specs.Turning.{first_exit, leads_within, turns_on};
+ghost use Rattle.route_calc.specs.Far.{AreDistances, far_at, place_in};
+ghost use Rattle.route_calc.specs.Firsts.{AreFirst, FallByOne};
+ghost use Rattle.route_calc.specs.Lowering.{AreNumbered};
+ghost use Rattle.route_calc.specs.Turning.{turns_on};
 ghost use Rattle.route_calc.specs.Ways.{entered_by};
 
-use crate::distances::{distances, far_at};
+use crate::distances::{distances, far_at, place_of};
 use crate::entered::{Entered, Exit};
 use crate::exits::{Exits, entered_by};
+use crate::firsts::firsts;
 use fabric_map::FabricMap;
 use std::alloc::{AllocError, Global};
 use std::marker::Model;
 use updown::Orientation;
 
-/// A host with its vertex, where its cable leads, and how far each vertex is from it.
+/// A host with its vertex, where its cable leads, how far each vertex is from it, and by which of its ports the way
+/// goes on from each.
 #[derive(Drop)]
 pub(crate) struct Ways {
     host: u16,
     vertex: u32,
     start: Option<Entered>,
     far: Vec<u8>,
+    firsts: Vec<u8>,
 }
 
 impl Model for Ways {
-    ghost use Rattle.route_calc.specs.Ways.{HostWays};
+    ghost use Rattle.route_calc.specs.Hosts.{HostWays};
 
     ghost Value = { HostWays };
 
-    ghost view = { λ w. record { host = w.host; vertex = w.vertex; start = w.start; far = w.far.items } };
+    ghost view = { λ w. record {
+      host = w.host;
+      vertex = w.vertex;
+      start = w.start;
+      far = w.far.items;
+      firsts = w.firsts.items;
+    } };
 }
 
 impl Ways {
@@ -41,11 +52,13 @@ impl Ways {
         m: &FabricMap,
         o: &Orientation,
         exits: &[Exits],
+        numbered: bool,
         host: u16,
         vertex: u32,
     ) -> Result<Ways, AllocError>
         requires oriented { o.now ≡ orientation_of m.now }
         requires exits { exits.now ≡ all_exits m.now (order_of m.now) }
+        requires numbered { numbered ≡ true → AreNumbered m.now (order_of m.now) }
         requires vertex { vertex < length m.now.vertices }
         ensures host { IfOk result (λ w. w.host ≡ host) }
         ensures vertex { IfOk result (λ w. w.vertex ≡ vertex) }
@@ -54,13 +67,16 @@ impl Ways {
           p = pos 0;
         }) }
         ensures distances { IfOk result (λ w. AreDistances m.now (order_of m.now) vertex w.far) }
+        ensures first { IfOk result (λ w. AreFirst exits.now w.far w.firsts) }
     {
-        let far = distances(alloc, m, exits, vertex)?;
+        let far = distances(alloc, m, exits, numbered, vertex)?;
+        let firsts = firsts(alloc, exits, &far)?;
         Ok(Ways {
             host,
             vertex,
             start: entered_by(m, o, vertex, 0),
             far,
+            firsts,
         })
     }
 
@@ -84,64 +100,72 @@ impl Ways {
         far_at(&self.far, v, down)
     }
 
-    /// The least turns over so many channels.
+    /// The least turns from where a packet is, as many as its distance, in the place of others.
     pub(crate) fn turns(
         &self,
-        alloc: Global,
         exits: &[Exits],
         start: Entered,
         count: u8,
-    ) -> Result<Vec<i8>, AllocError>
-        requires { IsTurn start.port }
-        ensures { IfOk result (λ ts. ts.items ≡ turns_on exits.now self.now.far count start) }
+        turns: &mut Vec<i8>,
+    ) -> Result<(), AllocError>
+        requires port { IsTurn start.port }
+        requires first { AreFirst exits.now self.now.far self.now.firsts }
+        requires fall { FallByOne exits.now self.now.far }
+        requires distance { far_at self.now.far start.v start.down ≡ count }
+        requires few { count < 255 }
+        ensures { OnOk result (turns.new.items ≡ turns_on exits.now self.now.far count start) }
     {
-        let mut turns = Vec::with_capacity(alloc, usize::from(count))?;
+        turns.clear();
         let mut at = start;
         let mut left = count;
         while left > 0 {
             left -= 1;
-            match exit_from(exits, &self.far, left, at) {
-                None => return Ok(turns),
+            match exit_by(exits, &self.firsts, at) {
+                None => return Ok(()),
                 Some(exit) => {
                     turns.push(exit.port - at.port)?;
                     at = exit.next;
                 }
             }
         }
-        Ok(turns)
+        Ok(())
     }
 }
 
-// The least port of the vertex where a packet is that leads so near.
-fn exit_from(exits: &[Exits], far: &[u8], left: u8, at: Entered) -> Option<Exit>
-    ensures value { result ≡ first_exit far.now left at.down (exits_at exits.now at.v) }
+// The port by which the way goes on from where a packet is.
+fn exit_by(exits: &[Exits], firsts: &[u8], at: Entered) -> Option<Exit>
+    ensures value { result ≡ slice_get (exits_at exits.now at.v) (slice_index_or firsts.now (place_in at.v at.down) 0) }
     ensures range { IfSome result IsInRange }
 {
     let v = at.v as usize;
     if v < exits.len() {
-        first_exit(exits[v].list(), far, left, at.down)
+        exit_in(exits[v].list(), first_at(firsts, place_of(at.v, at.down)))
     } else {
         None
     }
 }
 
-// The first port that leads so near.
-fn first_exit(exits: &[Exit], far: &[u8], left: u8, down: bool) -> Option<Exit>
+// The port of this number.
+fn exit_in(exits: &[Exit], k: u8) -> Option<Exit>
     requires { All IsInRange exits.now }
-    ensures value { result ≡ first_exit far.now left down exits.now }
+    ensures value { result ≡ slice_get exits.now k }
     ensures range { IfSome result IsInRange }
 {
-    for exit in exits {
-        if leads_within(far, left, down, *exit) {
-            return Some(*exit);
-        }
+    let k = usize::from(k);
+    if k < exits.len() {
+        Some(exits[k])
+    } else {
+        None
     }
-    None
 }
 
-// Whether a packet may go by a port, and is within so many channels then.
-fn leads_within(far: &[u8], left: u8, down: bool, exit: Exit) -> bool
-    ensures { result ≡ leads_within far.now left down exit }
+// What stands at a place.
+fn first_at(firsts: &[u8], place: usize) -> u8
+    ensures { result ≡ slice_index_or firsts.now place 0 }
 {
-    (!down || exit.next.down) && far_at(far, exit.next.v, exit.next.down) <= left
+    if place < firsts.len() {
+        firsts[place]
+    } else {
+        0
+    }
 }

@@ -6,9 +6,19 @@ use Rattle.map_defs.specs.Orientation.{order_of}
 use Rattle.map_defs.specs.Routing.{IsLeastLegal}
 use Rattle.route_calc.specs.Ways.{best_turns}
 use Rattle.route_calc.specs.Turning.{turns_on}
+use Rattle.route_calc.specs.Firsts.{AreFirst, FallByOne}
+use Rattle.route_calc.proofs.Nearer.{fall-by-one}
 use Rattle.route_calc.proofs.Starting.{walk-least, walk-fits}
 use Rattle.route_calc.proofs.Turned.{turns-best}
 use Rattle.route_calc.proofs.pairs.least_walk.Goals as goal
+
+pub turns-requires-clause-fall : goal.turns-requires-clause-fall
+turns-requires-clause-fall c =
+    let m = c.args.m.now in
+    subst (λ es. FallByOne es c.args.to.now.far) (sym c.requires.exits) (fall-by-one m (order_of m) c.args.to.now.vertex c.args.to.now.far c.vertices.ensures.is_map.is_map c.requires.to.are_distances)
+
+pub turns-requires-clause-first : goal.turns-requires-clause-first
+turns-requires-clause-first c = subst (λ es. AreFirst es c.args.to.now.far c.args.to.now.firsts) (sym c.requires.exits) c.requires.to.are_first
 
 pub walk_of-requires : goal.walk_of-requires
 walk_of-requires c =

@@ -5,7 +5,7 @@ use Rattle.std.proofs.lemmas.Option.{slice_get-get_or}
 use Rattle.journal_defs.proofs.Members.{all-member}
 use Rattle.map_defs.specs.Orientation.{order_of}
 use Rattle.route_calc.specs.Adding.{AddsRoutes}
-use Rattle.route_calc.specs.Ways.{HostWays, AreWaysOf, AreRisingHosts, AreAllWays}
+use Rattle.route_calc.specs.Hosts.{HostWays, AreWaysOf, AreRisingHosts, AreAllWays}
 use Rattle.route_calc.proofs.Adding.{get-member}
 use Rattle.route_calc.proofs.Made.{Made, made-none, made-more, made-routes}
 use Rattle.route_calc.proofs.pairs.routes.Goals as goal

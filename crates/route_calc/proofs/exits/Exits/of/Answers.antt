@@ -3,6 +3,7 @@ use Rattle.std.specs.Prelude.{option_to_list}
 use Rattle.map_defs.specs.Orientation.{order_of}
 use Rattle.route_calc.specs.Exits.{exits_below}
 use Rattle.route_calc.proofs.Listed.{exits-none, exits-more}
+use Rattle.route_calc.proofs.Nearer.{exits-few}
 use Rattle.route_calc.proofs.exits.Exits.of.Goals as goal
 
 pub loop-k-init : goal.loop-k-init
@@ -23,3 +24,12 @@ loop-k-preserved c =
           ∙ ap (λ o. exits_below m order c.args.v c.loop-k.k ++ option_to_list o) c.exit_at.ensures.value
           ∙ sym (exits-more m order c.args.v c.loop-k.k);
     }
+
+pub invariant_of-result : goal.invariant_of-result
+invariant_of-result c =
+    let m = c.args.m.now in
+    let order = order_of m in
+    let end = c.loop-k.auto.k-end in
+    let long : length c.loop-k.list.items ≡ length (exits_below m order c.args.v c.loop-k.k) = ap length c.loop-k.invariant.so_far in
+    let few = exits-few m order c.args.v c.loop-k.k in
+    (c.loop-k.invariant.range, omega arith)

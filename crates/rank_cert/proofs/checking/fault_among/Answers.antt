@@ -4,7 +4,7 @@ use Rattle.net_defs.specs.declared.route.Route.{Route}
 use Rattle.net_defs.specs.Building.{first_of_two}
 use Rattle.rank_cert.specs.Checking.{first_fault, route_fault}
 use Rattle.rank_cert.proofs.Along.{first-some, first-no}
-use Rattle.rank_cert.proofs.checking.routes_fault.Goals as goal
+use Rattle.rank_cert.proofs.checking.fault_among.Goals as goal
 
 pub returns-then-is_some : goal.returns-then-is_some
 returns-then-is_some c =
@@ -16,8 +16,8 @@ returns-then-is_some c =
     let lt : i < length rs = c.loop-r-test.true in
     let step : first_fault m ks (drop i rs) ≡ first_of_two (route_fault m ks r) (first_fault m ks (drop (i + 1) rs)) =
     at_drop_more (first_fault m ks) rs i r lt ∙ ap (λ x. first_of_two (route_fault m ks x) (first_fault m ks (drop (i + 1) rs))) (sym c.r-item.is) in
-    let some : is_some (route_fault m ks r) ≡ true = ap is_some (sym c.route_fault-fault.ensures) ∙ sym c.if-is_some.ensures in
-    c.route_fault-fault.ensures ∙ sym (first-some (route_fault m ks r) (first_fault m ks (drop (i + 1) rs)) some) ∙ sym step ∙ c.loop-r.invariant
+    let some : is_some (route_fault m ks r) ≡ true = ap is_some (sym c.fault_unless_shown-fault.ensures) ∙ sym c.if-is_some.ensures in
+    c.fault_unless_shown-fault.ensures ∙ sym (first-some (route_fault m ks r) (first_fault m ks (drop (i + 1) rs)) some) ∙ sym step ∙ c.loop-r.invariant
 
 pub loop-r-preserved : goal.loop-r-preserved
 loop-r-preserved c =
@@ -29,5 +29,5 @@ loop-r-preserved c =
     let lt : i < length rs = c.loop-r-test.true in
     let step : first_fault m ks (drop i rs) ≡ first_of_two (route_fault m ks r) (first_fault m ks (drop (i + 1) rs)) =
     at_drop_more (first_fault m ks) rs i r lt ∙ ap (λ x. first_of_two (route_fault m ks x) (first_fault m ks (drop (i + 1) rs))) (sym c.r-item.is) in
-    let none : is_some (route_fault m ks r) ≡ false = ap is_some (sym c.route_fault-fault.ensures) ∙ sym c.if-is_some.ensures in
+    let none : is_some (route_fault m ks r) ≡ false = ap is_some (sym c.fault_unless_shown-fault.ensures) ∙ sym c.if-is_some.ensures in
     sym (first-no (route_fault m ks r) (first_fault m ks (drop (i + 1) rs)) none) ∙ sym step ∙ c.loop-r.invariant
