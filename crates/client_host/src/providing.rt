@@ -101,8 +101,13 @@ fn provide_token(
     ensures number { IfOk result (λ n. n ≡ token.number) }
     ensures provided { OnOk result (node.new ≡ in_state node.old
         (with_port node.old.state port (option_map (λ p.
-        provided_with p (record { token = token.number; size = size; prio = prio; filling = None; buffer = empty_buffer size }))
-        (port_at node.old.state port)))) }
+        provided_with p (record {
+          token = token.number;
+          size = size;
+          prio = prio;
+          filling = None;
+          buffer = empty_buffer size;
+        })) (port_at node.old.state port)))) }
     ensures handed_back { IfErr result (λ e. e.0 ≡ token) }
     ensures unchanged { OnErr result (node.new ≡ node.old) }
 {

@@ -1,3 +1,4 @@
+pub mod Kinds
 pub mod Printed
 pub mod There
 pub mod Words

@@ -2,29 +2,58 @@
 
 ghost use Rattle.std.specs.Prelude.{◌≡◌, ◌++◌, ◌∷◌, [], OnOk, codes, decimal};
 ghost use Rattle.fab_text.specs.Written.{spaced};
-ghost use Rattle.run_defs.specs.LineText.{map_words};
+ghost use Rattle.net_defs.specs.Network.{Network};
+ghost use Rattle.run_defs.specs.LineText.{map_words, words_in};
+ghost use Rattle.fab_report.specs.Kinds.{IsGeneratedLine};
 
 use crate::mapping::append_map_words;
 use line_writing::Word::{Number, Text};
 use line_writing::append_words;
-use run_defs::MapWords;
+use run_defs::{Line, MapWords};
 use std::alloc::AllocError;
 
-/// How many hosts, switches and cables a fabric has.
-#[derive(Clone, Copy)]
-pub(crate) struct FabricSize {
-    pub(crate) hosts: u16,
-    pub(crate) switches: u16,
-    pub(crate) cables: u16,
+/// The words of a line that a generated run alone has, by its kind.
+pub(crate) fn append_generated_line(text: &mut Vec<u8>, l: &Line) -> Result<(), AllocError>
+    requires generated { IsGeneratedLine l.now }
+    ensures { OnOk result ((n : Network) → text.new.items ≡ text.old.items ++ spaced (words_in n l.now)) }
+{
+    match l {
+        Line::GenHead {
+            n,
+            seed,
+            hosts,
+            switches,
+            cables,
+        } => gen_line(
+            text,
+            *n,
+            *seed,
+            FabricSize {
+                hosts: *hosts,
+                switches: *switches,
+                cables: *cables,
+            },
+        ),
+        Line::GenMap {
+            words,
+            asks,
+            packets,
+        } => gen_map_line(text, *words, *asks, *packets),
+        Line::GenCount { accepted, received } => gen_count_line(text, *accepted, *received),
+        _ => unreachable!(),
+    }
 }
 
-/// `gen N SEED hosts H switches S cables K`
-pub(crate) fn gen_line(
-    text: &mut Vec<u8>,
-    n: u8,
-    seed: u32,
-    size: FabricSize,
-) -> Result<(), AllocError>
+// How many hosts, switches and cables a fabric has.
+#[derive(Clone, Copy)]
+struct FabricSize {
+    hosts: u16,
+    switches: u16,
+    cables: u16,
+}
+
+// `gen N SEED hosts H switches S cables K`
+fn gen_line(text: &mut Vec<u8>, n: u8, seed: u32, size: FabricSize) -> Result<(), AllocError>
     ensures { OnOk result (text.new.items ≡ text.old.items
         ++ spaced (codes "gen" ∷ decimal n ∷ decimal seed ∷ codes "hosts" ∷ decimal size.hosts
         ∷ codes "switches" ∷ decimal size.switches ∷ codes "cables" ∷ decimal size.cables ∷ [])) }
@@ -45,8 +74,8 @@ pub(crate) fn gen_line(
     )
 }
 
-/// `map WORDS asks A packets P`
-pub(crate) fn gen_map_line(
+// `map WORDS asks A packets P`
+fn gen_map_line(
     text: &mut Vec<u8>,
     words: MapWords,
     asks: u64,
@@ -60,12 +89,8 @@ pub(crate) fn gen_map_line(
     append_map_words(text, words, asks, packets)
 }
 
-/// `messages X received Y`
-pub(crate) fn gen_count_line(
-    text: &mut Vec<u8>,
-    accepted: u64,
-    received: u64,
-) -> Result<(), AllocError>
+// `messages X received Y`
+fn gen_count_line(text: &mut Vec<u8>, accepted: u64, received: u64) -> Result<(), AllocError>
     ensures { OnOk result (text.new.items ≡ text.old.items
         ++ spaced (codes "messages" ∷ decimal accepted ∷ codes "received" ∷ decimal received ∷ [])) }
 {

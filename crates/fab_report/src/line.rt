@@ -7,12 +7,12 @@ ghost use Rattle.fab_text.specs.Fault.{kind_word};
 ghost use Rattle.run_defs.specs.LineText.{install_cause, line_text, words_in};
 ghost use Rattle.run_defs.specs.Run.{route_line};
 ghost use Rattle.run_defs.specs.declared.line.Line.TheVariants.{Walk, Table};
+ghost use Rattle.fab_report.specs.Kinds.{IsPortLine};
 ghost use Rattle.fab_report.specs.There.{AreThere, IsHost};
 
-use crate::circuit::{circuit_line, circuit_nodes_line};
 use crate::client::client_line;
-use crate::generated::{FabricSize, gen_count_line, gen_line, gen_map_line};
-use crate::mapping::{busy_line, map_line, rank_line, route_line, routes_line};
+use crate::generated::append_generated_line;
+use crate::mapping::{append_map_line, route_line};
 use crate::places::tokens_line;
 use crate::step::step_line;
 use fab_text::FaultKind;
@@ -48,6 +48,14 @@ pub fn print_line_onto(text: &mut Vec<u8>, l: &Line, f: &Fabric) -> Result<(), A
     Ok(())
 }
 
+/// The same of a line that is done with: callers that make a line need not end it.
+pub(crate) fn print_made_onto(text: &mut Vec<u8>, l: Line, f: &Fabric) -> Result<(), AllocError>
+    requires there { AreThere f.now l }
+    ensures text { OnOk result (text.new.items ≡ text.old.items ++ line_text f.now l) }
+{
+    print_line_onto(text, &l, f)
+}
+
 /// The line of a route behind a text, without a copy of its walk. Where memory is wanting, a part of the line may
 /// stand there.
 pub fn print_route_onto(text: &mut Vec<u8>, r: &Route, f: &Fabric) -> Result<(), AllocError>
@@ -67,23 +75,32 @@ fn append_line(text: &mut Vec<u8>, l: &Line, f: &Fabric) -> Result<(), AllocErro
     match l {
         Line::Refused { line, kind } => refused_line(text, *line, *kind),
         Line::Walk(place) => walk_line(text, f, *place),
-        Line::Map {
-            host,
-            words,
-            asks,
-            packets,
-        } => map_line(text, f, *host, *words, *asks, *packets),
-        Line::MapBusy(host) => busy_line(text, f, *host),
-        Line::Circuit { host, depth, asks } => circuit_line(text, f, *host, *depth, *asks),
-        Line::CircuitNodes { host, asks } => circuit_nodes_line(text, f, *host, *asks),
-        Line::Routes(count) => routes_line(text, *count),
-        Line::Route { from, to, walk } => route_line(text, f, *from, *to, walk.turns()),
-        Line::Rank { v, p, rank } => rank_line(text, f, *v, *p, *rank),
-        Line::EndRoutes => append_words(text, &[Text(b"endroutes")]),
-        Line::NoMap => append_words(text, &[Text(b"routes"), Text(b"refused"), Text(b"nomap")]),
         Line::Installed { acked, of } => installed_line(text, *acked, *of),
         Line::Table { host, active } => table_line(text, f, *host, *active),
         Line::InstallRefused(cause) => install_refused_line(text, *cause),
+        Line::PlanAt(number) => plan_line(text, *number),
+        Line::Step(words) => step_line(text, f, *words),
+        Line::Finish { injected, dropped } => end_line(text, *injected, *dropped),
+        Line::Settle {
+            rounds,
+            resets,
+            unacked,
+        } => settle_line(text, *rounds, *resets, *unacked),
+        Line::Client { .. } | Line::Tokens { .. } => append_port_line(text, l, f),
+        Line::GenHead { .. } | Line::GenMap { .. } | Line::GenCount { .. } => {
+            append_generated_line(text, l)
+        }
+        _ => append_map_line(text, l, f),
+    }
+}
+
+// The words of a line of a port: what a client's call was answered, or where the tokens are.
+fn append_port_line(text: &mut Vec<u8>, l: &Line, f: &Fabric) -> Result<(), AllocError>
+    requires port { IsPortLine l.now }
+    requires there { AreThere f.now l.now }
+    ensures { OnOk result (text.new.items ≡ text.old.items ++ spaced (words_in f.now l.now)) }
+{
+    match l {
         Line::Client {
             call,
             host,
@@ -96,36 +113,7 @@ fn append_line(text: &mut Vec<u8>, l: &Line, f: &Fabric) -> Result<(), AllocErro
             sends,
             recvs,
         } => tokens_line(text, f, *host, *port, sends.list(), recvs.list()),
-        Line::PlanAt(number) => plan_line(text, *number),
-        Line::Step(words) => step_line(text, f, *words),
-        Line::Settle {
-            rounds,
-            resets,
-            unacked,
-        } => settle_line(text, *rounds, *resets, *unacked),
-        Line::Finish { injected, dropped } => end_line(text, *injected, *dropped),
-        Line::GenHead {
-            n,
-            seed,
-            hosts,
-            switches,
-            cables,
-        } => gen_line(
-            text,
-            *n,
-            *seed,
-            FabricSize {
-                hosts: *hosts,
-                switches: *switches,
-                cables: *cables,
-            },
-        ),
-        Line::GenMap {
-            words,
-            asks,
-            packets,
-        } => gen_map_line(text, *words, *asks, *packets),
-        Line::GenCount { accepted, received } => gen_count_line(text, *accepted, *received),
+        _ => unreachable!(),
     }
 }
 

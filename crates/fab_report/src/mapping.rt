@@ -4,19 +4,46 @@ ghost use Rattle.std.specs.Prelude.{◌≡◌, ◌++◌, ◌∷◌, [], OnOk, co
 ghost use Rattle.fab_text.specs.Written.{spaced};
 ghost use Rattle.run_defs.specs.LineText.{map_words, turn_text, words_in};
 ghost use Rattle.run_defs.specs.declared.line.Line.TheVariants.{Map, MapBusy, Route, Rank};
-ghost use Rattle.fab_report.specs.There.{IsHost, IsVertexOf};
+ghost use Rattle.fab_report.specs.Kinds.{IsMapLine};
+ghost use Rattle.fab_report.specs.There.{AreThere, IsHost, IsVertexOf};
 ghost use Rattle.fab_report.specs.Words.{behind};
 
+use crate::circuit::{circuit_line, circuit_nodes_line};
 use crate::words::{turn_word, vertex_word};
 use line_writing::Word::{Number, Text};
 use line_writing::{append_behind, append_marked, append_words};
 use map_defs::MapVertex;
 use port_graph::{Fabric, Vertex};
-use run_defs::MapWords;
+use run_defs::{Line, MapWords};
 use std::alloc::AllocError;
 
-/// `map H WORDS asks A packets N`
-pub(crate) fn map_line(
+/// The words of a line of a map, of routes or of ranks, by its kind.
+pub(crate) fn append_map_line(text: &mut Vec<u8>, l: &Line, f: &Fabric) -> Result<(), AllocError>
+    requires map { IsMapLine l.now }
+    requires there { AreThere f.now l.now }
+    ensures { OnOk result (text.new.items ≡ text.old.items ++ spaced (words_in f.now l.now)) }
+{
+    match l {
+        Line::Map {
+            host,
+            words,
+            asks,
+            packets,
+        } => map_line(text, f, *host, *words, *asks, *packets),
+        Line::MapBusy(host) => busy_line(text, f, *host),
+        Line::Circuit { host, depth, asks } => circuit_line(text, f, *host, *depth, *asks),
+        Line::CircuitNodes { host, asks } => circuit_nodes_line(text, f, *host, *asks),
+        Line::Routes(count) => routes_line(text, *count),
+        Line::Route { from, to, walk } => route_line(text, f, *from, *to, walk.turns()),
+        Line::Rank { v, p, rank } => rank_line(text, f, *v, *p, *rank),
+        Line::EndRoutes => append_words(text, &[Text(b"endroutes")]),
+        Line::NoMap => append_words(text, &[Text(b"routes"), Text(b"refused"), Text(b"nomap")]),
+        _ => unreachable!(),
+    }
+}
+
+// `map H WORDS asks A packets N`
+fn map_line(
     text: &mut Vec<u8>,
     f: &Fabric,
     host: u16,
@@ -66,8 +93,8 @@ fn append_known(text: &mut Vec<u8>, words: MapWords) -> Result<(), AllocError>
     }
 }
 
-/// `map H refused busy`
-pub(crate) fn busy_line(text: &mut Vec<u8>, f: &Fabric, host: u16) -> Result<(), AllocError>
+// `map H refused busy`
+fn busy_line(text: &mut Vec<u8>, f: &Fabric, host: u16) -> Result<(), AllocError>
     requires { IsHost f.now host }
     ensures { OnOk result (text.new.items ≡ text.old.items ++ spaced (words_in f.now (MapBusy host))) }
 {
@@ -75,8 +102,8 @@ pub(crate) fn busy_line(text: &mut Vec<u8>, f: &Fabric, host: u16) -> Result<(),
     append_words(text, &[Text(b"map"), name, Text(b"refused"), Text(b"busy")])
 }
 
-/// `routes N`
-pub(crate) fn routes_line(text: &mut Vec<u8>, count: u32) -> Result<(), AllocError>
+// `routes N`
+fn routes_line(text: &mut Vec<u8>, count: u32) -> Result<(), AllocError>
     ensures { OnOk result (text.new.items ≡ text.old.items ++ spaced (codes "routes" ∷ decimal count ∷ [])) }
 {
     append_words(text, &[Text(b"routes"), Number(u64::from(count))])
@@ -133,8 +160,8 @@ fn append_bare_turn(text: &mut Vec<u8>, turn: i8) -> Result<(), AllocError>
     }
 }
 
-/// `rank V P R`
-pub(crate) fn rank_line(
+// `rank V P R`
+fn rank_line(
     text: &mut Vec<u8>,
     f: &Fabric,
     v: MapVertex,

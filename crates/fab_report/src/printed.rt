@@ -72,13 +72,6 @@ impl Printed {
         Printed::line(alloc, &l, f)
     }
 
-    /// Its text.
-    pub fn text(&self) -> &[u8]
-        ensures { result.now ≡ self.now.text }
-    {
-        &self.text
-    }
-
     /// Its text, handed out.
     pub fn into_text(self) -> Vec<u8>
         ensures { result.items ≡ self.text }

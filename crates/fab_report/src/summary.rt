@@ -6,7 +6,7 @@ ghost use Rattle.run_defs.specs.Output.{lines};
 ghost use Rattle.run_defs.specs.Summary.{count_line, is_accepted, is_received, mapping_lines, settle_lines, summary};
 ghost use Rattle.run_defs.specs.declared.line.Line.TheVariants.{GenHead};
 
-use crate::line::{print_line, print_line_onto};
+use crate::line::{print_line, print_made_onto};
 use port_graph::Fabric;
 use run_defs::{Figure, Line};
 use std::alloc::{AllocError, Global};
@@ -64,18 +64,18 @@ fn append_mapping(text: &mut Vec<u8>, f: &Fabric, figure: Figure) -> Result<(), 
             words,
             asks,
             packets,
-        } => print_line_onto(
+        } => print_made_onto(
             text,
-            &Line::GenMap {
+            Line::GenMap {
                 words,
                 asks,
                 packets,
             },
             f,
         ),
-        Figure::Routed(count) => print_line_onto(text, &Line::Routes(count), f),
+        Figure::Routed(count) => print_made_onto(text, Line::Routes(count), f),
         Figure::Installed { acked, of } => {
-            print_line_onto(text, &Line::Installed { acked, of }, f)
+            print_made_onto(text, Line::Installed { acked, of }, f)
         }
         Figure::Accepted | Figure::Received | Figure::Settled { .. } => Ok(()),
     }
@@ -89,7 +89,7 @@ fn append_counts(text: &mut Vec<u8>, f: &Fabric, figures: &[Figure]) -> Result<(
         accepted: accepted(figures),
         received: received(figures),
     };
-    print_line_onto(text, &line, f)
+    print_made_onto(text, line, f)
 }
 
 // How many sends were accepted.
@@ -140,9 +140,9 @@ fn append_settle(text: &mut Vec<u8>, f: &Fabric, figure: Figure) -> Result<(), A
             rounds,
             resets,
             unacked,
-        } => print_line_onto(
+        } => print_made_onto(
             text,
-            &Line::Settle {
+            Line::Settle {
                 rounds,
                 resets,
                 unacked,

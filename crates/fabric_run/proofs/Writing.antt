@@ -105,6 +105,7 @@ interrupted n cs i taken now s t c low at ran cut made found = record {
   last = s;
   ran = ran;
   hands_back = record { command = c; next = some-at cs i c low at; cut = cut; map_stays = made; routes_stay = found };
+  none_ran = tt;
 }
 
 -- what first commands printed begins as what all commands print does
@@ -144,6 +145,7 @@ unstarted a taken = record {
   last = new_session a.network;
   ran = none-ran a.network a.commands taken (new_session a.network) refl;
   hands_back = tt;
+  none_ran = refl;
 }
 
 -- all commands ran

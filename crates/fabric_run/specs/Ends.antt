@@ -1,6 +1,6 @@
 -- How a run may end: its answer, what was read, what was written, and the session that it hands back.
 use Rattle.std.specs.Prelude.{◌≡◌, ◌⊎◌, ℕ, suc, ◌<◌, ◌≤◌, Bool, true, false, List, ◌++◌, length, take, nat_lt}
-use Rattle.std.specs.Prelude.{if◌then◌else◌, slice_get, Option, Some, None, IfSome, Result, Ok, Err}
+use Rattle.std.specs.Prelude.{if◌then◌else◌, slice_get, Option, Some, None, IfSome, IfNone, Result, Ok, Err}
 use Rattle.std.specs.Io.KnownBytes.{Appends, Keeps}
 use Rattle.net_defs.specs.Network.{Network}
 use Rattle.fab_outer.specs.Fault.{Rose}
@@ -77,12 +77,14 @@ pub record IsLeftShort (a : AcceptedText) (count : ℕ) (before left : SessionSt
   pub routes_stay : left.last_routes ≡ before.last_routes
 
 -- Memory was wanting for a command, or for the first session: the sink took exactly what the commands before it
--- printed, and a session that is handed back is theirs with this command cut short.
+-- printed, and the session that is handed back is theirs with this command cut short. None is handed back only where
+-- no command had run.
 pub record IsInterrupted (a : AcceptedText) (taken now : Option (List ℕ)) (held : Option SessionState) : Type 0 where
   pub count : ℕ
   pub last : SessionState
   pub ran : HaveRun a.network (take count a.commands) taken now last
   pub hands_back : IfSome held (IsLeftShort a count last)
+  pub none_ran : IfNone held (count ≡ 0)
 
 -- How the commands of an accepted text may end.
 abbrev pub ReportEnds : AcceptedText → Option (List ℕ) → Option (List ℕ) → ℕ → ℕ → Status → Option SessionState → Type 0

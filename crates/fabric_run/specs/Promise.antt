@@ -51,7 +51,7 @@ CompleteMapsAreTrue a =
     → IsRun a.network (take count a.commands) out last → HasPrinted out mapper m → IsRight a.network mapper m
 
 -- behind first commands of a text, on a quiet fabric, a map from a host of the fabric to the depth that suffices, of
--- at most 65 cables, with 1 to 8 tries an ask, says complete
+-- at most 32 cables, with 1 to 8 tries an ask, says complete
 abbrev pub DeepMapsAreComplete : AcceptedText → Type 0
 DeepMapsAreComplete a =
     (count : ℕ) (out : List Piece) (s : SessionState) (host depth tries : ℕ) (after : WorldState) (j : List Entry)

@@ -79,7 +79,7 @@ pub fn run<S: Source, K: Sink>(alloc: Global, words: &[Word], input: &mut S, out
 
     // Want of memory under `run`: nothing was written, and no session is handed back; or exactly what the commands that
     // ran printed was written, and the session is theirs with the next command cut short: a prefix of its acts leads
-    // to the world, and the last map and the last routes are theirs.
+    // to the world, and the last map and the last routes are theirs. Where a command had run it is handed back.
     ensures no_memory { IsRunForm words.now → result.status ≡ Status.NoMemory
         → (Keeps (K.taken out.old) (K.taken out.new) × (result.session ≡ None))
         ⊎ ((text : List ℕ) × Came (S.left input.old) (S.left input.new) text
@@ -99,8 +99,8 @@ pub fn run<S: Source, K: Sink>(alloc: Global, words: &[Word], input: &mut S, out
 
     // Every accepted text, and so every prefix of its script, keeps the promise: a map under the word complete is
     // right, a deep one of a quiet fabric says so, a map of circuit links is the circuit map to its depth, each count
-    // of installed hosts has its cause, each settle ends settled, every moment is sound, and the installed routes have
-    // no cycle.
+    // of installed hosts has its cause, each settle ends settled, and the installed routes have no cycle. Every moment
+    // of the run is sound: the world behind its first commands, and behind each prefix of the acts of the next one.
     ensures promise { (text : List ℕ) (a : AcceptedText) → IsAccepted text a → IsPromised a }
 {
     promised_texts();

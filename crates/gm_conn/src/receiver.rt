@@ -34,9 +34,9 @@ impl Receiver {
         }
     }
 
-    /// What a frame of this connection comes to; `fits` says whether a token takes its fragment. NotNext where its number
-    /// isn't the next, else NoToken where none takes it, else Whole or Part, as the fragment is the last of its message
-    /// or not. Nothing is taken yet.
+    /// What a frame of this connection comes to; `fits` says whether a token takes its fragment. NotNext where its
+    /// number isn't the next, else NoToken where none takes it, else Whole or Part, as the fragment is the last of its
+    /// message or not. Nothing is taken yet.
     pub fn would_take(&self, h: &FrameHead, fits: bool) -> Took
         ensures { result ≡ took self.now.taken h.now.seq fits (is_last h.now.total h.now.offset) }
     {

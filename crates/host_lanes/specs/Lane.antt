@@ -62,7 +62,7 @@ message_in e body = record { sport = e.sport; dport = e.dport; prio = e.prio; bo
 abbrev pub accept_refusal : LaneState → ℕ → Option OfferRefusal
 accept_refusal p total = if is_spent p.sender (piece_count total) then Some Spent else None
 
--- What the two halves, the messages and the tickets keep: the fragments of the messages have the numbers up to the next;
+-- What the two halves, the messages and the tickets keep: the messages' fragments have the numbers up to the next;
 -- the descriptors that wait are of the last messages, none of them is finished, and they hold the tokens of the sends
 -- that aren't finished, in order; and what comes from the peer goes the other way.
 pub record IsLane (w : Outgoing) (r : Incoming) (sent : List Message) (pending : List Ticket) : Type 0 where

@@ -1,5 +1,6 @@
 pub mod Answered
 pub mod Asks
+pub mod ByCommand
 pub mod Cutting
 pub mod Installable
 pub mod Installs

@@ -25,7 +25,7 @@ use world_commands::do_one;
 
 /// Does a command that makes no map: `map` only where that is refused. Where memory is wanting, the world is one that a
 /// prefix of its acts leads to.
-#[tactic(auto, using(crate::proofs::Obeying::done_so, crate::proofs::Obeying::busy_so, crate::proofs::Obeying::circuit_so, crate::proofs::Installs::installed_so))]
+#[tactic(auto, using(crate::proofs::ByCommand::commands_obeyed))]
 pub(crate) fn obey_here(
     alloc: Global,
     w: &mut World,

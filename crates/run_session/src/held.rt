@@ -74,20 +74,14 @@ impl Held {
         ensures kept_routes { OnErr result (self.new.last_routes ≡ self.old.last_routes) }
         ensures cut { OnErr result (IsCutShort self.old c.now self.new.world) }
     {
-        let Some(world) = &mut self.world else {
-            unreachable!()
-        };
-        match map_ordered(world, c) {
-            Some(order) => map_slot(alloc, &mut self.world, &mut self.last_map, order),
-            None => obey_here(
-                alloc,
-                world,
-                &mut self.links,
-                &self.last_map,
-                &mut self.last_routes,
-                c,
-            ),
-        }
+        obey_parts(
+            alloc,
+            &mut self.world,
+            &mut self.links,
+            &mut self.last_map,
+            &mut self.last_routes,
+            c,
+        )
     }
 
     /// Its world.
@@ -100,24 +94,54 @@ impl Held {
         }
     }
 
-    /// What it keeps.
-    pub(crate) fn kept(&self)
-        ensures { IsKept self.now }
-    {
-        let _ = &self.last_map;
-    }
-
     /// Spends it. Takes no memory.
     pub(crate) fn end(self) {
         let Held {
             world,
-            links: _,
-            last_map: _,
-            last_routes: _,
+            links,
+            last_map,
+            last_routes,
         } = self;
+        end_kept(links, last_map, last_routes);
         end_slot(world);
     }
 }
+
+// Does a command over what a session holds, whose invariant it keeps.
+fn obey_parts(
+    alloc: Global,
+    slot: &mut Option<World>,
+    links: &mut Links,
+    last_map: &mut Option<LastMade>,
+    last_routes: &mut Option<LastFound>,
+    c: &Command,
+) -> Result<Printed, AllocError>
+    requires there { slot.old ≡ Some (world_in slot.old) }
+    requires kept { IsKept (session_of (world_in slot.old) last_map.old last_routes.old) }
+    requires links { links.old ≡ empty_links (fabric_of (world_in slot.old)) }
+    requires command { IsCommandOf (fabric_of (world_in slot.old)) c.now }
+    ensures there { slot.new ≡ Some (world_in slot.new) }
+    ensures kept { IsKept (session_of (world_in slot.new) last_map.new last_routes.new) }
+    ensures links { links.new ≡ empty_links (fabric_of (world_in slot.new)) }
+    ensures obeyed { IfOk result (λ p. IsObeyed (session_of (world_in slot.old) last_map.old last_routes.old) c.now
+        (session_of (world_in slot.new) last_map.new last_routes.new) p) }
+    ensures fabric { fabric_of (world_in slot.new) ≡ fabric_of (world_in slot.old) }
+    ensures kept_map { OnErr result (last_map.new ≡ last_map.old) }
+    ensures kept_routes { OnErr result (last_routes.new ≡ last_routes.old) }
+    ensures cut { OnErr result (IsCutShort (session_of (world_in slot.old) last_map.old last_routes.old) c.now
+        (world_in slot.new)) }
+{
+    let Some(world) = &mut *slot else {
+        unreachable!()
+    };
+    match map_ordered(world, c) {
+        Some(order) => map_slot(alloc, slot, last_map, order),
+        None => obey_here(alloc, world, links, last_map, last_routes, c),
+    }
+}
+
+// Ends what a session keeps beside its world.
+fn end_kept(_links: Links, _last_map: Option<LastMade>, _last_routes: Option<LastFound>) {}
 
 // Ends the world of a slot, if there is one.
 fn end_slot(slot: Option<World>) {

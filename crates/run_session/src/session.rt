@@ -5,7 +5,6 @@ ghost use Rattle.world_defs.specs.World.{fabric_of};
 ghost use Rattle.run_defs.specs.Session.{new_session};
 ghost use Rattle.fab_script.specs.Ranges.{IsCommandOf};
 ghost use Rattle.promise_laws.specs.CutShort.{IsCutShort};
-ghost use Rattle.run_session.specs.Kept.{IsKept};
 ghost use Rattle.run_session.specs.Obeyed.{IsObeyed, IsObeyedIn};
 
 use crate::held::Held;
@@ -111,14 +110,6 @@ impl Session {
         ensures { result.now ≡ self.now.world }
     {
         self.held.world()
-    }
-
-    /// What it keeps: a last map that says complete is one to compute routes of, and the last routes are those of
-    /// such a map.
-    pub fn kept(&self)
-        ensures { IsKept self.now }
-    {
-        self.held.kept();
     }
 
     /// Spends it. Takes no memory.

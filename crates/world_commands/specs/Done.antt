@@ -4,7 +4,8 @@ use Rattle.world_defs.specs.declared.event.Event.{Event}
 use Rattle.world_defs.specs.Step.{step}
 use Rattle.world_defs.specs.World.{WorldState, fabric_of}
 use Rattle.run_defs.specs.declared.command.Command.{Command}
-use Rattle.run_defs.specs.declared.command.Command.TheVariants.{Map, Circuit, Routes, Install, Send, Settle}
+use Rattle.run_defs.specs.declared.command.Command.TheVariants.{Map, Circuit, Routes, Install, Begin}
+use Rattle.run_defs.specs.declared.command.Command.TheVariants.{Close, Poll, Tokens, Provide, Send, Settle}
 use Rattle.run_defs.specs.declared.line.ClientCall.{ClientCall}
 use Rattle.run_defs.specs.Outcome.{called, outcome}
 use Rattle.run_defs.specs.Output.{Piece}
@@ -46,3 +47,17 @@ IsOneEvent Routes = ⊥
 IsOneEvent (Install tries) = ⊥
 IsOneEvent Settle = ⊥
 IsOneEvent _ = Unit {0}
+
+-- a command opens a port, closes it, or asks where its tokens are
+abbrev pub IsPortCommand : Command → Type 0
+IsPortCommand (Begin host port sends recvs) = Unit {0}
+IsPortCommand (Close host port) = Unit {0}
+IsPortCommand (Tokens host port) = Unit {0}
+IsPortCommand _ = ⊥
+
+-- a command provides a buffer, sends a message, or takes what came of these
+abbrev pub IsMessageCommand : Command → Type 0
+IsMessageCommand (Provide host port size prio) = Unit {0}
+IsMessageCommand (Send host port dest dport prio len seed) = Unit {0}
+IsMessageCommand (Poll host port) = Unit {0}
+IsMessageCommand _ = ⊥

@@ -4,7 +4,7 @@ ghost use Rattle.std.specs.Prelude.{◌≡◌, IfOk, OnErr};
 ghost use Rattle.link_defs.specs.Links.{empty_links};
 ghost use Rattle.world_defs.specs.World.{fabric_of};
 ghost use Rattle.fab_script.specs.Ranges.{IsCommandOf};
-ghost use Rattle.world_commands.specs.Done.{IsDone, IsAllOrNothing, IsOneEvent};
+ghost use Rattle.world_commands.specs.Done.{IsDone, IsAllOrNothing, IsOneEvent, IsPortCommand, IsMessageCommand};
 
 use crate::clients::{close, open, poll, provide, send};
 use crate::places::tokens;
@@ -35,6 +35,26 @@ pub fn do_one(
 {
     match c {
         Command::Walk { host, walk: taken } => walk(alloc, w, links, *host, taken.turns()),
+        Command::Plan { ahead, kind } => plan(alloc, w, *ahead, *kind),
+        Command::Step(line) => step(alloc, w, *line),
+        Command::Finish => finish(alloc, w),
+        Command::Begin { .. } | Command::Close { .. } | Command::Tokens { .. } => {
+            do_port(alloc, w, c)
+        }
+        _ => do_message(alloc, w, c),
+    }
+}
+
+// Opens a port, closes it, or tells where its tokens are.
+#[tactic(auto, using(crate::proofs::Done::done_as, crate::proofs::Done::all_as, crate::proofs::Done::nothing_done))]
+fn do_port(alloc: Global, w: &mut World, c: &Command) -> Result<Printed, AllocError>
+    requires port { IsPortCommand c.now }
+    requires command { IsCommandOf (fabric_of w.old) c.now }
+    ensures done { IfOk result (λ p. IsDone c.now w.old w.new p) }
+    ensures err { OnErr result (IsAllOrNothing c.now w.old w.new) }
+    ensures fabric { fabric_of w.new ≡ fabric_of w.old }
+{
+    match c {
         Command::Begin {
             host,
             port,
@@ -42,14 +62,28 @@ pub fn do_one(
             recvs,
         } => open(alloc, w, PortAt::new(*host, *port), *sends, *recvs),
         Command::Close { host, port } => close(alloc, w, PortAt::new(*host, *port)),
-        Command::Poll { host, port } => poll(alloc, w, PortAt::new(*host, *port)),
         Command::Tokens { host, port } => tokens(alloc, w, PortAt::new(*host, *port)),
+        _ => unreachable!(),
+    }
+}
+
+// Provides a buffer, sends a message, or takes what came of these.
+#[tactic(auto, using(crate::proofs::Done::done_as, crate::proofs::Done::all_as))]
+fn do_message(alloc: Global, w: &mut World, c: &Command) -> Result<Printed, AllocError>
+    requires message { IsMessageCommand c.now }
+    requires command { IsCommandOf (fabric_of w.old) c.now }
+    ensures done { IfOk result (λ p. IsDone c.now w.old w.new p) }
+    ensures err { OnErr result (IsAllOrNothing c.now w.old w.new) }
+    ensures fabric { fabric_of w.new ≡ fabric_of w.old }
+{
+    match c {
         Command::Provide {
             host,
             port,
             size,
             prio,
         } => provide(alloc, w, PortAt::new(*host, *port), *size, *prio),
+        Command::Poll { host, port } => poll(alloc, w, PortAt::new(*host, *port)),
         Command::Send {
             host,
             port,
@@ -58,24 +92,16 @@ pub fn do_one(
             prio,
             len,
             seed,
-        } => send(
-            alloc,
-            w,
-            PortAt::new(*host, *port),
-            SendRequest {
-                to: PortAt::new(*dest, *dport),
+        } => {
+            let to = PortAt::new(*dest, *dport);
+            let message = SendRequest {
+                to,
                 prio: *prio,
                 len: *len,
                 seed: *seed,
-            },
-        ),
-        Command::Plan { ahead, kind } => plan(alloc, w, *ahead, *kind),
-        Command::Step(line) => step(alloc, w, *line),
-        Command::Finish => finish(alloc, w),
-        Command::Map { .. } => unreachable!(),
-        Command::Circuit { .. } => unreachable!(),
-        Command::Routes => unreachable!(),
-        Command::Install { .. } => unreachable!(),
-        Command::Settle => unreachable!(),
+            };
+            send(alloc, w, PortAt::new(*host, *port), message)
+        }
+        _ => unreachable!(),
     }
 }

@@ -1,0 +1,38 @@
+use Rattle.std.proofs.Common.{◌≡◌, ◌∙◌, IfOk, OnErr, sym, ap, subst}
+use Rattle.link_defs.specs.Links.{empty_links}
+use Rattle.world_defs.specs.World.{WorldState, fabric_of}
+use Rattle.run_defs.specs.Session.{SessionState}
+use Rattle.promise_laws.specs.CutShort.{IsCutShort}
+use Rattle.world_commands.specs.Done.{session_of}
+use Rattle.run_session.specs.Holding.{world_in}
+use Rattle.run_session.specs.Kept.{IsLastMap}
+use Rattle.run_session.specs.Obeyed.{IsObeyed}
+use Rattle.run_session.proofs.Keeping.{kept-over}
+use Rattle.run_session.proofs.held.obey_parts.Goals as goal
+
+pub returns-in-None-clause-kept : goal.returns-in-None-clause-kept
+returns-in-None-clause-kept c =
+    let there : world_in c.args.slot.now ≡ c.in-Some.world = cc (c.requires.there) in
+    let complete = subst (λ (w : WorldState). IsLastMap (fabric_of w) c.args.last_map.now) there c.requires.kept.complete in
+    kept-over c.in-Some.world c.obey_here.new.w c.args.last_map.now c.obey_here.new.last_routes c.obey_here.ensures.fabric complete c.obey_here.ensures.routes
+
+pub returns-in-None-clause-links : goal.returns-in-None-clause-links
+returns-in-None-clause-links c =
+    let there : world_in c.args.slot.now ≡ c.in-Some.world = cc (c.requires.there) in
+    c.obey_here.ensures.links ∙ c.requires.links ∙ ap (λ (w : WorldState). empty_links (fabric_of w)) there ∙ sym (ap empty_links c.obey_here.ensures.fabric)
+
+pub returns-in-None-clause-obeyed : goal.returns-in-None-clause-obeyed
+returns-in-None-clause-obeyed c =
+    let there : world_in c.args.slot.now ≡ c.in-Some.world = cc (c.requires.there) in
+    let after : SessionState = session_of c.obey_here.new.w c.args.last_map.now c.obey_here.new.last_routes in
+    subst (λ (w : WorldState). IfOk c.obey_here.result (λ p. IsObeyed (session_of w c.args.last_map.now c.args.last_routes.now) c.args.c.now after p)) (sym there) c.obey_here.ensures.obeyed
+
+pub returns-in-None-clause-fabric : goal.returns-in-None-clause-fabric
+returns-in-None-clause-fabric c =
+    let there : world_in c.args.slot.now ≡ c.in-Some.world = cc (c.requires.there) in
+    c.obey_here.ensures.fabric ∙ ap fabric_of (sym there)
+
+pub returns-in-None-clause-cut : goal.returns-in-None-clause-cut
+returns-in-None-clause-cut c =
+    let there : world_in c.args.slot.now ≡ c.in-Some.world = cc (c.requires.there) in
+    subst (λ (w : WorldState). OnErr c.obey_here.result (IsCutShort (session_of w c.args.last_map.now c.args.last_routes.now) c.args.c.now c.obey_here.new.w)) (sym there) c.obey_here.ensures.cut
