@@ -1,11 +1,12 @@
-# A small repository: a call takes something else than the page says, one is gone, one comes from a crate below, and a crate is gone.
+# A small repository: a call takes something else than the page says, one is gone, one comes from a crate below, a trait asks for one
+# more, and a crate is gone.
 root=$(mktemp -d)
 trap 'rm -rf "$root"' EXIT
 mkdir -p "$root/docs" "$root/crates/low/src" "$root/crates/high/src"
 printf '%s\n' 'low:' 'high: low' > "$root/crates.txt"
 cat > "$root/crates/low/src/lib.rt" <<'END'
 mod walk;
-pub use walk::{Fault, Walk, longest};
+pub use walk::{Asker, Fault, Walk, longest};
 END
 cat > "$root/crates/low/src/walk.rt" <<'END'
 /// A walk.
@@ -44,6 +45,15 @@ pub enum Fault {
     },
 }
 
+/// Who asks.
+pub trait Asker {
+    /// By a walk.
+    fn ask(&mut self, w: &Walk) -> bool;
+
+    /// Once more.
+    fn again(&mut self) -> bool;
+}
+
 /// The longest.
 pub fn longest(walks: &[Walk]) -> usize {
     0
@@ -59,6 +69,8 @@ Walk::new(turns: &'a [i8]) -> Result<Walk<'a>, Fault>
 Walk::turns(&self) -> &[i8]
 Walk::hidden(&self)
 enum Fault { TooLong, At { turn: i8 } }
+trait Asker
+Asker::ask(&mut self, w: &Walk) -> bool
 ```
 
 ### `high`
