@@ -10,7 +10,7 @@ use Rattle.map_defs.specs.Routing.{channels_on, led_to, turned_to, port_of_host,
 use Rattle.map_defs.proofs.Ports.{same_port-refl}
 use Rattle.rank_cert.specs.declared.crossings.Crossing.{Crossing}
 use Rattle.rank_cert.specs.Checking.{fault_along, route_fault, are_one}
-use Rattle.rank_cert.specs.Crossing.{IsCrossing, AreCrossings, far_of}
+use Rattle.rank_cert.specs.Crossing.{IsCrossing, AreBelow, AreCrossings, far_of}
 use Rattle.rank_cert.specs.Listing.{port_at}
 use Rattle.rank_cert.proofs.Places.{port_within}
 
@@ -23,9 +23,6 @@ get_or-nones (suc size) (suc k) = get_or-nones size k
 pub none-crossed : (m : NetMap) (ks : List RankEntry) (size : ℕ) → AreCrossings m ks (replicate size None)
 none-crossed m ks size = record { each = λ k c e. let two : None ≡ Some c = sym (get_or-nones size k) ∙ e in cc }
 
-pub no-table : (m : NetMap) (ks : List RankEntry) (table : List (Option Crossing)) → table ≡ [] → AreCrossings m ks table
-no-table m ks table e = subst (AreCrossings m ks) (sym e) (record { each = λ k c p. (let two : None ≡ Some c = p in cc) })
-
 -- one more channel at its place
 pub crossing-put : (m : NetMap) (ks : List RankEntry) (table : List (Option Crossing)) (k : ℕ) (o : Option Crossing) → k < length table → ((c : Crossing) → o ≡ Some c → IsCrossing m ks (port_at k) c) → AreCrossings m ks table → AreCrossings m ks (set table k o)
 crossing-put m ks table k o low new old = record { each = λ j c e. by j c e (nat_eq j k) refl }
@@ -37,6 +34,30 @@ crossing-put m ks table k o low new old = record { each = λ j c e. by j c e (na
     by j c e false q =
         let apart : j ≢ k = λ p. true≢false (sym ((Decides-eqb j k).1 p) ∙ q) in
         old.each j c (sym (get_or-set_other table k j o None apart) ∙ e)
+
+-- one more place that was looked at
+pub below-next : (m : NetMap) (ks : List RankEntry) (table : List (Option Crossing)) (place : ℕ) (o : Option Crossing) → o ≡ get_or table place None → IfSome o (IsCrossing m ks (port_at place)) → AreBelow place m ks table → AreBelow (place + 1) m ks table
+below-next m ks table place o is right below k c low e = by (nat_eq k place) refl
+  where
+    here : (q : Option Crossing) → q ≡ Some c → IfSome q (IsCrossing m ks (port_at place)) → IsCrossing m ks (port_at place) c
+    here None f h = cc
+    here (Some d) f h = let same : d ≡ c = cc in subst (IsCrossing m ks (port_at place)) same h
+
+    by : (t : Bool) → nat_eq k place ≡ t → IsCrossing m ks (port_at k) c
+    by true q =
+        let same : k ≡ place = (Decides-eqb k place).0 q in
+        subst (λ i. IsCrossing m ks (port_at i) c) (sym same) (here o (is ∙ ap (λ i. get_or table i None) (sym same) ∙ e) right)
+    by false q =
+        let apart : k ≢ place = λ p. true≢false (sym ((Decides-eqb k place).1 p) ∙ q) in
+        below k c (omega (arith, low, apart)) e
+
+some-low : (table : List (Option Crossing)) (k : ℕ) (c : Crossing) → get_or table k None ≡ Some c → k < length table
+some-low [] k c e = cc
+some-low (o ∷ table) zero c e = omega arith
+some-low (o ∷ table) (suc k) c e = let low = some-low table k c e in omega (arith, low)
+
+pub below-all : (m : NetMap) (ks : List RankEntry) (table : List (Option Crossing)) (places : ℕ) → length table ≤ places → AreBelow places m ks table → AreCrossings m ks table
+below-all m ks table places end below = record { each = λ k c e. let low = some-low table k c e in below k c (omega (arith, low, end)) e }
 
 -- the channels behind a port that was entered, and where turns lead from it
 abbrev pub behind : NetMap → MapPort → List ℤ → List MapPort

@@ -12,7 +12,7 @@ ghost use Rattle.rank_cert.specs.Checking.{rank_after, ranked_by, Tells, AreOfOn
 ghost use Rattle.rank_cert.specs.Crossing.{AreCrossings};
 ghost use Rattle.rank_cert.specs.Following.{unpair, channels_after, port_of_pair};
 
-use crate::crossings::{Crossing, crossings};
+use crate::crossings::{Crossing, are_crossings};
 use crate::fault::CheckFault;
 use crate::following::{far_of, led_to, next_by, port_of_host};
 use crate::ranks::Ranks;
@@ -24,7 +24,7 @@ use port_graph::{Route, RouteSet};
 /// that it leads elsewhere before the faults of its channels, and these in their order.
 ///
 /// After `Ok` no channel waits for itself, by whatever chain of others. The routes and the ranks of a map by one
-/// order are always `Ok`.
+/// order are always `Ok`. It takes no memory.
 pub fn check(m: &FabricMap, r: &RouteSet, k: &Ranks) -> Result<(), CheckFault>
     ensures fault { Tells (first_fault m.now k.now r.now) result }
     ensures certified { IsOk result ↔ (AllByRecursion (λ s. LeadsTo m.now s.from s.to s.walk) r.now
@@ -43,8 +43,12 @@ pub fn check(m: &FabricMap, r: &RouteSet, k: &Ranks) -> Result<(), CheckFault>
 fn routes_fault(m: &FabricMap, routes: &[Route], k: &Ranks) -> Option<CheckFault>
     ensures { result ≡ first_fault m.now k.now routes.now }
 {
-    let table = crossings(m, k);
-    fault_among(m, &table, routes, k)
+    let table = k.crossings();
+    if are_crossings(m, k, table) {
+        fault_among(m, table, routes, k)
+    } else {
+        fault_among(m, &[], routes, k)
+    }
 }
 
 // The same, by the channels that have ranks.

@@ -1,6 +1,6 @@
 //! The channels of a map by the places of their ports, so that one look finds where a channel leads, and its rank.
 
-ghost use Rattle.std.specs.Prelude.{◌≡◌, ◌<◌, ℕ, List, replicate, pos, ◌-ℤ◌, None, IfOk, IfSome};
+ghost use Rattle.std.specs.Prelude.{◌≡◌, ◌<◌, ℕ, List, replicate, pos, ◌-ℤ◌, true, None, Some, IfOk, IfSome};
 ghost use Rattle.map_defs.specs.declared.rank.RankEntry.{RankEntry};
 ghost use Rattle.map_defs.specs.NetMap.{NetMap, is_switch_vertex};
 ghost use Rattle.rank_cert.specs.Listing.{port_at};
@@ -17,7 +17,7 @@ pub(crate) const PORTS: usize = 31;
 pub(crate) const MAX_PORT: i8 = 15;
 
 /// A channel that has a rank: with this, and with the port that it enters.
-#[derive(Clone, Copy)]
+#[derive(Clone, Copy, Debug)]
 pub(crate) struct Crossing {
     pub(crate) rank: u64,
     pub(crate) v: u32,
@@ -26,19 +26,12 @@ pub(crate) struct Crossing {
     pub(crate) onward: bool,
 }
 
-/// The channels of a map that have ranks. None are there where memory is wanting.
-pub(crate) fn crossings(m: &FabricMap, k: &Ranks) -> Vec<Option<Crossing>>
-    ensures { AreCrossings m.now k.now result.items }
-{
-    let alloc = k.allocator();
-    match filled(alloc, m, k) {
-        Ok(table) => table,
-        Err(_) => Vec::new(alloc),
-    }
-}
-
-// The channels of these ranks.
-fn filled(alloc: Global, m: &FabricMap, k: &Ranks) -> Result<Vec<Option<Crossing>>, AllocError>
+/// The channels of a map that have these ranks.
+pub(crate) fn crossings(
+    alloc: Global,
+    m: &FabricMap,
+    k: &Ranks,
+) -> Result<Vec<Option<Crossing>>, AllocError>
     ensures { IfOk result (λ table. AreCrossings m.now k.now table.items) }
 {
     let mut table = nones(alloc, PORTS * m.vertices().len())?;
@@ -81,6 +74,52 @@ fn crossing_of(m: &FabricMap, k: &Ranks, v: u32, p: i8) -> Option<Crossing>
                 onward: is_switch(m, w),
             }),
         },
+    }
+}
+
+/// Whether a table has channels of a map alone that have these ranks, each at its place. So it is with the table that
+/// was made with the ranks, for the map that they were made for.
+pub(crate) fn are_crossings(m: &FabricMap, k: &Ranks, table: &[Option<Crossing>]) -> bool
+    ensures { result ≡ true → AreCrossings m.now k.now table.now }
+{
+    for place in 0..table.len() {
+        if !is_right(m, k, place, table[place]) {
+            return false;
+        }
+    }
+    true
+}
+
+// Whether a place has a channel that leaves by its port, if it has one.
+fn is_right(m: &FabricMap, k: &Ranks, place: usize, there: Option<Crossing>) -> bool
+    ensures { result ≡ true → IfSome there (IsCrossing m.now k.now (port_at place)) }
+{
+    match there {
+        None => true,
+        Some(c) => match port_of(place) {
+            None => false,
+            Some((v, p)) => is_one(crossing_of(m, k, v, p), c),
+        },
+    }
+}
+
+// Whether a channel is there, and is this one.
+fn is_one(there: Option<Crossing>, c: Crossing) -> bool
+    ensures { result ≡ true → there ≡ Some c }
+{
+    match there {
+        None => false,
+        Some(d) => d.rank == c.rank && d.v == c.v && d.p == c.p && d.onward == c.onward,
+    }
+}
+
+// The port of a place; none of one that no table has.
+fn port_of(place: usize) -> Option<(u32, i8)>
+    ensures { IfSome result (λ d. port_at place ≡ record { v = d.0; p = d.1 }) }
+{
+    match u32::try_from(place / PORTS) {
+        Ok(v) => Some((v, (place % PORTS) as i8 - MAX_PORT)),
+        Err(_) => None,
     }
 }
 

@@ -5,14 +5,17 @@ ghost use Rattle.map_defs.specs.NetMap.{MapPort};
 ghost use Rattle.map_defs.specs.Ranks.{rank_of};
 ghost use Rattle.rank_cert.specs.Listing.{rise_after, comes_after, port_of, rank_at};
 
+use crate::crossings::Crossing;
 use map_defs::RankEntry;
-use std::alloc::Global;
 use std::marker::Model;
 
 /// Ranks of channels. Of two entries for one channel the first counts. Contracts see the list of entries.
 #[derive(Debug, Drop)]
 pub struct Ranks {
     entries: Vec<RankEntry>,
+    // The channels of the map that they were made for; none of any other entries. Whoever uses them looks whether they
+    // are a map's.
+    crossings: Vec<Option<Crossing>>,
     // Whether the entries rise by vertex and port, so that one is found by halves.
     rising: bool,
 }
@@ -36,7 +39,33 @@ impl Ranks {
         ensures { result ≡ v.items }
     {
         let rising = are_rising(&v);
-        Ranks { entries: v, rising }
+        let crossings = Vec::new(*v.allocator());
+        Ranks {
+            entries: v,
+            crossings,
+            rising,
+        }
+    }
+
+    /// The same ranks with the channels of a map.
+    pub(crate) fn with_crossings(self, crossings: Vec<Option<Crossing>>) -> Ranks
+        ensures { result ≡ self }
+    {
+        let Ranks {
+            entries,
+            crossings: _,
+            rising,
+        } = self;
+        Ranks {
+            entries,
+            crossings,
+            rising,
+        }
+    }
+
+    /// The channels of the map that they were made for, if they were made for one.
+    pub(crate) fn crossings(&self) -> &[Option<Crossing>] {
+        &self.crossings
     }
 
     /// The entries.
@@ -56,11 +85,6 @@ impl Ranks {
         } else {
             found_one_by_one(&self.entries, v, p)
         }
-    }
-
-    /// The allocator of the entries.
-    pub(crate) fn allocator(&self) -> Global {
-        *self.entries.allocator()
     }
 }
 
