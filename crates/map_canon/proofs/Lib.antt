@@ -6,3 +6,4 @@ pub mod Free
 pub mod ReadBack
 pub mod Printed
 pub mod Placed
+pub mod Sound

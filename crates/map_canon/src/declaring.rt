@@ -1,6 +1,6 @@
 //! A line of a map: its words, and what they declare or their first fault.
 
-ghost use Rattle.std.specs.Prelude.{◌≡◌};
+ghost use Rattle.std.specs.Prelude.{◌≡◌, IsErrOf, IsOk};
 ghost use Rattle.fab_text.specs.Line.{words_of};
 ghost use Rattle.fab_text.specs.Fault.{LineLeaves};
 ghost use Rattle.map_canon.specs.Declaring.{declared, declared_as, host_line, host_declared, host_placed, switch_line};
@@ -24,9 +24,10 @@ pub(crate) fn is_end(line: &[u8]) -> bool
     }
 }
 
-/// Adds what a line declares.
+/// Adds what a line declares. A line that has a fault takes no memory.
 pub(crate) fn declare(map: &mut MapSoFar, f: &Fabric, line: &[u8]) -> Result<(), LineFault>
-    ensures { LineLeaves (declared f.now map.old (words_of line.now)) map.new result }
+    ensures reading { LineLeaves (declared f.now map.old (words_of line.now)) map.new result }
+    ensures memory { IsErrOf result LineFault.NoMemory → IsOk (declared f.now map.old (words_of line.now)) }
 {
     let mut args = words(line);
     match args.next_word() {
@@ -37,7 +38,8 @@ pub(crate) fn declare(map: &mut MapSoFar, f: &Fabric, line: &[u8]) -> Result<(),
 
 // Adds what a line declares that begins with this word.
 fn declare_as(map: &mut MapSoFar, f: &Fabric, first: &[u8], args: Words) -> Result<(), LineFault>
-    ensures { LineLeaves (declared_as f.now map.old first.now (words_of args.entry)) map.new result }
+    ensures reading { LineLeaves (declared_as f.now map.old first.now (words_of args.entry)) map.new result }
+    ensures memory { IsErrOf result LineFault.NoMemory → IsOk (declared_as f.now map.old first.now (words_of args.entry)) }
 {
     if first == b"host".as_slice() {
         declare_host(map, f, args)
@@ -52,7 +54,8 @@ fn declare_as(map: &mut MapSoFar, f: &Fabric, first: &[u8], args: Words) -> Resu
 
 // `host NAME`
 fn declare_host(map: &mut MapSoFar, f: &Fabric, args: Words) -> Result<(), LineFault>
-    ensures { LineLeaves (host_line f.now map.old (words_of args.entry)) map.new result }
+    ensures reading { LineLeaves (host_line f.now map.old (words_of args.entry)) map.new result }
+    ensures memory { IsErrOf result LineFault.NoMemory → IsOk (host_line f.now map.old (words_of args.entry)) }
 {
     match args.one() {
         Some(name) => add_host(map, f, name),
@@ -61,7 +64,8 @@ fn declare_host(map: &mut MapSoFar, f: &Fabric, args: Words) -> Result<(), LineF
 }
 
 fn add_host(map: &mut MapSoFar, f: &Fabric, name: &[u8]) -> Result<(), LineFault>
-    ensures { LineLeaves (host_declared f.now map.old name.now) map.new result }
+    ensures reading { LineLeaves (host_declared f.now map.old name.now) map.new result }
+    ensures memory { IsErrOf result LineFault.NoMemory → IsOk (host_declared f.now map.old name.now) }
 {
     if is_name(name) {
         place_host(map, f.find(name))
@@ -72,7 +76,8 @@ fn add_host(map: &mut MapSoFar, f: &Fabric, name: &[u8]) -> Result<(), LineFault
 
 // Adds a host of the fabric, if it is one.
 fn place_host(map: &mut MapSoFar, v: Option<Vertex>) -> Result<(), LineFault>
-    ensures { LineLeaves (host_placed map.old v) map.new result }
+    ensures reading { LineLeaves (host_placed map.old v) map.new result }
+    ensures memory { IsErrOf result LineFault.NoMemory → IsOk (host_placed map.old v) }
 {
     match v {
         Some(Vertex::Host(h)) => map.add_host(h),
@@ -83,7 +88,8 @@ fn place_host(map: &mut MapSoFar, v: Option<Vertex>) -> Result<(), LineFault>
 
 // `switch #K core` or `switch #K outside`
 fn declare_switch(map: &mut MapSoFar, args: Words) -> Result<(), LineFault>
-    ensures { LineLeaves (switch_line map.old (words_of args.entry)) map.new result }
+    ensures reading { LineLeaves (switch_line map.old (words_of args.entry)) map.new result }
+    ensures memory { IsErrOf result LineFault.NoMemory → IsOk (switch_line map.old (words_of args.entry)) }
 {
     match args.two() {
         Some((number, mark)) => add_switch(map, number, mark),
@@ -92,7 +98,8 @@ fn declare_switch(map: &mut MapSoFar, args: Words) -> Result<(), LineFault>
 }
 
 fn add_switch(map: &mut MapSoFar, number: &[u8], mark: &[u8]) -> Result<(), LineFault>
-    ensures { LineLeaves (switch_declared map.old number.now mark.now) map.new result }
+    ensures reading { LineLeaves (switch_declared map.old number.now mark.now) map.new result }
+    ensures memory { IsErrOf result LineFault.NoMemory → IsOk (switch_declared map.old number.now mark.now) }
 {
     if !is_next(map, number) {
         return Err(LineFault::Wrong(FaultKind::BadWord));
@@ -105,7 +112,8 @@ fn add_switch(map: &mut MapSoFar, number: &[u8], mark: &[u8]) -> Result<(), Line
 
 // `cable V P W Q`
 fn declare_cable(map: &mut MapSoFar, f: &Fabric, args: Words) -> Result<(), LineFault>
-    ensures { LineLeaves (cable_line f.now map.old (words_of args.entry)) map.new result }
+    ensures reading { LineLeaves (cable_line f.now map.old (words_of args.entry)) map.new result }
+    ensures memory { IsErrOf result LineFault.NoMemory → IsOk (cable_line f.now map.old (words_of args.entry)) }
 {
     match args.four() {
         Some(((v, p), (w, q))) => add_cable(map, f, v, p, w, q),
@@ -121,7 +129,8 @@ fn add_cable(
     w: &[u8],
     q: &[u8],
 ) -> Result<(), LineFault>
-    ensures { LineLeaves (cable_declared f.now map.old v.now p.now w.now q.now) map.new result }
+    ensures reading { LineLeaves (cable_declared f.now map.old v.now p.now w.now q.now) map.new result }
+    ensures memory { IsErrOf result LineFault.NoMemory → IsOk (cable_declared f.now map.old v.now p.now w.now q.now) }
 {
     match (read_end(v, p), read_end(w, q)) {
         (Err(kind), _) => Err(LineFault::Wrong(kind)),
@@ -136,7 +145,8 @@ fn add_cable(
 
 // Joins two ports, where both vertices are there.
 fn join(map: &mut MapSoFar, v: Option<u32>, p: i8, w: Option<u32>, q: i8) -> Result<(), LineFault>
-    ensures { LineLeaves (cable_between map.old v p w q) map.new result }
+    ensures reading { LineLeaves (cable_between map.old v p w q) map.new result }
+    ensures memory { IsErrOf result LineFault.NoMemory → IsOk (cable_between map.old v p w q) }
 {
     match (v, w) {
         (Some(v), Some(w)) => map.add_cable(MapCable { v, p, w, q }),

@@ -1,10 +1,10 @@
 //! The map of the lines so far, with its switches by number.
 
-ghost use Rattle.std.specs.Prelude.{◌≡◌, ◌<◌, length, slice_get};
+ghost use Rattle.std.specs.Prelude.{◌≡◌, ◌<◌, length, slice_get, IsErrOf, IsOk};
 ghost use Rattle.fab_text.specs.Fault.{LineLeaves};
 ghost use Rattle.map_defs.specs.NetMap.{switches_of};
 ghost use Rattle.map_defs.specs.Routing.{vertex_of_host};
-ghost use Rattle.fabric_map.specs.Growing.{empty_map, host_refusal, switch_refusal, with_host, with_switch};
+ghost use Rattle.fabric_map.specs.Growing.{empty_map, is_full, host_refusal, switch_refusal, with_host, with_switch};
 ghost use Rattle.map_canon.specs.Declaring.{unless, cable_placed, refused_line, vertex_of_switch};
 
 use fab_text::{FaultKind, LineFault};
@@ -50,7 +50,8 @@ impl MapSoFar {
 
     /// Adds a host by its address.
     pub(crate) fn add_host(&mut self, h: u16) -> Result<(), LineFault>
-        ensures { LineLeaves (unless (host_refusal self.old h) (with_host self.old h)) self.new result }
+        ensures reading { LineLeaves (unless (host_refusal self.old h) (with_host self.old h)) self.new result }
+        ensures memory { IsErrOf result LineFault.NoMemory → IsOk (unless (host_refusal self.old h) (with_host self.old h)) }
     {
         match self.map.add_host(h) {
             Ok(_) => Ok(()),
@@ -60,8 +61,12 @@ impl MapSoFar {
 
     /// Adds the next switch.
     pub(crate) fn add_switch(&mut self, core: bool) -> Result<(), LineFault>
-        ensures { LineLeaves (unless (switch_refusal self.old) (with_switch self.old core)) self.new result }
+        ensures reading { LineLeaves (unless (switch_refusal self.old) (with_switch self.old core)) self.new result }
+        ensures memory { IsErrOf result LineFault.NoMemory → IsOk (unless (switch_refusal self.old) (with_switch self.old core)) }
     {
+        if is_full(&self.map) {
+            return Err(LineFault::Wrong(FaultKind::Full));
+        }
         if self.switches.reserve(1).is_err() {
             return Err(LineFault::NoMemory);
         }
@@ -76,7 +81,8 @@ impl MapSoFar {
 
     /// Adds a cable.
     pub(crate) fn add_cable(&mut self, c: MapCable) -> Result<(), LineFault>
-        ensures { LineLeaves (cable_placed self.old c) self.new result }
+        ensures reading { LineLeaves (cable_placed self.old c) self.new result }
+        ensures memory { IsErrOf result LineFault.NoMemory → IsOk (cable_placed self.old c) }
     {
         match self.map.add_cable(c) {
             Ok(_) => Ok(()),
@@ -115,6 +121,13 @@ fn number_at(numbers: &[u32], place: usize) -> Option<u32>
     } else {
         None
     }
+}
+
+// Whether no number is left for one vertex more.
+fn is_full(map: &FabricMap) -> bool
+    ensures { result ≡ is_full (length map.now.vertices) }
+{
+    map.vertices().len() >= u32::MAX as usize
 }
 
 // What a map's refusal of a line comes to.

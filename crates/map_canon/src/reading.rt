@@ -1,11 +1,11 @@
 //! A text of a map.
 
-ghost use Rattle.std.specs.Prelude.{◌≡◌, ◌≤◌, length, IfOk};
+ghost use Rattle.std.specs.Prelude.{◌≡◌, ◌≢◌, ◌<◌, ◌≤◌, length, Err, IfOk, IsErrOf};
 ghost use Rattle.fab_text.specs.Line.{lines_left};
 ghost use Rattle.fab_text.specs.Fault.{TextGives};
 ghost use Rattle.fabric_map.specs.Growing.{IsFabricMap};
 ghost use Rattle.map_canon.specs.Printing.{AreOfFabric};
-ghost use Rattle.map_canon.specs.Reading.{map_reading, ended};
+ghost use Rattle.map_canon.specs.Reading.{map_reading, sound_lines, ended};
 
 use crate::declaring::{declare, is_end};
 use crate::growing::MapSoFar;
@@ -26,6 +26,8 @@ pub fn read_map(alloc: Global, text: &[u8], f: &Fabric) -> Result<FabricMap, Tex
     requires { length text.now ≤ 4294967290 }
     // Exactly the map that the lines declare, or exactly the first fault.
     ensures reading { TextGives (map_reading f.now text.now) result }
+    // Memory may be wanting only where a line stands before the first fault: one that has a fault takes none.
+    ensures memory { IsErrOf result TextFault.NoMemory → 0 < length (sound_lines f.now text.now) }
     ensures is_map { IfOk result (λ m. IsFabricMap m) }
     ensures of_fabric { IfOk result (λ m. AreOfFabric f.now m) }
 {
@@ -48,6 +50,7 @@ pub fn read_map(alloc: Global, text: &[u8], f: &Fabric) -> Result<FabricMap, Tex
 // A map whose lines ended.
 fn ended(map: FabricMap, mut left: Lines) -> Result<FabricMap, TextFault>
     ensures ended { TextGives (ended map (lines_left left.entry)) result }
+    ensures known { result ≢ Err TextFault.NoMemory }
     ensures is_map { IfOk result (λ m. IsFabricMap m) }
 {
     let _ = map.vertices();

@@ -1,10 +1,13 @@
-use Rattle.std.proofs.Common.{◌≡◌, ◌+◌, length}
+use Rattle.std.proofs.Common.{◌≡◌, ◌<◌, ◌+◌, length}
 use Rattle.fab_text.specs.Line.{line_count, lines_left}
-use Rattle.map_canon.specs.Reading.{map_from}
+use Rattle.map_canon.specs.Reading.{map_from, sound_from}
 use Rattle.map_canon.proofs.reading.read_map.Given as goal
 
 abbrev pub invariant-lines : goal.invariant-lines
-invariant-lines l = map_from (line_count l.text + 1) l.f l.initial.map (lines_left l.initial.left) ≡ map_from (line_count l.text + 1) l.f l.map (lines_left l.left)
+invariant-lines l = record {
+  same : map_from (line_count l.text + 1) l.f l.initial.map (lines_left l.initial.left) ≡ map_from (line_count l.text + 1) l.f l.map (lines_left l.left);
+  some_sound : 0 < length (sound_from l.f l.map (lines_left l.left)) → 0 < length (sound_from l.f l.initial.map (lines_left l.initial.left));
+}
 
 abbrev pub decreases-lines : goal.decreases-lines
 decreases-lines l = length l.left.text
