@@ -1,5 +1,5 @@
 -- Every act leaves each provided buffer as it was provided.
-use Rattle.std.proofs.Common.{◌≡◌, ◌≤◌, ◌+◌, ◌-◌, ℕ, Bool, true, false, ◌&&◌, List, [], ◌∷◌, ◌++◌, length, replicate, get_or, set, take, drop, min, nat_eq, nat_lt, nat_le, Option, Some, None, IfSome, is_some, option_map, Ok, refl, sym, ap, ◌∙◌, subst, arith, length-append, if◌then◌else◌}
+use Rattle.std.proofs.Common.{◌≡◌, ◌≤◌, ◌+◌, ◌-◌, ℕ, Bool, true, false, ◌&&◌, List, [], ◌∷◌, ◌++◌, length, replicate, get_or, set, take, drop, min, map, append-nil, nat_eq, nat_lt, nat_le, Option, Some, None, IfSome, is_some, option_map, Ok, refl, sym, ap, ◌∙◌, subst, arith, length-append, if◌then◌else◌}
 use Rattle.std.specs.Prelude.{◌%◌}
 use Rattle.std.specs.List.{AllByRecursion, filter}
 use Rattle.std.proofs.lemmas.Bool.Decides.{nat_tests}
@@ -13,7 +13,7 @@ use Rattle.gm_defs.specs.declared.token.Took.{Took}
 use Rattle.gm_defs.specs.declared.token.Took.TheVariants.{NotNext, NoToken, Part, Whole}
 use Rattle.gm_defs.specs.Body.{piece, message_limit, number_limit, is_prio, is_offset, is_last, is_head, begins_with, frame_length, head_in, part_in, decode}
 use Rattle.gm_defs.specs.declared.token.Filling.{Filling}
-use Rattle.gm_defs.specs.Token.{Sending, Provided, PortState, room, is_size, size_for_length, fits, takes_at, taker}
+use Rattle.gm_defs.specs.Token.{Sending, Provided, PortState, sends_out, recvs_out, sent_tokens, received_tokens, room, is_size, size_for_length, fits, takes_at, taker}
 use Rattle.gm_defs.specs.Port.{send_of, ended_by, finished, filled, filling_with, delivered, sent_with}
 use Rattle.gm_defs.proofs.Bodies.{read_frame}
 use Rattle.gm_defs.proofs.Choices.{both}
@@ -31,15 +31,17 @@ use Rattle.world_defs.specs.Node.{NodeState, Outgoing, Probe, TablePart, Reply, 
 use Rattle.world_defs.specs.Hearing.{frame_lane, ack_lane, message_of, delivered_after, frame_took, all_finished}
 use Rattle.world_defs.specs.Client.{ClientState, Called, Wanted, client_bytes, empty_buffer, close_refusal, close_unless, close_open, closed, send_accepted}
 use Rattle.world_defs.specs.World.{WorldState, host_count, new_world, node_at, client_at}
+use Rattle.world_defs.specs.Sound.{IsEachOnce, HasOwners, AreOwned}
 use Rattle.world_defs.proofs.Calls.{IsClosable, not_refused-closable}
 use Rattle.world_laws.proofs.Lists.{at-set}
 use Rattle.act_defs.specs.Acts.{Act, acted, IsReached}
+use Rattle.owner_laws.proofs.Owners.{always-owned}
 use Rattle.message_laws.proofs.Heard.{IsHeard, quietly, of_frame, of_ack, hear-is}
 use Rattle.message_laws.proofs.Hosts.{Rules, Goes, acted-goes}
 use Rattle.act_defs.proofs.Reaching.{reached-has}
 use Rattle.message_laws.proofs.Windows.{numbers_of, reached-windowed}
 use Rattle.message_laws.proofs.Taking.{taker-prio}
-use Rattle.message_laws.specs.Untouched.{held_in, IsUntouched, HandsBack, HandsBackBy, ProvidedBuffersAreUntouched, ClosedBuffersAreUntouched}
+use Rattle.message_laws.specs.Untouched.{held_in, IsUntouched, IsAsProvided, HandsBack, HandsBackBy, ProvidedBuffersAreUntouched, ClosedBuffersAreUntouched}
 use Rattle.message_laws.proofs.Calls.{PortCalled, stays, opens, closes, provides, polls, IsCall, CallDoes, call-does}
 use Rattle.world_defs.proofs.Lists.{each-replicate}
 
@@ -290,20 +292,66 @@ said-back : (n : NodeState) (port count : ℕ) (c : Option ClientState) → (clo
 unfolding closed
 said-back n port count c e = closed-back n port count c (port_at n port) e
 
--- a buffer that holds nothing of a message
-all-empty : (rs : List Provided) → length (filter (λ r. is_some r.filling) rs) ≡ 0 → AllByRecursion IsUntouched rs → AllByRecursion (λ r. r.buffer ≡ empty_buffer r.size) rs
+-- buffers that hold nothing of a message
+all-empty : (rs : List Provided) → length (filter (λ r. is_some r.filling) rs) ≡ 0 → AllByRecursion IsUntouched rs → AllByRecursion IsAsProvided rs
 all-empty [] none all = tt
 all-empty (r ∷ rs) none all = by r.filling refl none all.0 (λ d. all-empty rs d all.1)
   where
     by : (o : Option Filling) → r.filling ≡ o → length (if is_some o then r ∷ filter (λ r. is_some r.filling) rs else filter (λ r. is_some r.filling) rs) ≡ 0 → IsUntouched r
-        → (length (filter (λ r. is_some r.filling) rs) ≡ 0 → AllByRecursion (λ r. r.buffer ≡ empty_buffer r.size) rs) → AllByRecursion (λ r. r.buffer ≡ empty_buffer r.size) (r ∷ rs)
+        → (length (filter (λ r. is_some r.filling) rs) ≡ 0 → AllByRecursion IsAsProvided rs) → AllByRecursion IsAsProvided (r ∷ rs)
     by (Some f) e d is rest = absurd (omega (arith, d))
-    by None e d is rest = (subst (λ o. drop (held_in o) r.buffer ≡ drop (held_in o) (empty_buffer r.size)) e is.others, rest d)
+    by None e d is rest = (record { holds_none = e; zeros = subst (λ o. drop (held_in o) r.buffer ≡ drop (held_in o) (empty_buffer r.size)) e is.others }, rest d)
+
+-- the client of an open port, and whose its tokens are
+record IsHeldBy (p : PortState) (c : Option ClientState) : Type 0 where
+  client : ClientState
+  there : c ≡ Some client
+  owners : HasOwners p client
+
+held-by : (p : PortState) (o : Option PortState) (c : Option ClientState) → o ≡ Some p → AreOwned o c → IsHeldBy p c
+held-by p o c e is = by c refl (subst (λ q. AreOwned q c) e is)
+  where
+    by : (d : Option ClientState) → c ≡ d → AreOwned (Some p) d → IsHeldBy p c
+    by (Some d) there k = record { client = d; there = there; owners = k }
+    by None there k = absurd k
+
+reached-held : (n : Network) (w : WorldState) → IsReached n w → (h port : ℕ) (p : PortState) → port_at (node_at w h) port ≡ Some p → IsHeldBy p (client_at w h port)
+reached-held n w is h port p e =
+    held-by p (port_at (node_at w h) port) (client_at w h port) e
+    (subst (λ v. AreOwned (port_at (node_at v h) port) (client_at v h port)) (sym is.leads) (always-owned n is.acts h port))
+
+-- no send is left and no event waits, so the tokens are with the client and with the provided buffers
+no-length : {A : Type 0} (xs : List A) → length xs ≡ 0 → xs ≡ []
+no-length [] e = refl
+no-length (x ∷ xs) e = absurd (omega (arith, e))
+
+closable-sends : (p : PortState) (c : ClientState) → IsClosable p → HasOwners p c → IsEachOnce p.sends c.sends
+closable-sends p c k is =
+    let none : sends_out p ≡ [] = ap (λ q. map (λ (s : Sending). s.token) q ++ sent_tokens p.events) (no-length p.queue k.finished) ∙ ap sent_tokens (no-length p.events k.read) in
+    subst (IsEachOnce p.sends) (ap (λ l. c.sends ++ l) none ∙ append-nil c.sends) is.sends
+
+closable-recvs : (p : PortState) (c : ClientState) → IsClosable p → HasOwners p c → IsEachOnce p.recvs (c.recvs ++ map (λ r. r.token) p.provided)
+closable-recvs p c k is =
+    let tokens : List ℕ = map (λ (r : Provided). r.token) p.provided in
+    let same : recvs_out p ≡ tokens = ap (λ es. tokens ++ received_tokens es) (no-length p.events k.read) ∙ append-nil tokens in
+    subst (IsEachOnce p.recvs) (ap (λ l. c.recvs ++ l) same) is.recvs
 
 closed-back_untouched : (n : Network) (w : WorldState) → IsReached n w → (h port count : ℕ) → (closed (node_at w h) port (client_at w h port)).said ≡ Count count → HandsBack w h port count
 closed-back_untouched n w is h port count e =
     let back = said-back (node_at w h) port count (client_at w h port) e in
-    record { port_state = back.0; was_open = back.1.0; as_many = back.1.1.0; untouched = all-empty back.0.provided back.1.1.1.whole (provided-untouched n w is h port back.0 back.1.0) }
+    let p : PortState = back.0 in
+    let k : IsClosable p = back.1.1.1 in
+    let held : IsHeldBy p (client_at w h port) = reached-held n w is h port p back.1.0 in
+    record {
+      port_state = p;
+      was_open = back.1.0;
+      client = held.client;
+      was_held = held.there;
+      as_many = back.1.1.0;
+      untouched = all-empty p.provided k.whole (provided-untouched n w is h port p back.1.0);
+      recvs = closable-recvs p held.client k held.owners;
+      sends = closable-sends p held.client k held.owners;
+    }
 
 pub closed-untouched : ClosedBuffersAreUntouched
 closed-untouched n w is (Close h port) = by (closed (node_at w h) port (client_at w h port)).said refl

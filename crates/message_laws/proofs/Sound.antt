@@ -1,7 +1,7 @@
 -- Every world that is reached is sound.
 use Rattle.std.proofs.Common.{sym, subst}
 use Rattle.net_defs.specs.Network.{Network}
-use Rattle.world_defs.specs.World.{WorldState, node_at, client_at, new_world}
+use Rattle.world_defs.specs.World.{WorldState, node_at, client_at}
 use Rattle.world_defs.specs.Node.{port_at}
 use Rattle.world_defs.specs.Sound.{IsSound, AreOwned}
 use Rattle.act_defs.specs.Acts.{IsReached}

@@ -62,7 +62,7 @@ buffer-provided = refl
 
 pub close-hands-back : CloseHandsBack
 unfolding begun closed provided_by
-close-hands-back = refl
+close-hands-back = (refl, refl, refl)
 
 pub message-received : MessageIsReceived
 unfolding to_send packet_for after_sending hear begun provided_by sent_by planned_strikes sent_out injected advanced

@@ -126,9 +126,14 @@ BufferIsProvided =
 abbrev pub provided_world : WorldState
 provided_world = acted_all (new_world two_hosts) (Happens (Begin 0 3 1 2) ∷ Happens (Provide 0 3 6 0) ∷ [])
 
--- a close there hands back one buffer
+-- a close there hands back one buffer: that of the receive token 0, while the client holds the receive token 1 and the
+-- send token 0
 abbrev pub CloseHandsBack : Type 0
-CloseHandsBack = (closed (node_at provided_world 0) 3 (client_at provided_world 0 3)).said ≡ Count 1
+CloseHandsBack =
+    ((closed (node_at provided_world 0) 3 (client_at provided_world 0 3)).said ≡ Count 1)
+    × (option_map (λ p. p.provided) (port_at (node_at provided_world 0) 3)
+    ≡ Some (record { token = 0; size = 6; prio = 0; filling = None; buffer = empty_buffer 6 } ∷ []))
+    × (client_at provided_world 0 3 ≡ Some (record { sends = 0 ∷ []; recvs = 1 ∷ [] }))
 
 -- the byte that host 1 received from host 0 stands in front of seven zero bytes
 abbrev pub MessageIsReceived : Type 0

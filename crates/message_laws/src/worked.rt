@@ -27,7 +27,7 @@ pub fn one_send()
     ensures finished { SendIsFinished }
 {}
 
-/// A buffer is provided, and a close hands it back.
+/// A buffer is provided, and a close hands it back with its token.
 pub fn one_buffer()
     ensures provided { BufferIsProvided }
     ensures closed { CloseHandsBack }
