@@ -14,6 +14,7 @@ pub mod Ports
 pub mod Taking
 pub mod Fillings
 pub mod Calls
+pub mod Growing
 pub mod Routed
 pub mod HostTickets
 pub mod Known

@@ -1,4 +1,5 @@
 pub mod Order
+pub mod Growing
 pub mod Says
 pub mod Windows
 pub mod Got

@@ -8,6 +8,7 @@
 //! | file of `specs/` | says |
 //! |---|---|
 //! | `Order` | what was got is a prefix of what was sent |
+//! | `Growing` | what was sent and got only grows, behind what was there |
 //! | `Says` | what a frame on its way says |
 //! | `Windows` | the window of each connection, and the packets on their way |
 //! | `Got` | how much of what was sent is got |
@@ -31,7 +32,9 @@ pub use buffer::untouched_buffers;
 pub use event::{received_messages, returned_messages};
 pub use filling::what_is_coming;
 pub use got::{acknowledged_messages, messages_below_taken};
-pub use order::{frames_on_their_way, messages_in_order, messages_of_a_priority};
+pub use order::{
+    frames_on_their_way, messages_in_order, messages_of_a_priority, messages_only_grow,
+};
 pub use queue::unfinished_sends;
 pub use window::{honest_packets, windows_hold};
 pub use worked::{one_acknowledgement, one_buffer, one_event, one_message, one_send};
