@@ -27,11 +27,12 @@ use Rattle.run_defs.specs.Headline.{IsCommandOf, HasPrinted, IsPromised as IsPro
 use Rattle.fab_script.specs.Ranges.{IsCommandOf as IsSaid}
 use Rattle.fab_script.proofs.Ranged.{reading_ranged}
 use Rattle.run_laws.specs.Acts.{IsActOf}
-use Rattle.run_laws.proofs.Reaching.{run_has_no_cycle}
+use Rattle.run_laws.proofs.Reaching.{run_is_reached, run_has_no_cycle}
 use Rattle.install_line_laws.proofs.Lines.{line-true}
 use Rattle.settle_line_laws.proofs.Lines.{line-true as settled-true}
 use Rattle.mapping_laws.proofs.Printed.{circuit_maps_are_true, deep_circuit_maps_are_cores}
 use Rattle.print_laws.proofs.Pieces.{complete_maps_read_back, circuit_maps_read_back}
+use Rattle.message_laws.proofs.Fillings.{coming-tied}
 use Rattle.promise_laws.proofs.Said.{said-command, said-act}
 use Rattle.promise_laws.proofs.Sound.{always_promised}
 use Rattle.promise_laws.specs.Existence.{HasRun}
@@ -147,10 +148,12 @@ text_promised text a e =
           (installed k out rest s next tries acked total r at does).unharmed (omega (arith, some)) left same;
       settled = λ k out rest s next rounds resets unacked r at does. settled-true n (take k cs) out rest s next rounds resets unacked o.fabric (acts k) r does;
       behind = λ k out last r. runs_end_sound n (take k cs) out last o.fabric (acts k) r;
+      reached = λ k out last r. run_is_reached n (take k cs) out last o.fabric (acts k) r;
       acts = λ k out printed s next c r at does.
           commands_have_sound_acts n (take k cs) out printed s next c o.fabric (acts k) (said-act n c (all-nth (IsSaid n) cs k c o.said at)) r does;
       cut = λ k out s c v r at is.
           cut_commands_leave_sound n (take k cs) out s c v o.fabric (acts k) (said-act n c (all-nth (IsSaid n) cs k c o.said at)) r is;
       sound = (promised 0).sound;
+      parts = coming-tied n;
       no_cycle = λ k out last r. run_has_no_cycle n (take k cs) out last o.fabric (acts k) r;
     }

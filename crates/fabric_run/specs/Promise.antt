@@ -23,11 +23,12 @@ use Rattle.run_defs.specs.Output.{Piece, OneLine, MapLines}
 use Rattle.run_defs.specs.Session.{SessionState}
 use Rattle.run_defs.specs.Run.{Does, IsRun}
 use Rattle.run_defs.specs.Headline.{HasPrinted, IsQuiet}
-use Rattle.act_defs.specs.Acts.{AlwaysSound}
+use Rattle.act_defs.specs.Acts.{AlwaysSound, IsReached}
 use Rattle.map_canon.specs.Reading.{map_reading}
 use Rattle.mapping_laws.specs.Circuits.{HasPrintedCircuit}
 use Rattle.install_line_laws.specs.Runs.{IsInstalledLine}
 use Rattle.settle_line_laws.specs.Lines.{IsSettledLine}
+use Rattle.message_laws.specs.Filling.{HasTiedParts}
 use Rattle.promise_laws.specs.CommandActs.{HasSoundActs}
 use Rattle.promise_laws.specs.CutShort.{IsCutShort}
 use Rattle.promise_laws.specs.Existence.{HasDone, HasRun}
@@ -104,8 +105,18 @@ abbrev pub WorldsAreSound : AcceptedText → Type 0
 WorldsAreSound a = (count : ℕ) (out : List Piece) (last : SessionState)
     → IsRun a.network (take count a.commands) out last → IsSound last.world
 
--- behind first commands of a text, the next one, once it is done, has been acts that lead to the world behind it, and
--- behind each prefix of these acts the world is sound
+-- behind first commands of a text the world is reached: acts that may happen lead to it from the fabric's first world
+abbrev pub WorldsAreReached : AcceptedText → Type 0
+WorldsAreReached a = (count : ℕ) (out : List Piece) (last : SessionState)
+    → IsRun a.network (take count a.commands) out last → IsReached a.network last.world
+
+-- in every world that is reached what came of a message in part stands in one provided buffer, of its port, its sender
+-- and its priority, and no other buffer is filling for these
+abbrev pub PartsAreTied : AcceptedText → Type 0
+PartsAreTied a = (w : WorldState) → IsReached a.network w → HasTiedParts w
+
+-- behind first commands of a text, the next one, once it is done, has been acts that lead to the world behind it, each
+-- of them one action of one host or of one channel, and behind each prefix of these acts the world is sound
 abbrev pub CommandsHaveSoundActs : AcceptedText → Type 0
 CommandsHaveSoundActs a =
     (count : ℕ) (out printed : List Piece) (s next : SessionState) (c : Command)
@@ -136,10 +147,12 @@ CircuitMapsAreTrue a =
 
 -- The promise of an accepted text: its commands have a run, and one, whose text is the report. Its maps under the word
 -- complete are true, deep maps of a quiet fabric say so, its maps of circuit links are true, each count of installed
--- hosts has its cause, and each settle ends settled. The world is sound behind its first commands, and behind each
+-- hosts has its cause, and each settle ends settled while injections are left. Each command is acts, each one action
+-- of one host or of one channel, and may happen. The world is sound behind its first commands, and behind each
 -- prefix of the acts of the next one, where that is done and where it is cut short: the installed routes have no
 -- cycle, what was got is a prefix of what was sent, for each sender, receiver and priority, and each token has one
--- owner. So it is at every moment, whatever happens before it.
+-- owner; and of a message that came in part one provided buffer holds what came. So it is at every moment, whatever
+-- happens before it.
 pub record IsPromised (a : AcceptedText) : Type 0 where
   pub report : HasRun a.network a.commands
   pub done : EachCommandIsDone a
@@ -151,7 +164,9 @@ pub record IsPromised (a : AcceptedText) : Type 0 where
   pub unharmed : UnharmedInstallationsCountAll a
   pub settled : SettledLinesAreTrue a
   pub behind : WorldsAreSound a
+  pub reached : WorldsAreReached a
   pub acts : CommandsHaveSoundActs a
   pub cut : CutCommandsLeaveSound a
   pub sound : AlwaysSound a.network
+  pub parts : PartsAreTied a
   pub no_cycle : RoutesHaveNoCycle a

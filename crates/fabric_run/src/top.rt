@@ -99,8 +99,9 @@ pub fn run<S: Source, K: Sink>(alloc: Global, words: &[Word], input: &mut S, out
 
     // Every accepted text, and so every prefix of its script, keeps the promise: a map under the word complete is
     // right, a deep one of a quiet fabric says so, a map of circuit links is the circuit map to its depth, each count
-    // of installed hosts has its cause, each settle ends settled, and the installed routes have no cycle. Every moment
-    // of the run is sound: the world behind its first commands, and behind each prefix of the acts of the next one.
+    // of installed hosts has its cause, each settle ends settled, and the installed routes have no cycle. Each command
+    // is acts, each one action of one host or of one channel. Every moment of the run is sound, and reached by acts
+    // that may happen: the world behind its first commands, and behind each prefix of the acts of the next one.
     ensures promise { (text : List ℕ) (a : AcceptedText) → IsAccepted text a → IsPromised a }
 {
     promised_texts();

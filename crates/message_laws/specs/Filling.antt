@@ -37,8 +37,11 @@ pub data IsTied (ports : ℕ → Option PortState) (src prio : ℕ) (next : Opti
       → filling_in (ports m.dport) src prio ≡ r ∷ [] → IsFillingWith m part r
       → ((port : ℕ) → port ≢ m.dport → filling_in (ports port) src prio ≡ []) → IsTied ports src prio next part
 
--- on each connection of a priority
-abbrev pub ComingIsTied : Type 0
-ComingIsTied =
-    (n : Network) (w : WorldState) → IsReached n w → (c : ConnectionKey) → c.prio < prio_limit
+-- on each connection of a priority that is what came of its next message
+abbrev pub HasTiedParts : WorldState → Type 0
+HasTiedParts w = (c : ConnectionKey) → c.prio < prio_limit
     → IsTied (port_at (node_at w c.dst)) c.src c.prio (slice_get (sent_on w c) (length (got_on w c))) (coming_on w c)
+
+-- so it is in every world that is reached
+abbrev pub ComingIsTied : Type 0
+ComingIsTied = (n : Network) (w : WorldState) → IsReached n w → HasTiedParts w

@@ -31,8 +31,11 @@ use Rattle.run_laws.proofs.Reaching.{LastAdoptable, IsLed, run-led, event-bytes}
 use Rattle.event_lists.specs.Events.{asks_events, settle_events, install_events}
 use Rattle.promise_laws.specs.CommandActs.{step_acts, install_now_acts, install_acts, acts_of, StandsFor, HasSoundActs, CommandsHaveSoundActs, RunsEndSound}
 use Rattle.promise_laws.specs.CommandActs.StandsFor.{determined as told, asks}
+use Rattle.message_laws.proofs.Fillings.{coming-tied}
+use Rattle.message_laws.proofs.Sound.{reached-sound}
 use Rattle.event_lists.proofs.Events.{IsDoneBy, settle-done, installed-done}
 use Rattle.promise_laws.proofs.Events.{asks-done}
+use Rattle.promise_laws.proofs.OneAction.{acts_are_one_action}
 use Rattle.promise_laws.proofs.Sound.{always_sound}
 
 -- events as acts
@@ -184,22 +187,29 @@ may-append : (w : WorldState) (xs ys : List Act) → MayActAll w xs → MayActAl
 may-append w [] ys a b = b
 may-append w (x ∷ xs) ys a b = (a.0, may-append (acted w x) xs ys a.1 b)
 
--- acts that may happen behind reached ones lead to a sound world
-sound-behind : (n : Network) (w : WorldState) (acts : List Act) → IsReached n w → MayActAll w acts → IsSound (acted_all w acts)
-sound-behind n w acts r may =
-    let there : acted_all w acts ≡ acted_all (new_world n) (r.acts ++ acts) = ap (λ v. acted_all v acts) r.leads ∙ sym (acted-append (new_world n) r.acts acts) in
-    let all : MayActAll (new_world n) (r.acts ++ acts) = may-append (new_world n) r.acts acts r.may (subst (λ v. MayActAll v acts) r.leads may) in
-    subst IsSound (sym there) (always_sound n r.fabric (r.acts ++ acts) all)
+-- acts that may happen behind reached ones lead to a reached world
+reached-behind : (n : Network) (w : WorldState) (acts : List Act) → IsReached n w → MayActAll w acts → IsReached n (acted_all w acts)
+reached-behind n w acts r may = record {
+  fabric = r.fabric;
+  acts = r.acts ++ acts;
+  may = may-append (new_world n) r.acts acts r.may (subst (λ v. MayActAll v acts) r.leads may);
+  leads = ap (λ v. acted_all v acts) r.leads ∙ sym (acted-append (new_world n) r.acts acts);
+}
 
 sound-acts : (n : Network) (s next : SessionState) (c : Command) → IsReached n s.world → Standing s c next → HasSoundActs s c next
-sound-acts n s next c r k = record {
-  acts = k.acts;
-  are = k.are;
-  one = λ others is. stands-one k.are is;
-  may = k.leads.may;
-  leads = k.leads.there;
-  sound = λ prefix rest e. sound-behind n s.world prefix r (may-prefix s.world prefix rest (subst (λ xs. MayActAll s.world xs) e k.leads.may));
-}
+sound-acts n s next c r k =
+    let reached : (prefix rest : List Act) → k.acts ≡ prefix ++ rest → IsReached n (acted_all s.world prefix) =
+    λ prefix rest e. reached-behind n s.world prefix r (may-prefix s.world prefix rest (subst (λ xs. MayActAll s.world xs) e k.leads.may)) in
+    record {
+      acts = k.acts;
+      are = k.are;
+      one = λ others is. stands-one k.are is;
+      may = k.leads.may;
+      leads = k.leads.there;
+      one_by_one = λ before behind a e. acts_are_one_action (acted_all s.world before) a;
+      sound = λ prefix rest e. reached-sound n (acted_all s.world prefix) (reached prefix rest e);
+      parts = λ prefix rest e. coming-tied n (acted_all s.world prefix) (reached prefix rest e);
+    }
 
 pub commands_have_sound_acts : CommandsHaveSoundActs
 commands_have_sound_acts n commands out printed s next c f all of_n r d =

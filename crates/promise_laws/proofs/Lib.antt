@@ -2,8 +2,9 @@ pub mod Acting
 pub mod Begun
 pub mod CutShort
 pub mod Events
+pub mod OneAction
 pub mod OneChannel
-pub mod OneHost
 pub mod Running
 pub mod Said
 pub mod Sound
+pub mod Working

@@ -10,6 +10,7 @@ use Rattle.world_defs.specs.declared.event.Event.TheVariants.{Begin, Close, Prov
 use Rattle.world_defs.specs.Table.{is_other}
 use Rattle.world_defs.specs.World.{WorldState, adopted_by}
 use Rattle.world_defs.specs.Sound.{IsSound}
+use Rattle.message_laws.specs.Filling.{HasTiedParts}
 use Rattle.act_defs.specs.Acts.{Act, Happens, Plans, Adopts, acted_all, MayActAll}
 use Rattle.run_defs.specs.declared.command.Command.{Command}
 use Rattle.run_defs.specs.declared.command.Command.TheVariants.{Walk, Map, Circuit, Routes, Install}
@@ -24,6 +25,7 @@ use Rattle.run_defs.specs.Outcome.{event_of, fault_of, adoption_of}
 use Rattle.run_defs.specs.Run.{Does, IsRun}
 use Rattle.run_laws.specs.Acts.{IsActOf}
 use Rattle.event_lists.specs.Events.{asks_events, settle_events, install_events}
+use Rattle.promise_laws.specs.OneAction.{IsOneAction}
 
 -- an event that may be none, as acts
 abbrev pub step_acts : Option Event → List Act
@@ -69,14 +71,18 @@ pub data StandsFor (s : SessionState) : Command → List Act → Type 0 where
       → StandsFor s (Map host depth tries) acts
 
 -- What a command that is done stands for: acts, which are one list; they may happen one after another, they lead to
--- the world behind it, and behind each prefix of them the world is sound.
+-- the world behind it, each is one action in the world that those before it lead to, and behind each prefix of them the
+-- world is sound, and what came of each message in part stands in one provided buffer.
 pub record HasSoundActs (s : SessionState) (c : Command) (next : SessionState) : Type 0 where
   pub acts : List Act
   pub are : StandsFor s c acts
   pub one : (others : List Act) → StandsFor s c others → others ≡ acts
   pub may : MayActAll s.world acts
   pub leads : next.world ≡ acted_all s.world acts
+  pub one_by_one : (before behind : List Act) (a : Act) → acts ≡ before ++ a ∷ behind
+      → IsOneAction (acted_all s.world before) a
   pub sound : (prefix rest : List Act) → acts ≡ prefix ++ rest → IsSound (acted_all s.world prefix)
+  pub parts : (prefix rest : List Act) → acts ≡ prefix ++ rest → HasTiedParts (acted_all s.world prefix)
 
 -- every command that is done behind a run has such acts
 abbrev pub CommandsHaveSoundActs : Type 0

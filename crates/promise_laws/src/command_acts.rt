@@ -3,7 +3,7 @@
 
 ghost use Rattle.promise_laws.specs.CommandActs.{CommandsHaveSoundActs, RunsEndSound};
 ghost use Rattle.promise_laws.specs.CutShort.{BegunMapsAreCutShort, CutCommandsLeaveSound};
-ghost use Rattle.promise_laws.specs.OneAction.{ActsAreOfOneHost, ActsAreOfOneChannel};
+ghost use Rattle.promise_laws.specs.OneAction.{ActsAreOneAction};
 
 /// Each command that is done behind a run stands for one list of acts: they may happen, they lead to the world behind
 /// it, and behind each prefix of them the world is sound. So the world behind every run is sound.
@@ -19,9 +19,8 @@ pub fn acts_of_cut_commands()
     ensures sound { CutCommandsLeaveSound }
 {}
 
-/// Each act is of one host at most, and of one channel: all other hosts and their clients stay as they were, and every
-/// other channel holds what it held, but the one that the channel's packet goes into.
+/// Each act is one action, of one host or of one channel: all other hosts stay with their clients, and all other
+/// channels, but for the one that an injection enters, and the channel or host that an advance leads into.
 pub fn acts_of_one_host_or_channel()
-    ensures host { ActsAreOfOneHost }
-    ensures channel { ActsAreOfOneChannel }
+    ensures { ActsAreOneAction }
 {}

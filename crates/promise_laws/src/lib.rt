@@ -8,10 +8,11 @@
 //! | `Events` | that asks in a row are one list of events |
 //! | `CommandActs` | which acts a command stands for, and that behind each prefix of them the world is sound |
 //! | `CutShort` | that a command is cut short, and a map that was begun |
-//! | `OneAction` | an act is of one host and of one channel at most |
+//! | `OneAction` | whose an act is, and that it is one action, of one host or of one channel |
 //! | `Existence` | each command does something behind every run, and so there is a run |
 //! | `Promised` | every moment is sound, and every run keeps its promise |
 //! | `Scripts` | what every script promises that is read without a fault |
+//! | `Examples` | whose acts of a message's way are |
 #![tactic(auto)]
 
 mod asks;
@@ -19,9 +20,11 @@ mod command_acts;
 mod existence;
 mod promises;
 mod scripts;
+mod worked;
 
 pub use asks::asks_in_order;
 pub use command_acts::{acts_of_commands, acts_of_cut_commands, acts_of_one_host_or_channel};
 pub use existence::runs_exist;
 pub use promises::{promises_of_runs, sound_moments};
 pub use scripts::{acts_of_scripts, maps_of_scripts};
+pub use worked::actors_of_acts;

@@ -1,0 +1,172 @@
+-- Each act is one action, of one host or of one channel.
+use Rattle.std.proofs.Common.{◌≡◌, ◌≢◌, ℕ, List, [], get_or, set, Option, Some, None, refl, sym, ap, subst, ◌∙◌}
+use Rattle.packet_defs.specs.Packet.{stripped}
+use Rattle.link_defs.specs.declared.moved.Course.TheVariants.{Arrives, Enters}
+use Rattle.link_defs.specs.Links.{Held, Caught, with_packet, emptied}
+use Rattle.link_defs.specs.Fault.{caught_as, replay_of}
+use Rattle.link_defs.specs.Step.{Step, stepped}
+use Rattle.world_defs.specs.declared.event.Event.{Event}
+use Rattle.world_defs.specs.declared.event.Event.TheVariants.{Replay, Advance}
+use Rattle.world_defs.specs.declared.effect.Effect.{Effect}
+use Rattle.world_defs.specs.Table.{whole_table}
+use Rattle.world_defs.specs.Node.{NodeState, new_node}
+use Rattle.world_defs.specs.Client.{ClientState, Called}
+use Rattle.world_defs.specs.World.{WorldState, node_at, with_node, with_links, client_at, adopted_by}
+use Rattle.world_defs.specs.Step.{of_call}
+use Rattle.world_defs.proofs.Kept.{step-adopted}
+use Rattle.world_defs.proofs.Lists.{each-set}
+use Rattle.world_defs.proofs.Views.{Change, LinksChange, HostChange, CallChange, view}
+use Rattle.world_defs.proofs.Strikes.{injection-nodes, injection-clients}
+use Rattle.world_laws.proofs.Idling.{step-idle}
+use Rattle.act_defs.specs.Acts.{Act, Happens, Plans, Adopts, acted}
+use Rattle.act_defs.proofs.Kept.{acted-net}
+use Rattle.promise_laws.specs.OneAction.{Actor, OfHost, OfAdopter, OfChannel, OfNone, staged_by, caught_in, actor_of_event, actor_of, port_called, ChannelStays, GoesOn, IsOfHost, IsOfAdopter, IsOfChannel, IsOfNone, IsActionOf, RoutesStay, IdleStays, ActsAreOneAction}
+use Rattle.promise_laws.proofs.OneChannel.{channel-same, SameBut, with_packet-same, repeat-same, hold-same, flip-same, replay-same, injection-same}
+
+-- one host replaced, and the clients of one port
+other-node : (w : WorldState) (nodes : List NodeState) (i : ℕ) (m : NodeState) → nodes ≡ set w.nodes i m → (h : ℕ) → h ≢ i → get_or nodes h (new_node 0) ≡ node_at w h
+other-node w nodes i m e h n =
+    let there : get_or (set w.nodes i m) h (new_node 0) ≡ node_at w h = each-set (λ k x. k ≢ i → x ≡ node_at w k) w.nodes i h m (new_node 0) (λ bad. absurd (bad refl)) (λ k ok. refl) n in
+    subst (λ l. get_or l h (new_node 0) ≡ node_at w h) (sym e) there
+
+other-client : (w : WorldState) (i : ℕ) (own : List (Option ClientState)) (h port : ℕ) → h ≢ i → get_or (get_or (set w.clients i own) h []) port None ≡ client_at w h port
+other-client w i own h port n = each-set (λ k l. k ≢ i → get_or l port None ≡ client_at w k port) w.clients i h own [] (λ bad. absurd (bad refl)) (λ k ok. refl) n
+
+same-client : (w v : WorldState) → v.clients ≡ w.clients → (h port : ℕ) → client_at v h port ≡ client_at w h port
+same-client w v e h port = ap (λ l. get_or (get_or l h []) port None) e
+
+-- of a host's clients all but that of one port
+other-port : (w : WorldState) (h p : ℕ) (c : Option ClientState) (port : ℕ) → port ≢ p → get_or (get_or (set w.clients h (set (get_or w.clients h []) p c)) h []) port None ≡ client_at w h port
+other-port w h p c port n =
+    each-set (λ k l. get_or l port None ≡ client_at w k port) w.clients h h (set (get_or w.clients h []) p c) []
+    (each-set (λ k x. k ≢ p → x ≡ client_at w h k) (get_or w.clients h []) p port c None (λ bad. absurd (bad refl)) (λ k ok. refl) n) (λ k. refl)
+
+-- nothing changes
+none-same : (w : WorldState) → IsOfNone w w
+none-same w = record { hosts = λ h. record { host = refl; clients = λ port. refl }; channels = λ c. channel-same w.links c }
+
+action-same : (w : WorldState) (a : Act) (actor : Actor) → IsActionOf w a w actor
+action-same w a (OfHost h) = record { hosts = λ k n. record { host = refl; clients = λ port. refl }; clients = λ port n. refl; channels = λ c n. channel-same w.links c }
+action-same w a (OfAdopter h) = record { hosts = λ k n. record { host = refl; clients = λ port. refl }; but_table = refl; clients = λ port. refl; channels = λ c. channel-same w.links c }
+action-same w a (OfChannel c) = record { channels = λ k n m. channel-same w.links k; hosts = λ h n. refl; clients = λ h port. refl }
+action-same w a OfNone = none-same w
+
+-- a channel alone changes
+channel-alone : (w : WorldState) (a : Act) (v : WorldState) (c : ℕ) → v.nodes ≡ w.nodes → v.clients ≡ w.clients → SameBut w.links v.links c → IsOfChannel w a v c
+channel-alone w a v c e f same = record { channels = λ k n m. same k n; hosts = λ h n. ap (λ l. get_or l h (new_node 0)) e; clients = same-client w v f }
+
+-- a packet leaves its channel
+emptied-same : (w v : WorldState) (c : ℕ) → v.links ≡ emptied w.links c → SameBut w.links v.links c
+emptied-same w v c e = subst (λ l. SameBut w.links l c) (sym e) (with_packet-same w.links c None)
+
+-- a packet goes into the next channel
+moved-on : (w v : WorldState) (c next : ℕ) (packet : Held) → GoesOn w (Happens (Advance c)) c (Enters next) → v.nodes ≡ w.nodes → v.clients ≡ w.clients → v.links ≡ with_packet (emptied w.links c) next (Some packet) → IsOfChannel w (Happens (Advance c)) v c
+moved-on w v c next packet goes e f g = record {
+  channels = λ k n m. subst (λ l. ChannelStays w.links l k) (sym g) (both k n (λ same. m (subst (λ d. GoesOn w (Happens (Advance c)) c (Enters d)) (sym same) goes)));
+  hosts = λ h n. ap (λ l. get_or l h (new_node 0)) e;
+  clients = same-client w v f;
+}
+  where
+    both : (k : ℕ) → k ≢ c → k ≢ next → ChannelStays w.links (with_packet (emptied w.links c) next (Some packet)) k
+    both k n m =
+        let one = with_packet-same w.links c None k n in
+        let two = with_packet-same (emptied w.links c) next (Some packet) k m in
+        record { packet = two.packet ∙ one.packet; limbo = two.limbo ∙ one.limbo }
+
+-- a packet arrives at a host
+heard-at : (w v : WorldState) (c h : ℕ) (m : NodeState) → GoesOn w (Happens (Advance c)) c (Arrives h) → v.nodes ≡ set w.nodes h m → v.clients ≡ w.clients → v.links ≡ emptied w.links c → IsOfChannel w (Happens (Advance c)) v c
+heard-at w v c h m goes e f g = record {
+  channels = λ k n other. emptied-same w v c g k n;
+  hosts = λ k other. other-node w v.nodes h m e k (λ same. other (subst (λ i. GoesOn w (Happens (Advance c)) c (Arrives i)) (sym same) goes));
+  clients = same-client w v f;
+}
+
+-- a replay
+replayed-in : (w : WorldState) (serial : ℕ) (o : Option Caught) → caught_as w.links serial ≡ o → IsActionOf w (Happens (Replay serial)) (with_links w (replay_of w.links serial o).1) (caught_in o)
+replayed-in w serial None e = none-same w
+replayed-in w serial (Some caught) e = channel-alone w (Happens (Replay serial)) (with_links w (replay_of w.links serial (Some caught)).1) caught.channel refl refl (replay-same w.links serial caught e)
+
+links-action : {w : WorldState} {e : Event} {x : Effect} {s : Step} → LinksChange w e x s → IsActionOf w (Happens e) (with_links w (stepped w.links s)) (actor_of_event w e)
+links-action {w = w} {s = s} (LinksChange.moves {c = c} packet next e g k d) =
+    moved-on w (with_links w (stepped w.links s)) c next (record packet { wire = stripped packet.wire }) (record { advances = refl; packet = packet; there = e; leads = g }) refl refl d
+links-action {w = w} {e = e} {s = s} (LinksChange.loses {c = c} k) = channel-alone w (Happens e) (with_links w (stepped w.links s)) c refl refl (with_packet-same w.links c None)
+links-action {w = w} {e = e} {s = s} (LinksChange.resets {c = c} k) = channel-alone w (Happens e) (with_links w (stepped w.links s)) c refl refl (with_packet-same w.links c None)
+links-action {w = w} {e = e} {s = s} (LinksChange.repeats {c = c} k) = channel-alone w (Happens e) (with_links w (stepped w.links s)) c refl refl (repeat-same w.links c)
+links-action {w = w} {e = e} {s = s} (LinksChange.holds {c = c} k) = channel-alone w (Happens e) (with_links w (stepped w.links s)) c refl refl (hold-same w.links c)
+links-action {w = w} {e = e} {s = s} (LinksChange.flips {c = c} {bit = bit} {pattern = pattern} k) = channel-alone w (Happens e) (with_links w (stepped w.links s)) c refl refl (flip-same w.links c bit pattern)
+links-action {w = w} {s = s} (LinksChange.replays {serial = serial} k) = replayed-in w serial (caught_as w.links serial) refl
+
+-- a host changes by itself
+host-alone : (w : WorldState) (a : Act) (h : ℕ) (m : NodeState) → IsOfHost w a (with_node w h m) h
+host-alone w a h m = record {
+  hosts = λ k n. record { host = other-node w (set w.nodes h m) h m refl k n; clients = λ port. refl };
+  clients = λ port n. refl;
+  channels = λ c n. channel-same w.links c;
+}
+
+host-action : {w : WorldState} {e : Event} {x : Effect} {h : ℕ} {m : NodeState} → HostChange w e x h m → IsActionOf w (Happens e) (with_node w h m) (actor_of_event w e)
+host-action {w = w} {e = e} {h = h} {m = m} HostChange.asks = host-alone w (Happens e) h m
+host-action {w = w} {e = e} {h = h} {m = m} (HostChange.stages a p by d f g) = subst (λ o. IsActionOf w (Happens e) (with_node w h m) (staged_by o)) (sym d) (host-alone w (Happens e) h m)
+host-action {w = w} {e = e} {h = h} {m = m} (HostChange.expires k) = host-alone w (Happens e) h m
+host-action {w = w} {e = e} {h = h} {m = m} (HostChange.gives_up k) = host-alone w (Happens e) h m
+
+-- a client calls
+called-at : (w : WorldState) (a : Act) (h port : ℕ) (call : Called) → port_called a ≡ Some port → IsOfHost w a (of_call w h port call).1 h
+called-at w a h p call e = record {
+  hosts = λ k n. record { host = other-node w (set w.nodes h call.node) h call.node refl k n; clients = λ port. other-client w h (set (get_or w.clients h []) p call.client) k port n };
+  clients = λ port n. other-port w h p call.client port (λ same. n (e ∙ ap Some (sym same)));
+  channels = λ c n. channel-same w.links c;
+}
+
+call-action : {w : WorldState} {e : Event} {h port : ℕ} {call : Called} → CallChange w e h port call → IsActionOf w (Happens e) (of_call w h port call).1 (actor_of_event w e)
+call-action {w = w} {e = e} {h = h} {port = port} {call = call} CallChange.begins = called-at w (Happens e) h port call refl
+call-action {w = w} {e = e} {h = h} {port = port} {call = call} CallChange.closes = called-at w (Happens e) h port call refl
+call-action {w = w} {e = e} {h = h} {port = port} {call = call} CallChange.provides = called-at w (Happens e) h port call refl
+call-action {w = w} {e = e} {h = h} {port = port} {call = call} CallChange.accepts = called-at w (Happens e) h port call refl
+call-action {w = w} {e = e} {h = h} {port = port} {call = call} CallChange.polls = called-at w (Happens e) h port call refl
+
+-- every event
+event-action : {w : WorldState} {e : Event} {r : Effect × WorldState} → Change w e r → IsActionOf w (Happens e) r.1 (actor_of_event w e)
+event-action {w = w} {e = e} Change.idle = action-same w (Happens e) (actor_of_event w e)
+event-action {w = w} {e = e} (Change.blocked packet next d f) = action-same w (Happens e) (actor_of_event w e)
+event-action (Change.links k) = links-action k
+event-action {w = w} {e = e} {r = r} (Change.drops {c = c} packet why d f g) = channel-alone w (Happens e) r.1 c refl refl (emptied-same w r.1 c g)
+event-action {w = w} {r = r} (Change.arrives {c = c} packet h d f g k) = heard-at w r.1 c h _ (record { advances = refl; packet = packet; there = d; leads = f }) refl refl g
+event-action (Change.host k) = host-action k
+event-action {w = w} {e = e} {r = r} (Change.injects {h = h} c out d f g k) = record {
+  hosts = λ i n. record { host = other-node w r.1.nodes h _ (injection-nodes w h c out) i n; clients = same-client w r.1 (injection-clients w h c out) i };
+  clients = λ port n. same-client w r.1 (injection-clients w h c out) h port;
+  channels = λ i n. injection-same w h c out i (λ same. n (record { injects = refl; cable = d ∙ ap Some (sym same) }));
+}
+event-action (Change.calls k) = call-action k
+
+-- an adoption
+adoption-action : (w : WorldState) (mapper : ℕ) (n : NodeState) (v : WorldState) → v.nodes ≡ set w.nodes mapper n → record n { table = (node_at w mapper).table } ≡ node_at w mapper → v.clients ≡ w.clients → v.links ≡ w.links → IsOfAdopter w v mapper
+adoption-action w mapper n v e same f g = record {
+  hosts = λ h k. record { host = other-node w v.nodes mapper n e h k; clients = same-client w v f h };
+  but_table = subst (λ l. record (get_or l mapper (new_node 0)) { table = (node_at w mapper).table } ≡ node_at w mapper) (sym e) here;
+  clients = same-client w v f mapper;
+  channels = λ c. subst (λ l. ChannelStays w.links l c) (sym g) (channel-same w.links c);
+}
+  where
+    here : record (get_or (set w.nodes mapper n) mapper (new_node 0)) { table = (node_at w mapper).table } ≡ node_at w mapper
+    here = each-set (λ k x. k ≡ mapper → record x { table = (node_at w mapper).table } ≡ node_at w mapper) w.nodes mapper mapper n (new_node 0) (λ is. same)
+        (λ k is. ap (λ i. record (node_at w i) { table = (node_at w mapper).table }) is) refl
+
+act-action : (w : WorldState) (a : Act) → IsActionOf w a (acted w a) (actor_of w a)
+act-action w (Happens e) = event-action (view w e)
+act-action w (Plans ahead fault) = record { hosts = λ h. record { host = refl; clients = λ port. refl }; channels = λ c. channel-same w.links c }
+act-action w (Adopts mapper routes) = adoption-action w mapper (record (node_at w mapper) { table = whole_table routes mapper 1 }) (adopted_by w mapper routes) refl refl refl refl
+
+act-routes : (w : WorldState) (a : Act) → RoutesStay w a (acted w a)
+act-routes w (Happens e) = step-adopted w e
+act-routes w (Plans ahead fault) = refl
+act-routes w (Adopts mapper routes) = tt
+
+act-idle : (w : WorldState) (a : Act) → IdleStays w a
+act-idle w (Happens e) = (step-idle w e).still
+act-idle w (Plans ahead fault) = tt
+act-idle w (Adopts mapper routes) = tt
+
+pub acts_are_one_action : ActsAreOneAction
+acts_are_one_action w a = record { action = act-action w a; idle = act-idle w a; routes = act-routes w a; fabric = acted-net w a }

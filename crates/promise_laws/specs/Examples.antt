@@ -1,0 +1,40 @@
+-- Whose acts are, worked out: of the two hosts at one switch host 0 has adopted routes and sends a message to host 1.
+use Rattle.std.specs.Prelude.{◌≡◌, ℕ, List, [], ◌∷◌, Option, Some, option_map}
+use Rattle.net_defs.specs.Examples.{two_hosts}
+use Rattle.link_defs.specs.declared.moved.Course.{Course}
+use Rattle.link_defs.specs.declared.moved.Course.TheVariants.{Arrives, Enters}
+use Rattle.link_defs.specs.Links.{packet_in}
+use Rattle.link_defs.specs.Advance.{course}
+use Rattle.world_defs.specs.declared.event.Event.TheVariants.{Part, Inject, Advance, Hold, Replay, Begin, Send}
+use Rattle.world_defs.specs.World.{WorldState, fabric_of, new_world}
+use Rattle.world_defs.specs.Examples.{setup_routes}
+use Rattle.act_defs.specs.Acts.{Act, Happens, Adopts, acted_all}
+use Rattle.promise_laws.specs.OneAction.{OfHost, OfChannel, OfNone, actor_of}
+
+-- host 0 has put its message into its channel
+abbrev pub sent_acts : List Act
+sent_acts = Adopts 0 setup_routes ∷ Happens (Begin 0 0 1 0) ∷ Happens (Send 0 0 1 1 0 1 10) ∷ Happens (Inject 0) ∷ []
+
+-- the world after it
+abbrev pub sent_world : WorldState
+sent_world = acted_all (new_world two_hosts) sent_acts
+
+-- where the packet of a channel would go
+abbrev pub course_from : WorldState → ℕ → Option Course
+course_from w c = option_map (λ held. course (fabric_of w) c held.wire) (packet_in w.links c)
+
+-- by an advance it goes from channel 0 into channel 3, and by another one from there to host 1
+abbrev pub PacketGoesOn : Type 0
+PacketGoesOn = (course_from sent_world 0 ≡ Some (Enters 3))
+    × (course_from (acted_all sent_world (Happens (Advance 0) ∷ [])) 3 ≡ Some (Arrives 1))
+
+-- a part is staged by the host that adopted the routes, and by none where no routes are adopted
+abbrev pub PartsAreOfAdopters : Type 0
+PartsAreOfAdopters = (actor_of sent_world (Happens (Part 1 0)) ≡ OfHost 0)
+    × (actor_of (new_world two_hosts) (Happens (Part 1 0)) ≡ OfNone)
+
+-- a replay is of the channel that the packet was held in, and of none where nothing is in limbo
+abbrev pub ReplaysAreOfChannels : Type 0
+ReplaysAreOfChannels =
+    (actor_of (acted_all sent_world (Happens (Advance 0) ∷ Happens (Hold 3) ∷ [])) (Happens (Replay 0)) ≡ OfChannel 3)
+    × (actor_of sent_world (Happens (Replay 0)) ≡ OfNone)
