@@ -2,3 +2,4 @@ pub mod Noted
 pub mod OneLane
 pub mod Places
 pub mod Unused
+pub mod Forgotten

@@ -1,6 +1,6 @@
 //! One lane of a host: its connections with one peer, of one priority. It takes memory only when it is first used.
 
-ghost use Rattle.std.specs.Prelude.{◌≡◌, ◌<◌, ◌≤◌, true, length, take, slice_get, Some};
+ghost use Rattle.std.specs.Prelude.{◌≡◌, ◌<◌, ◌≤◌, true, false, length, take, slice_get, Some};
 ghost use Rattle.std.specs.Prelude.{IsSome, IfSome, OnOk, OnErr, IfOk, is_some, option_map};
 ghost use Rattle.std.specs.Option.{option_copied};
 ghost use Rattle.net_defs.specs.Refusal.{Refuses};
@@ -314,6 +314,16 @@ impl Lane {
             None => &[],
             Some(used) => used.got(),
         }
+    }
+
+    /// The lane is as before anything was sent or taken. False only where it was so already.
+    pub(crate) fn forget(&mut self) -> bool
+        ensures unused { self.new ≡ unused self.old.key }
+        ensures unchanged { result ≡ false → self.new ≡ self.old }
+    {
+        let used = self.used.is_some();
+        self.used = None;
+        used
     }
 
     // The lane as it is when it is first used.

@@ -4,7 +4,8 @@ ghost use Rattle.std.specs.Prelude.{◌≡◌, ◌<◌, ◌≤◌, ◌^◌, ℕ,
 ghost use Rattle.net_defs.specs.Refusal.{Refuses};
 ghost use Rattle.gm_defs.specs.Body.{is_head, is_last, message_limit};
 ghost use Rattle.gm_defs.specs.Connection.{due, took};
-ghost use Rattle.world_defs.specs.Lane.{with_message, lane_acknowledged, lane_sent_one, lane_answered, lane_after};
+ghost use Rattle.world_defs.specs.Lane.{new_lane, with_message, lane_acknowledged, lane_sent_one, lane_answered};
+ghost use Rattle.world_defs.specs.Lane.{lane_after};
 ghost use Rattle.world_defs.specs.Node.{lane_count, lane_of};
 ghost use Rattle.world_defs.specs.Hearing.{message_of, frame_lane, ack_lane};
 ghost use Rattle.host_lanes.specs.Lane.{message_in, accept_refusal, AreNumbered};
@@ -235,6 +236,27 @@ impl Lanes {
         let took = at.on_frame(alloc, h, part, fits);
         self.sets.note(lane, at);
         took
+    }
+
+    /// All lanes are as before anything was sent. A lane that was never used is only looked at, and no memory is taken.
+    pub fn forget(&mut self)
+        ensures { self.new ≡ all_unused self.old.host self.old.hosts }
+    {
+        self.in_order();
+        for lane in 0..self.count() {
+            self.forget_one(lane);
+        }
+    }
+
+    // A lane is as before anything was sent. The sets have none that was so already.
+    fn forget_one(&mut self, lane: u32)
+        requires { lane < length self.old.lanes }
+        ensures { self.new ≡ with_state self.old lane new_lane }
+    {
+        let at = &mut self.lanes[lane as usize];
+        if at.forget() {
+            self.sets.note(lane, at);
+        }
     }
 
     // The number of the lane of a peer and a priority.
