@@ -9,10 +9,10 @@ use Rattle.world_defs.specs.declared.arrival.Arrival.{Arrival}
 use Rattle.world_defs.specs.Hearing.{hear}
 use Rattle.world_defs.specs.Node.{NodeState, port_at, port_count, to_send}
 use Rattle.world_defs.specs.Client.{ClientState, Called}
-use Rattle.host_ports.specs.Held.{HostPorts, none_open, open_at, with_open}
 use Rattle.port_client.specs.Held.{OpenClient}
 use Rattle.nic_node.specs.Held.{HostNode, in_state}
 use Rattle.nic_node.specs.Sending.{after_first}
+use Rattle.nic_node.specs.Ending.{abandoned}
 use Rattle.world_defs.specs.declared.effect.Said.{Said}
 use Rattle.client_host.specs.Held.{ServedHost, client_in, after_call, IsFromHosts}
 use Rattle.client_host.specs.Tied.{held_of, IsTied, IsServed, IsEnding, served}
@@ -103,9 +103,9 @@ pub in-served : (n m : HostNode) (cs : List (Option OpenClient)) (st : NodeState
 in-served n m cs st s e k = subst (λ y. IsServed y cs) (sym e) (node-served n (in_state n st) cs s refl refl k)
 
 -- ---- the end
--- the ports of a host that is taken apart
-pub left-ending : (n : HostNode) (cs : List (Option OpenClient)) (p : HostPorts) → IsServed n cs → p ≡ record { host = n.host; ports = n.state.ports } → IsEnding p cs
-left-ending n cs p s e = subst (λ q. IsEnding q cs) (sym e) (record { hosts = n.hosts; counted = s.ports; few = let c = s.clients in omega (arith, c); tied = s.tied })
+-- all clients of a host are left
+pub left-ending : (n : HostNode) (cs : List (Option OpenClient)) → IsServed n cs → IsEnding n cs
+left-ending n cs s = record { counted = s.ports; few = let c = s.clients in omega (arith, c); tied = s.tied }
 
 closed-port : (host hosts port : ℕ) (p : Option PortState) → IsTied host hosts port p None → p ≡ None
 closed-port host hosts port None is = refl
@@ -118,19 +118,20 @@ all-none [] (suc k) l h = absurd (omega (arith, l))
 all-none (p ∷ ps) zero l h = absurd (omega (arith, l))
 all-none (p ∷ ps) (suc k) l h = ap (λ x. x ∷ ps) (h 0) ∙ ap (λ xs. None ∷ xs) (all-none ps k (omega (arith, l)) (λ j. h (suc j)))
 
-pub ended : (p : HostPorts) (cs : List (Option OpenClient)) → cs ≡ [] → IsEnding p cs → p ≡ none_open p.host
-ended p cs e s =
-    let none : p.ports ≡ replicate port_count None = all-none p.ports port_count s.counted (λ j. closed-port p.host s.hosts j (open_at p j) (subst (λ l. IsTied p.host s.hosts j (open_at p j) (get_or l j None)) e (s.tied j))) in
-    λ i. record { host = p.host; ports = none i }
+pub ended : (n : HostNode) (cs : List (Option OpenClient)) → cs ≡ [] → IsEnding n cs → n.state.ports ≡ replicate port_count None
+ended n cs e s =
+    all-none n.state.ports port_count s.counted
+    (λ j. closed-port n.host n.hosts j (port_at n.state j) (subst (λ l. IsTied n.host n.hosts j (port_at n.state j) (get_or l j None)) e (s.tied j)))
 
 -- a client less is left, and no port is open in its place
-ending-of : (p q : HostPorts) (cs ds : List (Option OpenClient)) (x : Option OpenClient) → cs ≡ ds ++ x ∷ [] → IsEnding p cs → q.host ≡ p.host → length q.ports ≡ length p.ports → ((j : ℕ) → j ≢ length ds → open_at q j ≡ open_at p j)
-    → open_at q (length ds) ≡ None → IsEnding q ds
-ending-of p q cs ds x split s host long others none = record {
-  hosts = s.hosts;
+ending-of : (p q : HostNode) (cs ds : List (Option OpenClient)) (x : Option OpenClient) → cs ≡ ds ++ x ∷ [] → IsEnding p cs → q.host ≡ p.host → q.hosts ≡ p.hosts → length q.state.ports ≡ length p.state.ports → ((j : ℕ) → j ≢ length ds → port_at q.state j ≡ port_at p.state j)
+    → port_at q.state (length ds) ≡ None → IsEnding q ds
+ending-of p q cs ds x split s host hosts long others none = record {
   counted = long ∙ s.counted;
   few = let all : length cs ≡ length ds + 1 = ap length split ∙ length-append ds (x ∷ []) in let few = s.few in omega (arith, all, few);
-  tied = λ j. subst (λ h. IsTied h s.hosts j (open_at q j) (slice_index_or ds j None)) (sym host) (by j (nat_eq j (length ds)) refl);
+  tied = λ j.
+      subst (λ h. IsTied h q.hosts j (port_at q.state j) (slice_index_or ds j None)) (sym host)
+      (subst (λ hs. IsTied p.host hs j (port_at q.state j) (slice_index_or ds j None)) (sym hosts) (by j (nat_eq j (length ds)) refl));
 }
   where
     same : (j : ℕ) → j ≢ length ds → get_or ds j None ≡ get_or cs j None
@@ -151,35 +152,35 @@ ending-of p q cs ds x split s host long others none = record {
                 le true f = grind (arith, nat_tests)
                 le false f = absurd (b (grind (arith, nat_tests)))
 
-    by : (j : ℕ) (t : Bool) → nat_eq j (length ds) ≡ t → IsTied p.host s.hosts j (open_at q j) (slice_index_or ds j None)
+    by : (j : ℕ) (t : Bool) → nat_eq j (length ds) ≡ t → IsTied p.host p.hosts j (port_at q.state j) (slice_index_or ds j None)
     by j true t =
         let f : j ≡ length ds = grind (arith, nat_tests) in
-        let closed : open_at q j ≡ None = ap (open_at q) f ∙ none in
+        let closed : port_at q.state j ≡ None = ap (port_at q.state) f ∙ none in
         let gone : slice_index_or ds j None ≡ None = get_or_past ds j None (omega (arith, f)) in
-        subst (λ o. IsTied p.host s.hosts j o (slice_index_or ds j None)) (sym closed) (subst (λ y. IsTied p.host s.hosts j None y) (sym gone) tt)
+        subst (λ o. IsTied p.host p.hosts j o (slice_index_or ds j None)) (sym closed) (subst (λ y. IsTied p.host p.hosts j None y) (sym gone) tt)
     by j false t =
         let differs : j ≢ length ds = λ f. absurd (grind (arith, nat_tests)) in
-        subst (λ o. IsTied p.host s.hosts j o (slice_index_or ds j None)) (sym (others j differs)) (subst (λ y. IsTied p.host s.hosts j (open_at p j) y) (sym (same j differs)) (s.tied j))
+        subst (λ o. IsTied p.host p.hosts j o (slice_index_or ds j None)) (sym (others j differs)) (subst (λ y. IsTied p.host p.hosts j (port_at p.state j) y) (sym (same j differs)) (s.tied j))
 
 last-of : (ds cs : List (Option OpenClient)) (x : Option OpenClient) → cs ≡ ds ++ x ∷ [] → get_or cs (length ds) None ≡ x
 last-of ds cs x split = ap (λ l. get_or l (length ds) None) split ∙ get_or_at ds x [] None (length ds) refl
 
 -- the last place had no client
-pub ending-none : (p : HostPorts) (cs ds : List (Option OpenClient)) → cs ≡ ds ++ None ∷ [] → IsEnding p cs → IsEnding p ds
+pub ending-none : (p : HostNode) (cs ds : List (Option OpenClient)) → cs ≡ ds ++ None ∷ [] → IsEnding p cs → IsEnding p ds
 ending-none p cs ds split s =
-    ending-of p p cs ds None split s refl refl (λ j other. refl)
-    (closed-port p.host s.hosts (length ds) (open_at p (length ds)) (subst (IsTied p.host s.hosts (length ds) (open_at p (length ds))) (last-of ds cs None split) (s.tied (length ds))))
+    ending-of p p cs ds None split s refl refl refl (λ j other. refl)
+    (closed-port p.host p.hosts (length ds) (port_at p.state (length ds)) (subst (IsTied p.host p.hosts (length ds) (port_at p.state (length ds))) (last-of ds cs None split) (s.tied (length ds))))
 
 -- its client ended, and its port with it
-pub ending-closed : (p q : HostPorts) (cs ds : List (Option OpenClient)) (x : Option OpenClient) (port : ℕ) → cs ≡ ds ++ x ∷ [] → port ≡ length ds → q ≡ with_open p port None → IsEnding p cs → IsEnding q ds
+pub ending-closed : (p q : HostNode) (cs ds : List (Option OpenClient)) (x : Option OpenClient) (port : ℕ) → cs ≡ ds ++ x ∷ [] → port ≡ length ds → q ≡ abandoned p port → IsEnding p cs → IsEnding q ds
 ending-closed p q cs ds x port split at e s =
     let all : length cs ≡ length ds + 1 = ap length split ∙ length-append ds (x ∷ []) in
     let few = s.few in
     let many = s.counted in
-    let new : q ≡ with_open p (length ds) None = e ∙ ap (λ k. with_open p k None) at in
-    ending-of p q cs ds x split s (ap (λ h. h.host) new) (ap (λ h. length h.ports) new ∙ length-set p.ports (length ds) None)
-    (λ j other. ap (λ h. open_at h j) new ∙ get_or-set_other p.ports (length ds) j None None other)
-    (ap (λ h. open_at h (length ds)) new ∙ get_or-set_same p.ports (length ds) None None (omega (arith, all, few, many)))
+    let new : q ≡ abandoned p (length ds) = e ∙ ap (λ k. abandoned p k) at in
+    ending-of p q cs ds x split s (ap (λ h. h.host) new) (ap (λ h. h.hosts) new) (ap (λ h. length h.state.ports) new ∙ length-set p.state.ports (length ds) None)
+    (λ j other. ap (λ h. port_at h.state j) new ∙ get_or-set_other p.state.ports (length ds) j None None other)
+    (ap (λ h. port_at h.state (length ds)) new ∙ get_or-set_same p.state.ports (length ds) None None (omega (arith, all, few, many)))
 
 -- a packet that was heard, or not for want of memory
 pub packet-served : {E : Type 0} (n m : HostNode) (cs : List (Option OpenClient)) (wire : List ℕ) (r : Result Arrival E) → IsServed n cs → IfOk r (λ arrival. hear n.host n.hosts n.state wire ≡ (arrival, m.state))

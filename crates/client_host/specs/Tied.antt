@@ -5,7 +5,6 @@ use Rattle.gm_defs.specs.Token.{PortState, PortEvent, Sent, Received}
 use Rattle.world_defs.specs.Node.{port_at, port_count}
 use Rattle.world_defs.specs.Client.{ClientState}
 use Rattle.world_defs.specs.Sound.{HasOwners}
-use Rattle.host_ports.specs.Held.{HostPorts, open_at}
 use Rattle.port_client.specs.Held.{OpenClient, opened_client}
 use Rattle.nic_node.specs.Held.{HostNode}
 use Rattle.client_host.specs.Held.{ServedHost}
@@ -53,18 +52,12 @@ pub record IsServed (n : HostNode) (cs : List (Option OpenClient)) : Type 0 wher
   pub clients : length cs ≡ port_count
   pub tied : (port : ℕ) → IsTied n.host n.hosts port (port_at n.state port) (slice_index_or cs port None)
 
--- A port that is left once its host is taken apart, and its client: tied, among some number of hosts.
-pub record IsLeft (host port : ℕ) (p : Option PortState) (c : OpenClient) : Type 0 where
-  pub hosts : ℕ
-  pub tied : IsTied host hosts port p (Some c)
-
--- The ports of a host that is taken apart, and those of their clients that are left, while these end one after the
--- other from the last: each port is tied to its client.
-pub record IsEnding (ports : HostPorts) (cs : List (Option OpenClient)) : Type 0 where
-  pub hosts : ℕ
-  pub counted : length ports.ports ≡ port_count
+-- A host and those of its clients that are left, while these end one after the other from the last, each with its port:
+-- each port is tied to its client.
+pub record IsEnding (n : HostNode) (cs : List (Option OpenClient)) : Type 0 where
+  pub counted : length n.state.ports ≡ port_count
   pub few : length cs ≤ port_count
-  pub tied : (port : ℕ) → IsTied ports.host hosts port (open_at ports port) (slice_index_or cs port None)
+  pub tied : (port : ℕ) → IsTied n.host n.hosts port (port_at n.state port) (slice_index_or cs port None)
 
 -- the host that a node and its clients make
 abbrev pub served : HostNode → List (Option OpenClient) → ServedHost

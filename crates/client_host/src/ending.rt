@@ -1,37 +1,39 @@
-//! All clients end, also those of open ports.
+//! All clients end, also those of open ports, and their host with them.
 
-ghost use Rattle.std.specs.Prelude.{◌≡◌, ◌<◌, Some, None};
-ghost use Rattle.host_ports.specs.Held.{open_at, with_open};
+ghost use Rattle.std.specs.Prelude.{◌≡◌, ◌<◌, Some};
+ghost use Rattle.world_defs.specs.Node.{port_at};
+ghost use Rattle.nic_node.specs.Ending.{abandoned};
 ghost use Rattle.client_host.specs.Back.{IsWhole};
-ghost use Rattle.client_host.specs.Tied.{IsLeft, IsEnding};
+ghost use Rattle.client_host.specs.Tied.{IsTied, IsEnding};
 
 use crate::returning::{retire, take_back_events, take_back_recvs, take_back_sends};
-use nic_node::{Ports, Wreck};
+use nic_node::{NicNode, Wreck};
 use port_client::Client;
 use std::alloc::Global;
 
-/// Ends each open port, whatever it holds, and its client with all of its tokens. Takes no memory.
-pub(crate) fn end_clients(mut ports: Ports, mut clients: Vec<Option<Client>>)
-    requires { IsEnding ports clients.items }
+/// Ends each open port of a host, whatever it holds, its client with all of its tokens, and then the host. Takes no
+/// memory.
+pub(crate) fn end_clients(mut node: NicNode, mut clients: Vec<Option<Client>>)
+    requires { IsEnding node clients.items }
 {
     let alloc = *clients.allocator();
     while let Some(slot) = clients.pop() {
         let port = clients.len() as u8;
         if let Some(client) = slot {
-            end_client(alloc, &mut ports, client, port);
+            end_client(alloc, &mut node, client, port);
         }
     }
     clients.destroy_empty();
-    ports.end();
+    node.end();
 }
 
 // Ends an open port and its client.
-fn end_client(alloc: Global, ports: &mut Ports, client: Client, port: u8)
+fn end_client(alloc: Global, node: &mut NicNode, client: Client, port: u8)
     requires port { port < 8 }
-    requires tied { IsLeft ports.old.host port (open_at ports.old port) client }
-    ensures { ports.new ≡ with_open ports.old port None }
+    requires tied { IsTied node.old.host node.old.hosts port (port_at node.old.state port) (Some client) }
+    ensures { node.new ≡ abandoned node.old port }
 {
-    match ports.abandon(port) {
+    match node.abandon(port) {
         Some(wreck) => end_wreck(alloc, client, wreck),
         None => unreachable!(),
     }

@@ -52,7 +52,7 @@ impl ClientHost {
         match no_clients(alloc) {
             Ok(clients) => Ok(ClientHost { node, clients }),
             Err(wanting) => {
-                node.into_ports().end();
+                node.end();
                 Err(wanting)
             }
         }
@@ -235,7 +235,7 @@ impl ClientHost {
     /// Spends the host and all tokens and buffers of its ports, those of open ports too. Takes no memory.
     pub fn end(self) {
         let ClientHost { node, clients } = self;
-        end_clients(node.into_ports(), clients);
+        end_clients(node, clients);
     }
 }
 

@@ -14,7 +14,7 @@ use Rattle.host_ports.specs.Held.{HostPorts, unfinished_at}
 use Rattle.host_lanes.specs.Lane.{AreNumbered, head_of_frame, ticket_of}
 use Rattle.host_lanes.specs.Lanes.{HostLanes, lane_in}
 use Rattle.ticket_laws.specs.Host.{send_under, IsInBuffer}
-use Rattle.ticket_laws.proofs.Parts.{part-in-buffer}
+use Rattle.ticket_laws.proofs.Backing.{backed-buffer}
 use Rattle.nic_node.specs.Held.{HostNode, state_of, AreOfHost}
 
 -- where the bytes of the fragment that is due stand
@@ -30,7 +30,7 @@ pub due-part : (v : HostNode) (host : ℕ) (i : HostItems) (t : HostTable) (l : 
     → ((lane : ℕ) → AreNumbered (lane_in l lane)) → option_map head_of_frame (due_frame v.host v.state lane) ≡ Some h → ticket_of (lane_at v.state lane) h.seq ≡ Some k → DuePart v p lane h k
 due-part v host i t l p lane h k is of numbers head ticket =
     let n : NodeState = state_of i t l p in
-    let b : IsInBuffer host n lane h k = part-in-buffer host n lane (numbers lane).sender of.ticketed.matched h k
+    let b : IsInBuffer host n lane h k = backed-buffer host n lane (numbers lane).sender of.backed h k
     (ap (λ (w : HostNode). option_map head_of_frame (due_frame w.host w.state lane)) is ∙ head)
     (ap (λ (w : HostNode). ticket_of (lane_at w.state lane) h.seq) is ∙ ticket) in
     record {

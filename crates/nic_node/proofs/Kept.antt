@@ -11,8 +11,8 @@ use Rattle.route_install.specs.Collecting.{HostTable}
 use Rattle.host_lanes.specs.Lane.{AreNumbered}
 use Rattle.host_lanes.specs.Lanes.{HostLanes, lane_in}
 use Rattle.host_ports.specs.Held.{HostPorts}
-use Rattle.ticket_laws.specs.Host.{Begins, IsTicketed}
-use Rattle.ticket_laws.proofs.Keeping.{heard-kept}
+use Rattle.ticket_laws.specs.Host.{Begins, IsBacked}
+use Rattle.ticket_laws.proofs.Backing.{heard-backed}
 use Rattle.nic_node.specs.Messages.{with_messages}
 use Rattle.nic_node.specs.Held.{HostNode, state_of}
 
@@ -26,11 +26,11 @@ pub heard-whole : {E : Type 0} (v : HostNode) (host : ℕ) (i : HostItems) (t : 
 heard-whole v host i t p q r s body b (Ok arrival) is heard = sym (ap (λ w. hear_gm_body w.host w.hosts w.state body b) is) ∙ heard (state_of i t p r)
 heard-whole v host i t p q r s body b (Err e) is heard = tt
 
--- and it leaves a host that is ticketed so
+-- and it leaves a host that is backed so
 pub heard-of : {E : Type 0} (host : ℕ) (p q : HostLanes) (r s : HostPorts) (body : List ℕ) (b : Result GmBody NoBody) (result : Result Arrival E) → ((lane : ℕ) → AreNumbered (lane_in p lane)) → length p.lanes ≡ lane_count p.hosts
-    → IsTicketed Begins r.ports p.lanes → WasHeard host p q r s body b result → OnErr result (q ≡ p) → OnErr result (s ≡ r) → IsTicketed Begins s.ports q.lanes
+    → IsBacked Begins r.ports p.lanes → WasHeard host p q r s body b result → OnErr result (q ≡ p) → OnErr result (s ≡ r) → IsBacked Begins s.ports q.lanes
 heard-of host p q r s body b (Ok arrival) numbers count is heard lanes ports =
     let n : NodeState = new_node 0 in
-    subst (λ (x : Arrival × NodeState). IsTicketed Begins x.1.ports x.1.lanes) (heard n) (heard-kept Begins host p.hosts (with_messages n p r) count (λ k. (numbers k).sender) is body b)
+    subst (λ (x : Arrival × NodeState). IsBacked Begins x.1.ports x.1.lanes) (heard n) (heard-backed Begins host p.hosts (with_messages n p r) count (λ k. (numbers k).sender) is body b)
 heard-of host p q r s body b (Err e) numbers count is heard lanes ports =
-    subst (λ (h : HostLanes). IsTicketed Begins s.ports h.lanes) (sym lanes) (subst (λ (h : HostPorts). IsTicketed Begins h.ports p.lanes) (sym ports) is)
+    subst (λ (h : HostLanes). IsBacked Begins s.ports h.lanes) (sym lanes) (subst (λ (h : HostPorts). IsBacked Begins h.ports p.lanes) (sym ports) is)

@@ -1,4 +1,4 @@
--- The parts of a host stay those of a ticketed host, whatever one of its ports does.
+-- The parts of a host stay those of a backed host, whatever one of its ports does.
 use Rattle.std.proofs.Common.{◌≡◌, ◌<◌, ◌++◌, ℕ, Bool, true, false, List, length, map, take, drop, set, replicate, nat_lt, if◌then◌else◌, Option, Some, None, option_map, ◌⊎◌, inl, inr, refl, sym, ap, ◌∙◌, subst, arith, is_some}
 use Rattle.std.specs.Prelude.{slice_index_or, Result, Ok, Err, OnOk, OnErr, MatchResult}
 use Rattle.std.specs.Option.{ForSome}
@@ -26,17 +26,18 @@ use Rattle.host_ports.specs.Refusal.{begin_bar, close_word, close_bar}
 use Rattle.route_install.specs.Collecting.{HostTable}
 use Rattle.host_lanes.specs.Lane.{AreNumbered, accept_refusal}
 use Rattle.host_lanes.specs.Lanes.{HostLanes, all_unused, lane_in, with_state, both_expired}
-use Rattle.ticket_laws.specs.Host.{Begins, IsTicketed}
+use Rattle.ticket_laws.specs.Host.{Begins, IsBacked}
 use Rattle.ticket_laws.proofs.Hosts.{CanAccept}
-use Rattle.ticket_laws.proofs.Keeping.{host_of, new-ticketed, answered-kept, sent-kept, expired-kept, opened-kept, closed-kept, queue-kept, accepted-kept}
+use Rattle.ticket_laws.proofs.Keeping.{host_of}
+use Rattle.ticket_laws.proofs.Backing.{new-backed, answered-backed, sent-backed, expired-backed, opened-backed, closed-backed, queue-backed, accepted-backed, ended-backed}
 use Rattle.nic_node.specs.declared.refusal.NodeSend.{NodeSend}
 use Rattle.nic_node.specs.Accepting.{node_bar, first_of, early_bar, lane_word, message_sent, accepted_in}
 use Rattle.nic_node.specs.Held.{AreOfHost}
 
 -- ---- one port
 module _ (host : ℕ) (t : HostTable) (l : HostLanes) (p : HostPorts) (is : AreOfHost host t l p) where
-  set-of : (port : ℕ) (o : Option PortState) → IsTicketed Begins (set p.ports port o) l.lanes → AreOfHost host t l (with_open p port o)
-  set-of port o kept = record { own_table = is.own_table; own_lanes = is.own_lanes; own_ports = is.own_ports; among = is.among; ticketed = kept }
+  set-of : (port : ℕ) (o : Option PortState) → IsBacked Begins (set p.ports port o) l.lanes → AreOfHost host t l (with_open p port o)
+  set-of port o kept = record { own_table = is.own_table; own_lanes = is.own_lanes; own_ports = is.own_ports; among = is.among; backed = kept }
 
   same-of : (q : HostPorts) → q ≡ p → AreOfHost host t l q
   same-of q e = subst (AreOfHost host t l) (sym e) is
@@ -44,7 +45,7 @@ module _ (host : ℕ) (t : HostTable) (l : HostLanes) (p : HostPorts) (is : AreO
   -- a port that changes, and keeps its queue
   pub changed-of : (q : HostPorts) (port : ℕ) (f : PortState → PortState) → ((s : PortState) → (f s).queue ≡ s.queue) → q ≡ changed p port f → AreOfHost host t l q
   changed-of q port f same e =
-      subst (AreOfHost host t l) (sym e) (set-of port (option_map f (open_at p port)) (queue-kept Begins p.ports l.lanes is.ticketed port f same))
+      subst (AreOfHost host t l) (sym e) (set-of port (option_map f (open_at p port)) (queue-backed Begins p.ports l.lanes is.backed port f same))
 
   pub changed-or : {T E : Type 0} (r : Result T E) (q : HostPorts) (port : ℕ) (f : PortState → PortState) → ((s : PortState) → (f s).queue ≡ s.queue) → OnOk r (q ≡ changed p port f) → OnErr r (q ≡ p) → AreOfHost host t l q
   changed-or (Ok x) q port f same ok err = changed-of q port f same ok
@@ -54,7 +55,7 @@ module _ (host : ℕ) (t : HostTable) (l : HostLanes) (p : HostPorts) (is : AreO
   pub begun-of : {T : Type 0} (r : Result T NodeBegin) (q : HostPorts) (port sends recvs : ℕ) → Refuses (begin_bar (open_at p port)) NoMemory r → OnOk r (q ≡ with_open p port (Some (opened sends recvs))) → OnErr r (q ≡ p)
       → AreOfHost host t l q
   begun-of (Ok x) q port sends recvs bar ok err =
-      subst (AreOfHost host t l) (sym ok) (set-of port (Some (opened sends recvs)) (opened-kept Begins p.ports l.lanes is.ticketed port sends recvs (by (open_at p port) bar)))
+      subst (AreOfHost host t l) (sym ok) (set-of port (Some (opened sends recvs)) (opened-backed Begins p.ports l.lanes is.backed port sends recvs (by (open_at p port) bar)))
     where
       by : (o : Option PortState) → begin_bar o ≡ None → o ≡ None
       by None e = refl
@@ -73,30 +74,37 @@ module _ (host : ℕ) (t : HostTable) (l : HostLanes) (p : HostPorts) (is : AreO
           at true d f = absurd (none-some _ (sym f ∙ ap (λ b. option_map close_word (if b then Some (Busy (unfinished s)) else if nat_lt 0 (unread s) then Some (Unread (unread s)) else if nat_lt 0 (filling_count s) then Some (Filling (filling_count s)) else None)) d))
           at false d f = grind (arith, nat_tests)
 
-      by : (o : Option PortState) → open_at p port ≡ o → close_bar o ≡ None → IsTicketed Begins (set p.ports port None) l.lanes
+      by : (o : Option PortState) → open_at p port ≡ o → close_bar o ≡ None → IsBacked Begins (set p.ports port None) l.lanes
       by None e d = absurd (none-some _ (sym d))
-      by (Some s) e d = closed-kept Begins p.ports l.lanes is.ticketed port s e (empty s d)
+      by (Some s) e d = closed-backed Begins p.ports l.lanes is.backed port s e (empty s d)
   closed-of (Err x) q port bar ok err = same-of q err
+
+  -- ---- a port that ends with all that it holds, and lanes that forget what they sent
+  pub ended-of : (q : HostPorts) (m : HostLanes) (port : ℕ) → q ≡ with_open p port None → m ≡ all_unused l.host l.hosts → AreOfHost host t m q
+  ended-of q m port ended forgot =
+      subst (λ h. AreOfHost host t h q) (sym forgot)
+      (subst (AreOfHost host t (all_unused l.host l.hosts)) (sym ended)
+      (record { own_table = is.own_table; own_lanes = is.own_lanes; own_ports = is.own_ports; among = is.among; backed = ended-backed Begins (lane_count l.hosts) p.ports port is.backed.apart }))
 
 -- ---- one lane, or both of a peer
 module _ (host : ℕ) (t : HostTable) (l m : HostLanes) (p : HostPorts) (is : AreOfHost host t l p) where
-  lanes-of : (lanes : List LaneState) → IsTicketed Begins p.ports lanes → AreOfHost host t (record l { lanes = lanes }) p
-  lanes-of lanes kept = record { own_table = is.own_table; own_lanes = is.own_lanes; own_ports = is.own_ports; among = is.among; ticketed = kept }
+  lanes-of : (lanes : List LaneState) → IsBacked Begins p.ports lanes → AreOfHost host t (record l { lanes = lanes }) p
+  lanes-of lanes kept = record { own_table = is.own_table; own_lanes = is.own_lanes; own_ports = is.own_ports; among = is.among; backed = kept }
 
   pub answered-of : (lane : ℕ) → m ≡ with_state l lane (lane_answered (lane_in l lane)) → AreOfHost host t m p
-  answered-of lane e = subst (λ h. AreOfHost host t h p) (sym e) (lanes-of _ (answered-kept Begins p.ports l.lanes is.ticketed lane))
+  answered-of lane e = subst (λ h. AreOfHost host t h p) (sym e) (lanes-of _ (answered-backed Begins p.ports l.lanes is.backed lane))
 
   pub sent-of : (lane : ℕ) → m ≡ with_state l lane (lane_sent_one (lane_in l lane)) → AreOfHost host t m p
-  sent-of lane e = subst (λ h. AreOfHost host t h p) (sym e) (lanes-of _ (sent-kept Begins p.ports l.lanes is.ticketed lane))
+  sent-of lane e = subst (λ h. AreOfHost host t h p) (sym e) (lanes-of _ (sent-backed Begins p.ports l.lanes is.backed lane))
 
   pub expired-of : (peer : ℕ) → m ≡ both_expired l peer → AreOfHost host t m p
-  expired-of peer e = subst (λ h. AreOfHost host t h p) (sym e) (lanes-of _ (expired-kept Begins p.ports l.lanes is.ticketed peer))
+  expired-of peer e = subst (λ h. AreOfHost host t h p) (sym e) (lanes-of _ (expired-backed Begins p.ports l.lanes is.backed peer))
 
 -- before anything happened
-pub new-of : (host hosts : ℕ) (l : HostLanes) (p : HostPorts) → l ≡ all_unused host hosts → p ≡ none_open host → IsTicketed Begins p.ports l.lanes
+pub new-of : (host hosts : ℕ) (l : HostLanes) (p : HostPorts) → l ≡ all_unused host hosts → p ≡ none_open host → IsBacked Begins p.ports l.lanes
 new-of host hosts l p lanes ports =
-    subst (λ (h : HostLanes). IsTicketed Begins p.ports h.lanes) (sym lanes)
-    (subst (λ (q : HostPorts). IsTicketed Begins q.ports (all_unused host hosts).lanes) (sym ports) (new-ticketed Begins hosts))
+    subst (λ (h : HostLanes). IsBacked Begins p.ports h.lanes) (sym lanes)
+    (subst (λ (q : HostPorts). IsBacked Begins q.ports (all_unused host hosts).lanes) (sym ports) (new-backed Begins hosts))
 
 -- ---- a message is accepted
 
@@ -150,5 +158,5 @@ module _ (host : ℕ) (t : HostTable) (l m : HostLanes) (p q : HostPorts) (is : 
             own_lanes = is.own_lanes;
             own_ports = is.own_ports;
             among = is.among;
-            ticketed = subst (λ o. IsTicketed Begins (set p.ports port o) (accepted_in l port token a b).lanes) (sym now) (accepted-kept Begins p.ports l.lanes is.ticketed k port token (message_sent port a b) b s can);
+            backed = subst (λ o. IsBacked Begins (set p.ports port o) (accepted_in l port token a b).lanes) (sym now) (accepted-backed Begins p.ports l.lanes is.backed k port token (message_sent port a b) b s can);
           }

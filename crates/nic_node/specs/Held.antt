@@ -1,7 +1,7 @@
 -- What a contract sees of a host: the host of the world that its parts make.
 use Rattle.std.specs.Prelude.{◌≡◌, ◌<◌, ℕ}
 use Rattle.world_defs.specs.Node.{NodeState, new_node}
-use Rattle.ticket_laws.specs.Host.{Begins, IsTicketed}
+use Rattle.ticket_laws.specs.Host.{Begins, IsBacked}
 use Rattle.host_items.specs.Held.{HostItems}
 use Rattle.route_install.specs.Collecting.{HostTable}
 use Rattle.host_lanes.specs.Lanes.{HostLanes}
@@ -32,11 +32,11 @@ state_of items table lanes ports = record {
   ports = ports.ports;
 }
 
--- All parts are this host's, and it is one of the hosts that it has lanes for. Each unfinished message has a send in
--- its port's queue, whose buffer begins with the message's bytes.
+-- All parts are this host's, and it is one of the hosts that it has lanes for. Each unfinished message has a send of
+-- its own in its port's queue, whose buffer begins with the message's bytes.
 pub record AreOfHost (host : ℕ) (table : HostTable) (lanes : HostLanes) (ports : HostPorts) : Type 0 where
   pub own_table : table.host ≡ host
   pub own_lanes : lanes.host ≡ host
   pub own_ports : ports.host ≡ host
   pub among : host < lanes.hosts
-  pub ticketed : IsTicketed Begins ports.ports lanes.lanes
+  pub backed : IsBacked Begins ports.ports lanes.lanes

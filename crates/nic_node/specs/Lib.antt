@@ -3,3 +3,4 @@ pub mod Messages
 pub mod Reading
 pub mod Sending
 pub mod Accepting
+pub mod Ending

@@ -3,7 +3,8 @@
 //! It moves no packet and knows no client: the world hands it the packets that reach it, and takes the packet that it
 //! has to send. `specs/Node.antt` and `specs/Hearing.antt` of `world_defs` say what a host is and what it does;
 //! `specs/Held.antt` makes that host of the parts, and `specs/Messages.antt` sets lanes and ports alone into
-//! it. `specs/Accepting.antt` says when a message is accepted, and what is kept of it.
+//! it. `specs/Accepting.antt` says when a message is accepted, and what is kept of it; `specs/Ending.antt` what is left
+//! of a host once a port of it is ended with all that it holds.
 //!
 //! ```text
 //!                      +--> items: a reply, an acknowledgement ---+
@@ -18,6 +19,7 @@
 #![tactic(auto)]
 
 mod accepting;
+mod ending;
 mod hearing;
 mod mapping;
 mod messages;
@@ -30,9 +32,7 @@ mod unacked;
 
 pub use host_items::{Packet, RoutePart};
 pub use host_lanes::Message;
-pub use host_ports::{
-    NodeBegin, NodeClose, NodeProvide, NotOpen, PortEvent, Ports, SendAsk, Wreck,
-};
+pub use host_ports::{NodeBegin, NodeClose, NodeProvide, NotOpen, PortEvent, SendAsk, Wreck};
 pub use node::NicNode;
 pub use refusal::NodeSend;
 pub use route_install::Table;

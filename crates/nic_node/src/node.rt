@@ -1,10 +1,10 @@
 //! One host.
 
 ghost use Rattle.std.specs.Prelude.{◌≡◌, ◌<◌, ◌≤◌, nat_lt, length, true, is_some, if◌then◌else◌, None, Some};
-ghost use Rattle.std.specs.Prelude.{IfOk};
+ghost use Rattle.std.specs.Prelude.{replicate, IfOk};
 ghost use Rattle.mapping_defs.specs.Mapping.{is_part};
 ghost use Rattle.world_defs.specs.Node.{StagedProbe, StagedPart, has_staged, given_up, node_expired};
-ghost use Rattle.world_defs.specs.Node.{probe_packet};
+ghost use Rattle.world_defs.specs.Node.{probe_packet, port_count};
 ghost use Rattle.world_defs.specs.Node.{unacknowledged_to, lane_count, lane_of, lane_at};
 ghost use Rattle.gm_defs.specs.Body.{is_prio};
 ghost use Rattle.world_defs.specs.Table.{active_epoch};
@@ -22,7 +22,7 @@ use std::marker::Model;
 /// One host among others. Contracts see the host of the world that its parts make, beside its address and the number
 /// of hosts.
 ///
-/// It must be spent, by [`NicNode::into_ports`].
+/// It must be spent, by [`NicNode::end`] once all of its ports are closed.
 pub struct NicNode {
     pub(crate) host: u16,
     pub(crate) items: Items,
@@ -205,9 +205,9 @@ impl NicNode {
         self.lanes.unacked(peer)
     }
 
-    /// Takes the host apart, and hands out its ports with all that they hold.
-    pub fn into_ports(self) -> Ports
-        ensures { result ≡ record { host = self.host; ports = self.state.ports } }
+    /// Spends the host, all of whose ports are closed.
+    pub fn end(self)
+        requires { self.state.ports ≡ replicate port_count None }
     {
         let NicNode {
             host: _,
@@ -216,6 +216,6 @@ impl NicNode {
             lanes: _lanes,
             ports,
         } = self;
-        ports
+        ports.end();
     }
 }

@@ -1,11 +1,9 @@
 -- What each change of a host leaves of its sends, tickets and messages.
-use Rattle.std.proofs.Common.{◌≡◌, ◌≢◌, ◌<◌, ◌≤◌, ◌+◌, ℕ, Bool, true, false, List, [], ◌∷◌, ◌++◌, length, take, drop, max, set, get_or, nat_lt, nat_le, Option, Some, None, option_map, ◌⊎◌, inl, inr, refl, sym, ap, ◌∙◌, subst, arith, if◌then◌else◌}
+use Rattle.std.proofs.Common.{◌≡◌, ◌≢◌, ◌<◌, ◌≤◌, ◌+◌, ℕ, Bool, true, false, List, [], ◌∷◌, ◌++◌, length, take, drop, max, set, get_or, nat_lt, nat_le, Option, Some, None, option_map, ◌⊎◌, inl, inr, refl, sym, ap, ◌∙◌, arith, if◌then◌else◌}
 use Rattle.std.proofs.lemmas.Bool.Decides.{nat_tests}
 use Rattle.std.proofs.lemmas.List.{get_or-set_same, get_or-set_other, length-drop, length-take-le, take-append-drop, drop-append-le, drop-drop}
-use Rattle.net_defs.specs.Network.{Apart}
 use Rattle.gm_defs.specs.declared.message.Message.{Message}
 use Rattle.gm_defs.specs.declared.frame.FrameHead.{FrameHead}
-use Rattle.gm_defs.specs.declared.frame.Ack.{Ack}
 use Rattle.gm_defs.specs.declared.token.Took.{Took}
 use Rattle.gm_defs.specs.declared.token.Took.TheVariants.{NotNext, NoToken, Part, Whole}
 use Rattle.gm_defs.specs.Fragment.{fragments, whole_below}
@@ -14,14 +12,13 @@ use Rattle.gm_defs.specs.Token.{Sending, PortState}
 use Rattle.gm_defs.specs.Port.{finished, sent_with, delivered}
 use Rattle.gm_defs.proofs.Choices.{both}
 use Rattle.gm_defs.proofs.Numbers.{more-below, below-up, below-few}
-use Rattle.gm_defs.proofs.Takers.{Delivery, delivery}
 use Rattle.world_defs.specs.Lane.{LaneState, Ticket, new_lane, with_message, finished_by, lane_acknowledged, tickets_finished, lane_expired, lane_sent_one, lane_answered, lane_after}
 use Rattle.world_defs.specs.Node.{NodeState, Outgoing, Probe, TablePart, Reply, PartAnswer, FrameAnswer, Fragment, lane_of, lane_at, with_lane, port_at, with_port, after_sending, with_expired, node_expired}
-use Rattle.world_defs.specs.Hearing.{message_of, frame_lane, delivered_after, frame_took, frame_heard, all_finished}
-use Rattle.ticket_laws.specs.Host.{send_in, send_under, tickets_of, unfinished_of, HasApartSends, AllApart}
+use Rattle.world_defs.specs.Hearing.{message_of, frame_lane, delivered_after, all_finished}
+use Rattle.ticket_laws.specs.Host.{send_in, send_under, tickets_of, unfinished_of, AllApart}
 use Rattle.ticket_laws.proofs.Matching.{same-or, OneAfter, the_one, another, tickets-long, matched-same, matched-accepted}
-use Rattle.ticket_laws.proofs.Sendings.{under, tokens, under-joined, under-new}
-use Rattle.ticket_laws.proofs.Ports.{ApartStill, SameSends, delivered-sends, set-sends, SameTickets, lanes-same, lanes-set, HostMatched, host-same, ports-apart, port-there, same-ticket, at, at-here, at-other, all-finished}
+use Rattle.ticket_laws.proofs.Sendings.{under, under-joined, under-new}
+use Rattle.ticket_laws.proofs.Ports.{SameSends, delivered-sends, set-sends, SameTickets, lanes-same, lanes-set, HostMatched, host-same, port-there, same-ticket, at, at-here, at-other, all-finished}
 
 -- one lane of a host
 pub lane-new : (n m : NodeState) (k : ℕ) (q : LaneState) → m.lanes ≡ set n.lanes k q → k < length n.lanes → lane_at m k ≡ q
@@ -47,7 +44,7 @@ raised s next is = by (is_taken s next) refl
     by false e = let a = is.base_below in let b = is.cursor_below in record { up = omega arith; below = omega (arith, a, b) }
 
 -- a frame leaves the sends and the tickets
-delivered-same : (n m : NodeState) (h : FrameHead) (part : List ℕ) (t : Took) → m.ports ≡ n.ports → (x : Ticket) → send_under (delivered_after m h part t).ports x ≡ send_under n.ports x
+pub delivered-same : (n m : NodeState) (h : FrameHead) (part : List ℕ) (t : Took) → m.ports ≡ n.ports → (x : Ticket) → send_under (delivered_after m h part t).ports x ≡ send_under n.ports x
 delivered-same n m h part NotNext e x = ap (λ ps. send_in (get_or ps x.port None) x.token) e
 delivered-same n m h part NoToken e x = ap (λ ps. send_in (get_or ps x.port None) x.token) e
 delivered-same n m h part Part e x =
@@ -87,7 +84,7 @@ finished-lanes : (n : NodeState) (ts : List Ticket) → (all_finished n ts).lane
 finished-lanes n [] = refl
 finished-lanes n (t ∷ ts) = finished-lanes (with_port n t.port (option_map (λ p. finished p t.token) (port_at n t.port))) ts
 
-delivered-lanes : (n : NodeState) (h : FrameHead) (part : List ℕ) (t : Took) → (delivered_after n h part t).lanes ≡ n.lanes
+pub delivered-lanes : (n : NodeState) (h : FrameHead) (part : List ℕ) (t : Took) → (delivered_after n h part t).lanes ≡ n.lanes
 delivered-lanes n h part NotNext = refl
 delivered-lanes n h part NoToken = refl
 delivered-lanes n h part Part = refl
@@ -107,9 +104,9 @@ pub record IsFinishing (n : NodeState) (k next : ℕ) : Type 0 where
   pub many : length (take (finished_by (lane_at n k) next) (lane_at n k).pending) ≡ finished_by (lane_at n k) next
   pub there : k < length n.lanes
 
--- how many sends of a lane an acknowledgement finishes
-pub finishing : (holds : List ℕ → List ℕ → Type 0) (n : NodeState) (k next : ℕ) → IsSender (lane_at n k).sender → k < length n.lanes → HostMatched holds n → IsFinishing n k next
-finishing holds n k next sender low is = record { counted = counted; many = many; there = low }
+-- how many sends of a lane an acknowledgement finishes, where as many tickets wait as messages aren't finished
+pub finishing-as : (n : NodeState) (k next : ℕ) → IsSender (lane_at n k).sender → k < length n.lanes → length (lane_at n k).pending ≡ length (unfinished_of n.lanes k) → IsFinishing n k next
+finishing-as n k next sender low as_many = record { counted = counted; many = many; there = low }
   where
     p : LaneState
     p = lane_at n k
@@ -128,77 +125,81 @@ finishing holds n k next sender low is = record { counted = counted; many = many
 
     many : length (take count p.pending) ≡ count
     many =
-        let as_many = tickets-long holds (send_under n.ports) p.pending (unfinished_of n.lanes k) (is.of_messages k) in
         let fewer = length-drop (whole_below p.sent p.sender.base) p.sent in
         let few = below-few p.sent base in
         let all = counted in
         length-take-le count p.pending (omega (arith, as_many, fewer, few, all))
 
+pub finishing : (holds : List ℕ → List ℕ → Type 0) (n : NodeState) (k next : ℕ) → IsSender (lane_at n k).sender → k < length n.lanes → HostMatched holds n → IsFinishing n k next
+finishing holds n k next sender low is = finishing-as n k next sender low (tickets-long holds (send_under n.ports) (lane_at n k).pending (unfinished_of n.lanes k) (is.of_messages k))
+
+-- the tickets and the unfinished messages that it leaves
+module _ (n : NodeState) (k next : ℕ) (is : IsFinishing n k next) where
+  abbrev pub now_acknowledged : LaneState
+  now_acknowledged = lane_acknowledged (lane_at n k) next
+
+  abbrev pub with_acknowledged : NodeState
+  with_acknowledged = with_lane n k now_acknowledged
+
+  abbrev pub finished_tickets : List Ticket
+  finished_tickets = take (finished_by (lane_at n k) next) (lane_at n k).pending
+
+  abbrev pub left_tickets : List Ticket
+  left_tickets = drop (finished_by (lane_at n k) next) (lane_at n k).pending
+
+  acknowledged-lanes : (all_finished with_acknowledged finished_tickets).lanes ≡ set n.lanes k now_acknowledged
+  acknowledged-lanes = finished-lanes with_acknowledged finished_tickets
+
+  acknowledged-now : lane_at (all_finished with_acknowledged finished_tickets) k ≡ now_acknowledged
+  acknowledged-now = lane-new n (all_finished with_acknowledged finished_tickets) k now_acknowledged acknowledged-lanes is.there
+
+  pub tickets-left : (j : ℕ) → tickets_of (all_finished with_acknowledged finished_tickets).lanes j ≡ at k left_tickets (tickets_of n.lanes) j
+  tickets-left j = by (same-or j k)
+    where
+      m : NodeState
+      m = all_finished with_acknowledged finished_tickets
+
+      by : (j ≡ k) ⊎ (j ≢ k) → tickets_of m.lanes j ≡ at k left_tickets (tickets_of n.lanes) j
+      by (inl same) = ap (tickets_of m.lanes) same ∙ (ap (λ x. x.pending) acknowledged-now ∙ (sym (at-here k left_tickets (tickets_of n.lanes)) ∙ ap (at k left_tickets (tickets_of n.lanes)) (sym same)))
+      by (inr other) = ap (λ x. x.pending) (lane-old n m k now_acknowledged acknowledged-lanes j other) ∙ sym (at-other k left_tickets (tickets_of n.lanes) j other)
+
+  pub messages-left : (j : ℕ) → unfinished_of (all_finished with_acknowledged finished_tickets).lanes j ≡ at k (drop (length finished_tickets) (unfinished_of n.lanes k)) (unfinished_of n.lanes) j
+  messages-left j = by (same-or j k)
+    where
+      m : NodeState
+      m = all_finished with_acknowledged finished_tickets
+
+      p : LaneState
+      p = lane_at n k
+
+      base : ℕ
+      base = (acknowledged p.sender next).base
+
+      rest : List Message
+      rest = drop (length finished_tickets) (unfinished_of n.lanes k)
+
+      here : unfinished_of m.lanes k ≡ rest
+      here =
+          let all = is.counted in
+          let long = is.many in
+          let sum : whole_below p.sent p.sender.base + length finished_tickets ≡ whole_below p.sent base = omega (arith, all, long) in
+          ap (λ x. drop (whole_below x.sent x.sender.base) x.sent) acknowledged-now ∙ sym (drop-drop (length finished_tickets) (whole_below p.sent p.sender.base) p.sent ∙ ap (λ i. drop i p.sent) sum)
+
+      by : (j ≡ k) ⊎ (j ≢ k) → unfinished_of m.lanes j ≡ at k rest (unfinished_of n.lanes) j
+      by (inl same) = ap (unfinished_of m.lanes) same ∙ (here ∙ (sym (at-here k rest (unfinished_of n.lanes)) ∙ ap (at k rest (unfinished_of n.lanes)) (sym same)))
+      by (inr other) = ap (λ x. drop (whole_below x.sent x.sender.base) x.sent) (lane-old n m k now_acknowledged acknowledged-lanes j other) ∙ sym (at-other k rest (unfinished_of n.lanes) j other)
+
 -- an acknowledgement finishes the first sends of its lane
 pub acknowledged-matched : (holds : List ℕ → List ℕ → Type 0) (n : NodeState) (k next : ℕ) → IsSender (lane_at n k).sender → k < length n.lanes → AllApart n.ports → HostMatched holds n → HostMatched holds (all_finished (with_lane n k (lane_acknowledged (lane_at n k) next)) (tickets_finished (lane_at n k) next))
 acknowledged-matched holds n k next sender low every is =
-    matched-same holds (send_under m.ports) (send_under m.ports) (at k left (tickets_of n.lanes)) (tickets_of m.lanes) (at k (drop (length gone) (unfinished_of n.lanes k)) (unfinished_of n.lanes)) (unfinished_of m.lanes) (λ x. refl) tickets messages
-    (all-finished holds before (tickets_of n.lanes) (unfinished_of n.lanes) k gone left (sym (take-append-drop count p.pending)) apart is)
-  where
-    p : LaneState
-    p = lane_at n k
-
-    base : ℕ
-    base = (acknowledged p.sender next).base
-
-    count : ℕ
-    count = finished_by p next
-
-    q : LaneState
-    q = lane_acknowledged p next
-
-    gone : List Ticket
-    gone = take count p.pending
-
-    left : List Ticket
-    left = drop count p.pending
-
-    before : NodeState
-    before = with_lane n k q
-
-    m : NodeState
-    m = all_finished before gone
-
-    apart : AllApart before.ports
-    apart = every
-
-    known_here : IsFinishing n k next
-    known_here = finishing holds n k next sender low is
-
-    lanes : m.lanes ≡ set n.lanes k q
-    lanes = finished-lanes before gone
-
-    now : lane_at m k ≡ q
-    now = lane-new n m k q lanes known_here.there
-
-    tickets : (j : ℕ) → tickets_of m.lanes j ≡ at k left (tickets_of n.lanes) j
-    tickets j = by (same-or j k)
-      where
-        by : (j ≡ k) ⊎ (j ≢ k) → tickets_of m.lanes j ≡ at k left (tickets_of n.lanes) j
-        by (inl same) = ap (tickets_of m.lanes) same ∙ (ap (λ x. x.pending) now ∙ (sym (at-here k left (tickets_of n.lanes)) ∙ ap (at k left (tickets_of n.lanes)) (sym same)))
-        by (inr other) = ap (λ x. x.pending) (lane-old n m k q lanes j other) ∙ sym (at-other k left (tickets_of n.lanes) j other)
-
-    messages : (j : ℕ) → unfinished_of m.lanes j ≡ at k (drop (length gone) (unfinished_of n.lanes k)) (unfinished_of n.lanes) j
-    messages j = by (same-or j k)
-      where
-        rest : List Message
-        rest = drop (length gone) (unfinished_of n.lanes k)
-
-        here : unfinished_of m.lanes k ≡ rest
-        here =
-            let all = known_here.counted in
-            let long = known_here.many in
-            let sum : whole_below p.sent p.sender.base + length gone ≡ whole_below p.sent base = omega (arith, all, long) in
-            ap (λ x. drop (whole_below x.sent x.sender.base) x.sent) now ∙ sym (drop-drop (length gone) (whole_below p.sent p.sender.base) p.sent ∙ ap (λ i. drop i p.sent) sum)
-
-        by : (j ≡ k) ⊎ (j ≢ k) → unfinished_of m.lanes j ≡ at k rest (unfinished_of n.lanes) j
-        by (inl same) = ap (unfinished_of m.lanes) same ∙ (here ∙ (sym (at-here k rest (unfinished_of n.lanes)) ∙ ap (at k rest (unfinished_of n.lanes)) (sym same)))
-        by (inr other) = ap (λ x. drop (whole_below x.sent x.sender.base) x.sent) (lane-old n m k q lanes j other) ∙ sym (at-other k rest (unfinished_of n.lanes) j other)
+    let fin = finishing holds n k next sender low is in
+    let before : NodeState = with_lane n k (lane_acknowledged (lane_at n k) next) in
+    let gone : List Ticket = tickets_finished (lane_at n k) next in
+    let left : List Ticket = drop (finished_by (lane_at n k) next) (lane_at n k).pending in
+    let m : NodeState = all_finished before gone in
+    matched-same holds (send_under m.ports) (send_under m.ports) (at k left (tickets_of n.lanes)) (tickets_of m.lanes) (at k (drop (length gone) (unfinished_of n.lanes k)) (unfinished_of n.lanes)) (unfinished_of m.lanes) (λ x. refl)
+    (tickets-left n k next fin) (messages-left n k next fin)
+    (all-finished holds before (tickets_of n.lanes) (unfinished_of n.lanes) k gone left (sym (take-append-drop (finished_by (lane_at n k) next) (lane_at n k).pending)) every is)
 
 -- A message is accepted: what its lane, its port and its buffer are before.
 pub record CanAccept (holds : List ℕ → List ℕ → Type 0) (n : NodeState) (k port token : ℕ) (m : Message) (buffer : List ℕ) (p : PortState) : Type 0 where
@@ -214,62 +215,64 @@ pub record CanAccept (holds : List ℕ → List ℕ → Type 0) (n : NodeState) 
 abbrev pub once_accepted : NodeState → ℕ → ℕ → ℕ → Message → List ℕ → PortState → NodeState
 once_accepted n k port token m buffer p = with_port (with_lane n k (with_message (lane_at n k) m (record { port = port; token = token }))) port (Some (sent_with p token buffer))
 
-pub accept-matched : (holds : List ℕ → List ℕ → Type 0) (n : NodeState) (k port token : ℕ) (message : Message) (bytes : List ℕ) (p : PortState) → CanAccept holds n k port token message bytes p → HostMatched holds n
-    → HostMatched holds (once_accepted n k port token message bytes p)
-accept-matched holds n k port token message bytes p can is =
-    matched-accepted holds (send_under n.ports) (send_under m.ports) (tickets_of n.lanes) (tickets_of m.lanes) (unfinished_of n.lanes) (unfinished_of m.lanes) k ticket message bytes more messages others others_too free can.of_port can.bytes sends is
-  where
-    ticket : Ticket
-    ticket = record { port = port; token = token }
+-- what it makes of the sends, the tickets and the messages
+module _ (holds : List ℕ → List ℕ → Type 0) (n : NodeState) (k port token : ℕ) (message : Message) (bytes : List ℕ) (p : PortState) (can : CanAccept holds n k port token message bytes p) where
+  abbrev pub accepted_ticket : Ticket
+  accepted_ticket = record { port = port; token = token }
 
-    new : Sending
-    new = record { token = token; buffer = bytes }
+  abbrev pub accepted_send : Sending
+  accepted_send = record { token = token; buffer = bytes }
 
-    q : LaneState
-    q = with_message (lane_at n k) message ticket
+  abbrev pub accepted_lane : LaneState
+  accepted_lane = with_message (lane_at n k) message accepted_ticket
 
-    m : NodeState
-    m = once_accepted n k port token message bytes p
+  abbrev pub accepted_host : NodeState
+  accepted_host = once_accepted n k port token message bytes p
 
-    now : lane_at m k ≡ q
-    now = lane-new n m k q refl can.lane_there
+  accepted-now : lane_at accepted_host k ≡ accepted_lane
+  accepted-now = lane-new n accepted_host k accepted_lane refl can.lane_there
 
-    more : tickets_of m.lanes k ≡ tickets_of n.lanes k ++ ticket ∷ []
-    more = ap (λ x. x.pending) now
+  pub accepted-tickets : tickets_of accepted_host.lanes k ≡ tickets_of n.lanes k ++ accepted_ticket ∷ []
+  accepted-tickets = ap (λ x. x.pending) accepted-now
 
-    messages : unfinished_of m.lanes k ≡ unfinished_of n.lanes k ++ message ∷ []
-    messages =
-        let long = can.numbered in
-        let a = can.sender.base_below in
-        let b = can.sender.cursor_below in
-        let d = can.sender.top_below in
-        let l : LaneState = lane_at n k in
-        let same = (more-below l.sent (message ∷ []) l.sender.base (omega (arith, long, a, b, d))).0 in
-        ap (λ x. drop (whole_below x.sent x.sender.base) x.sent) now ∙ ap (λ i. drop i (l.sent ++ message ∷ [])) same
-        ∙ drop-append-le (whole_below l.sent l.sender.base) l.sent (message ∷ []) (below-few l.sent l.sender.base)
+  pub accepted-messages : unfinished_of accepted_host.lanes k ≡ unfinished_of n.lanes k ++ message ∷ []
+  accepted-messages =
+      let long = can.numbered in
+      let a = can.sender.base_below in
+      let b = can.sender.cursor_below in
+      let d = can.sender.top_below in
+      let l : LaneState = lane_at n k in
+      let same = (more-below l.sent (message ∷ []) l.sender.base (omega (arith, long, a, b, d))).0 in
+      ap (λ x. drop (whole_below x.sent x.sender.base) x.sent) accepted-now ∙ ap (λ i. drop i (l.sent ++ message ∷ [])) same
+      ∙ drop-append-le (whole_below l.sent l.sender.base) l.sent (message ∷ []) (below-few l.sent l.sender.base)
 
-    others : (j : ℕ) → j ≢ k → tickets_of m.lanes j ≡ tickets_of n.lanes j
-    others j other = ap (λ x. x.pending) (lane-old n m k q refl j other)
+  pub others-tickets : (j : ℕ) → j ≢ k → tickets_of accepted_host.lanes j ≡ tickets_of n.lanes j
+  others-tickets j other = ap (λ x. x.pending) (lane-old n accepted_host k accepted_lane refl j other)
 
-    others_too : (j : ℕ) → j ≢ k → unfinished_of m.lanes j ≡ unfinished_of n.lanes j
-    others_too j other = ap (λ x. drop (whole_below x.sent x.sender.base) x.sent) (lane-old n m k q refl j other)
+  pub others-messages : (j : ℕ) → j ≢ k → unfinished_of accepted_host.lanes j ≡ unfinished_of n.lanes j
+  others-messages j other = ap (λ x. drop (whole_below x.sent x.sender.base) x.sent) (lane-old n accepted_host k accepted_lane refl j other)
 
-    free : send_under n.ports ticket ≡ None
-    free = ap (λ z. send_in z token) can.open_there ∙ can.free
+  pub accepted-free : send_under n.ports accepted_ticket ≡ None
+  accepted-free = ap (λ z. send_in z token) can.open_there ∙ can.free
 
-    at_port : port_at m port ≡ Some (sent_with p token bytes)
-    at_port = get_or-set_same n.ports port (Some (sent_with p token bytes)) None (port-there n port p can.open_there)
+  pub accepted-sends : (x : Ticket) → OneAfter x accepted_ticket (send_under n.ports x) (send_under accepted_host.ports x) (Some accepted_send)
+  accepted-sends x = by (same-or x.port port) (same-or x.token token)
+    where
+      at_port : port_at accepted_host port ≡ Some (sent_with p token bytes)
+      at_port = get_or-set_same n.ports port (Some (sent_with p token bytes)) None (port-there n port p can.open_there)
 
-    sends : (x : Ticket) → OneAfter x ticket (send_under n.ports x) (send_under m.ports x) (Some new)
-    sends x = by (same-or x.port port) (same-or x.token token)
-      where
-        after : x.port ≡ port → send_under m.ports x ≡ under x.token (sent_with p token bytes).queue
-        after same = ap (λ j. send_in (port_at m j) x.token) same ∙ ap (λ z. send_in z x.token) at_port
+      after : x.port ≡ port → send_under accepted_host.ports x ≡ under x.token (sent_with p token bytes).queue
+      after same = ap (λ j. send_in (port_at accepted_host j) x.token) same ∙ ap (λ z. send_in z x.token) at_port
 
-        was : x.port ≡ port → send_under n.ports x ≡ under x.token p.queue
-        was same = ap (λ j. send_in (port_at n j) x.token) same ∙ ap (λ z. send_in z x.token) can.open_there
+      was : x.port ≡ port → send_under n.ports x ≡ under x.token p.queue
+      was same = ap (λ j. send_in (port_at n j) x.token) same ∙ ap (λ z. send_in z x.token) can.open_there
 
-        by : (x.port ≡ port) ⊎ (x.port ≢ port) → (x.token ≡ token) ⊎ (x.token ≢ token) → OneAfter x ticket (send_under n.ports x) (send_under m.ports x) (Some new)
-        by (inl same) (inl too) = the_one (same-ticket x ticket same too) (after same ∙ (ap (λ u. under u (sent_with p token bytes).queue) too ∙ under-new new p.queue can.free))
-        by (inl same) (inr other) = another (λ d. other (ap (λ z. z.token) d)) (after same ∙ (under-joined new x.token p.queue other ∙ sym (was same)))
-        by (inr other) y = another (λ d. other (ap (λ z. z.port) d)) (ap (λ z. send_in z x.token) (get_or-set_other n.ports port x.port (Some (sent_with p token bytes)) None other))
+      by : (x.port ≡ port) ⊎ (x.port ≢ port) → (x.token ≡ token) ⊎ (x.token ≢ token) → OneAfter x accepted_ticket (send_under n.ports x) (send_under accepted_host.ports x) (Some accepted_send)
+      by (inl same) (inl too) = the_one (same-ticket x accepted_ticket same too) (after same ∙ (ap (λ u. under u (sent_with p token bytes).queue) too ∙ under-new accepted_send p.queue can.free))
+      by (inl same) (inr other) = another (λ d. other (ap (λ z. z.token) d)) (after same ∙ (under-joined accepted_send x.token p.queue other ∙ sym (was same)))
+      by (inr other) y = another (λ d. other (ap (λ z. z.port) d)) (ap (λ z. send_in z x.token) (get_or-set_other n.ports port x.port (Some (sent_with p token bytes)) None other))
+
+  pub accept-matched : HostMatched holds n → HostMatched holds accepted_host
+  accept-matched is =
+      matched-accepted holds (send_under n.ports) (send_under accepted_host.ports) (tickets_of n.lanes) (tickets_of accepted_host.lanes) (unfinished_of n.lanes) (unfinished_of accepted_host.lanes) k accepted_ticket message bytes accepted-tickets accepted-messages others-tickets others-messages
+      accepted-free can.of_port can.bytes accepted-sends is

@@ -5,3 +5,4 @@ pub mod Ports
 pub mod Hosts
 pub mod Keeping
 pub mod Parts
+pub mod Backing

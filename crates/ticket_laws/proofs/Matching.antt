@@ -20,7 +20,7 @@ pub data OneAfter (x t : Ticket) (before after : Option Sending) (new : Option S
   the_one : x ≡ t → after ≡ new → OneAfter x t before after new
   another : x ≢ t → after ≡ before → OneAfter x t before after new
 
-tickets-keep : (holds : List ℕ → List ℕ → Type 0) (S T : Ticket → Option Sending) (ts : List Ticket) (ms : List Message) → ((x : Ticket) (i : ℕ) (s : Sending) → slice_get ts i ≡ Some x → S x ≡ Some s → T x ≡ Some s) → AreTicketsOf holds S ts ms → AreTicketsOf holds T ts ms
+pub tickets-keep : (holds : List ℕ → List ℕ → Type 0) (S T : Ticket → Option Sending) (ts : List Ticket) (ms : List Message) → ((x : Ticket) (i : ℕ) (s : Sending) → slice_get ts i ≡ Some x → S x ≡ Some s → T x ≡ Some s) → AreTicketsOf holds S ts ms → AreTicketsOf holds T ts ms
 tickets-keep holds S T [] [] keep are = tt
 tickets-keep holds S T [] (m ∷ ms) keep are = absurd are
 tickets-keep holds S T (t ∷ ts) [] keep are = absurd are

@@ -1,7 +1,7 @@
 -- The bytes of a fragment that is due stand in the buffer of its message's send.
-use Rattle.std.proofs.Common.{◌≡◌, ◌≤◌, ◌<◌, ◌+◌, ◌-◌, ◌++◌, ◌&&◌, ℕ, Bool, true, false, nat_lt, min, List, length, take, drop, Option, Some, None, option_map, if◌then◌else◌, refl, sym, ap, ◌∙◌, subst, arith, length-append}
+use Rattle.std.proofs.Common.{◌≡◌, ◌≤◌, ◌+◌, ◌-◌, ◌++◌, ◌&&◌, ℕ, Bool, true, false, nat_lt, min, List, length, take, drop, Option, Some, None, option_map, if◌then◌else◌, refl, sym, ap, ◌∙◌, subst, arith, length-append}
 use Rattle.std.specs.Prelude.{slice_get, option_and_then}
-use Rattle.std.proofs.lemmas.List.{length-drop, length-take-le, drop-append-le, take-append-le}
+use Rattle.std.proofs.lemmas.List.{length-drop, drop-append-le, take-append-le}
 use Rattle.std.proofs.lemmas.Option.{same_Some, none-some}
 use Rattle.gm_defs.specs.declared.frame.FrameHead.{FrameHead}
 use Rattle.gm_defs.specs.declared.frame.ConnectionKey.{ConnectionKey}
@@ -14,8 +14,8 @@ use Rattle.gm_defs.proofs.Numbers.{next-fragment, part-of, take-there, offset-wi
 use Rattle.world_defs.specs.Lane.{LaneState, Ticket}
 use Rattle.world_defs.specs.Node.{NodeState, lane_at, sends_on, due_frame}
 use Rattle.world_defs.specs.Sound.{IsPrefix}
-use Rattle.ticket_laws.specs.Tickets.{IsTicketOf, AreMatched}
-use Rattle.ticket_laws.specs.Host.{send_under, AreTicketed, Begins, IsInBuffer}
+use Rattle.ticket_laws.specs.Tickets.{IsTicketOf, AreTicketsOf}
+use Rattle.ticket_laws.specs.Host.{send_under, tickets_of, unfinished_of, Begins, IsInBuffer}
 use Rattle.ticket_laws.proofs.Lists.{drop-get}
 use Rattle.ticket_laws.proofs.Matching.{ticket-at}
 
@@ -36,7 +36,7 @@ due-above s seq is e = by (nat_lt s.cursor s.next && nat_lt s.cursor (s.base + w
     by true d = let same : s.cursor ≡ seq = same_Some s.cursor seq d in let low = is.base_below in omega (arith, same, low)
     by false d = absurd (none-some seq d)
 
-module _ (host : ℕ) (n : NodeState) (lane : ℕ) (sender : IsSender (lane_at n lane).sender) (is : AreTicketed Begins n.ports n.lanes) where
+module _ (host : ℕ) (n : NodeState) (lane : ℕ) (sender : IsSender (lane_at n lane).sender) (of_messages : AreTicketsOf Begins (send_under n.ports) (tickets_of n.lanes lane) (unfinished_of n.lanes lane)) where
   abbrev state : LaneState
   state = lane_at n lane
 
@@ -53,7 +53,7 @@ module _ (host : ℕ) (n : NodeState) (lane : ℕ) (sender : IsSender (lane_at n
       let up : b ≤ w = below-up state.sent state.sender.base seq low in
       let place : b + (w - b) ≡ w = omega (arith, up) in
       let message = drop-get b state.sent (w - b) f.message (ap (slice_get state.sent) place ∙ c.there) in
-      let of : IsTicketOf Begins (send_under n.ports) t f.message = ticket-at Begins (send_under n.ports) state.pending (drop b state.sent) (w - b) t f.message (is.of_messages lane) here message in
+      let of : IsTicketOf Begins (send_under n.ports) t f.message = ticket-at Begins (send_under n.ports) state.pending (drop b state.sent) (w - b) t f.message of_messages here message in
       let body : List ℕ = f.message.body in
       let front : IsPrefix body of.buffer = of.bytes in
       let within = offset-within (length body) f.offset c.begins in

@@ -1,6 +1,6 @@
 -- The sends in a host's queues and its tickets, once its ports or its connections changed.
-use Rattle.std.proofs.Common.{◌≡◌, ◌≢◌, ◌<◌, ◌+◌, ℕ, suc, Bool, true, false, List, [], ◌∷◌, ◌++◌, length, drop, set, get_or, nat_eq, nat_lt, if◌then◌else◌, Option, Some, None, IfSome, option_map, ◌⊎◌, inl, inr, refl, sym, ap, ◌∙◌, subst, arith}
-use Rattle.std.specs.Prelude.{slice_get, option_and_then}
+use Rattle.std.proofs.Common.{◌≡◌, ◌≢◌, ◌<◌, ◌+◌, ℕ, suc, Bool, true, false, List, [], ◌∷◌, ◌++◌, length, drop, set, get_or, nat_eq, nat_lt, if◌then◌else◌, Option, Some, None, option_map, ◌⊎◌, inl, inr, refl, sym, ap, ◌∙◌, subst, arith}
+use Rattle.std.specs.Prelude.{slice_get}
 use Rattle.std.proofs.lemmas.Bool.Decides.{nat_tests}
 use Rattle.std.proofs.lemmas.List.{get_or-set_same, get_or-set_other, get_or_past, drop-drop}
 use Rattle.net_defs.specs.Network.{Apart}
@@ -139,7 +139,7 @@ finish-sends n t s p e d apart x = by (same-or x.port t.port) (same-or x.token t
     by (inr other) y =
         another (λ e. other (ap (λ z. z.port) e)) (ap (λ z. send_in z x.token) (get_or-set_other n.ports t.port x.port (option_map (λ p. finished p t.token) (port_at n t.port)) None other))
 
-one-finished : (n : NodeState) (t : Ticket) (s : Sending) → send_under n.ports t ≡ Some s → AllApart n.ports → (x : Ticket) → OneAfter x t (send_under n.ports x) (send_under (finish n t).ports x) None
+pub one-finished : (n : NodeState) (t : Ticket) (s : Sending) → send_under n.ports t ≡ Some s → AllApart n.ports → (x : Ticket) → OneAfter x t (send_under n.ports x) (send_under (finish n t).ports x) None
 one-finished n t s e is x = by (port_at n t.port) refl e (is.each t.port)
   where
     by : (o : Option PortState) → port_at n t.port ≡ o → send_in o t.token ≡ Some s → HasApartSends o → OneAfter x t (send_under n.ports x) (send_under (finish n t).ports x) None
@@ -164,7 +164,7 @@ at-other k x f j other = by (nat_eq j k) refl
     by false e = ap (λ b. if b then x else f j) e
 
 -- a replacement again
-at-again : {X : Type 0} (k : ℕ) (x y z : X) (f : ℕ → X) → x ≡ z → (j : ℕ) → at k z f j ≡ at k x (at k y f) j
+pub at-again : {X : Type 0} (k : ℕ) (x y z : X) (f : ℕ → X) → x ≡ z → (j : ℕ) → at k z f j ≡ at k x (at k y f) j
 at-again k x y z f e j = by (nat_eq j k)
   where
     by : (b : Bool) → (if b then z else f j) ≡ (if b then x else (if b then y else f j))
@@ -178,17 +178,18 @@ first-finished holds n P U k t rest e apart is =
     let send = ticket-send holds (send_under n.ports) (P k) (U k) 0 t (is.of_messages k) first in
     matched-finished holds (send_under n.ports) (send_under (finish n t).ports) P (at k rest P) U (at k (drop 1 (U k)) U) k t rest e (at-here k rest P) (at-here k (drop 1 (U k)) U) (at-other k rest P) (at-other k (drop 1 (U k)) U) (one-finished n t send.0 send.1 apart) is
 
+-- a replacement by what is there
+pub at-same : {X : Type 0} (k : ℕ) (x : X) (f : ℕ → X) → x ≡ f k → (j : ℕ) → at k x f j ≡ f j
+at-same k x f e j = by (same-or j k)
+  where
+    by : (j ≡ k) ⊎ (j ≢ k) → at k x f j ≡ f j
+    by (inl same) = ap (at k x f) same ∙ (at-here k x f ∙ (e ∙ ap f (sym same)))
+    by (inr other) = at-other k x f j other
+
 -- the first tickets on a lane go, and their sends
 pub all-finished : (holds : List ℕ → List ℕ → Type 0) (n : NodeState) (P : ℕ → List Ticket) (U : ℕ → List Message) (k : ℕ) (ts rest : List Ticket) → P k ≡ ts ++ rest → AllApart n.ports → AreMatched holds (send_under n.ports) P U → AreMatched holds (send_under (all_finished n ts).ports) (at k rest P) (at k (drop (length ts) (U k)) U)
 all-finished holds n P U k [] rest e apart is =
-    matched-same holds (send_under n.ports) (send_under n.ports) P (at k rest P) U (at k (U k) U) (λ x. refl) (kept rest P (sym e)) (kept (U k) U refl) is
-  where
-    kept : {X : Type 0} (x : X) (f : ℕ → X) → x ≡ f k → (j : ℕ) → at k x f j ≡ f j
-    kept x f e j = by (same-or j k)
-      where
-        by : (j ≡ k) ⊎ (j ≢ k) → at k x f j ≡ f j
-        by (inl same) = ap (at k x f) same ∙ (at-here k x f ∙ (e ∙ ap f (sym same)))
-        by (inr other) = at-other k x f j other
+    matched-same holds (send_under n.ports) (send_under n.ports) P (at k rest P) U (at k (U k) U) (λ x. refl) (at-same k rest P (sym e)) (at-same k (U k) U refl) is
 all-finished holds n P U k (t ∷ ts) rest e apart is =
     let Q : ℕ → List Ticket = at k (ts ++ rest) P in
     let V : ℕ → List Message = at k (drop 1 (U k)) U in

@@ -52,6 +52,15 @@ pub record IsTicketed (holds : List ℕ → List ℕ → Type 0) (ports : List (
   pub matched : AreTicketed holds ports lanes
   pub apart : AllApart ports
 
+-- Some of a host's sends, those that its lanes know of, are matched with its tickets and unfinished messages, and each
+-- of its queues has each token once. The lanes of a host that forgot what they sent know of none.
+pub record IsBacked (holds : List ℕ → List ℕ → Type 0) (ports : List (Option PortState))
+    (lanes : List LaneState) : Type 0 where
+  pub known : Ticket → Option Sending
+  pub there : (t : Ticket) (s : Sending) → known t ≡ Some s → send_under ports t ≡ Some s
+  pub matched : AreMatched holds known (tickets_of lanes) (unfinished_of lanes)
+  pub apart : AllApart ports
+
 -- The frame that is due on a lane has this head, and its bytes stand in the buffer of this ticket's send, from the
 -- offset on.
 pub record IsInBuffer (host : ℕ) (n : NodeState) (lane : ℕ) (h : FrameHead) (t : Ticket) : Type 0 where

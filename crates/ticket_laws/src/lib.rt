@@ -13,15 +13,21 @@
 //! | file of `specs/` | says |
 //! |---|---|
 //! | `Tickets` | when sends, tickets and messages are matched |
-//! | `Host` | the sends, tickets and messages of a host, and when it is ticketed |
+//! | `Host` | the sends, tickets and messages of a host, when it is ticketed, and when it is backed |
 //! | `Laws` | it stays so, and what is due stands in the buffer of its ticket's send |
 #![tactic(auto)]
 
 ghost use Rattle.ticket_laws.specs.Laws.{NewIsTicketed, HeardStaysTicketed, DueIsInBuffer};
+ghost use Rattle.ticket_laws.specs.Laws.{ForgottenIsBacked, HeardStaysBacked, BackedIsInBuffer};
 
-/// A host is ticketed from the first, stays so when it hears of messages, and what is due stands in a buffer.
+/// A host is ticketed from the first, stays so when it hears of messages, and what is due stands in a buffer. One whose
+/// lanes forget what they sent is backed, whatever its queues hold; it stays so, and what is due then stands in a
+/// buffer.
 pub fn tickets_stay()
     ensures new { NewIsTicketed }
     ensures heard { HeardStaysTicketed }
     ensures due { DueIsInBuffer }
+    ensures forgotten { ForgottenIsBacked }
+    ensures heard_backed { HeardStaysBacked }
+    ensures due_backed { BackedIsInBuffer }
 {}

@@ -3,7 +3,7 @@ use Rattle.client_host.specs.Tied.{IsEnding}
 use Rattle.client_host.proofs.ending.end_clients.Given as goal
 
 abbrev pub invariant-loop-slot : goal.invariant-loop-slot
-invariant-loop-slot l = IsEnding l.ports l.clients.items
+invariant-loop-slot l = IsEnding l.node l.clients.items
 
 abbrev pub decreases-loop-slot : goal.decreases-loop-slot
 decreases-loop-slot l = goal.left-loop-slot l

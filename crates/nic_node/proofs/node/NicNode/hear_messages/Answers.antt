@@ -12,9 +12,9 @@ invariant_of-self c =
       own_lanes = c.hear.ensures.lanes_host ∙ c.self.invariant.own_lanes;
       own_ports = c.hear.ensures.ports_host ∙ c.self.invariant.own_ports;
       among = omega (arith, kept, among);
-      ticketed =
+      backed =
           heard-of c.self.inside.host c.self.inside.lanes c.hear.new.lanes c.self.inside.ports c.hear.new.ports c.args.body.now (decode c.args.body.now) c.hear.result
-          c.in_order.ensures.numbers c.in_order.ensures.count c.self.invariant.ticketed c.hear.ensures.heard c.hear.ensures.lanes c.hear.ensures.ports;
+          c.in_order.ensures.numbers c.in_order.ensures.count c.self.invariant.backed c.hear.ensures.heard c.hear.ensures.lanes c.hear.ensures.ports;
     }
 
 pub returns-clause-heard : goal.returns-clause-heard

@@ -9,5 +9,5 @@ invariant_of-result c = record {
   own_lanes = ap (λ h. h.host) c.in_ok-lanes.ensures;
   own_ports = ap (λ h. h.host) c.in_ok-ports.ensures;
   among = subst (λ (h : HostLanes). c.args.host < h.hosts) (sym c.in_ok-lanes.ensures) c.requires;
-  ticketed = new-of c.args.host c.args.hosts c.in_ok-lanes.lanes c.in_ok-ports.ports c.in_ok-lanes.ensures c.in_ok-ports.ensures;
+  backed = new-of c.args.host c.args.hosts c.in_ok-lanes.lanes c.in_ok-ports.ports c.in_ok-lanes.ensures c.in_ok-ports.ensures;
 }
