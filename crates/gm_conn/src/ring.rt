@@ -82,16 +82,6 @@ impl DescRing {
         }
     }
 
-    /// How many there are.
-    pub(crate) fn len(&self) -> usize
-        ensures { result ≡ length self.now.items }
-    {
-        match &self.ring {
-            Some(ring) => ring.len(),
-            None => 0,
-        }
-    }
-
     /// The descriptor of a place.
     pub(crate) fn get(&self, place: usize) -> Option<&Desc>
         ensures { option_copied result ≡ slice_get self.now.items place }

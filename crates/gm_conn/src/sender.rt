@@ -1,7 +1,8 @@
 //! The sending half.
 
-ghost use Rattle.std.specs.Prelude.{◌≡◌, ◌<◌, ◌≤◌, ◌-◌, ◌+◌, [], true, false, nat_lt, length};
-ghost use Rattle.std.specs.Prelude.{IsSome, IfSome, OnOk, OnErr};
+ghost use Rattle.std.specs.Prelude.{◌≡◌, ◌<◌, ◌≤◌, ◌+◌, [], true, false, nat_lt};
+ghost use Rattle.std.specs.Prelude.{slice_get, IsSome, IfSome, OnOk, OnErr};
+ghost use Rattle.std.specs.Option.{option_copied};
 ghost use Rattle.net_defs.specs.Refusal.{Refuses};
 ghost use Rattle.gm_defs.specs.declared.frame.GmBody.TheVariants.{Frame};
 ghost use Rattle.gm_defs.specs.Body.{is_head, is_offset, message_limit};
@@ -174,13 +175,11 @@ impl Sender {
         self.base < next && next <= self.top
     }
 
-    /// How many of the messages that wait don't lie wholly below a number.
-    pub fn left_from(&self, n: u32) -> usize
-        requires { first self.now ≤ n }
-        ensures { result ≡ length self.now.waiting - place_below self.now n }
+    /// The descriptor of a place among those that wait, the oldest at 0.
+    pub fn descriptor(&self, place: usize) -> Option<&Desc>
+        ensures { option_copied result ≡ slice_get self.now.waiting place }
     {
-        let (place, _first) = self.below(n);
-        self.waiting.len() - place
+        self.waiting.get(place)
     }
 
     /// The descriptor of the oldest message that is finished and not taken out yet.

@@ -1,27 +1,28 @@
 -- What a host's connections with a peer come to: which message is due, and which are finished.
-use Rattle.std.proofs.Common.{◌≡◌, ◌<◌, ◌≤◌, ◌+◌, ◌-◌, ℕ, suc, Bool, true, false, ◌&&◌, nat_eq, nat_lt, nat_le, max, List, [], ◌∷◌, ◌++◌, length, drop, Option, Some, None, option_map, is_some, refl, sym, ap, ◌∙◌, subst, arith, length-append, map, if◌then◌else◌}
+use Rattle.std.proofs.Common.{◌≡◌, ◌<◌, ◌≤◌, ◌+◌, ◌-◌, ◌*◌, ◌^◌, ℕ, zero, suc, Bool, true, false, ◌&&◌, nat_eq, nat_lt, nat_le, max, List, [], ◌∷◌, ◌++◌, length, drop, Option, Some, None, option_map, is_some, refl, sym, ap, ◌∙◌, subst, arith, length-append, map, if◌then◌else◌}
 use Rattle.std.specs.Prelude.{slice_get, option_and_then}
+use Rattle.std.specs.List.{AllByRecursion}
 use Rattle.std.proofs.lemmas.Bool.Decides.{nat_tests}
-use Rattle.std.proofs.lemmas.List.{drop-append-le, drop-drop, drop-map, length-drop, length-map, map_push}
-use Rattle.std.proofs.lemmas.Option.{same_Some, none-some, slice_get_within}
+use Rattle.std.proofs.lemmas.List.{drop-append-le, drop-drop, drop-map, length-drop}
+use Rattle.std.proofs.lemmas.Option.{slice_get-map, same_Some, none-some}
 use Rattle.net_defs.proofs.Distinct.{all-push}
 use Rattle.gm_defs.specs.declared.message.Message.{Message}
 use Rattle.gm_defs.specs.declared.frame.FrameHead.{FrameHead}
-use Rattle.gm_defs.specs.Body.{message_limit, is_prio}
+use Rattle.gm_defs.specs.Body.{piece, message_limit, is_prio}
 use Rattle.gm_defs.specs.Fragment.{Fragment, fragments, piece_count, whole_below, head_of, frame_of}
 use Rattle.gm_defs.specs.Connection.{SenderState, due, is_taken, acknowledged}
-use Rattle.gm_defs.specs.Laws.{ComesNext}
 use Rattle.gm_defs.proofs.Choices.{both}
-use Rattle.gm_defs.proofs.Numbers.{length-fragments, fragments-append, next-fragment}
+use Rattle.gm_defs.proofs.Numbers.{length-fragments, fragments-append}
 use Rattle.gm_conn.specs.declared.desc.Desc.{Desc}
 use Rattle.gm_conn.specs.declared.desc.Due.{Due}
-use Rattle.gm_conn.specs.Halves.{Outgoing, Incoming, IsOutgoing, WaitsFor, AreOf, Describes, is_desc, first, place_below, due_at, message_of, due_frame, finished, heard_ack, oldest_finished, without_finished}
-use Rattle.gm_conn.proofs.Messages.{within}
+use Rattle.gm_conn.specs.Halves.{Outgoing, Incoming, IsOutgoing, WaitsFor, AreOf, Describes, is_desc, first, place_below, first_below, head_for, due_at, message_of, due_frame, finished, heard_ack, oldest_finished, without_finished}
+use Rattle.gm_conn.proofs.Messages.{all-at, within}
+use Rattle.gm_conn.proofs.Waiting.{held-by}
 use Rattle.gm_conn.proofs.Connections.{due-some}
 use Rattle.gm_conn.proofs.Finished.{heard-finished, heard-none, finished-less, finished-pushed}
 use Rattle.gm_conn.proofs.Sent.{of-push, of-drop, of-count, waits-last, below-waiting, due-of-message}
 use Rattle.world_defs.specs.Lane.{Ticket, finished_by, lane_acknowledged}
-use Rattle.host_lanes.specs.Lane.{HostLane, in_state, other_way, head_of_frame, IsLane}
+use Rattle.host_lanes.specs.Lane.{HostLane, in_state, other_way, head_of_frame, send_of, sends_of, IsLane}
 
 -- ---- what is finished
 
@@ -51,12 +52,12 @@ finished-lane w ms n answer kept waits numbered is = by (is_taken w.numbers n) r
 
 -- ---- what is due
 
--- What is due, beside the ticket of its message.
-pub record IsDueOf (w : Outgoing) (ms : List Message) (ts : List Ticket) (d : Due) : Type 0 where
-  pub low : first w ≤ d.head.seq
-  pub inside : length ts - (length w.waiting - place_below w d.head.seq) < length ts
-  pub few : length w.waiting - place_below w d.head.seq ≤ length ts
-  pub place : length ts - (length w.waiting - place_below w d.head.seq) ≡ whole_below ms d.head.seq - whole_below ms w.numbers.base
+-- What is due, beside the descriptor of its message.
+pub record IsDueOf (w : Outgoing) (ms : List Message) (d : Due) : Type 0 where
+  pub desc : Desc
+  pub there : slice_get w.waiting (whole_below ms d.head.seq - whole_below ms w.numbers.base) ≡ Some desc
+  pub sport : d.head.sport ≡ desc.sport
+  pub ticket : d.ticket ≡ desc.ticket
   pub frame : option_map head_of_frame (option_and_then (λ seq. frame_of w.key ms seq) (due w.numbers)) ≡ Some d.head
 
 due-at-number : (w : Outgoing) (ms : List Message) (n : ℕ) → length (fragments ms) ≡ w.numbers.next → due w.numbers ≡ Some n → (f : Fragment) × (slice_get (fragments ms) n ≡ Some f)
@@ -66,34 +67,42 @@ due-at-number w ms n numbered e =
     let b = d.offered_already in
     within (fragments ms) n (omega (arith, a, b, numbered))
 
-pub due-is : (w : Outgoing) (ms : List Message) (ts : List Ticket) (d : Due) → IsOutgoing w → length (fragments ms) ≡ w.numbers.next → WaitsFor w ms → finished w ≡ 0 → map (λ d. d.ticket) w.waiting ≡ map (λ t. t.token) ts → Some d ≡ due_frame w
-    → IsDueOf w ms ts d
-due-is w ms ts d kept numbered waits none tickets e = by (due w.numbers) refl
+-- the fragment that is due, by a descriptor and an offset
+due-by : (w : Outgoing) (d : Due) (n : ℕ) (desc : Desc) (offset : ℕ) → Some d ≡ due_frame w → due w.numbers ≡ Some n → due_at w n ≡ Some (record { head = head_for w.key n desc offset; ticket = desc.ticket })
+    → d ≡ record { head = head_for w.key n desc offset; ticket = desc.ticket }
+due-by w d n desc offset e some stated =
+    let frame : due_frame w ≡ due_at w n = ap (option_and_then (due_at w)) some in
+    same_Some d (record { head = head_for w.key n desc offset; ticket = desc.ticket }) (e ∙ frame ∙ stated)
+
+pub due-is : (w : Outgoing) (ms : List Message) (d : Due) → IsOutgoing w → length (fragments ms) ≡ w.numbers.next → WaitsFor w ms → finished w ≡ 0 → Some d ≡ due_frame w → IsDueOf w ms d
+due-is w ms d kept numbered waits none e = by (due w.numbers) refl
   where
-    by : (o : Option ℕ) → due w.numbers ≡ o → IsDueOf w ms ts d
+    by : (o : Option ℕ) → due w.numbers ≡ o → IsDueOf w ms d
     by None nothing = absurd (none-some d (sym (e ∙ ap (option_and_then (due_at w)) nothing)))
     by (Some n) some =
         let f = due-at-number w ms n numbered some in
         let of = due-of-message w ms n f.0 kept waits numbered some f.1 in
         let head : FrameHead = head_of w.key n f.0 in
         let same : d.head ≡ head = ap (λ x. x.head) (same_Some d (record { head = head_of w.key n f.0; ticket = of.0.ticket }) (e ∙ of.2)) in
-        let c : ComesNext ms n f.0 = next-fragment ms n f.0 f.1 in
-        let number = (due-some w.numbers n some).number in
+        let is = due-some w.numbers n some in
+        let number = is.number in
+        let more = is.offered_already in
         let up = kept.sender.base_below in
         let below = kept.waits in
         let low : first w ≤ n = omega (arith, number, up, below) in
-        let few = (waits-last w ms kept waits numbered).few in
+        let held = held-by w n kept low (omega (arith, number, more)) in
+        let offset : ℕ = (n - first_below w n) * piece in
+        let out : d ≡ record { head = head_for w.key n held.0 offset; ticket = held.0.ticket } = due-by w d n held.0 offset e some held.1.stated in
         let here : whole_below ms n ≡ length ms - length w.waiting + place_below w n = below-waiting w ms n kept waits numbered low in
         let start : whole_below ms w.numbers.base ≡ length ms - length w.waiting + finished w = below-waiting w ms w.numbers.base kept waits numbered below in
-        let there = slice_get_within ms (whole_below ms n) f.0.message c.there in
-        let long : length ts ≡ length w.waiting = sym (length-map ts (λ (t : Ticket). t.token)) ∙ sym (ap length tickets) ∙ length-map w.waiting (λ (x : Desc). x.ticket) in
+        let place : whole_below ms n - whole_below ms w.numbers.base ≡ place_below w n = omega (arith, here, start, none) in
         let shown : option_map head_of_frame (option_and_then (λ seq. frame_of w.key ms seq) (due w.numbers)) ≡ Some head =
         ap (λ o. option_map head_of_frame (option_and_then (λ seq. frame_of w.key ms seq) o)) some ∙ ap (λ o. option_map head_of_frame (option_map (λ g. (head_of w.key n g, g.part)) o)) f.1 in
         record {
-          low = subst (λ h. first w ≤ h.seq) (sym same) low;
-          inside = subst (λ h. length ts - (length w.waiting - place_below w h.seq) < length ts) (sym same) (omega (arith, few, here, there, long));
-          few = subst (λ h. length w.waiting - place_below w h.seq ≤ length ts) (sym same) (omega (arith, long));
-          place = subst (λ h. length ts - (length w.waiting - place_below w h.seq) ≡ whole_below ms h.seq - whole_below ms w.numbers.base) (sym same) (omega (arith, few, here, start, none, there, long));
+          desc = held.0;
+          there = ap (λ k. slice_get w.waiting (whole_below ms k - whole_below ms w.numbers.base)) (ap (λ x. x.head.seq) out) ∙ ap (slice_get w.waiting) place ∙ held.1.there;
+          sport = ap (λ x. x.head.sport) out;
+          ticket = ap (λ x. x.ticket) out;
           frame = shown ∙ ap (λ h. Some h) (sym same);
         }
 
@@ -108,11 +117,27 @@ none-is w ms kept numbered waits e = by (due w.numbers) refl
         let of = due-of-message w ms n f.0 kept waits numbered some f.1 in
         absurd (none-some (record { head = head_of w.key n f.0; ticket = of.0.ticket }) (e ∙ of.2))
 
--- there is a ticket at each place below their number
-pub there-is : (ts : List Ticket) (i j : ℕ) → i ≡ j → j < length ts → slice_get ts i ≡ None → ⊥
-there-is ts i j same low none =
-    let x = within ts j low in
-    none-some x.0 (sym none ∙ ap (slice_get ts) same ∙ x.1)
+-- ---- the send of a descriptor
+
+-- it has the place of its descriptor
+pub send-at : (w : Outgoing) (place : ℕ) (d : Desc) (t : Ticket) → slice_get w.waiting place ≡ Some d → t ≡ send_of d → Some t ≡ slice_get (sends_of w) place
+send-at w place d t there is = ap (λ x. Some x) is ∙ sym (slice_get-map send_of w.waiting place ∙ ap (option_map send_of) there)
+
+pub no-send : (w : Outgoing) (place : ℕ) → slice_get w.waiting place ≡ None → None ≡ slice_get (sends_of w) place
+no-send w place none = sym (slice_get-map send_of w.waiting place ∙ ap (option_map send_of) none)
+
+-- and is the one that the state has for the number of the fragment that is due
+pub due-send : (w : Outgoing) (ms : List Message) (d : Due) (t : Ticket) → IsDueOf w ms d → t ≡ record { port = d.head.sport; token = d.ticket } → slice_get (sends_of w) (whole_below ms d.head.seq - whole_below ms w.numbers.base) ≡ Some t
+due-send w ms d t h is =
+    let mine : t ≡ send_of h.desc = is ∙ (λ i. record { port = h.sport i; token = h.ticket i }) in
+    sym (send-at w (whole_below ms d.head.seq - whole_below ms w.numbers.base) h.desc t h.there mine)
+
+-- its token has a small number
+pub small-due : (w : Outgoing) (ms : List Message) (d : Due) → IsDueOf w ms d → AllByRecursion (λ x. x.ticket < 2 ^ 16) w.waiting → d.ticket < 2 ^ 16
+small-due w ms d h small =
+    let same = h.ticket in
+    let low : h.desc.ticket < 2 ^ 16 = all-at (λ x. x.ticket < 2 ^ 16) w.waiting _ h.desc small h.there in
+    omega (arith, same, low)
 
 -- a fragment is due exactly where its frame is
 pub due-told : (w : Outgoing) (ms : List Message) → IsOutgoing w → length (fragments ms) ≡ w.numbers.next → WaitsFor w ms → is_some (due_frame w) ≡ is_some (option_and_then (λ seq. frame_of w.key ms seq) (due w.numbers))
@@ -126,9 +151,9 @@ due-told w ms kept numbered waits = by (due w.numbers) refl
         ap is_some of.2 ∙ sym (ap (λ o. is_some (option_and_then (λ seq. frame_of w.key ms seq) o)) some ∙ ap (λ (o : Option Fragment). is_some {T = FrameHead × List ℕ} (option_map (λ g. (head_of w.key n g, g.part)) o)) f.1)
 
 -- ---- a message is accepted
-pub accepted-is : (v w : Outgoing) (r : Incoming) (ms : List Message) (ts : List Ticket) (d : Desc) (m : Message) (t : Ticket) → IsOutgoing v → IsLane v r ms ts → Describes d m → d.ticket ≡ t.token → length m.body ≤ message_limit
-    → w.key ≡ v.key → w.numbers.base ≡ v.numbers.base → w.numbers.next ≡ v.numbers.next + piece_count d.total → w.waiting ≡ v.waiting ++ d ∷ [] → IsLane w r (ms ++ m ∷ []) (ts ++ t ∷ [])
-accepted-is v w r ms ts d m t kept peer of token small key base next waiting =
+pub accepted-is : (v w : Outgoing) (r : Incoming) (ms : List Message) (d : Desc) (m : Message) → IsOutgoing v → IsLane v r ms → Describes d m → d.ticket < 2 ^ 16 → length m.body ≤ message_limit
+    → w.key ≡ v.key → w.numbers.base ≡ v.numbers.base → w.numbers.next ≡ v.numbers.next + piece_count d.total → w.waiting ≡ v.waiting ++ d ∷ [] → IsLane w r (ms ++ m ∷ [])
+accepted-is v w r ms d m kept peer of token small key base next waiting =
     let total : piece_count d.total ≡ piece_count (length m.body) = ap piece_count of.total in
     let numbered = peer.numbered in
     let longer : length (ms ++ m ∷ []) ≡ length ms + 1 = length-append ms (m ∷ []) in
@@ -146,8 +171,7 @@ accepted-is v w r ms ts d m t kept peer of token small key base next waiting =
       short = all-push (λ x. length x.body ≤ message_limit) ms m peer.short small;
       waits = subst (λ xs. AreOf w.waiting xs) (sym split) waits;
       unfinished = finished-pushed v w d kept base next waiting ∙ peer.unfinished;
-      tickets = ap (map (λ x. x.ticket)) waiting ∙ map_push (λ x. x.ticket) v.waiting d ∙ ap (λ xs. xs ++ d.ticket ∷ []) peer.tickets
-          ∙ ap (λ n. map (λ x. x.token) ts ++ n ∷ []) token ∙ sym (map_push (λ x. x.token) ts t);
+      tokens = subst (AllByRecursion (λ x. x.ticket < 2 ^ 16)) (sym waiting) (all-push (λ x. x.ticket < 2 ^ 16) v.waiting d peer.tokens token);
       way_back = peer.way_back ∙ ap other_way (sym key);
     }
 
@@ -162,10 +186,10 @@ described v w d e a b p q t =
     (grind (arith, nat_tests)) (grind (arith, nat_tests)) p (grind (arith, nat_tests)) (grind (arith, nat_tests))
 
 -- room for more changes nothing else
-pub roomier-lane : (v w : Outgoing) (r : Incoming) (ms : List Message) (ts : List Ticket) → w ≡ record v { spare = w.spare } → IsLane v r ms ts → IsLane w r ms ts
-roomier-lane v w r ms ts e peer =
-    subst (λ x. IsLane x r ms ts) (sym e)
-    (record { numbered = peer.numbered; short = peer.short; waits = peer.waits; unfinished = peer.unfinished; tickets = peer.tickets; way_back = peer.way_back })
+pub roomier-lane : (v w : Outgoing) (r : Incoming) (ms : List Message) → w ≡ record v { spare = w.spare } → IsLane v r ms → IsLane w r ms
+roomier-lane v w r ms e peer =
+    subst (λ x. IsLane x r ms) (sym e)
+    (record { numbered = peer.numbered; short = peer.short; waits = peer.waits; unfinished = peer.unfinished; tokens = peer.tokens; way_back = peer.way_back })
 
 -- the oldest finished descriptor is taken out
 fewer-waits : (ds : List Desc) (ms : List Message) → AreOf ds (drop (length ms - length ds) ms) → AreOf (drop 1 ds) (drop (length ms - length (drop 1 ds)) ms)
@@ -253,17 +277,26 @@ oldest-there w up none = by w.waiting refl
     by (d ∷ ds) e = none-some d (sym (sym (ap (λ l. slice_get l 0) e) ∙ first-none))
 
 -- what a lane is once an acknowledgement was heard, and so many sends wait no more
-pub heard-state : (p : HostLane) (u : Outgoing) (ts : List Ticket) (n k : ℕ) → k ≡ finished_by p.state n → u.key ≡ p.key → u.numbers ≡ acknowledged p.state.sender n → ts ≡ drop k p.state.pending
-    → record { key = u.key; state = record p.state { sender = u.numbers; pending = ts } } ≡ in_state p (lane_acknowledged p.state n)
-heard-state p u ts n k is key numbers gone = λ i. record {
+pub heard-state : (p : HostLane) (u : Outgoing) (n k : ℕ) → k ≡ finished_by p.state n → u.key ≡ p.key → u.numbers ≡ acknowledged p.state.sender n → sends_of u ≡ drop k p.state.pending
+    → record { key = u.key; state = record p.state { sender = u.numbers; pending = sends_of u } } ≡ in_state p (lane_acknowledged p.state n)
+heard-state p u n k is key numbers gone = λ i. record {
   key = key i;
   state = record p.state { sender = numbers i; pending = (gone ∙ ap (λ c. drop c p.state.pending) is) i };
 }
 
+-- what holds of each holds of those behind the first so many
+all-dropped : {X : Type 0} (P : X → Type 0) (k : ℕ) (xs : List X) → AllByRecursion P xs → AllByRecursion P (drop k xs)
+all-dropped P zero xs all = all
+all-dropped P (suc k) [] all = all
+all-dropped P (suc k) (x ∷ xs) all = all-dropped P k xs all.1
+
+-- the sends of what is left
+pub sends-left : (v w u : Outgoing) (k : ℕ) → w.waiting ≡ v.waiting → u.waiting ≡ drop k w.waiting → sends_of u ≡ drop k (sends_of v)
+sends-left v w u k same left = ap (map send_of) (left ∙ ap (drop k) same) ∙ sym (drop-map send_of k v.waiting)
+
 -- an acknowledgement was heard, and what it finished is taken out
-pub heard-lane : (v w u : Outgoing) (r : Incoming) (ms : List Message) (ts : List Ticket) (n k : ℕ) → IsLane v r ms ts → w ≡ record v { numbers = acknowledged v.numbers n } → k ≡ finished w → SameBut k w u
-    → IsLane u r ms (drop k ts)
-heard-lane v w u r ms ts n k peer e all same =
+pub heard-lane : (v w u : Outgoing) (r : Incoming) (ms : List Message) (n k : ℕ) → IsLane v r ms → w ≡ record v { numbers = acknowledged v.numbers n } → k ≡ finished w → SameBut k w u → IsLane u r ms
+heard-lane v w u r ms n k peer e all same =
     let next : w.numbers.next ≡ v.numbers.next = ap (λ x. x.numbers.next) e ∙ next-stays v.numbers n in
     let waiting : w.waiting ≡ v.waiting = ap (λ x. x.waiting) e in
     let waits : WaitsFor w ms = subst (λ ds. AreOf ds (drop (length ms - length ds) ms)) (sym waiting) peer.waits in
@@ -274,6 +307,6 @@ heard-lane v w u r ms ts n k peer e all same =
       short = peer.short;
       waits = same.waits ms waits;
       unfinished = omega (arith, left, all);
-      tickets = ap (map (λ d. d.ticket)) fewer ∙ sym (drop-map (λ (d : Desc). d.ticket) k v.waiting) ∙ ap (drop k) peer.tickets ∙ drop-map (λ (t : Ticket). t.token) k ts;
+      tokens = subst (AllByRecursion (λ x. x.ticket < 2 ^ 16)) (sym fewer) (all-dropped (λ x. x.ticket < 2 ^ 16) k v.waiting peer.tokens);
       way_back = peer.way_back ∙ ap other_way (sym (same.key ∙ ap (λ x. x.key) e));
     }

@@ -1,6 +1,6 @@
 -- What a contract sees of one lane of a host: its connections with a peer, of one priority.
-use Rattle.std.specs.Prelude.{◌≡◌, ℕ, ◌≤◌, ◌-◌, List, length, map, slice_get, if◌then◌else◌, Option, Some, None}
-use Rattle.std.specs.Prelude.{option_and_then}
+use Rattle.std.specs.Prelude.{◌≡◌, ℕ, ◌<◌, ◌≤◌, ◌-◌, ◌^◌, List, length, map, slice_get, Option, Some, None}
+use Rattle.std.specs.Prelude.{option_and_then, if◌then◌else◌}
 use Rattle.std.specs.List.{AllByRecursion}
 use Rattle.gm_defs.specs.declared.message.Message.{Message}
 use Rattle.gm_defs.specs.declared.frame.FrameHead.{FrameHead}
@@ -8,6 +8,7 @@ use Rattle.gm_defs.specs.declared.frame.ConnectionKey.{ConnectionKey}
 use Rattle.gm_defs.specs.Body.{message_limit}
 use Rattle.gm_defs.specs.Fragment.{fragments, piece_count, whole_below, frame_of}
 use Rattle.gm_defs.specs.Connection.{IsSender, connection, due, is_spent}
+use Rattle.gm_conn.specs.declared.desc.Desc.{Desc}
 use Rattle.gm_conn.specs.declared.refusal.OfferRefusal.{OfferRefusal}
 use Rattle.gm_conn.specs.declared.refusal.OfferRefusal.TheVariants.{Spent}
 use Rattle.gm_conn.specs.Halves.{Outgoing, Incoming, WaitsFor, finished}
@@ -62,13 +63,21 @@ message_in e body = record { sport = e.sport; dport = e.dport; prio = e.prio; bo
 abbrev pub accept_refusal : LaneState → ℕ → Option OfferRefusal
 accept_refusal p total = if is_spent p.sender (piece_count total) then Some Spent else None
 
--- What the two halves, the messages and the tickets keep: the messages' fragments have the numbers up to the next;
--- the descriptors that wait are of the last messages, none of them is finished, and they hold the tokens of the sends
--- that aren't finished, in order; and what comes from the peer goes the other way.
-pub record IsLane (w : Outgoing) (r : Incoming) (sent : List Message) (pending : List Ticket) : Type 0 where
+-- the send that a descriptor is of: the sending port, and the number of its token there
+abbrev pub send_of : Desc → Ticket
+send_of d = record { port = d.sport; token = d.ticket }
+
+-- the sends of the descriptors that wait
+abbrev pub sends_of : Outgoing → List Ticket
+sends_of w = map send_of w.waiting
+
+-- What the two halves and the messages keep: the messages' fragments have the numbers up to the next; the descriptors
+-- that wait are of the last messages, none of them is finished, and each holds the number of a token; and what comes
+-- from the peer goes the other way.
+pub record IsLane (w : Outgoing) (r : Incoming) (sent : List Message) : Type 0 where
   pub numbered : length (fragments sent) ≡ w.numbers.next
   pub short : AllByRecursion (λ m. length m.body ≤ message_limit) sent
   pub waits : WaitsFor w sent
   pub unfinished : finished w ≡ 0
-  pub tickets : map (λ d. d.ticket) w.waiting ≡ map (λ t. t.token) pending
+  pub tokens : AllByRecursion (λ d. d.ticket < 2 ^ 16) w.waiting
   pub way_back : r.key ≡ other_way w.key

@@ -4,10 +4,10 @@ use crate::Ticket;
 use gm_defs::FrameHead;
 
 /// The frame that is to be sent next.
-#[derive(Clone, Copy, Debug)]
-pub struct DueFrame<'a> {
+#[derive(Debug, Drop)]
+pub struct DueFrame {
     /// What stands in the frame before the fragment's bytes.
     pub head: FrameHead,
     /// The send in whose buffer the bytes stand, from the head's offset on.
-    pub ticket: &'a Ticket,
+    pub ticket: Ticket,
 }

@@ -2,7 +2,6 @@
 
 ghost use Rattle.std.specs.Prelude.{◌≡◌, ◌<◌, ◌≤◌, true, false, length, take, slice_get, Some};
 ghost use Rattle.std.specs.Prelude.{IsSome, IfSome, OnOk, OnErr, IfOk, is_some, option_map};
-ghost use Rattle.std.specs.Option.{option_copied};
 ghost use Rattle.net_defs.specs.Refusal.{Refuses};
 ghost use Rattle.gm_defs.specs.Body.{is_prio, is_head, is_last, message_limit};
 ghost use Rattle.gm_defs.specs.Connection.{connection, ack_on, due, unacknowledged, took};
@@ -56,10 +55,10 @@ impl Lane {
 
     /// The fragment that is to be sent next, if one is: its head, and the send that its message is of. As many sends
     /// wait before that one as messages before its message aren't finished.
-    pub fn due(&self) -> Option<DueFrame<'_>>
+    pub fn due(&self) -> Option<DueFrame>
         ensures head { option_map head_shown result ≡ option_map head_of_frame (due_frame self.now) }
         ensures by_rules { IfSome result (λ d. is_head d.head ≡ true) }
-        ensures ticket { IfSome result (λ d. ticket_of self.now.state d.head.seq ≡ Some d.ticket.now) }
+        ensures ticket { IfSome result (λ d. ticket_of self.now.state d.head.seq ≡ Some d.ticket) }
     {
         match &self.used {
             None => None,
@@ -232,8 +231,8 @@ impl Lane {
     }
 
     /// The ticket at a place among those that wait, the one that waits longest at 0.
-    pub fn pending(&self, place: usize) -> Option<&Ticket>
-        ensures { option_copied result ≡ slice_get self.now.state.pending place }
+    pub fn pending(&self, place: usize) -> Option<Ticket>
+        ensures { result ≡ slice_get self.now.state.pending place }
     {
         match &self.used {
             None => None,

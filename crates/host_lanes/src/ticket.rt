@@ -1,6 +1,6 @@
 //! A send that isn't finished.
 
-ghost use Rattle.std.specs.Prelude.{◌≡◌};
+ghost use Rattle.std.specs.Prelude.{◌≡◌, ◌<◌, ◌^◌};
 
 use std::marker::Model;
 
@@ -20,11 +20,15 @@ impl Model for Ticket {
 }
 
 impl Ticket {
-    /// The ticket of a token of a port.
-    pub fn new(port: u8, token: u16) -> Ticket
+    // The ticket of a token of a port.
+    pub(crate) fn new(port: u8, token: usize) -> Ticket
+        requires { token < 2 ^ 16 }
         ensures { result ≡ record { port = port; token = token } }
     {
-        Ticket { port, token }
+        Ticket {
+            port,
+            token: token as u16,
+        }
     }
 
     /// The sending port.

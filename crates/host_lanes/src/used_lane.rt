@@ -3,8 +3,6 @@
 ghost use Rattle.std.specs.Prelude.{◌≡◌, ◌<◌, ◌≤◌, ◌+◌, ◌++◌, true, List, length, take, drop, slice_get, vec_len, Some};
 ghost use Rattle.std.specs.Prelude.{vec_capacity};
 ghost use Rattle.std.specs.Prelude.{IsSome, IfSome, OnOk, OnErr, IfOk, IfErr, is_some, option_map};
-ghost use Rattle.std.specs.Option.{option_copied};
-ghost use Rattle.std.specs.VecDeque.{deque_len, deque_capacity};
 ghost use Rattle.net_defs.specs.Refusal.{Refuses};
 ghost use Rattle.gm_defs.specs.Body.{is_prio, is_head, is_last, message_limit};
 ghost use Rattle.gm_defs.specs.Connection.{connection, ack_on, due, unacknowledged, took};
@@ -21,7 +19,6 @@ use gm_conn::{Ack, Desc, FrameHead, OfferRefusal, Receiver, Sender, Took};
 use gm_defs::{Blob, Message};
 use reg_mem::Reg;
 use std::alloc::{AllocError, Global};
-use std::collections::VecDeque;
 use std::marker::Model;
 use std::mem;
 
@@ -30,7 +27,6 @@ use std::mem;
 pub(crate) struct UsedLane {
     sender: Sender,
     sent: Vec<Message>,
-    pending: VecDeque<Ticket>,
     receiver: Receiver,
     got: Vec<Message>,
     // The bytes that came so far of the message that is taken in part.
@@ -39,7 +35,7 @@ pub(crate) struct UsedLane {
 }
 
 impl Model for UsedLane {
-    ghost use Rattle.host_lanes.specs.Lane.{HostLane, IsLane};
+    ghost use Rattle.host_lanes.specs.Lane.{HostLane, IsLane, sends_of};
 
     ghost Value = { HostLane };
 
@@ -48,7 +44,7 @@ impl Model for UsedLane {
       state = record {
         sender = p.sender.numbers;
         sent = p.sent.items;
-        pending = p.pending.items;
+        pending = sends_of p.sender;
         got = p.got.items;
         coming = p.coming.items;
         taken = p.receiver.taken;
@@ -56,7 +52,7 @@ impl Model for UsedLane {
       };
     } };
 
-    ghost invariant = { λ p. IsLane p.sender p.receiver p.sent.items p.pending.items };
+    ghost invariant = { λ p. IsLane p.sender p.receiver p.sent.items };
 }
 
 impl UsedLane {
@@ -67,7 +63,6 @@ impl UsedLane {
         UsedLane {
             sender: Sender::new(alloc, host, peer, prio),
             sent: Vec::new(alloc),
-            pending: VecDeque::new(alloc),
             receiver: Receiver::new(peer, host, prio),
             got: Vec::new(alloc),
             coming: Vec::new(alloc),
@@ -77,23 +72,17 @@ impl UsedLane {
 
     /// The fragment that is to be sent next, if one is: its head, and the send that its message is of. As many sends
     /// wait before that one as messages before its message aren't finished.
-    pub(crate) fn due(&self) -> Option<DueFrame<'_>>
+    pub(crate) fn due(&self) -> Option<DueFrame>
         ensures head { option_map head_shown result ≡ option_map head_of_frame (due_frame self.now) }
         ensures by_rules { IfSome result (λ d. is_head d.head ≡ true) }
-        ensures ticket { IfSome result (λ d. ticket_of self.now.state d.head.seq ≡ Some d.ticket.now) }
+        ensures ticket { IfSome result (λ d. ticket_of self.now.state d.head.seq ≡ Some d.ticket) }
     {
         self.sender.in_order();
         match self.sender.due() {
-            Some(due) => {
-                let place = self.pending.len() - self.sender.left_from(due.head.seq);
-                match self.pending(place) {
-                    Some(ticket) => Some(DueFrame {
-                        head: due.head,
-                        ticket,
-                    }),
-                    None => unreachable!(),
-                }
-            }
+            Some(due) => Some(DueFrame {
+                head: due.head,
+                ticket: Ticket::new(due.head.sport, due.ticket),
+            }),
             None => None,
         }
     }
@@ -180,7 +169,7 @@ impl UsedLane {
     {
         self.sender.reserve(len)?;
         self.sender.in_order();
-        make_room(&mut self.sent, &mut self.pending)?;
+        make_room(&mut self.sent)?;
         let message = message_in(alloc, e, b, len)?;
         let _first = self.sender.offer(Desc {
             ticket: usize::from(token),
@@ -190,7 +179,6 @@ impl UsedLane {
             total: len,
         });
         self.sent.push_reserved(message);
-        self.pending.push_back_reserved(Ticket::new(e.sport, token));
         Ok(())
     }
 
@@ -203,10 +191,13 @@ impl UsedLane {
     }
 
     /// The ticket at a place among those that wait, the one that waits longest at 0.
-    pub(crate) fn pending(&self, place: usize) -> Option<&Ticket>
-        ensures { option_copied result ≡ slice_get self.now.state.pending place }
+    pub(crate) fn pending(&self, place: usize) -> Option<Ticket>
+        ensures { result ≡ slice_get self.now.state.pending place }
     {
-        self.pending.get(place)
+        match self.sender.descriptor(place) {
+            Some(desc) => Some(Ticket::new(desc.sport, desc.ticket)),
+            None => None,
+        }
     }
 
     /// An acknowledgement came: the sends that it finishes wait no more.
@@ -215,7 +206,6 @@ impl UsedLane {
     {
         self.sender.in_order();
         let finished = self.sender.on_ack(next) as usize;
-        drop_tickets(&mut self.pending, finished);
         drop_finished(&mut self.sender, finished);
     }
 
@@ -256,18 +246,15 @@ impl UsedLane {
     }
 }
 
-// Makes room for one message and one ticket more.
-fn make_room(sent: &mut Vec<Message>, pending: &mut VecDeque<Ticket>) -> Result<(), OfferRefusal>
-    ensures sent { sent.new.items ≡ sent.old.items }
-    ensures pending { pending.new.items ≡ pending.old.items }
-    ensures sent_room { OnOk result (vec_len sent.new < vec_capacity sent.new) }
-    ensures pending_room { OnOk result (deque_len pending.new < deque_capacity pending.new) }
+// Makes room for one message more that is to be sent.
+fn make_room(sent: &mut Vec<Message>) -> Result<(), OfferRefusal>
+    ensures items { sent.new.items ≡ sent.old.items }
+    ensures room { OnOk result (vec_len sent.new < vec_capacity sent.new) }
     ensures err { IfErr result (λ e. e ≡ OfferRefusal.NoMemory) }
 {
-    if make_message_room(sent).is_ok() && pending.reserve(1).is_ok() {
-        Ok(())
-    } else {
-        Err(OfferRefusal::NoMemory)
+    match make_message_room(sent) {
+        Ok(()) => Ok(()),
+        Err(_) => Err(OfferRefusal::NoMemory),
     }
 }
 
@@ -344,15 +331,6 @@ fn append(coming: &mut Vec<u8>, h: &FrameHead, part: &[u8]) -> Result<(), AllocE
 {
     coming.reserve(h.total.saturating_sub(h.offset) as usize)?;
     coming.extend_from_slice(part)
-}
-
-// Drops so many tickets in front.
-fn drop_tickets(pending: &mut VecDeque<Ticket>, count: usize)
-    ensures { pending.new.items ≡ drop count pending.old.items }
-{
-    for _ in 0..count {
-        let _ticket = pending.pop_front();
-    }
 }
 
 // Takes so many finished descriptors out of a sender, which has as many and keeps its numbers.

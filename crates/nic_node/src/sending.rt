@@ -83,10 +83,10 @@ impl NicNode {
     }
 
     // The bytes of the fragment that is due on a lane, in the registered buffer of their send.
-    fn due_part(&self, lane: u32, frame: &DueFrame<'_>) -> &[u8]
+    fn due_part(&self, lane: u32, frame: &DueFrame) -> &[u8]
         requires head { option_map head_of_frame (due_frame self.now.host self.now.state lane) ≡ Some frame.now.head }
         requires by_rules { is_head frame.now.head ≡ true }
-        requires ticket { ticket_of (lane_at self.now.state lane) frame.now.head.seq ≡ Some frame.now.ticket.now }
+        requires ticket { ticket_of (lane_at self.now.state lane) frame.now.head.seq ≡ Some frame.now.ticket }
         ensures exact { due_frame self.now.host self.now.state lane ≡ Some (frame.now.head, result.now) }
         ensures length { length result.now ≡ frame.now.head.len }
     {

@@ -1,5 +1,4 @@
 use Rattle.std.proofs.Common.{◌∙◌, sym, ap, take}
-use Rattle.std.specs.Option.{option_copied}
 use Rattle.gm_defs.specs.Port.{finished}
 use Rattle.host_ports.specs.Held.{changed}
 use Rattle.nic_node.proofs.Within.{finished-next, finished-none, finished-host}
@@ -11,12 +10,12 @@ loop-place-preserved c =
     elim c.match-pending.branch [
       | in-Some w ↦
           w.ports-is ∙ w.finish.ensures ∙ (λ i. changed c.loop-place.ports (w.port.ensures i) (λ s. finished s (w.token.ensures i)))
-          ∙ finished-next c.args.ports.now c.loop-place.ports c.args.lane.now.state.pending c.loop-place.place w.in-Some.ticket.now
-          (sym c.pending.ensures ∙ ap option_copied w.in-Some.is) c.loop-place.invariant
+          ∙ finished-next c.args.ports.now c.loop-place.ports c.args.lane.now.state.pending c.loop-place.place w.in-Some.ticket
+          (sym c.pending.ensures ∙ w.in-Some.is) c.loop-place.invariant
       | in_default w ↦
           w.ports-is
           ∙ finished-none c.args.ports.now c.loop-place.ports c.args.lane.now.state.pending c.loop-place.place
-          (sym c.pending.ensures ∙ ap option_copied w.in_default.is) c.loop-place.invariant
+          (sym c.pending.ensures ∙ w.in_default.is) c.loop-place.invariant
     ]
 
 pub returns-clause-host : goal.returns-clause-host
