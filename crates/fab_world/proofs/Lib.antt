@@ -4,9 +4,11 @@ pub mod Hopping
 pub mod HostEvents
 pub mod Injecting
 pub mod Moments
+pub mod PassedBy
 pub mod Places
 pub mod Probing
 pub mod Reaching
 pub mod Resting
 pub mod Stepped
+pub mod Summing
 pub mod Waiting

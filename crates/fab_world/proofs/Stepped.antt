@@ -1,6 +1,6 @@
 -- What an event leaves of a world, whether it happened or wanted memory.
-use Rattle.std.proofs.Common.{◌≡◌, length, refl, sym, ◌∙◌}
-use Rattle.std.specs.Prelude.{Result, Ok, Err, OnOk, OnErr, IfOk}
+use Rattle.std.proofs.Common.{◌≡◌, length, refl, ◌∙◌}
+use Rattle.std.specs.Prelude.{Result, Ok, Err, OnErr, IfOk}
 use Rattle.world_defs.specs.declared.event.Event.{Event}
 use Rattle.world_defs.specs.declared.effect.Effect.{Effect}
 use Rattle.world_defs.specs.World.{WorldState, fabric_of, host_count}
@@ -32,11 +32,11 @@ stepped w v e r low m is ok err =
     }
 
 -- two events in a row, which both happened or neither
-pub stepped-twice : {A E : Type 0} (w v : WorldState) (e f : Event) (r : Result A E) → IsByteEvent e → IsByteEvent f → IsMoment w → IsReachedNow w → OnOk r (v ≡ (step (step w e).1 f).1) → OnErr r (v ≡ w) → IsStepped w v
+pub stepped-twice : {E : Type 0} (w v : WorldState) (e f : Event) (r : Result Effect E) → IsByteEvent e → IsByteEvent f → IsMoment w → IsReachedNow w → IfOk r (λ x. step (step w e).1 f ≡ (x, v)) → OnErr r (v ≡ w) → IsStepped w v
 stepped-twice w v e f (Ok x) low byte m is ok err =
     let u : WorldState = (step w e).1 in
     let first : IsStepped w u = stepped w u e (happened (step w e).0) low m is refl tt in
-    let second : IsStepped u v = stepped u v f (happened (step u f).0) byte first.moment first.reached (λ j. ((step u f).0, sym ok j)) tt in
+    let second : IsStepped u v = stepped u v f (happened x) byte first.moment first.reached ok tt in
     record {
       moment = second.moment;
       reached = second.reached;

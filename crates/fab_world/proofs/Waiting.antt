@@ -11,7 +11,7 @@ use Rattle.fab_world.specs.Held.{IsMoment}
 use Rattle.fab_world.specs.Events.{IsHostOf}
 
 -- a sum of zeros, and one with something in it
-none-in-sum : (f : ℕ → ℕ) (ps : List ℕ) → ((p : ℕ) → f p ≡ 0) → sum_of (map f ps) ≡ 0
+pub none-in-sum : (f : ℕ → ℕ) (ps : List ℕ) → ((p : ℕ) → f p ≡ 0) → sum_of (map f ps) ≡ 0
 none-in-sum f [] none = refl
 none-in-sum f (p ∷ ps) none = let here = none p in let rest = none-in-sum f ps none in omega (arith, here, rest)
 

@@ -18,8 +18,9 @@
 //! |---|---|
 //! | `eight_bits` | the pattern of a flip is a byte |
 //! | `host_marks` | which hosts are looked at |
-//! | `hosts` | hosts by address |
+//! | `hosts` | whether a host has nothing to do |
 //! | `machine` | links, hosts and adopted routes, and each event of theirs |
+//! | `unacknowledged` | how many fragments aren't acknowledged |
 //! | `world` | the world: what it keeps, and every event |
 #![tactic(auto)]
 
@@ -27,6 +28,7 @@ mod eight_bits;
 mod host_marks;
 mod hosts;
 mod machine;
+mod unacknowledged;
 mod world;
 
 pub use adopted_routes::AdoptRefusal;

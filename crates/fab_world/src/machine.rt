@@ -15,7 +15,7 @@ mod staging;
 mod steps;
 
 use crate::host_marks::HostMarks;
-use crate::hosts::{count_of, host_at, is_silent};
+use crate::hosts::is_silent;
 use adopted_routes::AdoptedRoutes;
 use client_host::{ClientHost, end_hosts, new_hosts};
 use faulty_links::FaultyLinks;
@@ -67,13 +67,6 @@ impl Machine {
         }
     }
 
-    /// The number of hosts.
-    pub(crate) fn count(&self) -> u16
-        ensures { result ≡ host_count self.now }
-    {
-        count_of(&self.hosts)
-    }
-
     /// The host at an address.
     pub(crate) fn at(&self, host: u16) -> &ClientHost
         requires { IsHostOf self.now host }
@@ -81,7 +74,7 @@ impl Machine {
         ensures host { result.now.host ≡ host }
         ensures hosts { result.now.hosts ≡ host_count self.now }
     {
-        host_at(&self.hosts, host)
+        &self.hosts[usize::from(host)]
     }
 
     /// The least host that isn't below an address and may not be at rest. Those before it are.

@@ -1,7 +1,7 @@
 //! The world.
 
 ghost use Rattle.std.specs.Prelude.{◌≡◌, ◌≢◌, ◌≤◌, ◌<◌, ◌^◌, ℕ, length, true, is_some, option_map, Some, None, IfOk};
-ghost use Rattle.std.specs.Prelude.{nat_lt, IfSome, IfNone, OnOk, OnErr};
+ghost use Rattle.std.specs.Prelude.{IfSome, IfNone, OnOk, OnErr};
 ghost use Rattle.net_defs.specs.Route.{channel_from};
 ghost use Rattle.link_defs.specs.Channel.{channel_count, channel_tail, channel_head};
 ghost use Rattle.link_defs.specs.Hops.{total_hops};
@@ -14,17 +14,15 @@ ghost use Rattle.link_model.specs.Full.{IsNextFull};
 ghost use Rattle.port_graph.specs.Routes.{HandsBack};
 ghost use Rattle.gm_defs.specs.Body.{is_prio};
 ghost use Rattle.gm_defs.specs.Connection.{connection};
-ghost use Rattle.world_defs.specs.Node.{has_staged, to_send, port_at, unacknowledged_to};
+ghost use Rattle.world_defs.specs.Node.{to_send, port_at};
 ghost use Rattle.world_defs.specs.Traffic.{sent_on, got_on};
 ghost use Rattle.world_defs.specs.Table.{active_epoch};
 ghost use Rattle.world_defs.specs.World.{fabric_of, host_count, new_world, node_at, planned, adopted_by};
 ghost use Rattle.world_defs.specs.declared.event.Event.TheVariants.{Ask, Inject, Advance};
 ghost use Rattle.world_defs.specs.Step.{step};
-ghost use Rattle.world_defs.specs.Asking.{number_of};
 ghost use Rattle.act_defs.specs.Acts.{IsReached};
 ghost use Rattle.message_laws.specs.Untouched.{HandsBackBy};
 ghost use Rattle.message_laws.specs.Windows.{HasWindows};
-ghost use Rattle.world_defs.specs.Settle.{unacknowledged_from};
 ghost use Rattle.world_defs.specs.Sound.{IsSound};
 ghost use Rattle.host_ports.specs.Held.{place_at};
 ghost use Rattle.adopted_routes.specs.Adopting.{IsAdoptable, adopt_refusal, part_count_for};
@@ -50,7 +48,7 @@ use world_defs::{Effect, Event, Fault};
 /// It must be spent, by [`World::end`].
 pub struct World {
     fabric: Fabric,
-    machine: Machine,
+    pub(crate) machine: Machine,
 }
 
 impl Model for World {
@@ -99,21 +97,19 @@ impl World {
     }
 
     /// A host stages a probe by a walk, in the place of what it has staged, and puts it into its channel:
-    /// [`World::step`] of [`Event::Ask`] and then of [`Event::Inject`]. It answers the number of the packet, where that
-    /// entered the channel. Want of memory changes nothing.
+    /// [`World::step`] of [`Event::Ask`] and then of [`Event::Inject`], whose effect it answers. Want of memory changes
+    /// nothing.
     pub fn probe(
         &mut self,
         alloc: Global,
         host: u16,
         walk: &Walk,
         looped: bool,
-    ) -> Result<Option<u64>, AllocError>
+    ) -> Result<Effect, AllocError>
         requires there { IsHostOf self.old host }
         requires short { looped ≡ true → length walk.now ≤ 31 }
-        ensures number { IfOk result (λ n. n
-            ≡ number_of (step (step self.old (Ask host walk.now looped)).1 (Inject host)).0) }
-        ensures after { OnOk result
-            (self.new ≡ (step (step self.old (Ask host walk.now looped)).1 (Inject host)).1) }
+        ensures ok { IfOk result (λ x.
+            step (step self.old (Ask host walk.now looped)).1 (Inject host) ≡ (x, self.new)) }
         ensures err { OnErr result (self.new ≡ self.old) }
         ensures fabric { fabric_of self.new ≡ fabric_of self.old }
         ensures hosts { host_count self.new ≡ host_count self.old }
@@ -252,7 +248,7 @@ impl World {
     pub fn hosts(&self) -> u16
         ensures { result ≡ host_count self.now }
     {
-        self.machine.count()
+        self.machine.hosts.len() as u16
     }
 
     /// The number of channels.
@@ -380,32 +376,6 @@ impl World {
         ensures none { IfNone result ((h : ℕ) → from ≤ h → IsHostOf self.now h → IsSilentIn self.now h) }
     {
         self.machine.next_busy(from)
-    }
-
-    /// How many fragments of a host to a peer aren't acknowledged, sent or not, of both priorities.
-    pub fn unacked_to(&self, host: u16, peer: u16) -> u64
-        requires there { IsHostOf self.now host }
-        requires peer { IsHostOf self.now peer }
-        ensures sum { result ≡ unacknowledged_to (node_at self.now host) peer }
-        ensures few { result ≤ 8589934590 }
-    {
-        self.machine.at(host).unacked(peer)
-    }
-
-    /// Whether a host has a probe, a part, the reply to a probe or the acknowledgement of a part staged.
-    pub fn has_staged(&self, host: u16) -> bool
-        requires { IsHostOf self.now host }
-        ensures { result ≡ has_staged (node_at self.now host) }
-    {
-        self.machine.at(host).has_staged()
-    }
-
-    /// Whether something of a host isn't acknowledged, sent or not, by any peer.
-    pub fn has_unacked(&self, host: u16) -> bool
-        requires { IsHostOf self.now host }
-        ensures { result ≡ nat_lt 0 (unacknowledged_from self.now host) }
-    {
-        self.machine.at(host).has_unacked()
     }
 
     /// Whether a host has something to send.

@@ -188,7 +188,7 @@ fn send_probe(
     ensures hosts { host_count w.new ≡ host_count w.old }
 {
     let used_up = is_used_up(w, host);
-    let number = w.probe(alloc, host, walk, looped)?;
+    let number = world_drain::probe(alloc, w, host, walk, looped)?;
     Ok(Injection { used_up, number })
 }
 

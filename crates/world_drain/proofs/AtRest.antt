@@ -1,42 +1,16 @@
 -- Hosts that are silent or at rest are passed by: what would happen of them changes nothing.
 use Rattle.std.proofs.Common.{◌≡◌, ◌<◌, ◌≤◌, ℕ, zero, suc, ◌+◌, ◌-◌, Bool, false, ◌||◌, ◌&&◌, nat_lt, Option, Some, None, is_some, List, [], ◌∷◌, map, is_none, true, refl, sym, ◌∙◌, ap, subst, arith}
 use Rattle.std.specs.List.{list_all, range_with_len}
-use Rattle.world_defs.specs.Node.{to_send, unacknowledged_to}
-use Rattle.world_defs.specs.World.{WorldState, host_count, addresses, node_at, sum_of}
+use Rattle.world_defs.specs.Node.{to_send}
+use Rattle.world_defs.specs.World.{WorldState, host_count, node_at}
 use Rattle.world_defs.specs.Step.{after_all}
-use Rattle.world_defs.specs.Settle.{unacknowledged_from, expiries_of}
+use Rattle.world_defs.specs.Settle.{expiries_of}
 use Rattle.fab_world.specs.Resting.{IsSilentIn, RestsIn}
+use Rattle.fab_world.proofs.Summing.{rests-none}
 use Rattle.world_drain.proofs.GivingUp.{GivingUp, giving-on, give_up-idle}
 use Rattle.world_drain.proofs.Injects.{Injecting, injecting-on, inject-idle}
 use Rattle.world_drain.proofs.Quiet.{all-on, none-is}
-use Rattle.world_drain.proofs.Summing.{Summing, summing-on}
 use Rattle.world_drain.proofs.Expiries.{ExpiringAll, expiring_all-on, expiries-none}
-
--- what is kept from each address to the next is kept from one to another
-pub pass-by : (P : ℕ → Type 0) (gap from : ℕ) → ((h : ℕ) → from ≤ h → h < from + gap → P h → P (h + 1)) → P from → P (from + gap)
-pass-by P zero from on p = subst P (omega arith) p
-pass-by P (suc gap) from on p =
-    let further : P (from + 1 + gap) = pass-by P gap (from + 1) (λ h low high q. on h (omega (arith, low)) (omega (arith, high)) q) (on from (omega arith) (omega arith) p) in
-    subst P (omega arith) further
-
--- the same up to a host that is found, and up to the end
-module _ (R P : ℕ → Type 0) (w : WorldState) (from : ℕ) (on : (h : ℕ) → R h → h < host_count w → P h → P (h + 1)) where
-  pub up-to : (host : ℕ) → from ≤ host → host < host_count w → ((h : ℕ) → from ≤ h → h < host → R h) → P from → P host
-  up-to host above there passed p =
-      let all : P (from + (host - from)) =
-      pass-by P (host - from) from (λ h low high q. on h (passed h low (omega (arith, above, high))) (omega (arith, above, high, there)) q) p in
-      subst P (omega (arith, above)) all
-
-  pub to-end : ((h : ℕ) → from ≤ h → h < host_count w → R h) → P from → P (from + (host_count w - from))
-  to-end passed p = pass-by P (host_count w - from) from (λ h low high q. on h (passed h low (omega (arith, low, high))) (omega (arith, low, high)) q) p
-
--- ---- what is summed of them
-sum-none : (f : ℕ → ℕ) (ps : List ℕ) → ((p : ℕ) → f p ≡ 0) → sum_of (map f ps) ≡ 0
-sum-none f [] none = refl
-sum-none f (p ∷ ps) none = let here = none p in let rest = sum-none f ps none in omega (arith, here, rest)
-
-pub rests-none : (w : WorldState) (h : ℕ) → RestsIn w h → unacknowledged_from w h ≡ 0
-rests-none w h r = sum-none (unacknowledged_to (node_at w h)) (addresses w) r.acknowledged
 
 -- ---- each of the rows
 module _ (first now : WorldState) where
@@ -66,11 +40,6 @@ module _ (w : WorldState) where
       → list_all (λ h. is_none (to_send h (node_at w h))) (range_with_len h (host_count w - h)) ≡ whole
       → list_all (λ h. is_none (to_send h (node_at w h))) (range_with_len (h + 1) (host_count w - (h + 1))) ≡ whole
   silent-by whole h r low all = all-on (λ h. is_none (to_send h (node_at w h))) (host_count w) h whole low (none-is (to_send h (node_at w h)) r.unsending) all
-
-  pub summing-by : (sum : ℕ) (h : ℕ) → RestsIn w h → h < host_count w → Summing (unacknowledged_from w) (host_count w) h sum → Summing (unacknowledged_from w) (host_count w) (h + 1) sum
-  summing-by sum h r low s =
-      let none = rests-none w h r in
-      summing-on (unacknowledged_from w) (host_count w) h sum sum s low (omega (arith, none))
 
 -- one of them fails, and so do all
 pub all-cut : (t : ℕ → Bool) (count host : ℕ) (whole : Bool) → host < count → t host ≡ false → list_all t (range_with_len host (count - host)) ≡ whole → false ≡ whole

@@ -20,7 +20,6 @@ pub mod Risen
 pub mod RoundRows
 pub mod Running
 pub mod Sleeping
-pub mod Summing
 pub mod Telling
 pub mod Tries
 pub mod Watching

@@ -37,22 +37,7 @@ fn give_up(alloc: Global, w: &mut World, host: u16) -> Result<(), AllocError>
     ensures fabric { fabric_of w.new ≡ fabric_of w.old }
     ensures hosts { host_count w.new ≡ host_count w.old }
 {
-    drop_staged(alloc, w, host)?;
+    happen(alloc, w, Event::GiveUp(host))?;
     w.rest(host);
     Ok(())
-}
-
-// A host drops what it staged. Where nothing stands the event would be idle.
-fn drop_staged(alloc: Global, w: &mut World, host: u16) -> Result<(), AllocError>
-    requires { IsHostOf w.old host }
-    ensures after { OnOk result (w.new ≡ (step w.old (GiveUp host)).1) }
-    ensures err { OnErr result (w.new ≡ w.old) }
-    ensures fabric { fabric_of w.new ≡ fabric_of w.old }
-    ensures hosts { host_count w.new ≡ host_count w.old }
-{
-    if w.has_staged(host) {
-        happen(alloc, w, Event::GiveUp(host))
-    } else {
-        Ok(())
-    }
 }

@@ -23,7 +23,6 @@
 //! | `giving_up` | every host gives up what it staged |
 //! | `clearing` | a clear |
 //! | `replaying`, `passes` | replays of what is in limbo, a pass over hosts and limbo, passes in a row |
-//! | `unacknowledged` | how many fragments aren't acknowledged |
 //! | `rounds` | a settle |
 #![tactic(auto)]
 
@@ -37,12 +36,10 @@ mod passes;
 mod replaying;
 mod rounds;
 mod seen;
-mod unacknowledged;
 
 pub use clearing::clear;
 pub use draining::{drain, drain_watching};
 pub use giving_up::give_up_all;
-pub use happening::{happen, inject};
+pub use happening::{happen, inject, probe};
 pub use rounds::{Settled, settle};
 pub use seen::{AwaitedPart, Seen, Watch};
-pub use unacknowledged::unacked;

@@ -17,7 +17,6 @@ ghost use Rattle.world_drain.specs.Settling.{capped};
 use crate::clearing::clear;
 use crate::happening::happen;
 use crate::passes::passes;
-use crate::unacknowledged::unacked;
 use fab_world::{Event, World};
 use std::alloc::{AllocError, Global};
 
@@ -103,7 +102,7 @@ fn progress_of(w: &World) -> Progress
     ensures struck { result.struck ≡ w.now.struck }
 {
     Progress {
-        unacked: unacked(w),
+        unacked: w.unacked(),
         struck: w.struck(),
     }
 }

@@ -1,11 +1,9 @@
 //! A host stages a probe and puts it into its channel at once.
 
-ghost use Rattle.std.specs.Prelude.{◌≡◌, ◌≤◌, ◌+◌, length, true, None, Some, IfOk, OnOk, OnErr};
+ghost use Rattle.std.specs.Prelude.{◌≡◌, ◌≤◌, length, true, Some, IfOk, OnOk, OnErr};
 ghost use Rattle.net_defs.specs.Route.{host_port, channel_from};
-ghost use Rattle.world_defs.specs.Node.{probe_packet};
 ghost use Rattle.world_defs.specs.World.{fabric_of};
 ghost use Rattle.world_defs.specs.Step.{asked, injected};
-ghost use Rattle.world_defs.specs.Asking.{number_of};
 ghost use Rattle.faulty_links.specs.Held.{of_world, can_inject};
 ghost use Rattle.fab_world.specs.Events.{IsHostOf, IsChannelOf};
 
@@ -13,21 +11,21 @@ use super::Machine;
 use client_host::Packet;
 use net_defs::{End, Vertex, Walk};
 use std::alloc::{AllocError, Global};
+use world_defs::Effect;
 
 impl Machine {
-    /// An ask of a host, and its injection: the number of the probe's packet, where that entered the host's channel.
-    /// The packet is then made of the walk itself: nothing is staged between. Want of memory changes nothing.
+    /// An ask of a host, and its injection. Where the probe's packet enters the host's channel it is made of the walk
+    /// itself: nothing is staged between. Want of memory changes nothing.
     pub(crate) fn probe(
         &mut self,
         alloc: Global,
         host: u16,
         walk: &Walk,
         looped: bool,
-    ) -> Result<Option<u64>, AllocError>
+    ) -> Result<Effect, AllocError>
         requires there { IsHostOf self.old host }
         requires short { looped ≡ true → length walk.now ≤ 31 }
-        ensures number { IfOk result (λ n. n ≡ number_of (injected (asked self.old host walk.now looped).1 host).0) }
-        ensures after { OnOk result (self.new ≡ (injected (asked self.old host walk.now looped).1 host).1) }
+        ensures ok { IfOk result (λ x. injected (asked self.old host walk.now looped).1 host ≡ (x, self.new)) }
         ensures err { OnErr result (self.new ≡ self.old) }
     {
         let port = End {
@@ -48,24 +46,23 @@ impl Machine {
         c: u16,
         walk: &Walk,
         looped: bool,
-    ) -> Result<Option<u64>, AllocError>
+    ) -> Result<Effect, AllocError>
         requires there { IsHostOf self.old host }
         requires short { looped ≡ true → length walk.now ≤ 31 }
         requires its_own { channel_from (fabric_of self.old) (host_port host) ≡ Some c }
         requires channel { IsChannelOf self.old c }
         requires free { can_inject (of_world self.old) c ≡ true }
-        ensures number { IfOk result (λ n. n ≡ number_of (injected (asked self.old host walk.now looped).1 host).0) }
-        ensures after { OnOk result (self.new ≡ (injected (asked self.old host walk.now looped).1 host).1) }
+        ensures ok { IfOk result (λ x. injected (asked self.old host walk.now looped).1 host ≡ (x, self.new)) }
         ensures err { OnErr result (self.new ≡ self.old) }
     {
         let number = self.links.injected() + 1;
         let packet = self.at(host).probe_packet(alloc, number, walk, looped)?;
         match self.links.inject(alloc, c, packet) {
-            Ok(_) => {
+            Ok(effect) => {
                 let at = usize::from(host);
                 self.hosts[at].probe_sent();
                 self.marks.mark(at);
-                Ok(Some(number))
+                Ok(effect)
             }
             Err((_, wanting)) => Err(wanting),
         }
@@ -78,15 +75,15 @@ impl Machine {
         host: u16,
         walk: &Walk,
         looped: bool,
-    ) -> Result<Option<u64>, AllocError>
+    ) -> Result<Effect, AllocError>
         requires there { IsHostOf self.old host }
         requires short { looped ≡ true → length walk.now ≤ 31 }
-        ensures none { IfOk result (λ n. n ≡ None) }
+        ensures idle { IfOk result (λ x. x ≡ Effect.Idle) }
         ensures after { OnOk result (self.new ≡ (asked self.old host walk.now looped).1) }
         ensures err { OnErr result (self.new ≡ self.old) }
     {
         let walk = walk.copied(alloc)?;
         self.ask(host, walk, looped);
-        Ok(None)
+        Ok(Effect::Idle)
     }
 }

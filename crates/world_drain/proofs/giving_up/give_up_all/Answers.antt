@@ -4,7 +4,8 @@ use Rattle.world_defs.specs.declared.event.Event.TheVariants.{GiveUp}
 use Rattle.world_defs.specs.World.{host_count}
 use Rattle.event_lists.proofs.PartWay.{way-still}
 use Rattle.fab_world.specs.Resting.{IsSilentIn}
-use Rattle.world_drain.proofs.AtRest.{up-to, to-end, giving-by}
+use Rattle.fab_world.proofs.PassedBy.{up-to, to-end}
+use Rattle.world_drain.proofs.AtRest.{giving-by}
 use Rattle.world_drain.proofs.GivingUp.{GivingUp, giving-none, giving-on, giving-all}
 use Rattle.world_drain.proofs.Later.{on-any}
 use Rattle.world_drain.proofs.giving_up.give_up_all.Goals as goal

@@ -4,7 +4,8 @@ use Rattle.world_defs.specs.declared.event.Event.TheVariants.{Inject}
 use Rattle.world_defs.specs.World.{host_count}
 use Rattle.event_lists.proofs.PartWay.{way-still}
 use Rattle.fab_world.specs.Resting.{IsSilentIn}
-use Rattle.world_drain.proofs.AtRest.{up-to, to-end, injecting-by}
+use Rattle.fab_world.proofs.PassedBy.{up-to, to-end}
+use Rattle.world_drain.proofs.AtRest.{injecting-by}
 use Rattle.world_drain.proofs.Injects.{Injecting, injecting-none, injecting-on, injecting-all}
 use Rattle.world_drain.proofs.Later.{on-any}
 use Rattle.world_drain.proofs.passes.inject_all.Goals as goal

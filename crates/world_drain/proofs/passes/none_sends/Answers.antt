@@ -3,7 +3,8 @@ use Rattle.std.specs.List.{list_all, range_with_len}
 use Rattle.world_defs.specs.Node.{to_send}
 use Rattle.world_defs.specs.World.{host_count, node_at, addresses}
 use Rattle.fab_world.specs.Resting.{IsSilentIn}
-use Rattle.world_drain.proofs.AtRest.{up-to, to-end, silent-by, all-cut, all-end, some-is}
+use Rattle.fab_world.proofs.PassedBy.{up-to, to-end}
+use Rattle.world_drain.proofs.AtRest.{silent-by, all-cut, all-end, some-is}
 use Rattle.world_drain.proofs.Quiet.{all-on, none-is}
 use Rattle.world_drain.proofs.passes.none_sends.Goals as goal
 

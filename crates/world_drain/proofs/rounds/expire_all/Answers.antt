@@ -1,7 +1,8 @@
 use Rattle.std.proofs.Common.{◌<◌, ◌-◌, ◌+◌, arith}
 use Rattle.world_defs.specs.World.{host_count}
 use Rattle.fab_world.specs.Resting.{RestsIn}
-use Rattle.world_drain.proofs.AtRest.{up-to, to-end, expiring-by}
+use Rattle.fab_world.proofs.PassedBy.{up-to, to-end}
+use Rattle.world_drain.proofs.AtRest.{expiring-by}
 use Rattle.world_drain.proofs.Expiries.{ExpiringAll, expiring_all-none, expiring_all-on, expiring_all-cut, expiring_all-all}
 use Rattle.world_drain.proofs.Later.{on-any}
 use Rattle.world_drain.proofs.rounds.expire_all.Goals as goal

@@ -1,4 +1,4 @@
-use Rattle.std.proofs.Common.{◌≡◌, ℕ, Option, None, ap, sym, ◌∙◌}
+use Rattle.std.proofs.Common.{◌≡◌, ap, sym, ◌∙◌}
 use Rattle.std.specs.Prelude.{Result, Ok, Err, IfOk, OnOk}
 use Rattle.std.specs.Option.{unwrap_or}
 use Rattle.net_defs.specs.Route.{host_port, channel_from}
@@ -6,7 +6,6 @@ use Rattle.world_defs.specs.declared.effect.Effect.{Effect}
 use Rattle.world_defs.specs.declared.effect.Effect.TheVariants.{Idle}
 use Rattle.world_defs.specs.World.{WorldState, fabric_of}
 use Rattle.world_defs.specs.Step.{asked, injected}
-use Rattle.world_defs.specs.Asking.{number_of}
 use Rattle.faulty_links.specs.Held.{of_world, can_inject}
 use Rattle.fab_world.proofs.Probing.{stays-staged}
 use Rattle.fab_world.proofs.machine.Machine.probe.Goals.{in_default-via-in-Some+else-can_inject, in_default-via-in_default}
@@ -22,16 +21,9 @@ idle c =
       | in_default-via-in_default w ↦ λ k is. absurd (w.in_default.not-Some k is)
     ])
 
-number-by : {E : Type 0} (r : Result (Option ℕ) E) (e : Effect) → e ≡ Idle → IfOk r (λ n. n ≡ None) → IfOk r (λ n. n ≡ number_of e)
-number-by (Ok n) e is none = none ∙ sym (ap number_of is)
-number-by (Err _) e is none = tt
+told : {E : Type 0} (r : Result Effect E) (was : Effect × WorldState) (v u : WorldState) → was ≡ (Idle, u) → IfOk r (λ x. x ≡ Idle) → OnOk r (v ≡ u) → IfOk r (λ x. was ≡ (x, v))
+told (Ok x) was v u is none same = is ∙ (λ j. (sym none j, sym same j))
+told (Err _) was v u is none same = tt
 
-after-by : {E : Type 0} (r : Result (Option ℕ) E) (v u w : WorldState) → u ≡ w → OnOk r (v ≡ w) → OnOk r (v ≡ u)
-after-by (Ok n) v u w is same = same ∙ sym is
-after-by (Err _) v u w is same = tt
-
-pub returns-in_default-clause-number : goal.returns-in_default-clause-number
-returns-in_default-clause-number c = number-by c.stage_probe.result _ (ap (λ r. r.0) (idle c)) c.stage_probe.ensures.none
-
-pub returns-in_default-clause-after : goal.returns-in_default-clause-after
-returns-in_default-clause-after c = after-by c.stage_probe.result c.stage_probe.new.self _ _ (ap (λ r. r.1) (idle c)) c.stage_probe.ensures.after
+pub returns-in_default-clause-ok : goal.returns-in_default-clause-ok
+returns-in_default-clause-ok c = told c.stage_probe.result _ c.stage_probe.new.self _ (idle c) c.stage_probe.ensures.idle c.stage_probe.ensures.after

@@ -2,7 +2,11 @@
 use Rattle.std.proofs.Common.{◌≡◌, ◌<◌, ◌≤◌, ℕ, suc, ◌+◌, ◌-◌, false, nat_lt, map, ap, arith}
 use Rattle.std.proofs.lemmas.Bool.Decides.{nat_tests}
 use Rattle.std.specs.List.{range_with_len}
-use Rattle.world_defs.specs.World.{sum_of}
+use Rattle.world_defs.specs.Node.{unacknowledged_to}
+use Rattle.world_defs.specs.World.{WorldState, host_count, addresses, node_at, sum_of}
+use Rattle.world_defs.specs.Settle.{unacknowledged_from}
+use Rattle.fab_world.specs.Resting.{RestsIn}
+use Rattle.fab_world.proofs.Waiting.{none-in-sum}
 
 pub record Summing (f : ℕ → ℕ) (count from sum : ℕ) : Type 0 where
   pub rest : sum + sum_of (map f (range_with_len from (count - from))) ≡ sum_of (map f (range_with_len 0 count))
@@ -23,3 +27,12 @@ summing-all f count from sum s past =
 
 pub none-left : (n : ℕ) → nat_lt 0 n ≡ false → 0 ≡ n
 none-left n none = grind (arith, nat_tests)
+
+-- of a host at rest nothing is summed
+pub rests-none : (w : WorldState) (h : ℕ) → RestsIn w h → unacknowledged_from w h ≡ 0
+rests-none w h r = none-in-sum (unacknowledged_to (node_at w h)) (addresses w) r.acknowledged
+
+pub summing-by : (w : WorldState) (sum h : ℕ) → RestsIn w h → h < host_count w → Summing (unacknowledged_from w) (host_count w) h sum → Summing (unacknowledged_from w) (host_count w) (h + 1) sum
+summing-by w sum h r low s =
+    let none = rests-none w h r in
+    summing-on (unacknowledged_from w) (host_count w) h sum sum s low (omega (arith, none))

@@ -2,11 +2,11 @@
 use Rattle.std.proofs.Common.{◌≤◌, ◌*◌}
 use Rattle.world_defs.specs.World.{host_count, node_at}
 use Rattle.world_defs.specs.Node.{unacknowledged_to}
-use Rattle.world_drain.proofs.Summing.{Summing}
-use Rattle.world_drain.proofs.unacknowledged.unacked_from.Given as goal
+use Rattle.fab_world.proofs.Summing.{Summing}
+use Rattle.fab_world.proofs.world.World.unacked_from.Given as goal
 
 abbrev pub invariant-loop-peer : goal.invariant-loop-peer
 invariant-loop-peer l = record {
-  sums : Summing (unacknowledged_to (node_at l.w l.host)) (host_count l.w) l.peer l.sum;
+  sums : Summing (unacknowledged_to (node_at l.self l.host)) (host_count l.self) l.peer l.sum;
   few : l.sum ≤ l.peer * 8589934590;
 }
