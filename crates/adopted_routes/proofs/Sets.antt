@@ -12,6 +12,7 @@ use Rattle.net_defs.proofs.Distinct.{all-weaker}
 use Rattle.net_defs.proofs.Places.{far-there, place_at-there}
 use Rattle.net_defs.proofs.Cabling.{far_end-holds, far-back, entered-there}
 use Rattle.net_defs.specs.RouteSet.{route_below, AreRising}
+use Rattle.port_graph.specs.Routes.{AreShort}
 use Rattle.mapping_defs.specs.Mapping.{RouteEntry}
 use Rattle.world_defs.specs.Table.{entries_from}
 use Rattle.adopted_routes.specs.Adopting.{IsAdoptable, IsSetOfHosts}
@@ -80,9 +81,9 @@ few-entries h hosts rs up ends =
     let few = few-from h 0 hosts rs (omega arith) up (all-weaker (λ r. (r.from < hosts) × (r.to < hosts)) (above h 0) rs (λ s e t. omega arith) ends) ends in
     omega (arith, count, few)
 
-pub set-of-hosts : (n : Network) (hosts mapper epoch : ℕ) (routes : List Route) → IsFabric n → hosts ≡ length n.hosts → mapper < hosts → AreRising routes → IsAdoptable n mapper routes
+pub set-of-hosts : (n : Network) (hosts mapper epoch : ℕ) (routes : List Route) → IsFabric n → hosts ≡ length n.hosts → mapper < hosts → AreRising routes → AreShort routes → IsAdoptable n mapper routes
     → IsSetOfHosts hosts (record { mapper = mapper; epoch = epoch; routes = routes })
-set-of-hosts n hosts mapper epoch routes f count low up may =
+set-of-hosts n hosts mapper epoch routes f count low up short may =
     let ends = ends-there n hosts routes f count may.lead in
     let small : length n.hosts ≤ 128 = f.few_hosts in
-    record { mapper = low; ends = ends; in_order = up; whole = may.whole; apart = may.apart; few = λ h. let few = few-entries h hosts routes up ends in omega (arith, few, small, count) }
+    record { mapper = low; ends = ends; in_order = up; short = short; whole = may.whole; apart = may.apart; few = λ h. let few = few-entries h hosts routes up ends in omega (arith, few, small, count) }

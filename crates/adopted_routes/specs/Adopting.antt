@@ -9,6 +9,7 @@ use Rattle.net_defs.specs.Route.{place}
 use Rattle.net_defs.specs.RouteSet.{HasRoute, AreRising, channels_of_all}
 use Rattle.net_defs.specs.Dependencies.{IsBefore}
 use Rattle.mapping_defs.specs.Mapping.{RoutePart}
+use Rattle.port_graph.specs.Routes.{AreShort}
 use Rattle.world_defs.specs.Table.{Adoption, is_other, part_count, entries_from, part_for, route_of}
 use Rattle.adopted_routes.specs.declared.routes.AdoptRefusal.{AdoptRefusal}
 use Rattle.adopted_routes.specs.declared.routes.AdoptRefusal.TheVariants.{Another}
@@ -30,12 +31,13 @@ pub record IsAdoptable (n : Network) (mapper : ℕ) (routes : List Route) : Type
   pub rises : (c d : ℕ) → IsBefore (channels_of_all n routes) c d → number c < number d
 
 -- What a world of so many hosts keeps of an adopted set: its adopter is a host, its routes go from hosts to hosts, in
--- their order; of the adopter and the hosts that they name each has one to each other, and none to itself; and each
--- host's table fits into sixteen parts.
+-- their order, each of at most 64 turns; of the adopter and the hosts that they name each has one to each other, and
+-- none to itself; and each host's table fits into sixteen parts.
 pub record IsSetOfHosts (hosts : ℕ) (a : Adoption) : Type 0 where
   pub mapper : a.mapper < hosts
   pub ends : AllByRecursion (λ r. (r.from < hosts) × (r.to < hosts)) a.routes
   pub in_order : AreRising a.routes
+  pub short : AreShort a.routes
   pub whole : (g h : ℕ) → is_among a.mapper a.routes g ≡ true → is_among a.mapper a.routes h ≡ true → g ≢ h
       → HasRoute a.routes g h
   pub apart : AllByRecursion (λ r. r.from ≢ r.to) a.routes
@@ -45,7 +47,7 @@ pub record IsSetOfHosts (hosts : ℕ) (a : Adoption) : Type 0 where
 abbrev pub AdoptableIsOfHosts : Type 0
 AdoptableIsOfHosts =
     (n : Network) (hosts mapper epoch : ℕ) (routes : List Route) → IsFabric n → hosts ≡ length n.hosts
-    → mapper < hosts → AreRising routes → IsAdoptable n mapper routes
+    → mapper < hosts → AreRising routes → AreShort routes → IsAdoptable n mapper routes
     → IsSetOfHosts hosts (record { mapper = mapper; epoch = epoch; routes = routes })
 
 -- why routes aren't adopted: another set is

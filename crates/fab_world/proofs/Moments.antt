@@ -15,6 +15,7 @@ use Rattle.world_defs.specs.Step.{step, after_all}
 use Rattle.world_laws.proofs.Shapes.{step-kept, after_all-kept, new-world, new-senders, planned-world, planned-senders, adopted-world, adopted-senders}
 use Rattle.world_defs.proofs.Kept.{step-adopted, with-all, step-plan}
 use Rattle.world_defs.specs.EightBits.{IsByteFault}
+use Rattle.port_graph.specs.Routes.{AreShort}
 use Rattle.adopted_routes.specs.Adopting.{IsAdoptable, IsSetOfHosts}
 use Rattle.fab_world.specs.Held.{IsMoment, IsLater}
 use Rattle.adopted_routes.proofs.Sets.{set-of-hosts}
@@ -82,13 +83,13 @@ plan-later w v ahead fault (Err e) low m is err = (subst IsMoment (sym err) m, a
 adopted-hosts : (w : WorldState) (mapper : ℕ) (routes : List Route) → host_count (adopted_by w mapper routes) ≡ host_count w
 adopted-hosts w mapper routes = length-set w.nodes mapper (record (node_at w mapper) { table = whole_table routes mapper 1 })
 
-adopted-moment : (w : WorldState) (mapper : ℕ) (routes : List Route) → IsMoment w → mapper < host_count w → AreRising routes → IsAdoptable (fabric_of w) mapper routes → IsMoment (adopted_by w mapper routes)
-adopted-moment w mapper routes m low up may = record {
+adopted-moment : (w : WorldState) (mapper : ℕ) (routes : List Route) → IsMoment w → mapper < host_count w → AreRising routes → AreShort routes → IsAdoptable (fabric_of w) mapper routes → IsMoment (adopted_by w mapper routes)
+adopted-moment w mapper routes m low up short may = record {
   fabric = m.fabric;
   world = adopted-world w mapper routes m.world;
   senders = adopted-senders w mapper routes m.senders;
   plan = m.plan;
-  adopted = subst (λ k. IsSetOfHosts k (record { mapper = mapper; epoch = 1; routes = routes })) (sym (adopted-hosts w mapper routes)) (set-of-hosts (fabric_of w) (host_count w) mapper 1 routes m.fabric m.world.hosts low up may);
+  adopted = subst (λ k. IsSetOfHosts k (record { mapper = mapper; epoch = 1; routes = routes })) (sym (adopted-hosts w mapper routes)) (set-of-hosts (fabric_of w) (host_count w) mapper 1 routes m.fabric m.world.hosts low up short may);
 }
 
 -- What an adoption leaves, refused or not: a moment of the same fabric.
@@ -98,13 +99,13 @@ pub record IsAdopting (w v : WorldState) : Type 0 where
   pub hosts : host_count v ≡ host_count w
   pub channels : length v.links.channels ≡ length w.links.channels
 
-pub adopt-leaves : {A E : Type 0} (w v : WorldState) (mapper : ℕ) (routes : List Route) (r : Result A E) → IsMoment w → mapper < host_count w → AreRising routes → IsAdoptable (fabric_of w) mapper routes
+pub adopt-leaves : {A E : Type 0} (w v : WorldState) (mapper : ℕ) (routes : List Route) (r : Result A E) → IsMoment w → mapper < host_count w → AreRising routes → AreShort routes → IsAdoptable (fabric_of w) mapper routes
     → OnOk r (v ≡ adopted_by w mapper routes) → OnErr r (v ≡ w) → IsAdopting w v
-adopt-leaves w v mapper routes (Ok a) m low up may is err = record {
-  moment = subst IsMoment (sym is) (adopted-moment w mapper routes m low up may);
+adopt-leaves w v mapper routes (Ok a) m low up short may is err = record {
+  moment = subst IsMoment (sym is) (adopted-moment w mapper routes m low up short may);
   fabric = ap fabric_of is;
   hosts = ap host_count is ∙ adopted-hosts w mapper routes;
   channels = ap (λ u. length u.links.channels) is;
 }
-adopt-leaves w v mapper routes (Err e) m low up may is err =
+adopt-leaves w v mapper routes (Err e) m low up short may is err =
     record { moment = subst IsMoment (sym err) m; fabric = ap fabric_of err; hosts = ap host_count err; channels = ap (λ u. length u.links.channels) err }

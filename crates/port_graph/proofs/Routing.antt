@@ -6,7 +6,7 @@ use Rattle.std.proofs.lemmas.Bool.Decides.{nat_tests}
 use Rattle.net_defs.specs.declared.route.Route.{Route}
 use Rattle.net_defs.proofs.Distinct.{all-push, all-weaker}
 use Rattle.net_defs.specs.RouteSet.{route_below, AreRising}
-use Rattle.port_graph.specs.Routes.{is_above, goes, walk_of, walk_at}
+use Rattle.port_graph.specs.Routes.{AreShort, is_above, goes, walk_of, walk_at}
 
 below-trans : (a b c : Route) → route_below a b ≡ true → route_below b c ≡ true → route_below a c ≡ true
 below-trans a b c e f = grind (arith, nat_tests)
@@ -79,6 +79,10 @@ walk-found (r ∷ rs) from to (suc k) up low high =
 pub rising-either : (b : Bool) (rs new : List Route) (r : Route) → new ≡ (if b then rs ++ r ∷ [] else rs) → AreRising rs → is_above (slice_get rs (length rs - 1)) r ≡ true → AreRising new
 rising-either true rs new r e up above = subst AreRising (sym e) (rising-push rs r up above)
 rising-either false rs new r e up above = subst AreRising (sym e) up
+
+pub short-either : (b : Bool) (rs new : List Route) (r : Route) → new ≡ (if b then rs ++ r ∷ [] else rs) → AreShort rs → length r.walk ≤ 64 → AreShort new
+short-either true rs new r e all short = subst AreShort (sym e) (all-push (λ s. length s.walk ≤ 64) rs r all short)
+short-either false rs new r e all short = subst AreShort (sym e) all
 
 pub past-end : (rs : List Route) (k : ℕ) → length rs ≤ k → slice_get rs k ≡ None
 past-end [] k l = refl

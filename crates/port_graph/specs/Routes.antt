@@ -1,10 +1,15 @@
 -- Routes in a list that rises by sender and receiver: what it takes, and which walk it has.
-use Rattle.std.specs.Prelude.{◌≡◌, ◌⊎◌, ℕ, ◌-◌, ℤ, Bool, true, ◌&&◌, List, [], ◌∷◌, length, nat_eq, slice_get}
+use Rattle.std.specs.Prelude.{◌≡◌, ◌≤◌, ◌⊎◌, ℕ, ◌-◌, ℤ, Bool, true, ◌&&◌, List, [], ◌∷◌, length, nat_eq, slice_get}
 use Rattle.std.specs.Prelude.{if◌then◌else◌, Option, Some, None, Result, Ok, Err}
+use Rattle.std.specs.List.{AllByRecursion}
 use Rattle.net_defs.specs.declared.route.Route.{Route}
 use Rattle.net_defs.specs.RouteSet.{route_below}
 use Rattle.port_graph.specs.declared.routes.RoutePush.{RoutePush}
 use Rattle.port_graph.specs.declared.routes.RoutePush.TheVariants.{Order}
+
+-- each route has at most 64 turns, as every walk
+abbrev pub AreShort : List Route → Type 0
+AreShort routes = AllByRecursion (λ r. length r.walk ≤ 64) routes
 
 -- a route stands above the last one, if there is one
 abbrev pub is_above : Option Route → Route → Bool

@@ -3,7 +3,7 @@
 ghost use Rattle.std.specs.Prelude.{◌≡◌, ◌-◌, ◌++◌, ◌∷◌, [], length, slice_get, Some, IfOk};
 ghost use Rattle.std.specs.Prelude.{OnOk, OnErr, option_copied};
 ghost use Rattle.net_defs.specs.RouteSet.{route_below, AreRising};
-ghost use Rattle.port_graph.specs.Routes.{is_above, push_refusal, walk_of, walk_at, HandsBack};
+ghost use Rattle.port_graph.specs.Routes.{is_above, push_refusal, walk_of, walk_at, AreShort, HandsBack};
 
 use net_defs::{Route, Walk};
 use std::alloc::{AllocError, Global};
@@ -30,12 +30,13 @@ impl Model for RouteSet {
     ghost use Rattle.std.specs.Prelude.{List};
     ghost use Rattle.net_defs.specs.declared.route.Route.{Route};
     ghost use Rattle.net_defs.specs.RouteSet.{AreRising};
+    ghost use Rattle.port_graph.specs.Routes.{AreShort};
 
     ghost Value = { List Route };
 
     ghost view = { λ s. s.routes.items };
 
-    ghost invariant = { λ s. AreRising s.routes.items };
+    ghost invariant = { λ s. AreRising s.routes.items × AreShort s.routes.items };
 }
 
 impl RouteSet {
@@ -58,6 +59,7 @@ impl RouteSet {
         if !self.is_above_last(&r) {
             return Err((r, RoutePush::Order));
         }
+        let _short = r.walk.turns();
         match self.routes.push(r) {
             Ok(()) => Ok(()),
             Err(failed) => Err((failed.value, RoutePush::NoMemory)),
@@ -75,10 +77,11 @@ impl RouteSet {
         Ok(RouteSet { routes })
     }
 
-    /// The routes, rising.
+    /// The routes, rising, each of at most 64 turns.
     pub fn list(&self) -> &[Route]
         ensures value { result.now ≡ self.now }
         ensures rising { AreRising self.now }
+        ensures short { AreShort self.now }
     {
         &self.routes
     }

@@ -8,7 +8,7 @@ use Rattle.world_defs.specs.Table.{Adoption}
 use Rattle.world_defs.specs.World.{WorldState, fabric_of, last_count}
 use Rattle.world_defs.specs.Install.{installed}
 use Rattle.act_defs.specs.Acts.{IsReached}
-use Rattle.install_laws.specs.Premises.{HasFewTurns, IsJoined, CanInstall}
+use Rattle.install_laws.specs.Premises.{IsJoined, CanInstall}
 use Rattle.install_laws.specs.Counts.{TellsCause}
 use Rattle.install_laws.proofs.Counting.{tells-cause}
 use Rattle.adopted_routes.specs.Adopting.{is_among, IsSetOfHosts}
@@ -33,8 +33,8 @@ joined n a hosts s named =
 
 pub tells : (n : ℕ) (w u : WorldState) (hosts : List ℕ) (tries acked : ℕ) (o : Option Adoption) → w.adopted ≡ o → IsReached (fabric_of w) w → IfSome o (IsSetOfHosts n) → is_idle w.links ≡ true
     → IfSome o (λ a. (h : ℕ) → list_any (nat_eq h) hosts ≡ is_among a.mapper a.routes h) → 1 ≤ tries
-    → IfSome o (λ a. installed a hosts tries w ≡ (acked, u)) → IfSome o (λ a. HasFewTurns a → u.injected < last_count → TellsCause a hosts tries acked w u)
+    → IfSome o (λ a. installed a hosts tries w ≡ (acked, u)) → IfSome o (λ a. u.injected < last_count → TellsCause a hosts tries acked w u)
 tells n w u hosts tries acked None is reached set idle named some told = tt
 tells n w u hosts tries acked (Some a) is reached set idle named some told =
-    λ few left.
-    told-cause w u hosts tries acked a (record { reached = reached; idle = idle; adopted = is; set = record { in_order = set.in_order; few_turns = few; joined = joined n a hosts set named } }) some told left
+    λ left.
+    told-cause w u hosts tries acked a (record { reached = reached; idle = idle; adopted = is; set = record { in_order = set.in_order; few_turns = set.short; joined = joined n a hosts set named } }) some told left

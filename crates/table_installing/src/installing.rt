@@ -8,7 +8,6 @@ ghost use Rattle.world_defs.specs.World.{fabric_of, host_count, last_count};
 ghost use Rattle.world_defs.specs.Install.{hosts_installed, installed};
 ghost use Rattle.event_lists.specs.Events.{hosts_events, install_events};
 ghost use Rattle.event_lists.specs.PartWay.{IsPartWay};
-ghost use Rattle.install_laws.specs.Premises.{HasFewTurns};
 ghost use Rattle.install_laws.specs.Counts.{TellsCause};
 ghost use Rattle.route_install.specs.Installing.{AreHosts, awaited};
 ghost use Rattle.fab_world.specs.Events.{IsHostOf};
@@ -32,8 +31,8 @@ pub struct Installed {
 
 /// Installs the adopted routes on the adopter and the hosts that they name. Every host gives up what it staged; then
 /// each host is sent its parts, each up to so many times, and a part that isn't acknowledged ends the work for its
-/// host. Where each route has at most 64 turns and injections are left then, each host that isn't counted has a part
-/// each of whose tries met a planned fault. Want of memory leaves a world that a prefix of its events leads to.
+/// host. Where injections are left then, each host that isn't counted has a part each of whose tries met a planned
+/// fault. Want of memory leaves a world that a prefix of its events leads to.
 #[tactic(auto, unfolding(world_defs::specs::Install::installed))]
 pub fn install(
     alloc: Global,
@@ -45,8 +44,8 @@ pub fn install(
     ensures acked { IfOk result (λ x. IfSome w.old.adopted (λ a.
         installed a hosts.now tries w.old ≡ (x.acked, w.new))) }
     ensures of { IfOk result (λ x. x.of ≡ length hosts.now) }
-    ensures cause { IfOk result (λ x. IfSome w.old.adopted (λ a. HasFewTurns a
-        → w.new.injected < last_count → TellsCause a hosts.now tries x.acked w.old w.new)) }
+    ensures cause { IfOk result (λ x. IfSome w.old.adopted (λ a. w.new.injected < last_count
+        → TellsCause a hosts.now tries x.acked w.old w.new)) }
     ensures err { OnErr result (IfSome w.old.adopted (λ a.
         IsPartWay w.old (install_events a hosts.now tries w.old) w.new)) }
     ensures idle { OnOk result (is_idle w.new.links ≡ true) }

@@ -1,14 +1,17 @@
 //! A settle: rounds, each of which sends again what isn't acknowledged.
 
-ghost use Rattle.std.specs.Prelude.{◌≡◌, ◌≤◌, ◌<◌, ◌||◌, true, not, nat_eq, nat_lt, min, length, IfOk, OnOk, OnErr};
+ghost use Rattle.std.specs.Prelude.{◌≡◌, ◌≤◌, ◌<◌, ◌+◌, ◌||◌, true, not, nat_eq, nat_lt, min, length, IfOk, OnOk, OnErr};
+ghost use Rattle.std.specs.List.{AllByRecursion};
 ghost use Rattle.link_defs.specs.Links.{is_idle};
 ghost use Rattle.world_defs.specs.World.{fabric_of, host_count, last_count};
 ghost use Rattle.world_defs.specs.declared.event.Event.TheVariants.{Expire};
 ghost use Rattle.world_defs.specs.Step.{step, after_all};
+ghost use Rattle.world_defs.specs.Traffic.{IsLawfulTraffic};
 ghost use Rattle.world_defs.specs.Settle.{unacknowledged_in, expiries_of, expiries, round, round_bound, settle};
 ghost use Rattle.world_defs.specs.Settled.{IsSettled};
 ghost use Rattle.event_lists.specs.Events.{round_events, rounds_events, settle_events};
 ghost use Rattle.event_lists.specs.PartWay.{IsPartWay};
+ghost use Rattle.lawful_laws.specs.Moments.{settle_clears};
 ghost use Rattle.message_laws.specs.Got.{IsAllGot};
 ghost use Rattle.fab_world.specs.Events.{IsHostOf};
 ghost use Rattle.world_drain.specs.Rounds.{AreRounds};
@@ -32,13 +35,17 @@ pub struct Settled {
 }
 
 /// Settles a world: a clear, and then rounds, at least one, up to one that leaves nothing unacknowledged or that
-/// helps nothing. It answers no more rounds than one and those that fragments and planned faults allow. Where
-/// injections are left, the world is settled then; and where it answers that nothing is unacknowledged, all that was
-/// sent is got. Want of memory leaves a world that a prefix of its events leads to.
+/// helps nothing. It answers at most one round more than there were unacknowledged fragments and planned faults, and
+/// no resets where the traffic was lawful as each of its clears began. Where injections are left, the world is settled
+/// then; and where it answers that nothing is unacknowledged, all that was sent is got. Want of memory leaves a world
+/// that a prefix of its events leads to.
 pub fn settle(alloc: Global, w: &mut World) -> Result<Settled, AllocError>
     ensures after { OnOk result (w.new ≡ (settle w.old).world) }
     ensures rounds { IfOk result (λ s. s.rounds ≡ (settle w.old).rounds) }
+    ensures few_rounds { IfOk result (λ s. (1 ≤ s.rounds)
+        × (s.rounds ≤ unacknowledged_in w.old + length w.old.plan + 1)) }
     ensures resets { IfOk result (λ s. s.resets ≡ min (settle w.old).resets last_count) }
+    ensures lawful { IfOk result (λ s. AllByRecursion IsLawfulTraffic (settle_clears w.old) → s.resets ≡ 0) }
     ensures unacked { IfOk result (λ s. s.unacked ≡ unacknowledged_in w.new) }
     ensures settled { OnOk result (w.new.injected < last_count → IsSettled w.new) }
     ensures got { IfOk result (λ s. s.unacked ≡ 0 → IsAllGot w.new) }

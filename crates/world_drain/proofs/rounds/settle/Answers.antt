@@ -1,6 +1,8 @@
-use Rattle.std.proofs.Common.{ap, sym, ◌∙◌, subst}
-use Rattle.world_defs.specs.World.{WorldState, fabric_of}
-use Rattle.world_defs.specs.Settle.{unacknowledged_in}
+use Rattle.std.proofs.Common.{◌≡◌, ◌≤◌, ◌+◌, ℕ, length, min, ap, sym, ◌∙◌, subst, arith}
+use Rattle.world_defs.specs.World.{WorldState, fabric_of, last_count}
+use Rattle.world_defs.specs.Settle.{unacknowledged_in, settle}
+use Rattle.world_laws.proofs.Rounds.{settle-settles, settles-bounded}
+use Rattle.lawful_laws.proofs.Settling.{settle-flows}
 use Rattle.message_laws.specs.Got.{IsAllGot}
 use Rattle.message_laws.proofs.Reaching.{settle-got}
 use Rattle.event_lists.proofs.Settled.{settle-clear, settle-rounds}
@@ -54,8 +56,24 @@ returns-clause-after c = (settled c).after
 pub returns-clause-rounds : goal.returns-clause-rounds
 returns-clause-rounds c = (settled c).number
 
+-- as many as fragments and planned faults allow
+pub returns-clause-few_rounds : goal.returns-clause-few_rounds
+returns-clause-few_rounds c =
+    let w : WorldState = c.args.w.now in
+    let senders = c.moment.ensures.kept.senders in
+    subst (λ k. (1 ≤ k) × (k ≤ unacknowledged_in w + length w.plan + 1)) (sym (settled c).number) (settles-bounded w (settle w) senders (settle-settles w senders))
+
 pub returns-clause-resets : goal.returns-clause-resets
 returns-clause-resets c = (settled c).counted
+
+none-counted : (k most : ℕ) → k ≡ 0 → min k most ≡ 0
+none-counted k most e = omega (arith, e)
+
+-- and none where the traffic was lawful
+pub returns-clause-lawful : goal.returns-clause-lawful
+returns-clause-lawful c clears =
+    let w : WorldState = c.args.w.now in
+    (settled c).counted ∙ none-counted (settle w).resets last_count (settle-flows (fabric_of w) w c.reached.ensures clears)
 
 -- so it ends settled, and where nothing is unacknowledged all is got
 pub returns-clause-settled : goal.returns-clause-settled

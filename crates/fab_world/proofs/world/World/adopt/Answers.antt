@@ -9,7 +9,7 @@ pub invariant_of-self : goal.invariant_of-self
 invariant_of-self c =
     let w : WorldState = c.self.inside.machine in
     let k : IsAdopting w c.adopt.new.self = adopt-leaves w c.adopt.new.self c.args.mapper c.args.set c.adopt.result c.self.invariant.0
-    (subst (λ v. c.args.mapper < host_count v) (sym c.self.view_is) c.requires.there) c.list-rising.ensures.rising
+    (subst (λ v. c.args.mapper < host_count v) (sym c.self.view_is) c.requires.there) c.list-rising.ensures.rising c.list-rising.ensures.short
     (subst (λ v. IsAdoptable (fabric_of v) c.args.mapper c.args.set) (sym c.self.view_is) c.requires.adoptable) c.adopt.ensures.adopted c.adopt.ensures.unchanged in (
       k.moment,
       c.self.invariant.1 ∙ sym k.fabric,
