@@ -1,6 +1,6 @@
 //! A message is sent.
 
-ghost use Rattle.std.specs.Prelude.{◌≡◌, ◌⊎◌, ◌<◌, ◌≤◌, ◌+◌, ◌%◌, length, is_some, true, false, Some, None};
+ghost use Rattle.std.specs.Prelude.{◌≡◌, ◌≢◌, ◌⊎◌, ◌<◌, ◌≤◌, ◌+◌, ◌%◌, length, is_some, true, false, Some, None};
 ghost use Rattle.std.specs.Prelude.{IfOk, IfErr, OnOk, OnErr, MatchResult};
 ghost use Rattle.std.specs.Option.{ForSome};
 ghost use Rattle.gm_defs.specs.Body.{message_limit};
@@ -188,6 +188,7 @@ fn byte_at(seed: u8, i: u32) -> u8
 
 // A refusal of the host, as the client is told of it; none for want of memory. A client's buffer is never too short.
 fn cause_of(refusal: NodeSend) -> Option<ClientCause>
+    requires { refusal ≢ NodeSend.BufferShort }
     ensures { result ≡ send_cause refusal }
 {
     match refusal {
@@ -195,6 +196,7 @@ fn cause_of(refusal: NodeSend) -> Option<ClientCause>
         NodeSend::TooLong => Some(ClientCause::TooLong),
         NodeSend::NoRoute => Some(ClientCause::NoRoute),
         NodeSend::Spent => Some(ClientCause::Spent),
-        NodeSend::BufferShort | NodeSend::NoMemory => None,
+        NodeSend::BufferShort => unreachable!(),
+        NodeSend::NoMemory => None,
     }
 }
