@@ -29,7 +29,7 @@ fn bytes_in(links: &Links, c: u16) -> u64
     ensures few { result ≤ 1107 }
 {
     match links.peek(c) {
-        Some(packet) => packet.wire().len() as u64,
+        Some(packet) => packet.size() as u64,
         None => 0,
     }
 }

@@ -192,8 +192,8 @@ hops-few wire some =
     let short = length-take (length wire - 1) wire in
     omega (arith, some, front, short)
 
-pub hops-most : (wire shown : List ℕ) → shown ≡ wire → 0 < length shown → length shown ≤ 1107 → hops_left wire ≤ 1107
-hops-most wire shown same some few = subst (λ w. hops_left w ≤ 1107) same (let h = hops-few shown some in omega (arith, h, few))
+pub hops-most : (wire : List ℕ) (size : ℕ) → size ≡ length wire → 0 < size → size ≤ 1107 → hops_left wire ≤ 1107
+hops-most wire size is some few = let h = hops-few wire (omega (arith, is, some)) in omega (arith, h, is, few)
 
 -- A packet under way: where it is, and that each hop took one of those that it had left.
 pub record Following (n : Network) (c : ℕ) (first now : List ℕ) (hops at : ℕ) : Type 0 where

@@ -121,7 +121,7 @@ pub(crate) fn follow(wiring: &Wiring, c: u16, packet: &mut Packet) -> Run
     ensures last { (next : ℕ) → course wiring.now result.at packet.new ≢ Course.Enters next }
     ensures few { result.hops ≤ 1107 }
 {
-    let _few = packet.wire();
+    let _few = packet.size();
     let mut at = c;
     let mut hops = 0;
     while let Course::Enters(next) = go_on(wiring, at, packet) {

@@ -1,28 +1,14 @@
--- What is put into a buffer makes the packet; and a CRC that isn't the one due makes a difference.
-use Rattle.std.proofs.Common.{◌≡◌, ◌<◌, ◌+◌, ◌-◌, ◌*◌, ◌/◌, ◌%◌, ◌^◌, ℕ, zero, suc, true, false, Bool, ℤ, nat_eq, List, [], ◌∷◌, ◌++◌, map, length, ◌≤◌, Err, is_some, if◌then◌else◌, rules, refl, sym, ap, ◌∙◌, arith, append_assoc}
-use Rattle.std.proofs.lemmas.Bool.Decides.{Decides-eqb}
-use Rattle.std.specs.Int.Bits.{bit_xor}
+-- What is put into a buffer makes the packet, and two writes make a burst.
+use Rattle.std.proofs.Common.{◌≡◌, ◌<◌, ◌+◌, ◌*◌, ◌/◌, ◌%◌, ◌^◌, ℕ, zero, suc, true, ℤ, List, [], ◌∷◌, ◌++◌, map, length, ◌≤◌, is_some, rules, sym, ap, ◌∙◌, arith, append_assoc, ◌-◌}
 use Rattle.packet_defs.specs.declared.kind.Kind.{Kind}
-use Rattle.packet_defs.specs.Crc.{crc}
 use Rattle.packet_defs.specs.RouteByte.{route_byte}
-use Rattle.packet_defs.specs.Packet.{type_of, head_of, crc_byte, head, front_turn}
+use Rattle.packet_defs.specs.Packet.{type_of, head_of, front_turn}
 use Rattle.packet_defs.specs.Burst.{flipped, masked}
-use Rattle.packet_defs.specs.Host.{decode, has_route, body_of}
-use Rattle.packet_defs.specs.declared.host_drop.HostDrop.TheVariants.{BadCrc, RouteLeft}
 use Rattle.packet_defs.proofs.Masks.{flipped-masked}
-use Rattle.packet_defs.proofs.Reduced.{xor_across}
 
 -- a payload behind what stands before it
 pub front-behind : (route : List ℤ) (kind : Kind) (payload : List ℕ) → head_of route kind [] ++ payload ≡ head_of route kind payload
 front-behind route kind payload = append_assoc (map route_byte route) (0 ∷ type_of kind ∷ []) payload
-
--- two different numbers have a sum other than 0
-pub unequal : (a b : ℕ) → (a ≡ b → ⊥) → nat_eq (bit_xor a b) 0 ≡ false
-unequal a b h = by (nat_eq (bit_xor a b) 0) refl
-  where
-    by : (t : Bool) → nat_eq (bit_xor a b) 0 ≡ t → t ≡ false
-    by true e = absurd (h (sym (xor_across 0 a b (sym ((Decides-eqb (bit_xor a b) 0).0 e)))))
-    by false e = refl
 
 -- what of a burst falls into the byte where it begins: the pattern without its last bits
 first_mask : (pattern offset : ℕ) → pattern < 256 → offset < 8 → pattern * 2 ^ (8 - offset) % 65536 / 256 ≡ pattern / 2 ^ offset
@@ -47,10 +33,6 @@ two_masks bytes one two bit pattern wide h w a b =
     ∙ ap (λ l. masked l (bit / 8 + 1) (wide * 2 ^ (8 - bit % 8) % 65536 % 256)) (a ∙ ap (masked bytes (bit / 8)) m)
     ∙ ap (masked (masked bytes (bit / 8) (pattern / 2 ^ (bit % 8))) (bit / 8 + 1)) (ap (λ x. x * 2 ^ (8 - bit % 8) % 65536 % 256) w ∙ rest)
     ∙ sym (flipped-masked bytes bit pattern h)
-
--- a packet whose CRC isn't the one due is dropped for that
-pub bad_crc : (wire : List ℕ) → (crc_byte wire ≡ crc (head wire) → ⊥) → decode wire ≡ Err BadCrc
-bad_crc wire h = ap (λ t. if t then if has_route (head wire) then Err RouteLeft else body_of (head wire) else Err BadCrc) (unequal (crc_byte wire) (crc (head wire)) h)
 
 -- a packet with a turn has a byte besides the CRC
 pub two_bytes : (wire : List ℕ) → is_some (front_turn wire) ≡ true → 2 ≤ length wire

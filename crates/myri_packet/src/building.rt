@@ -5,7 +5,6 @@ ghost use Rattle.packet_defs.specs.Packet.{packet_of, head_of, with_crc, type_of
 ghost use Rattle.packet_defs.specs.RouteByte.{route_byte};
 
 use crate::packet::Packet;
-use crc_eight::crc;
 use packet_defs::Kind;
 use std::alloc::{AllocError, Global};
 use turn_bytes::route_byte;
@@ -25,8 +24,8 @@ pub fn encode(alloc: Global, route: &[i8], kind: Kind, payload: &[u8]) -> Result
     seal(bytes)
 }
 
-/// What of a packet stands before its payload, with room for so many bytes of that and for the CRC. A payload that is
-/// written behind it needs no buffer of its own.
+/// What of a packet stands before its payload, with room for so many bytes of that. A payload that is written behind
+/// it needs no buffer of its own.
 pub fn packet_front(
     alloc: Global,
     route: &[i8],
@@ -37,7 +36,7 @@ pub fn packet_front(
     requires short { room ≤ 1040 }
     ensures { IfOk result (λ v. v.items ≡ head_of route.now kind []) }
 {
-    let mut bytes = Vec::with_capacity(alloc, route.len() + room + 3)?;
+    let mut bytes = Vec::with_capacity(alloc, route.len() + room + 2)?;
     put_route(&mut bytes, route)?;
     bytes.extend_from_slice(&type_number(kind).to_be_bytes())?;
     Ok(bytes)
@@ -48,10 +47,7 @@ pub fn seal(head: Vec<u8>) -> Result<Packet, AllocError>
     requires { length head.items ≤ 1106 }
     ensures { IfOk result (λ p. p ≡ with_crc head.items) }
 {
-    let mut bytes = head;
-    let due = crc(&bytes);
-    bytes.push(due)?;
-    Ok(Packet::from_buffer(bytes))
+    Ok(Packet::of_head(head))
 }
 
 // Puts the route bytes of turns behind what is there.

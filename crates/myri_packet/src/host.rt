@@ -6,7 +6,6 @@ ghost use Rattle.packet_defs.specs.Host.{decode, body_of, kind_of, has_route};
 ghost use Rattle.myri_packet.specs.Bodies.{parts_of};
 
 use crate::packet::Packet;
-use crc_eight::crc;
 use packet_defs::{HostDrop, Kind};
 
 /// The payload of a packet, by its kind.
@@ -21,10 +20,10 @@ pub enum Body<'a> {
 pub fn decode_at_host(p: &Packet) -> Result<Body<'_>, HostDrop>
     ensures { MatchResult result (λ body. decode p.now ≡ Ok (parts_of body)) (λ drop. decode p.now ≡ Err drop) }
 {
-    let head = p.head();
-    if p.crc_byte() != crc(head) {
+    if !p.is_sound() {
         return Err(HostDrop::BadCrc);
     }
+    let head = p.head();
     if has_route(head) {
         return Err(HostDrop::RouteLeft);
     }

@@ -1,14 +1,13 @@
 //! A packet: reading it, stripping it, flipping it.
 
-ghost use Rattle.std.specs.Prelude.{◌≡◌, ◌<◌, ◌≤◌, ◌-◌, length, slice_index, slice_set, IfOk, IfErr, OnSome, IfNone};
-ghost use Rattle.std.specs.Prelude.{Some, None, IsSome, ◌+◌, ◌*◌, ◌∷◌};
-ghost use Rattle.std.specs.Int.Bits.{bit_xor};
+ghost use Rattle.std.specs.Prelude.{◌≡◌, ◌<◌, ◌≤◌, ◌++◌, ◌∷◌, [], drop, length, nat_eq, IfOk, IfErr, OnSome, IfNone};
+ghost use Rattle.std.specs.Prelude.{None, Some, IsSome, ◌+◌, ◌*◌};
 ghost use Rattle.net_defs.specs.Refusal.{Refuses};
-ghost use Rattle.packet_defs.specs.Packet.{head, crc_byte, difference, front_turn, stripped};
+ghost use Rattle.packet_defs.specs.Packet.{head, crc_byte, difference, front_turn, stripped, with_crc};
 ghost use Rattle.packet_defs.specs.Burst.{flipped, masked};
 ghost use Rattle.myri_packet.specs.Refusals.{wire_refusal, flip_refusal};
 
-use crc_eight::contribution;
+use crc_eight::crc;
 use std::alloc::{AllocError, Global};
 use std::marker::Model;
 use turn_bytes::turn_of;
@@ -38,22 +37,28 @@ pub enum FlipRefusal {
 }
 
 /// From 1 to 1,107 bytes, of which the last is the CRC. Contracts see the list of them.
+///
+/// What is kept of the CRC is how far it is from the one that is due. No strip changes that, so a packet that was built
+/// has its CRC without a computation, at every switch.
 #[derive(Drop)]
 pub struct Packet {
-    // The packet's bytes, behind those that were read off.
+    // The bytes of the head, behind those that were read off.
     buffer: Vec<u8>,
-    // Where the packet begins: a strip moves no byte.
-    start: usize,
+    // Where the head begins: a strip moves no byte.
+    start: u16,
+    // The difference between the CRC and the one due to the head.
+    difference: u8,
 }
 
 impl Model for Packet {
-    ghost use Rattle.std.specs.Prelude.{List, ℕ, ◌<◌, ◌≤◌, drop, length};
+    ghost use Rattle.std.specs.Prelude.{List, ℕ, ◌≤◌, drop, length};
+    ghost use Rattle.myri_packet.specs.Kept.{wire_of};
 
     ghost Value = { List ℕ };
 
-    ghost view = { λ p. drop p.start p.buffer.items };
+    ghost view = { λ p. wire_of (drop p.start p.buffer.items) p.difference };
 
-    ghost invariant = { λ p. (p.start < length p.buffer.items) × (length p.buffer.items ≤ 1107) };
+    ghost invariant = { λ p. (p.start ≤ length p.buffer.items) × (length p.buffer.items ≤ 1106) };
 }
 
 impl Packet {
@@ -68,51 +73,79 @@ impl Packet {
         if bytes.len() > MAX_BYTES {
             return Err(WireFault::TooLong);
         }
-        match bytes.to_vec(alloc) {
-            Ok(buffer) => Ok(Packet::from_buffer(buffer)),
+        let last = bytes.len() - 1;
+        match bytes[..last].to_vec(alloc) {
+            Ok(buffer) => Ok(Packet::with_check(buffer, 0, bytes[last])),
             Err(_) => Err(WireFault::NoMemory),
         }
     }
 
-    // The packet in a buffer that isn't empty nor too long.
-    pub(crate) fn from_buffer(buffer: Vec<u8>) -> Packet
-        requires some { 0 < length buffer.items }
-        requires few { length buffer.items ≤ MAX_BYTES }
-        ensures { result ≡ buffer.items }
+    // The packet of a head, with the CRC that is due to it.
+    pub(crate) fn of_head(head: Vec<u8>) -> Packet
+        requires { length head.items < MAX_BYTES }
+        ensures { result ≡ with_crc head.items }
     {
-        Packet { buffer, start: 0 }
+        Packet {
+            buffer: head,
+            start: 0,
+            difference: 0,
+        }
     }
 
-    /// All its bytes.
-    pub fn wire(&self) -> &[u8]
-        ensures bytes { result.now ≡ self.now }
-        ensures some { 0 < length result.now }
-        ensures few { length result.now ≤ MAX_BYTES }
+    // The packet of what stands in a buffer from a place on, with this CRC.
+    fn with_check(buffer: Vec<u8>, start: u16, check: u8) -> Packet
+        requires there { start ≤ length buffer.items }
+        requires few { length buffer.items < MAX_BYTES }
+        ensures { result ≡ drop start buffer.items ++ check ∷ [] }
     {
-        &self.buffer[self.start..]
+        let difference = check ^ crc(&buffer[usize::from(start)..]);
+        Packet {
+            buffer,
+            start,
+            difference,
+        }
+    }
+
+    /// How many bytes it has.
+    pub fn size(&self) -> usize
+        ensures bytes { result ≡ length self.now }
+        ensures some { 0 < result }
+        ensures few { result ≤ MAX_BYTES }
+    {
+        self.buffer.len() - usize::from(self.start) + 1
     }
 
     /// All its bytes but the CRC.
     pub fn head(&self) -> &[u8]
         ensures { result.now ≡ head self.now }
     {
-        let wire = self.wire();
-        &wire[..wire.len() - 1]
+        &self.buffer[usize::from(self.start)..]
     }
 
     /// The CRC that it carries.
     pub fn crc_byte(&self) -> u8
         ensures { result ≡ crc_byte self.now }
     {
-        let wire = self.wire();
-        wire[wire.len() - 1]
+        crc(self.head()) ^ self.difference
+    }
+
+    /// Whether the CRC that it carries is the one that is due.
+    pub fn is_sound(&self) -> bool
+        ensures { result ≡ nat_eq (difference self.now) 0 }
+    {
+        self.difference == 0
     }
 
     /// Another packet of the same bytes.
     pub fn copy(&self, alloc: Global) -> Result<Packet, AllocError>
         ensures { IfOk result (λ p. p ≡ self.now) }
     {
-        Ok(Packet::from_buffer(self.wire().to_vec(alloc)?))
+        let buffer = self.head().to_vec(alloc)?;
+        Ok(Packet {
+            buffer,
+            start: 0,
+            difference: self.difference,
+        })
     }
 
     /// The turn that it takes next: none where the head is empty, or begins with no route byte.
@@ -168,7 +201,7 @@ impl Packet {
     {
         if pattern == 0 {
             Some(FlipRefusal::NoPattern)
-        } else if bit as usize + 7 < 8 * self.wire().len() {
+        } else if bit as usize + 7 < 8 * self.size() {
             None
         } else {
             Some(FlipRefusal::OutOfPacket)
@@ -180,45 +213,41 @@ impl Packet {
         requires { bit + 7 < 8 * length self }
         ensures { result ≡ flipped self bit pattern }
     {
-        let Packet { mut buffer, start } = self;
-        flip_bits(&mut buffer[start..], bit, pattern);
-        Packet { buffer, start }
+        let mut check = self.crc_byte();
+        let Packet {
+            mut buffer,
+            start,
+            difference: _,
+        } = self;
+        flip_bits(&mut buffer[usize::from(start)..], &mut check, bit, pattern);
+        Packet::with_check(buffer, start, check)
     }
 
-    // Reads the front byte off.
+    // Reads the front byte off. The CRC loses its contribution, and so does the one that is due.
     fn strip_front(&mut self)
         requires { 2 ≤ length self.old }
         ensures { self.new ≡ stripped self.old }
     {
-        let byte = self.buffer[self.start];
         self.start += 1;
-        take_out(&mut self.buffer[self.start..], byte);
     }
 }
 
-// Takes the contribution of the byte before a packet out of the packet's CRC.
-fn take_out(wire: &mut [u8], byte: u8)
-    requires { 0 < length wire.old }
-    ensures { wire.new ≡ stripped (byte ∷ wire.old) }
-{
-    let last = wire.len() - 1;
-    wire[last] ^= contribution(byte, last);
-}
-
-// Flips the bits of a burst, which lie in one byte or in two neighbours.
-fn flip_bits(bytes: &mut [u8], bit: usize, pattern: u8)
-    ensures { bytes.new ≡ flipped bytes.old bit pattern }
+// Flips the bits of a burst, which lie in one byte or in two neighbours. The last byte stands apart.
+fn flip_bits(head: &mut [u8], check: &mut u8, bit: usize, pattern: u8)
+    ensures { head.new ++ check.new ∷ [] ≡ flipped (head.old ++ check.old ∷ []) bit pattern }
 {
     let spread = u16::from(pattern) << (8 - bit % 8);
-    add_at(bytes, bit / 8, (spread / 256) as u8);
-    add_at(bytes, bit / 8 + 1, (spread % 256) as u8);
+    add_at(head, check, bit / 8, (spread / 256) as u8);
+    add_at(head, check, bit / 8 + 1, (spread % 256) as u8);
 }
 
-// Adds a mask to the byte at a place, if it is there.
-fn add_at(bytes: &mut [u8], place: usize, mask: u8)
-    ensures { bytes.new ≡ masked bytes.old place mask }
+// Adds a mask to the byte at a place, if it is there. The last byte stands apart.
+fn add_at(head: &mut [u8], check: &mut u8, place: usize, mask: u8)
+    ensures { head.new ++ check.new ∷ [] ≡ masked (head.old ++ check.old ∷ []) place mask }
 {
-    if place < bytes.len() {
-        bytes[place] ^= mask;
+    if place < head.len() {
+        head[place] ^= mask;
+    } else if place == head.len() {
+        *check ^= mask;
     }
 }

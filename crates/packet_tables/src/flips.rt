@@ -70,7 +70,7 @@ pub(crate) fn refusal_of(
 
 // The refusal, where the packet that came back is the one that went in.
 fn known(back: &Packet, frame: &Packet, refusal: FlipRefusal) -> Option<FlipRefusal> {
-    if back.wire() == frame.wire() {
+    if back.head() == frame.head() && back.crc_byte() == frame.crc_byte() {
         Some(refusal)
     } else {
         None

@@ -9,7 +9,7 @@ loop-next-init c = following-none c.args.wiring.now c.args.c c.args.packet.now c
 pub overflow_add-hops : goal.overflow_add-hops
 overflow_add-hops c =
     let few = c.loop-next.invariant.few in
-    let most = hops-most c.args.packet.now c.wire-few.result.now c.wire-few.ensures.bytes c.wire-few.ensures.some c.wire-few.ensures.few in
+    let most = hops-most c.args.packet.now c.size-few.result c.size-few.ensures.bytes c.size-few.ensures.some c.size-few.ensures.few in
     omega (arith, few, most)
 
 pub loop-next-smaller : goal.loop-next-smaller
@@ -28,5 +28,5 @@ returns-clause-along c = subst (IsSentAlong c.args.wiring.now c.args.c c.args.pa
 pub returns-clause-few : goal.returns-clause-few
 returns-clause-few c =
     let few = c.loop-next.invariant.few in
-    let most = hops-most c.args.packet.now c.wire-few.result.now c.wire-few.ensures.bytes c.wire-few.ensures.some c.wire-few.ensures.few in
+    let most = hops-most c.args.packet.now c.size-few.result c.size-few.ensures.bytes c.size-few.ensures.some c.size-few.ensures.few in
     omega (arith, few, most)
