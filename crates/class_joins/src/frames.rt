@@ -43,7 +43,7 @@ impl Model for Frames {
 
 impl Frames {
     /// No nodes. It takes no memory.
-    pub fn new(alloc: Global) -> Frames
+    pub(crate) fn new(alloc: Global) -> Frames
         ensures { result.items ≡ [] }
     {
         Frames {
@@ -60,14 +60,14 @@ impl Frames {
     }
 
     /// The frames of the nodes by number.
-    pub fn items(&self) -> &[ClassFrame]
+    pub(crate) fn items(&self) -> &[ClassFrame]
         ensures { result.now ≡ self.now.items }
     {
         &self.frames
     }
 
     /// The frame of a node.
-    pub fn at(&self, node: u32) -> ClassFrame
+    pub(crate) fn at(&self, node: u32) -> ClassFrame
         requires { node < length self.now.items }
         ensures { result ≡ frame_at self.now.items node }
     {
@@ -75,7 +75,7 @@ impl Frames {
     }
 
     /// Room for a node.
-    pub fn reserve(&mut self) -> Result<(), AllocError>
+    pub(crate) fn reserve(&mut self) -> Result<(), AllocError>
         ensures same { self.new.items ≡ self.old.items }
         ensures room { OnOk result (HasFrameRoom self.new) }
     {
@@ -84,7 +84,7 @@ impl Frames {
     }
 
     /// Adds a node that is a class of its own. There is room.
-    pub fn add(&mut self)
+    pub(crate) fn add(&mut self)
         requires room { HasFrameRoom self.old }
         requires few { length self.old.items < 2 ^ 32 }
         ensures { self.new.items ≡ self.old.items ++ own_frame (length self.old.items) ∷ [] }
@@ -98,7 +98,7 @@ impl Frames {
     }
 
     /// Joins one class to another, whose ports lie so far from its own.
-    pub fn join(&mut self, from: u32, to: u32, by: i8)
+    pub(crate) fn join(&mut self, from: u32, to: u32, by: i8)
         requires two { from ≢ to }
         requires is_from { from < length self.old.items }
         requires is_to { to < length self.old.items }
@@ -115,7 +115,7 @@ impl Frames {
     }
 
     /// The frames of the nodes by number. The rings end here.
-    pub fn into_items(self) -> Vec<ClassFrame>
+    pub(crate) fn into_items(self) -> Vec<ClassFrame>
         ensures { result.items ≡ self.items }
     {
         let Frames { frames, next: _ } = self;

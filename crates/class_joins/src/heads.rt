@@ -38,7 +38,7 @@ pub struct Heads {
 
 impl Heads {
     /// Adds the class of the next node. There is room for one.
-    pub fn add(&mut self, marked: bool)
+    pub(crate) fn add(&mut self, marked: bool)
         requires heads_room { vec_len self.old.heads < vec_capacity self.old.heads }
         requires names_room { vec_len self.old.names < vec_capacity self.old.names }
         requires marks_room { vec_len self.old.marks < vec_capacity self.old.marks }
@@ -61,7 +61,7 @@ impl Heads {
     }
 
     /// Joins one class to another, whose ports lie so far from its own.
-    pub fn join(&mut self, walks: &WalkIndex, from: u32, to: u32, by: i8)
+    pub(crate) fn join(&mut self, walks: &WalkIndex, from: u32, to: u32, by: i8)
         requires is_from { from < length self.old.heads.items }
         requires is_to { to < length self.old.heads.items }
         requires first { (head_at self.old.heads.items from).number < length self.old.names.items }
@@ -93,7 +93,7 @@ impl Heads {
     }
 
     /// Marks a class, given by the node that names it.
-    pub fn mark(&mut self, name: u32)
+    pub(crate) fn mark(&mut self, name: u32)
         requires named { name < length self.old.heads.items }
         requires numbered { (head_at self.old.heads.items name).number < length self.old.marks.items }
         ensures marks { self.new.marks.items ≡ set self.old.marks.items (head_at self.old.heads.items name).number

@@ -32,7 +32,7 @@ pub enum Way {
 }
 
 /// Where a way begins.
-pub fn begins_at(frames: &[ClassFrame], way: &Way) -> Spot
+pub(crate) fn begins_at(frames: &[ClassFrame], way: &Way) -> Spot
     requires { IsInside (length frames.now) way.now }
     ensures { result ≡ begins_at frames.now way.now }
 {
