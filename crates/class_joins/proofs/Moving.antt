@@ -1,12 +1,13 @@
 -- Far ends moved port by port from one class to another.
 use Rattle.std.proofs.Common.{◌≡◌, ◌≢◌, ◌<◌, ◌≤◌, ◌⊎◌, inl, inr, ℕ, ◌+◌, ◌-◌, ◌*◌, List, [], ◌∷◌, ◌++◌, Bool, true, false, length, get_or, set, Option, Some, None, refl, ap, sym, ◌∙◌, subst, true≢false, arith, get_or-set_other, get_or-set_same, if◌then◌else◌}
-use Rattle.std.specs.Prelude.{ℤ, pos, negsuc, ◌+ℤ◌, ◌-ℤ◌, ◌<ℤ◌, ◌≤ℤ◌, nat_abs, int_le}
+use Rattle.std.specs.Prelude.{ℤ, pos, negsuc, ◌+ℤ◌, ◌-ℤ◌, ◌<ℤ◌, ◌≤ℤ◌, nat_abs, int_le, int_lt, slice_index_or}
 use Rattle.std.specs.Ordering.{int_eq}
 use Rattle.std.proofs.lemmas.Bool.{and_from}
 use Rattle.std.proofs.lemmas.Bool.Decides.{Decides-int_eq, nat_tests}
 use Rattle.std.proofs.lemmas.Int.{ints}
 use Rattle.net_defs.specs.Turn.{is_turn, IsTurn}
 use Rattle.port_table.specs.declared.end.NodePort.{NodePort}
+use Rattle.port_table.specs.Ends.{IsOutside}
 use Rattle.class_joins.specs.declared.meeting.Meeting.{Meeting}
 use Rattle.class_joins.specs.declared.way.Spot.{Spot}
 use Rattle.class_joins.specs.declared.way.Spot.TheVariants.{Address, Port}
@@ -62,6 +63,22 @@ end-turn ends class p t = ap (λ b. if b then get_or ends (place_of class p) Non
 pub end-outside : (ends : List (Option NodePort)) (class : ℕ) (p : ℤ) → is_turn p ≡ false → end_at ends class p ≡ None
 end-outside ends class p f = ap (λ b. if b then get_or ends (place_of class p) None else None) f
 
+-- nothing is known of a class outside of its span
+module _ (ends : List (Option NodePort)) (class first last : ℕ) (none : (i : ℕ) → i < 31 → IsOutside first last i → slice_index_or ends (31 * class + i) None ≡ None) where
+  pub before-span : (p : ℤ) → p <ℤ (pos first -ℤ pos 15) → end_at ends class p ≡ None
+  before-span p l = by (is_turn p) refl
+    where
+      by : (b : Bool) → is_turn p ≡ b → end_at ends class p ≡ None
+      by false f = end-outside ends class p f
+      by true t = let s = shift p t in let a = s.0 in let e = s.1 in end-turn ends class p t ∙ none (nat_abs (p +ℤ pos 15)) a (inl (omega (arith, ints)))
+
+  pub behind-span : (p : ℤ) → (pos last -ℤ pos 15) ≤ℤ p → end_at ends class p ≡ None
+  behind-span p l = by (is_turn p) refl
+    where
+      by : (b : Bool) → is_turn p ≡ b → end_at ends class p ≡ None
+      by false f = end-outside ends class p f
+      by true t = let s = shift p t in let a = s.0 in let e = s.1 in end-turn ends class p t ∙ none (nat_abs (p +ℤ pos 15)) a (inr (omega (arith, ints)))
+
 -- a write at one place
 pub puts : (ends : List (Option NodePort)) (class : ℕ) (p : ℤ) (end : Option NodePort) → IsTurn p → place_of class p < length ends → Puts (known_ends ends) (known_ends (set ends (place_of class p) end)) (Port class p) end
 puts ends class p end t l = record {
@@ -93,26 +110,19 @@ module _ (from to : ℕ) (by : ℤ) (two : from ≢ to) where
   to-to : (p q : ℤ) → p ≢ q → Port to p ≢ Port to q
   to-to p q d e = d (port-parts to to p q e).1
 
-  -- before the first place
-  pub moves-none : (known : Spot → Option NodePort) (todo : List Meeting) → ((c : ℕ) (p : ℤ) → is_turn p ≡ false → known (Port c p) ≡ None) → MovesBelow 0 from to by known known todo todo
-  moves-none known todo outside = record {
+  -- before the first place at which one may be known
+  pub moves-none : (k : ℕ) (known : Spot → Option NodePort) (todo : List Meeting) → ((p : ℤ) → p <ℤ (pos k -ℤ pos 15) → known (Port from p) ≡ None) → MovesBelow k from to by known known todo todo
+  moves-none k known todo outside = record {
     other = λ s a b. refl;
-    gone = λ p l. outside from p (low p l);
+    gone = outside;
     left = λ p l. refl;
     kept = λ p e h. h;
-    moved = λ p e l h. absurd (let bad : Some e ≡ None = sym h ∙ outside from p (low p l) in cc);
+    moved = λ p e l h. absurd (let bad : Some e ≡ None = sym h ∙ outside p l in cc);
     told = λ p e h. inl h;
     ahead = λ p l. refl;
     stays = λ m a. a;
     only = λ m a. inl a;
   }
-    where
-      low : (p : ℤ) → p <ℤ (pos 0 -ℤ pos 15) → is_turn p ≡ false
-      low p l = not-turn (is_turn p) refl
-        where
-          not-turn : (b : Bool) → is_turn p ≡ b → is_turn p ≡ false
-          not-turn false e = e
-          not-turn true e = let s = shift p e in absurd (omega (arith, ints))
 
   -- one place more
   module _ (k : ℕ) (old mid new : Spot → Option NodePort) (before between after : List Meeting) (m : MovesBelow k from to by old mid before between) where
@@ -255,25 +265,29 @@ module _ (from to : ℕ) (by : ℤ) (two : from ≢ to) where
     moves-next (moves e half there out free into list) = subst (λ l. MovesBelow (k + 1) from to by old new before l) (sym list) (step-moves e half there out free into)
     moves-next (meets e first there out taken list) = subst (λ l. MovesBelow (k + 1) from to by old new before l) (sym list) (step-meets e first there out taken)
 
-  -- behind the last place
-  pub moves-all : (old new : Spot → Option NodePort) (before after : List Meeting) → ((c : ℕ) (p : ℤ) → is_turn p ≡ false → old (Port c p) ≡ None) → ((c : ℕ) (p : ℤ) → is_turn p ≡ false → new (Port c p) ≡ None) → MovesBelow 31 from to by old new before after → MovesEnds from to by old new before after
-  moves-all old new before after none still m = record {
+  -- behind the last place at which one may be known
+  pub moves-all : (k : ℕ) (old new : Spot → Option NodePort) (before after : List Meeting) → ((p : ℤ) → (pos k -ℤ pos 15) ≤ℤ p → old (Port from p) ≡ None) → MovesBelow k from to by old new before after → MovesEnds from to by old new before after
+  moves-all k old new before after none m = record {
     other = m.other;
-    gone = λ p. gone p (is_turn p) refl;
+    gone = λ p. gone p (cases_lt p);
     kept = m.kept;
-    moved = λ p e h. moved p e h (is_turn p) refl;
+    moved = λ p e h. moved p e h (cases_lt p);
     told = m.told;
     stays = m.stays;
     only = m.only;
   }
     where
-      low : (p : ℤ) → IsTurn p → p <ℤ (pos 31 -ℤ pos 15)
-      low p t = let s = shift p t in let a = s.0 in let b = s.1 in omega (arith, ints)
+      cases_lt : (p : ℤ) → (p <ℤ (pos k -ℤ pos 15)) ⊎ ((pos k -ℤ pos 15) ≤ℤ p)
+      cases_lt p = split (int_lt p (pos k -ℤ pos 15)) refl
+        where
+          split : (b : Bool) → int_lt p (pos k -ℤ pos 15) ≡ b → (p <ℤ (pos k -ℤ pos 15)) ⊎ ((pos k -ℤ pos 15) ≤ℤ p)
+          split true e = inl (grind (arith, ints))
+          split false e = inr (grind (arith, ints))
 
-      gone : (p : ℤ) (b : Bool) → is_turn p ≡ b → new (Port from p) ≡ None
-      gone p true t = m.gone p (low p t)
-      gone p false f = still from p f
+      gone : (p : ℤ) → (p <ℤ (pos k -ℤ pos 15)) ⊎ ((pos k -ℤ pos 15) ≤ℤ p) → new (Port from p) ≡ None
+      gone p (inl l) = m.gone p l
+      gone p (inr l) = m.left p l ∙ none p l
 
-      moved : (p : ℤ) (e : NodePort) → old (Port from p) ≡ Some e → (b : Bool) → is_turn p ≡ b → (new (Port to (p +ℤ by)) ≡ Some e) ⊎ Clashes (new (Port to (p +ℤ by))) after e
-      moved p e h true t = m.moved p e (low p t) h
-      moved p e h false f = absurd (let bad : Some e ≡ None = sym h ∙ none from p f in cc)
+      moved : (p : ℤ) (e : NodePort) → old (Port from p) ≡ Some e → (p <ℤ (pos k -ℤ pos 15)) ⊎ ((pos k -ℤ pos 15) ≤ℤ p) → (new (Port to (p +ℤ by)) ≡ Some e) ⊎ Clashes (new (Port to (p +ℤ by))) after e
+      moved p e h (inl l) = m.moved p e l h
+      moved p e h (inr l) = absurd (let bad : Some e ≡ None = sym h ∙ none p l in cc)

@@ -62,7 +62,7 @@ pub(crate) fn set_end(ends: &mut PortTable, class: u32, port: i16, end: Option<N
 }
 
 /// Moves the ends of one class to another, whose ports lie so far from its own. Where both have one, the two are to
-/// be one port.
+/// be one port. Of most classes that are moved one end is known, and its place alone is looked at.
 pub(crate) fn move_ends(ends: &mut PortTable, todo: &mut Vec<Meeting>, from: u32, to: u32, by: i16)
     requires two { from ≢ to }
     requires first { 31 * from + 31 ≤ length ends.old.items }
@@ -76,7 +76,8 @@ pub(crate) fn move_ends(ends: &mut PortTable, todo: &mut Vec<Meeting>, from: u32
     ensures few { vec_len todo.new ≤ vec_len todo.old + 31 }
     ensures capacity { vec_capacity todo.new ≡ vec_capacity todo.old }
 {
-    for place in 0..PLACES {
+    let known = ends.span(from as usize);
+    for place in known.0..known.1 {
         let port = port_at(place);
         move_end(ends, todo, from, port, to, port_moved(port, by));
     }

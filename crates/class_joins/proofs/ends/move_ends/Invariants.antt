@@ -6,6 +6,7 @@ abbrev pub invariant-loop-place : goal.invariant-loop-place
 invariant-loop-place l = record {
   moved : MovesBelow l.place l.from l.to l.by (known_ends l.initial.ends.items) (known_ends l.ends.items) l.initial.todo.items l.todo.items;
   same : length l.ends.items ≡ length l.initial.ends.items;
+  within : l.place ≤ 31;
   few : vec_len l.todo ≤ vec_len l.initial.todo + l.place;
   capacity : vec_capacity l.todo ≡ vec_capacity l.initial.todo;
 }
