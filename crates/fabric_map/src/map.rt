@@ -178,6 +178,19 @@ impl FabricMap {
         }
     }
 
+    /// Adds a cable that is known not to be refused, and answers its number. It isn't tested.
+    pub fn add_new_cable(&mut self, c: MapCable) -> Result<u32, AllocError>
+        requires { cable_refusal self.old c ≡ None }
+        ensures number { IfOk result (λ k. k ≡ length self.old.cables) }
+        ensures added { OnOk result (self.new ≡ with_cable self.old c) }
+        ensures unchanged { OnErr result (self.new ≡ self.old) }
+    {
+        let number = self.cabling.cables().len() as u32;
+        let vertices = self.vertices.vertices().len();
+        self.cabling.push(c, vertices)?;
+        Ok(number)
+    }
+
     /// Sets the marks of all vertices: a host's is true.
     pub fn set_core(&mut self, core: Vec<bool>)
         requires one_each { length core.items ≡ length self.old.vertices }
@@ -225,12 +238,10 @@ impl FabricMap {
         ensures memory { IfErr result (λ e. e ≡ MapFault.NoMemory) }
         ensures unchanged { OnErr result (self.new ≡ self.old) }
     {
-        let number = self.cabling.cables().len() as u32;
-        let vertices = self.vertices.vertices().len();
-        if self.cabling.push(c, vertices).is_err() {
-            return Err(MapFault::NoMemory);
+        match self.add_new_cable(c) {
+            Ok(number) => Ok(number),
+            Err(_) => Err(MapFault::NoMemory),
         }
-        Ok(number)
     }
 
     // Why a host is refused.

@@ -4,7 +4,7 @@ ghost use Rattle.std.specs.Prelude.{◌≡◌, ◌+◌, ◌*◌, ◌<◌, ◌^�
 ghost use Rattle.fabric_map.specs.Growing.{IsFabricMap, cable_refusal, with_cable};
 ghost use Rattle.map_quotient.specs.InOrder.{cable_from, cables_below, in_order, port_of_place};
 
-use fabric_map::{FabricMap, MapCable, MapFault};
+use fabric_map::{FabricMap, MapCable};
 use std::alloc::{AllocError, Global};
 
 // The ports of one vertex.
@@ -69,9 +69,6 @@ pub(crate) fn add(map: &mut FabricMap, cable: MapCable) -> Result<(), AllocError
     requires { cable_refusal map.old cable ≡ None }
     ensures { OnOk result (map.new ≡ with_cable map.old cable) }
 {
-    match map.add_cable(cable) {
-        Ok(_) => Ok(()),
-        Err(MapFault::NoMemory) => Err(AllocError),
-        Err(_) => unreachable!(),
-    }
+    let _number = map.add_new_cable(cable)?;
+    Ok(())
 }

@@ -1,8 +1,8 @@
 use Rattle.std.proofs.Common.{◌≡◌, None, sym, subst}
 use Rattle.map_defs.specs.NetMap.{NetMap}
 use Rattle.fabric_map.specs.Growing.{IsFabricMap, cable_refusal}
-use Rattle.fabric_map.proofs.Grown.{cable-free, map-cable, on_ok}
-use Rattle.fabric_map.proofs.map.FabricMap.push_cable.Goals as goal
+use Rattle.fabric_map.proofs.Grown.{cable-free, map-cable}
+use Rattle.fabric_map.proofs.map.FabricMap.add_new_cable.Goals as goal
 
 pub push-requires-clause-free_a : goal.push-requires-clause-free_a
 push-requires-clause-free_a c =
@@ -17,5 +17,5 @@ push-requires-clause-free_b c =
 pub invariant_of-self-2 : goal.invariant_of-self-2
 invariant_of-self-2 c =
     let old : NetMap = record { vertices = c.self.inside.vertices.vertices; cables = c.self.inside.cabling; core = c.self.inside.vertices.core } in
-    subst (λ cables. IsFabricMap (record { vertices = old.vertices; cables = cables; core = old.core })) (sym (on_ok c.push.result _ c.if-is_err.ensures.value c.push.ensures.ok))
+    subst (λ cables. IsFabricMap (record { vertices = old.vertices; cables = cables; core = old.core })) (sym c.in_ok-push.ensures.ok)
     (map-cable old c.args.c c.self.invariant (subst (λ n. cable_refusal n c.args.c ≡ None) (sym c.self.view_is) c.requires))
