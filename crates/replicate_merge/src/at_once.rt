@@ -107,7 +107,15 @@ fn add_ways_at(
     let Some(place) = walks.find(e.walk.turns()) else {
         return Ok(());
     };
-    let ways = own_ways(alloc, walks, e.walk.turns(), e.answer, (place + 1) as u32)?;
+    let mut ways = Vec::new(alloc);
+    own_ways(
+        &mut ways,
+        walks,
+        e.walk.turns(),
+        e.answer,
+        (place + 1) as u32,
+        0,
+    )?;
     joined.reserve(ways.len())?;
     joined.add_ways(walks, &ways);
     Ok(())

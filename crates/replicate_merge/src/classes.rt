@@ -20,7 +20,7 @@ use crate::merged::Merged;
 use crate::pushing::{asked_behind, ways_added};
 use crate::starting::lone_host;
 use crate::ways::{TURNS, is_found};
-use class_joins::Joined;
+use class_joins::{Joined, Way};
 use net_defs::Walk;
 use port_align::ClassFrame;
 use probe::{Entry, Journal, WalkIndex};
@@ -42,6 +42,10 @@ pub struct Classes {
     // How many of its 30 turns are asked, for each node.
     asked: Vec<u8>,
     joined: Joined,
+    // The place of the walk to the node in front of the last entry. The next one is likely to leave the same node.
+    front: u32,
+    // Room for the ways of a node.
+    ways: Vec<Way>,
 }
 
 impl Model for Classes {
@@ -74,6 +78,8 @@ impl Classes {
             ahead: false,
             asked,
             joined,
+            front: 0,
+            ways: Vec::new(alloc),
         })
     }
 
@@ -94,6 +100,8 @@ impl Classes {
             ahead: true,
             asked,
             joined,
+            front: 0,
+            ways: Vec::new(alloc),
         })
     }
 
@@ -103,7 +111,7 @@ impl Classes {
         ensures pushed { OnOk result (StandsForNext self.old e.now self.new) }
         ensures unchanged { OnErr result (self.new ≡ self.old) }
     {
-        let front = front_of(&self.walks, e.walk.turns());
+        let front = front_of(&self.walks, e.walk.turns(), self.front);
         self.add_entry(alloc, e, front)?;
         match front {
             Front::Mapper => {}
@@ -139,12 +147,20 @@ impl Classes {
         ensures unchanged { OnErr result (self.new ≡ self.old) }
     {
         let walk = e.walk.turns();
-        let ways = ways_added(alloc, &self.walks, self.ahead, walk, e.answer)?;
+        ways_added(
+            alloc,
+            &mut self.ways,
+            &self.walks,
+            self.ahead,
+            walk,
+            e.answer,
+            self.front,
+        )?;
         let asked = asked_behind(alloc, &self.walks, &self.orphans, self.ahead, walk)?;
-        take_room(&mut self.joined, &mut self.asked, ways.len())?;
+        take_room(&mut self.joined, &mut self.asked, self.ways.len())?;
         self.walks.push(alloc, walk)?;
         self.asked.push_reserved(asked);
-        self.joined.grow(&self.walks, &ways, asked == TURNS);
+        self.joined.grow(&self.walks, &self.ways, asked == TURNS);
         Ok(())
     }
 
@@ -170,6 +186,7 @@ impl Classes {
         requires few { turns_of self.old node < 255 }
         ensures { CountsTurn node turn self.old self.new }
     {
+        self.front = node.saturating_sub(1);
         if turn == 0 {
             return;
         }
@@ -201,6 +218,8 @@ impl Classes {
             ahead: _,
             asked: _,
             joined,
+            front: _,
+            ways: _,
         } = self;
         let (frames, marks) = joined.into_seen();
         Merged {

@@ -1,6 +1,7 @@
 //! What stands in front of a walk's last turn.
 
-ghost use Rattle.std.specs.Prelude.{◌+◌, ◌<◌, ◌^◌, length};
+ghost use Rattle.std.specs.Prelude.{◌≡◌, ◌+◌, ◌<◌, ◌^◌, length, slice_get, true, is_some, Some, IfSome};
+ghost use Rattle.probe.specs.Keeping.{has_walk};
 ghost use Rattle.replicate_merge.specs.Between.{IsFrontOf};
 ghost use Rattle.class_joins.specs.Nodes.{nodes_of};
 
@@ -17,16 +18,37 @@ pub(crate) enum Front {
     Missing,
 }
 
-/// What stands in front of a walk, among the nodes of these.
-pub(crate) fn front_of(walks: &WalkIndex, walk: &[i8]) -> Front
+/// What stands in front of a walk, among the nodes of these. A place where its walk is likely to stand is looked at
+/// first.
+pub(crate) fn front_of(walks: &WalkIndex, walk: &[i8], likely: u32) -> Front
     requires { length walks.now + 1 < 2 ^ 32 }
     ensures { IsFrontOf (nodes_of walks.now) walk.now result }
 {
     let Some((turn, front)) = walk.split_last() else {
         return Front::Mapper;
     };
-    match walks.find(front) {
+    match find_near(walks, front, likely) {
         Some(at) => Front::Node((at + 1) as u32, *turn),
         None => Front::Missing,
     }
+}
+
+/// The place of a walk, counted from 0; none where it isn't there. A place where it is likely to stand is looked at
+/// first.
+pub(crate) fn find_near(walks: &WalkIndex, turns: &[i8], likely: u32) -> Option<usize>
+    ensures place { IfSome result (λ at. slice_get walks.now at ≡ Some turns.now) }
+    ensures found { is_some result ≡ has_walk walks.now turns.now }
+{
+    if is_at(walks, turns, likely as usize) {
+        Some(likely as usize)
+    } else {
+        walks.find(turns)
+    }
+}
+
+// Whether a walk stands at a place.
+fn is_at(walks: &WalkIndex, turns: &[i8], at: usize) -> bool
+    ensures { result ≡ true → slice_get walks.now at ≡ Some turns.now }
+{
+    at < walks.len() && walks.walk(at) == turns
 }

@@ -60,7 +60,7 @@ fn count_turn_at(j: &Journal, at: usize, walks: &WalkIndex, asked: &mut Vec<u8>)
     requires counts { CountsAsked (take at j.now.entries) (nodes_of walks.now) asked.old.items }
     ensures { CountsAsked (take (at + 1) j.now.entries) (nodes_of walks.now) asked.new.items }
 {
-    match front_of(walks, j.entries()[at].walk.turns()) {
+    match front_of(walks, j.entries()[at].walk.turns(), 0) {
         Front::Node(node, turn) => {
             if turn != 0 {
                 asked[node as usize] += 1;
@@ -106,7 +106,7 @@ fn push_orphan_at(
     if is_found(e.answer) {
         return Ok(());
     }
-    match front_of(walks, e.walk.turns()) {
+    match front_of(walks, e.walk.turns(), 0) {
         Front::Missing => orphans.push(alloc, e.walk.turns()),
         Front::Mapper => Ok(()),
         Front::Node(_, _) => Ok(()),

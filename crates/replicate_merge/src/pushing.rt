@@ -19,27 +19,29 @@ const ALL_TURNS: usize = 31;
 // The turns of a node other than 0 are so many.
 const ONWARD_TURNS: usize = 30;
 
-/// The ways that an entry adds: of its host, between its node and the node in front, and between it and each node
-/// behind that was there before it. None was where no walk was asked ahead of its front.
+/// Puts the ways that an entry adds in the place of others: of its host, between its node and the node in front, and
+/// between it and each node behind that was there before it. None was where no walk was asked ahead of its front.
 pub(crate) fn ways_added(
     alloc: Global,
+    ways: &mut Vec<Way>,
     walks: &WalkIndex,
     ahead: bool,
     walk: &[i8],
     answer: Answer,
-) -> Result<Vec<Way>, AllocError>
+    likely: u32,
+) -> Result<(), AllocError>
     requires few { length walks.now + 1 < 2 ^ 32 }
     requires once { AreOnce (nodes_of walks.now) }
-    ensures { IfOk result (λ ways. AreNewWays (nodes_of walks.now) (record { walk = walk.now; answer = answer })
-        (length walks.now + 1) ahead ways.items) }
+    ensures { OnOk result (AreNewWays (nodes_of walks.now) (record { walk = walk.now; answer = answer })
+        (length walks.now + 1) ahead ways.new.items) }
 {
     let node = (walks.len() + 1) as u32;
-    let mut ways = own_ways(alloc, walks, walk, answer, node)?;
+    own_ways(ways, walks, walk, answer, node, likely)?;
     if !ahead {
-        return Ok(ways);
+        return Ok(());
     }
-    push_all_behind(alloc, &mut ways, walks, walk, node)?;
-    Ok(ways)
+    push_all_behind(alloc, ways, walks, walk, node)?;
+    Ok(())
 }
 
 // Adds the ways between a node and each behind it that was there before it.

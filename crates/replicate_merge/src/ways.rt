@@ -7,6 +7,7 @@ ghost use Rattle.replicate_merge.specs.Cables.{host_ways, both_ways, AddsCables}
 ghost use Rattle.replicate_merge.specs.Onward.{AreOnce};
 ghost use Rattle.replicate_merge.specs.Own.{AreOwnWays};
 
+use crate::fronts::find_near;
 use class_joins::Way;
 use net_defs::Answer;
 use probe::WalkIndex;
@@ -25,23 +26,25 @@ pub(crate) fn is_found(answer: Answer) -> bool
     }
 }
 
-/// The ways that an entry tells of by itself: of the host at its node, and between its node and the one in front.
+/// Puts the ways that an entry tells of by itself in the place of others: of the host at its node, and between its node
+/// and the one in front, whose walk is looked for first at a place where it is likely to stand.
 pub(crate) fn own_ways(
-    alloc: Global,
+    ways: &mut Vec<Way>,
     walks: &WalkIndex,
     walk: &[i8],
     answer: Answer,
     node: u32,
-) -> Result<Vec<Way>, AllocError>
+    likely: u32,
+) -> Result<(), AllocError>
     requires few { length walks.now + 1 < 2 ^ 32 }
     requires once { AreOnce (nodes_of walks.now) }
-    ensures { IfOk result (λ ways. AreOwnWays (nodes_of walks.now) (record { walk = walk.now; answer = answer }) node
-        ways.items) }
+    ensures { OnOk result (AreOwnWays (nodes_of walks.now) (record { walk = walk.now; answer = answer }) node
+        ways.new.items) }
 {
-    let mut ways = Vec::new(alloc);
-    push_host(&mut ways, Some(answer), node)?;
-    push_cables(&mut ways, walks, walk, node)?;
-    Ok(ways)
+    ways.clear();
+    push_host(ways, Some(answer), node)?;
+    push_cables(ways, walks, walk, node, likely)?;
+    Ok(())
 }
 
 // Adds the way of a node that is a host.
@@ -60,6 +63,7 @@ fn push_cables(
     walks: &WalkIndex,
     walk: &[i8],
     node: u32,
+    likely: u32,
 ) -> Result<(), AllocError>
     requires { length walks.now + 1 < 2 ^ 32 }
     ensures { OnOk result (AddsCables walks.now walk.now node ways.old.items ways.new.items) }
@@ -67,7 +71,7 @@ fn push_cables(
     let Some((turn, front)) = walk.split_last() else {
         return push_both(ways, 0, 0, node);
     };
-    match walks.find(front) {
+    match find_near(walks, front, likely) {
         Some(at) => push_both(ways, (at + 1) as u32, *turn, node),
         None => Ok(()),
     }

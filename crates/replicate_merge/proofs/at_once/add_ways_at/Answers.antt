@@ -66,8 +66,8 @@ add_ways-requires-clause-some c =
     let found : slice_get walks c.in-Some.place ≡ Some e.walk = c.in-Some.ensures.place ∙ ap (λ w. Some w) c.turns.ensures.value in
     let node = walk-node walks c.in-Some.place e.walk found in
     let n = c.in-Some.place + 1 in
-    let more = c.in_ok-ways.ways.items in
-    let news : AreOwnWays (nodes_of walks) e n more = subst (λ w. AreOwnWays (nodes_of walks) (record { walk = w; answer = e.answer }) n more) c.turns-2.ensures.value c.in_ok-ways.ensures in
+    let more = c.own_ways.new.ways.items in
+    let news : AreOwnWays (nodes_of walks) e n more = subst (λ w. AreOwnWays (nodes_of walks) (record { walk = w; answer = e.answer }) n more) c.turns-2.ensures.value c.in_ok-own_ways.ensures in
     let room = c.reserve.new.self in
     subst (λ (ws : List Way). MayAddWays (nodes_of walks) room ws) (sym c.deref.ensures.value) (ways-may c.args.j.now.host j once walks c.requires.nodes k e at c.args.joined.now c.requires.before n node.0 node.1 more news room c.reserve.ensures.same)
 
@@ -82,8 +82,8 @@ returns c =
     let found : slice_get walks c.in-Some.place ≡ Some e.walk = c.in-Some.ensures.place ∙ ap (λ w. Some w) c.turns.ensures.value in
     let node = walk-node walks c.in-Some.place e.walk found in
     let n = c.in-Some.place + 1 in
-    let more = c.in_ok-ways.ways.items in
-    let news : AreOwnWays (nodes_of walks) e n more = subst (λ w. AreOwnWays (nodes_of walks) (record { walk = w; answer = e.answer }) n more) c.turns-2.ensures.value c.in_ok-ways.ensures in
+    let more = c.own_ways.new.ways.items in
+    let news : AreOwnWays (nodes_of walks) e n more = subst (λ w. AreOwnWays (nodes_of walks) (record { walk = w; answer = e.answer }) n more) c.turns-2.ensures.value c.in_ok-own_ways.ensures in
     let room = c.reserve.new.self in
     let new = c.add_ways.new.self in
     let adds : AddsWays (nodes_of walks) more room new = subst (λ (ws : List Way). AddsWays (nodes_of walks) ws room new) c.deref.ensures.value c.add_ways.ensures.adds in

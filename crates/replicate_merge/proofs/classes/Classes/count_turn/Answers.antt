@@ -13,7 +13,7 @@ mark-requires-clause-numbered c =
     let r : ReadsNode table c.args.node = reads-node table c.args.node refl c.self.invariant.0 c.self.invariant.1 below in
     r.number
 
-pub invariant_of-self : goal.invariant_of-self
-invariant_of-self c =
+pub invariant_of-self-then-asked-eq-TURNS : goal.invariant_of-self-then-asked-eq-TURNS
+invariant_of-self-then-asked-eq-TURNS c =
     let t = c.self.inside in
     marked-whole t.walks t.joined c.mark.new.self c.args.node t.asked.items _ t.orphans t.ahead c.mark.ensures (length-set t.asked.items c.args.node _) c.self.invariant

@@ -29,13 +29,13 @@ take_room-requires-clause-few c =
 
 pub take_room-requires-clause-few_ways : goal.take_room-requires-clause-few_ways
 take_room-requires-clause-few_ways c =
-    let few = c.in_ok-ways.ensures.few in
+    let few = c.in_ok-ways_added.ensures.few in
     let n = c.len.ensures in
-    let o = c.in_ok-ways.ways.ok.0 in
+    let o = c.ways_added.new.ways.ok.0 in
     omega arith
 
-pub invariant_of-self : goal.invariant_of-self
-invariant_of-self c =
+pub invariant_of-self-in_err-take_room : goal.invariant_of-self-in_err-take_room
+invariant_of-self-in_err-take_room c =
     let s = c.self.inside in
     room-whole s.walks s.walks s.joined c.take_room.new.joined s.asked.items c.take_room.new.asked.items s.orphans s.ahead refl c.take_room.ensures.same c.take_room.ensures.same_asked c.self.invariant
 
@@ -65,10 +65,10 @@ grow-requires-clause-may c =
     let e = c.args.e.now in
     let walk = c.turns-walk.result.now in
     let room = c.take_room.new.joined in
-    let ways = c.in_ok-ways.ways.items in
+    let ways = c.ways_added.new.ways.items in
     let count = c.in_ok-asked.asked in
     let after = c.push.new.self in
-    subst (λ (ws : List Way). MayGrow (nodes_of after) room ws (nat_eq count 30)) (sym c.deref.ensures.value) (node-may c.args.self.now e s.walks s.joined room s.asked.items s.orphans s.ahead c.self.view_is c.take_room.ensures.same c.requires.found walk c.turns-walk.ensures.value ways c.in_ok-ways.ensures count c.in_ok-asked.ensures.looked c.in_ok-asked.ensures.none after c.in_ok-push.ensures.ok c.requires.next)
+    subst (λ (ws : List Way). MayGrow (nodes_of after) room ws (nat_eq count 30)) (sym c.deref.ensures.value) (node-may c.args.self.now e s.walks s.joined room s.asked.items s.orphans s.ahead c.self.view_is c.take_room.ensures.same c.requires.found walk c.turns-walk.ensures.value ways c.in_ok-ways_added.ensures count c.in_ok-asked.ensures.looked c.in_ok-asked.ensures.none after c.in_ok-push.ensures.ok c.requires.next)
 
 pub grow-requires-clause-closed : goal.grow-requires-clause-closed
 grow-requires-clause-closed c = c.take_room.ensures.same.todo ∙ c.self.invariant.2
@@ -85,16 +85,16 @@ pub grow-requires-clause-place : goal.grow-requires-clause-place
 grow-requires-clause-place c =
     let room = c.in_ok-take_room.ensures.hosts in
     let n = c.len.ensures in
-    let o = c.in_ok-ways.ways.ok.0 in
-    let l : length c.deref.result.now ≡ length c.in_ok-ways.ways.items = ap length c.deref.ensures.value in
+    let o = c.ways_added.new.ways.ok.0 in
+    let l : length c.deref.result.now ≡ length c.ways_added.new.ways.items = ap length c.deref.ensures.value in
     omega arith
 
 pub grow-requires-clause-room : goal.grow-requires-clause-room
 grow-requires-clause-room c =
     let room = c.in_ok-take_room.ensures.todo in
     let n = c.len.ensures in
-    let o = c.in_ok-ways.ways.ok.0 in
-    let l : length c.deref.result.now ≡ length c.in_ok-ways.ways.items = ap length c.deref.ensures.value in
+    let o = c.ways_added.new.ways.ok.0 in
+    let l : length c.deref.result.now ≡ length c.ways_added.new.ways.items = ap length c.deref.ensures.value in
     omega arith
 
 pub invariant_of-self-2 : goal.invariant_of-self-2
@@ -103,14 +103,14 @@ invariant_of-self-2 c =
     let e = c.args.e.now in
     let walk = c.turns-walk.result.now in
     let room = c.take_room.new.joined in
-    let ways = c.in_ok-ways.ways.items in
+    let ways = c.ways_added.new.ways.items in
     let count = c.in_ok-asked.asked in
     let after = c.push.new.self in
     let new = c.grow.new.self in
     let counted = c.push_reserved.new.self.items in
     let counts : counted ≡ s.asked.items ++ count ∷ [] = c.push_reserved.ensures.items ∙ ap (λ (l : List ℕ). l ++ count ∷ []) c.take_room.ensures.same_asked in
     let grows : Grows (nodes_of after) ways (nat_eq count 30) room new = subst (λ (ws : List Way). Grows (nodes_of after) ws (nat_eq count 30) room new) c.deref.ensures.value c.grow.ensures.grows in
-    (node-table c.args.self.now e s.walks s.joined room s.asked.items s.orphans s.ahead c.self.view_is c.take_room.ensures.same c.requires.found walk c.turns-walk.ensures.value ways c.in_ok-ways.ensures count c.in_ok-asked.ensures.looked c.in_ok-asked.ensures.none after c.in_ok-push.ensures.ok new grows counted counts c.requires.next, node-shape c.args.self.now e s.walks s.joined room s.asked.items s.orphans s.ahead c.self.view_is c.take_room.ensures.same c.requires.found walk c.turns-walk.ensures.value ways c.in_ok-ways.ensures count c.in_ok-asked.ensures.looked c.in_ok-asked.ensures.none after c.in_ok-push.ensures.ok new grows counted counts c.requires.next, c.grow.ensures.done)
+    (node-table c.args.self.now e s.walks s.joined room s.asked.items s.orphans s.ahead c.self.view_is c.take_room.ensures.same c.requires.found walk c.turns-walk.ensures.value ways c.in_ok-ways_added.ensures count c.in_ok-asked.ensures.looked c.in_ok-asked.ensures.none after c.in_ok-push.ensures.ok new grows counted counts c.requires.next, node-shape c.args.self.now e s.walks s.joined room s.asked.items s.orphans s.ahead c.self.view_is c.take_room.ensures.same c.requires.found walk c.turns-walk.ensures.value ways c.in_ok-ways_added.ensures count c.in_ok-asked.ensures.looked c.in_ok-asked.ensures.none after c.in_ok-push.ensures.ok new grows counted counts c.requires.next, c.grow.ensures.done)
 
 pub returns-clause-adds : goal.returns-clause-adds
 returns-clause-adds c =
@@ -118,11 +118,11 @@ returns-clause-adds c =
     let e = c.args.e.now in
     let walk = c.turns-walk.result.now in
     let room = c.take_room.new.joined in
-    let ways = c.in_ok-ways.ways.items in
+    let ways = c.ways_added.new.ways.items in
     let count = c.in_ok-asked.asked in
     let after = c.push.new.self in
     let new = c.grow.new.self in
     let counted = c.push_reserved.new.self.items in
     let counts : counted ≡ s.asked.items ++ count ∷ [] = c.push_reserved.ensures.items ∙ ap (λ (l : List ℕ). l ++ count ∷ []) c.take_room.ensures.same_asked in
     let grows : Grows (nodes_of after) ways (nat_eq count 30) room new = subst (λ (ws : List Way). Grows (nodes_of after) ws (nat_eq count 30) room new) c.deref.ensures.value c.grow.ensures.grows in
-    node-adds c.args.self.now e s.walks s.joined room s.asked.items s.orphans s.ahead c.self.view_is c.take_room.ensures.same c.requires.found walk c.turns-walk.ensures.value ways c.in_ok-ways.ensures count c.in_ok-asked.ensures.looked c.in_ok-asked.ensures.none after c.in_ok-push.ensures.ok new grows counted counts
+    node-adds c.args.self.now e s.walks s.joined room s.asked.items s.orphans s.ahead c.self.view_is c.take_room.ensures.same c.requires.found walk c.turns-walk.ensures.value ways c.in_ok-ways_added.ensures count c.in_ok-asked.ensures.looked c.in_ok-asked.ensures.none after c.in_ok-push.ensures.ok new grows counted counts
