@@ -1,6 +1,7 @@
 -- Lines that are written in more than one part: the first words, and those behind them.
-use Rattle.std.proofs.Common.{ℕ, ℤ, ◌≡◌, List, [], ◌∷◌, ◌++◌, ap, sym, ◌∙◌, map, codes}
+use Rattle.std.proofs.Common.{ℕ, ℤ, ◌≡◌, ◌<◌, ◌≤◌, ◌+◌, ◌-◌, ◌/◌, ◌%◌, List, [], ◌∷◌, ◌++◌, ap, sym, ◌∙◌, map, codes, decimal, arith}
 use Rattle.std.specs.Prelude.{flat_map}
+use Rattle.std.proofs.lemmas.Fmt.{decimal_digit, decimal_step}
 use Rattle.std.proofs.lemmas.Grind.{flat_map-append}
 use Rattle.std.proofs.lemmas.List.{append_assoc}
 use Rattle.std.proofs.lemmas.List.Folds.{flat_map-map}
@@ -48,3 +49,12 @@ placed old xs ys {t} {u} e f g =
     followed_by old (map place_text xs) (codes "recv" ∷ map place_text ys)
     (e ∙ ap (λ z. old ++ z) (sym (places_behind xs)))
     (followed_by t (codes "recv" ∷ []) (map place_text ys) f (g ∙ ap (λ z. u ++ z) (sym (places_behind ys))))
+
+-- a number from 10 to 19 is written as a one, and then what is above 10
+pub teen : (n : ℕ) → 10 ≤ n → n < 20 → 49 ∷ (48 + (n - 10)) ∷ [] ≡ decimal n
+teen n least most =
+    let tens : n / 10 ≡ 1 = omega arith in
+    let ones : n % 10 ≡ n - 10 = omega arith in
+    sym
+    (decimal_step n least (omega arith) ∙ (λ i. decimal (tens i) ++ (48 + ones i) ∷ [])
+    ∙ ap (λ l. l ++ (48 + (n - 10)) ∷ []) (decimal_digit 1 (omega arith)))

@@ -1,6 +1,6 @@
 //! The lines of maps, routes and ranks.
 
-ghost use Rattle.std.specs.Prelude.{◌≡◌, ◌++◌, ◌∷◌, [], OnOk, codes, decimal, flat_map};
+ghost use Rattle.std.specs.Prelude.{◌≡◌, ◌<◌, ◌≤◌, ◌++◌, ◌∷◌, [], OnOk, codes, decimal, flat_map};
 ghost use Rattle.fab_text.specs.Written.{spaced};
 ghost use Rattle.run_defs.specs.LineText.{map_words, turn_text, words_in};
 ghost use Rattle.run_defs.specs.declared.line.Line.TheVariants.{Map, MapBusy, Route, Rank};
@@ -121,10 +121,31 @@ pub(crate) fn route_line(
     requires to { IsHost f.now to }
     ensures { OnOk result (text.new.items ≡ text.old.items ++ spaced (words_in f.now (Route from to turns.now))) }
 {
-    let sender = Text(f.name_of(Vertex::Host(from)));
-    let receiver = Text(f.name_of(Vertex::Host(to)));
-    append_words(text, &[Text(b"route"), sender, receiver])?;
+    let sender = f.name_of(Vertex::Host(from));
+    let receiver = f.name_of(Vertex::Host(to));
+    append_ends(text, sender, receiver)?;
     append_turns(text, turns)
+}
+
+// The words of a route but its turns. Most lines of a report are routes, so none of these is made a `Word` first.
+fn append_ends(text: &mut Vec<u8>, sender: &[u8], receiver: &[u8]) -> Result<(), AllocError>
+    ensures { OnOk result (text.new.items ≡ text.old.items
+        ++ spaced (codes "route" ∷ sender.now ∷ receiver.now ∷ [])) }
+{
+    append_bytes(text, b"route ")?;
+    append_bytes(text, sender)?;
+    text.push(b' ')?;
+    append_bytes(text, receiver)
+}
+
+// A word or a name. Most are so short that less is taken byte by byte than by a copy.
+fn append_bytes(text: &mut Vec<u8>, bytes: &[u8]) -> Result<(), AllocError>
+    ensures { OnOk result (text.new.items ≡ text.old.items ++ bytes.now) }
+{
+    for byte in bytes {
+        text.push(*byte)?;
+    }
+    Ok(())
 }
 
 // The turns of a route.
@@ -149,15 +170,50 @@ fn append_turn(text: &mut Vec<u8>, turn: i8) -> Result<(), AllocError>
 fn append_bare_turn(text: &mut Vec<u8>, turn: i8) -> Result<(), AllocError>
     ensures { OnOk result (text.new.items ≡ text.old.items ++ turn_text turn) }
 {
-    let size = u64::from(turn.unsigned_abs());
+    let size = turn.unsigned_abs();
     if turn > 0 {
-        append_marked(text, b'+', size)
+        append_signed(text, b'+', size)
     } else if turn < 0 {
-        append_marked(text, b'-', size)
+        append_signed(text, b'-', size)
     } else {
         text.push(b'0')?;
         Ok(())
     }
+}
+
+// A sign and a number. A turn has no more than 15, so its digits are known without a division.
+fn append_signed(text: &mut Vec<u8>, sign: u8, size: u8) -> Result<(), AllocError>
+    ensures { OnOk result (text.new.items ≡ text.old.items ++ sign ∷ decimal size) }
+{
+    if size < 10 {
+        append_digit(text, sign, size)
+    } else if size < 20 {
+        append_teen(text, sign, size)
+    } else {
+        append_marked(text, sign, u64::from(size))
+    }
+}
+
+// A sign and a number of one digit.
+fn append_digit(text: &mut Vec<u8>, sign: u8, size: u8) -> Result<(), AllocError>
+    requires { size < 10 }
+    ensures { OnOk result (text.new.items ≡ text.old.items ++ sign ∷ decimal size) }
+{
+    text.push(sign)?;
+    text.push(b'0' + size)?;
+    Ok(())
+}
+
+// A sign and a number from 10 to 19.
+fn append_teen(text: &mut Vec<u8>, sign: u8, size: u8) -> Result<(), AllocError>
+    requires least { 10 ≤ size }
+    requires most { size < 20 }
+    ensures { OnOk result (text.new.items ≡ text.old.items ++ sign ∷ decimal size) }
+{
+    text.push(sign)?;
+    text.push(b'1')?;
+    text.push(b'0' + (size - 10))?;
+    Ok(())
 }
 
 // `rank V P R`

@@ -1,6 +1,6 @@
 //! A word, as it is written.
 
-ghost use Rattle.std.specs.Prelude.{◌≡◌, ◌<◌, ◌++◌, ◌∷◌, OnOk, codes, decimal};
+ghost use Rattle.std.specs.Prelude.{◌≡◌, ◌<◌, ◌≤◌, ◌++◌, ◌∷◌, OnOk, codes, decimal};
 ghost use Rattle.hex.specs.Hex.{encode_lower};
 ghost use Rattle.line_writing.specs.Words.{word_text};
 
@@ -36,13 +36,15 @@ pub(crate) fn append_word(text: &mut Vec<u8>, word: &Word) -> Result<(), AllocEr
     }
 }
 
-// A number in decimal. Most have one digit, which needs no buffer.
+// A number in decimal. Most have one digit or two, which need no buffer.
 #[inline(always)]
 fn append_number(text: &mut Vec<u8>, number: u64) -> Result<(), AllocError>
     ensures { OnOk result (text.new.items ≡ text.old.items ++ decimal number) }
 {
     if number < 10 {
         append_digit(text, number as u8)
+    } else if number < 100 {
+        append_two_digits(text, number as u8)
     } else {
         append_digits(text, number)
     }
@@ -55,6 +57,15 @@ fn append_digit(text: &mut Vec<u8>, number: u8) -> Result<(), AllocError>
 {
     text.push(b'0' + number)?;
     Ok(())
+}
+
+// A number of two digits.
+fn append_two_digits(text: &mut Vec<u8>, number: u8) -> Result<(), AllocError>
+    requires { (10 ≤ number) × (number < 100) }
+    ensures { OnOk result (text.new.items ≡ text.old.items ++ decimal number) }
+{
+    append_digit(text, number / 10)?;
+    append_digit(text, number % 10)
 }
 
 // A number of any digits. Its buffer is no part of what each word pays for.

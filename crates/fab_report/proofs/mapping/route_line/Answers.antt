@@ -9,5 +9,5 @@ pub returns : goal.returns
 returns c =
     on_ok_weaker c.append_turns.result
     (routed c.args.text.now.items (host_name c.args.f.now c.args.from) (host_name c.args.f.now c.args.to) c.args.turns.now
-    (c.in_ok-append_words.ensures ∙ (λ i. c.args.text.now.items ++ spaced (codes "route" ∷ c.name_of.ensures i ∷ c.name_of-2.ensures i ∷ []))))
+    (c.in_ok-append_ends.ensures ∙ (λ i. c.args.text.now.items ++ spaced (codes "route" ∷ c.name_of-sender.ensures i ∷ c.name_of-receiver.ensures i ∷ []))))
     c.append_turns.ensures
