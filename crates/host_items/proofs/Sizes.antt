@@ -1,15 +1,13 @@
--- The bytes of a part fit into a packet, and what a packet is built of may stand for what it is.
-use Rattle.std.proofs.Common.{◌≡◌, ◌≤◌, ◌+◌, ◌*◌, ◌^◌, ℕ, suc, List, [], ◌∷◌, ◌++◌, Bool, true, ◌&&◌, map, length, nat_lt, nat_le, refl, ◌∙◌, arith}
-use Rattle.std.specs.Prelude.{ℤ, Result, Ok, Err, IfOk}
+-- The bytes of a part fit into a packet.
+use Rattle.std.proofs.Common.{◌≡◌, ◌≤◌, ◌+◌, ◌*◌, ◌^◌, ℕ, suc, List, [], ◌∷◌, ◌++◌, Bool, true, ◌&&◌, map, length, nat_lt, nat_le, refl, arith}
+use Rattle.std.specs.Prelude.{ℤ}
 use Rattle.std.specs.List.{list_all}
 use Rattle.std.specs.Int.{w16, w32, to_be_bytes}
 use Rattle.std.proofs.lemmas.Bool.{and_parts}
 use Rattle.std.proofs.lemmas.Bool.Decides.{nat_tests}
 use Rattle.std.proofs.lemmas.List.{length-append, length-map}
 use Rattle.net_defs.specs.Turn.{is_turn}
-use Rattle.packet_defs.specs.declared.kind.Kind.TheVariants.{Mapping}
 use Rattle.packet_defs.specs.RouteByte.{route_byte}
-use Rattle.packet_defs.specs.Packet.{packet_of}
 use Rattle.mapping_defs.specs.Mapping.{RouteEntry, RoutePart, mapping_bytes, is_part, is_route, are_entries, entry_bytes, route_bytes}
 use Rattle.mapping_defs.specs.Mapping.MappingBody.{Part}
 
@@ -62,9 +60,3 @@ part-short p h =
     length-append (route_bytes p.back) (length p.entries ∷ entry_bytes p.entries) in
     let one : length (length p.entries ∷ entry_bytes p.entries) ≡ suc (length (entry_bytes p.entries)) = refl in
     omega arith
-
--- a packet that was built of a route and bytes is that of what they are
-pub packet-as : {E : Type 0} (r : Result (List ℕ) E) (route walk : List ℤ) (payload body : List ℕ) → route ≡ walk → payload ≡ body
-    → IfOk r (λ p. p ≡ packet_of route Mapping payload) → IfOk r (λ p. p ≡ packet_of walk Mapping body)
-packet-as (Ok p) route walk payload body e f h = h ∙ (λ i. packet_of (e i) Mapping (f i))
-packet-as (Err x) route walk payload body e f h = h

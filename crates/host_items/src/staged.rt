@@ -8,7 +8,7 @@ ghost use Rattle.host_items.specs.Held.{staged_of, IsSendable};
 
 use crate::probing::{MAX_BODY, body_packet};
 use crate::route::{there_and_back, turns_back};
-use myri_packet::{Kind, Packet, encode, packet_front, seal};
+use myri_packet::{Kind, Packet, packet_front, seal};
 use net_defs::Walk;
 use probe::{ProbeBody, append_host_probe};
 use route_parts::RoutePart;
@@ -83,11 +83,15 @@ fn loop_packet(alloc: Global, host: u16, number: u64, walk: &Walk) -> Result<Pac
     body_packet(alloc, &route[..2 * turns.len() + 1], &body)
 }
 
-// The packet of a part of a table.
+// Room for a part of a table whose routes are short.
+const PART_ROOM: usize = 128;
+
+// The packet of a part of a table. Its body is written into the packet's own buffer.
 fn part_packet(alloc: Global, part: &RoutePart, by: &Walk) -> Result<Packet, AllocError>
     requires { is_part part.now ≡ true }
     ensures { IfOk result (λ p. p ≡ packet_of by.now Kind.Mapping (mapping_bytes (MappingBody.Part part.now))) }
 {
-    let payload = part.encode(alloc)?;
-    encode(alloc, by.turns(), Kind::Mapping, &payload)
+    let mut bytes = packet_front(alloc, by.turns(), Kind::Mapping, PART_ROOM)?;
+    part.append(&mut bytes)?;
+    seal(bytes)
 }

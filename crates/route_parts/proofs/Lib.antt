@@ -1,2 +1,3 @@
+mod Appended
 pub mod Entries
 pub mod Parts

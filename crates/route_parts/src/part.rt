@@ -20,6 +20,9 @@ use turn_bytes::push_route;
 // The kind of its body.
 const KIND: u8 = 4;
 
+// Room for a part whose routes are short.
+const ROOM: usize = 128;
+
 /// A part of a host's table. Contracts see the part of the definitions.
 #[derive(Debug, Drop)]
 pub struct RoutePart {
@@ -61,10 +64,19 @@ impl RoutePart {
         ensures read { IfOk result (λ bytes. decode_mapping bytes.items ≡ Some (MappingBody.Part self.now)) }
     {
         mapping_is_read();
-        let mut bytes = numbers_of(alloc, self)?;
-        push_route(&mut bytes, self.back.turns())?;
-        push_entries(&mut bytes, self.entries.list())?;
+        let mut bytes = Vec::with_capacity(alloc, ROOM)?;
+        self.append(&mut bytes)?;
         Ok(bytes)
+    }
+
+    /// Its bytes behind others. Where memory is wanting, a part of them may stand there.
+    pub fn append(&self, bytes: &mut Vec<u8>) -> Result<(), AllocError>
+        requires { is_part self.now ≡ true }
+        ensures { OnOk result (bytes.new.items ≡ bytes.old.items ++ mapping_bytes (MappingBody.Part self.now)) }
+    {
+        append_numbers(bytes, self)?;
+        push_route(bytes, self.back.turns())?;
+        push_entries(bytes, self.entries.list())
     }
 
     /// The part that is all of the bytes. `Malformed` exactly where they are none, before it takes memory.
@@ -83,19 +95,19 @@ impl RoutePart {
     }
 }
 
-// The kind and the numbers in front of a part, with room for short routes.
-fn numbers_of(alloc: Global, part: &RoutePart) -> Result<Vec<u8>, AllocError>
-    ensures { IfOk result (λ bytes. bytes.items ≡ 4 ∷ to_be_bytes w32 part.now.epoch
-        ++ to_be_bytes w16 part.now.mapper ++ to_be_bytes w16 part.now.dst ++ part.now.part ∷ part.now.parts ∷ []) }
+// The kind and the numbers in front of a part.
+fn append_numbers(bytes: &mut Vec<u8>, part: &RoutePart) -> Result<(), AllocError>
+    ensures { OnOk result (bytes.new.items ≡ bytes.old.items
+        ++ 4 ∷ to_be_bytes w32 part.now.epoch ++ to_be_bytes w16 part.now.mapper
+        ++ to_be_bytes w16 part.now.dst ++ part.now.part ∷ part.now.parts ∷ []) }
 {
-    let mut bytes = Vec::with_capacity(alloc, 64)?;
     bytes.push(KIND)?;
     bytes.extend_from_slice(&part.epoch.to_be_bytes())?;
     bytes.extend_from_slice(&part.mapper.to_be_bytes())?;
     bytes.extend_from_slice(&part.dst.to_be_bytes())?;
     bytes.push(part.part)?;
     bytes.push(part.parts)?;
-    Ok(bytes)
+    Ok(())
 }
 
 // Adds entries at the end of bytes, with their number before them.
