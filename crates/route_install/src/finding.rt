@@ -20,9 +20,6 @@ use route_parts::TableEntry;
 // The most entries of a part.
 const PART_SIZE: usize = 8;
 
-// A table has fewer entries: it has one for each other host of a fabric at most.
-const PLACES: usize = 128;
-
 /// Whether the hosts of the entries rise, from the first entry of the first part on.
 pub(crate) fn are_rising(parts: &[Collected]) -> bool
     ensures { result ≡ are_rising (joined_all parts.now) }
@@ -100,30 +97,32 @@ fn entry_for<'a>(parts: &'a [Collected], place: usize, to: u16) -> Option<&'a Ta
     }
 }
 
-// An entry for a host, looked for by halves.
+// An entry for a host, looked for by halves: a part by the last hosts of the parts, and then an entry of it.
 fn by_halves<'a>(parts: &'a [Collected], to: u16) -> Option<&'a TableEntry>
     ensures there { IfSome result (λ e. IsEntryOf parts.now e.now) }
     ensures to { IfSome result (λ e. e.now.to ≡ to) }
 {
-    let mut low = 0;
-    let mut high = PLACES;
-    'halving: while low < high {
-        let middle = low + (high - low) / 2;
-        match entry_at(parts, middle) {
-            Some(entry) => {
-                if entry.to == to {
-                    return Some(entry);
-                }
-                if entry.to < to {
-                    low = middle + 1;
-                } else {
-                    high = middle;
-                }
-            }
-            None => high = middle,
-        }
+    let part = parts.partition_point(|part| ends_below(part.entries(), to));
+    match entry_in(parts, part, place_in(parts, part, to)) {
+        Some(entry) => { if entry.to == to { Some(entry) } else { None } }
+        None => None,
     }
-    None
+}
+
+// Whether the last of entries is for a lesser host.
+fn ends_below(entries: &[TableEntry], to: u16) -> bool {
+    match entries.last() {
+        Some(last) => last.to < to,
+        None => true,
+    }
+}
+
+// The place that an entry for a host has among those of a part, if it has one there.
+fn place_in(parts: &[Collected], part: usize, to: u16) -> usize {
+    match parts.get(part) {
+        Some(part) => part.entries().partition_point(|entry| entry.to < to),
+        None => 0,
+    }
 }
 
 // The entry at a place of a table that is one part, or has full parts but for the last.
