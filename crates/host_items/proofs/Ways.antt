@@ -1,13 +1,15 @@
--- A way back that is written turn after turn.
-use Rattle.std.proofs.Common.{◌≡◌, ◌<◌, ◌≤◌, ◌+◌, ◌-◌, ◌*◌, ℕ, suc, List, [], ◌∷◌, ◌++◌, take, drop, replicate, set, get_or, length, length-append, append_assoc, sym, ap, ◌∙◌, arith}
-use Rattle.std.specs.Prelude.{ℤ, pos, neg_ℤ, reverse, All}
-use Rattle.std.proofs.Math.Seq.{take-append_seam}
-use Rattle.std.proofs.lemmas.List.{take_more, take_more_set, get_or-map, get_or-reverse, get_or_default, drop-replicate, length-map, length-reverse}
+-- A way back that is written turn after turn, and the heads of probes piece behind piece.
+use Rattle.std.proofs.Common.{◌≡◌, ◌<◌, ◌+◌, ◌-◌, ◌*◌, ℕ, List, [], ◌∷◌, ◌++◌, take, map, set, get_or, length, append_assoc, sym, ap, ◌∙◌, arith}
+use Rattle.std.specs.Prelude.{ℤ, pos, neg_ℤ, reverse}
+use Rattle.std.proofs.lemmas.List.{take_more, take_more_set, get_or-map, get_or-reverse, length-map, length-reverse, map-append}
 use Rattle.std.proofs.lemmas.Bool.Decides.{nat_tests}
 use Rattle.std.proofs.lemmas.Int.{ints, to_z-of_z}
 use mir.Syntax.{w8}
 use mir.Val.{to_z, of_z, SFits}
 use Rattle.net_defs.specs.Turn.{IsTurn}
+use Rattle.packet_defs.specs.declared.kind.Kind.TheVariants.{Mapping}
+use Rattle.packet_defs.specs.RouteByte.{route_byte}
+use Rattle.packet_defs.specs.Packet.{head_of}
 use Rattle.world_defs.specs.Node.{way_back}
 
 pub opposite_turn : (turn result : ℤ) → IsTurn turn → result ≡ neg_ℤ turn → IsTurn result
@@ -23,38 +25,56 @@ turn-kept turn h = to_z-of_z w8 turn (fits turn h)
 pub way-length : (turns : List ℤ) → length (way_back turns) ≡ length turns
 way-length turns = length-map (reverse turns) neg_ℤ ∙ length-reverse turns
 
-pub way-written : (back turns : List ℤ) (place : ℕ) (turn put : ℤ) → place < length back → place < length turns → put ≡ turn → turn ≡ neg_ℤ (get_or turns (length turns - 1 - place) (pos 0))
-    → take place back ≡ take place (way_back turns) → take (place + 1) (set back place put) ≡ take (place + 1) (way_back turns)
-way-written back turns place turn put room low same is before =
+-- the route byte of one turn more of the way back
+pub way-written : (bytes : List ℕ) (turns : List ℤ) (place put : ℕ) (turn : ℤ) → place < length bytes → place < length turns → put ≡ route_byte turn → turn ≡ neg_ℤ (get_or turns (length turns - 1 - place) (pos 0))
+    → take place bytes ≡ take place (map route_byte (way_back turns)) → take (place + 1) (set bytes place put) ≡ take (place + 1) (map route_byte (way_back turns))
+way-written bytes turns place put turn room low same is before =
+    let way = way_back turns in
     let long : place < length (reverse turns) = omega (arith, low, length-reverse turns) in
-    let far : place < length (way_back turns) = omega (arith, low, way-length turns) in
-    take_more_set back place put room
+    let far : place < length way = omega (arith, low, way-length turns) in
+    let end : place < length (map route_byte way) = omega (arith, far, length-map way route_byte) in
+    let here : turn ≡ get_or way place (pos 0) = is ∙ ap neg_ℤ (sym (get_or-reverse turns place (pos 0) low)) ∙ sym (get_or-map neg_ℤ (reverse turns) place (pos 0) (pos 0) long) in
+    take_more_set bytes place put room
     ∙ ap (λ l. l ++ put ∷ []) before
-    ∙ ap (λ x. take place (way_back turns) ++ x ∷ []) (same ∙ is ∙ ap neg_ℤ (sym (get_or-reverse turns place (pos 0) low)) ∙ sym (get_or-map neg_ℤ (reverse turns) place (pos 0) (pos 0) long))
-    ∙ sym (take_more (way_back turns) place (pos 0) far)
+    ∙ ap (λ x. take place (map route_byte way) ++ x ∷ []) (same ∙ ap route_byte here ∙ sym (get_or-map route_byte way place (pos 0) 0 far))
+    ∙ sym (take_more (map route_byte way) place 0 end)
 
--- the way back of turns has turns
-pub way-turns : (turns : List ℤ) → All IsTurn turns → All IsTurn (way_back turns)
-way-turns turns all i d l =
-    let low : i < length turns = omega (arith, l, way-length turns) in
-    let long : i < length (reverse turns) = omega (arith, low, length-reverse turns) in
-    let there : length turns - 1 - i < length turns = omega (arith, low) in
-    let is : get_or (way_back turns) i d ≡ neg_ℤ (get_or turns (length turns - 1 - i) (pos 0)) =
-    get_or_default (way_back turns) i d (pos 0) l ∙ get_or-map neg_ℤ (reverse turns) i (pos 0) (pos 0) long ∙ ap neg_ℤ (get_or-reverse turns i (pos 0) low) in
-    opposite_turn (get_or turns (length turns - 1 - i) (pos 0)) (get_or (way_back turns) i d) (all (length turns - 1 - i) (pos 0) there) is
+pub way-bytes-length : (turns : List ℤ) → length (map route_byte (way_back turns)) ≡ length turns
+way-bytes-length turns = length-map (way_back turns) route_byte ∙ way-length turns
 
--- turns, a turn 0, and as many turns behind it, as they are written over zeros
-pub there-and-back : (turns back : List ℤ) → length turns ≤ 31 → length back ≡ length turns → (one two : List ℤ) → one ≡ turns ++ drop (length turns) (replicate 64 (pos 0))
-    → two ≡ take (length turns + 1) one ++ back ++ drop (length turns + 1 + length back) one → take (2 * length turns + 1) two ≡ turns ++ pos 0 ∷ back
-there-and-back turns back few same one two a b =
-    let n = length turns in
-    let left : 64 - n ≡ suc (63 - n) = omega (arith, few) in
-    let zero_next : one ≡ (turns ++ pos 0 ∷ []) ++ replicate (63 - n) (pos 0) =
-    a ∙ ap (λ l. turns ++ l) (drop-replicate n 64 (pos 0) ∙ ap (λ k. replicate k (pos 0)) left) ∙ sym (append_assoc turns (pos 0 ∷ []) (replicate (63 - n) (pos 0))) in
-    let front : List ℤ = turns ++ pos 0 ∷ [] in
-    let long : length front ≡ n + 1 = length-append turns (pos 0 ∷ []) in
-    let rest : List ℤ = drop (n + 1 + length back) one in
-    let head : take (n + 1) one ≡ front = ap (λ k. take k one) (sym long) ∙ ap (take (length front)) zero_next ∙ take-append_seam front (replicate (63 - n) (pos 0)) in
-    let whole : two ≡ (front ++ back) ++ rest = b ∙ ap (λ l. l ++ back ++ rest) head in
-    let size : length (front ++ back) ≡ 2 * n + 1 = length-append front back ∙ (let e : length front + length back ≡ 2 * n + 1 = omega (arith, long, same) in e) in
-    ap (λ k. take k two) (sym size) ∙ ap (take (length (front ++ back))) whole ∙ take-append_seam (front ++ back) rest ∙ append_assoc turns (pos 0 ∷ []) back
+-- what is written piece behind piece is the head of a host probe
+pub host-laid : (turns back : List ℤ) (front body one two three four : List ℕ) (n : ℕ) → take (0 + n) one ≡ map route_byte turns → take (n + 2) two ≡ take n one ++ 0 ∷ 5 ∷ []
+    → take (n + 2 + 12) three ≡ take (n + 2) two ++ front → take (n + 14 + n) four ≡ take (n + 14) three ++ map route_byte back → front ++ map route_byte back ≡ body
+    → take (2 * n + 14) four ≡ head_of turns Mapping body
+host-laid turns back front body one two three four n a b c d e =
+    let route = map route_byte turns in
+    let bytes = map route_byte back in
+    let none : n ≡ 0 + n = omega arith in
+    let fourteen : n + 14 ≡ n + 2 + 12 = omega arith in
+    let all : 2 * n + 14 ≡ n + 14 + n = omega arith in
+    let typed : take (n + 2) two ≡ route ++ 0 ∷ 5 ∷ [] = b ∙ ap (λ l. l ++ 0 ∷ 5 ∷ []) (ap (λ k. take k one) none ∙ a) in
+    let kind : take (n + 14) three ≡ (route ++ 0 ∷ 5 ∷ []) ++ front = ap (λ k. take k three) fourteen ∙ c ∙ ap (λ l. l ++ front) typed in
+    ap (λ k. take k four) all ∙ d ∙ ap (λ l. l ++ bytes) kind
+    ∙ append_assoc (route ++ 0 ∷ 5 ∷ []) front bytes
+    ∙ append_assoc route (0 ∷ 5 ∷ []) (front ++ bytes)
+    ∙ ap (λ l. route ++ 0 ∷ 5 ∷ l) e
+
+-- and that of a probe that returns
+pub loop-laid : (turns back : List ℤ) (body one two three four five : List ℕ) (n : ℕ) → take (0 + n) one ≡ map route_byte turns → take (n + 1) two ≡ take n one ++ route_byte (pos 0) ∷ []
+    → take (n + 1 + n) three ≡ take (n + 1) two ++ map route_byte back → take (2 * n + 1 + 2) four ≡ take (2 * n + 1) three ++ 0 ∷ 5 ∷ [] → take (2 * n + 3 + 11) five ≡ take (2 * n + 3) four ++ body
+    → take (2 * n + 14) five ≡ head_of (turns ++ pos 0 ∷ back) Mapping body
+loop-laid turns back body one two three four five n a b c d e =
+    let route = map route_byte turns in
+    let bytes = map route_byte back in
+    let zero_turn = route_byte (pos 0) in
+    let none : n ≡ 0 + n = omega arith in
+    let there : 2 * n + 1 ≡ n + 1 + n = omega arith in
+    let typed : 2 * n + 3 ≡ 2 * n + 1 + 2 = omega arith in
+    let all : 2 * n + 14 ≡ 2 * n + 3 + 11 = omega arith in
+    let out : take (n + 1) two ≡ route ++ zero_turn ∷ [] = b ∙ ap (λ l. l ++ zero_turn ∷ []) (ap (λ k. take k one) none ∙ a) in
+    let home : take (2 * n + 1) three ≡ (route ++ zero_turn ∷ []) ++ bytes = ap (λ k. take k three) there ∙ c ∙ ap (λ l. l ++ bytes) out in
+    let kind : take (2 * n + 3) four ≡ ((route ++ zero_turn ∷ []) ++ bytes) ++ 0 ∷ 5 ∷ [] = ap (λ k. take k four) typed ∙ d ∙ ap (λ l. l ++ 0 ∷ 5 ∷ []) home in
+    let whole : (route ++ zero_turn ∷ []) ++ bytes ≡ map route_byte (turns ++ pos 0 ∷ back) = append_assoc route (zero_turn ∷ []) bytes ∙ sym (map-append route_byte turns (pos 0 ∷ back)) in
+    ap (λ k. take k five) all ∙ e ∙ ap (λ l. l ++ body) kind
+    ∙ append_assoc ((route ++ zero_turn ∷ []) ++ bytes) (0 ∷ 5 ∷ []) body
+    ∙ ap (λ l. l ++ 0 ∷ 5 ∷ body) whole

@@ -16,6 +16,7 @@
 
 mod answers;
 mod body;
+mod heads;
 mod hearing;
 mod items;
 mod laws;

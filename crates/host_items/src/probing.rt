@@ -9,8 +9,8 @@ use myri_packet::{Kind, Packet, packet_front, seal};
 use probe::ProbeBody;
 use std::alloc::{AllocError, Global};
 
-/// The most bytes of a body.
-pub(crate) const MAX_BODY: usize = 76;
+// The most bytes of a body.
+const MAX_BODY: usize = 76;
 
 /// The packet of a body, by a route. The body is written into the packet's own buffer.
 pub(crate) fn body_packet(

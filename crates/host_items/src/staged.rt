@@ -6,11 +6,9 @@ ghost use Rattle.mapping_defs.specs.Mapping.{MappingBody, mapping_bytes, is_part
 ghost use Rattle.world_defs.specs.Node.{outgoing_staged, probe_packet, packet_for};
 ghost use Rattle.host_items.specs.Held.{staged_of, IsSendable};
 
-use crate::probing::{MAX_BODY, body_packet};
-use crate::route::{there_and_back, turns_back};
+use crate::heads::{host_head, loop_head};
 use myri_packet::{Kind, Packet, packet_front, seal};
 use net_defs::Walk;
-use probe::{ProbeBody, append_host_probe};
 use route_parts::RoutePart;
 use std::alloc::{AllocError, Global};
 
@@ -63,9 +61,8 @@ fn host_packet(alloc: Global, host: u16, number: u64, walk: &Walk) -> Result<Pac
     ensures { IfOk result (λ p. p ≡ probe_packet host number walk.now false) }
 {
     let turns = walk.turns();
-    let back = turns_back(turns);
-    let mut bytes = packet_front(alloc, turns, Kind::Mapping, MAX_BODY)?;
-    append_host_probe(&mut bytes, number, host, &back[..turns.len()])?;
+    let head = host_head(turns, number, host);
+    let bytes = Vec::from_slice(alloc, &head[..2 * turns.len() + 14])?;
     seal(bytes)
 }
 
@@ -75,12 +72,9 @@ fn loop_packet(alloc: Global, host: u16, number: u64, walk: &Walk) -> Result<Pac
     ensures { IfOk result (λ p. p ≡ probe_packet host number walk.now true) }
 {
     let turns = walk.turns();
-    let route = there_and_back(turns);
-    let body = ProbeBody::Loop {
-        number,
-        mapper: host,
-    };
-    body_packet(alloc, &route[..2 * turns.len() + 1], &body)
+    let head = loop_head(turns, number, host);
+    let bytes = Vec::from_slice(alloc, &head[..2 * turns.len() + 14])?;
+    seal(bytes)
 }
 
 // Room for a part of a table whose routes are short.

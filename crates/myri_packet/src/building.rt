@@ -1,6 +1,6 @@
 //! Building a packet.
 
-ghost use Rattle.std.specs.Prelude.{◌≡◌, ◌≤◌, ◌++◌, [], map, take, length, IfOk, OnOk};
+ghost use Rattle.std.specs.Prelude.{◌≡◌, ◌≤◌, ◌++◌, ◌∷◌, [], map, take, length, IfOk, OnOk};
 ghost use Rattle.packet_defs.specs.Packet.{packet_of, head_of, with_crc, type_of};
 ghost use Rattle.packet_defs.specs.RouteByte.{route_byte};
 
@@ -38,7 +38,7 @@ pub fn packet_front(
 {
     let mut bytes = Vec::with_capacity(alloc, route.len() + room + 2)?;
     put_route(&mut bytes, route)?;
-    bytes.extend_from_slice(&type_number(kind).to_be_bytes())?;
+    bytes.extend_from_slice(&type_bytes(kind))?;
     Ok(bytes)
 }
 
@@ -69,6 +69,13 @@ fn route_bytes(route: &[i8]) -> [u8; MAX_ROUTE]
         bytes[place] = route_byte(*turn);
     }
     bytes
+}
+
+/// The bytes of a kind's type.
+pub fn type_bytes(kind: Kind) -> [u8; 2]
+    ensures { result ≡ 0 ∷ type_of kind ∷ [] }
+{
+    type_number(kind).to_be_bytes()
 }
 
 // The type number of a kind.

@@ -13,7 +13,7 @@ mod building;
 mod host;
 mod packet;
 
-pub use building::{encode, packet_front, seal};
+pub use building::{encode, packet_front, seal, type_bytes};
 pub use host::{Body, decode_at_host};
 pub use packet::{FlipRefusal, MAX_BYTES, Packet, WireFault};
 pub use packet_defs::{HostDrop, Kind};

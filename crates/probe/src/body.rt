@@ -1,12 +1,13 @@
 //! The bodies of probes and of their replies, read and written.
 
-ghost use Rattle.std.specs.Prelude.{◌≡◌, ◌≤◌, ◌++◌, ◌∷◌, Some, length, All, IfOk, OnOk};
+ghost use Rattle.std.specs.Prelude.{◌≡◌, ◌≤◌, ◌++◌, ◌∷◌, ℤ, List, Some, length, map, All, IfOk, OnOk};
 ghost use Rattle.net_defs.specs.Turn.{IsTurn};
 ghost use Rattle.net_defs.specs.Refusal.{Refuses};
+ghost use Rattle.packet_defs.specs.RouteByte.{route_byte};
 ghost use Rattle.mapping_defs.specs.Mapping.{MappingBody, mapping_bytes};
 ghost use Rattle.probe.specs.Body.{said, probe_in, body_refusal};
 
-use crate::fields::{append_numbers, numbers_front, whole_numbers};
+use crate::fields::{append_numbers, numbers, numbers_front, whole_numbers};
 use crate::whole_route::whole_route;
 use net_defs::Walk;
 use std::alloc::{AllocError, Global};
@@ -98,8 +99,8 @@ impl ProbeBody {
     }
 }
 
-/// Puts the bytes of a host probe behind others: a way back that is made at the moment needs no walk of its own.
-pub fn append_host_probe(
+// Puts the bytes of a host probe behind others.
+fn append_host_probe(
     bytes: &mut Vec<u8>,
     number: u64,
     mapper: u16,
@@ -113,6 +114,25 @@ pub fn append_host_probe(
 {
     append_numbers(bytes, HOST_PROBE, number, mapper)?;
     push_route(bytes, back)
+}
+
+/// What of a host probe stands before the turns of its way back, which are so many.
+pub fn host_probe_front(number: u64, mapper: u16, turns: u8) -> [u8; 12]
+    ensures bytes { (back : List ℤ) → length back ≡ turns
+        → result ++ map route_byte back ≡ mapping_bytes (MappingBody.HostProbe number mapper back) }
+    ensures size { length result ≡ 12 }
+{
+    let [a, b, c, d, e, f, g, h] = number.to_be_bytes();
+    let [high, low] = mapper.to_be_bytes();
+    [HOST_PROBE, a, b, c, d, e, f, g, h, high, low, turns]
+}
+
+/// The bytes of a loopback probe.
+pub fn loop_bytes(number: u64, mapper: u16) -> [u8; 11]
+    ensures bytes { result ≡ mapping_bytes (MappingBody.Loopback number mapper) }
+    ensures size { length result ≡ 11 }
+{
+    numbers(LOOP, number, mapper)
 }
 
 // The host probe whose bytes behind the kind are these.

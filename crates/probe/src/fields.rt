@@ -61,8 +61,8 @@ pub(crate) fn append_numbers(
     bytes.extend_from_slice(&numbers(kind, number, host))
 }
 
-// A body's kind and numbers.
-fn numbers(kind: u8, number: u64, host: u16) -> [u8; 11]
+/// A body's kind and numbers.
+pub(crate) fn numbers(kind: u8, number: u64, host: u16) -> [u8; 11]
     ensures { result ≡ kind ∷ to_be_bytes w64 number ++ to_be_bytes w16 host }
 {
     let [a, b, c, d, e, f, g, h] = number.to_be_bytes();

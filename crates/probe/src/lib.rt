@@ -34,7 +34,7 @@ mod walk_index;
 mod walk_list;
 mod whole_route;
 
-pub use body::{BodyFault, ProbeBody, append_host_probe};
+pub use body::{BodyFault, ProbeBody, host_probe_front, loop_bytes};
 pub use fabric_prober::FabricProber;
 pub use fake_prober::FakeProber;
 pub use journal::{Journal, JournalPush};
