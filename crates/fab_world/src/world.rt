@@ -79,8 +79,9 @@ impl World {
         }
     }
 
-    /// One event: its effect, and the world after it. A close that says how many buffers it hands back hands back as
-    /// many as were provided, each as it was provided. Want of memory changes nothing.
+    /// One event: its effect, and the world after it. A close that says how many buffers it hands back hands back each
+    /// provided token with its buffer as it was provided, and each other token is with the client. Want of memory
+    /// changes nothing.
     pub fn step(&mut self, alloc: Global, e: Event) -> Result<Effect, AllocError>
         requires { IsGiven self.old e }
         ensures ok { IfOk result (λ x. step self.old e ≡ (x, self.new)) }

@@ -49,12 +49,12 @@ pub record IsReported (a : AcceptedText) (taken now : Option (List ℕ)) (held :
 abbrev pub IsPartOfReport : AcceptedText → Option (List ℕ) → Option (List ℕ) → Type 0
 IsPartOfReport a taken now = (r : HasRun a.network a.commands) × TakesPrefix taken now (output_text a.network r.out)
 
--- The sink took the whole of a first text, and then the front of a second, but not all of that.
+-- The sink took the whole of a first text, and then a prefix of a second, but not all of that.
 abbrev pub TakesPast : Option (List ℕ) → Option (List ℕ) → List ℕ → List ℕ → Type 0
 TakesPast taken now first second = (part : List ℕ) × (rest : List ℕ) × (second ≡ part ++ rest) × (0 < length rest)
     × Appends taken now (first ++ part)
 
--- A write failed behind a command: all that those before it printed was taken, and the front of its own text, but not
+-- A write failed behind a command: all that those before it printed was taken, and a prefix of its own text, but not
 -- all of that; its session is handed back.
 pub record IsCutOff (a : AcceptedText) (taken now : Option (List ℕ)) (held : Option SessionState) : Type 0 where
   pub count : ℕ

@@ -63,7 +63,7 @@ pub record IsSummed (hosts seed : ℕ) (taken now : Option (List ℕ)) (faults r
   pub generated : IsGenerated hosts seed due last
   pub written : SummaryEnds due last taken now faults risen status held
 
--- How a run of the form `gen` may end: the whole summary was taken, or its front before a failed write, and not all of
+-- How a run of the form `gen` may end: the whole summary was taken, or a prefix before a failed write, and not all of
 -- it; where memory was wanting, nothing, and no session is handed back.
 abbrev pub GenEnds : ℕ → ℕ → Option (List ℕ) → Option (List ℕ) → ℕ → ℕ → Status → Option SessionState → Type 0
 GenEnds hosts seed taken now faults risen Done held = IsSummed hosts seed taken now faults risen Done held

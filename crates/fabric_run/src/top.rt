@@ -67,7 +67,7 @@ pub fn run<S: Source, K: Sink>(alloc: Global, words: &[Word], input: &mut S, out
     ensures write_fault { result.status ≡ Status.WriteFault → Rose (K.faults out.old) (K.faults out.new) }
 
     // Under `run`, after a failed write: the session behind the commands that ran, of which the sink took what they
-    // printed, but for the end of the last one's text; or, of a refusal's line, a front that isn't the whole. So where
+    // printed, but for the end of the last one's text; or, of a refusal's line, a prefix, not the whole. So where
     // the sink tells that it took such a line whole, the answer is the refusal.
     ensures write_fault_part { IsRunForm words.now → result.status ≡ Status.WriteFault
         → (text : List ℕ) × Came (S.left input.old) (S.left input.new) text
@@ -86,7 +86,7 @@ pub fn run<S: Source, K: Sink>(alloc: Global, words: &[Word], input: &mut S, out
         × IsMemoryCut (reading text) (K.taken out.old) (K.taken out.new) result.session) }
 
     // Under `gen N SEED` nothing is read. The text of N and SEED is accepted and all its commands ran: the sink took
-    // exactly the summary of what they printed, or its front before a failed write, and not all of it, and their
+    // exactly the summary of what they printed, or a prefix before a failed write, and not all of it, and their
     // session is handed back; or memory was wanting, nothing was written, and no session is handed back. There is no
     // other answer.
     ensures gen_reads_nothing { (n seed : ℕ) → IsGenForm words.now n seed → input.new ≡ input.old }

@@ -78,8 +78,8 @@ fn turn_at(ports: u8, entry: u8, packet: &mut Packet) -> Turned
     }
 }
 
-// Where the packet of a channel goes. Where that is into a channel, the switch ahead turns it. Aim and turn stand in one
-// function for each number of ports, so that compilers see that they look at the same byte.
+// Where the packet of a channel goes. Where that is into a channel, the switch ahead turns it. Aim and turn stand in
+// one function for each number of ports, so that compilers see that they look at the same byte.
 fn go_on(wiring: &Wiring, c: u16, packet: &mut Packet) -> Course
     requires { c < channel_count wiring.now }
     ensures course { result ≡ course wiring.now c packet.old }
