@@ -10,7 +10,7 @@ ghost use Rattle.world_defs.specs.Node.{way_back};
 use crate::route::opposite_at;
 use myri_packet::{Kind, type_bytes};
 use probe::{host_probe_front, loop_bytes};
-use turn_bytes::route_byte;
+use turn_bytes::{route_byte, write_turns};
 
 /// The most bytes of a probe's head: 64 route bytes, the type, and a body.
 pub(crate) const MAX_HEAD: usize = 142;
@@ -68,7 +68,7 @@ fn put_route(head: &mut [u8], at: usize, turns: &[i8])
     ensures front { take (at + length turns.now) head.new ≡ take at head.old ++ map route_byte turns.now }
     ensures size { length head.new ≡ length head.old }
 {
-    write_route(&mut head[at..at + turns.len()], turns);
+    write_turns(&mut head[at..at + turns.len()], turns);
 }
 
 // Writes the route bytes of a way back behind the first so many bytes.
@@ -79,16 +79,6 @@ fn put_way_back(head: &mut [u8], at: usize, turns: &[i8])
     ensures size { length head.new ≡ length head.old }
 {
     write_way_back(&mut head[at..at + turns.len()], turns);
-}
-
-// Writes the route bytes of as many turns.
-fn write_route(bytes: &mut [u8], turns: &[i8])
-    requires { length bytes.old ≡ length turns.now }
-    ensures { bytes.new ≡ map route_byte turns.now }
-{
-    for (place, turn) in turns.iter().enumerate() {
-        bytes[place] = route_byte(*turn);
-    }
 }
 
 // Writes the route bytes of the way back of as many turns.

@@ -1,16 +1,12 @@
 //! Building a packet.
 
-ghost use Rattle.std.specs.Prelude.{◌≡◌, ◌≤◌, ◌++◌, ◌∷◌, [], map, take, length, IfOk, OnOk};
+ghost use Rattle.std.specs.Prelude.{◌≡◌, ◌≤◌, ◌∷◌, [], length, IfOk};
 ghost use Rattle.packet_defs.specs.Packet.{packet_of, head_of, with_crc, type_of};
-ghost use Rattle.packet_defs.specs.RouteByte.{route_byte};
 
 use crate::packet::Packet;
 use packet_defs::Kind;
 use std::alloc::{AllocError, Global};
-use turn_bytes::route_byte;
-
-// The most turns of a route.
-const MAX_ROUTE: usize = 64;
+use turn_bytes::push_turns;
 
 /// The packet of a route, a kind and a payload, with the CRC that is due. Its turns are from -15 to 15: another has
 /// no route byte, and its byte stops the packet, or turns it elsewhere.
@@ -37,7 +33,7 @@ pub fn packet_front(
     ensures { IfOk result (λ v. v.items ≡ head_of route.now kind []) }
 {
     let mut bytes = Vec::with_capacity(alloc, route.len() + room + 2)?;
-    put_route(&mut bytes, route)?;
+    push_turns(&mut bytes, route)?;
     bytes.extend_from_slice(&type_bytes(kind))?;
     Ok(bytes)
 }
@@ -48,27 +44,6 @@ pub fn seal(head: Vec<u8>) -> Result<Packet, AllocError>
     ensures { IfOk result (λ p. p ≡ with_crc head.items) }
 {
     Ok(Packet::of_head(head))
-}
-
-// Puts the route bytes of turns behind what is there.
-fn put_route(bytes: &mut Vec<u8>, route: &[i8]) -> Result<(), AllocError>
-    requires { length route.now ≤ MAX_ROUTE }
-    ensures { OnOk result (bytes.new.items ≡ bytes.old.items ++ map route_byte route.now) }
-{
-    let front = route_bytes(route);
-    bytes.extend_from_slice(&front[..route.len()])
-}
-
-// The route bytes of turns, and zeros behind them.
-fn route_bytes(route: &[i8]) -> [u8; MAX_ROUTE]
-    requires { length route.now ≤ MAX_ROUTE }
-    ensures { take (length route.now) result ≡ map route_byte route.now }
-{
-    let mut bytes = [0; MAX_ROUTE];
-    for (place, turn) in route.iter().enumerate() {
-        bytes[place] = route_byte(*turn);
-    }
-    bytes
 }
 
 /// The bytes of a kind's type.

@@ -12,4 +12,4 @@ mod table;
 mod turns;
 
 pub use table::{is_route_byte, route_byte, turn_of};
-pub use turns::{TurnFault, push_route, walk_of};
+pub use turns::{TurnFault, push_route, push_turns, walk_of, write_turns};

@@ -1,6 +1,6 @@
-//! Routes within a body: the number of turns, then one byte for each.
+//! Turns as bytes, and routes within a body: the number of turns, then one byte for each.
 
-ghost use Rattle.std.specs.Prelude.{◌≡◌, ◌≤◌, ◌++◌, ◌∷◌, length, map, take, All, IfOk, IfErr, OnOk, None};
+ghost use Rattle.std.specs.Prelude.{◌≡◌, ◌≤◌, ◌++◌, ◌∷◌, length, map, All, IfOk, IfErr, OnOk, None};
 ghost use Rattle.net_defs.specs.Turn.{IsTurn, walk_refusal};
 ghost use Rattle.net_defs.specs.Refusal.{Refuses};
 ghost use Rattle.packet_defs.specs.RouteByte.{route_byte, turns_of};
@@ -29,21 +29,28 @@ pub fn push_route(bytes: &mut Vec<u8>, turns: &[i8]) -> Result<(), AllocError>
     ensures { OnOk result (bytes.new.items ≡ bytes.old.items ++ length turns.now ∷ map route_byte turns.now) }
 {
     bytes.push(turns.len() as u8)?;
-    let front = route_bytes(turns);
-    bytes.extend_from_slice(&front[..turns.len()])
+    push_turns(bytes, turns)
 }
 
-// The bytes that stand for turns, and zeros behind them.
-fn route_bytes(turns: &[i8]) -> [u8; MAX_TURNS]
-    requires short { length turns.now ≤ MAX_TURNS }
-    requires in_range { All IsTurn turns.now }
-    ensures { take (length turns.now) result ≡ map route_byte turns.now }
+/// Adds the route bytes of turns at the end of bytes, at once.
+pub fn push_turns(bytes: &mut Vec<u8>, turns: &[i8]) -> Result<(), AllocError>
+    requires { length turns.now ≤ 64 }
+    ensures { OnOk result (bytes.new.items ≡ bytes.old.items ++ map route_byte turns.now) }
 {
-    let mut bytes = [0; MAX_TURNS];
+    let mut room = [0; MAX_TURNS];
+    let front = &mut room[..turns.len()];
+    write_turns(front, turns);
+    bytes.extend_from_slice(front)
+}
+
+/// Writes the route bytes of as many turns.
+pub fn write_turns(bytes: &mut [u8], turns: &[i8])
+    requires { length bytes.old ≡ length turns.now }
+    ensures { bytes.new ≡ map route_byte turns.now }
+{
     for (place, turn) in turns.iter().enumerate() {
         bytes[place] = route_byte(*turn);
     }
-    bytes
 }
 
 /// The turns of at most 64 route bytes. `Malformed` exactly where another byte is among them; memory is taken once

@@ -1,9 +1,9 @@
 use Rattle.std.proofs.Common.{◌≡◌, map, take, length}
 use Rattle.packet_defs.specs.RouteByte.{route_byte}
-use Rattle.myri_packet.proofs.building.route_bytes.Given as goal
+use Rattle.turn_bytes.proofs.turns.write_turns.Given as goal
 
 abbrev pub invariant-loop-place : goal.invariant-loop-place
 invariant-loop-place l = record {
-  written : take l.place l.bytes ≡ map route_byte (take l.place l.route);
-  room : length l.bytes ≡ 64;
+  written : take l.place l.bytes ≡ map route_byte (take l.place l.turns);
+  room : length l.bytes ≡ length l.turns;
 }

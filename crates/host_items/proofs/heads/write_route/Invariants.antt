@@ -1,9 +1,0 @@
-use Rattle.std.proofs.Common.{◌≡◌, map, take, length}
-use Rattle.packet_defs.specs.RouteByte.{route_byte}
-use Rattle.host_items.proofs.heads.write_route.Given as goal
-
-abbrev pub invariant-loop-place : goal.invariant-loop-place
-invariant-loop-place l = record {
-  written : take l.place l.bytes ≡ map route_byte (take l.place l.turns);
-  room : length l.bytes ≡ length l.turns;
-}
