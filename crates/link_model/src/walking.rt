@@ -3,15 +3,13 @@
 ghost use Rattle.std.specs.Prelude.{◌≡◌, ◌<◌, ◌≤◌, ◌+◌, length, All, IfOk};
 ghost use Rattle.net_defs.specs.Turn.{IsTurn};
 ghost use Rattle.net_defs.specs.Route.{place, place_at_vertex, IsPlaceOf};
-ghost use Rattle.packet_defs.specs.Packet.{head};
-ghost use Rattle.packet_defs.specs.Host.{has_route};
 ghost use Rattle.link_defs.specs.Links.{empty_links};
 ghost use Rattle.link_defs.specs.Lone.{lone_place};
 ghost use Rattle.link_model.specs.Alone.{wire_in, left_at, IsAlone};
 
 use crate::links::Links;
 use link_defs::{Moved, Why};
-use myri_packet::{Packet, encode};
+use myri_packet::{Packet, encode, has_route};
 use net_defs::{End, Place, Vertex};
 use packet_defs::Kind;
 use std::alloc::{AllocError, Global};
@@ -69,7 +67,7 @@ fn place_of(links: &Links, at: u16, moved: Moved<Packet>) -> Place
 {
     match moved {
         Moved::AtHost(h, packet) => {
-            if has_route(&packet) {
+            if has_route(packet.head()) {
                 Place::Nothing
             } else {
                 Place::Host(h)
@@ -77,16 +75,6 @@ fn place_of(links: &Links, at: u16, moved: Moved<Packet>) -> Place
         }
         Moved::Dropped(Why::NotRoute) => place_at(links.ends(at).1),
         _ => Place::Nothing,
-    }
-}
-
-// Whether a packet has a route left.
-fn has_route(packet: &Packet) -> bool
-    ensures { result ≡ has_route (head packet.now) }
-{
-    match packet.head() {
-        [] => false,
-        [byte, ..] => *byte >= 128,
     }
 }
 

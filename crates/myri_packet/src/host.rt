@@ -30,8 +30,8 @@ pub fn decode_at_host(p: &Packet) -> Result<Body<'_>, HostDrop>
     body_of(head)
 }
 
-// Whether a head begins with 0x80 or more.
-fn has_route(head: &[u8]) -> bool
+/// Whether a head has a route left: it begins with 0x80 or more.
+pub fn has_route(head: &[u8]) -> bool
     ensures { result ≡ has_route head.now }
 {
     match head {

@@ -14,6 +14,6 @@ mod host;
 mod packet;
 
 pub use building::{encode, packet_front, seal, type_bytes};
-pub use host::{Body, decode_at_host};
+pub use host::{Body, decode_at_host, has_route};
 pub use packet::{FlipRefusal, MAX_BYTES, Packet, WireFault};
 pub use packet_defs::{HostDrop, Kind};
