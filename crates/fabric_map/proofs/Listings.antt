@@ -4,7 +4,6 @@ use Rattle.std.specs.Prelude.{position, slice_get}
 use Rattle.std.specs.List.{list_any, prefix_len}
 use Rattle.std.proofs.lemmas.Bool.{cases_order}
 use Rattle.std.proofs.lemmas.Bool.Decides.{nat_tests, Decides-eqb}
-use Rattle.std.proofs.Math.ListN.{length-set}
 use Rattle.std.proofs.lemmas.List.Folds.{prefix_len-append}
 use Rattle.std.proofs.lemmas.List.Sums.{prefix_len-le-length}
 use Rattle.net_defs.specs.Building.{first_of_two}
@@ -12,7 +11,7 @@ use Rattle.map_defs.specs.declared.vertex.MapVertex.{MapVertex}
 use Rattle.map_defs.specs.declared.vertex.MapVertex.TheVariants.{Host, Switch}
 use Rattle.map_defs.specs.NetMap.{switches_of, host_at}
 use Rattle.map_defs.specs.Routing.{is_host_named}
-use Rattle.fabric_map.specs.Listing.{IsIndexOf, addresses_of}
+use Rattle.fabric_map.specs.Listing.{IsIndexOf}
 
 -- one more vertex
 pub switches_of-host : (vs : List MapVertex) (h : ℕ) → switches_of (vs ++ Host h ∷ []) ≡ switches_of vs
@@ -102,33 +101,10 @@ host-any h (x ∷ vs) (suc v) e = by (is_host_named h x) (host-any h vs v e)
     by true f = refl
     by false f = f
 
--- each address is below the length of the index
-below-addresses : (vs : List MapVertex) (v h : ℕ) → host_at (slice_get vs v) ≡ Some h → h < addresses_of vs
-below-addresses [] v h e = cc
-below-addresses (Host g ∷ vs) zero h e = let same : g ≡ h = cc in omega arith
-below-addresses (Host g ∷ vs) (suc v) h e = let l = below-addresses vs v h e in omega arith
-below-addresses (Switch s ∷ vs) zero h e = cc
-below-addresses (Switch s ∷ vs) (suc v) h e = below-addresses vs v h e
-
-pub index-long : (vs : List MapVertex) (n : ℕ) (index : List (Option ℕ)) → IsIndexOf vs n index → (v h : ℕ) → host_at (slice_get vs v) ≡ Some h → h < length index
-index-long vs n index is v h e = let l = below-addresses vs v h e in let long = is.long in omega arith
-
--- the addresses with a host more
-addresses-host : (vs : List MapVertex) (h : ℕ) → addresses_of (vs ++ Host h ∷ []) ≡ max (h + 1) (addresses_of vs)
-addresses-host [] h = refl
-addresses-host (Host g ∷ vs) h = let e = addresses-host vs h in omega arith
-addresses-host (Switch s ∷ vs) h = addresses-host vs h
-
-addresses-switch : (vs : List MapVertex) (n : ℕ) → addresses_of (vs ++ Switch n ∷ []) ≡ addresses_of vs
-addresses-switch [] n = refl
-addresses-switch (Host g ∷ vs) n = ap (max (g + 1)) (addresses-switch vs n)
-addresses-switch (Switch s ∷ vs) n = addresses-switch vs n
-
 -- the index with one more vertex
 pub index-host : (vs : List MapVertex) (n : ℕ) (old index : List (Option ℕ)) (h : ℕ) → IsIndexOf vs n old → length index ≡ max (h + 1) (length old) → ((k : ℕ) → get_or index k None ≡ get_or old k None) → position (is_host_named h) vs ≡ None → IsIndexOf (vs ++ Host h ∷ []) n (set index h (Some (length vs)))
 index-host vs n old index h is longer kept new = record {
   counted = is.counted ∙ ap length (sym (switches_of-host vs h));
-  long = length-set index h (Some (length vs)) ∙ longer ∙ ap (max (h + 1)) is.long ∙ sym (addresses-host vs h);
   found = λ k. by k (nat_eq h k) refl ∙ sym (position-push (is_host_named k) vs (Host h));
 }
   where
@@ -148,7 +124,6 @@ index-host vs n old index h is longer kept new = record {
 pub index-switch : (vs : List MapVertex) (n : ℕ) (index : List (Option ℕ)) → IsIndexOf vs n index → IsIndexOf (vs ++ Switch n ∷ []) (n + 1) index
 index-switch vs n index is = record {
   counted = (let e = ap length (switches_of-switch vs n) ∙ length-one (switches_of vs) n in let c = is.counted in omega arith);
-  long = is.long ∙ sym (addresses-switch vs n);
   found = λ k. is.found k ∙ first_or_none (position (is_host_named k) vs) ∙ sym (position-push (is_host_named k) vs (Switch n));
 }
   where

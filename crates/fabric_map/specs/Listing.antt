@@ -1,7 +1,6 @@
 -- Vertices with their marks, and an index of the hosts by address.
-use Rattle.std.specs.Prelude.{◌≡◌, ℕ, ◌+◌, max, Bool, List, [], ◌∷◌, length, slice_index_or, position, Option, None}
+use Rattle.std.specs.Prelude.{◌≡◌, ℕ, Bool, List, length, slice_index_or, position, Option, None}
 use Rattle.map_defs.specs.declared.vertex.MapVertex.{MapVertex}
-use Rattle.map_defs.specs.declared.vertex.MapVertex.TheVariants.{Host, Switch}
 use Rattle.map_defs.specs.NetMap.{switches_of}
 use Rattle.map_defs.specs.Routing.{is_host_named}
 
@@ -10,15 +9,7 @@ pub record Marked : Type 0 where
   pub vertices : List MapVertex
   pub core : List Bool
 
--- one more than the greatest address of a host, 0 without hosts
-abbrev pub addresses_of : List MapVertex → ℕ
-addresses_of [] = 0
-addresses_of (Host h ∷ vs) = max (h + 1) (addresses_of vs)
-addresses_of (Switch s ∷ vs) = addresses_of vs
-
--- The count is that of the switches, and the index has the vertex of each host and a place for each address up to the
--- greatest.
+-- The count is that of the switches, and the index has the vertex of each host.
 pub record IsIndexOf (vertices : List MapVertex) (switches : ℕ) (by_address : List (Option ℕ)) : Type 0 where
   pub counted : switches ≡ length (switches_of vertices)
-  pub long : length by_address ≡ addresses_of vertices
   pub found : (h : ℕ) → slice_index_or by_address h None ≡ position (is_host_named h) vertices

@@ -4,14 +4,13 @@ ghost use Rattle.std.specs.Prelude.{◌≡◌, ℕ, ◌<◌, ◌≤◌, ◌↔�
 ghost use Rattle.std.specs.Prelude.{IfErr, OnOk, OnErr};
 ghost use Rattle.net_defs.specs.Refusal.{Refuses};
 ghost use Rattle.net_defs.specs.Turn.{IsTurn};
-ghost use Rattle.map_defs.specs.NetMap.{MapPort, far_port, map_far, host_of_vertex, is_switch_vertex, switches_of};
+ghost use Rattle.map_defs.specs.NetMap.{MapPort, far_port, map_far, is_switch_vertex, switches_of};
 ghost use Rattle.map_defs.specs.NetMap.{IsMap};
 ghost use Rattle.map_defs.specs.Routing.{vertex_of_host};
 ghost use Rattle.fabric_map.specs.Growing.{IsFabricMap, empty_map, with_host, with_switch, with_cable, with_cables};
 ghost use Rattle.fabric_map.specs.Growing.{with_core};
 ghost use Rattle.fabric_map.specs.Growing.{has_host, host_refusal, switch_refusal, cable_refusal, is_full as fullness};
 ghost use Rattle.fabric_map.specs.Growing.{may_have, is_used};
-ghost use Rattle.fabric_map.specs.Listing.{addresses_of};
 ghost use Rattle.fabric_map.specs.Table.{far_pair, port_at};
 ghost use Rattle.port_table.specs.Ends.{IsOutside};
 
@@ -108,14 +107,6 @@ impl FabricMap {
         ensures vertex { result ≡ vertex_of_host self.now h }
     {
         self.vertices.find(h)
-    }
-
-    /// One more than the greatest address of a host, 0 without hosts.
-    pub fn addresses(&self) -> usize
-        ensures above { (v h : ℕ) → host_of_vertex self.now v ≡ Some h → h < result }
-        ensures value { result ≡ addresses_of self.now.vertices }
-    {
-        self.vertices.addresses()
     }
 
     /// Adds a host of the core, and answers its vertex. Refused in this order: `HostTaken`, `Full`.

@@ -1,11 +1,10 @@
 //! The vertices of a map with their marks, and an index of the hosts by address.
 
 ghost use Rattle.std.specs.Prelude.{◌≡◌, ℕ, ◌<◌, max, true, ◌++◌, ◌∷◌, [], length, position, slice_index_or, Some};
-ghost use Rattle.std.specs.Prelude.{None, OnOk, OnErr, slice_get};
+ghost use Rattle.std.specs.Prelude.{None, OnOk, OnErr};
 ghost use Rattle.map_defs.specs.declared.vertex.MapVertex.{MapVertex};
-ghost use Rattle.map_defs.specs.NetMap.{switches_of, host_at};
+ghost use Rattle.map_defs.specs.NetMap.{switches_of};
 ghost use Rattle.map_defs.specs.Routing.{is_host_named};
-ghost use Rattle.fabric_map.specs.Listing.{addresses_of};
 
 use map_defs::MapVertex;
 use std::alloc::{AllocError, Global};
@@ -67,14 +66,6 @@ impl Vertices {
         ensures { result ≡ position (is_host_named h) self.now.vertices }
     {
         entry_at(&self.by_address, usize::from(h))
-    }
-
-    /// One more than the greatest address of a host, 0 without hosts.
-    pub(crate) fn addresses(&self) -> usize
-        ensures above { (v h : ℕ) → host_at (slice_get self.now.vertices v) ≡ Some h → h < result }
-        ensures value { result ≡ addresses_of self.now.vertices }
-    {
-        self.by_address.len()
     }
 
     /// Room for so many vertices more.
