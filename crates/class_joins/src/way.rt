@@ -6,7 +6,7 @@ ghost use Rattle.class_joins.specs.Ways.{begins_at, class_port, IsInside};
 use port_align::ClassFrame;
 
 /// Where a way begins.
-#[derive(Clone, Copy, Debug, PartialEq, Eq, Hash)]
+#[derive(Clone, Copy, Debug, PartialEq, Eq)]
 pub enum Spot {
     /// At the host of an address.
     Address(u16),

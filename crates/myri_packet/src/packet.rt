@@ -130,7 +130,7 @@ impl Packet {
     }
 
     /// Whether the CRC that it carries is the one that is due.
-    pub fn is_sound(&self) -> bool
+    pub(crate) fn is_sound(&self) -> bool
         ensures { result ≡ nat_eq (difference self.now) 0 }
     {
         self.difference == 0

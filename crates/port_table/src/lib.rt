@@ -16,4 +16,4 @@ mod rows;
 mod table;
 
 pub use end::NodePort;
-pub use table::{Known, PortTable};
+pub use table::PortTable;

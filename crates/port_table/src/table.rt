@@ -22,7 +22,7 @@ const MOST_NUMBERS: usize = 4_294_967_296;
 
 /// What is known of the places of one number.
 #[derive(Clone, Copy, Debug)]
-pub enum Known {
+enum Known {
     /// No far end.
     Nothing,
     /// One, at a place: its port, and its number.

@@ -77,7 +77,7 @@ impl Ranks {
 
     /// The rank of a channel: found by halves where the entries rise by vertex and port, as those of `certify` do, and
     /// one by one where they don't.
-    pub fn rank_of(&self, v: u32, p: i8) -> Option<u64>
+    pub(crate) fn rank_of(&self, v: u32, p: i8) -> Option<u64>
         ensures { result ≡ rank_of self.now record { v = v; p = p } }
     {
         if self.rising {

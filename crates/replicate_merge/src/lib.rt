@@ -40,4 +40,4 @@ mod ways;
 
 pub use classes::Classes;
 pub use merged::Merged;
-pub use port_align::{ClassFrame, aligned};
+pub use port_align::ClassFrame;
