@@ -19,12 +19,12 @@ use Rattle.fab_world.specs.Hop.{IsHopIn, IsRunIn}
 pub hop-in : (w v : WorldState) (c : ℕ) (h : Hop) (q : LinksAndPlan) → IsHopOf (of_world w) c h q → v ≡ with_part w q → IsHopIn w c h v
 hop-in w v c (Moved next) q is after = is w ∙ ap (λ x. (MovedTo next, x)) (sym after)
 hop-in w v c (Blocked next) q is after = is w ∙ ap (λ x. (StaysFor next, x)) (sym after)
-hop-in w v c Untried q is after = after ∙ ap (with_part w) is
+hop-in w v c Untried q is after = (after ∙ ap (with_part w) is.0, is.1)
 
 pub hop-later : (w v : WorldState) (c : ℕ) (h : Hop) → IsHopIn w c h v → IsLater w v
 hop-later w v c (Moved next) is = (Advance c ∷ [], sym (ap (λ p. p.1) is))
 hop-later w v c (Blocked next) is = (Advance c ∷ [], sym (ap (λ p. p.1) is))
-hop-later w v c Untried is = ([], is)
+hop-later w v c Untried is = ([], is.0)
 
 -- an advance of the links that leads into a channel, in their world
 pub moved-in : (w : WorldState) (now after : LinkState) (at next : ℕ) → advance now at ≡ (To next, after) → step (with_links w now) (Advance at) ≡ (MovedTo next, with_links w after)

@@ -42,7 +42,7 @@ step-reached w v e (Err y) low is ok err = subst IsReachedNow (sym err) is
 pub hop-reached : (w v : WorldState) (c : ℕ) (h : Hop) → IsReachedNow w → IsHopIn w c h v → IsReachedNow v
 hop-reached w v c (Moved next) is now = event-reached w v (Advance c) (MovedTo next) tt is now
 hop-reached w v c (Blocked next) is now = event-reached w v (Advance c) (StaysFor next) tt is now
-hop-reached w v c Untried is now = subst IsReachedNow (sym now) is
+hop-reached w v c Untried is now = subst IsReachedNow (sym now.0) is
 
 along-reached : (w : WorldState) (c : ℕ) (links : LinkState) (hops at : ℕ) → IsReachedNow w → IsRun w.links c hops at links → IsReachedNow (with_links w links)
 along-reached w c links hops at is IsRun.not_begun = is

@@ -145,8 +145,8 @@ impl World {
         self.machine.advance(alloc, c)
     }
 
-    /// An advance of a channel into the next one, or one that is blocked. Anything else is left to the event itself,
-    /// which does the same more slowly, since it may hand out any effect.
+    /// An advance of a channel into the next one, or one that is blocked. It is left untried, and to the event itself,
+    /// exactly where the advance is anything else: the event may hand out any effect, which is slower.
     pub fn hop(&mut self, c: u16) -> Hop
         requires { IsChannelOf self.old c }
         ensures hop { IsHopIn self.old c result self.new }

@@ -23,7 +23,7 @@ use Rattle.world_defs.specs.Hearing.{hear}
 use Rattle.world_defs.specs.World.{WorldState, host_count, last_count, counted, node_at, with_node, without_fault}
 use Rattle.world_defs.specs.Step.{of_links, of_limbo, of_replay, lost, was_reset, repeated, held, flipped, replayed, advanced, advanced_by, arrived, cause_at_switch, fault_on, is_harm, struck_by, fault_strikes, planned_strikes, sent_out}
 use Rattle.world_defs.specs.declared.fault.Fault.TheVariants.{Lose as LoseFault, Repeat as RepeatFault, Hold as HoldFault, Flip as FlipFault}
-use Rattle.link_model.specs.Hop.{IsHop}
+use Rattle.link_model.specs.Hop.{is_hop, IsHop}
 use Rattle.link_model.specs.declared.hop.Hop.{Hop}
 use Rattle.link_model.specs.declared.hop.Hop.TheVariants.{Moved as Hopped, Blocked as Waits, Untried}
 use Rattle.faulty_links.proofs.Arrivals.{taken_there, reached_is}
@@ -136,7 +136,7 @@ goes old p q c m l same inside moved links after w =
 pub hops : (old p q : LinksAndPlan) (c : ℕ) (h : Hop) (l : LinkState) → p ≡ old → IsHop p.links c h l → q ≡ linked p l → IsHopOf old c h q
 hops old p q c (Hopped next) l same is after = goes old p q c (To next) l same refl (sym (ap (λ x. x.0) is)) (sym (ap (λ x. x.1) is)) after
 hops old p q c (Waits next) l same is after = goes old p q c (MovedBlocked next) l same refl (sym (ap (λ x. x.0) is)) (sym (ap (λ x. x.1) is)) after
-hops old p q c Untried l same is after = after ∙ ap (linked p) is ∙ same
+hops old p q c Untried l same is after = (after ∙ ap (linked p) is.0 ∙ same, ap (λ r. is_hop (advance r.links c).0) (sym same) ∙ is.1)
 
 -- a part behind a fault that may have struck
 abbrev pub struck : LinksAndPlan → Fault → Bool × LinkState → LinksAndPlan

@@ -13,7 +13,7 @@ use Rattle.world_defs.specs.Node.{NodeState, Outgoing, packet_for, after_sending
 use Rattle.world_defs.specs.Hearing.{hear}
 use Rattle.world_defs.specs.World.{WorldState, host_count, last_count, node_at, with_node, with_drop}
 use Rattle.world_defs.specs.Step.{lost, advanced, arrived, inject_one, planned_strikes}
-use Rattle.link_model.specs.Hop.{IsRun}
+use Rattle.link_model.specs.Hop.{is_hop, IsRun}
 use Rattle.link_model.specs.declared.hop.Hop.{Hop}
 use Rattle.link_model.specs.declared.hop.Hop.TheVariants.{Moved as Hopped, Blocked as Waits, Untried}
 
@@ -111,12 +111,12 @@ IsToldOf old c h arrival effect new = (w : WorldState) (n : NodeState)
 abbrev pub CountsDrop : LinksAndPlan → LinksAndPlan → Type 0
 CountsDrop old new = (w : WorldState) → with_drop (with_part w old) ≡ with_part w new
 
--- a hop that moved its packet, or found it blocked, is the advance in every world with these links; else nothing has
--- changed
+-- A hop that moved its packet, or found it blocked, is the advance in every world with these links. It is left untried
+-- exactly where the advance goes into no channel and waits for none; then nothing has changed.
 abbrev pub IsHopOf : LinksAndPlan → ℕ → Hop → LinksAndPlan → Type 0
 IsHopOf old c (Hopped next) new = (w : WorldState) → advanced (with_part w old) c ≡ (MovedTo next, with_part w new)
 IsHopOf old c (Waits next) new = (w : WorldState) → advanced (with_part w old) c ≡ (Blocked next, with_part w new)
-IsHopOf old c Untried new = new ≡ old
+IsHopOf old c Untried new = (new ≡ old) × (is_hop (advance old.links c).0 ≡ false)
 
 -- the links made a run from a channel, of so many hops, to this channel, and nothing else has changed
 abbrev pub IsRunOf : LinksAndPlan → ℕ → ℕ → ℕ → LinksAndPlan → Type 0

@@ -1,19 +1,27 @@
 -- A hop: an advance of a packet that another channel takes, or that waits for one.
-use Rattle.std.specs.Prelude.{◌≡◌, ℕ, ◌+◌, List}
+use Rattle.std.specs.Prelude.{◌≡◌, ℕ, ◌+◌, Bool, true, false, List}
 use Rattle.net_defs.specs.Network.{Network}
 use Rattle.packet_defs.specs.Packet.{stripped}
 use Rattle.link_defs.specs.declared.moved.Course.TheVariants.{Enters}
+use Rattle.link_defs.specs.declared.moved.Moved.{Moved as WentTo}
 use Rattle.link_defs.specs.declared.moved.Moved.TheVariants.{To, Blocked as StaysFor}
 use Rattle.link_defs.specs.Links.{LinkState}
 use Rattle.link_defs.specs.Advance.{course, advance}
 use Rattle.link_model.specs.declared.hop.Hop.{Hop}
 use Rattle.link_model.specs.declared.hop.Hop.TheVariants.{Moved, Blocked, Untried}
 
--- a hop that moved its packet, or found it blocked, is the advance; else nothing has changed
+-- an advance went into a channel, or waits for one
+abbrev pub is_hop : WentTo (List ℕ) → Bool
+is_hop (To next) = true
+is_hop (StaysFor next) = true
+is_hop _ = false
+
+-- A hop that moved its packet, or found it blocked, is the advance. It is left untried exactly where the advance goes
+-- into no channel and waits for none; then nothing has changed.
 abbrev pub IsHop : LinkState → ℕ → Hop → LinkState → Type 0
 IsHop old c (Moved next) new = advance old c ≡ (To next, new)
 IsHop old c (Blocked next) new = advance old c ≡ (StaysFor next, new)
-IsHop old c Untried new = new ≡ old
+IsHop old c Untried new = (new ≡ old) × (is_hop (advance old c).0 ≡ false)
 
 -- a switch sends a channel's packet on into a channel
 abbrev pub IsSentOn : Network → ℕ → List ℕ → Type 0

@@ -7,7 +7,7 @@ pub enum Hop {
     Moved(u16),
     /// It stays, since this channel holds another packet.
     Blocked(u16),
-    /// Nothing was tried: the channel holds no packet, or one that goes into no other channel.
+    /// Nothing was tried: the channel holds no packet, or one that goes into no channel.
     Untried,
 }
 

@@ -33,7 +33,8 @@ impl Machine {
         }
     }
 
-    /// An advance into the next channel, or one that is blocked; anything else is left to [`Machine::advance`].
+    /// An advance into the next channel, or one that is blocked. It is left untried, and to [`Machine::advance`],
+    /// exactly where it is anything else.
     pub(crate) fn hop(&mut self, c: u16) -> Hop
         requires { IsChannelOf self.old c }
         ensures { IsHopIn self.old c result self.new }

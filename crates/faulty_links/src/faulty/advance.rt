@@ -61,8 +61,8 @@ impl FaultyLinks {
         }
     }
 
-    /// An advance into the next channel, or one that is blocked. Anything else is left to [`FaultyLinks::reaching`] and
-    /// [`FaultyLinks::advance`].
+    /// An advance into the next channel, or one that is blocked. It is left untried, and to [`FaultyLinks::reaching`]
+    /// and [`FaultyLinks::advance`], exactly where the advance is anything else.
     pub fn hop(&mut self, c: u16) -> Hop
         requires { c < length self.old.links.channels }
         ensures { IsHopOf self.old c result self.new }

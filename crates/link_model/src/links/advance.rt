@@ -27,8 +27,8 @@ impl Links {
         }
     }
 
-    /// An advance that hands no packet out: one into the next channel, or one that is blocked. Anything else is left
-    /// to [`Links::advance`].
+    /// An advance that hands no packet out: one into the next channel, or one that is blocked. It is left untried, and
+    /// to [`Links::advance`], exactly where the advance is anything else.
     pub fn hop(&mut self, c: u16) -> Hop
         requires { c < length self.old.channels }
         ensures { IsHop self.old c result self.new }
@@ -41,7 +41,7 @@ impl Links {
                     Hop::Blocked(next)
                 }
             }
-            _ => Hop::Untried,
+            Some(Course::Arrives(_) | Course::Drops(_)) | None => Hop::Untried,
         }
     }
 
