@@ -1,26 +1,23 @@
 -- What a call comes to, by what its client and its port have.
-use Rattle.std.proofs.Common.{◌≡◌, ℕ, Bool, true, false, List, [], ◌∷◌, Option, Some, None, option_map, ◌⊎◌, inl, inr, refl, sym, ap, subst, ◌∙◌, if◌then◌else◌}
-use Rattle.std.specs.Prelude.{drop, slice_get, is_none, Result, Ok, Err, IfOk, IfSome, OnOk, OnErr}
+use Rattle.std.proofs.Common.{◌≡◌, ℕ, Bool, true, false, List, [], ◌∷◌, Option, Some, None, option_map, refl, sym, ap, subst, ◌∙◌, if◌then◌else◌}
+use Rattle.std.specs.Prelude.{drop, slice_get, Result, Ok, Err, IfOk, IfSome, OnOk, OnErr}
 use Rattle.std.proofs.lemmas.Option.{same_Some, none-some}
 use Rattle.std.proofs.lemmas.List.{set-get_or}
-use Rattle.gm_defs.specs.Fragment.{piece_count}
-use Rattle.gm_defs.specs.Connection.{is_spent}
 use Rattle.gm_defs.specs.Token.{PortState, PortEvent, Sent, Received}
-use Rattle.gm_defs.specs.Port.{is_too_long, is_bad_size, sent_with, provided_with, next_event, polled}
+use Rattle.gm_defs.specs.Port.{is_bad_size, sent_with, provided_with, next_event, polled}
 use Rattle.gm_port.specs.declared.event.PortEvent.{PortEvent as Event}
 use Rattle.gm_port.specs.Held.{event_at, event_of}
 use Rattle.world_defs.specs.declared.client.ClientCause.{ClientCause}
-use Rattle.world_defs.specs.declared.client.ClientCause.TheVariants.{NotOpen, NoToken, BadSize, TooLong, NoRoute, Spent}
+use Rattle.world_defs.specs.declared.client.ClientCause.TheVariants.{NotOpen, NoToken, BadSize}
 use Rattle.world_defs.specs.declared.effect.Said.{Said}
 use Rattle.world_defs.specs.declared.effect.Said.TheVariants.{Token, Nothing}
-use Rattle.world_defs.specs.Table.{table_route}
 use Rattle.world_defs.specs.Lane.{with_message}
 use Rattle.world_defs.specs.Node.{NodeState, lane_at, with_lane, port_at, with_port}
 use Rattle.world_defs.specs.Client.{ClientState, Called, Wanted, client_bytes, wanted_message, wanted_lane, empty_buffer, refused, left, provide_with, provide_open, provided_by, send_refusal, send_accepted, send_unless, send_with, send_open, sent_by, handed_out, poll_open, polled_by}
 use Rattle.port_client.specs.Held.{OpenClient, with_sends, with_recvs}
 use Rattle.nic_node.specs.Held.{HostNode, in_state}
 use Rattle.client_host.specs.Back.{with_event, event_said}
-use Rattle.client_host.specs.Telling.{size_cause, is_told_first}
+use Rattle.client_host.specs.Telling.{size_cause, is_refused}
 use Rattle.client_host.specs.Tied.{held_of, now_holding, IsTied}
 use Rattle.client_host.proofs.Tokens.{open-is, same-event}
 
@@ -151,9 +148,8 @@ record IsRefused (n : NodeState) (c : ClientState) (said : Said) (made : Called)
   is : made ≡ refused n (Some c) cause
 
 is-refused : (said : Said) (cause bar : Option ClientCause) (n : NodeState) (c : ClientState) (call made : Called) → option_map (λ x. Said.Refused x) cause ≡ Some said → made ≡ unless n c bar call
-    → (cause ≡ bar) ⊎ (cause ≡ None) → IsRefused n c said made
-is-refused said (Some cause) bar n c call made told e (inl same) = record { cause = cause; told = sym (same_Some (Said.Refused cause) said told); is = e ∙ ap (λ o. unless n c o call) (sym same) }
-is-refused said (Some cause) bar n c call made told e (inr none) = absurd (none-some cause (sym none))
+    → cause ≡ bar → IsRefused n c said made
+is-refused said (Some cause) bar n c call made told e same = record { cause = cause; told = sym (same_Some (Said.Refused cause) said told); is = e ∙ ap (λ o. unless n c o call) (sym same) }
 is-refused said None bar n c call made told e f = absurd (none-some said told)
 
 module _ {E : Type 0} (cause bar : Option ClientCause) (n : HostNode) (c : OpenClient) (call made : Called) where
@@ -161,46 +157,23 @@ module _ {E : Type 0} (cause bar : Option ClientCause) (n : HostNode) (c : OpenC
   abbrev Told : Result Said E → Type 0
   Told r = IfOk r (λ said. option_map (λ x. Said.Refused x) cause ≡ Some said)
 
-  pub told-said : (r : Result Said E) → Told r → made ≡ unless n.state c.held bar call → (cause ≡ bar) ⊎ (cause ≡ None) → IfOk r (λ said. said ≡ made.said)
+  pub told-said : (r : Result Said E) → Told r → made ≡ unless n.state c.held bar call → cause ≡ bar → IfOk r (λ said. said ≡ made.said)
   told-said (Ok said) told e f = let k = is-refused said cause bar n.state c.held call made told e f in k.told ∙ sym (ap (λ x. x.said) k.is)
   told-said (Err x) told e f = tt
 
-  pub told-node : (r : Result Said E) (m : HostNode) → Told r → made ≡ unless n.state c.held bar call → (cause ≡ bar) ⊎ (cause ≡ None) → m ≡ n → OnOk r (m ≡ in_state n made.node)
+  pub told-node : (r : Result Said E) (m : HostNode) → Told r → made ≡ unless n.state c.held bar call → cause ≡ bar → m ≡ n → OnOk r (m ≡ in_state n made.node)
   told-node (Ok said) m told e f same = let k = is-refused said cause bar n.state c.held call made told e f in same ∙ ap (λ x. in_state n x.node) (sym k.is)
   told-node (Err x) m told e f same = tt
 
-  pub told-client : (r : Result Said E) (q : OpenClient) → Told r → made ≡ unless n.state c.held bar call → (cause ≡ bar) ⊎ (cause ≡ None) → q ≡ c → OnOk r (Some q ≡ now_holding (Some c) made.client)
+  pub told-client : (r : Result Said E) (q : OpenClient) → Told r → made ≡ unless n.state c.held bar call → cause ≡ bar → q ≡ c → OnOk r (Some q ≡ now_holding (Some c) made.client)
   told-client (Ok said) q told e f same = let k = is-refused said cause bar n.state c.held call made told e f in ap (λ x. Some x) same ∙ ap (λ x. now_holding (Some c) x.client) (sym k.is)
   told-client (Err x) q told e f same = tt
 
--- where memory is wanting there was no cause, and then no refusal that is told first
-pub told-first : {E : Type 0} (r : Result Said E) (cause bar : Option ClientCause) (n : NodeState) (c : ClientState) (call made : Called) → OnErr r (cause ≡ None) → made ≡ unless n c bar call
-    → (cause ≡ None → is_told_first (unless n c bar call).said ≡ false) → OnErr r (is_told_first made.said ≡ false)
-told-first (Ok said) cause bar n c call made none e first = tt
-told-first (Err x) cause bar n c call made none e first = ap (λ (k : Called). is_told_first k.said) e ∙ first none
-
--- no token is provided only for its size or its priority
-pub provide-wanting : (n : NodeState) (port size prio : ℕ) (c : ClientState) (t : ℕ) → size_cause size prio ≡ None → is_told_first (unless n c (size_cause size prio) (provided_call n port size prio c t)).said ≡ false
-provide-wanting n port size prio c t none = ap (λ o. is_told_first (unless n c o (provided_call n port size prio c t)).said) none
-
--- a message that isn't too long is refused only for its route and its numbers
-pub send-wanting : (n : NodeState) (s : Wanted) (c : ClientState) (t : ℕ) → is_too_long s.len ≡ false → is_told_first (unless n c (send_refusal n s) (sent_call n s c t)).said ≡ false
-send-wanting n s c t short =
-    ap (λ b. is_told_first (unless n c (if b then Some TooLong else if is_none (table_route n.table s.dest) then Some NoRoute else if is_spent (lane_at n (wanted_lane s)).sender (piece_count s.len) then Some Spent else None) (sent_call n s c t)).said) short
-    ∙ by (is_none (table_route n.table s.dest)) (is_spent (lane_at n (wanted_lane s)).sender (piece_count s.len))
-  where
-    by : (a b : Bool) → is_told_first (unless n c (if a then Some NoRoute else if b then Some Spent else None) (sent_call n s c t)).said ≡ false
-    by true b = refl
-    by false true = refl
-    by false false = refl
-
--- where memory is wanting the message isn't too long, since that would be told
-pub not-long : (len : ℕ) (cause : Option ClientCause) → (is_too_long len ≡ true → cause ≡ Some TooLong) → cause ≡ None → is_too_long len ≡ false
-not-long len cause long none = by (is_too_long len) refl
-  where
-    by : (b : Bool) → is_too_long len ≡ b → is_too_long len ≡ false
-    by true e = absurd (none-some TooLong (sym none ∙ long e))
-    by false e = e
+-- where memory is wanting there was no cause, and then the call isn't refused
+pub told-wanting : {E : Type 0} (r : Result Said E) (cause bar : Option ClientCause) (n : NodeState) (c : ClientState) (call made : Called) → OnErr r (cause ≡ None) → made ≡ unless n c bar call → cause ≡ bar
+    → is_refused call.said ≡ false → OnErr r (is_refused made.said ≡ false)
+told-wanting (Ok said) cause bar n c call made none e same done = tt
+told-wanting (Err x) cause bar n c call made none e same done = ap (λ (k : Called). is_refused k.said) (e ∙ ap (λ o. unless n c o call) (sym same ∙ none)) ∙ done
 
 -- the first event of a port
 pub event-first : (host port : ℕ) (o : Option PortState) (f : Option Event) (e : Event) → f ≡ Some e → IfSome o (λ p. f ≡ option_map (event_at host port) (next_event p)) → (p : PortState) → o ≡ Some p → next_event p ≡ Some (event_of e)

@@ -36,8 +36,8 @@ IsCounted (CloseFilling n) = Unit {0}
 abbrev pub size_cause : ℕ → ℕ → Option ClientCause
 size_cause size prio = if is_bad_size size prio then Some BadSize else None
 
--- a message isn't accepted, as the client is told of it: none for want of memory, and for a buffer that is too short,
--- which a client's never is
+-- a message isn't accepted, as the client is told of it: no cause for want of memory, and for a buffer that is too
+-- short, which a client's never is
 abbrev pub send_cause : NodeSend → Option ClientCause
 send_cause NothingSends = Some NotOpen
 send_cause SendTooLong = Some TooLong
@@ -50,10 +50,7 @@ send_cause NoMemory = None
 abbrev pub ask_refusal : NodeState → SendAsk → Option ClientCause
 ask_refusal n a = send_refusal n (wanted 0 a.dest a.dport a.prio a.len 0)
 
--- a refusal is told before any memory is asked for: each but those for a message's route and for its numbers, which the
--- host knows once the message's bytes are in a buffer
-abbrev pub is_told_first : Said → Bool
-is_told_first (Refused NoRoute) = false
-is_told_first (Refused Spent) = false
-is_told_first (Refused cause) = true
-is_told_first _ = false
+-- a call was refused
+abbrev pub is_refused : Said → Bool
+is_refused (Refused cause) = true
+is_refused _ = false

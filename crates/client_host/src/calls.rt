@@ -6,7 +6,7 @@ ghost use Rattle.world_defs.specs.Client.{begun, closed, provided_by, sent_by, p
 ghost use Rattle.world_defs.specs.Step.{wanted};
 ghost use Rattle.host_ports.specs.Held.{place_at};
 ghost use Rattle.client_host.specs.Held.{client_in, after_call, IsFromHosts};
-ghost use Rattle.client_host.specs.Telling.{is_told_first};
+ghost use Rattle.client_host.specs.Telling.{is_refused};
 
 use crate::closing::close;
 use crate::host::ClientHost;
@@ -22,7 +22,7 @@ use world_defs::Said;
 
 impl ClientHost {
     /// Opens a port, where it isn't open: its client holds so many send tokens and receive tokens. Want of memory
-    /// changes nothing.
+    /// changes nothing, and hides no refusal.
     pub fn begin(
         &mut self,
         alloc: Global,
@@ -35,7 +35,7 @@ impl ClientHost {
             said ≡ (begun self.old.state port sends recvs (client_in self.old port)).said) }
         ensures after { OnOk result (self.new ≡ after_call self.old port
             (begun self.old.state port sends recvs (client_in self.old port))) }
-        ensures wanting { OnErr result (is_told_first
+        ensures wanting { OnErr result (is_refused
             (begun self.old.state port sends recvs (client_in self.old port)).said ≡ false) }
         ensures unchanged { OnErr result (self.new ≡ self.old) }
     {
@@ -56,7 +56,7 @@ impl ClientHost {
     }
 
     /// The client provides the receive token that it has held longest, with a buffer of zero bytes. Want of memory
-    /// changes nothing.
+    /// changes nothing, and hides no refusal.
     pub fn provide(
         &mut self,
         alloc: Global,
@@ -69,7 +69,7 @@ impl ClientHost {
             said ≡ (provided_by self.old.state port size prio (client_in self.old port)).said) }
         ensures after { OnOk result (self.new ≡ after_call self.old port
             (provided_by self.old.state port size prio (client_in self.old port))) }
-        ensures wanting { OnErr result (is_told_first
+        ensures wanting { OnErr result (is_refused
             (provided_by self.old.state port size prio (client_in self.old port)).said ≡ false) }
         ensures unchanged { OnErr result (self.new ≡ self.old) }
     {
@@ -78,7 +78,7 @@ impl ClientHost {
     }
 
     /// The client sends so many bytes with the send token that it has held longest: byte i is the seed plus i, modulo
-    /// 256. Want of memory changes nothing.
+    /// 256. Want of memory changes nothing, and hides no refusal.
     pub fn send(
         &mut self,
         alloc: Global,
@@ -97,7 +97,7 @@ impl ClientHost {
             said ≡ (sent_by self.old.state (wanted port dest dport prio len seed) (client_in self.old port)).said) }
         ensures after { OnOk result (self.new ≡ after_call self.old port
             (sent_by self.old.state (wanted port dest dport prio len seed) (client_in self.old port))) }
-        ensures wanting { OnErr result (is_told_first
+        ensures wanting { OnErr result (is_refused
             (sent_by self.old.state (wanted port dest dport prio len seed) (client_in self.old port)).said ≡ false) }
         ensures unchanged { OnErr result (self.new ≡ self.old) }
     {

@@ -216,11 +216,12 @@ impl ClientHost {
         self.node.has_to_send()
     }
 
-    /// The packet of what it sends first, injected under a number. None exactly where it has nothing to send. It
-    /// stays as it is: see [`ClientHost::staged`].
+    /// The packet of what it sends first, injected under a number. None exactly where it has nothing to send, and then
+    /// no memory is asked for. It stays as it is: see [`ClientHost::staged`].
     pub fn stage(&self, alloc: Global, number: u64) -> Result<Option<Packet>, AllocError>
-        ensures { IfOk result (λ packet. packet ≡ option_map (packet_for self.now.host number)
+        ensures packet { IfOk result (λ packet. packet ≡ option_map (packet_for self.now.host number)
             (to_send self.now.host self.now.state)) }
+        ensures wanting { OnErr result (is_some (to_send self.now.host self.now.state) ≡ true) }
     {
         self.node.stage(alloc, number)
     }

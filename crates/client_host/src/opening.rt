@@ -4,7 +4,7 @@ ghost use Rattle.std.specs.Prelude.{◌≡◌, ◌<◌, false, IfOk, OnOk, OnErr
 ghost use Rattle.world_defs.specs.Node.{port_at};
 ghost use Rattle.world_defs.specs.Client.{begun};
 ghost use Rattle.nic_node.specs.Held.{in_state};
-ghost use Rattle.client_host.specs.Telling.{is_told_first};
+ghost use Rattle.client_host.specs.Telling.{is_refused};
 ghost use Rattle.client_host.specs.Tied.{held_of, opened_where, IsTied};
 
 use crate::returning::retire;
@@ -29,7 +29,7 @@ pub(crate) fn begin(
     ensures node { OnOk result (node.new ≡ in_state node.old
         (begun node.old.state port sends recvs (held_of slot.old)).node) }
     ensures client { OnOk result (slot.new ≡ opened_where node.old.host port sends recvs slot.old) }
-    ensures wanting { OnErr result (is_told_first
+    ensures wanting { OnErr result (is_refused
         (begun node.old.state port sends recvs (held_of slot.old)).said ≡ false) }
     ensures node_stays { OnErr result (node.new ≡ node.old) }
     ensures client_stays { OnErr result (slot.new ≡ slot.old) }

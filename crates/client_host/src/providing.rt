@@ -9,7 +9,7 @@ ghost use Rattle.gm_tokens.specs.Token.{token_at};
 ghost use Rattle.world_defs.specs.Node.{port_at, with_port};
 ghost use Rattle.world_defs.specs.Client.{empty_buffer, provided_by};
 ghost use Rattle.nic_node.specs.Held.{in_state};
-ghost use Rattle.client_host.specs.Telling.{size_cause, is_told_first};
+ghost use Rattle.client_host.specs.Telling.{size_cause, is_refused};
 ghost use Rattle.client_host.specs.Tied.{held_of, now_holding, IsTied};
 
 use crate::telling::refused;
@@ -37,7 +37,7 @@ pub(crate) fn provide(
         (provided_by node.old.state port size prio (held_of slot.old)).node) }
     ensures client { OnOk result (slot.new ≡ now_holding slot.old
         (provided_by node.old.state port size prio (held_of slot.old)).client) }
-    ensures wanting { OnErr result (is_told_first
+    ensures wanting { OnErr result (is_refused
         (provided_by node.old.state port size prio (held_of slot.old)).said ≡ false) }
     ensures node_stays { OnErr result (node.new ≡ node.old) }
     ensures client_stays { OnErr result (slot.new ≡ slot.old) }
@@ -65,7 +65,7 @@ fn provide_open(
         (provided_by node.old.state port size prio (Some client.old.held)).node) }
     ensures client { OnOk result (Some client.new
         ≡ now_holding (Some client.old) (provided_by node.old.state port size prio (Some client.old.held)).client) }
-    ensures wanting { OnErr result (is_told_first
+    ensures wanting { OnErr result (is_refused
         (provided_by node.old.state port size prio (Some client.old.held)).said ≡ false) }
     ensures node_stays { OnErr result (node.new ≡ node.old) }
     ensures client_stays { OnErr result (client.new ≡ client.old) }

@@ -1,22 +1,21 @@
 //! A message is sent.
 
-ghost use Rattle.std.specs.Prelude.{◌≡◌, ◌≢◌, ◌⊎◌, ◌<◌, ◌≤◌, ◌+◌, ◌%◌, length, is_some, true, false, Some, None};
+ghost use Rattle.std.specs.Prelude.{◌≡◌, ◌≢◌, ◌<◌, ◌≤◌, ◌+◌, ◌%◌, length, is_some, true, false, Some, None};
 ghost use Rattle.std.specs.Prelude.{IfOk, IfErr, OnOk, OnErr, MatchResult};
 ghost use Rattle.std.specs.Option.{ForSome};
 ghost use Rattle.gm_defs.specs.Body.{message_limit};
 ghost use Rattle.gm_defs.specs.Token.{place_of_send};
-ghost use Rattle.gm_defs.specs.Port.{is_too_long};
 ghost use Rattle.gm_tokens.specs.Token.{token_at};
 ghost use Rattle.world_defs.specs.Node.{port_at};
 ghost use Rattle.world_defs.specs.Client.{client_bytes, sent_by};
 ghost use Rattle.world_defs.specs.Step.{wanted};
 ghost use Rattle.nic_node.specs.Held.{in_state};
-ghost use Rattle.nic_node.specs.Accepting.{accepted};
-ghost use Rattle.client_host.specs.Telling.{send_cause, ask_refusal, is_told_first};
+ghost use Rattle.nic_node.specs.Accepting.{ask_bar, accepted};
+ghost use Rattle.client_host.specs.Telling.{send_cause, ask_refusal, is_refused};
 ghost use Rattle.client_host.specs.Tied.{held_of, now_holding, IsTied};
 
 use crate::telling::refused;
-use gm_tokens::{SendToken, is_too_long};
+use gm_tokens::SendToken;
 use nic_node::{NicNode, NodeSend, SendAsk};
 use port_client::Client;
 use reg_mem::{register, release};
@@ -44,7 +43,7 @@ pub(crate) fn send(
         (sent_by node.old.state (wanted port a.dest a.dport a.prio a.len seed) (held_of slot.old)).node) }
     ensures client { OnOk result (slot.new ≡ now_holding slot.old
         (sent_by node.old.state (wanted port a.dest a.dport a.prio a.len seed) (held_of slot.old)).client) }
-    ensures wanting { OnErr result (is_told_first (sent_by node.old.state
+    ensures wanting { OnErr result (is_refused (sent_by node.old.state
         (wanted port a.dest a.dport a.prio a.len seed) (held_of slot.old)).said ≡ false) }
     ensures node_stays { OnErr result (node.new ≡ node.old) }
     ensures client_stays { OnErr result (slot.new ≡ slot.old) }
@@ -76,7 +75,7 @@ fn send_open(
     ensures client { OnOk result (Some client.new
         ≡ now_holding (Some client.old) (sent_by node.old.state (wanted port a.dest a.dport a.prio a.len seed)
         (Some client.old.held)).client) }
-    ensures wanting { OnErr result (is_told_first (sent_by node.old.state
+    ensures wanting { OnErr result (is_refused (sent_by node.old.state
         (wanted port a.dest a.dport a.prio a.len seed) (Some client.old.held)).said ≡ false) }
     ensures node_stays { OnErr result (node.new ≡ node.old) }
     ensures client_stays { OnErr result (client.new ≡ client.old) }
@@ -93,8 +92,8 @@ fn send_open(
     }
 }
 
-// A token sends the message of a new buffer. It comes back where that is refused, with the cause, or with none for
-// want of memory. A message that is too long is refused before any memory is asked for.
+// A token sends the message of a new buffer. It comes back exactly where that is refused, with the cause, and for want
+// of memory with none. The host is asked before any memory is.
 fn send_token(
     alloc: Global,
     node: &mut NicNode,
@@ -112,33 +111,31 @@ fn send_token(
     requires dport { a.dport < 8 }
     requires prio { a.prio < 2 }
     ensures refused { MatchResult result (λ _. ask_refusal node.old.state a ≡ None) (λ e.
-        (e.1 ≡ ask_refusal node.old.state a) ⊎ (e.1 ≡ None)) }
-    ensures too_long { IfErr result (λ e. is_too_long a.len ≡ true → e.1 ≡ Some ClientCause.TooLong) }
+        e.1 ≡ ask_refusal node.old.state a) }
     ensures number { IfOk result (λ n. n ≡ token.number) }
     ensures sent { OnOk result (node.new ≡ in_state node.old
         (accepted node.old.state port token.number a (client_bytes a.len seed))) }
     ensures handed_back { IfErr result (λ e. e.0 ≡ token) }
     ensures unchanged { OnErr result (node.new ≡ node.old) }
 {
-    if is_too_long(a.len) {
-        return Err((token, Some(ClientCause::TooLong)));
-    }
-    match client_bytes(alloc, a.len, seed) {
-        Ok(bytes) => send_bytes(alloc, node, port, token, a, bytes),
-        Err(_) => Err((token, None)),
+    match node.refuse_ask(a) {
+        Some(refusal) => Err((token, cause_of(refusal))),
+        None => match send_new(alloc, node, port, token, a, seed) {
+            Ok(number) => Ok(number),
+            Err(token) => Err((token, None)),
+        },
     }
 }
 
-// A token sends a message of these bytes. It comes back exactly where that is refused, with the cause, and for want of
-// memory with none.
-fn send_bytes(
+// A token sends the message of a new buffer, which isn't refused. It comes back for want of memory alone.
+fn send_new(
     alloc: Global,
     node: &mut NicNode,
     port: u8,
     token: SendToken,
     a: SendAsk,
-    bytes: Vec<u8>,
-) -> Result<u16, (SendToken, Option<ClientCause>)>
+    seed: u8,
+) -> Result<u16, SendToken>
     requires port { port < 8 }
     requires open { is_some (port_at node.old.state port) ≡ true }
     requires own { token ≡ token_at node.old.host port token.number }
@@ -147,21 +144,51 @@ fn send_bytes(
     requires dest { a.dest < node.old.hosts }
     requires dport { a.dport < 8 }
     requires prio { a.prio < 2 }
+    requires accepted { ask_bar node.old a ≡ None }
+    ensures number { IfOk result (λ n. n ≡ token.number) }
+    ensures sent { OnOk result (node.new ≡ in_state node.old
+        (accepted node.old.state port token.number a (client_bytes a.len seed))) }
+    ensures handed_back { IfErr result (λ t. t ≡ token) }
+    ensures unchanged { OnErr result (node.new ≡ node.old) }
+{
+    match client_bytes(alloc, a.len, seed) {
+        Ok(bytes) => send_bytes(alloc, node, port, token, a, bytes),
+        Err(_) => Err(token),
+    }
+}
+
+// A token sends a message of these bytes, which isn't refused. It comes back for want of memory alone.
+fn send_bytes(
+    alloc: Global,
+    node: &mut NicNode,
+    port: u8,
+    token: SendToken,
+    a: SendAsk,
+    bytes: Vec<u8>,
+) -> Result<u16, SendToken>
+    requires port { port < 8 }
+    requires open { is_some (port_at node.old.state port) ≡ true }
+    requires own { token ≡ token_at node.old.host port token.number }
+    requires minted { ForSome (port_at node.old.state port) (λ p. token.number < p.sends) }
+    requires free { ForSome (port_at node.old.state port) (λ p. place_of_send p token.number ≡ None) }
+    requires dest { a.dest < node.old.hosts }
+    requires dport { a.dport < 8 }
+    requires prio { a.prio < 2 }
+    requires accepted { ask_bar node.old a ≡ None }
     requires whole { length bytes.items ≡ a.len }
-    ensures refused { MatchResult result (λ _. ask_refusal node.old.state a ≡ None) (λ e.
-        e.1 ≡ ask_refusal node.old.state a) }
     ensures number { IfOk result (λ n. n ≡ token.number) }
     ensures sent { OnOk result (node.new ≡ in_state node.old
         (accepted node.old.state port token.number a bytes.items)) }
-    ensures handed_back { IfErr result (λ e. e.0 ≡ token) }
+    ensures handed_back { IfErr result (λ t. t ≡ token) }
     ensures unchanged { OnErr result (node.new ≡ node.old) }
 {
     let number = token.number();
     match node.send(alloc, port, token, register(bytes), a) {
         Ok(()) => Ok(number),
         Err((token, buffer, refusal)) => {
+            prove!(matches!(refusal, NodeSend::NoMemory));
             release(buffer);
-            Err((token, cause_of(refusal)))
+            Err(token)
         }
     }
 }

@@ -81,6 +81,14 @@ impl Sender {
         }
     }
 
+    /// Whether a message of so many bytes needs a number above 4,294,967,294.
+    pub fn is_spent(&self, total: u32) -> bool
+        requires { total ≤ message_limit }
+        ensures { result ≡ is_spent self.now.numbers (piece_count total) }
+    {
+        u32::MAX - self.next < piece_count(total)
+    }
+
     /// Makes room for a message of so many bytes. `Spent` exactly where it needs a number above 4,294,967,294.
     pub fn reserve(&mut self, total: u32) -> Result<(), OfferRefusal>
         requires { total ≤ message_limit }
@@ -89,7 +97,7 @@ impl Sender {
         ensures stays { self.new ≡ record self.old { spare = self.new.spare } }
         ensures err { OnErr result (self.new ≡ self.old) }
     {
-        if u32::MAX - self.next < piece_count(total) {
+        if self.is_spent(total) {
             return Err(OfferRefusal::Spent);
         }
         if self.waiting.make_room() {

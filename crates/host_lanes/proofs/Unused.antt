@@ -1,8 +1,9 @@
--- On a lane that isn't used nothing is acknowledged.
-use Rattle.std.proofs.Common.{◌≡◌, ◌-◌, ℕ, Bool, true, false, ◌&&◌, nat_lt, nat_le, [], drop, max, refl, ap, arith, if◌then◌else◌}
+-- On a lane that isn't used nothing is acknowledged, and no message needs too great a number.
+use Rattle.std.proofs.Common.{◌≡◌, ◌-◌, ◌≤◌, ℕ, Bool, true, false, ◌&&◌, nat_lt, nat_le, [], drop, max, refl, ap, arith, if◌then◌else◌}
 use Rattle.std.proofs.lemmas.Bool.Decides.{nat_tests}
-use Rattle.gm_defs.specs.Connection.{starting, is_taken, acknowledged}
-use Rattle.gm_defs.specs.Fragment.{whole_below}
+use Rattle.gm_defs.specs.Body.{message_limit}
+use Rattle.gm_defs.specs.Connection.{starting, is_taken, acknowledged, is_spent}
+use Rattle.gm_defs.specs.Fragment.{whole_below, piece_count}
 use Rattle.world_defs.specs.Lane.{new_lane, finished_by, lane_acknowledged}
 
 taken_none : (n : ℕ) → is_taken (starting 0) n ≡ false
@@ -21,3 +22,10 @@ unused_finished n = ap (λ s. whole_below [] s.base - whole_below [] 0) (acknowl
 
 pub unused_acknowledged : (n : ℕ) → lane_acknowledged new_lane n ≡ new_lane
 unused_acknowledged n = λ i. record new_lane { sender = acknowledged_none n i; pending = drop (unused_finished n i) [] }
+
+pub unused_spent : (n : ℕ) → n ≤ message_limit → is_spent (starting 0) (piece_count n) ≡ false
+unused_spent n low = by (is_spent (starting 0) (piece_count n)) refl
+  where
+    by : (b : Bool) → is_spent (starting 0) (piece_count n) ≡ b → is_spent (starting 0) (piece_count n) ≡ false
+    by false e = e
+    by true e = grind (arith, nat_tests)

@@ -4,7 +4,8 @@ ghost use Rattle.std.specs.Prelude.{◌≡◌, ◌<◌, ◌≤◌, true, false, 
 ghost use Rattle.std.specs.Prelude.{IsSome, IfSome, OnOk, OnErr, IfOk, is_some, option_map};
 ghost use Rattle.net_defs.specs.Refusal.{Refuses};
 ghost use Rattle.gm_defs.specs.Body.{is_prio, is_head, is_last, message_limit};
-ghost use Rattle.gm_defs.specs.Connection.{connection, ack_on, due, unacknowledged, took};
+ghost use Rattle.gm_defs.specs.Fragment.{piece_count};
+ghost use Rattle.gm_defs.specs.Connection.{connection, ack_on, due, unacknowledged, is_spent, took};
 ghost use Rattle.world_defs.specs.Lane.{with_message, finished_by, lane_acknowledged, lane_expired, lane_sent_one};
 ghost use Rattle.world_defs.specs.Lane.{lane_answered, lane_after};
 ghost use Rattle.world_defs.specs.Hearing.{message_of};
@@ -156,6 +157,18 @@ impl Lane {
                 next: 0,
             },
             Some(used) => used.ack(),
+        }
+    }
+
+    /// Whether a message of so many bytes needs a number above 4,294,967,294. None does on an unused lane.
+    #[tactic(auto, using(crate::proofs::Unused::unused_spent))]
+    pub fn is_spent(&self, len: u32) -> bool
+        requires { len ≤ message_limit }
+        ensures { result ≡ is_spent self.now.state.sender (piece_count len) }
+    {
+        match &self.used {
+            None => false,
+            Some(used) => used.is_spent(len),
         }
     }
 

@@ -3,7 +3,8 @@
 ghost use Rattle.std.specs.Prelude.{◌≡◌, ◌<◌, ◌≤◌, ◌^◌, ℕ, length, take, true, IfOk, OnOk, OnErr, IsSome};
 ghost use Rattle.net_defs.specs.Refusal.{Refuses};
 ghost use Rattle.gm_defs.specs.Body.{is_head, is_last, message_limit};
-ghost use Rattle.gm_defs.specs.Connection.{due, took};
+ghost use Rattle.gm_defs.specs.Fragment.{piece_count};
+ghost use Rattle.gm_defs.specs.Connection.{due, is_spent, took};
 ghost use Rattle.world_defs.specs.Lane.{new_lane, with_message, lane_acknowledged, lane_sent_one, lane_answered};
 ghost use Rattle.world_defs.specs.Lane.{lane_after};
 ghost use Rattle.world_defs.specs.Node.{lane_count, lane_of};
@@ -168,6 +169,15 @@ impl Lanes {
         ensures { IsNext (has_unacked self.now) from (length self.now.lanes) result }
     {
         self.sets.next_unacked(from)
+    }
+
+    /// Whether a message of so many bytes for a peer needs a number above 4,294,967,294 in the lane of its priority.
+    pub fn is_spent(&self, peer: u16, prio: u8, len: u32) -> bool
+        requires peer { peer < self.now.hosts }
+        requires length { len ≤ message_limit }
+        ensures { result ≡ is_spent (lane_in self.now (lane_of peer prio)).sender (piece_count len) }
+    {
+        self.lane(peer, prio).is_spent(len)
     }
 
     /// Accepts a message for a peer, the first so many bytes of a buffer, with the number of its port's token, in the

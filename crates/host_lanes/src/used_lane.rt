@@ -5,7 +5,8 @@ ghost use Rattle.std.specs.Prelude.{vec_capacity};
 ghost use Rattle.std.specs.Prelude.{IsSome, IfSome, OnOk, OnErr, IfOk, IfErr, is_some, option_map};
 ghost use Rattle.net_defs.specs.Refusal.{Refuses};
 ghost use Rattle.gm_defs.specs.Body.{is_prio, is_head, is_last, message_limit};
-ghost use Rattle.gm_defs.specs.Connection.{connection, ack_on, due, unacknowledged, took};
+ghost use Rattle.gm_defs.specs.Fragment.{piece_count};
+ghost use Rattle.gm_defs.specs.Connection.{connection, ack_on, due, unacknowledged, is_spent, took};
 ghost use Rattle.gm_defs.specs.declared.message.Message.{Message};
 ghost use Rattle.gm_conn.specs.Halves.{WaitsFor, finished};
 ghost use Rattle.world_defs.specs.Lane.{with_message, finished_by, lane_acknowledged, lane_expired, lane_sent_one};
@@ -143,6 +144,14 @@ impl UsedLane {
         ensures { result ≡ ack_on (other_way self.now.key) self.now.state.taken }
     {
         self.receiver.ack()
+    }
+
+    /// Whether a message of so many bytes needs a number above 4,294,967,294.
+    pub(crate) fn is_spent(&self, len: u32) -> bool
+        requires { len ≤ message_limit }
+        ensures { result ≡ is_spent self.now.state.sender (piece_count len) }
+    {
+        self.sender.is_spent(len)
     }
 
     /// Accepts a message of the lane's priority for the peer, the first so many bytes of a buffer, with the number of

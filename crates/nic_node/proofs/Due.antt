@@ -1,13 +1,13 @@
 -- The fragment that is due, and where its bytes stand.
 use Rattle.std.proofs.Common.{◌≡◌, ◌<◌, ◌≤◌, ◌+◌, ◌-◌, ◌&&◌, ℕ, Bool, true, false, nat_lt, nat_le, nat_eq, min, List, length, take, drop, Option, Some, None, option_map, IsSome, refl, sym, ap, ◌∙◌, subst, arith}
-use Rattle.std.specs.Prelude.{slice_get, option_and_then}
+use Rattle.std.specs.Prelude.{option_and_then}
 use Rattle.std.proofs.lemmas.Bool.Decides.{nat_tests}
 use Rattle.std.proofs.lemmas.Option.{same_Some, none-some}
 use Rattle.gm_defs.specs.declared.frame.FrameHead.{FrameHead}
 use Rattle.gm_defs.specs.Body.{piece, message_limit, number_limit, is_prio, is_offset, is_head}
 use Rattle.gm_defs.specs.Token.{Sending}
 use Rattle.world_defs.specs.Lane.{Ticket}
-use Rattle.world_defs.specs.Node.{NodeState, Outgoing, Fragment, lane_at, lane_route, due_frame, due_on, packet_for}
+use Rattle.world_defs.specs.Node.{NodeState, Fragment, lane_at, lane_route, due_frame, due_on, packet_for}
 use Rattle.host_items.specs.Held.{HostItems}
 use Rattle.route_install.specs.Collecting.{HostTable}
 use Rattle.host_ports.specs.Held.{HostPorts, unfinished_at}

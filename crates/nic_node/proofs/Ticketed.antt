@@ -1,37 +1,34 @@
 -- The parts of a host stay those of a backed host, whatever one of its ports does.
-use Rattle.std.proofs.Common.{◌≡◌, ◌<◌, ◌++◌, ℕ, Bool, true, false, List, length, map, take, drop, set, replicate, nat_lt, if◌then◌else◌, Option, Some, None, option_map, ◌⊎◌, inl, inr, refl, sym, ap, ◌∙◌, subst, arith, is_some}
-use Rattle.std.specs.Prelude.{slice_index_or, Result, Ok, Err, OnOk, OnErr, MatchResult}
+use Rattle.std.proofs.Common.{◌≡◌, ◌<◌, ℕ, Bool, true, false, List, length, map, drop, set, nat_lt, if◌then◌else◌, Option, Some, None, option_map, refl, sym, ap, ◌∙◌, subst, arith, is_some}
+use Rattle.std.specs.Prelude.{Result, Ok, Err, OnOk, OnErr, MatchResult}
 use Rattle.std.specs.Option.{ForSome}
 use Rattle.std.proofs.lemmas.Bool.Decides.{nat_tests}
 use Rattle.std.proofs.lemmas.List.{take-append-drop}
 use Rattle.std.proofs.lemmas.Option.{none-some}
 use Rattle.net_defs.specs.Refusal.{Refuses}
-use Rattle.gm_defs.specs.declared.token.TokenPlace.{TokenPlace}
 use Rattle.gm_defs.specs.declared.token.TokenPlace.TheVariants.{Queue, Event}
 use Rattle.gm_defs.specs.Token.{Sending, PortState, opened, has_number, sent_tokens, place_of_send}
 use Rattle.gm_defs.specs.Port.{send_of, sent_with, unfinished, unread, filling_count}
 use Rattle.gm_port.specs.declared.ask.SendAsk.{SendAsk}
-use Rattle.gm_port.specs.declared.ask.CloseRefusal.{CloseRefusal}
 use Rattle.gm_port.specs.declared.ask.CloseRefusal.TheVariants.{Busy, Unread, Filling}
-use Rattle.gm_port.specs.Refusal.{close_refusal}
 use Rattle.gm_port.proofs.Tables.{found-number}
-use Rattle.world_defs.specs.Lane.{LaneState, with_message, lane_answered, lane_sent_one}
+use Rattle.world_defs.specs.Lane.{LaneState, lane_answered, lane_sent_one}
 use Rattle.world_defs.specs.Node.{lane_count, lane_of}
 use Rattle.world_defs.proofs.Lanes.{lane_of-below}
 use Rattle.host_ports.specs.declared.ask.NodeBegin.{NodeBegin}
 use Rattle.host_ports.specs.declared.ask.NodeBegin.TheVariants.{NoMemory}
 use Rattle.host_ports.specs.declared.ask.NodeClose.{NodeClose}
 use Rattle.host_ports.specs.Held.{HostPorts, none_open, open_at, with_open, changed}
-use Rattle.host_ports.specs.Refusal.{begin_bar, close_word, close_bar}
+use Rattle.host_ports.specs.Refusal.{begin_bar, send_bar, close_word, close_bar}
 use Rattle.route_install.specs.Collecting.{HostTable}
-use Rattle.host_lanes.specs.Lane.{AreNumbered, accept_refusal}
+use Rattle.host_lanes.specs.Lane.{AreNumbered}
 use Rattle.host_lanes.specs.Lanes.{HostLanes, all_unused, lane_in, with_state, both_expired}
 use Rattle.ticket_laws.specs.Host.{Begins, IsBacked}
 use Rattle.ticket_laws.proofs.Hosts.{CanAccept}
 use Rattle.ticket_laws.proofs.Keeping.{host_of}
 use Rattle.ticket_laws.proofs.Backing.{new-backed, answered-backed, sent-backed, expired-backed, opened-backed, closed-backed, queue-backed, accepted-backed, ended-backed}
 use Rattle.nic_node.specs.declared.refusal.NodeSend.{NodeSend}
-use Rattle.nic_node.specs.Accepting.{node_bar, first_of, early_bar, lane_word, message_sent, accepted_in}
+use Rattle.nic_node.specs.Accepting.{port_word, first_of, message_bar, node_bar, message_sent, accepted_in}
 use Rattle.nic_node.specs.Held.{AreOfHost}
 
 -- ---- one port
@@ -138,9 +135,9 @@ module _ (host : ℕ) (t : HostTable) (l m : HostLanes) (p q : HostPorts) (is : 
       there = subst (λ n. k < n) (sym count) (lane_of-below l.hosts a.dest a.prio low)
 
       rest : Option NodeSend
-      rest = option_map lane_word (accept_refusal (lane_in l k) a.len)
+      rest = message_bar (lane_in l k) route a.len
 
-      by : (o : Option PortState) → open_at p port ≡ o → first_of (early_bar o route a.len b) rest ≡ None → ForSome o (λ s. place_of_send s token ≡ None) → AreOfHost host t (accepted_in l port token a b) (changed p port (λ s. sent_with s token b))
+      by : (o : Option PortState) → open_at p port ≡ o → first_of (option_map port_word (send_bar o a.len b)) rest ≡ None → ForSome o (λ s. place_of_send s token ≡ None) → AreOfHost host t (accepted_in l port token a b) (changed p port (λ s. sent_with s token b))
       by None e d f = absurd (none-some _ (sym d))
       by (Some s) e d f =
           let can : CanAccept Begins (host_of p.ports l.lanes) k port token (message_sent port a b) b s = record {

@@ -6,13 +6,15 @@ ghost use Rattle.net_defs.specs.Refusal.{Refuses};
 ghost use Rattle.gm_defs.specs.Token.{place_of_send};
 ghost use Rattle.gm_defs.specs.Port.{sent_with};
 ghost use Rattle.gm_tokens.specs.Token.{token_at};
+ghost use Rattle.world_defs.specs.Node.{lane_of};
 ghost use Rattle.host_ports.specs.Held.{open_at, changed};
 ghost use Rattle.host_ports.specs.Refusal.{send_bar};
-ghost use Rattle.nic_node.specs.Accepting.{accepted_in, early_bar, node_bar, port_word, lane_word};
+ghost use Rattle.host_lanes.specs.Lanes.{lane_in};
+ghost use Rattle.nic_node.specs.Accepting.{accepted_in, message_bar, node_bar, port_word};
 
 use crate::refusal::NodeSend;
-use gm_tokens::SendToken;
-use host_lanes::{Envelope, Lanes, OfferRefusal};
+use gm_tokens::{SendToken, is_too_long};
+use host_lanes::{Envelope, Lanes};
 use host_ports::{PortSend, Ports, SendAsk};
 use reg_mem::Reg;
 use std::alloc::Global;
@@ -76,7 +78,7 @@ fn accept(
     ensures unchanged { OnErr result (lanes.new ≡ lanes.old) }
     ensures buffer { b.new ≡ b.old }
 {
-    if let Some(refusal) = early_refusal(ports, route, port, a, b.bytes()) {
+    if let Some(refusal) = refuse(lanes, ports, route, port, a, b.bytes()) {
         return Err(refusal);
     }
     let envelope = Envelope {
@@ -86,25 +88,44 @@ fn accept(
     };
     match lanes.accept(alloc, a.dest, envelope, b, a.len, token) {
         Ok(()) => Ok(()),
-        Err(refusal) => Err(lane_word(refusal)),
+        // Nothing refuses it, so memory is wanting.
+        Err(_) => Err(NodeSend::NoMemory),
     }
 }
 
-// Why a message is refused before its lane is looked at.
-fn early_refusal(
+// Why the message of a buffer is refused: for its port or its buffer, or else whatever these are.
+fn refuse(
+    lanes: &Lanes,
     ports: &Ports,
     route: bool,
     port: u8,
     a: SendAsk,
     buffer: &[u8],
 ) -> Option<NodeSend>
-    requires { port < 8 }
-    ensures { result ≡ early_bar (open_at ports.now port) route a.len buffer.now }
+    requires port { port < 8 }
+    requires dest { a.dest < lanes.now.hosts }
+    ensures { result ≡ node_bar lanes.now ports.now route port a buffer.now }
 {
     match ports.refuse_send(port, a.len, buffer) {
         Some(refusal) => Some(port_word(refusal)),
-        None if route => None,
-        None => Some(NodeSend::NoRoute),
+        None => refuse_ask(lanes, route, a),
+    }
+}
+
+/// Why a message is refused whatever its port and its buffer are: TooLong, NoRoute, Spent, in this order. `route` says
+/// whether a route leads to its receiver.
+pub(crate) fn refuse_ask(lanes: &Lanes, route: bool, a: SendAsk) -> Option<NodeSend>
+    requires { a.dest < lanes.now.hosts }
+    ensures { result ≡ message_bar (lane_in lanes.now (lane_of a.dest a.prio)) route a.len }
+{
+    if is_too_long(a.len) {
+        Some(NodeSend::TooLong)
+    } else if !route {
+        Some(NodeSend::NoRoute)
+    } else if lanes.is_spent(a.dest, a.prio, a.len) {
+        Some(NodeSend::Spent)
+    } else {
+        None
     }
 }
 
@@ -115,14 +136,5 @@ fn port_word(refusal: PortSend) -> NodeSend
         PortSend::NotOpen => NodeSend::NotOpen,
         PortSend::TooLong => NodeSend::TooLong,
         PortSend::BufferShort => NodeSend::BufferShort,
-    }
-}
-
-fn lane_word(refusal: OfferRefusal) -> NodeSend
-    ensures { result ≡ lane_word refusal }
-{
-    match refusal {
-        OfferRefusal::Spent => NodeSend::Spent,
-        OfferRefusal::NoMemory => NodeSend::NoMemory,
     }
 }

@@ -12,9 +12,9 @@ ghost use Rattle.world_defs.specs.Node.{port_at, with_port};
 ghost use Rattle.host_ports.specs.Held.{place_at};
 ghost use Rattle.host_ports.specs.Refusal.{begin_bar, provide_bar, close_bar};
 ghost use Rattle.nic_node.specs.Held.{in_state};
-ghost use Rattle.nic_node.specs.Accepting.{send_bar, accepted};
+ghost use Rattle.nic_node.specs.Accepting.{ask_bar, send_bar, accepted};
 
-use crate::accepting::send;
+use crate::accepting::{refuse_ask, send};
 use crate::node::NicNode;
 use crate::refusal::NodeSend;
 use gm_defs::TokenPlace;
@@ -81,6 +81,15 @@ impl NicNode {
             (port_at self.old.state port)))) }
     {
         self.ports.provide(port, t, b, size, prio)
+    }
+
+    /// Why a message isn't accepted whatever its port, its token and its buffer are: TooLong, NoRoute, Spent, in this
+    /// order. So a client can ask before it makes the buffer.
+    pub fn refuse_ask(&self, a: SendAsk) -> Option<NodeSend>
+        requires { a.dest < self.now.hosts }
+        ensures { result ≡ ask_bar self.now a }
+    {
+        refuse_ask(&self.lanes, self.has_route(a.dest), a)
     }
 
     /// Accepts a message of a port for a peer. The port has token and buffer until the message is acknowledged. A

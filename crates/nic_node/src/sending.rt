@@ -1,6 +1,6 @@
 //! The packet that a host sends next.
 
-ghost use Rattle.std.specs.Prelude.{◌≡◌, ◌<◌, ◌≤◌, ◌+◌, ℕ, is_some, option_map, length, take, drop, true, Some, IfOk};
+ghost use Rattle.std.specs.Prelude.{◌≡◌, ◌<◌, ◌≤◌, ◌+◌, ℕ, is_some, option_map, length, take, drop, true, Some, IfOk, OnErr};
 ghost use Rattle.packet_defs.specs.Packet.{packet_of};
 ghost use Rattle.gm_defs.specs.Body.{is_prio, is_head, frame_bytes, ack_bytes};
 ghost use Rattle.world_defs.specs.Node.{owed_on, due_frame, due_on, to_send, packet_for, lane_at};
@@ -24,11 +24,12 @@ impl NicNode {
         self.next_send().is_some()
     }
 
-    /// The packet of what it sends first, injected under a number. None exactly where it has nothing to send. It
-    /// stays as it is: see [`NicNode::staged`].
+    /// The packet of what it sends first, injected under a number. None exactly where it has nothing to send, and then
+    /// no memory is asked for. It stays as it is: see [`NicNode::staged`].
     pub fn stage(&self, alloc: Global, number: u64) -> Result<Option<Packet>, AllocError>
-        ensures { IfOk result (λ packet. packet ≡ option_map (packet_for self.now.host number)
+        ensures packet { IfOk result (λ packet. packet ≡ option_map (packet_for self.now.host number)
             (to_send self.now.host self.now.state)) }
+        ensures wanting { OnErr result (is_some (to_send self.now.host self.now.state) ≡ true) }
     {
         match self.next_send() {
             Some(NextSend::Item) => self.items.packet(alloc, self.host, number),

@@ -1,11 +1,11 @@
-use Rattle.std.proofs.Common.{◌∙◌, Some, inl, sym, ap}
+use Rattle.std.proofs.Common.{◌∙◌, Some, refl, sym, ap}
 use Rattle.world_defs.specs.declared.effect.Said.{Said}
 use Rattle.nic_node.specs.Held.{in_state}
 use Rattle.client_host.specs.Telling.{size_cause}
 use Rattle.client_host.specs.Tied.{now_holding}
 use Rattle.client_host.proofs.Tokens.{taken-is, none-taken, free-recv}
 use Rattle.client_host.proofs.Returns.{returned-recv}
-use Rattle.client_host.proofs.Calling.{unless, provided_call, providing-none, providing-some, none-left-recvs, told-said, told-node, told-client, told-first, provide-wanting}
+use Rattle.client_host.proofs.Calling.{unless, provided_call, providing-none, providing-some, none-left-recvs, told-said, told-node, told-client, told-wanting}
 use Rattle.client_host.proofs.providing.provide_open.Goals as goal
 
 pub provide_token-requires-clause-free : goal.provide_token-requires-clause-free
@@ -46,7 +46,7 @@ returns-in-Err-clause-said c =
     let t = c.in-Some.token in
     let first = sym c.take_recv.ensures.token ∙ c.in-Some.is in
     let made = providing-some n.host n.hosts n.state c.args.port c.args.size c.args.prio k t.number c.requires.tied (taken-is k.host k.port k.held.recvs t first).first in
-    told-said c.in-Err.cause (size_cause c.args.size c.args.prio) n k (provided_call n.state c.args.port c.args.size c.args.prio k.held t.number) _ c.refused.result c.refused.ensures.told made (inl c.in-Err.ensures.refused)
+    told-said c.in-Err.cause (size_cause c.args.size c.args.prio) n k (provided_call n.state c.args.port c.args.size c.args.prio k.held t.number) _ c.refused.result c.refused.ensures.told made c.in-Err.ensures.refused
 
 pub returns-in-Err-clause-node : goal.returns-in-Err-clause-node
 returns-in-Err-clause-node c =
@@ -55,7 +55,7 @@ returns-in-Err-clause-node c =
     let t = c.in-Some.token in
     let first = sym c.take_recv.ensures.token ∙ c.in-Some.is in
     let made = providing-some n.host n.hosts n.state c.args.port c.args.size c.args.prio k t.number c.requires.tied (taken-is k.host k.port k.held.recvs t first).first in
-    told-node c.in-Err.cause (size_cause c.args.size c.args.prio) n k (provided_call n.state c.args.port c.args.size c.args.prio k.held t.number) _ c.refused.result c.provide_token.new.node c.refused.ensures.told made (inl c.in-Err.ensures.refused) c.in-Err.ensures.unchanged
+    told-node c.in-Err.cause (size_cause c.args.size c.args.prio) n k (provided_call n.state c.args.port c.args.size c.args.prio k.held t.number) _ c.refused.result c.provide_token.new.node c.refused.ensures.told made c.in-Err.ensures.refused c.in-Err.ensures.unchanged
 
 pub returns-in-Err-clause-client : goal.returns-in-Err-clause-client
 returns-in-Err-clause-client c =
@@ -64,7 +64,7 @@ returns-in-Err-clause-client c =
     let t = c.in-Some.token in
     let first = sym c.take_recv.ensures.token ∙ c.in-Some.is in
     let made = providing-some n.host n.hosts n.state c.args.port c.args.size c.args.prio k t.number c.requires.tied (taken-is k.host k.port k.held.recvs t first).first in
-    told-client c.in-Err.cause (size_cause c.args.size c.args.prio) n k (provided_call n.state c.args.port c.args.size c.args.prio k.held t.number) _ c.refused.result c.return_recv.new.self c.refused.ensures.told made (inl c.in-Err.ensures.refused)
+    told-client c.in-Err.cause (size_cause c.args.size c.args.prio) n k (provided_call n.state c.args.port c.args.size c.args.prio k.held t.number) _ c.refused.result c.return_recv.new.self c.refused.ensures.told made c.in-Err.ensures.refused
     (returned-recv k c.take_recv.new.self c.return_recv.new.self t c.in-Err.token first c.in-Err.ensures.handed_back c.take_recv.ensures.rest c.return_recv.ensures)
 
 pub returns-in-Err-clause-wanting : goal.returns-in-Err-clause-wanting
@@ -73,9 +73,8 @@ returns-in-Err-clause-wanting c =
     let k = c.args.client.now in
     let t = c.in-Some.token in
     let first = sym c.take_recv.ensures.token ∙ c.in-Some.is in
-    told-first c.refused.result c.in-Err.cause (size_cause c.args.size c.args.prio) n.state k.held (provided_call n.state c.args.port c.args.size c.args.prio k.held t.number) _ c.refused.ensures.wanting
-    (providing-some n.host n.hosts n.state c.args.port c.args.size c.args.prio k t.number c.requires.tied (taken-is k.host k.port k.held.recvs t first).first)
-    (λ none. provide-wanting n.state c.args.port c.args.size c.args.prio k.held t.number (sym c.in-Err.ensures.refused ∙ none))
+    told-wanting c.refused.result c.in-Err.cause (size_cause c.args.size c.args.prio) n.state k.held (provided_call n.state c.args.port c.args.size c.args.prio k.held t.number) _ c.refused.ensures.wanting
+    (providing-some n.host n.hosts n.state c.args.port c.args.size c.args.prio k t.number c.requires.tied (taken-is k.host k.port k.held.recvs t first).first) c.in-Err.ensures.refused refl
 
 pub returns-in-None-clause-said : goal.returns-in-None-clause-said
 returns-in-None-clause-said c =

@@ -7,7 +7,7 @@ use Rattle.client_host.specs.Tied.{now_holding}
 use Rattle.client_host.proofs.Tokens.{taken-is, none-taken, free-send}
 use Rattle.client_host.proofs.Sends.{accepted-is}
 use Rattle.client_host.proofs.Returns.{returned-send}
-use Rattle.client_host.proofs.Calling.{unless, sent_call, sending-none, sending-some, none-left-sends, told-said, told-node, told-client, told-first, send-wanting, not-long}
+use Rattle.client_host.proofs.Calling.{unless, sent_call, sending-none, sending-some, none-left-sends, told-said, told-node, told-client, told-wanting}
 use Rattle.client_host.proofs.sending.send_open.Goals as goal
 
 pub send_token-requires-clause-free : goal.send_token-requires-clause-free
@@ -77,9 +77,8 @@ returns-in-Err-clause-wanting c =
     let t = c.in-Some.token in
     let first = sym c.take_send.ensures.token ∙ c.in-Some.is in
     let w = wanted c.args.port c.args.a.dest c.args.a.dport c.args.a.prio c.args.a.len c.args.seed in
-    told-first c.refused.result c.in-Err.cause (send_refusal n.state w) n.state k.held (sent_call n.state w k.held t.number) _ c.refused.ensures.wanting
-    (sending-some n.host n.hosts n.state w k t.number c.requires.tied (taken-is k.host k.port k.held.sends t first).first)
-    (λ none. send-wanting n.state w k.held t.number (not-long c.args.a.len c.in-Err.cause c.in-Err.ensures.too_long none))
+    told-wanting c.refused.result c.in-Err.cause (send_refusal n.state w) n.state k.held (sent_call n.state w k.held t.number) _ c.refused.ensures.wanting
+    (sending-some n.host n.hosts n.state w k t.number c.requires.tied (taken-is k.host k.port k.held.sends t first).first) c.in-Err.ensures.refused refl
 
 pub returns-in-None-clause-said : goal.returns-in-None-clause-said
 returns-in-None-clause-said c =

@@ -1,11 +1,4 @@
-use Rattle.std.proofs.Common.{◌≡◌, ◌<◌, ◌≤◌, ◌+◌, ◌-◌, ℕ, List, length, take, drop, Some, option_map, true, IsSome, sym, ap, ◌∙◌, subst, arith}
-use Rattle.std.proofs.lemmas.Option.{same_Some}
-use Rattle.gm_defs.specs.Body.{is_head}
-use Rattle.gm_defs.specs.Token.{Sending}
-use Rattle.world_defs.specs.Lane.{Ticket}
-use Rattle.world_defs.specs.Node.{NodeState, due_frame, lane_at}
-use Rattle.host_lanes.specs.Lane.{head_of_frame, ticket_of}
-use Rattle.nic_node.specs.Held.{HostNode, state_of}
+use Rattle.std.proofs.Common.{◌≤◌, ◌+◌, ℕ, List, length, take, drop, Some, sym, ap, ◌∙◌, subst, arith}
 use Rattle.nic_node.proofs.Due.{due-part, head-port, there-some, buffer-is}
 use Rattle.nic_node.proofs.node.NicNode.due_part.Goals as goal
 

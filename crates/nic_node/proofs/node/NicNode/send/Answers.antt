@@ -1,10 +1,8 @@
-use Rattle.std.proofs.Common.{◌≡◌, ◌<◌, None, Some, ◌⊎◌, sym, ap, subst}
+use Rattle.std.proofs.Common.{◌≡◌, ◌<◌, None, sym, subst}
 use Rattle.std.specs.Option.{ForSome}
 use Rattle.gm_defs.specs.Token.{place_of_send}
 use Rattle.world_defs.specs.Node.{port_at}
-use Rattle.nic_node.specs.declared.refusal.NodeSend.TheVariants.{NoMemory}
 use Rattle.nic_node.specs.Held.{HostNode}
-use Rattle.nic_node.specs.Accepting.{node_bar}
 use Rattle.nic_node.proofs.Ticketed.{accepted-of}
 use Rattle.nic_node.proofs.node.NicNode.send.Goals as goal
 

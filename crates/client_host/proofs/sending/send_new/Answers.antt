@@ -2,7 +2,7 @@ use Rattle.std.proofs.Common.{◌≡◌, ◌∙◌, OnOk, length, ap, subst}
 use Rattle.nic_node.specs.Held.{in_state}
 use Rattle.nic_node.specs.Accepting.{accepted}
 use Rattle.client_host.proofs.Sends.{bytes-counted}
-use Rattle.client_host.proofs.sending.send_token.Goals as goal
+use Rattle.client_host.proofs.sending.send_new.Goals as goal
 
 pub send_bytes-requires-clause-whole : goal.send_bytes-requires-clause-whole
 send_bytes-requires-clause-whole c = ap length c.in-Ok.ensures ∙ bytes-counted c.args.a.len c.args.seed
