@@ -8,6 +8,7 @@ pub mod PassedBy
 pub mod Places
 pub mod Probing
 pub mod Reaching
+pub mod Refusing
 pub mod Resting
 pub mod Stepped
 pub mod Summing

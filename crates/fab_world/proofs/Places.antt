@@ -135,13 +135,20 @@ changed {p} {ss} {o} {w} {h} {i} {x} q f a e =
     let here = found a in
     changed-under q (f x.state) p o a e ∙ ap (λ v. with_node v h (f x.state)) a.is ∙ ap (λ n. with_node w h (f n)) here.state
 
+-- a call at one host is the same call in the world
+pub call-is : {p : LinksAndPlan} {ss : List ServedHost} {o : Option Adoption} {w : WorldState} {h i : ℕ} {x : ServedHost} (port : ℕ) (f : NodeState → Option ClientState → Called) → IsAt p ss o w h i x
+    → f x.state (client_in x port) ≡ f (node_at w h) (client_at w h port)
+call-is {p} {ss} {o} {w} {h} {i} {x} port f a =
+    let here = found a in
+    ap (λ n. f n (client_in x port)) here.state ∙ ap (λ cs. f (node_at w h) (slice_index_or cs port None)) here.clients
+
 -- the client of one host's port makes a call
 pub called : {p : LinksAndPlan} {ss : List ServedHost} {o : Option Adoption} {w : WorldState} {h i : ℕ} {x : ServedHost} (port : ℕ) (q : ServedHost) (f : NodeState → Option ClientState → Called) (said : Said) → IsAt p ss o w h i x
     → said ≡ (f x.state (client_in x port)).said → q ≡ after_call x port (f x.state (client_in x port))
     → of_call w h port (f (node_at w h) (client_at w h port)) ≡ (Says said, world_of p (slice_set ss i q) o)
 called {p} {ss} {o} {w} {h} {i} {x} port q f said a told e =
     let here = found a in
-    let call : f x.state (client_in x port) ≡ f (node_at w h) (client_at w h port) = ap (λ n. f n (client_in x port)) here.state ∙ ap (λ cs. f (node_at w h) (slice_index_or cs port None)) here.clients in
+    let call : f x.state (client_in x port) ≡ f (node_at w h) (client_at w h port) = call-is port f a in
     let node : q.state ≡ (f (node_at w h) (client_at w h port)).node = ap (λ s. s.state) e ∙ ap (λ k. k.node) call in
     let clients : q.clients ≡ slice_set (slice_index_or w.clients h []) port (f (node_at w h) (client_at w h port)).client =
     ap (λ s. s.clients) e ∙ ap (λ k. slice_set x.clients port k.client) call ∙ ap (λ cs. slice_set cs port (f (node_at w h) (client_at w h port)).client) here.clients in

@@ -1,5 +1,5 @@
 -- When an event may be given to a world.
-use Rattle.std.specs.Prelude.{◌≡◌, ℕ, ◌≤◌, ◌<◌, true, length}
+use Rattle.std.specs.Prelude.{◌≡◌, ℕ, ◌≤◌, ◌<◌, Bool, true, false, length}
 use Rattle.world_defs.specs.declared.event.Event.{Event}
 use Rattle.world_defs.specs.declared.event.Event.TheVariants.{Ask, Part, Inject, Advance, Lose, Repeat, Hold, Flip}
 use Rattle.world_defs.specs.declared.event.Event.TheVariants.{Replay, Reset, Expire, GiveUp, Begin, Close, Provide}
@@ -35,3 +35,23 @@ IsGiven w (Provide h port size prio) = IsHostOf w h × (port < 8)
 IsGiven w (Send h port dest dport prio len seed) =
     IsHostOf w h × IsHostOf w dest × (port < 8) × (dport < 8) × (prio < 2)
 IsGiven w (Poll h port) = IsHostOf w h × (port < 8)
+
+-- an event may take memory
+abbrev pub takes_memory : Event → Bool
+takes_memory (Lose c) = false
+takes_memory (Replay serial) = false
+takes_memory (Reset c) = false
+takes_memory (Expire h peer) = false
+takes_memory (GiveUp h) = false
+takes_memory (Close h port) = false
+takes_memory (Poll h port) = false
+takes_memory _ = true
+
+-- an event is a client's call
+abbrev pub IsClientCall : Event → Type 0
+IsClientCall (Begin h port sends recvs) = Unit {0}
+IsClientCall (Close h port) = Unit {0}
+IsClientCall (Provide h port size prio) = Unit {0}
+IsClientCall (Send h port dest dport prio len seed) = Unit {0}
+IsClientCall (Poll h port) = Unit {0}
+IsClientCall _ = ⊥

@@ -1,5 +1,5 @@
 -- The world that its links and its hosts make.
-use Rattle.std.specs.Prelude.{◌≡◌, ℕ, ◌<◌, List, Option, IfSome}
+use Rattle.std.specs.Prelude.{◌≡◌, ℕ, ◌<◌, Bool, false, List, Option, IfSome}
 use Rattle.net_defs.specs.Network.{IsFabric}
 use Rattle.world_defs.specs.declared.event.Event.{Event}
 use Rattle.world_defs.specs.declared.event.Event.TheVariants.{Poll}
@@ -16,6 +16,7 @@ use Rattle.faulty_links.specs.Held.{LinksAndPlan}
 use Rattle.adopted_routes.specs.Adopting.{IsSetOfHosts}
 use Rattle.client_host.specs.Held.{ServedHost, IsFromHosts}
 use Rattle.client_host.specs.Hosts.{states, clients_of}
+use Rattle.client_host.specs.Telling.{is_refused}
 
 -- the world that these links, their plan and counts, these hosts with their clients and these adopted routes make
 abbrev pub world_of : LinksAndPlan → List ServedHost → Option Adoption → WorldState
@@ -54,6 +55,11 @@ IsOfHosts hosts _ = Unit {0}
 abbrev pub IsPolledOfHosts : ℕ → Event → Effect → Type 0
 IsPolledOfHosts hosts (Poll h port) (Said said) = IsFromHosts hosts said
 IsPolledOfHosts hosts _ _ = Unit {0}
+
+-- an effect is that a client's call was refused
+abbrev pub is_refusal : Effect → Bool
+is_refusal (Said said) = is_refused said
+is_refusal _ = false
 
 -- a client's call at a port of a host says this, and leaves this world
 abbrev pub IsCallAt : WorldState → ℕ → ℕ → (NodeState → Option ClientState → Called) → Effect → WorldState → Type 0

@@ -1,7 +1,7 @@
 //! The world.
 
 ghost use Rattle.std.specs.Prelude.{◌≡◌, ◌≢◌, ◌≤◌, ◌<◌, ◌^◌, ℕ, length, true, is_some, option_map, Some, None, IfOk};
-ghost use Rattle.std.specs.Prelude.{IfSome, IfNone, OnOk, OnErr};
+ghost use Rattle.std.specs.Prelude.{false, IfSome, IfNone, OnOk, OnErr};
 ghost use Rattle.net_defs.specs.Route.{channel_from};
 ghost use Rattle.link_defs.specs.Channel.{channel_count, channel_tail, channel_head};
 ghost use Rattle.link_defs.specs.Hops.{total_hops};
@@ -26,8 +26,8 @@ ghost use Rattle.message_laws.specs.Windows.{HasWindows};
 ghost use Rattle.world_defs.specs.Sound.{IsSound};
 ghost use Rattle.host_ports.specs.Held.{place_at};
 ghost use Rattle.adopted_routes.specs.Adopting.{IsAdoptable, adopt_refusal, part_count_for};
-ghost use Rattle.fab_world.specs.Events.{IsHostOf, IsChannelOf, IsGiven};
-ghost use Rattle.fab_world.specs.Held.{IsMoment, IsOfHosts};
+ghost use Rattle.fab_world.specs.Events.{IsHostOf, IsChannelOf, IsGiven, takes_memory};
+ghost use Rattle.fab_world.specs.Held.{IsMoment, IsOfHosts, is_refusal};
 ghost use Rattle.fab_world.specs.Hop.{IsHopIn, IsRunIn};
 ghost use Rattle.fab_world.specs.Resting.{IsNextAwake, IsNextBusy, IsSilentIn, RestsIn};
 
@@ -81,12 +81,15 @@ impl World {
 
     /// One event: its effect, and the world after it. A close that says how many buffers it hands back hands back each
     /// provided token with its buffer as it was provided, and each other token is with the client. Want of memory
-    /// changes nothing.
+    /// changes nothing, and hides no refusal: a client's call that wants it isn't refused. A loss, a reset, a replay, an
+    /// expiry, a close and a poll want none, nor does a host that gives up.
     pub fn step(&mut self, alloc: Global, e: Event) -> Result<Effect, AllocError>
         requires { IsGiven self.old e }
         ensures ok { IfOk result (λ x. step self.old e ≡ (x, self.new)) }
         ensures host { IfOk result (IsOfHosts (host_count self.old)) }
         ensures back { IfOk result (HandsBackBy self.old e) }
+        ensures wanting { OnErr result (is_refusal (step self.old e).0 ≡ false) }
+        ensures memory { OnErr result (takes_memory e ≡ true) }
         ensures err { OnErr result (self.new ≡ self.old) }
         ensures fabric { fabric_of self.new ≡ fabric_of self.old }
         ensures hosts { host_count self.new ≡ host_count self.old }
@@ -94,7 +97,7 @@ impl World {
         ensures adopted { self.new.adopted ≡ self.old.adopted }
     {
         flips_have_a_byte(&e);
-        self.machine.step(alloc, e)
+        self.machine.step(alloc, &e)
     }
 
     /// A host stages a probe by a walk, in the place of what it has staged, and puts it into its channel:

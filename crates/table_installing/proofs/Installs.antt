@@ -14,7 +14,7 @@ use Rattle.ask_laws.proofs.Lone.{IsBare, is-bare, bare-idle, idle-bare}
 use Rattle.fab_world.specs.Held.{IsLater}
 use Rattle.world_drain.proofs.Later.{later-step}
 use Rattle.world_drain.proofs.Leading.{asks-later}
-use Rattle.std.specs.Prelude.{ℤ, Option, Some, None}
+use Rattle.std.specs.Prelude.{ℤ, Option, Some, None, option_map}
 
 -- a relation from worlds to worlds that each part of an installation is of
 pub record Installs (R : WorldState → WorldState → Type 0) : Type 0 where
@@ -70,8 +70,13 @@ installed-of R k a hosts tries w =
 installs-later : Installs IsLater
 installs-later = record { asks = asks-later; part = λ w dst part. later-step w (step w (Part dst part)).1 (Part dst part) refl }
 
-pub try-later : (mapper dst part : ℕ) (w v : WorldState) → v ≡ (part_try mapper dst part w).world → IsLater w v
-try-later mapper dst part w v is = subst (IsLater w) (sym is) (part_try-of IsLater installs-later mapper dst part w)
+pub hosts-later : (a : Adoption) (tries : ℕ) (hosts : List ℕ) (w v : WorldState) (acked : ℕ) → hosts_installed a tries hosts w ≡ (acked, v) → IsLater w v
+hosts-later a tries hosts w v acked is = subst (IsLater w) (ap (λ p. p.1) is) (hosts-of IsLater installs-later a tries hosts w)
+
+-- what routes of one adopter make later, adopted routes of it make later
+pub adopted-later : (w v : WorldState) (o : Option Adoption) (mapper : ℕ) → option_map (λ a. a.mapper) o ≡ Some mapper → ((a : Adoption) → o ≡ Some a → IsLater w v) → IsLater w v
+adopted-later w v None mapper e later = cc
+adopted-later w v (Some a) mapper e later = later a refl
 
 -- idle links
 stage_at-links : (w : WorldState) (mapper : ℕ) (o : Option RoutePart) (by : Option (List ℤ)) → (stage_at w mapper o by).1.links ≡ w.links

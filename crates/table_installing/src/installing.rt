@@ -11,7 +11,6 @@ ghost use Rattle.event_lists.specs.PartWay.{IsPartWay};
 ghost use Rattle.install_laws.specs.Counts.{TellsCause};
 ghost use Rattle.route_install.specs.Installing.{AreHosts, awaited};
 ghost use Rattle.fab_world.specs.Events.{IsHostOf};
-ghost use Rattle.fab_world.specs.Held.{IsLater};
 ghost use Rattle.table_installing.specs.Installing.{CanInstall, works_of, after_try, acked_among};
 
 use crate::parts::part_try;
@@ -85,7 +84,6 @@ fn install_hosts(
     requires few_tries { tries ≤ 8 }
     ensures acked { (a : Adoption) → w.old.adopted ≡ Some a
         → IfOk result (λ k. hosts_installed a tries hosts.now w.old ≡ (k, w.new)) }
-    ensures later { IsLater w.old w.new }
     ensures err { (a : Adoption) → w.old.adopted ≡ Some a
         → OnErr result (IsPartWay w.old (hosts_events a tries hosts.now w.old) w.new) }
     ensures fabric { fabric_of w.new ≡ fabric_of w.old }

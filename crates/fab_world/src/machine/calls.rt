@@ -1,9 +1,10 @@
 //! The calls of clients, each on a port of a host.
 
-ghost use Rattle.std.specs.Prelude.{◌≡◌, ◌<◌, IfOk, OnErr};
-ghost use Rattle.world_defs.specs.Client.{begun, closed, provided_by, polled_by};
-ghost use Rattle.world_defs.specs.World.{host_count};
+ghost use Rattle.std.specs.Prelude.{◌≡◌, ◌<◌, false, IfOk, OnErr};
+ghost use Rattle.world_defs.specs.Client.{begun, closed, provided_by, sent_by, polled_by};
+ghost use Rattle.world_defs.specs.World.{host_count, node_at, client_at};
 ghost use Rattle.world_defs.specs.Step.{wanted};
+ghost use Rattle.client_host.specs.Telling.{is_refused};
 ghost use Rattle.fab_world.specs.Events.{IsHostOf};
 ghost use Rattle.fab_world.specs.Held.{IsCallAt, IsSendingAt, IsOfHosts};
 
@@ -23,6 +24,8 @@ impl Machine {
         requires there { IsHostOf self.old host }
         requires port { port < 8 }
         ensures ok { IfOk result (λ x. IsCallAt self.old host port (λ n c. begun n port sends recvs c) x self.new) }
+        ensures wanting { OnErr result (is_refused
+            (begun (node_at self.old host) port sends recvs (client_at self.old host port)).said ≡ false) }
         ensures err { OnErr result (self.new ≡ self.old) }
     {
         let at = usize::from(host);
@@ -53,6 +56,8 @@ impl Machine {
         requires there { IsHostOf self.old host }
         requires port { port < 8 }
         ensures ok { IfOk result (λ x. IsCallAt self.old host port (λ n c. provided_by n port size prio c) x self.new) }
+        ensures wanting { OnErr result (is_refused
+            (provided_by (node_at self.old host) port size prio (client_at self.old host port)).said ≡ false) }
         ensures err { OnErr result (self.new ≡ self.old) }
     {
         let at = usize::from(host);
@@ -78,6 +83,8 @@ impl Machine {
         requires dport { dport < 8 }
         requires prio { prio < 2 }
         ensures ok { IfOk result (λ x. IsSendingAt self.old host (wanted port dest dport prio len seed) x self.new) }
+        ensures wanting { OnErr result (is_refused (sent_by (node_at self.old host)
+            (wanted port dest dport prio len seed) (client_at self.old host port)).said ≡ false) }
         ensures err { OnErr result (self.new ≡ self.old) }
     {
         let at = usize::from(host);

@@ -1,59 +1,77 @@
 //! Each event, by what it is.
 
-ghost use Rattle.std.specs.Prelude.{◌≡◌, ◌≤◌, length, IfOk, IfSome, OnErr};
+ghost use Rattle.std.specs.Prelude.{◌≡◌, ◌≤◌, length, true, false, IfOk, IfSome, OnErr};
 ghost use Rattle.world_defs.specs.World.{fabric_of, host_count, planned};
 ghost use Rattle.world_defs.specs.Step.{step};
 ghost use Rattle.adopted_routes.specs.Adopting.{IsSetOfHosts};
-ghost use Rattle.fab_world.specs.Events.{IsGiven};
-ghost use Rattle.fab_world.specs.Held.{IsPolledOfHosts};
+ghost use Rattle.fab_world.specs.Events.{IsGiven, IsClientCall, takes_memory};
+ghost use Rattle.fab_world.specs.Held.{IsPolledOfHosts, is_refusal};
 
 use super::Machine;
 use std::alloc::{AllocError, Global};
 use world_defs::{Effect, Event, Fault};
 
 impl Machine {
-    /// One event: its effect, and links and hosts after it. Want of memory changes nothing.
-    pub(crate) fn step(&mut self, alloc: Global, e: Event) -> Result<Effect, AllocError>
-        requires given { IsGiven self.old e }
+    /// One event: its effect, and links and hosts after it. Want of memory changes nothing, and hides no refusal of a
+    /// client's call.
+    pub(crate) fn step(&mut self, alloc: Global, e: &Event) -> Result<Effect, AllocError>
+        requires given { IsGiven self.old e.now }
         requires hosts { host_count self.old ≡ length (fabric_of self.old).hosts }
         requires routes { IfSome self.old.adopted (IsSetOfHosts (host_count self.old)) }
-        ensures ok { IfOk result (λ x. step self.old e ≡ (x, self.new)) }
-        ensures polled { IfOk result (λ x. IsPolledOfHosts (host_count self.old) e x) }
+        ensures ok { IfOk result (λ x. step self.old e.now ≡ (x, self.new)) }
+        ensures polled { IfOk result (λ x. IsPolledOfHosts (host_count self.old) e.now x) }
+        ensures wanting { OnErr result (IsClientCall e.now → is_refusal (step self.old e.now).0 ≡ false) }
+        ensures memory { OnErr result (takes_memory e.now ≡ true) }
         ensures err { OnErr result (self.new ≡ self.old) }
     {
         match e {
             Event::Ask { host, walk, looped } => {
-                self.ask(host, walk, looped);
+                self.stage_probe(alloc, *host, walk, *looped)?;
                 Ok(Effect::Staged)
             }
-            Event::Inject(host) => self.inject(alloc, host),
-            Event::Advance(c) => self.advance(alloc, c),
-            Event::Lose(c) => Ok(self.links.lose(c)),
-            Event::Repeat(c) => self.links.repeat(alloc, c),
-            Event::Hold(c) => self.links.hold(c),
+            Event::Part { dst, part } => self.part(alloc, *dst, *part),
+            Event::Inject(host) => self.inject(alloc, *host),
+            Event::Advance(c) => self.advance(alloc, *c),
+            Event::Lose(c) => Ok(self.links.lose(*c)),
+            Event::Repeat(c) => self.links.repeat(alloc, *c),
+            Event::Hold(c) => self.links.hold(*c),
             Event::Flip {
                 channel,
                 bit,
                 pattern,
-            } => self.links.flip(channel, bit, pattern),
-            Event::Replay(serial) => Ok(self.links.replay(serial)),
-            Event::Reset(c) => Ok(self.links.reset(c)),
-            Event::Expire { host, peer } => Ok(self.expire(host, peer)),
-            Event::GiveUp(host) => Ok(self.give_up(host)),
-            Event::Part { dst, part } => self.part(alloc, dst, part),
+            } => self.links.flip(*channel, *bit, *pattern),
+            Event::Replay(serial) => Ok(self.links.replay(*serial)),
+            Event::Reset(c) => Ok(self.links.reset(*c)),
+            Event::Expire { host, peer } => Ok(self.expire(*host, *peer)),
+            Event::GiveUp(host) => Ok(self.give_up(*host)),
+            _ => self.call(alloc, e),
+        }
+    }
+
+    // A client's call.
+    fn call(&mut self, alloc: Global, e: &Event) -> Result<Effect, AllocError>
+        requires call { IsClientCall e.now }
+        requires given { IsGiven self.old e.now }
+        ensures ok { IfOk result (λ x. step self.old e.now ≡ (x, self.new)) }
+        ensures polled { IfOk result (λ x. IsPolledOfHosts (host_count self.old) e.now x) }
+        ensures wanting { OnErr result (is_refusal (step self.old e.now).0 ≡ false) }
+        ensures memory { OnErr result (takes_memory e.now ≡ true) }
+        ensures err { OnErr result (self.new ≡ self.old) }
+    {
+        match e {
             Event::Begin {
                 host,
                 port,
                 sends,
                 recvs,
-            } => self.begin(alloc, host, port, sends, recvs),
-            Event::Close { host, port } => Ok(self.close(host, port)),
+            } => self.begin(alloc, *host, *port, *sends, *recvs),
+            Event::Close { host, port } => Ok(self.close(*host, *port)),
             Event::Provide {
                 host,
                 port,
                 size,
                 prio,
-            } => self.provide(alloc, host, port, size, prio),
+            } => self.provide(alloc, *host, *port, *size, *prio),
             Event::Send {
                 host,
                 port,
@@ -62,8 +80,9 @@ impl Machine {
                 prio,
                 len,
                 seed,
-            } => self.send(alloc, host, port, dest, dport, prio, len, seed),
-            Event::Poll { host, port } => Ok(self.poll(host, port)),
+            } => self.send(alloc, *host, *port, *dest, *dport, *prio, *len, *seed),
+            Event::Poll { host, port } => Ok(self.poll(*host, *port)),
+            _ => unreachable!(),
         }
     }
 

@@ -34,7 +34,10 @@ impl Machine {
         };
         match self.links.channel_from(port) {
             Some(c) if self.links.can_inject(c) => self.probe_into(alloc, host, c, walk, looped),
-            _ => self.stage_probe(alloc, host, walk, looped),
+            _ => {
+                self.stage_probe(alloc, host, walk, looped)?;
+                Ok(Effect::Idle)
+            }
         }
     }
 
@@ -66,24 +69,5 @@ impl Machine {
             }
             Err((_, wanting)) => Err(wanting),
         }
-    }
-
-    // The probe can't enter a channel, so it stays staged.
-    fn stage_probe(
-        &mut self,
-        alloc: Global,
-        host: u16,
-        walk: &Walk,
-        looped: bool,
-    ) -> Result<Effect, AllocError>
-        requires there { IsHostOf self.old host }
-        requires short { looped ≡ true → length walk.now ≤ 31 }
-        ensures idle { IfOk result (λ x. x ≡ Effect.Idle) }
-        ensures after { OnOk result (self.new ≡ (asked self.old host walk.now looped).1) }
-        ensures err { OnErr result (self.new ≡ self.old) }
-    {
-        let walk = walk.copied(alloc)?;
-        self.ask(host, walk, looped);
-        Ok(Effect::Idle)
     }
 }

@@ -1,22 +1,33 @@
 //! What a host stages and gives up.
 
-ghost use Rattle.std.specs.Prelude.{◌≡◌, ◌≤◌, length, true, if◌then◌else◌};
+ghost use Rattle.std.specs.Prelude.{◌≡◌, ◌≤◌, length, true, OnOk, OnErr, if◌then◌else◌};
 ghost use Rattle.world_defs.specs.Step.{asked, expired, gave_up};
 ghost use Rattle.fab_world.specs.Events.{IsHostOf};
 
 use super::Machine;
 use net_defs::Walk;
+use std::alloc::{AllocError, Global};
 use world_defs::Effect;
 
 impl Machine {
-    pub(crate) fn ask(&mut self, host: u16, walk: Walk, looped: bool)
+    /// A probe of a copy of this walk is staged at a host. Want of memory changes nothing.
+    pub(crate) fn stage_probe(
+        &mut self,
+        alloc: Global,
+        host: u16,
+        walk: &Walk,
+        looped: bool,
+    ) -> Result<(), AllocError>
         requires there { IsHostOf self.old host }
-        requires short { looped ≡ true → length walk ≤ 31 }
-        ensures { asked self.old host walk looped ≡ (Effect.Staged, self.new) }
+        requires short { looped ≡ true → length walk.now ≤ 31 }
+        ensures ok { OnOk result (asked self.old host walk.now looped ≡ (Effect.Staged, self.new)) }
+        ensures err { OnErr result (self.new ≡ self.old) }
     {
+        let walk = walk.copied(alloc)?;
         let at = usize::from(host);
         self.hosts[at].ask(walk, looped);
         self.marks.mark(at);
+        Ok(())
     }
 
     pub(crate) fn expire(&mut self, host: u16, peer: u16) -> Effect

@@ -7,6 +7,7 @@ use Rattle.event_lists.proofs.Installed.{install-given_up, install-hosts}
 use Rattle.fab_world.specs.Held.{IsLater}
 use Rattle.fab_world.proofs.Moments.{later-adopted, later-channels, set-stays}
 use Rattle.table_installing.proofs.Causes.{tells}
+use Rattle.table_installing.proofs.Installs.{hosts-later, adopted-later}
 use Rattle.table_installing.proofs.InstallHosts.{few-hosts, fewer-hosts, adopter-there, told, idle-behind, cut-of}
 use Rattle.world_drain.proofs.Later.{later-both, way-later, on-any}
 use Rattle.world_drain.proofs.GivingUp.{given_up-later}
@@ -43,7 +44,10 @@ install_hosts-requires-clause-few c = (few-hosts c.args.w.now c.args.hosts.now c
 -- where memory was wanting among the hosts
 cut : (c : goal.After-from_residual-in_err-acked-in-Some) → IsLater c.args.w.now c.install_hosts.new.w
 cut c =
-    later-both c.args.w.now c.give_up_all.new.w c.install_hosts.new.w (given_up-later c.args.w.now c.give_up_all.new.w c.in_ok-give_up_all.ensures.after) c.install_hosts.ensures.later
+    let v : WorldState = c.give_up_all.new.w in
+    let u : WorldState = c.install_hosts.new.w in
+    let on : IsLater v u = adopted-later v u v.adopted c.in-Some.mapper (sym c.in-Some.ensures) (λ a e. way-later v u (c.in_err-acked-in-Some.ensures.err a e)) in
+    later-both c.args.w.now v u (given_up-later c.args.w.now v c.in_ok-give_up_all.ensures.after) on
 
 pub returns-in_err-acked-in-Some-clause-err : goal.returns-in_err-acked-in-Some-clause-err
 returns-in_err-acked-in-Some-clause-err c =
@@ -69,9 +73,10 @@ overflow_cast-result c =
 -- what was done leads on from where it began
 done : (c : goal.Joined-adopter) → IsLater c.args.w.now c.match-adopter.w
 done c =
-    let given : IsLater c.args.w.now c.give_up_all.new.w = given_up-later c.args.w.now c.give_up_all.new.w c.in_ok-give_up_all.ensures.after in
+    let v : WorldState = c.give_up_all.new.w in
+    let given : IsLater c.args.w.now v = given_up-later c.args.w.now v c.in_ok-give_up_all.ensures.after in
     elim c.match-adopter.branch [
-      | in-Some+in_ok-acked-in-Some w ↦ subst (IsLater c.args.w.now) (sym w.w-is) (later-both c.args.w.now c.give_up_all.new.w w.install_hosts.new.w given w.install_hosts.ensures.later)
+      | in-Some+in_ok-acked-in-Some w ↦ subst (IsLater c.args.w.now) (sym w.w-is) (later-both c.args.w.now v w.install_hosts.new.w given (adopted-later v w.install_hosts.new.w v.adopted w.in-Some.mapper (sym w.in-Some.ensures) (λ a e. hosts-later a c.args.tries c.args.hosts.now v w.install_hosts.new.w w.in_ok-acked-in-Some.acked (w.in_ok-acked-in-Some.ensures.acked a e))))
       | in-None w ↦ subst (IsLater c.args.w.now) (sym w.w-is) given
     ]
 

@@ -1,4 +1,4 @@
-use Rattle.std.proofs.Common.{◌≡◌, ◌<◌, ◌≤◌, ℕ, Bool, List, [], map, Some, Option, is_some, ap, sym, ◌∙◌, subst, refl}
+use Rattle.std.proofs.Common.{◌≡◌, ◌<◌, ◌≤◌, ℕ, Bool, List, map, Some, Option, is_some, ap, sym, ◌∙◌, subst, refl}
 use Rattle.std.specs.Prelude.{option_map}
 use Rattle.std.specs.List.{filter}
 use Rattle.std.proofs.lemmas.Option.{same_Some}
@@ -8,9 +8,8 @@ use Rattle.event_lists.specs.Events.{hosts_events}
 use Rattle.event_lists.proofs.PartWay.{way-still}
 use Rattle.route_install.specs.declared.installer.Work.{Work}
 use Rattle.route_install.specs.Installing.{Installation, is_done, awaited, changed}
-use Rattle.world_drain.proofs.Later.{later-both, way-later, on-any}
+use Rattle.world_drain.proofs.Later.{on-any}
 use Rattle.table_installing.specs.Installing.{has_parts, works_of, after_try}
-use Rattle.table_installing.proofs.Installs.{try-later}
 use Rattle.table_installing.proofs.Lefts.{told}
 use Rattle.table_installing.proofs.Serving.{can-serve, works-hosts, serving-none, serving-on, serving-cut, awaited-there, awaits, tried-works, changed-hosts, tries_left, fewer-left}
 use Rattle.table_installing.proofs.Counts.{served-all}
@@ -28,9 +27,6 @@ tries-then : (i after : Installation) (dst part : ℕ) (found : Bool) → awaite
 tries-then i after dst part found e is = (λ j. (is j).tries) ∙ (λ j. (tried-works i dst part found e j).tries)
 
 -- ---- memory was wanting for the works
-pub returns-in_err-works-clause-later : goal.returns-in_err-works-clause-later
-returns-in_err-works-clause-later c = ([], refl)
-
 pub returns-in_err-works-clause-err : goal.returns-in_err-works-clause-err
 returns-in_err-works-clause-err c =
     λ a e. on-any c.from_residual.result (way-still c.args.w.now c.args.w.now (hosts_events a c.args.tries c.args.hosts.now c.args.w.now) refl)
@@ -50,7 +46,6 @@ serving-init c =
       left = λ a e. serving-none a c.args.tries hosts w i (works ∙ ap (λ o. works_of o hosts) e);
       of_hosts = ap (map (λ (k : Work). k.host)) works ∙ works-hosts w.adopted hosts;
       same_tries = λ j. (c.of_works-installer.ensures j).tries;
-      later = ([], refl);
       fabric = refl;
       hosts = refl;
     }
@@ -81,7 +76,6 @@ serving-preserved c =
       of_hosts =
           ap (map (λ (x : Work). x.host)) (works-then i after dst part found e c.tell.ensures) ∙ changed-hosts (is_done i.tries) found i.works ∙ k.of_hosts;
       same_tries = tries-then i after dst part found e c.tell.ensures ∙ k.same_tries;
-      later = later-both w v u k.later (try-later c.args.mapper dst part v u t.after);
       fabric = t.fabric ∙ k.fabric;
       hosts = t.hosts ∙ k.hosts;
     }
@@ -99,10 +93,6 @@ serving-smaller c =
     subst (λ (ks : List Work). tries_left ks < tries_left i.works) (sym (works-then i c.tell.new.installer dst part found e c.tell.ensures)) (fewer-left i.tries found a.work i.works most a.first)
 
 -- ---- memory was wanting within a try
-pub returns-in_err-epoch-clause-later : goal.returns-in_err-epoch-clause-later
-returns-in_err-epoch-clause-later c =
-    later-both c.args.w.now c.serving.w c.part_try.new.w c.serving.invariant.later (way-later c.serving.w c.part_try.new.w c.in_err-epoch.ensures.err)
-
 pub returns-in_err-epoch-clause-err : goal.returns-in_err-epoch-clause-err
 returns-in_err-epoch-clause-err c =
     let w : WorldState = c.args.w.now in

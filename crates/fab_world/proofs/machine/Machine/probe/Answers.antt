@@ -1,18 +1,16 @@
 use Rattle.std.proofs.Common.{◌≡◌, ap, sym, ◌∙◌}
-use Rattle.std.specs.Prelude.{Result, Ok, Err, IfOk, OnOk}
 use Rattle.std.specs.Option.{unwrap_or}
 use Rattle.net_defs.specs.Route.{host_port, channel_from}
 use Rattle.world_defs.specs.declared.effect.Effect.{Effect}
 use Rattle.world_defs.specs.declared.effect.Effect.TheVariants.{Idle}
 use Rattle.world_defs.specs.World.{WorldState, fabric_of}
-use Rattle.world_defs.specs.Step.{asked, injected}
 use Rattle.faulty_links.specs.Held.{of_world, can_inject}
 use Rattle.fab_world.proofs.Probing.{stays-staged}
 use Rattle.fab_world.proofs.machine.Machine.probe.Goals.{in_default-via-in-Some+else-can_inject, in_default-via-in_default}
 use Rattle.fab_world.proofs.machine.Machine.probe.Goals as goal
 
-idle : (c : goal.After-stage_probe) → injected (asked c.args.self.now c.args.host c.args.walk.now c.args.looped).1 c.args.host ≡ (Idle, (asked c.args.self.now c.args.host c.args.walk.now c.args.looped).1)
-idle c =
+pub returns-in_ok-stage_probe-in_default-clause-ok : goal.returns-in_ok-stage_probe-in_default-clause-ok
+returns-in_ok-stage_probe-in_default-clause-ok c =
     stays-staged c.args.self.now c.args.host c.args.walk.now c.args.looped c.channel_from.result (c.channel_from.ensures.channel ∙ ap (λ w. channel_from (fabric_of w) (host_port c.args.host)) c.self.view_is)
     (elim c.in_default.branch [
       | in_default-via-in-Some+else-can_inject w ↦ λ k is.
@@ -20,10 +18,4 @@ idle c =
           ∙ sym w.can_inject.ensures ∙ w.if-can_inject.false
       | in_default-via-in_default w ↦ λ k is. absurd (w.in_default.not-Some k is)
     ])
-
-told : {E : Type 0} (r : Result Effect E) (was : Effect × WorldState) (v u : WorldState) → was ≡ (Idle, u) → IfOk r (λ x. x ≡ Idle) → OnOk r (v ≡ u) → IfOk r (λ x. was ≡ (x, v))
-told (Ok x) was v u is none same = is ∙ (λ j. (sym none j, sym same j))
-told (Err _) was v u is none same = tt
-
-pub returns-in_default-clause-ok : goal.returns-in_default-clause-ok
-returns-in_default-clause-ok c = told c.stage_probe.result _ c.stage_probe.new.self _ (idle c) c.stage_probe.ensures.idle c.stage_probe.ensures.after
+    ∙ ap (λ (r : Effect × WorldState). (Idle, r.1)) c.in_ok-stage_probe-in_default.ensures.ok

@@ -1,9 +1,10 @@
-use Rattle.std.proofs.Common.{Option}
+use Rattle.std.proofs.Common.{Option, ap, sym, ◌∙◌}
 use Rattle.world_defs.specs.Node.{NodeState}
-use Rattle.world_defs.specs.Client.{ClientState, provided_by}
+use Rattle.world_defs.specs.Client.{ClientState, Called, provided_by}
 use Rattle.client_host.specs.Held.{client_in}
+use Rattle.client_host.specs.Telling.{is_refused}
 use Rattle.fab_world.proofs.Answers.{on-any-err}
-use Rattle.fab_world.proofs.Places.{IsAt, kept-called, called, same}
+use Rattle.fab_world.proofs.Places.{IsAt, kept-called, call-is, called, same}
 use Rattle.fab_world.proofs.Resting.{marked, still-watched, has-mark}
 use Rattle.fab_world.proofs.machine.Machine.provide.Goals as goal
 
@@ -29,6 +30,12 @@ returns-in_err-said-clause-err c =
     let at : IsAt c.self.inside.links c.self.inside.hosts.items c.self.inside.adopted c.args.self.now c.args.host c.from-at.result c.index_mut.result.now =
     record { is = c.self.view_is; kept = c.self.invariant.hosts; below = c.requires.there; at = c.from-at.ensures; there = c.index_mut.ensures.value } in
     on-any-err c.from_residual.result (same c.provide.new.self at c.in_err-said.ensures.unchanged)
+
+pub returns-in_err-said-clause-wanting : goal.returns-in_err-said-clause-wanting
+returns-in_err-said-clause-wanting c =
+    let at : IsAt c.self.inside.links c.self.inside.hosts.items c.self.inside.adopted c.args.self.now c.args.host c.from-at.result c.index_mut.result.now =
+    record { is = c.self.view_is; kept = c.self.invariant.hosts; below = c.requires.there; at = c.from-at.ensures; there = c.index_mut.ensures.value } in
+    on-any-err c.from_residual.result (ap (λ (k : Called). is_refused k.said) (sym (call-is c.args.port (λ (n : NodeState) (o : Option ClientState). provided_by n c.args.port c.args.size c.args.prio o) at)) ∙ c.in_err-said.ensures.wanting)
 
 pub returns-clause-ok : goal.returns-clause-ok
 returns-clause-ok c =

@@ -1,15 +1,17 @@
-use Rattle.std.proofs.Common.{ap, sym, subst, ◌∙◌, length}
+use Rattle.std.proofs.Common.{◌≡◌, false, ap, sym, subst, ◌∙◌, length}
 use Rattle.world_defs.specs.World.{WorldState, fabric_of, host_count}
-use Rattle.fab_world.specs.Held.{IsOfHosts, IsPolledOfHosts}
+use Rattle.world_defs.specs.Step.{step}
+use Rattle.fab_world.specs.Held.{IsOfHosts, IsPolledOfHosts, is_refusal}
 use Rattle.message_laws.specs.Untouched.{HandsBackBy}
 use Rattle.message_laws.proofs.Buffers.{closed-untouched}
-use Rattle.fab_world.proofs.Answers.{if-ok, if-ok-both}
+use Rattle.fab_world.proofs.Answers.{if-ok, if-ok-both, on-err}
 use Rattle.fab_world.proofs.Arriving.{effect-hosts}
+use Rattle.fab_world.proofs.Refusing.{unrefused}
 use Rattle.fab_world.proofs.Stepped.{IsStepped, stepped}
 use Rattle.fab_world.proofs.world.World.step.Goals as goal
 
 -- what the step leaves
-left : (c : goal.After-step) → IsStepped c.self.inside.machine c.step.new.self
+left : (c : goal.Joined-e) → IsStepped c.self.inside.machine c.step.new.self
 left c =
     stepped c.self.inside.machine c.step.new.self c.args.e c.step.result c.flips_have_a_byte.ensures c.self.invariant.0 c.self.invariant.2 c.step.ensures.ok c.step.ensures.err
 
@@ -30,6 +32,10 @@ returns-clause-back c =
     if-ok c.step.result
     (λ x now. subst (λ v. HandsBackBy v c.args.e x) c.self.view_is (subst (HandsBackBy w c.args.e) (ap (λ p. p.0) now) (closed-untouched (fabric_of w) w c.self.invariant.2 c.args.e)))
     c.step.ensures.ok
+
+pub returns-clause-wanting : goal.returns-clause-wanting
+returns-clause-wanting c =
+    on-err c.step.result (λ h. subst (λ v. is_refusal (step v c.args.e).0 ≡ false) c.self.view_is (unrefused c.self.inside.machine c.args.e h)) c.step.ensures.wanting
 
 pub returns-clause-fabric : goal.returns-clause-fabric
 returns-clause-fabric c = (left c).fabric ∙ ap fabric_of c.self.view_is
