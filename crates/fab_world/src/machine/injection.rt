@@ -1,14 +1,15 @@
 //! A host puts a packet into its channel.
 
-ghost use Rattle.std.specs.Prelude.{◌≡◌, ◌+◌, true, Some, option_map, IfOk, OnErr};
+ghost use Rattle.std.specs.Prelude.{◌≡◌, ◌<◌, ◌+◌, length, true, Some, option_map, IfOk, OnOk, OnErr};
 ghost use Rattle.world_defs.specs.Node.{to_send, packet_for};
-ghost use Rattle.world_defs.specs.World.{node_at};
-ghost use Rattle.world_defs.specs.Step.{injected, inject_one};
-ghost use Rattle.faulty_links.specs.Held.{of_world, can_inject};
+ghost use Rattle.world_defs.specs.World.{WorldState, node_at};
+ghost use Rattle.world_defs.specs.Step.{injected, inject_one, planned_strikes};
+ghost use Rattle.faulty_links.specs.Held.{of_world, with_part, can_inject, put_under_next};
 ghost use Rattle.fab_world.specs.Events.{IsHostOf, IsChannelOf};
 
 use super::Machine;
 use client_host::Packet;
+use faulty_links::FaultyLinks;
 use net_defs::{End, Vertex};
 use std::alloc::{AllocError, Global};
 use world_defs::Effect;
@@ -65,14 +66,31 @@ impl Machine {
             ≡ (x, self.new)) }
         ensures err { OnErr result (self.new ≡ self.old) }
     {
-        match self.links.inject(alloc, c, packet) {
-            Ok(effect) => {
-                let at = usize::from(host);
-                self.hosts[at].staged();
-                self.marks.mark(at);
-                Ok(effect)
-            }
-            Err((_, wanting)) => Err(wanting),
-        }
+        let effect = enter(&mut self.links, alloc, c, packet)?;
+        let at = usize::from(host);
+        self.hosts[at].staged();
+        self.marks.mark(at);
+        Ok(effect)
+    }
+}
+
+/// A packet enters a channel that can take it. Where memory is wanting it ends, and nothing has changed: here, away from
+/// the hosts, since a proof goes through its parts wherever it ends.
+pub(crate) fn enter(
+    links: &mut FaultyLinks,
+    alloc: Global,
+    c: u16,
+    packet: Packet,
+) -> Result<Effect, AllocError>
+    requires there { c < length links.old.links.channels }
+    requires free { can_inject links.old c ≡ true }
+    ensures number { IfOk result (λ e. e ≡ Effect.Injected (links.old.injected + 1)) }
+    ensures strikes { OnOk result ((w : WorldState)
+        → planned_strikes (put_under_next (with_part w links.old) c packet) c ≡ with_part w links.new) }
+    ensures err { OnErr result (links.new ≡ links.old) }
+{
+    match links.inject(alloc, c, packet) {
+        Ok(effect) => Ok(effect),
+        Err((_, wanting)) => Err(wanting),
     }
 }

@@ -8,6 +8,7 @@ ghost use Rattle.faulty_links.specs.Held.{of_world, can_inject};
 ghost use Rattle.fab_world.specs.Events.{IsHostOf, IsChannelOf};
 
 use super::Machine;
+use super::injection::enter;
 use client_host::Packet;
 use net_defs::{End, Vertex, Walk};
 use std::alloc::{AllocError, Global};
@@ -60,14 +61,10 @@ impl Machine {
     {
         let number = self.links.injected() + 1;
         let packet = self.at(host).probe_packet(alloc, number, walk, looped)?;
-        match self.links.inject(alloc, c, packet) {
-            Ok(effect) => {
-                let at = usize::from(host);
-                self.hosts[at].probe_sent();
-                self.marks.mark(at);
-                Ok(effect)
-            }
-            Err((_, wanting)) => Err(wanting),
-        }
+        let effect = enter(&mut self.links, alloc, c, packet)?;
+        let at = usize::from(host);
+        self.hosts[at].probe_sent();
+        self.marks.mark(at);
+        Ok(effect)
     }
 }

@@ -2,6 +2,7 @@ use Rattle.std.proofs.Common.{ap, ◌∙◌}
 use Rattle.world_defs.specs.Node.{to_send}
 use Rattle.nic_node.specs.Sending.{once_sent}
 use Rattle.fab_world.specs.Held.{world_of}
+use Rattle.fab_world.proofs.Answers.{on-any-err}
 use Rattle.fab_world.proofs.Places.{IsAt, kept-in-state}
 use Rattle.fab_world.proofs.Resting.{marked, has-mark}
 use Rattle.fab_world.proofs.Injecting.{injected-is}
@@ -12,17 +13,18 @@ mark-requires c =
     has-mark c.self.inside.links c.self.inside.hosts.items c.self.inside.adopted c.args.self.now c.self.inside.marks c.args.host c.from-at.result c.self.view_is c.self.invariant
     c.requires.there c.from-at.ensures
 
-pub invariant_of-self : goal.invariant_of-self
-invariant_of-self c =
+pub invariant_of-self-2 : goal.invariant_of-self-2
+invariant_of-self-2 c =
     let at : IsAt c.self.inside.links c.self.inside.hosts.items c.self.inside.adopted c.args.self.now c.args.host c.from-at.result c.index_mut.result.now =
     record { is = c.self.view_is; kept = c.self.invariant.hosts; below = c.requires.there; at = c.from-at.ensures; there = c.index_mut.ensures.value } in
     marked c.self.inside.marks c.mark.new.self c.staged.new.self at c.self.invariant (kept-in-state c.staged.new.self (once_sent c.index_mut.result.now.state (to_send c.index_mut.result.now.host c.index_mut.result.now.state)) at c.staged.ensures) c.mark.ensures
 
-pub returns-in-Ok-clause-ok : goal.returns-in-Ok-clause-ok
-returns-in-Ok-clause-ok c =
+pub returns-clause-ok : goal.returns-clause-ok
+returns-clause-ok c =
     let at : IsAt c.self.inside.links c.self.inside.hosts.items c.self.inside.adopted c.args.self.now c.args.host c.from-at.result c.index_mut.result.now =
     record { is = c.self.view_is; kept = c.self.invariant.hosts; below = c.requires.there; at = c.from-at.ensures; there = c.index_mut.ensures.value } in
-    injected-is c.args.c c.staged.new.self c.args.packet c.in-Ok.effect c.inject.new.self at c.requires.free c.requires.first c.in-Ok.ensures.number c.in-Ok.ensures.strikes c.staged.ensures
+    injected-is c.args.c c.staged.new.self c.args.packet c.in_ok-effect.effect c.enter.new.links at c.requires.free c.requires.first c.in_ok-effect.ensures.number c.in_ok-effect.ensures.strikes c.staged.ensures
 
-pub returns-clause-err : goal.returns-clause-err
-returns-clause-err c = ap (λ l. world_of l c.self.inside.hosts.items c.self.inside.adopted) c.in-Err.ensures.err ∙ c.self.view_is
+pub returns-in_err-effect-clause-err : goal.returns-in_err-effect-clause-err
+returns-in_err-effect-clause-err c =
+    on-any-err c.from_residual.result (ap (λ l. world_of l c.self.inside.hosts.items c.self.inside.adopted) c.in_err-effect.ensures.err ∙ c.self.view_is)
