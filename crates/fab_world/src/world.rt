@@ -15,7 +15,7 @@ ghost use Rattle.port_graph.specs.Routes.{HandsBack};
 ghost use Rattle.gm_defs.specs.Body.{is_prio};
 ghost use Rattle.gm_defs.specs.Connection.{connection};
 ghost use Rattle.world_defs.specs.Node.{to_send, port_at};
-ghost use Rattle.world_defs.specs.Traffic.{sent_on, got_on};
+ghost use Rattle.world_defs.specs.Traffic.{sent_on, got_on, IsHonestTraffic};
 ghost use Rattle.world_defs.specs.Table.{active_epoch};
 ghost use Rattle.world_defs.specs.World.{fabric_of, host_count, new_world, node_at, planned, adopted_by};
 ghost use Rattle.world_defs.specs.declared.event.Event.TheVariants.{Ask, Inject, Advance};
@@ -23,12 +23,14 @@ ghost use Rattle.world_defs.specs.Step.{step};
 ghost use Rattle.act_defs.specs.Acts.{IsReached};
 ghost use Rattle.message_laws.specs.Untouched.{HandsBackBy};
 ghost use Rattle.message_laws.specs.Windows.{HasWindows};
+ghost use Rattle.message_laws.specs.Filling.{HasTiedParts};
 ghost use Rattle.world_defs.specs.Sound.{IsSound};
 ghost use Rattle.host_ports.specs.Held.{place_at};
 ghost use Rattle.adopted_routes.specs.Adopting.{IsAdoptable, adopt_refusal, part_count_for};
 ghost use Rattle.fab_world.specs.Events.{IsHostOf, IsChannelOf, IsGiven, takes_memory};
 ghost use Rattle.fab_world.specs.Held.{IsMoment, IsOfHosts, is_refusal};
 ghost use Rattle.fab_world.specs.Hop.{IsHopIn, IsRunIn};
+ghost use Rattle.fab_world.specs.Moments.{AreBuffersUntouched, AreQueuesUnfinished};
 ghost use Rattle.fab_world.specs.Resting.{IsNextAwake, IsNextBusy, IsSilentIn, RestsIn};
 
 use crate::eight_bits::{flips_have_a_byte, pattern_is_a_byte};
@@ -231,11 +233,17 @@ impl World {
     }
 
     /// What holds of it at every moment. It is sound: no cycle among the installed routes, what was got on each
-    /// connection a prefix of what was sent, one owner for each token. Each connection has its window.
+    /// connection a prefix of what was sent, one owner for each token. Each connection has its window, and its packets
+    /// that no flip has met are honest. A send waits in its port's queue exactly while its message isn't acknowledged,
+    /// a provided buffer is untouched but for what came of a message in part, and that stands in one buffer.
     pub fn moment(&self)
         ensures kept { IsMoment self.now }
         ensures sound { IsSound self.now }
         ensures windows { HasWindows self.now }
+        ensures honest { IsHonestTraffic self.now }
+        ensures unfinished { AreQueuesUnfinished self.now }
+        ensures untouched { AreBuffersUntouched self.now }
+        ensures parts { HasTiedParts self.now }
     {
         let _ = &self.machine;
     }
