@@ -40,12 +40,14 @@ impl Slot {
         }
     }
 
+    /// The packet, whether a flip has met it or not.
     pub fn packet(&self) -> &Packet
         ensures { result.now ≡ self.now.wire }
     {
         &self.packet
     }
 
+    /// The packet itself; the mark is let go.
     pub fn into_packet(self) -> Packet
         ensures { result ≡ self.wire }
     {

@@ -19,14 +19,20 @@ pub enum Spot {
 pub enum Way {
     /// A host's address leads to port 0 of a node that is this host.
     Host {
+        /// The host's address.
         address: u16,
+        /// The node that is this host.
         node: u32,
     },
     /// A port of a node leads to a port of another.
     Cable {
+        /// The node that the way leaves.
         from: u32,
+        /// Its port that the way leaves by, counted from the node's own entry port.
         port: i8,
+        /// The node that the way enters.
         to: u32,
+        /// Its port that the way enters by, counted from the node's own entry port.
         entry: i8,
     },
 }

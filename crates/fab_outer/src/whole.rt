@@ -15,6 +15,7 @@ pub enum ReadEnd {
     ReadFault,
     /// More bytes came than the limit.
     TooLong,
+    /// Want of memory for the bytes.
     NoMemory,
 }
 

@@ -8,8 +8,10 @@ use thiserror::Error;
 /// Why a word is no number of its place.
 #[derive(Clone, Copy, Debug, PartialEq, Eq, Error)]
 pub enum NumFault {
+    /// The word isn't of the form: digits, for a turn behind at most one sign.
     #[error("not a number")]
     NotNumber,
+    /// Its value is outside the range of its place, above or below.
     #[error("the number is too large for its place")]
     TooLarge,
 }
@@ -86,6 +88,7 @@ pub enum LineFault {
     /// Its first fault.
     #[error("{0}")]
     Wrong(FaultKind),
+    /// Want of memory while it was read.
     #[error("out of memory")]
     NoMemory,
 }
@@ -107,7 +110,13 @@ impl LineFault {
 pub enum TextFault {
     /// Its first fault: the first line that has one, and the first of that line.
     #[error("line {line}: {kind}")]
-    At { line: u32, kind: FaultKind },
+    At {
+        /// The number of the line, from 1.
+        line: u32,
+        /// What is wrong with it.
+        kind: FaultKind,
+    },
+    /// Want of memory while it was read.
     #[error("out of memory")]
     NoMemory,
 }

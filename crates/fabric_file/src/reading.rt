@@ -13,6 +13,7 @@ use std::alloc::Global;
 /// The fabric of a text, and where its fabric part ends.
 #[derive(Drop)]
 pub struct FabricText {
+    /// The hosts, switches and cables that the lines declare.
     pub fabric: Fabric,
     /// The first byte after the line `script`.
     pub next: usize,

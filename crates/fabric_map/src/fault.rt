@@ -11,6 +11,7 @@ pub enum MapFault {
     /// More than 4,294,967,295 vertices, or cables.
     #[error("the map is full")]
     Full,
+    /// An end of the cable at a place past the last vertex.
     #[error("no such vertex")]
     NoVertex,
     /// A host's port other than 0, a port outside -15 to 15, or two ports of one vertex that are more than 15 apart.
@@ -19,6 +20,7 @@ pub enum MapFault {
     /// A port that has a cable, or a cable from a port to itself.
     #[error("the port has a cable")]
     PortUsed,
+    /// Want of memory; the map stays.
     #[error("out of memory")]
     NoMemory,
 }

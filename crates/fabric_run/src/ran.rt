@@ -9,7 +9,9 @@ use run_session::Session;
 ///
 /// It must be spent, by [`Ran::end`], or taken apart and its session ended.
 pub struct Ran {
+    /// How it ended; its number is the exit status.
     pub status: Status,
+    /// The session as the commands left it; none only where no command had run.
     pub session: Option<Session>,
 }
 

@@ -12,7 +12,12 @@ pub enum Status {
     /// The words are none of the forms. Nothing was read or written.
     Usage,
     /// The text isn't accepted. The line `refused LINE KIND` was taken, which tells the first fault.
-    Refused { line: u32, kind: FaultKind },
+    Refused {
+        /// The number of the line, from 1.
+        line: u32,
+        /// What is wrong with it.
+        kind: FaultKind,
+    },
     /// A read failed. Nothing was written.
     ReadFault,
     /// A write failed. The sink took a prefix of what was due, and not all of it.

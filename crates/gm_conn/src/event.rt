@@ -21,7 +21,9 @@ pub enum PairEvent {
     EmitAck,
     /// The packet of this place among all that were emitted arrives; `fits` says whether a token takes its fragment.
     Deliver {
+        /// The packet's place among those that were emitted, from 0.
         packet: u32,
+        /// Whether a provided token takes its fragment; of no meaning for an acknowledgement.
         fits: bool,
     },
     /// The sender's time runs out.

@@ -11,5 +11,6 @@ pub struct Message {
     pub dport: u8,
     /// 0 or 1.
     pub prio: u8,
+    /// Its bytes; a message that is accepted has at most 65,528.
     pub body: Blob,
 }

@@ -10,13 +10,17 @@ pub enum PortEvent {
     Sent(SendToken, Reg),
     /// A message came. The buffer's first `len` bytes are the message, its others are as they were provided.
     Received {
+        /// The receive token that it took; it goes back to the client with the event.
         token: RecvToken,
+        /// The buffer that was provided with the token.
         buffer: Reg,
         /// The sending host.
         from: u16,
         /// The sending port.
         sport: u8,
+        /// The priority of message and token, 0 or 1.
         prio: u8,
+        /// The length of the message, in bytes.
         len: u32,
     },
 }

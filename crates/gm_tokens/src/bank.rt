@@ -21,6 +21,7 @@ pub struct Bank {
 
 /// A bank with its tokens, as they were minted.
 pub struct Minted {
+    /// The right to retire them.
     pub bank: Bank,
     /// By rising number. The list has room for all of them, so a holder takes each one back without memory.
     pub sends: Vec<SendToken>,

@@ -22,8 +22,11 @@ use std::alloc::{AllocError, Global};
 /// A map with its core marked, what it may be called, and how many asks it took.
 #[derive(Drop)]
 pub struct MadeMap {
+    /// The map of what was found, with its core marked.
     pub map: FabricMap,
+    /// How far it is known to be right, as a report says it.
     pub words: MapWords,
+    /// How many walks were asked.
     pub asks: u64,
 }
 

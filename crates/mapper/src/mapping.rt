@@ -33,8 +33,11 @@ pub enum MapEnd {
 /// A journal that has grown to its depth, its map, and how the growth ended.
 #[derive(Drop)]
 pub struct Mapped {
+    /// The map of the journal, its core not marked yet.
     pub map: FabricMap,
+    /// The asks with their answers, in order.
     pub journal: Journal,
+    /// Why nothing more was asked.
     pub end: MapEnd,
 }
 

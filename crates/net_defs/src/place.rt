@@ -14,7 +14,10 @@ pub enum Place {
 /// What a mapper is told of a walk's end: neither which switch it is nor its entry port.
 #[derive(Clone, Copy, Debug, PartialEq, Eq)]
 pub enum Answer {
+    /// It ends at the host of this address.
     Host(u16),
+    /// It ends at some switch.
     Switch,
+    /// It is stuck, or so it seemed where the ask drowned.
     Nothing,
 }

@@ -8,8 +8,11 @@ use std::alloc::{AllocError, Global};
 /// A route from one host to another, both by address: the turns that a packet takes.
 #[derive(Debug, Drop)]
 pub struct Route {
+    /// The address of the sender.
     pub from: u16,
+    /// The address of the receiver.
     pub to: u16,
+    /// The turns from the sender, one for each switch on the way.
     pub walk: Walk,
 }
 

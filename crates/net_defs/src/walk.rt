@@ -19,10 +19,13 @@ pub const MAX_TURN: i8 = 15;
 /// Why turns are no walk.
 #[derive(Clone, Copy, Debug, PartialEq, Eq, Error)]
 pub enum WalkFault {
+    /// There are more than 64.
     #[error("a walk has at most {max} turns", max = MAX_TURNS)]
     TooLong,
+    /// One lies outside -15 to 15.
     #[error("a turn is from -{max} to {max}", max = MAX_TURN)]
     TurnRange,
+    /// Want of memory for turns that are a walk.
     #[error("out of memory")]
     NoMemory,
 }

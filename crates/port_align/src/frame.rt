@@ -7,7 +7,9 @@ ghost use Rattle.port_align.specs.Offset.{apart};
 /// A node's class, and where the node's ports lie in it: port p of the node is port p + offset of the class.
 #[derive(Clone, Copy, Debug, PartialEq, Eq)]
 pub struct ClassFrame {
+    /// The number of the class; its nodes are replicates.
     pub class: u32,
+    /// What is added to a port of the node, from -15 to 15.
     pub offset: i8,
 }
 

@@ -19,6 +19,7 @@ use turn_bytes::push_route;
 pub enum ProbeBody {
     /// Asks the host that it reaches for its address.
     HostProbe {
+        /// The number of the probe's injection.
         number: u64,
         /// The host that asks.
         mapper: u16,
@@ -27,12 +28,16 @@ pub enum ProbeBody {
     },
     /// A host's answer.
     HostReply {
+        /// The number of the probe that it answers.
         number: u64,
+        /// The address of the host that answers.
         host: u16,
     },
     /// Returns to the host that sent it, exactly where the way there ends at a switch.
     Loop {
+        /// The number of the probe's injection.
         number: u64,
+        /// The address of the host that asks, to which it returns.
         mapper: u16,
     },
 }
@@ -42,6 +47,7 @@ pub enum ProbeBody {
 pub enum BodyFault {
     /// They are none.
     Malformed,
+    /// Want of memory for a body that is one.
     NoMemory,
 }
 

@@ -15,9 +15,11 @@ const KIND: u8 = 5;
 /// A host's answer to a part: it has taken it.
 #[derive(Clone, Copy, Debug, PartialEq, Eq)]
 pub struct PartAck {
+    /// Which set of routes the part is of.
     pub epoch: u32,
     /// The host whose table the part is of.
     pub host: u16,
+    /// The number of the part, from 0.
     pub part: u8,
 }
 

@@ -8,7 +8,9 @@ use std::marker::Model;
 /// An entry of a table: the route to a host. Contracts see the entry of the definitions.
 #[derive(Debug, Drop)]
 pub struct TableEntry {
+    /// The address of the host to which the route leads.
     pub to: u16,
+    /// The turns from the table's host to it.
     pub walk: Walk,
 }
 

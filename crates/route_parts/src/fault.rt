@@ -5,5 +5,6 @@
 pub enum BodyFault {
     /// They are none.
     Malformed,
+    /// Want of memory for bytes that are a body.
     NoMemory,
 }

@@ -32,11 +32,13 @@ pub struct RoutePart {
     pub mapper: u16,
     /// The host whose table it is of.
     pub dst: u16,
-    /// Its number, from 0, and how many parts the table has.
+    /// Its number, from 0.
     pub part: u8,
+    /// How many parts the table has, from 1 to 16.
     pub parts: u8,
     /// The way back to the mapper.
     pub back: Walk,
+    /// Its routes, from 1 to 8, by rising address of the host to which each leads.
     pub entries: EntryList,
 }
 

@@ -21,13 +21,18 @@ pub enum Difference {
     /// The first line of the report that differs, from 1, and that line of both; none where the report has no such
     /// line.
     Line {
+        /// The number of the line, from 1.
         number: u32,
+        /// The line as it is wanted; none past the end of the wanted report.
         wanted: Option<String>,
+        /// The line as it came; none past the end of the report that came.
         got: Option<String>,
     },
     /// The exit status.
     Status {
+        /// The status that is wanted.
         wanted: u8,
+        /// The status that came.
         got: u8,
     },
 }

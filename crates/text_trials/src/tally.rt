@@ -6,7 +6,9 @@ use std::io;
 /// How many lines told that all is well, and how many that something isn't.
 #[derive(Clone, Copy, Debug, Drop)]
 pub struct Tally {
+    /// How many lines told that all is well.
     pub passed: u32,
+    /// How many lines told that something isn't.
     pub failed: u32,
 }
 

@@ -28,6 +28,7 @@ pub enum Cause {
 /// What a client's call was answered.
 #[derive(Debug, Drop)]
 pub enum Said {
+    /// The port was opened.
     Done,
     /// The port is closed, and so many provided tokens came back.
     Count(u32),
@@ -37,14 +38,20 @@ pub enum Said {
     Sent(u16),
     /// A message came, into the buffer of this token.
     Received {
+        /// The number of the receive token.
         token: u16,
+        /// The address of the sending host.
         from: u16,
+        /// The sending port, from 0 to 7.
         sport: u8,
+        /// The priority, 0 or 1.
         prio: u8,
+        /// The bytes of the message.
         body: Blob,
     },
     /// The port's queue is empty.
     Nothing,
+    /// The call was refused, and changed nothing.
     Refused(ClientCause),
 }
 
@@ -61,11 +68,17 @@ pub enum Effect {
     Blocked(u16),
     /// The packet reached this host, which heard this.
     Arrived(u16, Heard),
+    /// A switch or a host dropped the packet.
     Dropped(Cause),
+    /// The channel's packet is gone.
     Lost,
+    /// The channel was cleared.
     Reset,
+    /// Bits of the channel's packet were flipped.
     Flipped,
+    /// What the peer didn't acknowledge is due again.
     Expired,
+    /// The host dropped what it had staged for the mapper.
     GaveUp,
     /// A copy is in limbo, under this serial.
     Repeated(u64),
@@ -75,5 +88,6 @@ pub enum Effect {
     Replayed(u16),
     /// A probe or a part is staged.
     Staged,
+    /// A client's call was answered so.
     Said(Said),
 }

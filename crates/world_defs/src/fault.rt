@@ -3,8 +3,17 @@
 /// A fault that strikes a packet as soon as it is injected.
 #[derive(Clone, Copy, Debug, PartialEq, Eq)]
 pub enum Fault {
+    /// The packet is gone.
     Lose,
+    /// A copy of the packet comes into limbo.
     Repeat,
+    /// The packet itself comes into limbo.
     Hold,
-    Flip { bit: u32, pattern: u8 },
+    /// Bits of the packet are flipped.
+    Flip {
+        /// The first bit that the pattern lies on; bit 0 is the greatest of the first byte.
+        bit: u32,
+        /// A 1 for each bit that is flipped, the greatest first; with 0 nothing is flipped.
+        pattern: u8,
+    },
 }

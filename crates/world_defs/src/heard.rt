@@ -6,13 +6,28 @@ pub enum Heard {
     /// A host probe; its reply is staged.
     Probe,
     /// A host's reply to the probe of this number.
-    Reply { number: u64, host: u16 },
+    Reply {
+        /// The number of the probe that it answers.
+        number: u64,
+        /// The address of the host that answered.
+        host: u16,
+    },
     /// The loopback probe of this number, back at its mapper.
-    Loop { number: u64 },
+    Loop {
+        /// The number of the probe's injection.
+        number: u64,
+    },
     /// A part of this host's table.
     Routes,
     /// The acknowledgement of a part.
-    RoutesAck { epoch: u32, host: u16, part: u8 },
+    RoutesAck {
+        /// Which set of routes the part is of.
+        epoch: u32,
+        /// The address of the host whose table it is of.
+        host: u16,
+        /// The number of the part, from 0.
+        part: u8,
+    },
     /// A frame whose message was taken whole.
     Message,
     /// A frame whose fragment was taken, and its message isn't whole.
