@@ -47,7 +47,8 @@ pub record IsSettling (host : ℕ) (j asks : List Entry) (ns : List Node) (ws : 
 -- The tables as they stand, with these pairs open, are those of a journal.
 abbrev pub IsSettlingIn : ℕ → List Entry → List Entry → List Node → List Way → Joined → List Meeting → Type 0
 IsSettlingIn host j asks ns ws t todo =
-    IsSettling host j asks ns ws t.frames.items t.ends.items t.hosts.items todo t.heads.heads.items t.heads.names.items t.heads.marks.items
+    IsSettling host j asks ns ws t.frames.items t.ends.items t.hosts.items todo t.heads.heads.items t.heads.names.items
+    t.heads.marks.items
 
 -- The tables are those of some journal.
 pub record IsSettlingSome (ns : List Node) (t : Joined) (todo : List Meeting) : Type 0 where

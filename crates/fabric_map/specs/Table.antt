@@ -1,5 +1,6 @@
 -- A table of far ends: 31 places for each vertex, one for each port from -15 to 15.
-use Rattle.std.specs.Prelude.{◌≡◌, ℕ, ◌+◌, ◌*◌, ℤ, pos, ◌+ℤ◌, ◌-ℤ◌, nat_abs, List, slice_index_or, Option, None, option_map}
+use Rattle.std.specs.Prelude.{◌≡◌, ℕ, ◌+◌, ◌*◌, ℤ, pos, ◌+ℤ◌, ◌-ℤ◌, nat_abs, List, slice_index_or, Option, None}
+use Rattle.std.specs.Prelude.{option_map}
 use Rattle.std.specs.List.{AllByRecursion}
 use Rattle.net_defs.specs.Turn.{IsTurn}
 use Rattle.map_defs.specs.declared.vertex.MapCable.{MapCable}

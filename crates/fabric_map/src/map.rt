@@ -92,8 +92,8 @@ impl FabricMap {
         self.cabling.far(v, p)
     }
 
-    /// The ports of a vertex at which a cable may end, by their places, 0 for -15 to 30 for 15: from the first one up to
-    /// the second.
+    /// The ports of a vertex at which a cable may end, by their places, 0 for -15 to 30 for 15: from the first one up
+    /// to the second.
     pub fn span(&self, v: u32) -> (usize, usize)
         ensures first { result.0 ≤ 31 }
         ensures end { result.1 ≤ 31 }

@@ -1,13 +1,14 @@
 -- What holds of every body, every connection and every message.
-use Rattle.std.specs.Prelude.{◌≡◌, ◌↔◌, ℕ, ◌+◌, ◌-◌, ◌<◌, ◌≤◌, ◌^◌, true, false, nat_eq, min, List, [], ◌∷◌, ◌++◌, length}
-use Rattle.std.specs.Prelude.{slice_index, slice_get, is_some, Some, None, Ok, ◌⊎◌}
+use Rattle.std.specs.Prelude.{◌≡◌, ◌↔◌, ℕ, ◌+◌, ◌-◌, ◌<◌, ◌≤◌, ◌^◌, true, false, nat_eq, min, List, [], ◌∷◌, ◌++◌}
+use Rattle.std.specs.Prelude.{length, slice_index, slice_get, is_some, Some, None, Ok, ◌⊎◌}
 use Rattle.std.specs.List.{AllByRecursion, list_any}
 use Rattle.gm_defs.specs.declared.message.Message.{Message}
 use Rattle.gm_defs.specs.declared.frame.FrameHead.{FrameHead}
 use Rattle.gm_defs.specs.declared.frame.Ack.{Ack}
 use Rattle.gm_defs.specs.declared.frame.GmBody.TheVariants.{Frame, Ack as Acknowledges}
 use Rattle.gm_defs.specs.Fragment.{Fragment, pieces, fragments, whole_below, begun_below, joined}
-use Rattle.gm_defs.specs.Body.{piece, is_prio, is_offset, is_last, is_head, frame_bytes, ack_bytes, part_in, decode, number_limit}
+use Rattle.gm_defs.specs.Body.{piece, is_prio, is_offset, is_last, is_head, frame_bytes, ack_bytes, part_in, decode}
+use Rattle.gm_defs.specs.Body.{number_limit}
 use Rattle.gm_defs.specs.Connection.{SenderState, IsSender, starting, due, sent_one, acknowledged, expired, is_spent}
 use Rattle.gm_defs.specs.Connection.{offered}
 use Rattle.gm_defs.specs.declared.token.Filling.{Filling}
@@ -97,8 +98,8 @@ ShortIsOnePiece = (m : Message) → length m.body ≤ piece
     → pieces m ≡ record { message = m; offset = 0; part = m.body } ∷ []
 
 -- What is known of the fragment of a number. Its message is the first that isn't wholly below the number, and what is
--- begun of that message is all that comes before the fragment. The last fragment makes the message whole, and an earlier
--- one is begun with it.
+-- begun of that message is all that comes before the fragment. The last fragment makes the message whole, and an
+-- earlier one is begun with it.
 pub record ComesNext (ms : List Message) (n : ℕ) (f : Fragment) : Type 0 where
   pub there : slice_get ms (whole_below ms n) ≡ Some f.message
   pub begins : is_offset (length f.message.body) f.offset ≡ true
@@ -133,8 +134,8 @@ pub record BeginsThere (p : PortState) (h : FrameHead) : Type 0 where
   pub not_begun : has_begun p h.src h.prio ≡ false
   pub free : is_some (fitting p h.total h.prio) ≡ true
 
--- A fragment is a later one, and a token is filling for its host and priority, with a message of its length of which the
--- token holds exactly what comes before the fragment.
+-- A fragment is a later one, and a token is filling for its host and priority, with a message of its length of which
+-- the token holds exactly what comes before the fragment.
 pub record GoesOnThere (p : PortState) (h : FrameHead) : Type 0 where
   pub later : 0 < h.offset
   pub place : ℕ

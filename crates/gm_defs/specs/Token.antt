@@ -148,8 +148,8 @@ abbrev pub holds_before : FrameHead → Option Filling → Bool
 holds_before h None = false
 holds_before h (Some f) = nat_eq f.src h.src && nat_eq f.total h.total && nat_eq f.held h.offset
 
--- A token takes a fragment of a port where a token for its message has begun or hasn't: a message's first fragment where
--- none has and the token is free for the message, a later one where the token holds exactly what comes before it.
+-- A token takes a fragment of a port where a token for its message has begun or hasn't: a message's first fragment
+-- where none has and the token is free for the message, a later one where the token holds exactly what comes before it.
 abbrev pub takes : FrameHead → Bool → Provided → Bool
 takes h begun r =
     if nat_eq h.offset 0 then not begun && is_free_for h.total h.prio r

@@ -3,7 +3,8 @@ use Rattle.std.specs.Prelude.{◌≡◌, ℕ, ◌+◌, ◌<◌, ◌≤◌, true,
 use Rattle.std.specs.List.{AllByRecursion}
 use Rattle.gm_defs.specs.declared.frame.FrameHead.{FrameHead}
 use Rattle.gm_defs.specs.Body.{is_head}
-use Rattle.gm_defs.specs.Token.{room, Provided, Sent, PortState, HasOneOwner, AreFilling, opened, place_of_send, place_of_recv}
+use Rattle.gm_defs.specs.Token.{room, Provided, Sent, PortState, HasOneOwner, AreFilling, opened, place_of_send}
+use Rattle.gm_defs.specs.Token.{place_of_recv}
 use Rattle.gm_defs.specs.Port.{sent_with, provided_with, finished, filled, delivered, polled}
 
 -- each call keeps one owner for each token

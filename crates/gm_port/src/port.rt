@@ -163,17 +163,18 @@ impl Port {
         self.events.push(PortEvent::Sent(token, buffer));
     }
 
-    /// Whether a provided token takes a fragment: at offset 0 where no token is filling for its host and priority and one
-    /// that isn't filling fits; above it where a token is filling with its message and holds exactly what comes before.
+    /// Whether a provided token takes a fragment: at offset 0 where no token is filling for its host and priority and
+    /// one that isn't filling fits; above it where a token is filling with its message and holds exactly what comes
+    /// before.
     pub fn can_take(&self, h: &FrameHead) -> bool
         ensures { result ≡ can_take self.now.state h.now }
     {
         self.buffers.can_take(h)
     }
 
-    /// A fragment came. A message's first goes to the token provided first of those that fit and aren't filling, a later
-    /// one to the token that is filling with its message. It stands at its offset of the buffer, whose other bytes stay.
-    /// With the last one token and buffer go into an event; before, the token is filling.
+    /// A fragment came. A message's first goes to the token provided first of those that fit and aren't filling, a
+    /// later one to the token that is filling with its message. It stands at its offset of the buffer, whose other
+    /// bytes stay. With the last one token and buffer go into an event; before, the token is filling.
     pub fn deliver(&mut self, h: &FrameHead, part: &[u8])
         requires taken { can_take self.old.state h.now ≡ true }
         requires head { is_head h.now ≡ true }
@@ -268,8 +269,8 @@ impl Port {
         }
     }
 
-    /// Ends the port, whatever it holds, and hands all of it back. The buffer of a token that is filling begins with what
-    /// it took, and its other bytes are as they were provided.
+    /// Ends the port, whatever it holds, and hands all of it back. The buffer of a token that is filling begins with
+    /// what it took, and its other bytes are as they were provided.
     pub fn abandon(self) -> Wreck
         ensures sending { result.sending.items ≡ map (send_at self.host self.port) self.state.queue }
         ensures provided { result.provided.items ≡ map (receive_at self.host self.port) self.state.provided }

@@ -39,7 +39,8 @@ pub(crate) fn declare(map: &mut MapSoFar, f: &Fabric, line: &[u8]) -> Result<(),
 // Adds what a line declares that begins with this word.
 fn declare_as(map: &mut MapSoFar, f: &Fabric, first: &[u8], args: Words) -> Result<(), LineFault>
     ensures reading { LineLeaves (declared_as f.now map.old first.now (words_of args.entry)) map.new result }
-    ensures memory { IsErrOf result LineFault.NoMemory → IsOk (declared_as f.now map.old first.now (words_of args.entry)) }
+    ensures memory { IsErrOf result LineFault.NoMemory
+        → IsOk (declared_as f.now map.old first.now (words_of args.entry)) }
 {
     if first == b"host".as_slice() {
         declare_host(map, f, args)

@@ -51,7 +51,8 @@ impl MapSoFar {
     /// Adds a host by its address.
     pub(crate) fn add_host(&mut self, h: u16) -> Result<(), LineFault>
         ensures reading { LineLeaves (unless (host_refusal self.old h) (with_host self.old h)) self.new result }
-        ensures memory { IsErrOf result LineFault.NoMemory → IsOk (unless (host_refusal self.old h) (with_host self.old h)) }
+        ensures memory { IsErrOf result LineFault.NoMemory
+            → IsOk (unless (host_refusal self.old h) (with_host self.old h)) }
     {
         match self.map.add_host(h) {
             Ok(_) => Ok(()),
@@ -62,7 +63,8 @@ impl MapSoFar {
     /// Adds the next switch.
     pub(crate) fn add_switch(&mut self, core: bool) -> Result<(), LineFault>
         ensures reading { LineLeaves (unless (switch_refusal self.old) (with_switch self.old core)) self.new result }
-        ensures memory { IsErrOf result LineFault.NoMemory → IsOk (unless (switch_refusal self.old) (with_switch self.old core)) }
+        ensures memory { IsErrOf result LineFault.NoMemory
+            → IsOk (unless (switch_refusal self.old) (with_switch self.old core)) }
     {
         if is_full(&self.map) {
             return Err(LineFault::Wrong(FaultKind::Full));

@@ -1,6 +1,7 @@
 //! A settle: rounds, each of which sends again what isn't acknowledged.
 
-ghost use Rattle.std.specs.Prelude.{◌≡◌, ◌≤◌, ◌<◌, ◌+◌, ◌||◌, true, not, nat_eq, nat_lt, min, length, IfOk, OnOk, OnErr};
+ghost use Rattle.std.specs.Prelude.{◌≡◌, ◌≤◌, ◌<◌, ◌+◌, ◌||◌, true, not, nat_eq, nat_lt, min, length};
+ghost use Rattle.std.specs.Prelude.{IfOk, OnOk, OnErr};
 ghost use Rattle.std.specs.List.{AllByRecursion};
 ghost use Rattle.link_defs.specs.Links.{is_idle};
 ghost use Rattle.world_defs.specs.World.{fabric_of, host_count, last_count};
