@@ -25,12 +25,13 @@ REFUSED_CALL = {
     "already": "the port is open: 'close' it first",
     "notopen": "the port isn't open: 'open' it first",
     "notoken": "the client holds no token of that kind: open the port with more, or 'poll' for those that are due back",
-    "toolong": "a message has at most 1,016 bytes",
+    "toolong": "a message has at most 65,528 bytes",
     "noroute": "the host has no active table with a route there: 'install', again if a part was lost",
     "spent": "the connection has no number left",
     "badsize": "a SIZE is from 4 to 16",
     "busy": "so many sends aren't acknowledged: 'settle', then 'poll' for them",
     "unread": "so many events wait: 'poll' for them",
+    "filling": "so many messages came in part: 'settle', then 'poll' for them",
 }
 
 MAP_WORDS = {

@@ -11,6 +11,11 @@ def least_size(length):
     return size
 
 
+def fragments(length):
+    """How many packets a message of this length takes."""
+    return max(1, -(-length // 1016))
+
+
 class Calls:
     """What clients have done so far: ports that are open, tokens that are provided, and messages that aren't taken."""
 
@@ -74,7 +79,7 @@ class Calls:
 
 
 def behind_settles(script, items):
-    """For the line of each settle in a report: what waits behind it, where its count of unacknowledged messages agrees."""
+    """For the line of each settle in a report: what waits behind it, where its count of unacknowledged fragments agrees."""
     calls, told, items = Calls(), {}, list(items)
     for line, words in script:
         if not items:
@@ -86,7 +91,7 @@ def behind_settles(script, items):
         calls.call(line, words, answer)
         if words[0] == "settle":
             calls.settle()
-            waiting = sum(map(len, calls.sent.values()))
+            waiting = sum(fragments(length) for lane in calls.sent.values() for *_, length in lane)
             told[at] = list(calls.waiting()) if calls.is_known and waiting == int(answer[-1]) else []
         while items and isinstance(items[0], tuple) and items[0][1][0] == "table":
             _, (_, host, state) = items.pop(0)
