@@ -1,4 +1,4 @@
-use Rattle.std.proofs.Common.{◌≡◌, ap, sym, ◌∙◌}
+use Rattle.std.proofs.Common.{ap, sym, ◌∙◌}
 use Rattle.std.specs.Option.{unwrap_or}
 use Rattle.net_defs.specs.Route.{host_port, channel_from}
 use Rattle.world_defs.specs.declared.effect.Effect.{Effect}
