@@ -3,3 +3,4 @@ pub mod Hosts
 pub mod Tied
 pub mod Telling
 pub mod Back
+pub mod Calls

@@ -23,7 +23,7 @@ use world_defs::Said;
 impl ClientHost {
     /// Opens a port, where it isn't open: its client holds so many send tokens and receive tokens. Want of memory
     /// changes nothing, and hides no refusal.
-    pub fn begin(
+    pub(crate) fn begin(
         &mut self,
         alloc: Global,
         port: u8,
@@ -45,7 +45,7 @@ impl ClientHost {
 
     /// Closes an open port where no send is unfinished and no event waits: its provided tokens come back, and all of
     /// its tokens end.
-    pub fn close(&mut self, port: u8) -> Said
+    pub(crate) fn close(&mut self, port: u8) -> Said
         requires { port < 8 }
         ensures said { result ≡ (closed self.old.state port (client_in self.old port)).said }
         ensures after { self.new ≡ after_call self.old port (closed self.old.state port (client_in self.old port)) }
@@ -57,7 +57,7 @@ impl ClientHost {
 
     /// The client provides the receive token that it has held longest, with a buffer of zero bytes. Want of memory
     /// changes nothing, and hides no refusal.
-    pub fn provide(
+    pub(crate) fn provide(
         &mut self,
         alloc: Global,
         port: u8,
@@ -79,7 +79,7 @@ impl ClientHost {
 
     /// The client sends so many bytes with the send token that it has held longest: byte i is the seed plus i, modulo
     /// 256. Want of memory changes nothing, and hides no refusal.
-    pub fn send(
+    pub(crate) fn send(
         &mut self,
         alloc: Global,
         port: u8,
@@ -112,7 +112,7 @@ impl ClientHost {
     }
 
     /// The client takes the first event of a port's queue: its token goes behind those that the client holds.
-    pub fn poll(&mut self, port: u8) -> Said
+    pub(crate) fn poll(&mut self, port: u8) -> Said
         requires { port < 8 }
         ensures said { result ≡ (polled_by self.old.state port (client_in self.old port)).said }
         ensures after { self.new ≡ after_call self.old port (polled_by self.old.state port (client_in self.old port)) }

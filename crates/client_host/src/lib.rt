@@ -1,9 +1,9 @@
 //! One host with the clients of its ports; and all hosts of a world by address, made and spent.
 //!
 //! It moves no packet, and no host knows another. Here a client makes its calls: it takes its tokens and its buffers,
-//! hands them to the host's port, and takes them back. `specs/Client.antt` of `world_defs` says what each call does;
-//! `specs/Held.antt` says what a contract sees, and `specs/Tied.antt` what ties a port to its client: each token has
-//! one owner. `specs/Hosts.antt` says the same of hosts by address.
+//! hands them to the host's port, and takes them back. `specs/Client.antt` of `world_defs` says what each call does, and
+//! `specs/Calls.antt` which event it is; `specs/Held.antt` says what a contract sees, and `specs/Tied.antt` what ties a
+//! port to its client: each token has one owner. `specs/Hosts.antt` says the same of hosts by address.
 //!
 //! ```text
 //!             open: mint     provide, send: token and buffer
@@ -17,6 +17,7 @@
 mod calls;
 mod closing;
 mod ending;
+mod events;
 mod host;
 mod hosts;
 mod opening;
@@ -26,6 +27,7 @@ mod returning;
 mod sending;
 mod telling;
 
+pub use events::caller;
 pub use gm_defs::TokenPlace;
 pub use host::ClientHost;
 pub use hosts::{end_hosts, new_hosts};

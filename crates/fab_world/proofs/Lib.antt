@@ -1,5 +1,6 @@
 pub mod Answers
 pub mod Arriving
+pub mod Calling
 pub mod Hopping
 pub mod HostEvents
 pub mod Injecting

@@ -10,7 +10,7 @@ use Rattle.world_defs.specs.Client.{Called}
 use Rattle.world_defs.specs.World.{WorldState}
 use Rattle.world_defs.specs.Step.{step}
 use Rattle.world_defs.proofs.Views.{LinksChange, HostChange, CallChange, ArrivalChange, Change, view}
-use Rattle.fab_world.specs.Events.{IsClientCall}
+use Rattle.client_host.specs.Calls.{IsClientCall}
 use Rattle.fab_world.specs.Held.{is_refusal}
 
 links-unrefused : {w : WorldState} {e : Event} {x : Effect} {s : Step} → LinksChange w e x s → is_refusal x ≡ false

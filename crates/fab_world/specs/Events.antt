@@ -5,6 +5,7 @@ use Rattle.world_defs.specs.declared.event.Event.TheVariants.{Ask, Part, Inject,
 use Rattle.world_defs.specs.declared.event.Event.TheVariants.{Replay, Reset, Expire, GiveUp, Begin, Close, Provide}
 use Rattle.world_defs.specs.declared.event.Event.TheVariants.{Send, Poll}
 use Rattle.world_defs.specs.World.{WorldState, host_count}
+use Rattle.client_host.specs.Calls.{call_takes_memory}
 
 -- the host is there
 abbrev pub IsHostOf : WorldState → ℕ → Type 0
@@ -36,22 +37,11 @@ IsGiven w (Send h port dest dport prio len seed) =
     IsHostOf w h × IsHostOf w dest × (port < 8) × (dport < 8) × (prio < 2)
 IsGiven w (Poll h port) = IsHostOf w h × (port < 8)
 
--- an event may take memory
+-- an event may take memory: of the calls of clients those that may
 abbrev pub takes_memory : Event → Bool
 takes_memory (Lose c) = false
 takes_memory (Replay serial) = false
 takes_memory (Reset c) = false
 takes_memory (Expire h peer) = false
 takes_memory (GiveUp h) = false
-takes_memory (Close h port) = false
-takes_memory (Poll h port) = false
-takes_memory _ = true
-
--- an event is a client's call
-abbrev pub IsClientCall : Event → Type 0
-IsClientCall (Begin h port sends recvs) = Unit {0}
-IsClientCall (Close h port) = Unit {0}
-IsClientCall (Provide h port size prio) = Unit {0}
-IsClientCall (Send h port dest dport prio len seed) = Unit {0}
-IsClientCall (Poll h port) = Unit {0}
-IsClientCall _ = ⊥
+takes_memory e = call_takes_memory e

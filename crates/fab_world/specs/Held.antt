@@ -6,10 +6,8 @@ use Rattle.world_defs.specs.declared.event.Event.TheVariants.{Poll}
 use Rattle.world_defs.specs.declared.effect.Effect.{Effect}
 use Rattle.world_defs.specs.declared.effect.Effect.TheVariants.{Arrived, Said}
 use Rattle.world_defs.specs.Table.{Adoption}
-use Rattle.world_defs.specs.Node.{NodeState}
-use Rattle.world_defs.specs.Client.{ClientState, Called, Wanted, sent_by}
-use Rattle.world_defs.specs.World.{WorldState, fabric_of, host_count, node_at, client_at}
-use Rattle.world_defs.specs.Step.{of_call, after_all}
+use Rattle.world_defs.specs.World.{WorldState, fabric_of, host_count}
+use Rattle.world_defs.specs.Step.{after_all}
 use Rattle.world_defs.specs.EightBits.{HasByteFaults}
 use Rattle.world_laws.specs.Shape.{IsWorld, HasSenders}
 use Rattle.faulty_links.specs.Held.{LinksAndPlan}
@@ -60,11 +58,3 @@ IsPolledOfHosts hosts _ _ = Unit {0}
 abbrev pub is_refusal : Effect → Bool
 is_refusal (Said said) = is_refused said
 is_refusal _ = false
-
--- a client's call at a port of a host says this, and leaves this world
-abbrev pub IsCallAt : WorldState → ℕ → ℕ → (NodeState → Option ClientState → Called) → Effect → WorldState → Type 0
-IsCallAt w h port call effect v = of_call w h port (call (node_at w h) (client_at w h port)) ≡ (effect, v)
-
--- a client's wish to send a message says this, and leaves this world
-abbrev pub IsSendingAt : WorldState → ℕ → Wanted → Effect → WorldState → Type 0
-IsSendingAt w h s effect v = IsCallAt w h s.port (λ n c. sent_by n s c) effect v

@@ -4,7 +4,8 @@ ghost use Rattle.std.specs.Prelude.{◌≡◌, ◌≤◌, length, true, false, I
 ghost use Rattle.world_defs.specs.World.{fabric_of, host_count, planned};
 ghost use Rattle.world_defs.specs.Step.{step};
 ghost use Rattle.adopted_routes.specs.Adopting.{IsSetOfHosts};
-ghost use Rattle.fab_world.specs.Events.{IsGiven, IsClientCall, takes_memory};
+ghost use Rattle.client_host.specs.Calls.{IsClientCall};
+ghost use Rattle.fab_world.specs.Events.{IsGiven, takes_memory};
 ghost use Rattle.fab_world.specs.Held.{IsPolledOfHosts, is_refusal};
 
 use super::Machine;
@@ -45,44 +46,6 @@ impl Machine {
             Event::Expire { host, peer } => Ok(self.expire(*host, *peer)),
             Event::GiveUp(host) => Ok(self.give_up(*host)),
             _ => self.call(alloc, e),
-        }
-    }
-
-    // A client's call.
-    fn call(&mut self, alloc: Global, e: &Event) -> Result<Effect, AllocError>
-        requires call { IsClientCall e.now }
-        requires given { IsGiven self.old e.now }
-        ensures ok { IfOk result (λ x. step self.old e.now ≡ (x, self.new)) }
-        ensures polled { IfOk result (λ x. IsPolledOfHosts (host_count self.old) e.now x) }
-        ensures wanting { OnErr result (is_refusal (step self.old e.now).0 ≡ false) }
-        ensures memory { OnErr result (takes_memory e.now ≡ true) }
-        ensures err { OnErr result (self.new ≡ self.old) }
-    {
-        match e {
-            Event::Begin {
-                host,
-                port,
-                sends,
-                recvs,
-            } => self.begin(alloc, *host, *port, *sends, *recvs),
-            Event::Close { host, port } => Ok(self.close(*host, *port)),
-            Event::Provide {
-                host,
-                port,
-                size,
-                prio,
-            } => self.provide(alloc, *host, *port, *size, *prio),
-            Event::Send {
-                host,
-                port,
-                dest,
-                dport,
-                prio,
-                len,
-                seed,
-            } => self.send(alloc, *host, *port, *dest, *dport, *prio, *len, *seed),
-            Event::Poll { host, port } => Ok(self.poll(*host, *port)),
-            _ => unreachable!(),
         }
     }
 

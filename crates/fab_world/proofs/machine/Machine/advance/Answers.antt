@@ -1,4 +1,4 @@
-use Rattle.std.proofs.Common.{ap, sym, ◌∙◌, arith}
+use Rattle.std.proofs.Common.{◌<◌, length, option_map, ap, sym, subst, ◌∙◌, arith}
 use Rattle.world_defs.specs.Step.{advanced}
 use Rattle.world_defs.specs.Hearing.{hear}
 use Rattle.fab_world.specs.Held.{world_of}
@@ -7,6 +7,18 @@ use Rattle.fab_world.proofs.HostEvents.{heard-is}
 use Rattle.fab_world.proofs.Places.{IsAt, count-is, below-is, kept-in-state, same}
 use Rattle.fab_world.proofs.Resting.{marked, still-watched, has-mark}
 use Rattle.fab_world.proofs.machine.Machine.advance.Goals as goal
+
+pub reaching-requires : goal.reaching-requires
+reaching-requires c = subst (λ v. c.args.c < length v.links.channels) (sym c.self.view_is) c.requires.there
+
+pub heard-requires : goal.heard-requires
+heard-requires c = subst (λ v. c.args.c < length v.links.channels) (sym c.self.view_is) c.requires.there
+
+pub advance-requires-clause-there : goal.advance-requires-clause-there
+advance-requires-clause-there c = subst (λ v. c.args.c < length v.links.channels) (sym c.self.view_is) c.requires.there
+
+pub advance-requires-clause-inside : goal.advance-requires-clause-inside
+advance-requires-clause-inside c = sym c.reaching.ensures.reaching ∙ ap (option_map (λ t. (t.0, t.1.now))) c.in-None.is
 
 pub mark-requires : goal.mark-requires
 mark-requires c =
