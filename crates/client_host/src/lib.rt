@@ -1,7 +1,7 @@
 //! One host with the clients of its ports; and all hosts of a world by address, made and spent.
 //!
 //! It moves no packet, and no host knows another. Here a client makes its calls: it takes its tokens and its buffers,
-//! hands them to the host's port, and takes them back. `specs/Client.antt` of `world_defs` says what each call does, and
+//! hands them to the host's port, and takes them back. `specs/Client.antt` of `world_defs` says what each call does,
 //! `specs/Calls.antt` which event it is; `specs/Held.antt` says what a contract sees, and `specs/Tied.antt` what ties a
 //! port to its client: each token has one owner. `specs/Hosts.antt` says the same of hosts by address.
 //!

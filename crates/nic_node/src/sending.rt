@@ -1,6 +1,7 @@
 //! The packet that a host sends next.
 
-ghost use Rattle.std.specs.Prelude.{◌≡◌, ◌<◌, ◌≤◌, ◌+◌, ℕ, is_some, option_map, length, take, drop, true, Some, IfOk, OnErr};
+ghost use Rattle.std.specs.Prelude.{◌≡◌, ◌<◌, ◌≤◌, ◌+◌, ℕ, is_some, option_map, length, take, drop, true, Some};
+ghost use Rattle.std.specs.Prelude.{IfOk, OnErr};
 ghost use Rattle.packet_defs.specs.Packet.{packet_of};
 ghost use Rattle.gm_defs.specs.Body.{is_prio, is_head, frame_bytes, ack_bytes};
 ghost use Rattle.world_defs.specs.Node.{owed_on, due_frame, due_on, to_send, packet_for, lane_at};
