@@ -1,6 +1,8 @@
-//! std's readers and writers as a source and a sink.
+//! std's readers and writers as a source and a sink, and a sink that takes memory as bytes come.
 
-use fab_outer::{ReadEnd, StdSink, StdSource, WriteFault, read_all, write_all};
+use fab_outer::{
+    Failed, MemSink, ReadEnd, Sink, StdSink, StdSource, WriteFault, read_all, write_all,
+};
 use std::io::{Error, ErrorKind, Read, Write};
 use std::test::Fail;
 
@@ -44,5 +46,16 @@ fn a_writer_gets_the_bytes_and_its_failed_flush_is_told(rt: HostRuntime) -> Resu
     }
     let failed = write_all(&mut StdSink::new(Broken), b"abc");
     assert!(rt; written.as_slice() == b"abcde".as_slice() && failed == Err(WriteFault));
+    Ok(())
+}
+
+#[test]
+fn a_sink_over_memory_fails_at_the_call_that_it_is_told_alone(rt: HostRuntime) -> Result<(), Fail> {
+    let mut sink = MemSink::new(rt.alloc(), 2, vec![in rt.alloc(); 2]?);
+    let first = sink.write_some(b"abc");
+    let second = sink.write_some(b"c");
+    let third = sink.write_some(b"c");
+    assert!(rt; matches!(first, Ok(2)) && matches!(second, Err(Failed)) && matches!(third, Ok(1)));
+    assert!(rt; sink.taken() == b"abc".as_slice());
     Ok(())
 }
