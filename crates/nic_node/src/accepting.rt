@@ -14,7 +14,7 @@ ghost use Rattle.nic_node.specs.Accepting.{accepted_in, message_bar, node_bar, p
 
 use crate::refusal::NodeSend;
 use gm_tokens::{SendToken, is_too_long};
-use host_lanes::{Envelope, Lanes};
+use host_lanes::{Envelope, Lanes, OfferRefusal};
 use host_ports::{PortSend, Ports, SendAsk};
 use reg_mem::Reg;
 use std::alloc::Global;
@@ -88,8 +88,10 @@ fn accept(
     };
     match lanes.accept(alloc, a.dest, envelope, b, a.len, token) {
         Ok(()) => Ok(()),
-        // Nothing refuses it, so memory is wanting.
-        Err(_) => Err(NodeSend::NoMemory),
+        Err(refusal) => {
+            prove!(matches!(refusal, OfferRefusal::NoMemory));
+            Err(NodeSend::NoMemory)
+        }
     }
 }
 
