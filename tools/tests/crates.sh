@@ -1,7 +1,7 @@
-# A small repository: a page lacks a crate, another tells of one that is gone and has one too early, and a definition isn't where it was.
+# A small repository: its page lacks a crate, has one that is gone and one too early, and a definition isn't where it was.
 root=$(mktemp -d)
 trap 'rm -rf "$root"' EXIT
-mkdir -p "$root/docs/pictures" "$root/crates/net_defs/specs"
+mkdir -p "$root/docs/pictures" "$root/crates/net_defs/specs" "$root/crates/net_defs/src"
 cat > "$root/crates.txt" <<'END'
 # Base crates of definitions.
 net_defs:
@@ -14,16 +14,18 @@ map_laws: map_defs net_defs
 # The program.
 fabric_run: run_defs map_laws
 END
-printf '%s\n' '### Base crates of definitions' '| `net_defs` | a |' '| `map_defs` | b |' '| `run_defs` | c |' '### Laws' '| `map_laws` | d |' \
-  '| `fabric_run` | e |' '### The program' '| `gone_laws` | f |' > "$root/docs/ARCHITECTURE.md"
 printf '## %s\n' 'Base crates of definitions' > "$root/docs/PROVED.md"
 printf '| `%s` | what it promises |\n' net_defs map_defs run_defs >> "$root/docs/PROVED.md"
 printf '## %s\n' 'Laws' 'The program' >> "$root/docs/PROVED.md"
-printf '| `%s` | what it promises |\n' map_laws >> "$root/docs/PROVED.md"
+printf '| `%s` | what it promises |\n' map_laws gone_laws >> "$root/docs/PROVED.md"
 printf '%s\n' '| `far` | `crates/net_defs/specs/Network.antt` | ? |' '| `near` | `crates/net_defs/specs/Network.antt` | ? |' > "$root/docs/DEFINITIONS.md"
 printf 'abbrev pub far : A\n' > "$root/crates/net_defs/specs/Network.antt"
+printf '%s\n' '//! What a fabric is: hosts, switches' '//! and cables. It holds none.' '//!' '//! More.' > "$root/crates/net_defs/src/lib.rt"
 draw-crates "$root" > "$root/docs/pictures/laws.svg"
+list-crates "$root" > "$root/crates/README.md"
 check-crates "$root" | grep "^check-crates"
+grep -A 3 '^## Base' "$root/crates/README.md"
+grep net_defs "$root/crates/README.md"
 echo "map_laws: net_defs" >> "$root/crates.txt"
-check-crates "$root" | grep -c 'is old'
+check-crates "$root" | grep 'is old'
 grep -c '<text' "$root/docs/pictures/laws.svg"
