@@ -214,7 +214,7 @@ impl Slots {
         requires empty { slice_index_or self.old c None ≡ None }
         ensures { self.new ≡ slice_set self.old c (Some slot) }
     {
-        let _ = replace_at(&mut self.slots, c, Some(slot));
+        mem::forget(replace_at(&mut self.slots, c, Some(slot)));
         self.full += 1;
         self.last = c;
         mark(&mut self.marks, c);

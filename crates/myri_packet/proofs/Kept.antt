@@ -38,14 +38,9 @@ front_off byte h d =
     ∙ xor_twice (bit_xor (crc h) d) c in
     sym (stripped-push byte h (bit_xor (crc (byte ∷ h)) d) ∙ ap (λ x. h ++ x ∷ []) without)
 
-pub strip-off : (buffer : List ℕ) (start next d : ℕ) → next ≡ start + 1 → 2 ≤ length (wire_of (drop start buffer) d)
-    → wire_of (drop next buffer) d ≡ stripped (wire_of (drop start buffer) d)
-strip-off [] zero next d e h = absurd (omega (arith, h))
-strip-off [] (suc start) next d e h = absurd (omega (arith, h))
-strip-off (byte ∷ buffer) zero next d e h = ap (λ n. wire_of (drop n (byte ∷ buffer)) d) e ∙ front_off byte buffer d
-strip-off (byte ∷ buffer) (suc start) next d e h =
-    ap (λ n. wire_of (drop n (byte ∷ buffer)) d) (e ∙ (let s : suc start + 1 ≡ suc (start + 1) = omega arith in s))
-    ∙ strip-off buffer start (start + 1) d refl h
+pub strip-off : (h : List ℕ) (d : ℕ) → 2 ≤ length (wire_of h d) → wire_of (drop 1 h) d ≡ stripped (wire_of h d)
+strip-off [] d two = absurd (omega (arith, two))
+strip-off (byte ∷ h) d two = front_off byte h d
 
 -- a mask on a byte of the head, on the byte behind it, and past both
 pub masked-head : (h : List ℕ) (check place mask : ℕ) → place < length h

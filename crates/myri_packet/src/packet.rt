@@ -1,12 +1,13 @@
 //! A packet: reading it, stripping it, flipping it.
 
-ghost use Rattle.std.specs.Prelude.{◌≡◌, ◌<◌, ◌≤◌, ◌++◌, ◌∷◌, [], drop, length, nat_eq, IfOk, IfErr, OnSome, IfNone};
+ghost use Rattle.std.specs.Prelude.{◌≡◌, ◌<◌, ◌≤◌, ◌++◌, ◌∷◌, [], length, nat_eq, IfOk, IfErr, OnSome, IfNone};
 ghost use Rattle.std.specs.Prelude.{None, Some, IsSome, ◌+◌, ◌*◌};
 ghost use Rattle.net_defs.specs.Refusal.{Refuses};
 ghost use Rattle.packet_defs.specs.Packet.{head, crc_byte, difference, front_turn, stripped, with_crc};
 ghost use Rattle.packet_defs.specs.Burst.{flipped, masked};
 ghost use Rattle.myri_packet.specs.Refusals.{wire_refusal, flip_refusal};
 
+use bytes::{Buf, BytesMut};
 use crc_eight::crc;
 use std::alloc::{AllocError, Global};
 use std::marker::Model;
@@ -43,23 +44,21 @@ pub enum FlipRefusal {
 /// has its CRC without a computation, at every switch.
 #[derive(Drop)]
 pub struct Packet {
-    // The bytes of the head, behind those that were read off.
-    buffer: Vec<u8>,
-    // Where the head begins: a strip moves no byte.
-    start: u16,
+    // The head's bytes. A strip reads the front one off: no byte moves, and no memory is taken.
+    head: BytesMut,
     // The difference between the CRC and the one due to the head.
     difference: u8,
 }
 
 impl Model for Packet {
-    ghost use Rattle.std.specs.Prelude.{List, ℕ, ◌≤◌, drop, length};
+    ghost use Rattle.std.specs.Prelude.{List, ℕ, ◌≤◌, length};
     ghost use Rattle.myri_packet.specs.Kept.{wire_of};
 
     ghost Value = { List ℕ };
 
-    ghost view = { λ p. wire_of (drop p.start p.buffer.items) p.difference };
+    ghost view = { λ p. wire_of p.head.items p.difference };
 
-    ghost invariant = { λ p. (p.start ≤ length p.buffer.items) × (length p.buffer.items ≤ 1106) };
+    ghost invariant = { λ p. length p.head.items ≤ 1106 };
 }
 
 impl Packet {
@@ -75,8 +74,8 @@ impl Packet {
             return Err(WireFault::TooLong);
         }
         let last = bytes.len() - 1;
-        match bytes[..last].to_vec(alloc) {
-            Ok(buffer) => Ok(Packet::with_check(buffer, 0, bytes[last])),
+        match BytesMut::copy_from_slice(alloc, &bytes[..last]) {
+            Ok(head) => Ok(Packet::with_check(head, bytes[last])),
             Err(_) => Err(WireFault::NoMemory),
         }
     }
@@ -87,24 +86,18 @@ impl Packet {
         ensures { result ≡ with_crc head.items }
     {
         Packet {
-            buffer: head,
-            start: 0,
+            head: BytesMut::from_vec(head),
             difference: 0,
         }
     }
 
-    // The packet of what stands in a buffer from a place on, with this CRC.
-    fn with_check(buffer: Vec<u8>, start: u16, check: u8) -> Packet
-        requires there { start ≤ length buffer.items }
-        requires few { length buffer.items < MAX_BYTES }
-        ensures { result ≡ drop start buffer.items ++ check ∷ [] }
+    // The packet of a head, with this CRC.
+    fn with_check(head: BytesMut, check: u8) -> Packet
+        requires { length head.items < MAX_BYTES }
+        ensures { result ≡ head.items ++ check ∷ [] }
     {
-        let difference = check ^ crc(&buffer[usize::from(start)..]);
-        Packet {
-            buffer,
-            start,
-            difference,
-        }
+        let difference = check ^ crc(head.as_slice());
+        Packet { head, difference }
     }
 
     /// How many bytes it has.
@@ -113,14 +106,14 @@ impl Packet {
         ensures some { 0 < result }
         ensures few { result ≤ MAX_BYTES }
     {
-        self.buffer.len() - usize::from(self.start) + 1
+        self.head.len() + 1
     }
 
     /// All its bytes but the CRC.
     pub fn head(&self) -> &[u8]
         ensures { result.now ≡ head self.now }
     {
-        &self.buffer[usize::from(self.start)..]
+        self.head.as_slice()
     }
 
     /// The CRC that it carries.
@@ -141,10 +134,8 @@ impl Packet {
     pub fn copy(&self, alloc: Global) -> Result<Packet, AllocError>
         ensures { IfOk result (λ p. p ≡ self.now) }
     {
-        let buffer = self.head().to_vec(alloc)?;
         Ok(Packet {
-            buffer,
-            start: 0,
+            head: BytesMut::copy_from_slice(alloc, self.head())?,
             difference: self.difference,
         })
     }
@@ -216,12 +207,11 @@ impl Packet {
     {
         let mut check = self.crc_byte();
         let Packet {
-            mut buffer,
-            start,
+            mut head,
             difference: _,
         } = self;
-        flip_bits(&mut buffer[usize::from(start)..], &mut check, bit, pattern);
-        Packet::with_check(buffer, start, check)
+        flip_bits(head.as_mut_slice(), &mut check, bit, pattern);
+        Packet::with_check(head, check)
     }
 
     // Reads the front byte off. The CRC loses its contribution, and so does the one that is due.
@@ -229,7 +219,7 @@ impl Packet {
         requires { 2 ≤ length self.old }
         ensures { self.new ≡ stripped self.old }
     {
-        self.start += 1;
+        Buf::advance(&mut self.head, 1);
     }
 }
 

@@ -7,6 +7,7 @@
 //! | `connections` | a connection at its last number, and a message in two fragments |
 //! | `ports` | a port that is filling, and a buffer that parts from its message |
 //! | `numbers` | offsets of ports, texts of faults |
+//! | `packets` | a byte's share in a CRC, a packet that is stripped, and bodies written as they were read |
 //! | `streams` | std's readers and writers as a source and a sink |
 #![tactic(auto)]
 
@@ -15,6 +16,8 @@ mod connections;
 mod examples;
 #[cfg(test)]
 mod numbers;
+#[cfg(test)]
+mod packets;
 #[cfg(test)]
 mod ports;
 #[cfg(test)]
