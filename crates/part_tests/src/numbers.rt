@@ -17,9 +17,15 @@ fn frames_of_one_class_are_aligned_and_of_two_are_not(rt: HostRuntime) {
         class: 4,
         offset: -10,
     };
-    let high = ClassFrame { class: 4, offset: 5 };
+    let high = ClassFrame {
+        class: 4,
+        offset: 5,
+    };
     assert!(rt; aligned(high, low) == Some(15) && aligned(low, high) == Some(inverse(15)));
-    let other = ClassFrame { class: 3, offset: 5 };
+    let other = ClassFrame {
+        class: 3,
+        offset: 5,
+    };
     assert!(rt; aligned(high, other).is_none());
 }
 
