@@ -214,6 +214,7 @@ impl Slots {
         requires empty { slice_index_or self.old c None ≡ None }
         ensures { self.new ≡ slice_set self.old c (Some slot) }
     {
+        // The slot was empty: nothing is lost, and nothing has to be let go.
         mem::forget(replace_at(&mut self.slots, c, Some(slot)));
         self.full += 1;
         self.last = c;
