@@ -1,0 +1,102 @@
+"""Looks at pages of runs in Chromium without a window, and holds what their DOM has against what the examples say.
+
+usage: python3 in_browser.py CHROMIUM     in tools/tests; prints each fault, and nothing where there is none
+"""
+
+import subprocess
+import sys
+import tempfile
+from html.parser import HTMLParser
+from pathlib import Path
+
+TOOLS = Path(__file__).resolve().parent.parent
+sys.dont_write_bytecode = True
+sys.path.insert(0, str(TOOLS))
+
+from fabtools import fabric as fabrics  # noqa: E402
+from fabtools.run import Run  # noqa: E402
+
+EXAMPLES = TOOLS.parent / "examples"
+LOOKS = ("fat-tree", "torus", "room")
+FLAGS = ("--headless", "--no-sandbox", "--disable-gpu", "--virtual-time-budget=4000", "--host-resolver-rules=MAP * ~NOTFOUND")
+
+
+class Dom(HTMLParser):
+    """The elements of a page with their attributes, and the text in each that has an id."""
+
+    def __init__(self, text):
+        super().__init__(convert_charrefs=True)
+        self.found, self.texts, self.within = [], {}, []
+        self.feed(text)
+
+    def handle_starttag(self, tag, attributes):
+        attributes = dict(attributes)
+        self.found.append((tag, attributes))
+        if tag not in ("meta", "input", "br"):
+            self.within.append((tag, attributes.get("id")))
+
+    def handle_endtag(self, tag):
+        while self.within and self.within.pop()[0] != tag:
+            pass
+
+    def handle_data(self, text):
+        for _, name in self.within:
+            if name:
+                self.texts[name] = self.texts.get(name, "") + text
+
+    def of(self, tag, looks=None):
+        return [it for name, it in self.found if name == tag and (looks is None or looks in it.get("class", "").split())]
+
+
+def dom(chromium, page, choice):
+    ran = subprocess.run([chromium, *FLAGS, "--dump-dom", f"file://{page}#{choice}"], capture_output=True, text=True, timeout=100)
+    return Dom(ran.stdout)
+
+
+def faults(chromium, name, folder):
+    text, report = ((EXAMPLES / f"{name}.{it}").read_text() for it in ("in", "out"))
+    page = Path(folder) / f"{name}.html"
+    page.write_text(subprocess.run([TOOLS / "page", EXAMPLES / f"{name}.in", EXAMPLES / f"{name}.out"], capture_output=True, text=True, check=True).stdout)
+    run = Run(text, report)
+    loads = run.loads()
+    busiest = max(loads, key=lambda it: (loads[it], it))
+    cable = next(at for at, it in enumerate(run.fabric.cables) if set(it) == set(busiest))
+    a, b = run.fabric.hosts[0], run.fabric.hosts[-1]
+    seen = dom(chromium, page, f"from={a}&to={b}&cable={busiest[0][0]}:{busiest[0][1]}&theme=dark")
+    way = run.way(a, b)
+    pairs = sum(busiest in it or busiest[::-1] in it for it in (fabrics.follow(run.fabric, s, t)[0] for s, _, t in run.routes))
+    over = [it for it in seen.of("path") if "marker-end" in it]
+    summaries = [it for it in seen.of("details") if "open" in it]
+    wanted = {
+        "the code ran to its end": (seen.of("body")[0].get("data-ready"), "yes"),
+        "it is dark where that is asked": (seen.of("html")[0].get("data-theme"), "dark"),
+        "a host to choose for each host, twice": (len(seen.of("option")), 2 * len(run.fabric.hosts)),
+        "a box for each vertex": (len(seen.of("g", "vertex")), len(run.fabric.vertices())),
+        "a line for each cable": (len(seen.of("path", "wire")), len(run.fabric.cables)),
+        "each cable in the list": (len(seen.of("details")), len(run.fabric.cables)),
+        "an arrow for each cable of the route": (len(over), len(way)),
+        "the route's ports": (seen.texts["way"], f"{len(way)} cables: " + " ".join(f"{p[0]}:{p[1]}>{q[0]}:{q[1]}" for p, q in way)),
+        "the chosen cable is open": ([it.get("id") for it in summaries], [f"d{cable}"]),
+        "a button for each pair over it": (sum(" › " in it for it in pieces(seen.texts["cables"])), pairs),
+        "the map's name of each switch": (all(f"#{it}" in seen.texts["fabric"] for it in range(len(run.fabric.switches))), True),
+        "the report": (seen.texts["report"], report),
+    }
+    for what, (got, meant) in wanted.items():
+        if got != meant:
+            yield f"page of {name}: {what}: {str(got)[:200]} in place of {str(meant)[:200]}"
+
+
+def pieces(text):
+    """The pairs of a text in which they stand one after another, as `h0 › h1h0 › h2`."""
+    return [f" › {it}" for it in text.split(" › ")[1:]]
+
+
+def main(words):
+    with tempfile.TemporaryDirectory(prefix="pages-") as folder:
+        for name in LOOKS:
+            for it in faults(words[0], name, folder):
+                print(it)
+
+
+if __name__ == "__main__":
+    main(sys.argv[1:])
