@@ -19,15 +19,15 @@ def wide(text, size):
 
 
 class Drawing:
-    """Where all of a fabric stands, and how it is drawn. `notes` has a second line for a vertex, as the map's name of it."""
+    """Where all of a fabric stands, and how it is drawn. `notes` has a second line for a vertex, as the map's name of it;
+    `more` are cables that are drawn besides, and may share a port with one of the fabric's."""
 
-    def __init__(self, fabric, kind=None, grid=None, notes=None, ports=True):
+    def __init__(self, fabric, kind=None, grid=None, notes=None, ports=True, more=()):
         self.fabric, self.notes, self.ports = fabric, notes or {}, ports
-        self.layout = layout_of(fabric, kind, grid)
-        self.slots = {it: {side: [] for side in OUT} for it in fabric.vertices()}
-        for a, b in fabric.cables:
-            for end, side in zip((a, b), self.layout.sides(a, b)):
-                self.slots[end[0]][side].append(end)
+        self.layout, self.cables = layout_of(fabric, kind, grid), [*fabric.cables, *more]
+        self.slots, self.far = {it: {side: [] for side in OUT} for it in fabric.vertices()}, {}
+        for a, b in self.cables:
+            self.take_slots(a, b)
         # Where hosts in one row would make it too wide, their names are written upwards.
         row = sum(wide(it, NAME) + 20 for it in fabric.hosts)
         self.upright = bool(getattr(self.layout, "rows", None)) and row > 1150
@@ -37,6 +37,13 @@ class Drawing:
         for name in fabric.vertices():
             self.place_ends(name)
         self.move_into_view()
+
+    def take_slots(self, a, b):
+        """The slots of a cable's two ports, where no other cable took them before."""
+        for end, side, far in zip((a, b), self.layout.sides(a, b), (b, a)):
+            if end not in self.far:
+                self.slots[end[0]][side].append(end)
+                self.far[end] = far
 
     def size(self, name):
         if name in self.fabric.hosts and self.upright:
@@ -63,13 +70,13 @@ class Drawing:
 
     def far_along(self, end, along):
         """Where the far end of a cable lies along a side: by its vertex, and by its own slot where cables go side by side."""
-        far = self.fabric.far(end)
+        far = self.far[end]
         return self.spots[far[0]][along] + (0.001 * far[1] if far[0] != end[0] else 0)
 
     def move_into_view(self):
         """Moves all so that it begins at the margin; the size of the picture."""
         boxes = [(x - w / 2, y - h / 2, x + w / 2, y + h / 2) for (x, y), (w, h) in zip(map(self.spots.get, self.sizes), self.sizes.values())]
-        for a, b in self.fabric.cables:
+        for a, b in self.cables:
             bend = self.bend(a, b) or ()
             boxes += [(*it, *it) for it in bend]
             boxes += [(x - w, y - 6, x + w, y + 6) for _, w, x, y in self.labels((a, b))]

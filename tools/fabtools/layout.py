@@ -268,7 +268,32 @@ class Free:
         return ("bottom", "top") if v > y else ("top", "bottom")
 
     def places(self, sizes):
-        return self.spots
+        return pushed_apart(self.spots, sizes)
+
+
+def pushed_apart(spots, sizes):
+    """The places, where boxes that overlap have pushed each other away, along the way that is shorter."""
+    spots, names = {it: list(at) for it, at in spots.items()}, list(spots)
+    for _ in range(300):
+        moved = False
+        for at, one in enumerate(names):
+            for other in names[at + 1 :]:
+                moved |= push(spots[one], spots[other], sizes[one], sizes[other])
+        if not moved:
+            break
+    return {it: tuple(at) for it, at in spots.items()}
+
+
+def push(one, other, size, far_size):
+    """Moves two places apart where their boxes come closer than the gap; whether they did."""
+    over = [(size[k] + far_size[k]) / 2 + GAP - abs(one[k] - other[k]) for k in (0, 1)]
+    if min(over) <= 0.01:
+        return False
+    k = 0 if over[0] < over[1] else 1
+    by = over[k] / 2 if one[k] <= other[k] else -over[k] / 2
+    one[k] -= by
+    other[k] += by
+    return True
 
 
 def widest(taken, wanted):
@@ -318,9 +343,10 @@ def distances(fabric):
     return {one: {other: near.get(other, most) for other in fabric.switches} for one, near in found.items()}
 
 
-def stressed(fabric, unit=105):
+def stressed(fabric):
     """Places by stress majorization, begun round a circle: each switch moves to the mean of where the others would have it."""
     names, apart = list(fabric.switches), distances(fabric)
+    unit = 85 + 22 * max((len(hosts_of(fabric, it)) for it in names), default=0)
     if len(names) < 2:
         return {it: (0, 0) for it in names}
     at = {it: (unit * math.cos(6.2832 * k / len(names)), unit * math.sin(6.2832 * k / len(names))) for k, it in enumerate(names)}
@@ -380,7 +406,8 @@ class Grid:
         if a[0] not in self.at or b[0] not in self.at:
             return False
         (r, c), (s, d) = self.at[a[0]], self.at[b[0]]
-        return (r == s or c == d) and max(abs(r - s), abs(c - d)) > 1
+        across, down = abs(c - d), abs(r - s)
+        return (down == 0 and across == self.columns - 1 > 1) or (across == 0 and down == self.count - 1 > 1)
 
     def places(self, sizes):
         wide = max(sizes[it][0] for it in self.at)
