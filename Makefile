@@ -1,0 +1,36 @@
+# Installs the program, the tools as myrifab-NAME, the manual pages, and what bash and vim know of them. It proves nothing:
+# the program is the one that tools/try runs, which says so where it isn't the proved one.
+#   make install [PREFIX=/usr/local] [DESTDIR=FOLDER]
+#   make uninstall [PREFIX=/usr/local] [DESTDIR=FOLDER]
+PREFIX = /usr/local
+TOOLS = try explain page make what-if dot compare from-ibnetdiscover to-ibsim
+
+bin = $(DESTDIR)$(PREFIX)/bin
+lib = $(DESTDIR)$(PREFIX)/lib/tilgemor
+man = $(DESTDIR)$(PREFIX)/share/man
+bash = $(DESTDIR)$(PREFIX)/share/bash-completion/completions
+vim = $(DESTDIR)$(PREFIX)/share/vim/vimfiles
+
+help:
+	@sed -n 's/^# *//p' Makefile | head -n 4
+
+install:
+	program=$$(tools/try --program) && install -D -m 755 "$$program" $(bin)/myrifab
+	install -d $(lib)/tools $(bash)
+	cp -R $(TOOLS:%=tools/%) tools/fabtools $(lib)/tools
+	rm -rf $(lib)/tools/fabtools/__pycache__
+	install -D -m 644 tools/bash/myrifab $(bash)/myrifab
+	for tool in $(TOOLS); do \
+	  printf '#!/bin/sh\nMYRIFAB=$${MYRIFAB:-%s} exec %s "$$@"\n' '$(PREFIX)/bin/myrifab' "$(PREFIX)/lib/tilgemor/tools/$$tool" >$(bin)/myrifab-$$tool && \
+	  chmod 755 $(bin)/myrifab-$$tool && ln -sf myrifab $(bash)/myrifab-$$tool || exit 1; \
+	done
+	for page in 1 5; do install -D -m 644 man/myrifab.$$page $(man)/man$$page/myrifab.$$page || exit 1; done
+	for part in syntax ftdetect ftplugin; do install -D -m 644 tools/vim/$$part/myrifab.vim $(vim)/$$part/myrifab.vim || exit 1; done
+
+uninstall:
+	rm -rf $(lib)
+	rm -f $(bin)/myrifab $(TOOLS:%=$(bin)/myrifab-%) $(bash)/myrifab $(TOOLS:%=$(bash)/myrifab-%)
+	rm -f $(man)/man1/myrifab.1 $(man)/man5/myrifab.5
+	rm -f $(vim)/syntax/myrifab.vim $(vim)/ftdetect/myrifab.vim $(vim)/ftplugin/myrifab.vim
+
+.PHONY: help install uninstall
