@@ -48,6 +48,37 @@ class Dom(HTMLParser):
         return [it for name, it in self.found if name == tag and (looks is None or looks in it.get("class", "").split())]
 
 
+# What a hand does with mouse and keys, and what is there after each: the page is asked by a script behind its own.
+HAND = """<script>
+const tried = [];
+const press = (it, key) => it.dispatchEvent(new KeyboardEvent("keydown", { key, bubbles: true, cancelable: true }));
+const click = (id) => at(id).dispatchEvent(new MouseEvent("click", { bubbles: true }));
+const open = () => [...document.querySelectorAll("details[open]")].map((it) => it.id).join(" ");
+click("c5"); tried.push(open());
+click("c6"); tried.push(open());
+const first = document.querySelector("summary");
+first.focus(); press(first, "ArrowDown"); tried.push(document.activeElement === document.querySelectorAll("summary")[1]);
+click("v_h2"); click("v_h9"); tried.push(at("from").value + " " + at("to").value);
+at("swap").click(); tried.push(at("from").value + " " + at("to").value);
+at("loads").click(); tried.push(at("c0").querySelector(".wire").style.stroke);
+at("ports").click(); tried.push(at("fabric").className);
+at("theme").click(); tried.push(document.documentElement.dataset.theme);
+at("kinds").firstChild.click(); tried.push(at("events").children.length);
+at("zoom").lastChild.click(); tried.push(at("fabric").style.getPropertyValue("--zoom"));
+setTimeout(() => { press(document.body, "Escape"); tried.push(open()); document.body.dataset.tried = tried.join("|"); }, 50);
+</script>"""
+DONE = "d5|d6|true|h2 h9|h9 h2||no-ports|light|0|1.4|"
+
+
+def by_hand(chromium, folder):
+    """What is wrong with the page of the fat tree in use."""
+    page = Path(folder) / "used.html"
+    page.write_text((Path(folder) / "fat-tree.html").read_text().replace("</body>", HAND + "</body>"))
+    tried = dom(chromium, page, "theme=dark").of("body")[0].get("data-tried")
+    if tried != DONE:
+        yield f"page of fat-tree in use: {tried} in place of {DONE}"
+
+
 def dom(chromium, page, choice):
     ran = subprocess.run([chromium, *FLAGS, "--dump-dom", f"file://{page}#{choice}"], capture_output=True, text=True, timeout=100)
     return Dom(ran.stdout)
@@ -96,6 +127,8 @@ def main(words):
         for name in LOOKS:
             for it in faults(words[0], name, folder):
                 print(it)
+        for it in by_hand(words[0], folder):
+            print(it)
 
 
 if __name__ == "__main__":
