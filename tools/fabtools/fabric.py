@@ -1,18 +1,16 @@
 """The text of a fabric and its script, as the program reads it: names, ports, cables, and the script's lines as words."""
 
-import re
+from pathlib import Path
 
-NAME = re.compile(r"[a-z][a-z0-9_]{0,15}\Z")
-MOST_HOSTS, MOST_SWITCHES = 128, 64
-PORT_COUNTS = (4, 8, 16)
+from fabtools.forms import FABRIC_FORMS, MOST_HOSTS, MOST_SWITCHES, NAME, PORT_COUNTS, SCRIPT_FORMS, Fault
+from fabtools.forms import check_count, name, nearest, number, past_the_last, saying, shown
+
+__all__ = ["MOST_HOSTS", "MOST_SWITCHES", "NAME", "PORT_COUNTS", "Fault"]
 
 
-class Fault(Exception):
-    """The first fault of a text: its line, its kind in the program's word, and what is wrong."""
-
-    def __init__(self, line, kind, why):
-        super().__init__(f"line {line}: {kind}: {why}")
-        self.line, self.kind, self.why = line, kind, why
+def load(path):
+    """The text of a file, each byte a character."""
+    return Path(path).read_bytes().decode("latin-1")
 
 
 class Fabric:
@@ -51,76 +49,64 @@ class Fabric:
         return "\n".join([*lines, "script", ""])
 
 
-def number(line, word, most):
-    if not re.fullmatch(r"[0-9]+", word):
-        raise Fault(line, "notnumber", f"{word!r} is no number")
-    if int(word) > most:
-        raise Fault(line, "toolarge", f"{word} is above {most}")
-    return int(word)
+def check_new(fabric, line, new):
+    if fabric.ports(new):
+        what = "host" if new in fabric.hosts else "switch"
+        raise Fault(line, "nametaken", f"{shown(new)} is the name of a {what} that stands above")
 
 
-def name(line, word):
-    if not NAME.match(word):
-        raise Fault(line, "badword", f"{word!r} is no name: 1 to 16 of a-z, 0-9 and _, a letter first")
-    return word
-
-
-def wants(line, words, count):
-    if len(words) != count:
-        raise Fault(line, "badword", f"{words[0]!r} takes {count - 1} words")
+def check_end(fabric, line, end):
+    """The vertex of an end is there, and has its port."""
+    vertex, port = end
+    if not fabric.ports(vertex):
+        raise Fault(line, "novertex", f"no host or switch {shown(vertex)} stands above{nearest(vertex, fabric.vertices())}")
+    if port >= fabric.ports(vertex):
+        has = "port 0 alone" if vertex in fabric.hosts else f"ports 0 to {fabric.ports(vertex) - 1}"
+        raise Fault(line, "portrange", f"{shown(vertex)} has no port {port}: it has {has}")
 
 
 def host_line(fabric, line, words):
-    wants(line, words, 2)
-    new = name(line, words[1])
-    if fabric.ports(new):
-        raise Fault(line, "nametaken", f"{new} is there already")
+    new = name(line, words[0])
+    check_new(fabric, line, new)
     if len(fabric.hosts) == MOST_HOSTS:
-        raise Fault(line, "full", f"more than {MOST_HOSTS} hosts")
+        raise Fault(line, "full", f"a fabric has at most {MOST_HOSTS} hosts")
     fabric.add_host(new)
 
 
 def switch_line(fabric, line, words):
-    wants(line, words, 3)
-    new, ports = name(line, words[1]), number(line, words[2], 2**32 - 1)
+    new, ports = name(line, words[0]), number(line, "PORTS", words[1])
     if ports not in PORT_COUNTS:
         raise Fault(line, "portrange", f"a switch has 4, 8 or 16 ports, and not {ports}")
-    if fabric.ports(new):
-        raise Fault(line, "nametaken", f"{new} is there already")
+    check_new(fabric, line, new)
     if len(fabric.switches) == MOST_SWITCHES:
-        raise Fault(line, "full", f"more than {MOST_SWITCHES} switches")
+        raise Fault(line, "full", f"a fabric has at most {MOST_SWITCHES} switches")
     fabric.add_switch(new, ports)
 
 
 def cable_line(fabric, line, words):
-    wants(line, words, 5)
-    ends = []
-    for vertex, port in (words[1:3], words[3:5]):
-        ends.append((name(line, vertex), number(line, port, 15)))
+    ends = [(name(line, words[at]), number(line, field, words[at + 1])) for at, field in ((0, "P"), (2, "Q"))]
     for vertex, _ in ends:
         if not fabric.ports(vertex):
-            raise Fault(line, "novertex", f"no host or switch {vertex}")
-    for vertex, port in ends:
-        if port >= fabric.ports(vertex):
-            raise Fault(line, "portrange", f"{vertex} has no port {port}")
+            check_end(fabric, line, (vertex, 0))
+    for end in ends:
+        check_end(fabric, line, end)
     for end in ends:
         if fabric.far(end):
-            raise Fault(line, "portused", f"port {end[1]} of {end[0]} has a cable")
+            raise Fault(line, "portused", f"port {end[1]} of {end[0]} has a cable already, to port {'{1} of {0}'.format(*fabric.far(end))}")
     if ends[0] == ends[1]:
-        raise Fault(line, "portused", "one port can't be joined with itself")
+        raise Fault(line, "portused", "both ends are one port")
     fabric.add_cable(*ends)
 
 
 LINES = {"host": host_line, "switch": switch_line, "cable": cable_line}
 
 
-def saying(text):
-    """The lines that say something, with their numbers: neither blank nor a comment."""
-    for at, line in enumerate(text.split("\n"), 1):
-        words = line.removesuffix("\r").replace("\t", " ").split(" ")
-        words = [it for it in words if it]
-        if words and not words[0].startswith("#"):
-            yield at, words
+def no_such_line(first, words):
+    if first == "script":
+        return "the line 'script' has no further word"
+    if first in {it.split()[0] for it in SCRIPT_FORMS}:
+        return f"{shown(first)} is a line of the script, and stands before the line 'script'"
+    return f"{shown(first)} begins no line of a fabric{nearest(first, words)}"
 
 
 def read(text):
@@ -132,11 +118,12 @@ def read(text):
         elif words == ["script"]:
             scripted = True
         elif words[0] in LINES:
-            LINES[words[0]](fabric, line, words)
+            check_count(line, words[0], words[1:], FABRIC_FORMS)
+            LINES[words[0]](fabric, line, words[1:])
         else:
-            raise Fault(line, "badword", f"{words[0]!r} is no line of a fabric")
+            raise Fault(line, "badword", no_such_line(words[0], FABRIC_FORMS))
     if not scripted:
-        raise Fault(text.count("\n") + (not text.endswith("\n") and text != "") + 1, "noend", "the line 'script' is missing")
+        raise Fault(past_the_last(text), "noend", "the line 'script' is missing")
     return fabric
 
 

@@ -1,16 +1,14 @@
-"""What the words of a report mean, and what to do: refusals of texts, of commands and of calls."""
+"""What the words of a report and an exit status mean, and what to do: refusals of commands and of calls, and what stays open."""
 
-REFUSED_TEXT = {
-    "badword": "an unknown word, a wrong number of words, no name, or a line that stands in the wrong part of the text",
-    "notnumber": "a number must stand there: digits alone (a turn may have one sign)",
-    "toolarge": "a number outside its range: a port above 15, a turn outside -15 to 15, a depth above 32, tries above 8",
-    "novertex": "no host or switch of that name was named before, or a switch stands where a host must",
-    "portrange": "a switch without 4, 8 or 16 ports, or a port that the vertex doesn't have",
-    "portused": "that port has a cable already, or both ends are one port",
-    "nametaken": "a host or a switch has that name already",
-    "full": "more than 128 hosts or 64 switches",
-    "noend": "the line 'script' or 'end' is missing; it is missed one line past the last",
-    "afterend": "only blank lines and comments may follow 'end'",
+STATUS = {
+    2: "the words of the command line are neither 'run' nor 'gen N SEED'; nothing was run",
+    3: "the text is refused, and nothing was run",
+    4: "standard input can't be read, so nothing was run",
+    5: "standard output can't be written: a full disk, or a reader that closed the pipe; what was written is a prefix of the report",
+    6: "out of memory; what was written is a prefix of the report",
+    7: "the text has more than 1,048,576 bytes, so nothing was run: cut it into runs",
+    8: "the system refuses the words of the command line",
+    132: "a check of the build failed, which the proved program rules out: please keep the text and report it",
 }
 
 REFUSED_COMMAND = {
@@ -42,6 +40,13 @@ MAP_WORDS = {
 }
 
 
+def of_status(status):
+    """What an exit status of the program means; None for 0, and for one that the program doesn't have."""
+    if status > 128 and status not in STATUS:
+        return None if status == 128 + 13 else f"the program was ended by signal {status - 128}"
+    return STATUS.get(status)
+
+
 def of_map(words, host, enough):
     kind = "doubtful" if words.startswith("doubtful") else words
     return MAP_WORDS[kind].format(host=host, count=words.split()[-1], enough=enough)
@@ -49,8 +54,8 @@ def of_map(words, host, enough):
 
 def of_line(words):
     """What a line that refuses something, or leaves something open, means; None for any other line."""
-    if words[0] == "refused" and len(words) == 3:
-        return f"line {words[1]} of the text: {REFUSED_TEXT.get(words[2], 'an unknown kind')}; nothing was run"
+    if words[0] == "refused":
+        return "the text is refused, and nothing was run"
     if "refused" in words[1:]:
         at = words.index("refused")
         cause = words[at + 1]
