@@ -2,10 +2,10 @@
 
 from pathlib import Path
 
-from fabtools.forms import FABRIC_FORMS, MOST_HOSTS, MOST_SWITCHES, NAME, PORT_COUNTS, SCRIPT_FORMS, Fault
+from fabtools.forms import FABRIC_FORMS, MOST_DEPTH, MOST_HOSTS, MOST_SWITCHES, NAME, PORT_COUNTS, SCRIPT_FORMS, Fault
 from fabtools.forms import check_count, name, nearest, number, past_the_last, saying, shown
 
-__all__ = ["MOST_HOSTS", "MOST_SWITCHES", "NAME", "PORT_COUNTS", "Fault"]
+__all__ = ["MOST_DEPTH", "MOST_HOSTS", "MOST_SWITCHES", "NAME", "PORT_COUNTS", "Fault"]
 
 
 def load(path):
@@ -158,8 +158,30 @@ def reached(fabric, host):
 
 def enough_depth(fabric, host):
     """Q + D + 1 of a host's part: a map to this depth can't be cut off."""
-    part = reached(fabric, host)
-    hosts = [it for it in part if it in fabric.hosts]
-    farthest = max(part.values())
-    alone = [min(reached(fabric, it)[h] for h in hosts) for it in part if it in fabric.switches]
-    return max(alone, default=0) + farthest + 1
+    return farthest_from_hosts(fabric, host) + max(reached(fabric, host).values()) + 1
+
+
+def farthest_from_hosts(fabric, host):
+    """Q of a host's part: how far its farthest switch is from the host nearest to it."""
+    near, todo = {}, [it for it in reached(fabric, host) if it in fabric.hosts]
+    near.update(dict.fromkeys(todo, 0))
+    while todo:
+        vertex = todo.pop(0)
+        for port in range(fabric.ports(vertex)):
+            far = fabric.far((vertex, port))
+            if far and far[0] not in near:
+                near[far[0]] = near[vertex] + 1
+                todo.append(far[0])
+    return max(near.values())
+
+
+def least_depth(fabric, host):
+    """A map to less than this depth is cut off: each switch of the host's part must be nearer than that."""
+    return max([distance + 1 for it, distance in reached(fabric, host).items() if it in fabric.switches], default=1)
+
+
+def deep_hosts(fabric, host):
+    """The hosts of a host's part from which the greatest depth surely suffices; where none does, those from which it may."""
+    part = [it for it in reached(fabric, host) if it in fabric.hosts]
+    sure = [it for it in part if enough_depth(fabric, it) <= MOST_DEPTH]
+    return sure, [it for it in part if least_depth(fabric, it) <= MOST_DEPTH]

@@ -8,6 +8,7 @@ LONGEST_WALK, FARTHEST_TURN = 64, 15
 MOST_HOSTS, MOST_SWITCHES = 128, 64
 PORT_COUNTS = (4, 8, 16)
 LONGEST_TEXT = 1 << 20
+MOST_DEPTH = 32
 
 # A line each: its words, the capital ones in the place of others, and what it does; of words between strokes one stands there.
 FABRIC = """

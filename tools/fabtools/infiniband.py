@@ -18,8 +18,32 @@ class Node:
         self.called, self.far = called or key, {}
 
 
+class NoTopology(Exception):
+    """The text is none: what it is, as far as that shows, and what was expected."""
+
+
+# What an adapter is called after its host: `node-1 HCA-1`, `node-1 mlx5_0`.
+ADAPTER = re.compile(r"\s+(?:HCA-\d+|[A-Za-z]+\d*_\d+|qib\d+)\s*\Z")
+# What a switch's firmware adds to its name: `MF0;sw-1:SX6036/U1`, and of a large one its board: `MF0;sw-1:IS5200/L01/U1`.
+FIRMWARE = re.compile(r"\w+;([^:]+):[^/]*((?:/\w+)*?)/U\d+\s*\Z")
+# Other forms of these tools, by a line that only they have.
+OTHERS = (
+    (re.compile(r"(CA|SW|RT)\s+\d+\s+\d+\s+0x", re.M), "what `ibnetdiscover -p` prints"),
+    (re.compile(r"(Ca|Switch|Router)\s*:\s*0x", re.M), "a list of nodes, as `ibnetdiscover -l` or `ibnodes` prints"),
+    (re.compile(r"(CA: .*:|Switch:? 0x[0-9a-f]+ .*:)\s*$", re.M), "what `iblinkinfo` prints"),
+)
+
+
+def name_of(node):
+    """What a node is called by who named it: without the adapter's word, and without the switch's firmware."""
+    by_firmware = FIRMWARE.match(node.called) if node.is_switch else None
+    if by_firmware:
+        return by_firmware[1] + by_firmware[2].replace("/", "_")
+    return node.called if node.is_switch else ADAPTER.sub("", node.called)
+
+
 def read(text):
-    """The nodes of a topology in the order of the file, by their names in it."""
+    """The nodes of a topology in the order of the file, by their names in it; raises NoTopology where it has none."""
     nodes, node = {}, None
     for line in text.splitlines():
         head, port = HEAD.match(line.strip()), PORT.match(line.strip())
@@ -29,4 +53,13 @@ def read(text):
         elif port and node:
             own, key, other = port.groups()
             node.far[int(own)] = (key, int(other))
+    if not nodes:
+        raise NoTopology(f"{what_it_is(text)}; this reads what `ibnetdiscover` prints without options, or an ibsim file: "
+                         'lines as \'Switch 36 "S-0002c902"\' and \'Ca 1 "H-0002c903"\', with lines as \'[1] "S-0002c902"[3]\' below them')
     return nodes
+
+
+def what_it_is(text):
+    if not text.strip():
+        return "it is empty"
+    return next((f"it is {what}" for form, what in OTHERS if form.search(text)), "it has no node of a topology")

@@ -1,5 +1,7 @@
 """What the words of a report and an exit status mean, and what to do: refusals of commands and of calls, and what stays open."""
 
+from fabtools import fabric as fabrics
+
 STATUS = {
     2: "the words of the command line are neither 'run' nor 'gen N SEED'; nothing was run",
     3: "the text is refused, and nothing was run",
@@ -35,7 +37,7 @@ REFUSED_CALL = {
 MAP_WORDS = {
     "complete": "the map is the real network, as far as cables join it to {host}",
     "doubtful": "{count} asks met a planned fault in every try: what they found to be nothing may be something; map again",
-    "incomplete depth": "the map is cut off: a map to {enough} cables is deep enough, and 32 always is where that is more",
+    "incomplete depth": "the map is cut off: a switch stands as far away as it is deep",
     "incomplete nodes": "the tree of walks got too large (65,536), so no map follows",
 }
 
@@ -47,9 +49,30 @@ def of_status(status):
     return STATUS.get(status)
 
 
-def of_map(words, host, enough):
+def of_map(words, host):
     kind = "doubtful" if words.startswith("doubtful") else words
-    return MAP_WORDS[kind].format(host=host, count=words.split()[-1], enough=enough)
+    return MAP_WORDS[kind].format(host=host, count=words.split()[-1])
+
+
+def of_depth(fabric, host, is_complete=False):
+    """Which depth of a map from this host is enough; and where none that a map can have surely is, from which hosts one is."""
+    least, enough, most = fabrics.least_depth(fabric, host), fabrics.enough_depth(fabric, host), fabrics.MOST_DEPTH
+    if enough <= most:
+        return f"depth {enough} is deep enough for {host}"
+    if is_complete:
+        return f"only depth {enough} would surely be enough for {host}, and less was"
+    why = f"no depth up to {most} is surely enough for {host}, only {enough} would be"
+    if least > most:
+        why = f"no map from {host} is whole: a switch is {least - 1} cables away, and a map to {most} needs them nearer"
+    return f"{why}; {better_hosts(*fabrics.deep_hosts(fabric, host))}"
+
+
+def better_hosts(sure, possible):
+    if sure:
+        return f"deep enough are maps from {', '.join(sure)}"
+    if possible:
+        return f"from no host one surely is, but one may be from {', '.join(possible)}"
+    return "the same holds for each other host"
 
 
 def of_line(words):
