@@ -1,0 +1,145 @@
+"""What is asked of tools/explain, and the facts that answer it."""
+
+from fabtools import meanings, waiting
+from fabtools.explained import LineFacts, MapFacts, RoutesFacts
+from fabtools.report import CircuitMap, Map, Routes
+from fabtools.routing import Routed, channel_text, end_text, load_facts, shortest_way, way_text
+
+
+class NoSuchThing(Exception):
+    """What was asked for isn't in the text or its report."""
+
+
+def facts(fabric, report, asked):
+    if asked.pair:
+        return Pair(last_routes(fabric, report), *asked.pair)
+    if asked.cable:
+        return Cable(last_routes(fabric, report), asked.cable)
+    if asked.loads:
+        return Loads(last_routes(fabric, report))
+    return Whole(fabric, report, asked.brief)
+
+
+def routed(fabric, items):
+    """The items of a report, its routes as followed through the fabric by the last map before them."""
+    shown = at = None
+    for item in items:
+        if isinstance(item, Map):
+            shown, at = item, MapFacts(fabric, item).at
+        if isinstance(item, Routes):
+            if shown:
+                yield Routed(fabric, shown, at, item)
+        else:
+            yield item
+
+
+def last_routes(fabric, report):
+    found = [it for it in routed(fabric, report.items) if isinstance(it, Routed)]
+    if not found:
+        raise NoSuchThing("the report has no routes")
+    return found[-1]
+
+
+class Whole:
+    """All of a report, or all in brief."""
+
+    def __init__(self, fabric, report, is_brief):
+        self.items, self.is_brief = [], is_brief
+        waits = waiting.behind_settles(fabric.script, report.items)
+        for item in routed(fabric, report.items):
+            if isinstance(item, (Map, CircuitMap)):
+                self.items.append(MapFacts(fabric, item))
+            elif isinstance(item, Routed):
+                self.items.append(RoutesFacts(item))
+            elif meanings.of_line(item[1]):
+                line, words = item
+                self.items.append(LineFacts(line, words, waits.get(line) or [meanings.of_line(words)]))
+
+    def facts(self):
+        return {"items": [it.facts() for it in self.items]}
+
+    def lines(self):
+        return [line for it in self.items for line in it.lines(self.is_brief)]
+
+    def has_faults(self):
+        return any(it.routed.faults() for it in self.items if isinstance(it, RoutesFacts))
+
+
+class Pair:
+    """The routes between two hosts, there and back."""
+
+    def __init__(self, routed, a, b):
+        self.routed = routed
+        for host in (a, b):
+            if host not in routed.fabric.hosts:
+                raise NoSuchThing(f"the text has no host {host}; its hosts: {' '.join(routed.fabric.hosts)}")
+        self.found = {(a, b): routed.of(a, b), (b, a): routed.of(b, a)}
+
+    def facts(self):
+        return {"routes": [it.facts() for it in self.found.values() if it]}
+
+    def lines(self):
+        return [line for (sender, receiver), it in self.found.items() for line in self.route_lines(sender, receiver, it)]
+
+    def route_lines(self, sender, receiver, route):
+        if not route:
+            yield f"{sender} to {receiver}: the report has no such route"
+            return
+        more = f"{route.detour()} more than the shortest way" if route.detour() else "a shortest way"
+        yield f"{sender} to {receiver}: {len(route.way)} cables, {more}"
+        wide = max(map(len, map(channel_text, route.way)))
+        for it in route.way:
+            yield f"  {channel_text(it):{wide}}  rank {self.routed.ranks.get(it[0], '?')}, on {self.routed.load[it]} routes"
+        if route.detour():
+            yield f"  a shortest way: {way_text(shortest_way(self.routed.fabric, sender, receiver))}"
+
+    def has_faults(self):
+        return any(True for it in self.found.values() if it for _ in self.routed.faults_of(it))
+
+
+class Cable:
+    """The routes that cross a cable, in both directions."""
+
+    def __init__(self, routed, word):
+        vertex, colon, port = word.partition(":")
+        fabric = routed.fabric
+        if not colon or not port.isdigit() or int(port) >= fabric.ports(vertex):
+            raise NoSuchThing(f"{word} is no port of the text, as V:P")
+        end = (vertex, int(port))
+        far = fabric.far(end)
+        if not far:
+            raise NoSuchThing(f"no cable is at {word}")
+        self.channels = [(end, far), (far, end)]
+        self.across = {it: routed.across(it) for it in self.channels}
+
+    def facts(self):
+        pairs = {it: [[route.sender, route.receiver] for route in self.across[it]] for it in self.channels}
+        return {"channels": [{"channel": channel_text(it), "pairs": pairs[it]} for it in self.channels]}
+
+    def lines(self):
+        told = [f"the cable {end_text(self.channels[0][0])} - {end_text(self.channels[0][1])}"]
+        for channel in self.channels:
+            told.append(f"  {channel_text(channel)}: {len(self.across[channel])} routes")
+            senders = dict.fromkeys(it.sender for it in self.across[channel])
+            for sender in senders:
+                told.append(f"    {sender} to {', '.join(it.receiver for it in self.across[channel] if it.sender == sender)}")
+        return told
+
+    def has_faults(self):
+        return False
+
+
+class Loads:
+    """How many routes cross each channel."""
+
+    def __init__(self, routed):
+        self.loads = routed.loads()
+
+    def facts(self):
+        return {"loads": load_facts(self.loads)}
+
+    def lines(self):
+        return ["routes  channel", *(f"{count:6}  {channel_text(it)}" for it, count in self.loads)]
+
+    def has_faults(self):
+        return False
