@@ -110,7 +110,7 @@ all-finished got n (t ∷ ts) port =
     let rest : PortStill (IsEventOf got port) (port_at m port) (port_at (all_finished m ts) port) = all-finished got m ts port in
     record { still = λ a. rest.still (one.still a) }
 
-found-all : (P : Provided → Type 0) (test : Provided → Bool) (xs : List Provided) (y : Provided) → AllByRecursion P xs → find test xs ≡ Some y → P y
+pub found-all : (P : Provided → Type 0) (test : Provided → Bool) (xs : List Provided) (y : Provided) → AllByRecursion P xs → find test xs ≡ Some y → P y
 found-all P test [] y all e = cc
 found-all P test (x ∷ xs) y all e = by (test x) (found-all P test xs y all.1) e
   where
@@ -119,28 +119,28 @@ found-all P test (x ∷ xs) y all e = by (test x) (found-all P test xs y all.1) 
     by false rest d = rest d
 
 -- each provided buffer of a host's ports is untouched
-abbrev HasUntouched : NodeState → Type 0
+abbrev pub HasUntouched : NodeState → Type 0
 HasUntouched n = (port : ℕ) (p : PortState) → port_at n port ≡ Some p → AllByRecursion IsUntouched p.provided
 
 -- What is known of a fragment that the port of a host takes: what came before it stands in the buffer of the token that takes it.
-record IsCarried (n : NodeState) (h : FrameHead) (part : List ℕ) : Type 0 where
-  within : h.offset + length part ≤ h.total
-  last : is_last h.total h.offset ≡ true → h.offset + length part ≡ h.total
-  before : length (lane_at n (frame_lane h)).coming ≡ h.offset
-  held : (p : PortState) (r : Provided) → port_at n h.dport ≡ Some p → taker p h ≡ Some r → take h.offset r.buffer ≡ (lane_at n (frame_lane h)).coming
+pub record IsCarried (n : NodeState) (h : FrameHead) (part : List ℕ) : Type 0 where
+  pub within : h.offset + length part ≤ h.total
+  pub last : is_last h.total h.offset ≡ true → h.offset + length part ≡ h.total
+  pub before : length (lane_at n (frame_lane h)).coming ≡ h.offset
+  pub held : (p : PortState) (r : Provided) → port_at n h.dport ≡ Some p → taker p h ≡ Some r → take h.offset r.buffer ≡ (lane_at n (frame_lane h)).coming
 
 -- what a receiver made of a fragment says whether it is its message's last
-not-whole : (taken seq : ℕ) (fits last : Bool) → took taken seq fits last ≡ Whole → (seq ≡ taken) × (last ≡ true)
-not-whole taken seq fits last e = by (nat_eq seq taken) fits last refl e
+pub whole-took : (taken seq : ℕ) (fits last : Bool) → took taken seq fits last ≡ Whole → (seq ≡ taken) × ((fits ≡ true) × (last ≡ true))
+whole-took taken seq fits last e = by (nat_eq seq taken) fits last refl e
   where
-    by : (a b c : Bool) → nat_eq seq taken ≡ a → (if a then if b then taken_as c else NoToken else NotNext) ≡ Whole → (seq ≡ taken) × (c ≡ true)
-    by true true true d f = (grind (arith, nat_tests), refl)
+    by : (a b c : Bool) → nat_eq seq taken ≡ a → (if a then if b then taken_as c else NoToken else NotNext) ≡ Whole → (seq ≡ taken) × ((b ≡ true) × (c ≡ true))
+    by true true true d f = (grind (arith, nat_tests), (refl, refl))
     by true true false d f = cc
     by true false c d f = cc
     by false b c d f = cc
 
-not-part : (taken seq : ℕ) (fits last : Bool) → took taken seq fits last ≡ Part → last ≡ false
-not-part taken seq fits last e = by (nat_eq seq taken) fits last e
+pub part-took : (taken seq : ℕ) (fits last : Bool) → took taken seq fits last ≡ Part → last ≡ false
+part-took taken seq fits last e = by (nat_eq seq taken) fits last e
   where
     by : (a b c : Bool) → (if a then if b then taken_as c else NoToken else NotNext) ≡ Part → c ≡ false
     by true true true f = cc
@@ -219,8 +219,8 @@ module _ (n : NodeState) (hosts : ℕ) (long : length n.lanes ≡ lane_count hos
   heard-goes host wire m good (quietly e f) = quiet-goes n m e f
   heard-goes host wire m good (of_frame body h e d mine low now) =
       subst (HostGoes n) (sym now)
-      (frame-goes h (part_in body) (frame_took n h) low (not-part (lane_at n (frame_lane h)).taken h.seq (port_takes (port_at n h.dport) h) (is_last h.total h.offset))
-      (λ t. let k = not-whole (lane_at n (frame_lane h)).taken h.seq (port_takes (port_at n h.dport) h) (is_last h.total h.offset) t in (k.1, good body h e d mine k.0)))
+      (frame-goes h (part_in body) (frame_took n h) low (part-took (lane_at n (frame_lane h)).taken h.seq (port_takes (port_at n h.dport) h) (is_last h.total h.offset))
+      (λ t. let k = whole-took (lane_at n (frame_lane h)).taken h.seq (port_takes (port_at n h.dport) h) (is_last h.total h.offset) t in (k.1.1, good body h e d mine k.0)))
   heard-goes host wire m good (of_ack body a e d mine low now) =
       let v : NodeState = with_lane n (ack_lane a) (lane_acknowledged (lane_at n (ack_lane a)) a.next) in
       let gone : List Ticket = tickets_finished (lane_at n (ack_lane a)) a.next in
@@ -273,7 +273,7 @@ record Still (count h : ℕ) (n m : NodeState) : Type 0 where
 abbrev StillOf : Network → ℕ → NodeState → NodeState → Type 0
 StillOf n h a b = Still (length n.hosts) h a b
 
-carried : (n : Network) (w : WorldState) → IsReached n w → (host : ℕ) (body : List ℕ) (h : FrameHead) → IsHonestFrame (sent_on w) h (part_in body) → decode body ≡ Ok (Frame h) → h.dst ≡ host → h.seq ≡ (lane_at (node_at w host) (frame_lane h)).taken → IsCarried (node_at w host) h (part_in body)
+pub carried : (n : Network) (w : WorldState) → IsReached n w → (host : ℕ) (body : List ℕ) (h : FrameHead) → IsHonestFrame (sent_on w) h (part_in body) → decode body ≡ Ok (Frame h) → h.dst ≡ host → h.seq ≡ (lane_at (node_at w host) (frame_lane h)).taken → IsCarried (node_at w host) h (part_in body)
 carried n w is host body h honest d mine seq =
     let k : IsNext (to_host w host (frame_lane h)) (lane_at (node_at w host) (frame_lane h)) h (part_in body) = reached-next n w is host h (part_in body) honest mine seq in
     record { within = read-within body h d; last = read-last body h d; before = k.offset; held = reached-held n w is host h (part_in body) (read-prio body h d) honest mine seq }

@@ -34,7 +34,7 @@ pub record IsKnown (n : NodeState) (client : ℕ → Option ClientState) (hosts 
   pub routed : (dest : ℕ) → is_none (table_route n.table dest) ≡ false → dest < hosts
 
 -- parts of what is apart
-all-front : {X : Type 0} (P : X → Type 0) (xs ys : List X) → AllByRecursion P (xs ++ ys) → AllByRecursion P xs
+pub all-front : {X : Type 0} (P : X → Type 0) (xs ys : List X) → AllByRecursion P (xs ++ ys) → AllByRecursion P xs
 all-front P [] ys all = tt
 all-front P (z ∷ xs) ys all = (all.0, all-front P xs ys all.1)
 

@@ -22,6 +22,5 @@ pub mod Matched
 pub mod Buffers
 pub mod Arrivals
 pub mod Events
-pub mod Returning
 pub mod Working
 pub mod Sound

@@ -7,5 +7,4 @@ pub mod Filling
 pub mod Unfinished
 pub mod Untouched
 pub mod Received
-pub mod Returned
 pub mod Examples

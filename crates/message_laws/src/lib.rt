@@ -2,7 +2,8 @@
 //! another and of one priority, and in the ports at both of its ends.
 //!
 //! It holds no connection and no port: that is `gm_conn` and `gm_port`. It leaves out that each token has one owner,
-//! which is `owner_laws`, and when sends, tickets and messages of one host are matched, which is `ticket_laws`.
+//! which is `owner_laws`, when sends, tickets and messages of one host are matched, which is `ticket_laws`, what clients
+//! saw of all this, which is `seen_laws`, and with which message a send token comes back, which is `return_laws`.
 //! Read `specs/Order.antt` first.
 //!
 //! | file of `specs/` | says |
@@ -15,7 +16,7 @@
 //! | `Filling` | what came of a message that isn't whole stands in the one buffer that is filling with it |
 //! | `Unfinished` | a port's queue has exactly the sends that aren't finished |
 //! | `Untouched` | provided buffers are as they were provided |
-//! | `Received`, `Returned` | what received events and sent events hold |
+//! | `Received` | what received events hold |
 //! | `Examples` | reached worlds: a message and its acknowledgement come; a send isn't finished; a buffer is provided |
 #![tactic(auto)]
 
@@ -29,7 +30,7 @@ mod window;
 mod worked;
 
 pub use buffer::untouched_buffers;
-pub use event::{received_messages, returned_messages};
+pub use event::received_messages;
 pub use filling::what_is_coming;
 pub use got::{acknowledged_messages, messages_below_taken};
 pub use order::{

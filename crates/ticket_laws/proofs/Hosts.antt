@@ -24,7 +24,7 @@ use Rattle.ticket_laws.proofs.Ports.{SameSends, delivered-sends, set-sends, Same
 pub lane-new : (n m : NodeState) (k : ℕ) (q : LaneState) → m.lanes ≡ set n.lanes k q → k < length n.lanes → lane_at m k ≡ q
 lane-new n m k q e low = ap (λ l. get_or l k new_lane) e ∙ get_or-set_same n.lanes k q new_lane low
 
-lane-old : (n m : NodeState) (k : ℕ) (q : LaneState) → m.lanes ≡ set n.lanes k q → (j : ℕ) → j ≢ k → lane_at m j ≡ lane_at n j
+pub lane-old : (n m : NodeState) (k : ℕ) (q : LaneState) → m.lanes ≡ set n.lanes k q → (j : ℕ) → j ≢ k → lane_at m j ≡ lane_at n j
 lane-old n m k q e j other = ap (λ l. get_or l j new_lane) e ∙ get_or-set_other n.lanes k j q new_lane other
 
 -- an acknowledgement raises the first number that isn't acknowledged, to the top at most

@@ -1,0 +1,3 @@
+pub mod Notes
+pub mod Returned
+pub mod Working
