@@ -10,6 +10,10 @@ IsWhole before now content = Consumes before now content × IsAtEnd now
 abbrev pub IsLonger : Option (List ℕ) → ℕ → Type 0
 IsLonger before limit = IfSome before (λ left. limit < length left)
 
+-- So many bytes went from the front of what was left.
+abbrev pub HasGone : Option (List ℕ) → Option (List ℕ) → ℕ → Type 0
+HasGone before now n = (went : List ℕ) × Consumes before now went × (length went ≡ n)
+
 -- At most so many bytes went from the front of what was left.
 abbrev pub GoesOn : Option (List ℕ) → Option (List ℕ) → ℕ → Type 0
 GoesOn before now most = (went : List ℕ) × Consumes before now went × (length went ≤ most)

@@ -1,9 +1,9 @@
 //! Reading to the end and writing all.
 
-ghost use Rattle.std.specs.Prelude.{◌≡◌, ◌≢◌, ◌<◌, ◌≤◌, ◌+◌, length, vec_len, IfOk, IfErr, OnOk, OnErr, IsErrOf};
-ghost use Rattle.std.specs.Io.KnownBytes.{Appends, IsAtEnd};
+ghost use Rattle.std.specs.Prelude.{◌≡◌, ◌≢◌, ◌<◌, ◌≤◌, ◌+◌, [], length, vec_len, IfOk, IfErr, OnOk, OnErr, IsErrOf};
+ghost use Rattle.std.specs.Io.KnownBytes.{Appends, Consumes, IsAtEnd};
 ghost use Rattle.fab_outer.specs.Fault.{Rose, HasCause};
-ghost use Rattle.fab_outer.specs.Whole.{IsWhole, IsLonger, GoesOn, Appended, TakesProperPrefix};
+ghost use Rattle.fab_outer.specs.Whole.{IsWhole, IsLonger, HasGone, GoesOn, Appended, TakesProperPrefix};
 
 use crate::{Sink, Source};
 use std::alloc::Global;
@@ -26,24 +26,44 @@ pub struct WriteFault;
 // The most bytes that one read asks for.
 const PIECE: usize = 65536;
 
-/// All the bytes of a source, of which at most `limit` may come. It reads at most one byte more.
+/// All the bytes of a source, of which at most `limit` may come. `TooLong` exactly where one more came, which is the last
+/// that is read.
 pub fn read_all<S: Source>(alloc: Global, source: &mut S, limit: usize) -> Result<Vec<u8>, ReadEnd>
     ensures whole { IfOk result (λ content. IsWhole (S.left source.old) (S.left source.new) content.items) }
     ensures within { IfOk result (λ content. vec_len content ≤ limit) }
     ensures too_long { IsErrOf result ReadEnd.TooLong → IsLonger (S.left source.old) limit }
-    ensures goes_on { GoesOn (S.left source.old) (S.left source.new) (limit + 1) }
+    ensures one_more { IsErrOf result ReadEnd.TooLong → HasGone (S.left source.old) (S.left source.new) (limit + 1) }
+    ensures no_more { IfErr result (λ e. e ≢ ReadEnd.TooLong → GoesOn (S.left source.old) (S.left source.new) limit) }
     ensures fault { IsErrOf result ReadEnd.ReadFault → Rose (S.faults source.old) (S.faults source.new) }
     ensures later { S.faults source.old ≤ S.faults source.new }
 {
     let mut content = Vec::new(alloc);
     let mut piece = blank(alloc, PIECE)?;
-    'reading: while content.len() <= limit {
-        let room = (limit - content.len()).min(PIECE - 1) + 1;
+    'reading: while content.len() < limit {
+        let room = (limit - content.len()).min(PIECE);
         if append_some(source, &mut piece[..room], &mut content)? == 0 {
             return Ok(content);
         }
     }
-    Err(ReadEnd::TooLong)
+    ended(source, &mut piece[..1], content)
+}
+
+// The content, where nothing more comes.
+fn ended<S: Source>(source: &mut S, one: &mut [u8], content: Vec<u8>) -> Result<Vec<u8>, ReadEnd>
+    requires { length one.old ≡ 1 }
+    ensures same { IfOk result (λ whole. whole ≡ content) }
+    ensures end { OnOk result (IsAtEnd (S.left source.new)) }
+    ensures none { OnOk result (Consumes (S.left source.old) (S.left source.new) []) }
+    ensures one_more { IsErrOf result ReadEnd.TooLong → HasGone (S.left source.old) (S.left source.new) 1 }
+    ensures no_more { IfErr result (λ e. e ≢ ReadEnd.TooLong → HasGone (S.left source.old) (S.left source.new) 0) }
+    ensures fault { IsErrOf result ReadEnd.ReadFault → Rose (S.faults source.old) (S.faults source.new) }
+    ensures later { S.faults source.old ≤ S.faults source.new }
+{
+    match source.read_some(one) {
+        Ok(0) => Ok(content),
+        Ok(_) => Err(ReadEnd::TooLong),
+        Err(_) => Err(ReadEnd::ReadFault),
+    }
 }
 
 // A piece to read into.

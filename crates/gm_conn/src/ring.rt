@@ -36,11 +36,12 @@ impl DescRing {
         DescRing { alloc, ring: None }
     }
 
-    /// Makes room for one more, in a ring twice as large where there is none. False for want of memory, which changes
-    /// nothing.
+    /// Makes room for one more, in a ring twice as large where there is none. False where that finds no memory, which
+    /// changes nothing; where there is room it takes none.
     pub(crate) fn make_room(&mut self) -> bool
         ensures items { self.new.items ≡ self.old.items }
         ensures room { IsTrue result → 0 < self.new.spare }
+        ensures there { 0 < self.old.spare → IsTrue result }
         ensures none { result ≡ false → self.new ≡ self.old }
     {
         if let Some(ring) = &mut self.ring {
@@ -97,6 +98,7 @@ impl DescRing {
 fn enlarge(ring: &mut HeapCircularBuffer<Desc>) -> bool
     ensures items { ring.new.items ≡ ring.old.items }
     ensures room { IsTrue result → length ring.new.items < ring.new.capacity }
+    ensures there { length ring.old.items < ring.old.capacity → IsTrue result }
     ensures none { result ≡ false → ring.new ≡ ring.old }
 {
     if ring.len() < ring.capacity() {

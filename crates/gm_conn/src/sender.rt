@@ -1,7 +1,7 @@
 //! The sending half.
 
 ghost use Rattle.std.specs.Prelude.{◌≡◌, ◌<◌, ◌≤◌, ◌+◌, [], true, false, nat_lt};
-ghost use Rattle.std.specs.Prelude.{slice_get, IsSome, IfSome, OnOk, OnErr};
+ghost use Rattle.std.specs.Prelude.{slice_get, IsSome, IfSome, IsOk, None, OnOk, OnErr};
 ghost use Rattle.std.specs.Option.{option_copied};
 ghost use Rattle.net_defs.specs.Refusal.{Refuses};
 ghost use Rattle.gm_defs.specs.declared.frame.GmBody.TheVariants.{Frame};
@@ -89,11 +89,13 @@ impl Sender {
         u32::MAX - self.next < piece_count(total)
     }
 
-    /// Makes room for a message of so many bytes. `Spent` exactly where it needs a number above 4,294,967,294.
+    /// Makes room for a message of so many bytes. `Spent` exactly where it needs a number above 4,294,967,294; where
+    /// there is room for one more it takes no memory.
     pub fn reserve(&mut self, total: u32) -> Result<(), OfferRefusal>
         requires { total ≤ message_limit }
         ensures refused { Refuses (offer_refusal self.old total) OfferRefusal.NoMemory result }
         ensures ok { OnOk result (0 < self.new.spare) }
+        ensures there { 0 < self.old.spare → offer_refusal self.old total ≡ None → IsOk result }
         ensures stays { self.new ≡ record self.old { spare = self.new.spare } }
         ensures err { OnErr result (self.new ≡ self.old) }
     {

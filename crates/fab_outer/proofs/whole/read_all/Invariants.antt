@@ -1,4 +1,4 @@
-use Rattle.std.proofs.Common.{◌≡◌, ◌≤◌, ◌+◌, ◌-◌, vec_len}
+use Rattle.std.proofs.Common.{◌≡◌, ◌≤◌, ◌-◌, vec_len}
 use Rattle.std.specs.Io.KnownBytes.{Consumes}
 use Rattle.fab_outer.proofs.whole.read_all.Given as goal
 
@@ -7,8 +7,8 @@ invariant-reading g l = record {
   consumed : Consumes (g.S.Source.left l.initial.source) (g.S.Source.left l.source) l.content.items;
   later : g.S.Source.faults l.initial.source ≤ g.S.Source.faults l.source;
   piece_len : vec_len l.piece ≡ 65536;
-  within : vec_len l.content ≤ l.limit + 1;
+  within : vec_len l.content ≤ l.limit;
 }
 
 abbrev pub decreases-reading : goal.decreases-reading
-decreases-reading g l = l.limit + 1 - vec_len l.content
+decreases-reading g l = l.limit - vec_len l.content
