@@ -26,7 +26,7 @@ use Rattle.world_defs.specs.Lane.{Ticket, lane_acknowledged, tickets_finished, l
 use Rattle.world_defs.specs.Node.{NodeState, Outgoing, Probe, TablePart, Reply, PartAnswer, FrameAnswer, Fragment, lane_at, with_lane, port_at, with_port, after_sending}
 use Rattle.world_defs.specs.Hearing.{frame_lane, ack_lane, is_host, heard_if, is_part_for, part_heard, hear_mapping, hear_mapping_body, message_of, delivered_after, frame_heard, frame_took, all_finished, ack_heard, hear_gm, hear_gm_body, hear_body, hear_decoded, hear}
 use Rattle.world_laws.proofs.Lists.{at-set}
-use Rattle.owner_laws.proofs.Moves.{owned-finished, owned-delivered}
+use Rattle.token_moves.proofs.Moves.{owned-finished, owned-delivered}
 use Rattle.port_client.specs.Held.{OpenClient}
 use Rattle.nic_node.specs.Sending.{once_sent}
 use Rattle.client_host.specs.Tied.{IsEventFrom, IsServing, IsTied}

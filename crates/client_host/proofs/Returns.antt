@@ -11,7 +11,7 @@ use Rattle.gm_port.specs.declared.event.Wreck.{Wreck}
 use Rattle.gm_port.specs.Held.{send_at, receive_at, event_at}
 use Rattle.world_defs.specs.Sound.{IsEachOnce}
 use Rattle.port_client.specs.Held.{OpenClient, opened_client, with_sends, with_recvs, tokens_of}
-use Rattle.owner_laws.proofs.Moves.{owned-new}
+use Rattle.token_moves.proofs.Moves.{owned-new}
 use Rattle.port_client.proofs.Holding.{all-held}
 use Rattle.client_host.specs.Back.{numbers_with, AreOwnWith, IsOwnEvent, events_of, IsWhole}
 use Rattle.client_host.specs.Tied.{IsServing, IsTied}

@@ -12,7 +12,7 @@ use Rattle.world_defs.specs.declared.effect.Said.TheVariants.{Token}
 use Rattle.world_defs.specs.Node.{NodeState, port_at}
 use Rattle.world_defs.specs.Client.{ClientState, Called, Wanted, client_bytes, empty_buffer, refused, left, begin_at, begun, close_refusal, close_unless, close_open, closed, provide_with, provide_open, provided_by, send_refusal, send_unless, send_with, send_open, sent_by, handed_out, poll_open, polled_by}
 use Rattle.world_defs.specs.Sound.{IsEachOnce}
-use Rattle.owner_laws.proofs.Moves.{owned-new, owned-provided, owned-sending, once-handed}
+use Rattle.token_moves.proofs.Moves.{owned-new, owned-provided, owned-sending, once-handed}
 use Rattle.port_client.specs.Held.{OpenClient, opened_client}
 use Rattle.client_host.specs.Held.{IsFromHosts}
 use Rattle.client_host.specs.Tied.{held_of, now_holding, opened_where, IsEventFrom, IsServing, IsTied}

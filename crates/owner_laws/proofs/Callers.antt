@@ -1,16 +1,15 @@
 -- What a client's call makes of its port and of the client: tokens go from the one to the other, or begin, or end.
-use Rattle.std.proofs.Common.{◌≡◌, ℕ, List, [], ◌∷◌, ◌++◌, map, set, Option, Some, None, refl, sym, ap, subst}
-use Rattle.std.specs.Prelude.{drop, slice_get}
+use Rattle.std.proofs.Common.{◌≡◌, ℕ, [], ◌∷◌, ◌++◌, set, Option, Some, None, refl, sym, ap, subst}
 use Rattle.std.proofs.lemmas.List.{set-get_or}
-use Rattle.gm_defs.specs.Token.{PortState, Provided, PortEvent, Sent, Received, opened, sent_tokens, received_tokens}
+use Rattle.gm_defs.specs.Token.{PortState, Provided, opened}
 use Rattle.gm_defs.specs.Port.{sent_with, provided_with, polled}
 use Rattle.world_defs.specs.declared.effect.Said.{Said}
 use Rattle.world_defs.specs.Node.{NodeState, port_at}
 use Rattle.world_defs.specs.Client.{ClientState, Called, new_client, client_bytes, empty_buffer, left}
 use Rattle.world_defs.specs.declared.effect.Said.TheVariants.{Token}
 use Rattle.world_defs.proofs.Calls.{Call}
-use Rattle.world_defs.specs.Sound.{IsEachOnce, HasOwners, AreOwned}
-use Rattle.owner_laws.proofs.Moves.{owned-new, owned-provided, owned-sending, once-handed}
+use Rattle.world_defs.specs.Sound.{HasOwners, AreOwned}
+use Rattle.token_moves.proofs.Moves.{owned-new, owned-provided, owned-sending, owned-polled_sent, owned-polled_received}
 
 -- the one port that a call may change, with its client
 pub record CallOwned (n : NodeState) (port : ℕ) (call : Called) : Type 0 where
@@ -23,11 +22,6 @@ stays n port c said is = record { at_port = port_at n port; ports = sym (set-get
 
 changes : (n m : NodeState) (port : ℕ) (p : Option PortState) (c : Option ClientState) (said : Said) → m.ports ≡ n.ports → AreOwned p c → CallOwned n port (left m port p c said)
 changes n m port p c said e is = record { at_port = p; ports = ap (λ ps. set ps port p) e; owned = is }
-
--- what is in front of a queue
-front : {X : Type 0} (xs : List X) (x : X) → slice_get xs 0 ≡ Some x → xs ≡ x ∷ drop 1 xs
-front [] x e = cc
-front (y ∷ xs) x e = let same : y ≡ x = cc in ap (λ z. z ∷ xs) same
 
 both-owned : {o : Option PortState} {c : Option ClientState} (p : PortState) (d : ClientState) → o ≡ Some p → c ≡ Some d → AreOwned o c → HasOwners p d
 both-owned {o = o} p d e f is = subst (λ q. AreOwned q (Some d)) e (subst (λ b. AreOwned o b) f is)
@@ -43,16 +37,6 @@ call-owned {n = n} (Call.provides {port = port} size prio t ts p d e f g k) is =
 call-owned {n = n} (Call.accepts s t ts p d e f g k) is =
     record { at_port = Some (sent_with p t (client_bytes s.len s.seed)); ports = refl; owned = owned-sending p d t (client_bytes s.len s.seed) ts g (both-owned p d e f is) }
 call-owned {n = n} (Call.hands_sent {port = port} t buffer p d e f g) is =
-    let own = both-owned p d e f is in
-    let es : List PortEvent = drop 1 p.events in
-    let out : List ℕ = map (λ s. s.token) p.queue in
-    let was : IsEachOnce p.sends (d.sends ++ (out ++ t ∷ sent_tokens es)) = subst (λ l. IsEachOnce p.sends (d.sends ++ (out ++ sent_tokens l))) (front p.events (Sent t buffer) g) own.sends in
-    let recvs : IsEachOnce p.recvs (d.recvs ++ (map (λ r. r.token) p.provided ++ received_tokens es)) = subst (λ l. IsEachOnce p.recvs (d.recvs ++ (map (λ r. r.token) p.provided ++ received_tokens l))) (front p.events (Sent t buffer) g) own.recvs in
-    changes n n port (Some (polled p)) (Some (record d { sends = d.sends ++ t ∷ [] })) _ refl (record { sends = once-handed p.sends t d.sends out (sent_tokens es) was; recvs = recvs })
+    changes n n port (Some (polled p)) (Some (record d { sends = d.sends ++ t ∷ [] })) _ refl (owned-polled_sent p d t buffer g (both-owned p d e f is))
 call-owned {n = n} (Call.hands_received {port = port} t buffer from sport prio len p d e f g) is =
-    let own = both-owned p d e f is in
-    let es : List PortEvent = drop 1 p.events in
-    let out : List ℕ = map (λ r. r.token) p.provided in
-    let was : IsEachOnce p.recvs (d.recvs ++ (out ++ t ∷ received_tokens es)) = subst (λ l. IsEachOnce p.recvs (d.recvs ++ (out ++ received_tokens l))) (front p.events (Received t buffer from sport prio len) g) own.recvs in
-    let sends : IsEachOnce p.sends (d.sends ++ (map (λ s. s.token) p.queue ++ sent_tokens es)) = subst (λ l. IsEachOnce p.sends (d.sends ++ (map (λ s. s.token) p.queue ++ sent_tokens l))) (front p.events (Received t buffer from sport prio len) g) own.sends in
-    changes n n port (Some (polled p)) (Some (record d { recvs = d.recvs ++ t ∷ [] })) _ refl (record { sends = sends; recvs = once-handed p.recvs t d.recvs out (received_tokens es) was })
+    changes n n port (Some (polled p)) (Some (record d { recvs = d.recvs ++ t ∷ [] })) _ refl (owned-polled_received p d t buffer from sport prio len g (both-owned p d e f is))

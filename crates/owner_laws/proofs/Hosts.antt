@@ -25,7 +25,7 @@ use Rattle.world_defs.specs.Hearing.{is_host, heard_if, is_part_for, part_heard,
 use Rattle.world_defs.specs.Client.{ClientState}
 use Rattle.world_defs.specs.Sound.{AreOwned}
 use Rattle.world_laws.proofs.Lists.{at-set}
-use Rattle.owner_laws.proofs.Moves.{owned-finished, owned-delivered}
+use Rattle.token_moves.proofs.Moves.{owned-finished, owned-delivered}
 
 -- a port whose tokens have their owners still
 pub record PortOwned (a b : Option PortState) : Type 0 where

@@ -1,5 +1,3 @@
-pub mod Places
-pub mod Moves
 pub mod Hosts
 pub mod Callers
 pub mod Owners

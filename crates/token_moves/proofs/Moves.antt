@@ -1,15 +1,15 @@
 -- Each token goes from one place to another: by a call of the client, by an acknowledgement, and by a message.
-use Rattle.std.proofs.Common.{◌≡◌, ℕ, Bool, true, false, List, [], ◌∷◌, ◌++◌, map, nat_eq, nat_lt, Option, Some, None, refl, sym, ap, ◌∙◌, subst, arith, if◌then◌else◌}
-use Rattle.std.specs.Prelude.{find}
+use Rattle.std.proofs.Common.{◌≡◌, ℕ, Bool, true, false, List, [], ◌∷◌, ◌++◌, map, nat_eq, nat_lt, Option, Some, None, refl, sym, ap, subst, arith, if◌then◌else◌}
+use Rattle.std.specs.Prelude.{drop, find, slice_get}
 use Rattle.std.proofs.lemmas.Bool.Decides.{nat_tests}
 use Rattle.gm_defs.specs.declared.frame.FrameHead.{FrameHead}
 use Rattle.gm_defs.specs.Token.{Sending, Provided, PortEvent, Sent, Received, PortState, opened, sent_tokens, received_tokens, takes_at}
-use Rattle.gm_defs.specs.Port.{without_first, with_first, with_send, sent_with, provided_with, send_of, ended_by, finished, filled, filling_with, delivered}
+use Rattle.gm_defs.specs.Port.{without_first, with_first, with_send, sent_with, provided_with, send_of, ended_by, finished, filled, filling_with, delivered, next_event, polled}
 use Rattle.gm_defs.proofs.Found.{same-numbers}
 use Rattle.gm_defs.proofs.Takers.{Delivery, delivery}
 use Rattle.world_defs.specs.Client.{ClientState, new_client}
 use Rattle.world_defs.specs.Sound.{IsEachOnce, HasOwners}
-use Rattle.owner_laws.proofs.Places.{Into, here, behind, into-left, into-right, into-end, once-moved, once-new}
+use Rattle.token_moves.proofs.Places.{Into, here, behind, into-left, into-right, into-end, once-moved, once-new}
 
 -- what was found is one more than what is left without it
 module _ {A : Type 0} (test : A → Bool) (number : A → ℕ) where
@@ -115,6 +115,26 @@ module _ (count t : ℕ) (held out rest : List ℕ) where
   once-handed is =
       once-moved count t (held ++ (out ++ t ∷ rest)) ((held ++ t ∷ []) ++ (out ++ rest)) (held ++ (out ++ rest))
       (into-right held (out ++ t ∷ rest) (out ++ rest) (into-right out (t ∷ rest) rest here)) (into-left (held ++ t ∷ []) held (out ++ rest) (into-end t held)) is
+
+-- what is in front of a queue
+pub front : {X : Type 0} (xs : List X) (x : X) → slice_get xs 0 ≡ Some x → xs ≡ x ∷ drop 1 xs
+front [] x e = cc
+front (y ∷ xs) x e = let same : y ≡ x = cc in ap (λ z. z ∷ xs) same
+
+-- the event of a send is taken
+pub owned-polled_sent : (p : PortState) (c : ClientState) (t : ℕ) (buffer : List ℕ) → next_event p ≡ Some (Sent t buffer) → HasOwners p c → HasOwners (polled p) (record c { sends = c.sends ++ t ∷ [] })
+owned-polled_sent p c t buffer e is =
+    let es : List PortEvent = drop 1 p.events in
+    let was : HasOwners (record p { events = Sent t buffer ∷ es }) c = subst (λ l. HasOwners (record p { events = l }) c) (front p.events (Sent t buffer) e) is in
+    record { sends = once-handed p.sends t c.sends (sending p) (sent_tokens es) was.sends; recvs = was.recvs }
+
+-- the event of a received message is taken
+pub owned-polled_received : (p : PortState) (c : ClientState) (t : ℕ) (buffer : List ℕ) (from sport prio len : ℕ) → next_event p ≡ Some (Received t buffer from sport prio len) → HasOwners p c
+    → HasOwners (polled p) (record c { recvs = c.recvs ++ t ∷ [] })
+owned-polled_received p c t buffer from sport prio len e is =
+    let es : List PortEvent = drop 1 p.events in
+    let was : HasOwners (record p { events = Received t buffer from sport prio len ∷ es }) c = subst (λ l. HasOwners (record p { events = l }) c) (front p.events (Received t buffer from sport prio len) e) is in
+    record { sends = was.sends; recvs = once-handed p.recvs t c.recvs (providing p) (received_tokens es) was.recvs }
 
 -- from a place at the port to an event
 module _ (count t : ℕ) (held out left events now : List ℕ) where

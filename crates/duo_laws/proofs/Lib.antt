@@ -1,0 +1,16 @@
+pub mod Lists
+pub mod Periods
+pub mod Bodies
+pub mod Ends
+pub mod Changes
+pub mod Events
+pub mod Order
+pub mod Owners
+pub mod Told
+pub mod Queues
+pub mod Ties
+pub mod Polls
+pub mod Waiting
+pub mod Reading
+pub mod Growing
+pub mod Reaching
