@@ -16,10 +16,11 @@ use Rattle.world_defs.specs.Node.{NodeState, lane_at, with_lane, port_at, with_p
 use Rattle.world_defs.specs.Client.{ClientState, Called, Wanted, client_bytes, wanted_message, wanted_lane, empty_buffer, refused, left, provide_with, provide_open, provided_by, send_refusal, send_accepted, send_unless, send_with, send_open, sent_by, handed_out, poll_open, polled_by}
 use Rattle.port_client.specs.Held.{OpenClient, with_sends, with_recvs}
 use Rattle.nic_node.specs.Held.{HostNode, in_state}
-use Rattle.client_host.specs.Back.{with_event, event_said}
+use Rattle.port_client.specs.Back.{with_event, event_said}
 use Rattle.client_host.specs.Telling.{size_cause, is_refused}
 use Rattle.client_host.specs.Tied.{held_of, now_holding, IsTied}
-use Rattle.client_host.proofs.Tokens.{open-is, same-event}
+use Rattle.port_client.proofs.Tokens.{same-event}
+use Rattle.client_host.proofs.Tokens.{open-is}
 
 -- where the call is refused for a cause, or else does so
 abbrev pub unless : NodeState → ClientState → Option ClientCause → Called → Called

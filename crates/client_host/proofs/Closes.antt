@@ -18,10 +18,11 @@ use Rattle.world_defs.specs.Sound.{IsEachOnce}
 use Rattle.world_defs.specs.Client.{ClientState, refused, left, close_refusal, close_unless, close_open, closed}
 use Rattle.world_defs.proofs.Calls.{IsClosable, not_refused-closable}
 use Rattle.port_client.specs.Held.{OpenClient}
-use Rattle.client_host.specs.Back.{numbers_with, AreOwnWith}
+use Rattle.port_client.specs.Back.{numbers_with, AreOwnWith}
 use Rattle.client_host.specs.Telling.{close_cause, IsCounted}
 use Rattle.client_host.specs.Tied.{held_of, now_holding, IsTied}
-use Rattle.client_host.proofs.Tokens.{open-is, sends-counted, recvs-counted, events-counted}
+use Rattle.port_client.proofs.Tokens.{sends-counted, recvs-counted, events-counted}
+use Rattle.client_host.proofs.Tokens.{open-is}
 use Rattle.client_host.proofs.Returns.{closed-owners}
 
 not-open : (host hosts port : ℕ) (o : Option PortState) → IsTied host hosts port o None → o ≡ None

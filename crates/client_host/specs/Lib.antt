@@ -2,5 +2,4 @@ pub mod Held
 pub mod Hosts
 pub mod Tied
 pub mod Telling
-pub mod Back
 pub mod Calls

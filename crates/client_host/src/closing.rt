@@ -5,14 +5,13 @@ ghost use Rattle.world_defs.specs.Node.{port_at};
 ghost use Rattle.world_defs.specs.Client.{closed};
 ghost use Rattle.world_defs.specs.Sound.{IsEachOnce};
 ghost use Rattle.nic_node.specs.Held.{in_state};
-ghost use Rattle.client_host.specs.Back.{numbers_with, AreOwnWith};
+ghost use Rattle.port_client.specs.Back.{numbers_with, AreOwnWith};
 ghost use Rattle.client_host.specs.Tied.{held_of, now_holding, IsTied};
 
-use crate::returning::{retire, take_back_recvs};
 use crate::telling::{close_cause, minted_of};
 use gm_tokens::RecvToken;
 use nic_node::NicNode;
-use port_client::Client;
+use port_client::{Client, retire, take_back_recvs};
 use reg_mem::Reg;
 use std::alloc::Global;
 use world_defs::{ClientCause, Said};

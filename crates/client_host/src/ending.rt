@@ -3,12 +3,10 @@
 ghost use Rattle.std.specs.Prelude.{◌≡◌, ◌<◌, Some};
 ghost use Rattle.world_defs.specs.Node.{port_at};
 ghost use Rattle.nic_node.specs.Ending.{abandoned};
-ghost use Rattle.client_host.specs.Back.{IsWhole};
 ghost use Rattle.client_host.specs.Tied.{IsTied, IsEnding};
 
-use crate::returning::{retire, take_back_events, take_back_recvs, take_back_sends};
-use nic_node::{NicNode, Wreck};
-use port_client::Client;
+use nic_node::NicNode;
+use port_client::{Client, end_wreck};
 use std::alloc::Global;
 
 /// Ends each open port of a host, whatever it holds, its client with all of its tokens, and then the host. Takes no
@@ -37,19 +35,4 @@ fn end_client(alloc: Global, node: &mut NicNode, client: Client, port: u8)
         Some(wreck) => end_wreck(alloc, client, wreck),
         None => unreachable!(),
     }
-}
-
-// Ends a client with all that its port held.
-fn end_wreck(alloc: Global, mut client: Client, wreck: Wreck)
-    requires { IsWhole client wreck }
-{
-    let Wreck {
-        sending,
-        provided,
-        events,
-    } = wreck;
-    take_back_sends(&mut client, sending);
-    take_back_recvs(&mut client, provided);
-    take_back_events(&mut client, events);
-    retire(alloc, client);
 }

@@ -23,7 +23,6 @@ mod hosts;
 mod opening;
 mod polling;
 mod providing;
-mod returning;
 mod sending;
 mod telling;
 

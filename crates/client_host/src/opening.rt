@@ -7,9 +7,8 @@ ghost use Rattle.nic_node.specs.Held.{in_state};
 ghost use Rattle.client_host.specs.Telling.{is_refused};
 ghost use Rattle.client_host.specs.Tied.{held_of, opened_where, IsTied};
 
-use crate::returning::retire;
 use nic_node::{NicNode, NodeBegin};
-use port_client::Client;
+use port_client::{Client, retire};
 use std::alloc::{AllocError, Global};
 use world_defs::{ClientCause, Said};
 

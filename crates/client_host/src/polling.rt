@@ -7,9 +7,8 @@ ghost use Rattle.nic_node.specs.Held.{in_state};
 ghost use Rattle.client_host.specs.Held.{IsFromHosts};
 ghost use Rattle.client_host.specs.Tied.{held_of, now_holding, IsTied};
 
-use crate::returning::take_back;
 use nic_node::NicNode;
-use port_client::Client;
+use port_client::{Client, take_back};
 use world_defs::{ClientCause, Said};
 
 /// The client takes the first event of its port's queue. Takes no memory.

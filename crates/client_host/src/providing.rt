@@ -1,6 +1,6 @@
 //! A receive token is provided with a buffer.
 
-ghost use Rattle.std.specs.Prelude.{◌≡◌, ◌<◌, ◌≤◌, is_some, true, false, Some, None, option_map, IfOk, IfErr, OnOk};
+ghost use Rattle.std.specs.Prelude.{◌≡◌, ◌<◌, is_some, true, false, Some, None, option_map, IfOk, IfErr, OnOk};
 ghost use Rattle.std.specs.Prelude.{OnErr, MatchResult, ◌||◌};
 ghost use Rattle.std.specs.Option.{ForSome};
 ghost use Rattle.gm_defs.specs.Token.{place_of_recv};
@@ -15,7 +15,7 @@ ghost use Rattle.client_host.specs.Tied.{held_of, now_holding, IsTied};
 use crate::telling::refused;
 use gm_tokens::RecvToken;
 use nic_node::NicNode;
-use port_client::Client;
+use port_client::{Client, empty_buffer};
 use reg_mem::register;
 use std::alloc::{AllocError, Global};
 use world_defs::{ClientCause, Said};
@@ -131,13 +131,4 @@ fn is_bad_size(size: u8, prio: u8) -> bool
     ensures { result ≡ is_bad_size size prio }
 {
     size < 4 || size > 16 || prio > 1
-}
-
-// The zero bytes of a new buffer: all that its size has room for.
-fn empty_buffer(alloc: Global, size: u8) -> Result<Vec<u8>, AllocError>
-    requires least { 4 ≤ size }
-    requires greatest { size ≤ 16 }
-    ensures { IfOk result (λ v. v.items ≡ empty_buffer size) }
-{
-    Ok(vec![in alloc; 0u8; (1usize << size).saturating_sub(8)]?)
 }

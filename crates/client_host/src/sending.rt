@@ -1,9 +1,8 @@
 //! A message is sent.
 
-ghost use Rattle.std.specs.Prelude.{◌≡◌, ◌≢◌, ◌<◌, ◌≤◌, ◌+◌, ◌%◌, length, is_some, true, false, Some, None};
+ghost use Rattle.std.specs.Prelude.{◌≡◌, ◌≢◌, ◌<◌, length, is_some, true, false, Some, None};
 ghost use Rattle.std.specs.Prelude.{IfOk, IfErr, OnOk, OnErr, MatchResult};
 ghost use Rattle.std.specs.Option.{ForSome};
-ghost use Rattle.gm_defs.specs.Body.{message_limit};
 ghost use Rattle.gm_defs.specs.Token.{place_of_send};
 ghost use Rattle.gm_tokens.specs.Token.{token_at};
 ghost use Rattle.world_defs.specs.Node.{port_at};
@@ -17,7 +16,7 @@ ghost use Rattle.client_host.specs.Tied.{held_of, now_holding, IsTied};
 use crate::telling::refused;
 use gm_tokens::SendToken;
 use nic_node::{NicNode, NodeSend, SendAsk};
-use port_client::Client;
+use port_client::{Client, client_bytes};
 use reg_mem::{register, release};
 use std::alloc::{AllocError, Global};
 use world_defs::{ClientCause, Said};
@@ -191,26 +190,6 @@ fn send_bytes(
             Err(token)
         }
     }
-}
-
-// The bytes of a client's message: the first is the seed, and each is one more than the one before it, modulo 256.
-fn client_bytes(alloc: Global, len: u32, seed: u8) -> Result<Vec<u8>, AllocError>
-    requires { len ≤ message_limit }
-    ensures { IfOk result (λ v. v.items ≡ client_bytes len seed) }
-{
-    let mut bytes = Vec::with_capacity(alloc, len as usize)?;
-    for i in 0..len {
-        bytes.push_reserved(byte_at(seed, i));
-    }
-    Ok(bytes)
-}
-
-// A byte of a client's message.
-fn byte_at(seed: u8, i: u32) -> u8
-    requires { i < message_limit }
-    ensures { result ≡ (seed + i) % 256 }
-{
-    ((u32::from(seed) + i) % 256) as u8
 }
 
 // A refusal of the host, as the client is told of it; none for want of memory. A client's buffer is never too short.

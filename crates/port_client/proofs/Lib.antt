@@ -1,1 +1,4 @@
 pub mod Holding
+pub mod Tokens
+pub mod Returns
+pub mod Serving

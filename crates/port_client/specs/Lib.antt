@@ -1,2 +1,4 @@
 pub mod Held
 pub mod Kept
+pub mod Back
+pub mod Serving

@@ -1,6 +1,6 @@
 //! The client of an open port.
 
-ghost use Rattle.std.specs.Prelude.{◌≡◌, ◌<◌, ◌++◌, ◌∷◌, [], length, drop, slice_get, option_map, IfOk};
+ghost use Rattle.std.specs.Prelude.{◌≡◌, ◌<◌, ◌++◌, ◌∷◌, [], length, drop, slice_get, is_some, option_map, IfOk};
 ghost use Rattle.gm_tokens.specs.Token.{token_at};
 ghost use Rattle.gm_tokens.specs.Minted.{AreAll};
 ghost use Rattle.port_client.specs.Held.{opened_client, with_sends, with_recvs, tokens_of};
@@ -67,6 +67,23 @@ impl Client {
         ensures recvs { result.1 ≡ self.now.minted_recvs }
     {
         (self.minted_sends, self.minted_recvs)
+    }
+
+    /// The number of the send token that was held longest. None exactly where none is held.
+    pub fn first_send(&self) -> Option<u16>
+        ensures { result ≡ slice_get self.now.held.sends 0 }
+    {
+        match self.sends.front() {
+            Some(token) => Some(token.number()),
+            None => None,
+        }
+    }
+
+    /// Whether a receive token is held.
+    pub fn has_recv(&self) -> bool
+        ensures { result ≡ is_some (slice_get self.now.held.recvs 0) }
+    {
+        self.recvs.front().is_some()
     }
 
     /// Takes the send token that was held longest. None exactly where none is held.

@@ -1,4 +1,4 @@
-use Rattle.client_host.proofs.Returns.{opened-sends, opened-recvs}
+use Rattle.port_client.proofs.Returns.{opened-sends, opened-recvs}
 use Rattle.client_host.proofs.opening.begin.Goals as goal
 
 pub retire-requires-clause-sends : goal.retire-requires-clause-sends

@@ -3,7 +3,8 @@ use Rattle.world_defs.specs.declared.effect.Said.{Said}
 use Rattle.nic_node.specs.Held.{in_state}
 use Rattle.client_host.specs.Telling.{size_cause}
 use Rattle.client_host.specs.Tied.{now_holding}
-use Rattle.client_host.proofs.Tokens.{taken-is, none-taken, free-recv}
+use Rattle.port_client.proofs.Tokens.{taken-is, none-taken}
+use Rattle.client_host.proofs.Tokens.{free-recv}
 use Rattle.client_host.proofs.Returns.{returned-recv}
 use Rattle.client_host.proofs.Calling.{unless, provided_call, providing-none, providing-some, none-left-recvs, told-said, told-node, told-client, told-wanting}
 use Rattle.client_host.proofs.providing.provide_open.Goals as goal

@@ -4,7 +4,8 @@ use Rattle.world_defs.specs.declared.effect.Said.{Said}
 use Rattle.world_defs.specs.Client.{client_bytes, send_refusal}
 use Rattle.nic_node.specs.Held.{in_state}
 use Rattle.client_host.specs.Tied.{now_holding}
-use Rattle.client_host.proofs.Tokens.{taken-is, none-taken, free-send}
+use Rattle.port_client.proofs.Tokens.{taken-is, none-taken}
+use Rattle.client_host.proofs.Tokens.{free-send}
 use Rattle.client_host.proofs.Sends.{accepted-is}
 use Rattle.client_host.proofs.Returns.{returned-send}
 use Rattle.client_host.proofs.Calling.{unless, sent_call, sending-none, sending-some, none-left-sends, told-said, told-node, told-client, told-wanting}

@@ -6,13 +6,13 @@ ghost use Rattle.gm_defs.specs.Token.{sent_tokens, received_tokens};
 ghost use Rattle.gm_port.specs.Held.{event_of};
 ghost use Rattle.world_defs.specs.Sound.{IsEachOnce};
 ghost use Rattle.port_client.specs.Held.{with_sends, with_recvs};
-ghost use Rattle.client_host.specs.Back.{numbers_with, AreOwnWith, IsOwnEvent, HasRoomFor, with_event, event_said};
-ghost use Rattle.client_host.specs.Back.{events_of};
+ghost use Rattle.port_client.specs.Back.{numbers_with, AreOwnWith, IsOwnEvent, HasRoomFor, with_event, event_said};
+ghost use Rattle.port_client.specs.Back.{events_of, IsWhole};
 
+use crate::client::Client;
 use gm_defs::Blob;
+use gm_port::{PortEvent, Wreck};
 use gm_tokens::{RecvToken, SendToken};
-use nic_node::PortEvent;
-use port_client::Client;
 use reg_mem::{Reg, deregister, release};
 use std::alloc::Global;
 use std::collections::VecDeque;
@@ -33,7 +33,7 @@ pub(crate) fn take_back_sends(client: &mut Client, sending: Vec<(SendToken, Reg)
 }
 
 /// Takes provided tokens back behind those that the client holds.
-pub(crate) fn take_back_recvs(client: &mut Client, provided: Vec<(RecvToken, Reg)>)
+pub fn take_back_recvs(client: &mut Client, provided: Vec<(RecvToken, Reg)>)
     requires own { AreOwnWith client.old.host client.old.port provided.items }
     requires room { length client.old.held.recvs + length provided.items ≤ client.old.minted_recvs }
     ensures { client.new ≡ with_recvs client.old (client.old.held.recvs ++ numbers_with provided.items) }
@@ -48,7 +48,7 @@ pub(crate) fn take_back_recvs(client: &mut Client, provided: Vec<(RecvToken, Reg
 
 /// Takes the token of an event back behind those that the client holds, and says what the event was. The buffer of a
 /// message is cut to the message, in its place. Takes no memory.
-pub(crate) fn take_back(client: &mut Client, event: PortEvent) -> Said
+pub fn take_back(client: &mut Client, event: PortEvent) -> Said
     requires own { IsOwnEvent client.old.host client.old.port event }
     requires room { HasRoomFor client.old (event_of event) }
     ensures said { result ≡ event_said (event_of event) }
@@ -102,8 +102,23 @@ pub(crate) fn take_back_events(client: &mut Client, events: Vec<PortEvent>)
     rest.destroy_empty();
 }
 
+/// Ends a client with all that its port held: each buffer is let go, and each token is retired once. Takes no memory.
+pub fn end_wreck(alloc: Global, mut client: Client, wreck: Wreck)
+    requires { IsWhole client wreck }
+{
+    let Wreck {
+        sending,
+        provided,
+        events,
+    } = wreck;
+    take_back_sends(&mut client, sending);
+    take_back_recvs(&mut client, provided);
+    take_back_events(&mut client, events);
+    retire(alloc, client);
+}
+
 /// Spends a client that holds all of its tokens. Takes no memory.
-pub(crate) fn retire(alloc: Global, client: Client)
+pub fn retire(alloc: Global, client: Client)
     requires sends { IsEachOnce client.minted_sends client.held.sends }
     requires recvs { IsEachOnce client.minted_recvs client.held.recvs }
 {

@@ -1,7 +1,7 @@
 -- The first so many bytes, and room for the others.
 use Rattle.std.proofs.Common.{◌≡◌, ◌+◌, ◌%◌, map, vec_capacity, vec_len}
 use Rattle.std.specs.List.{range_with_len}
-use Rattle.client_host.proofs.sending.client_bytes.Given as goal
+use Rattle.port_client.proofs.bytes.client_bytes.Given as goal
 
 abbrev pub invariant-loop-i : goal.invariant-loop-i
 invariant-loop-i l = record {

@@ -1,8 +1,8 @@
 use Rattle.std.proofs.Common.{◌++◌, sym, subst}
 use Rattle.gm_tokens.specs.Minted.{AreAll}
 use Rattle.port_client.specs.Held.{tokens_of}
-use Rattle.client_host.proofs.Returns.{once-all}
-use Rattle.client_host.proofs.returning.retire.Goals as goal
+use Rattle.port_client.proofs.Returns.{once-all}
+use Rattle.port_client.proofs.returning.retire.Goals as goal
 
 pub end-requires-clause-sends : goal.end-requires-clause-sends
 end-requires-clause-sends c =

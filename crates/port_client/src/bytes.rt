@@ -1,0 +1,36 @@
+//! The bytes of a client's buffers, as they are made.
+
+ghost use Rattle.std.specs.Prelude.{◌≡◌, ◌<◌, ◌≤◌, ◌+◌, ◌%◌, IfOk};
+ghost use Rattle.gm_defs.specs.Body.{message_limit};
+ghost use Rattle.world_defs.specs.Client.{client_bytes, empty_buffer};
+
+use std::alloc::{AllocError, Global};
+
+/// The bytes of a client's message: the first is the seed, and each is one more than the one before it, modulo 256.
+pub fn client_bytes(alloc: Global, len: u32, seed: u8) -> Result<Vec<u8>, AllocError>
+    requires { len ≤ message_limit }
+    ensures { IfOk result (λ v. v.items ≡ client_bytes len seed) }
+{
+    let mut bytes = Vec::with_capacity(alloc, len as usize)?;
+    for i in 0..len {
+        bytes.push_reserved(byte_at(seed, i));
+    }
+    Ok(bytes)
+}
+
+// A byte of a client's message.
+fn byte_at(seed: u8, i: u32) -> u8
+    requires { i < message_limit }
+    ensures { result ≡ (seed + i) % 256 }
+{
+    ((u32::from(seed) + i) % 256) as u8
+}
+
+/// The zero bytes of a new buffer: all that its size has room for.
+pub fn empty_buffer(alloc: Global, size: u8) -> Result<Vec<u8>, AllocError>
+    requires least { 4 ≤ size }
+    requires greatest { size ≤ 16 }
+    ensures { IfOk result (λ v. v.items ≡ empty_buffer size) }
+{
+    Ok(vec![in alloc; 0u8; (1usize << size).saturating_sub(8)]?)
+}
