@@ -51,6 +51,10 @@ entering s c next is = by (packet_in s c) is
     by None e = cc
     by (Some held) e = let to : course s.net c held.wire ≡ Enters next = cc in course-below s.net c held.wire next to
 
+-- what is found in a channel whose packet enters another is sent on
+pub goes_on : (n : Network) (c next : ℕ) (held : Held) → option_map (λ h. course n c h.wire) (Some held) ≡ Some (Enters next) → course n c held.wire ≡ Enters next
+goes_on n c next held e = cc
+
 -- a packet that a switch sends on is stripped there
 stripped-out : (n : Network) (s next : ℕ) (t : Turned) (wire : List ℕ) → course_out n s t ≡ Enters next → after_aim t wire ≡ stripped wire
 stripped-out n s next (Out port) wire to = refl

@@ -1,9 +1,11 @@
-use Rattle.std.proofs.Common.{ap, ◌∙◌, subst, length, arith, Option, None}
+use Rattle.std.proofs.Common.{◌≡◌, ap, ◌∙◌, sym, subst, length, get_or, arith, Option, Some, None, option_map}
 use Rattle.std.proofs.Math.ListN.{length-set}
-use Rattle.link_defs.specs.Links.{Held}
+use Rattle.link_defs.specs.declared.moved.Course.TheVariants.{Enters}
+use Rattle.link_defs.specs.Advance.{course}
+use Rattle.link_defs.specs.Links.{Held, LinkState, packet_in}
 use Rattle.link_defs.specs.Shape.{IsLinks}
 use Rattle.link_model.specs.State.{state}
-use Rattle.link_model.proofs.Stepping.{entering, written-links}
+use Rattle.link_model.proofs.Stepping.{entering, goes_on, written-links}
 use Rattle.link_model.proofs.links.Links.enter.Goals as goal
 
 pub is_full-requires : goal.is_full-requires
@@ -14,6 +16,15 @@ is_full-requires c =
     let view = ap (λ s. length s.channels) c.self.view_is in
     let number = c.from.ensures in
     omega (arith, low, same, view, number)
+
+pub turned-slot-requires-clause-goes : goal.turned-slot-requires-clause-goes
+turned-slot-requires-clause-goes c =
+    let s : LinkState = state c.self.inside.wiring c.self.inside.slots c.self.inside.limbo c.self.inside.next_serial in
+    let held : Held = c.unwrap-slot.result in
+    let there : packet_in s c.args.c ≡ Some held = ap (λ i. get_or c.self.inside.slots i None) (sym c.from-2.ensures) ∙ sym c.take.ensures.slot ∙ c.unwrap-slot.ensures in
+    let goes : option_map (λ (h : Held). course s.net c.args.c h.wire) (packet_in s c.args.c) ≡ Some (Enters c.args.next) =
+    subst (λ (t : LinkState). option_map (λ (h : Held). course t.net c.args.c h.wire) (packet_in t c.args.c) ≡ Some (Enters c.args.next)) (sym c.self.view_is) c.requires.course in
+    (c.args.next, goes_on s.net c.args.c c.args.next held (subst (λ (o : Option Held). option_map (λ (h : Held). course s.net c.args.c h.wire) o ≡ Some (Enters c.args.next)) there goes))
 
 pub put-requires-clause-there : goal.put-requires-clause-there
 put-requires-clause-there c =
