@@ -20,6 +20,13 @@ def read(text):
     return {name: [it for it in below if it in listed] for name, below in listed.items()}, headings
 
 
+def of_kit(root=ROOT):
+    """The crates by name, each with those of the kit that it stands on."""
+    lines = [it.split(":", 1) for it in (root / "crates.txt").read_text().splitlines() if ":" in it and not it.startswith("#")]
+    listed = {name.split()[0] for name, _ in lines}
+    return {name.split()[0]: [it for it in below.split() if it not in listed] for name, below in lines}
+
+
 def from_file(root=ROOT):
     return read((root / "crates.txt").read_text())
 

@@ -1,4 +1,5 @@
-# A small repository: its page lacks a crate, has one that is gone and one too early, and a definition isn't where it was.
+# A small repository: one crate alone stands on what it should of the kit, the page lacks a crate, has one that is gone and one too early,
+# and a definition isn't where it was.
 root=$(mktemp -d)
 trap 'rm -rf "$root"' EXIT
 mkdir -p "$root/docs/pictures" "$root/crates/net_defs/specs" "$root/crates/net_defs/src"
@@ -13,11 +14,12 @@ map_laws: map_defs net_defs
 
 # The program.
 fabric_run: run_defs map_laws
+gm_port: slab
 END
 printf '## %s\n' 'Base crates of definitions' > "$root/docs/PROVED.md"
 printf '| `%s` | what it promises |\n' net_defs map_defs run_defs >> "$root/docs/PROVED.md"
 printf '## %s\n' 'Laws' 'The program' >> "$root/docs/PROVED.md"
-printf '| `%s` | what it promises |\n' map_laws gone_laws >> "$root/docs/PROVED.md"
+printf '| `%s` | what it promises |\n' map_laws gm_port gone_laws >> "$root/docs/PROVED.md"
 printf '%s\n' '| `far` | `crates/net_defs/specs/Network.antt` | ? |' '| `near` | `crates/net_defs/specs/Network.antt` | ? |' > "$root/docs/DEFINITIONS.md"
 printf 'abbrev pub far : A\n' > "$root/crates/net_defs/specs/Network.antt"
 printf '%s\n' '//! What a fabric is: hosts, switches' '//! and cables. It holds none.' '//!' '//! More.' > "$root/crates/net_defs/src/lib.rt"

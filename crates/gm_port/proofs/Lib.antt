@@ -6,3 +6,4 @@ pub mod Ports
 pub mod Bytes
 pub mod Heads
 pub mod Filling
+pub mod Keyed

@@ -1,14 +1,13 @@
 -- The queue of sends as contracts see it.
-use Rattle.std.proofs.Common.{◌≡◌, ℕ, ◌<◌, ◌≤◌, true, false, List, length, map, get_or, Some, None, IsSome, is_some, refl, sym, ap, subst, ◌∙◌, arith, Vec, vec_capacity, length-set}
+use Rattle.std.proofs.Common.{◌≡◌, ℕ, ◌<◌, ◌≤◌, true, false, true≢false, List, length, map, Option, Some, None, IsSome, is_some, refl, sym, ap, subst, ◌∙◌, arith, Vec, vec_capacity, length-set}
 use Rattle.std.specs.Prelude.{find, slice_get, slice_set, option_map}
 use Rattle.std.specs.List.{count_by}
 use Rattle.std.specs.declared.alloc.Global.{Global}
-use Rattle.std.proofs.lemmas.Option.{slice_get_read}
 use Rattle.gm_defs.specs.Token.{Sending, has_number}
 use Rattle.gm_defs.specs.Port.{with_send, without_first}
 use Rattle.gm_tokens.specs.Token.{Token, token_at}
 use Rattle.gm_port.specs.Held.{Sends, send_at}
-use Rattle.gm_port.specs.Table.{Place, sends_of, held_in, IsQueue, is_held, is_of, sending_numbers}
+use Rattle.gm_port.specs.Table.{Place, sends_of, held_in, IsQueue, buffer_in, is_held, is_of, sending_numbers}
 use Rattle.gm_port.proofs.Tables.{number-held, found-held, sends-put, table-put, sends-take, table-take, send-found, place-own, place-free, count-sends, held-sends}
 
 -- what contracts see, by its parts
@@ -95,9 +94,18 @@ module _ (host port : ℕ) (ps : List Place) (listed : Vec (Token × List ℕ) G
         ap (option_map (send_at host port)) found ∙ ap (λ (t : Token). let pair : Token × List ℕ = (t, e.1) in Some pair) token in
         subst (λ (w : Sends). option_map (send_at w.host w.port) (find (is_of n) w.sends) ≡ Some e) v here
 
-    pub buffer-seen : option_map (λ s. s.buffer) (find (is_of n) now.sends) ≡ Some e.1
-    buffer-seen =
+    buffer-of : option_map (λ s. s.buffer) (find (is_of n) now.sends) ≡ Some e.1
+    buffer-of =
         subst (λ (w : Sends). option_map (λ s. s.buffer) (find (is_of n) w.sends) ≡ Some e.1) v (ap (option_map (λ (s : Sending). s.buffer)) found)
+
+  -- the buffer of a send is that of its place
+  pub buffer-seen : (n : ℕ) → IsSome (find (is_of n) now.sends) → buffer_in (slice_get ps n) ≡ option_map (λ s. s.buffer) (find (is_of n) now.sends)
+  buffer-seen n some = at (slice_get ps n) refl (held-at n some)
+    where
+      at : (o : Option Place) → slice_get ps n ≡ o → is_held (slice_get ps n) ≡ true → buffer_in (slice_get ps n) ≡ option_map (λ s. s.buffer) (find (is_of n) now.sends)
+      at None e h = absurd (true≢false (sym h ∙ ap is_held e))
+      at (Some None) e h = absurd (true≢false (sym h ∙ ap is_held e))
+      at (Some (Some p)) e h = ap buffer_in e ∙ sym (buffer-of n p e)
 
   -- whether a number has a send
   pub has-seen : (n : ℕ) → has_number (sending_numbers now.sends) n ≡ is_held (slice_get ps n)
@@ -110,7 +118,3 @@ module _ (host port : ℕ) (ps : List Place) (listed : Vec (Token × List ℕ) G
   pub list-seen : held_in ps ≡ map (send_at now.host now.port) now.sends
   list-seen =
       subst (λ (w : Sends). held_in ps ≡ map (send_at w.host w.port) w.sends) v (held-sends host port 0 ps q.table)
-
--- a place that was read
-pub read-place : (ps : List Place) (n : ℕ) (p : Place) → n < length ps → p ≡ get_or ps n p → slice_get ps n ≡ Some p
-read-place ps n p lt e = slice_get_read ps (length ps) n p refl lt e

@@ -1,5 +1,5 @@
 -- The table of sends: what a put, a take and a look-up make of the sends in it.
-use Rattle.std.proofs.Common.{◌≡◌, ℕ, zero, suc, ◌+◌, ◌<◌, Bool, true, false, List, [], ◌∷◌, length, map, nat_eq, nat_lt, Some, None, is_some, count_by, cond, take, refl, sym, ap, ◌∙◌, true≢false, arith}
+use Rattle.std.proofs.Common.{◌≡◌, ℕ, zero, suc, ◌+◌, ◌<◌, Bool, true, false, List, [], ◌∷◌, length, map, nat_eq, nat_lt, Some, None, is_some, count_by, cond, refl, sym, ap, ◌∙◌, true≢false, arith}
 use Rattle.std.specs.Prelude.{slice_get, slice_set, find}
 use Rattle.std.proofs.lemmas.List.Sums.{sum_by-cons}
 use Rattle.std.proofs.lemmas.Bool.Decides.{nat_tests}
@@ -152,31 +152,9 @@ count-sends [] = refl
 count-sends (None ∷ ps) = let r = count-sends ps in omega (arith, r, sum_by-cons (λ p. cond (is_some p) 1 0) None ps)
 count-sends (Some p ∷ ps) = let r = count-sends ps in omega (arith, r, sum_by-cons (λ p. cond (is_some p) 1 0) (Some p) ps)
 
--- a place more counts where it has a send
-pub count-more : (ps : List Place) (n : ℕ) → n < length ps
-    → count_by is_some (take (suc n) ps) ≡ count_by is_some (take n ps) + cond (is_held (slice_get ps n)) 1 0
-count-more [] n lt = absurd (omega arith)
-count-more (None ∷ ps) zero lt = refl
-count-more (Some p ∷ ps) zero lt = refl
-count-more (p ∷ ps) (suc n) lt =
-    let on = count-more ps n (omega arith) in
-    let here : ℕ = cond (is_some p) 1 0 in
-    let before : count_by is_some (take (suc n) (p ∷ ps)) ≡ here + count_by is_some (take n ps) =
-    sum_by-cons (λ q. cond (is_some q) 1 0) p (take n ps) in
-    let shared : (a b : ℕ) → (here + (a + b)) ≡ ((here + a) + b) = λ a b. omega arith in
-    sum_by-cons (λ q. cond (is_some q) 1 0) p (take (suc n) ps) ∙ ap (λ k. here + k) on
-    ∙ shared (count_by is_some (take n ps)) (cond (is_held (slice_get ps n)) 1 0)
-    ∙ ap (λ k. k + cond (is_held (slice_get ps n)) 1 0) (sym before)
-
 -- a place without a send is free
 pub place-free : (n : ℕ) (ps : List Place) → is_held (slice_get ps n) ≡ false → n < length ps → slice_get ps n ≡ Some None
 place-free n [] h lt = absurd (omega arith)
 place-free zero (None ∷ ps) h lt = refl
 place-free zero (Some p ∷ ps) h lt = cc
 place-free (suc n) (p ∷ ps) h lt = place-free n ps h (omega arith)
-
--- and one with a send has it
-pub place-held : (n : ℕ) (ps : List Place) → is_held (slice_get ps n) ≡ true → n < length ps
-place-held n [] h = cc
-place-held zero (p ∷ ps) h = omega arith
-place-held (suc n) (p ∷ ps) h = let r = place-held n ps h in omega (arith, r)

@@ -3,4 +3,5 @@ pub mod Laws
 pub mod Lists
 pub mod Opened
 pub mod Refusal
+pub mod Slots
 pub mod Table

@@ -1,6 +1,6 @@
 -- The table of a port's unfinished sends: a place for each token, by its number.
 use Rattle.std.specs.Prelude.{◌≡◌, ℕ, suc, ◌≤◌, Bool, false, List, [], ◌∷◌, length, nat_eq, Option, Some, None, is_some}
-use Rattle.std.specs.Prelude.{Vec, vec_capacity, map}
+use Rattle.std.specs.Prelude.{Vec, vec_capacity, map, option_map}
 use Rattle.std.specs.List.{AllByRecursion}
 use Rattle.std.specs.declared.alloc.Global.{Global}
 use Rattle.gm_defs.specs.Token.{Sending}
@@ -29,13 +29,18 @@ held_in (None ∷ ps) = held_in ps
 held_in (Some e ∷ ps) = e ∷ held_in ps
 
 -- each place is free
-abbrev pub AreFree : List Place → Type 0
+abbrev pub AreFree : {X : Type 0} → List (Option X) → Type 0
 AreFree ps = AllByRecursion (λ p. p ≡ None) ps
 
 -- a place has a token
 abbrev pub is_held : Option Place → Bool
 is_held None = false
 is_held (Some p) = is_some p
+
+-- the buffer of a place's send
+abbrev pub buffer_in : Option Place → Option (List ℕ)
+buffer_in None = None
+buffer_in (Some p) = option_map (λ e. e.1) p
 
 -- the numbers of unfinished sends
 abbrev pub sending_numbers : List Sending → List ℕ

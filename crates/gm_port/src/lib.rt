@@ -19,6 +19,7 @@
 //! | `ask` | what is asked and refused |
 //! | `event` | events, and what an abandoned port hands back |
 //! | `sends` | the queue: unfinished sends by token |
+//! | `slots` | where a send's token and buffer lie: the slots of a slab |
 //! | `buffers` | the provided tokens |
 //! | `events` | the queue of events |
 //! | `port` | the port |
@@ -32,6 +33,7 @@ mod events;
 mod laws;
 mod port;
 mod sends;
+mod slots;
 
 pub use ask::{CloseRefusal, ProvideRefusal, SendAsk, SendRefusal};
 pub use event::{PortEvent, Wreck};

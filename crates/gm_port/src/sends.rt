@@ -1,7 +1,7 @@
 //! The unfinished sends of a port.
 //!
-//! A send's token and buffer lie at the token's number, which is the send's ticket. So a ticket needs no table of its
-//! own, and who knows a token knows its ticket.
+//! A send's ticket is the number of its token, so who knows a token knows its ticket: a slab doesn't tell which key it
+//! gives out next, and a port's next state is one value. `slots` says where token and buffer lie.
 //!
 //! ```text
 //!   ticket       0      1      2
@@ -10,26 +10,24 @@
 //!            +------+------+------+
 //! ```
 
-ghost use Rattle.std.specs.Prelude.{◌≡◌, ◌<◌, ◌≤◌, [], length, map, find, true, false, None, Some, IsSome, is_some};
-ghost use Rattle.std.specs.Prelude.{IfOk, slice_get, slice_set, option_map, vec_capacity};
-ghost use Rattle.std.specs.List.{count_by};
+ghost use Rattle.std.specs.Prelude.{◌≡◌, ◌<◌, [], length, map, find, false, Some, IsSome, IfOk, option_map};
 ghost use Rattle.gm_defs.specs.Token.{has_number};
 ghost use Rattle.gm_defs.specs.Port.{with_send, without_first};
 ghost use Rattle.gm_tokens.specs.Token.{token_at};
 ghost use Rattle.gm_port.specs.Held.{send_at};
-ghost use Rattle.gm_port.specs.Table.{AreFree, held_in, is_held, is_of, sending_numbers};
+ghost use Rattle.gm_port.specs.Table.{is_of, sending_numbers};
 
+use crate::slots::SendSlots;
 use gm_tokens::SendToken;
 use reg_mem::Reg;
 use std::alloc::{AllocError, Global};
-use std::collections::VecDeque;
 use std::marker::Model;
 
 /// The unfinished sends of a port, with room for one of each of its tokens.
 pub(crate) struct SendQueue {
     host: u16,
     port: u8,
-    places: Vec<Option<(SendToken, Reg)>>,
+    places: SendSlots,
     // Empty: the list in which the sends are handed back.
     listed: Vec<(SendToken, Reg)>,
 }
@@ -45,11 +43,11 @@ impl Model for SendQueue {
     ghost view = { λ q. record {
       host = q.host;
       port = q.port;
-      limit = length q.places.items;
-      sends = sends_of q.places.items;
+      limit = length q.places;
+      sends = sends_of q.places;
     } };
 
-    ghost invariant = { λ q. IsQueue q.host q.port q.places.items q.listed };
+    ghost invariant = { λ q. IsQueue q.host q.port q.places q.listed };
 }
 
 impl SendQueue {
@@ -64,7 +62,7 @@ impl SendQueue {
     {
         let limit = usize::from(limit);
         let listed = Vec::with_capacity(alloc, limit)?;
-        match free_places(alloc, limit) {
+        match SendSlots::with_room(alloc, limit) {
             Ok(places) => Ok(SendQueue {
                 host,
                 port,
@@ -94,14 +92,14 @@ impl SendQueue {
     pub(crate) fn len(&self) -> usize
         ensures { result ≡ length self.now.sends }
     {
-        count_sends(&self.places)
+        self.places.len()
     }
 
     /// Whether the send of this number isn't finished.
     pub(crate) fn has(&self, number: u16) -> bool
         ensures { result ≡ has_number (sending_numbers self.now.sends) number }
     {
-        has_send(&self.places, usize::from(number))
+        self.places.has(usize::from(number))
     }
 
     /// The buffer of a ticket's send.
@@ -109,10 +107,7 @@ impl SendQueue {
         requires { IsSome (find (is_of ticket) self.now.sends) }
         ensures { option_map (λ s. s.buffer) (find (is_of ticket) self.now.sends) ≡ Some result.now }
     {
-        match &self.places[ticket] {
-            Some((_, buffer)) => buffer.bytes(),
-            None => unreachable!(),
-        }
+        self.places.buffer(ticket)
     }
 
     /// Takes a send in, and gives its ticket.
@@ -127,7 +122,7 @@ impl SendQueue {
         ensures ticket { result ≡ token.number }
     {
         let ticket = usize::from(token.number());
-        put(&mut self.places, ticket, (token, buffer));
+        self.places.put(ticket, token, buffer);
         ticket
     }
 
@@ -138,7 +133,7 @@ impl SendQueue {
         ensures taken { option_map (send_at self.old.host self.old.port) (find (is_of ticket) self.old.sends)
             ≡ Some result }
     {
-        take(&mut self.places, ticket)
+        self.places.take(ticket)
     }
 
     /// All sends, by the rising numbers of their tokens. Takes no memory.
@@ -151,82 +146,6 @@ impl SendQueue {
             places,
             listed,
         } = self;
-        list_places(places, listed)
+        places.into_list(listed)
     }
-}
-
-// So many places, all free.
-fn free_places(alloc: Global, count: usize) -> Result<Vec<Option<(SendToken, Reg)>>, AllocError>
-    ensures free { IfOk result (λ v. AreFree v.items) }
-    ensures count { IfOk result (λ v. length v.items ≡ count) }
-{
-    let mut places = Vec::with_capacity(alloc, count)?;
-    for _ in 0..count {
-        places.push_reserved(None);
-    }
-    Ok(places)
-}
-
-// How many places have a send.
-fn count_sends(places: &[Option<(SendToken, Reg)>]) -> usize
-    ensures { result ≡ count_by is_some places.now }
-{
-    let mut count = 0;
-    for at in 0..places.len() {
-        if has_send(places, at) {
-            count += 1;
-        }
-    }
-    count
-}
-
-// Whether a place has a send.
-fn has_send(places: &[Option<(SendToken, Reg)>], at: usize) -> bool
-    ensures { result ≡ is_held (slice_get places.now at) }
-{
-    match places.get(at) {
-        Some(place) => place.is_some(),
-        None => false,
-    }
-}
-
-// Puts a send into a free place.
-fn put(places: &mut Vec<Option<(SendToken, Reg)>>, at: usize, send: (SendToken, Reg))
-    requires { slice_get places.old.items at ≡ Some None }
-    ensures { places.new.items ≡ slice_set places.old.items at (Some send) }
-{
-    if let Some(_lost) = places[at].replace(send) {
-        unreachable!();
-    }
-}
-
-// Takes a send out of its place.
-fn take(places: &mut Vec<Option<(SendToken, Reg)>>, at: usize) -> (SendToken, Reg)
-    requires { is_held (slice_get places.old.items at) ≡ true }
-    ensures rest { places.new.items ≡ slice_set places.old.items at None }
-    ensures taken { slice_get places.old.items at ≡ Some (Some result) }
-{
-    match places[at].take() {
-        Some(send) => send,
-        None => unreachable!(),
-    }
-}
-
-// Moves all sends into a list, in their order.
-fn list_places(
-    places: Vec<Option<(SendToken, Reg)>>,
-    mut listed: Vec<(SendToken, Reg)>,
-) -> Vec<(SendToken, Reg)>
-    requires empty { listed.items ≡ [] }
-    requires room { length places.items ≤ vec_capacity listed }
-    ensures { result.items ≡ held_in places.items }
-{
-    let mut rest = VecDeque::from_vec(places);
-    while let Some(place) = rest.pop_front() {
-        if let Some(send) = place {
-            listed.push_reserved(send);
-        }
-    }
-    rest.destroy_empty();
-    listed
 }

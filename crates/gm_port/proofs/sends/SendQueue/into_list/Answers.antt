@@ -4,4 +4,4 @@ use Rattle.gm_port.proofs.sends.SendQueue.into_list.Goals as goal
 
 pub returns : goal.returns
 returns c =
-    c.list_places.ensures ∙ list-seen _ _ c.self.inside.places.items c.self.inside.listed c.self.invariant c.args.self c.self.view_is
+    c.into_list.ensures ∙ list-seen _ _ c.self.inside.places c.self.inside.listed c.self.invariant c.args.self c.self.view_is
