@@ -1,10 +1,11 @@
-//! Tests of calls of connections, ports and streams that no worked text reaches, and worked examples of the bytes of
-//! packets. Nothing stands on it.
+//! Tests of calls of connections, ports, installations and streams that no worked text reaches, and worked examples of
+//! the bytes of packets. Nothing stands on it.
 //!
 //! | module | has |
 //! |---|---|
 //! | `examples` | the bytes of frames, probes and tables |
 //! | `connections` | a connection at its last number, and a message in two fragments |
+//! | `installing` | a part of a table as bytes, and what an installation awaits |
 //! | `ports` | a port that is filling, and a buffer that parts from its message |
 //! | `numbers` | offsets of ports, texts of faults |
 //! | `packets` | a byte's share in a CRC, a packet that is stripped, and bodies written as they were read |
@@ -14,6 +15,8 @@
 #[cfg(test)]
 mod connections;
 mod examples;
+#[cfg(test)]
+mod installing;
 #[cfg(test)]
 mod numbers;
 #[cfg(test)]
