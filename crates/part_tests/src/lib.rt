@@ -5,7 +5,7 @@
 //! |---|---|
 //! | `examples` | the bytes of frames, probes and tables |
 //! | `connections` | a connection at its last number, and a message in two fragments |
-//! | `installing` | a part of a table as bytes, and what an installation awaits |
+//! | `installing` | what an installation awaits first |
 //! | `ports` | a port that is filling, and a buffer that parts from its message |
 //! | `numbers` | offsets of ports, texts of faults |
 //! | `packets` | a byte's share in a CRC, a packet that is stripped, and bodies written as they were read |
