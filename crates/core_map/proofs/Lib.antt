@@ -1,8 +1,14 @@
+pub mod Beginning
 pub mod ByPaths
 pub mod Covering
-pub mod Cutting
+pub mod Entering
+pub mod Hung
 pub mod Leaning
+pub mod Leaving
 pub mod Marking
 pub mod Nearing
+pub mod Passing
 pub mod Sides
 pub mod Spreading
+pub mod Stepping
+pub mod Walks

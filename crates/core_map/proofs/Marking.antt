@@ -11,7 +11,7 @@ use Rattle.journal_defs.proofs.Reach.{among-parts, among-self}
 use Rattle.map_defs.specs.declared.vertex.MapCable.{MapCable}
 use Rattle.map_defs.specs.NetMap.{NetMap, IsMap, host_of_vertex, is_switch_vertex}
 use Rattle.map_defs.specs.Core.{side, is_hostless, hostless_side, cut_off, cut_off_by, is_outside, core_of}
-use Rattle.core_map.specs.Marks.{marks_of, either, outside_of, outside_by}
+use Rattle.core_map.specs.Marks.{marks_of, either, outside_of}
 use Rattle.core_map.proofs.Sides.{map-at, long-numbers, side-low}
 
 -- marks of either of two lists are those of both together
@@ -43,23 +43,6 @@ no_marks m =
 
 pub long-marks : (m : NetMap) (vs : List ℕ) → length (marks_of m vs) ≡ length m.vertices
 long-marks m vs = long-numbers (is_among nat_eq vs) (length m.vertices)
-
--- marks with none more
-either-none : (bs : List Bool) (n : ℕ) (f : ℕ → Bool) (ns : List ℕ) → ((u : ℕ) → f u ≡ false) → either bs (map f ns) ≡ bs
-either-none bs n f [] none = last bs
-  where
-    last : (cs : List Bool) → either cs [] ≡ cs
-    last [] = refl
-    last (c ∷ cs) = refl
-either-none [] n f (k ∷ ns) none = refl
-either-none (b ∷ bs) n f (k ∷ ns) none = λ i. (ap (λ c. b || c) (none k) ∙ or-false b) i ∷ either-none bs n f ns none i
-  where
-    or-false : (c : Bool) → (c || false) ≡ c
-    or-false true = refl
-    or-false false = refl
-
-pub marks-none : (m : NetMap) (bs : List Bool) → either bs (marks_of m []) ≡ bs
-marks-none m bs = either-none bs 0 (λ u. false) (numbers_below (length m.vertices)) (λ u. refl)
 
 -- either at a place
 pub either-at : (bs cs : List Bool) (k : ℕ) → length bs ≡ length cs → get_or (either bs cs) k false ≡ (get_or bs k false || get_or cs k false)
@@ -161,23 +144,6 @@ cut-low m k c r lv lw there u e = by (is_switch_vertex m c.v && is_switch_vertex
         two (inl p) = hostless-low m k c.v r lv u p
         two (inr p) = hostless-low m k c.w r lw u p
     by false f = absurd (false≢true f)
-
-pub any-push : (test : ℕ → Bool) (xs : List ℕ) (x : ℕ) → list_any test (xs ++ x ∷ []) ≡ (list_any test xs || test x)
-any-push test [] x = by (test x)
-  where
-    by : (b : Bool) → (b || false) ≡ b
-    by true = refl
-    by false = refl
-any-push test (y ∷ ys) x = by (test y) (any-push test ys x)
-  where
-    by : (b : Bool) → list_any test (ys ++ x ∷ []) ≡ (list_any test ys || test x) → (b || list_any test (ys ++ x ∷ [])) ≡ ((b || list_any test ys) || test x)
-    by true e = refl
-    by false e = e
-
-pub outside-more : (m : NetMap) (k : ℕ) → either (outside_by m k) (marks_of m (cut_off_by m k)) ≡ outside_by m (k + 1)
-outside-more m k =
-    either-map (λ u. list_any (λ i. is_among nat_eq (cut_off_by m i) u) (numbers_below k)) (is_among nat_eq (cut_off_by m k)) (numbers_below (length m.vertices))
-    ∙ map-alike (λ u. list_any (λ i. is_among nat_eq (cut_off_by m i) u) (numbers_below k) || is_among nat_eq (cut_off_by m k) u) (λ u. list_any (λ i. is_among nat_eq (cut_off_by m i) u) (numbers_below (k + 1))) (numbers_below (length m.vertices)) (λ u. sym (ap (λ ns. list_any (λ i. is_among nat_eq (cut_off_by m i) u) ns) (ap numbers_below (add-one k)) ∙ any-push (λ i. is_among nat_eq (cut_off_by m i) u) (numbers_below k) k))
 
 map-map : (f : Bool → Bool) (g : ℕ → Bool) (ns : List ℕ) → map f (map g ns) ≡ map (λ u. f (g u)) ns
 map-map f g [] = refl

@@ -22,24 +22,8 @@ pub record IsBetweenSwitches (m : NetMap) (k : ℕ) : Type 0 where
 abbrev pub Lasts : NetMap → ℕ → Type 0
 Lasts m v = (k : ℕ) → IsBetweenSwitches m k → HasHostWithout m k v
 
--- There is a mark for each vertex, and those with one last.
-pub record AreLasting (m : NetMap) (marks : List Bool) : Type 0 where
-  pub long : length marks ≡ length m.vertices
-  pub lasts : (v : ℕ) → slice_index_or marks v false ≡ true → Lasts m v
-
 -- The cable of a number joins two vertices, one way or the other.
 pub record IsJoinedBy (m : NetMap) (i v w : ℕ) : Type 0 where
   pub cable : MapCable
   pub there : slice_get m.cables i ≡ Some cable
   pub ends : ((cable.v ≡ v) × (cable.w ≡ w)) ⊎ ((cable.w ≡ v) × (cable.v ≡ w))
-
--- The cable of a number joins a vertex to one that lasts.
-pub record LeansOn (m : NetMap) (i v : ℕ) : Type 0 where
-  pub other : ℕ
-  pub joined : IsJoinedBy m i v other
-  pub lasts : Lasts m other
-
--- There is a note for each vertex, and of those with one a cable below a number joins each to one that lasts.
-pub record AreNoted (m : NetMap) (end : ℕ) (notes : List Bool) : Type 0 where
-  pub long : length notes ≡ length m.vertices
-  pub leans : (v : ℕ) → slice_index_or notes v false ≡ true → (i : ℕ) × (i < end) × LeansOn m i v

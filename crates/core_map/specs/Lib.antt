@@ -1,3 +1,5 @@
+pub mod Hanging
 pub mod Lasting
 pub mod Laws
 pub mod Marks
+pub mod Walking

@@ -51,13 +51,3 @@ either (b ∷ bs) (c ∷ cs) = (b || c) ∷ either bs cs
 -- for each vertex whether some cable cuts it off
 abbrev pub outside_of : NetMap → List Bool
 outside_of m = map (is_outside m) (numbers_below (length m.vertices))
-
--- marks of what the cables below a number cut off
-abbrev pub outside_by : NetMap → ℕ → List Bool
-outside_by m k = map (λ u. list_any (λ i. is_among nat_eq (cut_off_by m i) u) (numbers_below k))
-    (numbers_below (length m.vertices))
-
--- marks with those of the side of a vertex without a cable, if it has no host; nothing is added where the vertex is
--- marked already
-abbrev pub with_side : NetMap → ℕ → ℕ → List Bool → List Bool
-with_side m k v bs = if slice_index_or bs v false then bs else either bs (marks_of m (hostless_side m k v))

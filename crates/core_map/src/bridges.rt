@@ -1,16 +1,15 @@
 //! Switch bridges, what they cut off, and the marks of the core.
 
-ghost use Rattle.std.specs.Prelude.{◌≡◌, ℕ, ◌<◌, ◌+◌, ◌++◌, ◌∷◌, [], Bool, true, false, not, map, length, is_some};
+ghost use Rattle.std.specs.Prelude.{◌≡◌, ℕ, ◌<◌, ◌^◌, ◌++◌, ◌∷◌, [], Bool, true, false, not, map, length, is_some};
 ghost use Rattle.std.specs.Prelude.{slice_get, slice_index_or, if◌then◌else◌, Some, IfOk, OnOk, OnErr};
 ghost use Rattle.std.specs.List.{list_any};
 ghost use Rattle.map_defs.specs.NetMap.{IsMap, host_of_vertex, is_switch_vertex};
 ghost use Rattle.map_defs.specs.Core.{bridges_of, core_of, cut_off_by, hostless_side, is_hostless, is_switch_bridge};
 ghost use Rattle.map_defs.specs.Core.{side};
 ghost use Rattle.fabric_map.specs.Growing.{with_core};
-ghost use Rattle.core_map.specs.Lasting.{AreLasting, IsBetweenSwitches};
-ghost use Rattle.core_map.specs.Marks.{marks_of, either, joins_host, outside_of, outside_by, with_side};
+ghost use Rattle.core_map.specs.Marks.{marks_of, either, joins_host, outside_of};
 
-use crate::lasting::lasting;
+use crate::outside::outside;
 use crate::side::side;
 use fabric_map::{FabricMap, MapCable, MapVertex};
 use std::alloc::{AllocError, Global};
@@ -53,69 +52,6 @@ fn flipped(alloc: Global, marks: &[bool]) -> Result<Vec<bool>, AllocError>
     ensures { IfOk result (λ others. others.items ≡ map not marks.now) }
 {
     marks.iter().map(|mark| !*mark).collect(alloc)
-}
-
-// For each vertex, whether some cable cuts it off.
-fn outside(alloc: Global, m: &FabricMap) -> Result<Vec<bool>, AllocError>
-    ensures { IfOk result (λ outside. outside.items ≡ outside_of m.now) }
-{
-    let lasting = lasting(alloc, m)?;
-    let mut outside = no_marks(alloc, m)?;
-    for k in 0..m.cables().len() {
-        add_cut_off(alloc, m, k, &lasting, &mut outside)?;
-    }
-    Ok(outside)
-}
-
-// Marks what a cable cuts off, beside what the cables before it cut off.
-fn add_cut_off(
-    alloc: Global,
-    m: &FabricMap,
-    k: usize,
-    lasting: &[bool],
-    outside: &mut [bool],
-) -> Result<(), AllocError>
-    requires cable { k < length m.now.cables }
-    requires lasting { AreLasting m.now lasting.now }
-    requires before { outside.old ≡ outside_by m.now k }
-    ensures { OnOk result (outside.new ≡ outside_by m.now (k + 1)) }
-{
-    let c = cable_at(m, k);
-    if is_switch(m, c.v) && is_switch(m, c.w) {
-        add_side(alloc, m, k, c.v, lasting, outside)?;
-        add_side(alloc, m, k, c.w, lasting, outside)?;
-    }
-    Ok(())
-}
-
-// Marks the side of a vertex without a cable between two switches, if it has no host. The side of a vertex that lasts
-// has one, and what an earlier cable cuts off is marked by that: in both cases nothing is searched.
-fn add_side(
-    alloc: Global,
-    m: &FabricMap,
-    k: usize,
-    v: u32,
-    lasting: &[bool],
-    outside: &mut [bool],
-) -> Result<(), AllocError>
-    requires cable { k < length m.now.cables }
-    requires between { IsBetweenSwitches m.now k }
-    requires vertex { v < length m.now.vertices }
-    requires lasting { AreLasting m.now lasting.now }
-    requires long { length outside.old ≡ length m.now.vertices }
-    ensures added { OnOk result (outside.new ≡ with_side m.now k v outside.old) }
-    ensures same { length outside.new ≡ length outside.old }
-{
-    let _ = m.vertices();
-    if lasting[v as usize] {
-        return Ok(());
-    }
-    if outside[v as usize] {
-        return Ok(());
-    }
-    let cut = hostless_side(alloc, m, k, v)?;
-    add_marks(outside, &cut);
-    Ok(())
 }
 
 // Adds a number, if it is to be.
@@ -230,6 +166,7 @@ pub(crate) fn cable_at(m: &FabricMap, k: usize) -> MapCable
     ensures first { result.v < length m.now.vertices }
     ensures second { result.w < length m.now.vertices }
     ensures is_map { IsMap m.now }
+    ensures few { length m.now.cables < 2 ^ 32 }
 {
     m.cables()[k]
 }

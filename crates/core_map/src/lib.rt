@@ -3,15 +3,17 @@
 //! It removes nothing from the map. `specs/Core.antt` of `map_defs` says what a switch bridge is, and which vertices
 //! it cuts off; `specs/Laws.antt` says the same by paths.
 //!
-//! Each cable between two switches is tried: without it, a search from either end. With c cables and paths of at most
-//! d cables from vertex to vertex that is some 2 c c d steps: nothing for a fabric of a few hundred cables. For the
-//! core nothing is searched from a vertex that a cable before cut off, so that a map that is almost all outside takes
-//! few searches, nor from one that two cables join to switches with hosts, so that a tree of switches takes none.
+//! The core takes one depth-first walk over the cables from the hosts, in steps as many as vertices and cables;
+//! `specs/Walking.antt` says what is known of a vertex when the walk is done with it. For the list of switch bridges each
+//! cable between two switches is tried: without it, a search from either end, where no host is near.
 //!
 //! | module | has |
 //! |---|---|
+//! | `sources` | where the walk begins: hosts, and what is beside them |
+//! | `cables_at` | the cables at each vertex |
+//! | `walk` | the walk: numbers, and which vertices their entry cable cuts off |
+//! | `outside` | what hangs by a cable that cuts it off |
 //! | `side` | what is left joined to a vertex without a cable |
-//! | `lasting` | vertices that no cable between two switches cuts off from all hosts |
 //! | `bridges` | what a cable cuts off, switch bridges, core marks |
 //! | `laws` | that what is marked is what paths say |
 //!
@@ -23,9 +25,12 @@
 #![tactic(auto)]
 
 mod bridges;
-mod lasting;
+mod cables_at;
 mod laws;
+mod outside;
 mod side;
+mod sources;
+mod walk;
 
 pub use bridges::{mark_core, switch_bridges};
 pub use laws::core_is_by_paths;
