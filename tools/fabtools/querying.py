@@ -2,7 +2,7 @@
 
 from fabtools import meanings, waiting
 from fabtools.explained import LineFacts, MapFacts, RoutesFacts
-from fabtools.report import CircuitMap, Map, Routes
+from fabtools.report import CircuitMap, Map, Routes, Shown
 from fabtools.routing import Routed, channel_text, end_text, load_facts, shortest_way, way_text
 
 
@@ -11,6 +11,9 @@ class NoSuchThing(Exception):
 
 
 def facts(fabric, report, asked):
+    stranger = next((it for it in hosts_of(report) if it not in fabric.hosts), None)
+    if stranger:
+        raise NoSuchThing(f"the report isn't that of this text, which has no host {stranger}")
     if asked.pair:
         return Pair(last_routes(fabric, report), *asked.pair)
     if asked.cable:
@@ -18,6 +21,15 @@ def facts(fabric, report, asked):
     if asked.loads:
         return Loads(last_routes(fabric, report))
     return Whole(fabric, report, asked.brief)
+
+
+def hosts_of(report):
+    """The hosts that the maps and routes of a report name."""
+    for item in report.items:
+        if isinstance(item, Routes):
+            yield from (host for route in item.routes for host in route[:2])
+        elif isinstance(item, Shown):
+            yield from [item.host, *item.hosts()]
 
 
 def routed(fabric, items):
