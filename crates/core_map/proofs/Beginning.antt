@@ -1,5 +1,5 @@
 -- Links, where the walk begins, and what it has met in the end.
-use Rattle.std.proofs.Common.{◌≡◌, ◌≢◌, ◌<◌, ◌≤◌, ◌+◌, ℕ, zero, suc, List, [], ◌∷◌, ◌++◌, length, length-append, get_or, map, Bool, true, false, Option, Some, None, is_some, refl, ap, sym, ◌∙◌, subst, arith, nat_eq, if◌then◌else◌, get_or-set_same, ◌⊎◌, inl, inr}
+use Rattle.std.proofs.Common.{◌≡◌, ◌≢◌, ◌<◌, ◌≤◌, ◌+◌, ℕ, zero, suc, List, [], ◌∷◌, ◌++◌, length, length-append, get_or, map, Bool, true, false, Some, is_some, refl, ap, sym, ◌∙◌, subst, arith, nat_eq, if◌then◌else◌, get_or-set_same, ◌⊎◌, inl, inr}
 use Rattle.std.specs.Prelude.{slice_get, slice_index_or, slice_set}
 use Rattle.std.proofs.Math.ListN.{length-set}
 use Rattle.std.proofs.lemmas.List.{get_or-set_other, get_or_append_left}
@@ -7,13 +7,12 @@ use Rattle.std.proofs.lemmas.Bool.{false≢true, cases_order}
 use Rattle.std.proofs.lemmas.Bool.Decides.{Decides-eqb}
 use Rattle.std.proofs.lemmas.Option.{slice_get_within}
 use Rattle.journal_defs.specs.Counting.{numbers_below}
-use Rattle.journal_defs.specs.Edges.Steps.{start, step}
 use Rattle.map_defs.specs.declared.vertex.MapVertex.{MapVertex}
 use Rattle.map_defs.specs.declared.vertex.MapCable.{MapCable}
 use Rattle.map_defs.specs.NetMap.{NetMap, IsMap, host_of_vertex, host_at}
 use Rattle.core_map.specs.declared.walk.Step.{Step}
 use Rattle.core_map.specs.Lasting.{IsJoinedBy, Lasts}
-use Rattle.core_map.specs.Walking.{Links, AreLinked, IsLastAt, EndsAt, with_before, with_last, AreSources, with_source, host_number, WalkState, IsWalk, IsWalked, IsDone, IsOnPath, AreSeen, AreRoots, AreOrdered, HasGrown, number_in}
+use Rattle.core_map.specs.Walking.{Links, AreLinked, IsLastAt, EndsAt, with_before, with_last, AreSources, with_source, host_number, WalkState, IsWalk, IsWalked, IsDone, IsOnPath, AreSeen, HasGrown, number_in}
 use Rattle.core_map.specs.Hanging.{AreUnwalked, with_unmet}
 use Rattle.core_map.specs.Marks.{marks_of}
 use Rattle.core_map.proofs.Leaning.{lasts-beside}

@@ -1,14 +1,10 @@
 -- The cables that are left when one is taken away, and their edges.
-use Rattle.std.proofs.Common.{◌≡◌, ◌≢◌, ◌<◌, ◌+◌, ℕ, zero, suc, List, [], ◌∷◌, Some, refl, ap, sym, ◌∙◌, subst, arith, ◌⊎◌, inl, inr}
+use Rattle.std.proofs.Common.{◌≡◌, ◌≢◌, ℕ, zero, suc, List, [], ◌∷◌, Some, refl, ap, ◌∙◌, arith, ◌⊎◌, inl, inr}
 use Rattle.std.specs.Prelude.{slice_get}
-use Rattle.std.proofs.lemmas.Bool.{cases_order}
-use Rattle.journal_defs.specs.Edges.{IsEdge, Steps}
-use Rattle.journal_defs.specs.Edges.Steps.{start, step}
-use Rattle.journal_defs.proofs.Reach.{steps-join, steps-back}
+use Rattle.journal_defs.specs.Edges.{IsEdge}
 use Rattle.map_defs.specs.declared.vertex.MapCable.{MapCable}
 use Rattle.map_defs.specs.NetMap.{map_edges}
 use Rattle.map_defs.specs.Core.{without}
-use Rattle.core_map.proofs.Spreading.{IsReached}
 
 -- The cable of a number joins two vertices, one way or the other.
 pub record Joins (cs : List MapCable) (i v w : ℕ) : Type 0 where

@@ -1,16 +1,15 @@
 -- A step to a vertex that wasn't met keeps the walk.
-use Rattle.std.proofs.Common.{◌≡◌, ◌≢◌, ◌<◌, ◌≤◌, ◌+◌, ℕ, zero, suc, List, [], ◌∷◌, ◌++◌, length, length-append, get_or, set, Bool, true, false, Some, is_some, refl, ap, sym, ◌∙◌, subst, arith, nat_eq, get_or-set_same, ◌⊎◌, inl, inr}
-use Rattle.std.specs.Prelude.{slice_get, slice_index_or, slice_set}
+use Rattle.std.proofs.Common.{◌≡◌, ◌≢◌, ◌<◌, ◌≤◌, ◌+◌, ℕ, suc, List, [], ◌∷◌, ◌++◌, length, length-append, Bool, true, false, Some, refl, ap, sym, ◌∙◌, subst, arith, nat_eq, get_or-set_same, ◌⊎◌, inl, inr}
+use Rattle.std.specs.Prelude.{slice_get, slice_set}
 use Rattle.std.proofs.Math.ListN.{length-set}
 use Rattle.std.proofs.lemmas.List.{get_or-set_other}
 use Rattle.std.proofs.lemmas.Bool.{false≢true}
 use Rattle.std.proofs.lemmas.Bool.Decides.{Decides-eqb}
-use Rattle.std.proofs.lemmas.Option.{slice_get_within}
-use Rattle.map_defs.specs.NetMap.{NetMap, host_of_vertex}
+use Rattle.map_defs.specs.NetMap.{NetMap}
 use Rattle.core_map.specs.declared.walk.Step.{Step}
 use Rattle.core_map.specs.Lasting.{IsJoinedBy, Lasts}
-use Rattle.core_map.specs.Walking.{WalkState, IsWalk, IsStep, AreSteps, IsDone, LeadsTo, IsOnPath, IsFrom, EndsAt, IsLastAt, AreOrdered, AreRoots, number_in, unmet, weight, left_of, HasGrown, entered}
-use Rattle.core_map.specs.Walking.Around.{here, on}
+use Rattle.core_map.specs.Walking.{WalkState, IsWalk, IsStep, AreSteps, IsDone, IsOnPath, IsFrom, IsLastAt, AreOrdered, AreRoots, number_in, unmet, weight, HasGrown, entered}
+use Rattle.core_map.specs.Walking.Around.{here}
 use Rattle.core_map.proofs.Stepping.{joined-number}
 use Rattle.core_map.proofs.Walks.{num, Extends, extended-steps, extended-done, number-below, get-split, get-left, get-last, unmet-set}
 

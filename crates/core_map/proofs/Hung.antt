@@ -1,16 +1,15 @@
 -- What hangs by a cable is what that cable cuts off.
-use Rattle.std.proofs.Common.{◌≡◌, ◌≢◌, ◌<◌, ◌≤◌, ◌+◌, ℕ, zero, suc, List, [], ◌∷◌, length, get_or, Bool, true, false, ◌||◌, Option, Some, None, is_some, map, refl, ap, sym, ◌∙◌, subst, arith, nat_eq, get_or-set_same, ◌⊎◌, inl, inr}
+use Rattle.std.proofs.Common.{◌≡◌, ◌≢◌, ◌<◌, ◌≤◌, ◌+◌, ℕ, zero, suc, List, [], ◌∷◌, length, get_or, Bool, true, false, ◌||◌, Option, Some, None, is_some, refl, ap, sym, ◌∙◌, subst, arith, nat_eq, get_or-set_same, ◌⊎◌, inl, inr}
 use Rattle.std.specs.Prelude.{slice_get, slice_index_or, slice_set}
 use Rattle.std.proofs.Math.ListN.{length-set}
 use Rattle.std.proofs.lemmas.List.{ext_get_or, get_or-set_other}
 use Rattle.std.proofs.lemmas.Bool.{false≢true, cases_order}
 use Rattle.std.proofs.lemmas.Bool.Decides.{Decides-eqb}
-use Rattle.journal_defs.specs.Edges.{IsEdge, Steps}
+use Rattle.journal_defs.specs.Edges.{Steps}
 use Rattle.journal_defs.specs.Edges.Steps.{start, step}
 use Rattle.map_defs.specs.declared.vertex.MapVertex.{MapVertex}
 use Rattle.map_defs.specs.declared.vertex.MapVertex.TheVariants.{Host, Switch}
-use Rattle.map_defs.specs.declared.vertex.MapCable.{MapCable}
-use Rattle.map_defs.specs.NetMap.{NetMap, IsMap, map_edges, host_of_vertex, host_at, is_switch_vertex, switch_at}
+use Rattle.map_defs.specs.NetMap.{NetMap, map_edges, host_of_vertex, host_at, is_switch_vertex, switch_at}
 use Rattle.map_defs.specs.Core.{without, is_outside}
 use Rattle.core_map.specs.Laws.{IsJoinedWithout, IsCutOffBy}
 use Rattle.core_map.specs.Lasting.{IsJoinedBy, IsBetweenSwitches, HasHostWithout}
@@ -22,7 +21,7 @@ use Rattle.core_map.proofs.ByPaths.{outside_is_by_paths}
 use Rattle.core_map.proofs.Marking.{cable-low}
 use Rattle.core_map.proofs.Sides.{cables-low, map-at, long-numbers}
 use Rattle.core_map.proofs.Stepping.{joined-here, joined-on, joined-both, joined-back, joined-number, same-ends, without-edge}
-use Rattle.core_map.proofs.Walks.{num, number-below, same-number}
+use Rattle.core_map.proofs.Walks.{number-below, same-number}
 
 -- a host is there, or it isn't
 some-of : (o : Option ℕ) → is_some o ≡ true → (h : ℕ) × (o ≡ Some h)

@@ -1,22 +1,15 @@
 -- Vertices that no cable between two switches cuts off from all hosts.
-use Rattle.std.proofs.Common.{◌≡◌, ◌≢◌, ◌<◌, ◌+◌, ℕ, zero, suc, List, [], ◌∷◌, length, Bool, true, false, not, Option, Some, None, is_some, refl, ap, sym, ◌∙◌, subst, arith, nat_eq, if◌then◌else◌, ◌⊎◌, inl, inr}
-use Rattle.std.specs.Prelude.{slice_get, slice_index_or, slice_set}
-use Rattle.std.proofs.Math.ListN.{length-set}
+use Rattle.std.proofs.Common.{◌≡◌, ◌≢◌, ℕ, List, true, Option, Some, None, is_some, ap, sym, ◌∙◌, subst, ◌⊎◌, inl, inr}
+use Rattle.std.specs.Prelude.{slice_get}
 use Rattle.std.proofs.lemmas.Bool.{false≢true}
-use Rattle.std.proofs.lemmas.Bool.Decides.{Decides-eqb}
 use Rattle.journal_defs.specs.Edges.{IsEdge}
 use Rattle.journal_defs.specs.Edges.Steps.{start, step}
-use Rattle.journal_defs.proofs.Reach.{steps-join}
 use Rattle.map_defs.specs.declared.vertex.MapVertex.{MapVertex}
 use Rattle.map_defs.specs.declared.vertex.MapVertex.TheVariants.{Host, Switch}
 use Rattle.map_defs.specs.declared.vertex.MapCable.{MapCable}
-use Rattle.map_defs.specs.NetMap.{NetMap, IsMap, map_edges, host_at, host_of_vertex, switch_at, is_switch_vertex}
-use Rattle.map_defs.specs.Core.{without, side, is_hostless, hostless_side}
+use Rattle.map_defs.specs.NetMap.{NetMap, map_edges, host_at, host_of_vertex, switch_at, is_switch_vertex}
+use Rattle.map_defs.specs.Core.{without}
 use Rattle.core_map.specs.Lasting.{IsBetweenSwitches, Lasts, IsJoinedBy}
-use Rattle.core_map.specs.Marks.{marks_of, either, with_side}
-use Rattle.core_map.proofs.Spreading.{all-without, set-at}
-use Rattle.core_map.proofs.Sides.{cables-low, reached-within}
-use Rattle.core_map.proofs.Marking.{any-some, long-marks, marked-among, marks-none}
 use Rattle.core_map.proofs.Covering.{cable-edge}
 
 -- ---- which vertices last

@@ -1,23 +1,21 @@
 -- A step that is taken back keeps the walk.
-use Rattle.std.proofs.Common.{◌≡◌, ◌≢◌, ◌<◌, ◌≤◌, ◌+◌, ℕ, zero, suc, List, [], ◌∷◌, ◌++◌, length, get_or, set, Bool, true, false, Some, is_some, refl, ap, sym, ◌∙◌, subst, arith, nat_eq, nat_lt, if◌then◌else◌, get_or-set_same, ◌⊎◌, inl, inr}
-use Rattle.std.specs.Prelude.{slice_get, slice_index_or, slice_set}
-use Rattle.std.specs.List.{AllByRecursion}
+use Rattle.std.proofs.Common.{◌≡◌, ◌≢◌, ◌<◌, ◌≤◌, ◌+◌, ℕ, suc, List, [], ◌∷◌, length, Bool, true, false, is_some, refl, ap, sym, ◌∙◌, subst, arith, nat_eq, nat_lt, if◌then◌else◌, get_or-set_same, ◌⊎◌, inl, inr}
+use Rattle.std.specs.Prelude.{slice_index_or, slice_set}
 use Rattle.std.proofs.Math.ListN.{length-set}
 use Rattle.std.proofs.lemmas.List.{get_or-set_other}
 use Rattle.std.proofs.lemmas.Bool.{false≢true, cases_order}
 use Rattle.std.proofs.lemmas.Bool.Decides.{Decides-eqb, Decides-ltb}
-use Rattle.journal_defs.specs.Edges.{IsEdge, Steps}
+use Rattle.journal_defs.specs.Edges.{Steps}
 use Rattle.journal_defs.specs.Edges.Steps.{start, step}
 use Rattle.map_defs.specs.NetMap.{NetMap, map_edges, host_of_vertex}
 use Rattle.map_defs.specs.Core.{without}
 use Rattle.core_map.specs.declared.walk.Step.{Step}
 use Rattle.core_map.specs.Laws.{IsJoinedWithout}
 use Rattle.core_map.specs.Lasting.{IsJoinedBy}
-use Rattle.core_map.specs.Walking.{WalkState, IsWalk, IsStep, AreSteps, IsDone, IsHeld, LeadsTo, IsOnPath, IsFrom, EndsAt, Around, entries, lowered, lowered_first, with_path, weight, left_of, marked}
-use Rattle.core_map.specs.Walking.Around.{here, on}
-use Rattle.core_map.proofs.Stepping.{LeftBy, joined-back, same-ends, same-other, around-without, around-fewer, around-from, without-edge}
-use Rattle.core_map.proofs.Walks.{num, Extends, extended-done, number-below, same-number}
-use Rattle.core_map.proofs.Passing.{free-of, restepped, lowered-vertex}
+use Rattle.core_map.specs.Walking.{WalkState, IsWalk, IsStep, AreSteps, IsDone, IsHeld, LeadsTo, IsOnPath, IsFrom, entries, lowered_first, with_path, weight, left_of, marked}
+use Rattle.core_map.proofs.Stepping.{joined-back, same-ends, same-other, around-without, around-fewer, around-from, without-edge}
+use Rattle.core_map.proofs.Walks.{num, extended-done, number-below, same-number}
+use Rattle.core_map.proofs.Passing.{free-of, lowered-vertex}
 
 -- the walk without the step
 abbrev pub left_walk : WalkState → Step → WalkState

@@ -1,5 +1,5 @@
 -- Marks of vertices: of two lists together, of none, and whether one of them is a host.
-use Rattle.std.proofs.Common.{◌≡◌, ◌<◌, ◌≤◌, ◌+◌, ℕ, zero, suc, List, [], ◌∷◌, ◌++◌, map, length, replicate, get_or, Bool, true, false, not, ◌&&◌, ◌||◌, Some, is_some, refl, ap, sym, ◌∙◌, subst, true≢false, arith, nat_eq, if◌then◌else◌, add-one, ◌⊎◌, inl, inr}
+use Rattle.std.proofs.Common.{◌≡◌, ◌<◌, ◌≤◌, ℕ, zero, suc, List, [], ◌∷◌, ◌++◌, map, length, replicate, get_or, Bool, true, false, not, ◌&&◌, ◌||◌, Some, is_some, refl, ap, sym, ◌∙◌, subst, true≢false, arith, nat_eq, if◌then◌else◌, ◌⊎◌, inl, inr}
 use Rattle.std.specs.Prelude.{slice_get}
 use Rattle.std.specs.List.{AllByRecursion, list_any}
 use Rattle.std.proofs.lemmas.Bool.{false≢true, or_cases, cases_order}

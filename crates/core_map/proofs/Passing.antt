@@ -1,22 +1,15 @@
 -- A look at a cable to a vertex that was met, and a step that is taken back, keep the walk.
-use Rattle.std.proofs.Common.{◌≡◌, ◌≢◌, ◌<◌, ◌≤◌, ◌+◌, ℕ, zero, suc, List, [], ◌∷◌, ◌++◌, length, get_or, set, Bool, true, false, Some, is_some, refl, ap, sym, ◌∙◌, subst, arith, nat_eq, nat_lt, if◌then◌else◌, get_or-set_same, ◌⊎◌, inl, inr}
-use Rattle.std.specs.Prelude.{slice_get, slice_index_or, slice_set}
+use Rattle.std.proofs.Common.{◌≡◌, ◌≢◌, ◌<◌, ◌≤◌, ◌+◌, ℕ, suc, List, [], ◌∷◌, length, Bool, true, false, refl, ap, sym, ◌∙◌, subst, arith, nat_lt, if◌then◌else◌, ◌⊎◌, inl, inr}
 use Rattle.std.specs.List.{AllByRecursion}
-use Rattle.std.proofs.Math.ListN.{length-set}
-use Rattle.std.proofs.lemmas.List.{get_or-set_other}
 use Rattle.std.proofs.lemmas.Bool.{false≢true, cases_order}
-use Rattle.std.proofs.lemmas.Bool.Decides.{Decides-eqb, Decides-ltb}
-use Rattle.journal_defs.specs.Edges.{IsEdge, Steps}
-use Rattle.journal_defs.specs.Edges.Steps.{start, step}
-use Rattle.map_defs.specs.NetMap.{NetMap, map_edges, host_of_vertex}
-use Rattle.map_defs.specs.Core.{without}
+use Rattle.std.proofs.lemmas.Bool.Decides.{Decides-ltb}
+use Rattle.map_defs.specs.NetMap.{NetMap}
 use Rattle.core_map.specs.declared.walk.Step.{Step}
-use Rattle.core_map.specs.Laws.{IsJoinedWithout}
-use Rattle.core_map.specs.Lasting.{IsJoinedBy, Lasts}
-use Rattle.core_map.specs.Walking.{WalkState, IsWalk, IsStep, AreSteps, IsDone, IsHeld, LeadsTo, IsOnPath, IsFrom, EndsAt, IsLastAt, AreOrdered, AreRoots, Around, entries, lowered, lowered_first, with_path, weight, left_of, HasGrown}
+use Rattle.core_map.specs.Lasting.{IsJoinedBy}
+use Rattle.core_map.specs.Walking.{WalkState, IsWalk, IsStep, AreSteps, IsDone, LeadsTo, IsOnPath, EndsAt, IsLastAt, entries, lowered, with_path, weight}
 use Rattle.core_map.specs.Walking.Around.{here, on}
-use Rattle.core_map.proofs.Stepping.{joined-back, same-ends, same-other, around-without, around-fewer, around-from, without-edge}
-use Rattle.core_map.proofs.Walks.{num, number-below, same-number}
+use Rattle.core_map.proofs.Stepping.{same-ends, same-other}
+use Rattle.core_map.proofs.Walks.{num}
 
 -- entries of steps are of vertices with lower numbers than a bound: no cable at a vertex as high as that is one
 pub free-of : (m : NetMap) (ns ps : List ℕ) (b i v w : ℕ) (ss : List Step) → AreSteps m ns ps b ss → b ≤ num ns v → IsJoinedBy m i v w → AllByRecursion (λ k. k ≢ i) (entries ss)

@@ -1,11 +1,11 @@
 -- Cables of the walk, and paths that go round some.
-use Rattle.std.proofs.Common.{◌≡◌, ◌≢◌, ◌<◌, ◌≤◌, ◌+◌, ℕ, zero, suc, List, [], ◌∷◌, ◌++◌, length, Bool, true, false, Some, refl, ap, sym, ◌∙◌, subst, arith, nat_eq, if◌then◌else◌, ◌⊎◌, inl, inr}
+use Rattle.std.proofs.Common.{◌≡◌, ◌≢◌, ◌<◌, ◌≤◌, ◌+◌, ℕ, zero, suc, List, ◌∷◌, length, Bool, true, false, Some, refl, ap, sym, ◌∙◌, arith, nat_eq, if◌then◌else◌, ◌⊎◌, inl, inr}
 use Rattle.std.specs.Prelude.{slice_get}
 use Rattle.std.specs.List.{AllByRecursion}
 use Rattle.std.proofs.lemmas.Bool.{false≢true}
 use Rattle.std.proofs.lemmas.Bool.Decides.{Decides-eqb}
 use Rattle.std.proofs.lemmas.Option.{slice_get_within}
-use Rattle.journal_defs.specs.Edges.{IsEdge, Steps}
+use Rattle.journal_defs.specs.Edges.{IsEdge}
 use Rattle.journal_defs.specs.Edges.Steps.{start, step}
 use Rattle.journal_defs.proofs.Reach.{steps-join}
 use Rattle.map_defs.specs.declared.vertex.MapCable.{MapCable}

@@ -1,22 +1,12 @@
 -- The walk: what each of its moves keeps.
-use Rattle.std.proofs.Common.{◌≡◌, ◌≢◌, ◌<◌, ◌≤◌, ◌+◌, ℕ, zero, suc, List, [], ◌∷◌, ◌++◌, length, get_or, set, Bool, true, false, Option, Some, None, is_some, refl, ap, sym, ◌∙◌, subst, arith, nat_eq, nat_lt, if◌then◌else◌, get_or-set_same, ◌⊎◌, inl, inr}
+use Rattle.std.proofs.Common.{◌≡◌, ◌<◌, ◌≤◌, ◌+◌, ℕ, zero, suc, List, [], ◌∷◌, ◌++◌, length, Bool, false, Some, refl, ap, sym, ◌∙◌, subst, arith, ◌⊎◌, inl, inr}
 use Rattle.std.specs.Prelude.{slice_get, slice_index_or, slice_set}
-use Rattle.std.specs.List.{AllByRecursion}
-use Rattle.std.proofs.Math.ListN.{length-set}
-use Rattle.std.proofs.lemmas.List.{get_or-set_other}
-use Rattle.std.proofs.lemmas.Bool.{false≢true, cases_order}
-use Rattle.std.proofs.lemmas.Bool.Decides.{Decides-eqb, Decides-ltb}
+use Rattle.std.proofs.lemmas.Bool.{cases_order}
 use Rattle.std.proofs.lemmas.Option.{slice_get_within}
-use Rattle.journal_defs.specs.Edges.{IsEdge, Steps}
-use Rattle.journal_defs.specs.Edges.Steps.{start, step}
-use Rattle.map_defs.specs.NetMap.{NetMap, map_edges, host_of_vertex}
-use Rattle.map_defs.specs.Core.{without}
+use Rattle.map_defs.specs.NetMap.{NetMap}
 use Rattle.core_map.specs.declared.walk.Step.{Step}
-use Rattle.core_map.specs.Laws.{IsJoinedWithout}
-use Rattle.core_map.specs.Lasting.{IsJoinedBy, Lasts}
-use Rattle.core_map.specs.Walking.{WalkState, IsWalk, IsStep, AreSteps, IsDone, IsHeld, LeadsTo, IsOnPath, IsFrom, EndsAt, IsLastAt, AreOrdered, AreRoots, Around, entries, lowered, lowered_first, with_path, unmet, HasGrown}
-use Rattle.core_map.specs.Walking.Around.{here, on}
-use Rattle.core_map.proofs.Stepping.{joined-back, joined-number, same-ends, same-other, around-without, around-fewer, around-from, without-edge}
+use Rattle.core_map.specs.Lasting.{IsJoinedBy}
+use Rattle.core_map.specs.Walking.{IsStep, AreSteps, IsDone, IsHeld, IsFrom, AreOrdered, unmet}
 
 -- the number of a vertex
 abbrev pub num : List ℕ → ℕ → ℕ

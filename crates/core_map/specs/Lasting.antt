@@ -1,5 +1,5 @@
 -- Vertices that no cable between two switches cuts off from all hosts.
-use Rattle.std.specs.Prelude.{◌≡◌, ◌⊎◌, ℕ, ◌<◌, Bool, true, false, List, length, slice_get, slice_index_or, Some}
+use Rattle.std.specs.Prelude.{◌≡◌, ◌⊎◌, ℕ, true, slice_get, Some}
 use Rattle.std.specs.Prelude.{is_some}
 use Rattle.map_defs.specs.declared.vertex.MapCable.{MapCable}
 use Rattle.map_defs.specs.NetMap.{NetMap, host_of_vertex, is_switch_vertex}

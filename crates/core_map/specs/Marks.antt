@@ -1,12 +1,11 @@
 -- Marks of vertices: one of each, by number.
 use Rattle.std.specs.Prelude.{ℕ, Bool, true, false, ◌&&◌, ◌||◌, not, List, [], ◌∷◌, map, length, nat_eq, is_some}
 use Rattle.std.specs.Prelude.{slice_index_or, slice_set, if◌then◌else◌}
-use Rattle.std.specs.List.{list_any}
 use Rattle.journal_defs.specs.Counting.{numbers_below}
 use Rattle.journal_defs.specs.Edges.{is_among}
 use Rattle.map_defs.specs.declared.vertex.MapCable.{MapCable}
 use Rattle.map_defs.specs.NetMap.{NetMap, host_of_vertex}
-use Rattle.map_defs.specs.Core.{cut_off_by, hostless_side, is_outside}
+use Rattle.map_defs.specs.Core.{is_outside}
 
 -- whether each vertex of a map is among these
 abbrev pub marks_of : NetMap → List ℕ → List Bool

@@ -1,4 +1,4 @@
-use Rattle.std.proofs.Common.{◌≡◌, ◌+◌, Bool, List, ap, sym, subst, ◌∙◌}
+use Rattle.std.proofs.Common.{◌+◌, Bool, List, ap, sym, subst, ◌∙◌}
 use Rattle.core_map.specs.Hanging.{AreUnwalked, with_unmet}
 use Rattle.core_map.proofs.Beginning.{next-unwalked}
 use Rattle.core_map.proofs.outside.mark_unwalked_ends.Goals as goal

@@ -1,4 +1,4 @@
-use Rattle.std.proofs.Common.{◌≡◌, ◌+◌, List, ℕ, ap, sym, subst, ◌∙◌}
+use Rattle.std.proofs.Common.{◌+◌, List, ℕ, ap, sym, subst, ◌∙◌}
 use Rattle.core_map.specs.Walking.{AreSources, with_source}
 use Rattle.core_map.proofs.Beginning.{next-sources}
 use Rattle.core_map.proofs.sources.number_ends.Goals as goal

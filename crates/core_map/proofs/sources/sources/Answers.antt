@@ -1,4 +1,4 @@
-use Rattle.std.proofs.Common.{◌≡◌, ℕ, length, ap, subst, arith}
+use Rattle.std.proofs.Common.{◌≡◌, length, ap, subst, arith}
 use Rattle.core_map.specs.Walking.{AreSources}
 use Rattle.core_map.proofs.Beginning.{first-sources}
 use Rattle.core_map.proofs.sources.sources.Goals as goal

@@ -1,6 +1,6 @@
 -- The walk so far is on no way, and what the cables before lead to from hosts was met.
 use Rattle.std.proofs.Common.{◌≡◌, []}
-use Rattle.core_map.specs.Walking.{AreLinked, AreSeen, IsWalk}
+use Rattle.core_map.specs.Walking.{AreSeen, IsWalk}
 use Rattle.core_map.proofs.walk.walk_all.Given as goal
 
 abbrev pub invariant-loop-i : goal.invariant-loop-i

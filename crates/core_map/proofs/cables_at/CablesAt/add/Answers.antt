@@ -1,4 +1,4 @@
-use Rattle.std.proofs.Common.{◌≡◌, ◌+◌, ap, sym, subst, ◌∙◌}
+use Rattle.std.proofs.Common.{◌+◌, ap, sym, subst, ◌∙◌}
 use Rattle.core_map.specs.Walking.{Links, AreLinked, with_before, with_last}
 use Rattle.core_map.proofs.Beginning.{next-linked}
 use Rattle.core_map.proofs.cables_at.CablesAt.add.Goals as goal

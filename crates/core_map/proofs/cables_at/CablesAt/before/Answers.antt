@@ -1,4 +1,4 @@
-use Rattle.std.proofs.Common.{◌≡◌, ◌∙◌, sym, subst}
+use Rattle.std.proofs.Common.{sym, subst}
 use Rattle.std.specs.Prelude.{slice_index_or}
 use Rattle.core_map.specs.Walking.{IsLastAt}
 use Rattle.core_map.proofs.Stepping.{second-is}

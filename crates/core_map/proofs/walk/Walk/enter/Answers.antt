@@ -1,5 +1,5 @@
-use Rattle.std.proofs.Common.{◌≡◌, ◌<◌, sym, subst}
-use Rattle.core_map.specs.Walking.{IsWalk, WalkState, weight}
+use Rattle.std.proofs.Common.{◌<◌, sym, subst}
+use Rattle.core_map.specs.Walking.{IsWalk, weight}
 use Rattle.core_map.proofs.Entering.{entered-walk, entered-smaller}
 use Rattle.core_map.proofs.walk.Walk.enter.Goals as goal
 

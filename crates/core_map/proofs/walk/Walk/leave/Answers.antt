@@ -1,4 +1,4 @@
-use Rattle.std.proofs.Common.{◌≡◌, sym, subst, ap, ◌∙◌}
+use Rattle.std.proofs.Common.{sym, subst, ap, ◌∙◌}
 use Rattle.core_map.specs.Walking.{IsWalk, WalkState, with_path, lowered_first}
 use Rattle.core_map.proofs.Leaving.{left-walk}
 use Rattle.core_map.proofs.walk.Walk.leave.Goals as goal

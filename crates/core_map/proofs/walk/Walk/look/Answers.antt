@@ -1,7 +1,7 @@
 use Rattle.std.proofs.Common.{◌≡◌, ◌≢◌, ◌≤◌, ◌∷◌, ◌⊎◌, inl, inr, ap, sym, subst, ◌∙◌}
 use Rattle.core_map.specs.declared.walk.Step.{Step}
 use Rattle.core_map.specs.Lasting.{IsJoinedBy}
-use Rattle.core_map.specs.Walking.{IsWalk, WalkState, with_path, number_in}
+use Rattle.core_map.specs.Walking.{IsWalk, with_path, number_in}
 use Rattle.core_map.proofs.Stepping.{other-joined, joined-back, positive}
 use Rattle.core_map.proofs.Passing.{passed-walk}
 use Rattle.core_map.proofs.walk.Walk.look.Goals as goal

@@ -1,4 +1,4 @@
-use Rattle.std.proofs.Common.{◌≡◌, ◌∙◌, length, reverse, ap, rules}
+use Rattle.std.proofs.Common.{◌≡◌, length, reverse, ap, rules}
 use Rattle.core_map.proofs.Beginning.{first-walk}
 use Rattle.core_map.proofs.walk.Walk.new.Goals as goal
 
