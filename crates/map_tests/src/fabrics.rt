@@ -22,3 +22,8 @@ pub(crate) const TWO_HOSTS: &str =
 
 pub(crate) const SELF_CABLED: &str = "host a\nhost b\nswitch s 4\nswitch t 4\n\
     cable a 0 s 0\ncable b 0 s 1\ncable s 3 t 0\ncable t 1 t 2\nscript\n";
+
+pub(crate) const RING: &str = "host a\nhost b\nhost c\nhost d\n\
+    switch s0 4\nswitch s1 4\nswitch s2 4\nswitch s3 4\n\
+    cable s0 0 s1 1\ncable s1 0 s2 1\ncable s2 0 s3 1\ncable s3 0 s0 1\n\
+    cable a 0 s0 2\ncable b 0 s1 2\ncable c 0 s2 2\ncable d 0 s3 2\nscript\n";

@@ -3,6 +3,8 @@
 //! | module | has |
 //! |---|---|
 //! | `drowning` | a prober whose chosen asks drown |
+//! | `mapping` | a journal that a prober answers, and its map |
+//! | `ring` | the certificate over the map of the ring of four |
 //! | `numbering` | the numbering of a map |
 //! | `certificates` | what the check of a certificate answers |
 //! | `circuits` | a walk over circuit links, and the paths of a core |
@@ -19,6 +21,10 @@ mod drowning;
 #[cfg(test)]
 mod fabrics;
 #[cfg(test)]
+mod mapping;
+#[cfg(test)]
 mod numbering;
+#[cfg(test)]
+mod ring;
 #[cfg(test)]
 mod texts;
