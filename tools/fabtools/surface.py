@@ -1,4 +1,5 @@
-"""The public items of a crate, as its sources declare them: each call with its types, each type with its parts."""
+"""The public items of a crate, as its sources declare them and as the page of public calls has them: each call with its types, each type
+with its parts."""
 
 import re
 from pathlib import Path
@@ -6,7 +7,14 @@ from pathlib import Path
 USE = re.compile(r"^pub use ([\w:]+?)(?:::\{([^}]*)\}|::(\w+)(?: as (\w+))?);", re.M)
 ITEM = re.compile(r"^pub (?:const )?(fn|struct|enum|trait|const) (\w+)", re.M)
 BLOCK = re.compile(r"^impl(?:<[^>]*>)? (?:(\w+)(?:<[^>]*>)? for )?(\w+)(?:<[^>{]*>)? ?\{\n(.*?)^\}", re.M | re.S)
+SECTION = re.compile(r"^### `(\w+)`\n(.*?)(?=^###? |\Z)", re.M | re.S)
+LINES = re.compile(r"^```rust\n(.*?)^```$", re.M | re.S)
 CALL = re.compile(r"^    pub (?:const )?fn (\w+)", re.M)
+
+
+def listed(text):
+    """The lines of the page, by crate."""
+    return {name: [it for block in LINES.findall(body) for it in block.splitlines() if it] for name, body in SECTION.findall(text)}
 
 
 def plain(text):
