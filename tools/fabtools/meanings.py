@@ -1,6 +1,7 @@
-"""What the words of a report and an exit status mean, and what to do: refusals of commands and of calls, and what stays open."""
+"""What the words of a report and an exit status mean, and what to do."""
 
 from fabtools import fabric as fabrics
+from fabtools import refusals
 
 STATUS = {
     2: "the words of the command line are neither 'run' nor 'gen N SEED'; nothing was run",
@@ -11,27 +12,6 @@ STATUS = {
     7: "the text has more than 1,048,576 bytes, so nothing was run: cut it into runs",
     8: "the system refuses the words of the command line",
     132: "a check of the build failed, which the proved program rules out: please keep the text and report it",
-}
-
-REFUSED_COMMAND = {
-    ("map", "busy"): "a channel holds a packet: let the network settle first ('settle')",
-    ("routes", "nomap"): "no map was made, or the last one isn't complete: map again, deeper or with more tries",
-    ("install", "noroutes"): "no routes were computed: 'routes' must stand before it, behind a complete map",
-    ("install", "busy"): "a channel holds a packet: let the network settle first ('settle')",
-    ("install", "installed"): "other routes are installed already, and a run installs one set",
-}
-
-REFUSED_CALL = {
-    "already": "the port is open: 'close' it first",
-    "notopen": "the port isn't open: 'open' it first",
-    "notoken": "the client holds no token of that kind: open the port with more, or 'poll' for those that are due back",
-    "toolong": "a message has at most 65,528 bytes",
-    "noroute": "the host has no active table with a route there: 'install', again if a part was lost",
-    "spent": "the connection has no number left",
-    "badsize": "a SIZE is from 4 to 16",
-    "busy": "so many sends aren't acknowledged: 'settle', then 'poll' for them",
-    "unread": "so many events wait: 'poll' for them",
-    "filling": "so many messages came in part: 'settle', then 'poll' for them",
 }
 
 MAP_WORDS = {
@@ -82,7 +62,7 @@ def of_line(words):
     if "refused" in words[1:]:
         at = words.index("refused")
         cause = words[at + 1]
-        return REFUSED_COMMAND.get((words[0], cause)) or REFUSED_CALL.get(cause)
+        return refusals.meaning(words[0], cause)
     if words[0] == "circuit" and words[2] == "nodes":
         return "the tree of circuit answers got too large (65,536), so no map follows"
     if words[0] == "settle" and words[-1] != "0":
