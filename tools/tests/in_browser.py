@@ -80,7 +80,7 @@ def by_hand(chromium, folder):
 
 
 def dom(chromium, page, choice):
-    ran = subprocess.run([chromium, *FLAGS, "--dump-dom", f"file://{page}#{choice}"], capture_output=True, text=True, timeout=100)
+    ran = subprocess.run([chromium, *FLAGS, "--dump-dom", f"file://{page}#{choice}"], capture_output=True, text=True, timeout=600)
     return Dom(ran.stdout)
 
 
