@@ -1,5 +1,6 @@
 -- Marks of what a walk found to be outside.
-use Rattle.std.specs.Prelude.{◌≡◌, ℕ, ◌<◌, ◌≤◌, ◌+◌, true, false, Bool, List, length, slice_index_or, slice_set, nat_eq, if◌then◌else◌}
+use Rattle.std.specs.Prelude.{◌≡◌, ℕ, ◌<◌, ◌≤◌, ◌+◌, true, false, Bool, List, length, slice_index_or, slice_set}
+use Rattle.std.specs.Prelude.{nat_eq, if◌then◌else◌}
 use Rattle.map_defs.specs.NetMap.{NetMap}
 use Rattle.core_map.specs.Walking.{WalkState, EndsAt, Hangs, number_in}
 
@@ -20,5 +21,6 @@ pub record AreHanging (m : NetMap) (t : WalkState) (bound : ℕ) (marks : List B
   pub unmet : (v : ℕ) → number_in t v ≡ 0 → slice_index_or marks v false ≡ true → (i : ℕ) × EndsAt m i v
   pub unmet_all : (i v : ℕ) → EndsAt m i v → number_in t v ≡ 0 → slice_index_or marks v false ≡ true
   pub roots : (v : ℕ) → number_in t v ≡ 1 → slice_index_or marks v false ≡ false
-  pub some : (v : ℕ) → 2 ≤ number_in t v → number_in t v < bound + 2 → slice_index_or marks v false ≡ true → (k : ℕ) × Hangs m t k v
+  pub some : (v : ℕ) → 2 ≤ number_in t v → number_in t v < bound + 2 → slice_index_or marks v false ≡ true
+      → (k : ℕ) × Hangs m t k v
   pub all : (k v : ℕ) → number_in t v < bound + 2 → Hangs m t k v → slice_index_or marks v false ≡ true

@@ -1,7 +1,9 @@
 -- A depth-first walk over the cables of a map: numbers in the order in which vertices are met, the cable by which each
 -- was entered, and what its entry cable cuts off (low numbers, after Tarjan, SIAM Journal on Computing 1972).
-use Rattle.std.specs.Prelude.{◌≡◌, ◌≢◌, ◌⊎◌, ℕ, zero, suc, ◌<◌, ◌≤◌, ◌+◌, Bool, true, false, List, [], ◌∷◌, ◌++◌, length}
-use Rattle.std.specs.Prelude.{nat_eq, nat_lt, slice_get, slice_index_or, slice_set, if◌then◌else◌, Option, Some, None, is_some}
+use Rattle.std.specs.Prelude.{◌≡◌, ◌≢◌, ◌⊎◌, ℕ, zero, suc, ◌<◌, ◌≤◌, ◌+◌, Bool, true, false, List, [], ◌∷◌, ◌++◌}
+use Rattle.std.specs.Prelude.{length}
+use Rattle.std.specs.Prelude.{nat_eq, nat_lt, slice_get, slice_index_or, slice_set, if◌then◌else◌, Option, Some, None}
+use Rattle.std.specs.Prelude.{is_some}
 use Rattle.std.specs.List.{AllByRecursion}
 use Rattle.map_defs.specs.declared.vertex.MapCable.{MapCable}
 use Rattle.map_defs.specs.NetMap.{NetMap, IsMap, host_of_vertex}
@@ -21,7 +23,8 @@ pub record EndsAt (m : NetMap) (i v : ℕ) : Type 0 where
   pub other : ℕ
   pub joined : IsJoinedBy m i v other
 
--- Of the cables below a bound that end at a vertex, the last is the one before a number; where that is 0, there is none.
+-- Of the cables below a bound that end at a vertex, the last is the one before a number; where that is 0, there is
+-- none.
 pub record IsLastAt (m : NetMap) (v bound last : ℕ) : Type 0 where
   pub below : last ≤ bound
   pub ends : (i : ℕ) → last ≡ suc i → EndsAt m i v
@@ -34,16 +37,26 @@ pub record AreLinked (m : NetMap) (ls : Links) (bound : ℕ) : Type 0 where
   pub long_firsts : length ls.firsts ≡ bound
   pub long_seconds : length ls.seconds ≡ bound
   pub last : (v : ℕ) → v < length m.vertices → IsLastAt m v bound (slice_index_or ls.last v 0)
-  pub firsts : (i : ℕ) (c : MapCable) → i < bound → slice_get m.cables i ≡ Some c → IsLastAt m c.v i (slice_index_or ls.firsts i 0)
-  pub seconds : (i : ℕ) (c : MapCable) → i < bound → slice_get m.cables i ≡ Some c → IsLastAt m c.w i (slice_index_or ls.seconds i 0)
+  pub firsts : (i : ℕ) (c : MapCable) → i < bound → slice_get m.cables i ≡ Some c
+      → IsLastAt m c.v i (slice_index_or ls.firsts i 0)
+  pub seconds : (i : ℕ) (c : MapCable) → i < bound → slice_get m.cables i ≡ Some c
+      → IsLastAt m c.w i (slice_index_or ls.seconds i 0)
 
 -- the links with what is before the next cable at either end
 abbrev pub with_before : Links → ℕ → ℕ → Links
-with_before ls first second = record { last = ls.last; firsts = ls.firsts ++ first ∷ []; seconds = ls.seconds ++ second ∷ [] }
+with_before ls first second = record {
+  last = ls.last;
+  firsts = ls.firsts ++ first ∷ [];
+  seconds = ls.seconds ++ second ∷ [];
+}
 
 -- the links with a cable as the last at both of its ends
 abbrev pub with_last : Links → MapCable → ℕ → Links
-with_last ls c i = record { last = slice_set (slice_set ls.last c.v (i + 1)) c.w (i + 1); firsts = ls.firsts; seconds = ls.seconds }
+with_last ls c i = record {
+  last = slice_set (slice_set ls.last c.v (i + 1)) c.w (i + 1);
+  firsts = ls.firsts;
+  seconds = ls.seconds;
+}
 
 -- the end of a cable that isn't this one
 abbrev pub other_of : MapCable → ℕ → ℕ
@@ -56,7 +69,8 @@ pub record AreSources (m : NetMap) (numbers : List ℕ) (bound : ℕ) : Type 0 w
   pub long : length numbers ≡ length m.vertices
   pub small : (v : ℕ) → slice_index_or numbers v 0 < 2
   pub hosts : (v : ℕ) → is_some (host_of_vertex m v) ≡ true → slice_index_or numbers v 0 ≡ 1
-  pub beside : (i v w : ℕ) → i < bound → IsJoinedBy m i v w → is_some (host_of_vertex m w) ≡ true → slice_index_or numbers v 0 ≡ 1
+  pub beside : (i v w : ℕ) → i < bound → IsJoinedBy m i v w → is_some (host_of_vertex m w) ≡ true
+      → slice_index_or numbers v 0 ≡ 1
   pub lasts : (v : ℕ) → slice_index_or numbers v 0 ≡ 1 → Lasts m v
 
 -- 1 for a host, 0 for a switch
@@ -165,12 +179,14 @@ pub record IsStep (m : NetMap) (numbers parents : List ℕ) (bound : ℕ) (s : S
   pub most : s.low ≤ slice_index_or numbers s.vertex 0
   pub leads : LeadsTo m numbers (entries (s ∷ ss)) s.vertex s.low
   pub seen : (i w : ℕ) → s.next ≤ i → i ≢ s.entry → IsJoinedBy m i s.vertex w → s.low ≤ slice_index_or numbers w 0
-  pub beyond : (i v w : ℕ) → slice_index_or numbers s.vertex 0 < slice_index_or numbers v 0 → slice_index_or numbers v 0 < bound → IsJoinedBy m i v w → s.low ≤ slice_index_or numbers w 0
+  pub beyond : (i v w : ℕ) → slice_index_or numbers s.vertex 0 < slice_index_or numbers v 0
+      → slice_index_or numbers v 0 < bound → IsJoinedBy m i v w → s.low ≤ slice_index_or numbers w 0
 
 -- each step of a way
 abbrev pub AreSteps : NetMap → List ℕ → List ℕ → ℕ → List Step → Type 0
 AreSteps m numbers parents bound [] = Unit {0}
-AreSteps m numbers parents bound (s ∷ ss) = IsStep m numbers parents bound s ss × AreSteps m numbers parents (slice_index_or numbers s.vertex 0) ss
+AreSteps m numbers parents bound (s ∷ ss) = IsStep m numbers parents bound s ss
+    × AreSteps m numbers parents (slice_index_or numbers s.vertex 0) ss
 
 -- Without a cable a vertex is joined to one with a lower number.
 pub record IsHeld (m : NetMap) (numbers : List ℕ) (entry v : ℕ) : Type 0 where
@@ -179,19 +195,22 @@ pub record IsHeld (m : NetMap) (numbers : List ℕ) (entry v : ℕ) : Type 0 whe
   pub lower : slice_index_or numbers other 0 < slice_index_or numbers v 0
   pub joined : IsJoinedWithout m entry v other
 
--- A vertex that the walk is done with: without its entry cable no host is joined to it, or a vertex with a lower number.
+-- A vertex that the walk is done with: without its entry cable no host is joined to it, or a vertex with a lower number
+-- is.
 pub record IsDone (m : NetMap) (numbers parents : List ℕ) (cut : List Bool) (v : ℕ) : Type 0 where
   pub entry : ℕ
   pub joined : IsJoinedBy m entry v (slice_index_or parents v 0)
   pub met : 1 ≤ slice_index_or numbers (slice_index_or parents v 0) 0
   pub lower : slice_index_or numbers (slice_index_or parents v 0) 0 < slice_index_or numbers v 0
   pub seen : (i w : ℕ) → IsJoinedBy m i v w → 1 ≤ slice_index_or numbers w 0
-  pub cut_off : slice_index_or cut v false ≡ true → (w : ℕ) → IsJoinedWithout m entry v w → is_some (host_of_vertex m w) ≡ true → ⊥
+  pub cut_off : slice_index_or cut v false ≡ true → (w : ℕ) → IsJoinedWithout m entry v w
+      → is_some (host_of_vertex m w) ≡ true → ⊥
   pub held : slice_index_or cut v false ≡ false → IsHeld m numbers entry v
 
 -- The vertices in the order of their numbers, from 2 on.
 pub record AreOrdered (m : NetMap) (numbers order : List ℕ) : Type 0 where
-  pub at : (v : ℕ) → 2 ≤ slice_index_or numbers v 0 → (j : ℕ) × (slice_index_or numbers v 0 ≡ j + 2) × (slice_get order j ≡ Some v)
+  pub at : (v : ℕ) → 2 ≤ slice_index_or numbers v 0
+      → (j : ℕ) × (slice_index_or numbers v 0 ≡ j + 2) × (slice_get order j ≡ Some v)
   pub back : (j v : ℕ) → slice_get order j ≡ Some v → (slice_index_or numbers v 0 ≡ j + 2) × (v < length m.vertices)
 
 -- Hosts and what is beside them have the number 1, and what has it lasts.
@@ -249,5 +268,6 @@ weight m t = unmet (length m.cables + 2) t.numbers + left_of t.path
 -- ---- what hangs by a cable
 -- without this cable a vertex has no host: it is its entry cable, or that of what it was entered from
 pub data Hangs (m : NetMap) (t : WalkState) (k : ℕ) : ℕ → Type 0 where
-  by_entry : {v : ℕ} → 2 ≤ number_in t v → cut_in t v ≡ true → (d : IsDone m t.numbers t.parents t.cut v) → d.entry ≡ k → Hangs m t k v
+  by_entry : {v : ℕ} → 2 ≤ number_in t v → cut_in t v ≡ true → (d : IsDone m t.numbers t.parents t.cut v)
+      → d.entry ≡ k → Hangs m t k v
   by_parent : {v : ℕ} → 2 ≤ number_in t v → Hangs m t k (parent_in t v) → Hangs m t k v

@@ -4,8 +4,8 @@
 //! it cuts off; `specs/Laws.antt` says the same by paths.
 //!
 //! The core takes one depth-first walk over the cables from the hosts, in steps as many as vertices and cables;
-//! `specs/Walking.antt` says what is known of a vertex when the walk is done with it. For the list of switch bridges each
-//! cable between two switches is tried: without it, a search from either end, where no host is near.
+//! `specs/Walking.antt` says what is known of a vertex when the walk is done with it. For the list of switch bridges
+//! each cable between two switches is tried: without it, a search from either end, where no host is near.
 //!
 //! | module | has |
 //! |---|---|

@@ -6,10 +6,13 @@
 //!               \__ #3       its own: it isn't cut off. That of #1 is its own number 2: its entry cable cuts it off.
 //! ```
 
-ghost use Rattle.std.specs.Prelude.{◌≡◌, ◌≢◌, ◌<◌, ◌≤◌, ◌+◌, ◌∷◌, [], suc, zero, length, IfOk, OnOk, Option, Some, None, IfNone, slice_get};
+ghost use Rattle.std.specs.Prelude.{◌≡◌, ◌≢◌, ◌<◌, ◌≤◌, ◌+◌, ◌∷◌, [], suc, zero, length, IfOk, OnOk, Option, Some};
+ghost use Rattle.std.specs.Prelude.{None, IfNone, slice_get};
 ghost use Rattle.core_map.specs.Lasting.{IsJoinedBy};
-ghost use Rattle.core_map.specs.Walking.{AreLinked, EndsAt, WalkState, number_in, IsWalk, HasGrown, IsFrom, weight, with_path};
-ghost use Rattle.core_map.specs.Walking.{entered, marked, lowered, lowered_first, taken_off, IsWalked, AreSeen, other_of, parent_in, cut_in};
+ghost use Rattle.core_map.specs.Walking.{AreLinked, EndsAt, WalkState, number_in, IsWalk, HasGrown, IsFrom, weight};
+ghost use Rattle.core_map.specs.Walking.{with_path};
+ghost use Rattle.core_map.specs.Walking.{entered, marked, lowered, lowered_first, taken_off, IsWalked, AreSeen};
+ghost use Rattle.core_map.specs.Walking.{other_of, parent_in, cut_in};
 
 use crate::bridges::cable_at;
 use crate::cables_at::CablesAt;
