@@ -41,10 +41,11 @@ class Callers:
         return dotted and re.search(rf"\.{name}\(", text) and self.is_meant(text, of, name)
 
     def is_meant(self, text, of, name):
-        """Whether a call by a dot is that of a type: its name is the only one, or the text speaks of that type and of no other
-        that has the name, or calls it at what was made or declared as one."""
+        """Whether a call by a dot is that of a type: its name is the only one, or the text calls it as often as it speaks of
+        types that have the name, this one among them, or calls it at what was made or declared as one."""
         named = {it for it in self.sharing[name] if re.search(rf"\b{it}\b", text)}
-        if name not in OF_STD and (name in self.single or named == {of}):
+        often = len(re.findall(rf"\.{name}\(", text)) >= len(named)
+        if name not in OF_STD and (name in self.single or of in named and often):
             return True
         held = re.findall(rf"\b(\w+): (?:&(?:mut )?)?{of}\b|\blet (?:mut )?(\w+) = {of}\b", text)
         return any(re.search(rf"\b{it}\.{name}\(", text) for pair in held for it in pair if it)
