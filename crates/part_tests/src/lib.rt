@@ -10,6 +10,7 @@
 //! | `numbers` | offsets of ports, texts of faults |
 //! | `packets` | a byte's share in a CRC, a packet that is stripped, and bodies written as they were read |
 //! | `streams` | std's readers and writers as a source and a sink |
+//! | `pieces` | the same, of readers and writers that move a byte a call, and then none, or fail |
 #![tactic(auto)]
 
 #[cfg(test)]
@@ -21,6 +22,8 @@ mod installing;
 mod numbers;
 #[cfg(test)]
 mod packets;
+#[cfg(test)]
+mod pieces;
 #[cfg(test)]
 mod ports;
 #[cfg(test)]
