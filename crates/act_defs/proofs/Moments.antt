@@ -1,4 +1,4 @@
--- What small lists of acts may do, and a sound moment behind one.
+-- What small lists of acts may do, and a sound moment after one.
 use Rattle.std.proofs.Common.{◌≡◌, ◌<◌, ℕ, zero, suc, List, [], ◌∷◌, ◌++◌, get_or, Some, None, refl, sym, ap, ◌∙◌, subst, arith, rules, append-nil}
 use Rattle.std.specs.Prelude.{codes, slice_get}
 use Rattle.std.specs.List.{AllByRecursion}

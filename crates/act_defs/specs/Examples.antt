@@ -30,6 +30,6 @@ delivering =
     (opened 1 1 (provide 0 ∷ send 3 65 ∷ InjectEvent 0 ∷ AdvanceEvent 0 ∷ AdvanceEvent 3 ∷ ReplayEvent 0
     ∷ AdvanceEvent 0 ∷ AdvanceEvent 3 ∷ []))
 
--- the world behind these acts
+-- the world after these acts
 abbrev pub delivered_world : WorldState
 delivered_world = acted_all (new_world two_hosts) delivering

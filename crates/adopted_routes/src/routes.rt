@@ -23,7 +23,7 @@ pub enum AdoptRefusal {
     /// Other routes are adopted.
     #[error("other routes are adopted")]
     Another,
-    /// Memory is wanting.
+    /// Memory ran out.
     #[error("out of memory")]
     NoMemory,
 }

@@ -31,7 +31,7 @@ pub record IsParcel (w : WorldState) (h : ℕ) (out : Outgoing) (route : List �
   pub turns : AllByRecursion IsTurn route
   pub valid : is_mapping body ≡ true
 
--- The world behind a send of which nothing was heard.
+-- The world after a send of which nothing was heard.
 pub record SendKeeps (w : WorldState) (h : ℕ) (out : Outgoing) (t : WorldState) : Type 0 where
   pub net : fabric_of t ≡ fabric_of w
   pub bare : IsBare t.links
@@ -56,7 +56,7 @@ pub data Delivery (n : Network) (w : WorldState) (h : ℕ) (out : Outgoing) (rou
   astray : s.used_up ≡ false → s.number ≡ Some (w.injected + 1) → told s.effects ≡ [] → SendKeeps w h out s.world → s.world.harmed ≡ w.harmed → ((g : ℕ) → place n h route ≢ AtHostPlace g) → Delivery n w h out route body s
   delivered : (g : ℕ) (base : WorldState) → w.injected < last_count → s.used_up ≡ false → s.number ≡ Some (w.injected + 1) → place n h route ≡ AtHostPlace g → SendKeeps w h out base → base.harmed ≡ w.harmed → s.world ≡ (hears_in base g body).1 → told s.effects ≡ told ((hears_in base g body).0 ∷ []) → Delivery n w h out route body s
 
--- the world behind a strike, but for the links
+-- the world after a strike, but for the links
 record Rest (v t : WorldState) : Type 0 where
   net : fabric_of t ≡ fabric_of v
   empty : IsBare t.links

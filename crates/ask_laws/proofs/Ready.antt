@@ -172,7 +172,7 @@ pub reply-first : (h : ℕ) (n : NodeState) (r : StagedReply) → n.staged ≡ N
 unfolding to_send
 reply-first h n r e f = rw (e, f) refl
 
--- behind a send of the mapper's probe, no host has anything staged
+-- after a send of the mapper's probe, no host has anything staged
 probe-gone : (n : NodeState) (walk : List ℤ) (looped : Bool) → (after_sending n (Probe walk looped)).staged ≡ None
 unfolding after_sending
 probe-gone n walk looped = refl

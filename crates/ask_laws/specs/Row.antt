@@ -21,7 +21,7 @@ abbrev pub AskIsEvents : Type 0
 AskIsEvents = (w : WorldState) (mapper tries : ℕ) (walk : List ℤ)
     → IsReachedBy IsOfAsk w (ask mapper tries walk w).world
 
--- where the links of a world are idle, they are idle behind it
+-- where the links of a world are idle, they are idle after it
 abbrev pub AskEndsIdle : Type 0
 AskEndsIdle = (w : WorldState) (mapper tries : ℕ) (walk : List ℤ) → IsWorld w → is_idle w.links ≡ true
     → is_idle (ask mapper tries walk w).world.links ≡ true

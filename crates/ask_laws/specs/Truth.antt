@@ -16,7 +16,7 @@ AskIsTrueOrDrowns =
     ⊎ (((ask mapper tries walk w).answer ≡ Nothing) × ((ask mapper tries walk w).drowned ≡ true))
 
 -- an ask with a try at least doesn't drown where no fault is planned for an injection of it, and injections are left
--- behind it
+-- after it
 abbrev pub QuietAskIsHeard : Type 0
 QuietAskIsHeard =
     (w : WorldState) (mapper tries : ℕ) (walk : List ℤ) → CanAsk w mapper walk → 0 < tries

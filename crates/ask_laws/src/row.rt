@@ -10,7 +10,7 @@ pub fn rows_of_asks()
     ensures injections { AskInjectsFew }
 {}
 
-/// An ask changes no table, no connection and no port, and the mapper can ask again behind it.
+/// An ask changes no table, no connection and no port, and the mapper can ask again after it.
 pub fn kept_by_asks()
     ensures kept { AskKeeps }
     ensures again { CanAskAgain }

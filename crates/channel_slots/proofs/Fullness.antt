@@ -57,7 +57,7 @@ find-range-none p zero from passed = refl
 find-range-none p (suc n) from passed =
     ap (first_of p from (find p (range_with_len (from + 1) n))) (passed from (omega arith)) ∙ find-range-none p n (from + 1) (λ k h. passed k (omega arith))
 
--- what a find over a range tells
+-- what a find over a range says
 pub find-found : (p : ℕ → Bool) (n from c : ℕ) → find p (range_with_len from n) ≡ Some c → (from ≤ c) × (c < from + n) × (p c ≡ true) × ((k : ℕ) → from ≤ k → k < c → p k ≡ false)
 find-found p zero from c is = cc
 find-found p (suc n) from c is = by (p from) refl (find-found p n (from + 1) c)

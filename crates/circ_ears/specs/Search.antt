@@ -21,7 +21,7 @@ is_reached ws v = list_any (λ w. same_vertex (end_of w) v) ws
 abbrev pub leads_on : List (List Step) → List Step → Step → Bool
 leads_on ws w s = same_vertex (end_of w) s.out.v && not (is_reached ws s.into.v)
 
--- the ways, and behind them the one at a place with a step more, if it leads on to a vertex that is new
+-- the ways, and after them the one at a place with a step more, if it leads on to a vertex that is new
 abbrev pub led_on : ℕ → Step → List (List Step) → List (List Step)
 led_on at s ws = if leads_on ws (slice_index_or ws at []) s then ws ++ (slice_index_or ws at [] ++ s ∷ []) ∷ []
     else ws

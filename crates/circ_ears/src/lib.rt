@@ -1,7 +1,7 @@
 //! Path lists: the cables of a core, parted into paths, each with a return walk that leads a probe over all of it to
 //! a host.
 //!
-//! It asks nothing and makes no map: it looks at a fabric alone, and tells how deep a map over circuit links has to
+//! It asks nothing and makes no map: it looks at a fabric alone, and says how deep a map over circuit links has to
 //! be. `specs/EarLists.antt` says what is answered; `specs/PathList.antt` and `specs/Cores.antt` of `circ_defs`, what
 //! a path list of the core is. (Paths like these part a graph without bridges: ears, after Whitney and Robbins.)
 //!

@@ -44,7 +44,7 @@ impl Trail {
     }
 }
 
-/// Steps, and others behind them.
+/// Steps, and others after them.
 pub(crate) fn joined(
     alloc: Global,
     a: &[CableStep],
@@ -57,7 +57,7 @@ pub(crate) fn joined(
     Ok(both)
 }
 
-/// Numbers, and others behind them.
+/// Numbers, and others after them.
 pub(crate) fn joined_numbers(alloc: Global, a: &[u16], b: &[u16]) -> Result<Vec<u16>, AllocError>
     ensures { IfOk result (λ both. both.items ≡ a.now ++ b.now) }
 {
@@ -76,7 +76,7 @@ pub(crate) fn back_over(alloc: Global, steps: &[CableStep]) -> Result<Vec<CableS
     Ok(back)
 }
 
-// Adds steps in the other direction behind others.
+// Adds steps in the other direction after others.
 fn push_crossed_back(back: &mut Vec<CableStep>, steps: &[CableStep]) -> Result<(), AllocError>
     ensures { OnOk result (back.new.items ≡ back.old.items ++ map crossed_back steps.now) }
 {

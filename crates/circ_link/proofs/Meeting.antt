@@ -221,7 +221,7 @@ held_place-there n cs (AtSwitch s p) i = by (are_apart (map cable_of cs))
 pub circuit_place-there : (n : Network) (host : ℕ) (ts : List ℤ) → IsEntered n (entered_after n (far n (host_port host)) ts) → IsPlaceOf n (circuit_place n host ts)
 circuit_place-there n host ts e = held_place-there n (channels_of n host ts) (place_at (entered_after n (far n (host_port host)) ts)) (place_at-there n (entered_after n (far n (host_port host)) ts) e)
 
--- what the place is that a walk's exits tell
+-- what the place is that a walk's exits show
 pub place-told : (n : Network) (host : ℕ) (ts : List ℤ) (es : List End) (o : Option End) (p : Place) → IsFabric n → p ≡ held_by_exits n es o → o ≡ entered_after n (far n (host_port host)) ts → IfSome o (λ d. es ≡ exits_of n host ts) → p ≡ circuit_place n host ts
 place-told n host ts es o p f held entered some =
     held ∙ ap (held_by_exits n es) entered ∙ held_by_exits-circuit n host ts es f (subst (λ o. IfSome o (λ d. es ≡ exits_of n host ts)) entered some)

@@ -1,4 +1,4 @@
--- The ends by which a walk leaves its host and its switches, and what they tell of the cables that it crosses.
+-- The ends by which a walk leaves its host and its switches, and what they show of the cables that it crosses.
 use Rattle.std.specs.Prelude.{◌≡◌, ℕ, ℤ, Bool, true, false, ◌&&◌, ◌||◌, not, List, [], ◌∷◌, ◌++◌, if◌then◌else◌}
 use Rattle.std.specs.Prelude.{Option, Some, None, IfSome, option_to_list}
 use Rattle.std.specs.List.{list_any}

@@ -14,9 +14,9 @@ use std::marker::Model;
 // The most turns of a walk.
 const MAX_TURNS: usize = 64;
 
-/// Tells the circuit places of walks from one host of a fabric. It takes no memory.
+/// Says the circuit places of walks from one host of a fabric. It takes no memory.
 ///
-/// It keeps the walk up to the last turn of the one that it told of last. So walks that differ in their last turn alone
+/// It keeps the walk up to the last turn of the one that it answered last. So walks that differ only in their last turn
 /// cost one step each.
 #[derive(Drop)]
 pub struct CircPlaces<'f> {
@@ -83,7 +83,7 @@ impl<'f> CircPlaces<'f> {
         self.host
     }
 
-    /// The circuit place of a walk, as `circ_place` tells it.
+    /// The circuit place of a walk, as `circ_place` says it.
     pub fn place_of(&mut self, turns: &[i8]) -> Place
         requires short { length turns.now ≤ 64 }
         ensures place { result ≡ circuit_place self.old.fabric self.old.host turns.now }

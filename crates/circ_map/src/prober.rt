@@ -9,7 +9,7 @@ use std::alloc::AllocError;
 
 /// Tells circuit answers from one host of one fabric.
 pub trait CircProber {
-    /// The fabric of whose circuit links it tells.
+    /// The fabric whose circuit answers it gives.
     ghost fabric: { Self → Network };
 
     /// The host that asks.

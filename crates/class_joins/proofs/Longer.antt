@@ -58,7 +58,7 @@ module _ (j l : List Entry) (keeps : Keeps j l) where
       by None p e = cc
       by (Some a) p e = ap host_in (keeps.kept w a p) ∙ e
 
-  -- of a node of the shorter journal nothing else is told
+  -- of a node of the shorter journal nothing else is said
   pub host-back : (host : ℕ) (u : Node) (h : ℕ) → IsNode j u → host_of host l u ≡ Some h → host_of host j u ≡ Some h
   host-back host Mapper h node e = e
   host-back host (Reached w) h node e =

@@ -265,7 +265,7 @@ module _ (from to : ℕ) (by : ℤ) (two : from ≢ to) where
     moves-next (moves e half there out free into list) = subst (λ l. MovesBelow (k + 1) from to by old new before l) (sym list) (step-moves e half there out free into)
     moves-next (meets e first there out taken list) = subst (λ l. MovesBelow (k + 1) from to by old new before l) (sym list) (step-meets e first there out taken)
 
-  -- behind the last place at which one may be known
+  -- after the last place at which one may be known
   pub moves-all : (k : ℕ) (old new : Spot → Option NodePort) (before after : List Meeting) → ((p : ℤ) → (pos k -ℤ pos 15) ≤ℤ p → old (Port from p) ≡ None) → MovesBelow k from to by old new before after → MovesEnds from to by old new before after
   moves-all k old new before after none m = record {
     other = m.other;

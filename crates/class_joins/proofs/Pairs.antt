@@ -132,7 +132,7 @@ pass-pair host j ns ws fs known rest m one k = record {
     by g agrees x (inl a) = agrees x a
     by g agrees x (inr e) = subst (λ (y : Meeting). g (class_at fs y.first) ≡ g (class_at fs y.second)) e (ap g one)
 
--- a class joined to another, with its ends, where a pair told that they are one
+-- a class joined to another, with its ends, where a pair showed that they are one
 module _ (host : ℕ) (j : List Entry) (ns : List Node) (ws : List Way) (fs new : List ClassFrame) (known learnt : Spot → Option NodePort) (rest after : List Meeting) (m : Meeting) (from to : ℕ) (by : ℤ) (k : Knows host j ns ws fs known (rest ++ m ∷ [])) (join : AreJoined from to by fs new) (moves : MovesEnds from to by known learnt rest after) (two : from ≢ to) where
   abbrev label : (ℕ → ℕ) → ℕ → ℕ
   label g c = if nat_eq c from then g to else g c

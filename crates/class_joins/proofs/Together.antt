@@ -1,4 +1,4 @@
--- Frames that join replicates alone, and join all of them once no ways tell more.
+-- Frames that join replicates alone, and join all of them once no ways show more.
 use Rattle.std.proofs.Common.{◌≡◌, ◌≢◌, ◌<◌, ◌⊎◌, inl, inr, ℕ, List, true, false, length, nat_eq, Some, refl, ap, sym, ◌∙◌, subst, arith, if◌then◌else◌}
 use Rattle.std.specs.Prelude.{ℤ, pos, ◌+ℤ◌, ◌-ℤ◌, neg_ℤ}
 use Rattle.std.proofs.lemmas.Bool.{cases_eq}
@@ -75,7 +75,7 @@ told-apart host j ns fs f (Host a x) (Cable n q y k) v w e = meeting-apart host 
 told-apart host j ns fs f (Cable m p x i) (Host b y) v w e = meeting-apart host j ns fs f (record { first = far_end (Cable m p x i); second = far_end (Host b y) }) (ends-meet host j ns fs f (Cable m p x i) (Host b y) v w e)
 told-apart host j ns fs f (Cable m p x i) (Cable n q y k) v w e = meeting-apart host j ns fs f (record { first = far_end (Cable m p x i); second = far_end (Cable n q y k) }) (ends-meet host j ns fs f (Cable m p x i) (Cable n q y k) v w e)
 
--- frames in which no two ways tell more have all replicates together
+-- frames in which no two ways show more have all replicates together
 pub together : (host : ℕ) (j : List Entry) (fs : List ClassFrame) (ws : List Way) → IsTrueOfOne host j → IsJournal j → AreWays host j (nodes j) ws → AreSound host j (nodes j) fs → AreClosed ws fs
     → (u v : Node) (k : ℤ) → Replicates host j u v k → (m n : ℕ) → m < length (nodes j) → n < length (nodes j) → node_at (nodes j) m ≡ u → node_at (nodes j) n ≡ v → (frame_at fs m).class ≡ (frame_at fs n).class
 together host j fs ws t once all f closed u v k (same {u = x} node) m n a b p q = ap (λ i. (frame_at fs i).class) (nodes-once j once m n a b (p ∙ sym q))

@@ -31,7 +31,7 @@ pub record IsOriented (fs : List ClassFrame) (m : Meeting) (from to : ℕ) (by :
   pub orients : Orients fs m from to by
   pub two : from ≢ to
 
--- The tables of a journal's classes, and the pairs that are still open. Marks tell which nodes are expanded by the
+-- The tables of a journal's classes, and the pairs that are still open. Marks say which nodes are expanded by the
 -- asks of a journal that may be an entry behind.
 pub record IsSettling (host : ℕ) (j asks : List Entry) (ns : List Node) (ws : List Way) (fs : List ClassFrame)
     (ends : List (Option NodePort)) (hosts : List HostNode) (todo : List Meeting) (hs : List Head) (names : List ℕ)

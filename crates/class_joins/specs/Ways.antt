@@ -1,4 +1,4 @@
--- What tells that nodes are replicates: two ways that begin at one spot end at one spot.
+-- What shows that nodes are replicates: two ways that begin at one spot end at one spot.
 use Rattle.std.specs.Prelude.{◌≡◌, ℕ, ◌<◌, ◌≤◌, ℤ, pos, ◌+ℤ◌, nat_eq, if◌then◌else◌, List, length, slice_get}
 use Rattle.std.specs.Prelude.{slice_index_or, Some}
 use Rattle.journal_defs.specs.declared.entry.Entry.{Entry}

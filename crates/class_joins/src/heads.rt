@@ -20,7 +20,7 @@ pub struct Head {
     pub least: u32,
     /// Where that node's ports lie among those of the node that names the class.
     pub base: i8,
-    /// How many nodes it has, or fewer: it tells only which class is joined to the other.
+    /// How many nodes it has, or fewer: it says only which class is joined to the other.
     pub count: u16,
 }
 

@@ -9,7 +9,7 @@ use probe::{Entry, Journal};
 use replicate_merge::Classes;
 use std::alloc::{AllocError, Global};
 
-/// Whether classes tell the same as those of a journal made at once: how many they are, the number of each walk's
+/// Whether classes say the same as those of a journal made at once: how many they are, the number of each walk's
 /// node, which nodes are of an expanded class, and which are of one class and how far apart.
 pub(crate) fn are_those_at_once(
     alloc: Global,
@@ -24,7 +24,7 @@ pub(crate) fn are_those_at_once(
     tell_the_same(alloc, journal.entries(), classes, &at_once)
 }
 
-// Whether two tell the same of the walks of these entries.
+// Whether two say the same of the walks of these entries.
 fn tell_the_same(
     alloc: Global,
     entries: &[Entry],

@@ -12,7 +12,7 @@
 //! | `comparing` | a journal's classes, compared after each entry |
 //! | `at_once` | classes compared with those made at once |
 //! | `prefix` | the journal of the entries so far |
-//! | `seen` | what classes tell of nodes |
+//! | `seen` | what classes say of nodes |
 //! | `so_far` | the entries so far |
 //! | `plain` | the plain closure |
 //! | `fabrics` | the fabrics, and to which depth their journals grow |

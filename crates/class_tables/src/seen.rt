@@ -1,4 +1,4 @@
-//! What classes tell of the nodes of a journal.
+//! What classes say of the nodes of a journal.
 
 ghost use Rattle.std.specs.Prelude.{◌<◌, length};
 
@@ -9,7 +9,7 @@ use probe::Entry;
 use replicate_merge::Classes;
 use std::alloc::{AllocError, Global};
 
-/// A node as classes tell of it.
+/// A node as classes say of it.
 #[derive(Clone, Copy)]
 pub(crate) struct ClassedNode {
     frame: ClassFrame,
@@ -17,7 +17,7 @@ pub(crate) struct ClassedNode {
     pub(crate) expanded: bool,
 }
 
-// What classes tell of a node.
+// What classes say of a node.
 fn seen(classes: &Classes, node: u32) -> ClassedNode
     requires { node < length classes.now.nodes }
 {
@@ -26,7 +26,7 @@ fn seen(classes: &Classes, node: u32) -> ClassedNode
     ClassedNode { frame, expanded }
 }
 
-// What they tell of the node of a walk; none where the walk found nothing.
+// What they say of the node of a walk; none where the walk found nothing.
 #[tactic(auto, using(std::proofs::lemmas::Option::slice_get_within))]
 fn seen_at(classes: &Classes, walk: &Walk) -> Option<ClassedNode> {
     match classes.node_of(walk) {
@@ -35,7 +35,7 @@ fn seen_at(classes: &Classes, walk: &Walk) -> Option<ClassedNode> {
     }
 }
 
-/// What classes tell of the mapper's host, and of each walk that found something.
+/// What classes say of the mapper's host, and of each walk that found something.
 pub(crate) fn nodes_of(
     alloc: Global,
     entries: &[Entry],

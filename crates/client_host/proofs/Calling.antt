@@ -170,7 +170,7 @@ module _ {E : Type 0} (cause bar : Option ClientCause) (n : HostNode) (c : OpenC
   told-client (Ok said) q told e f same = let k = is-refused said cause bar n.state c.held call made told e f in ap (λ x. Some x) same ∙ ap (λ x. now_holding (Some c) x.client) (sym k.is)
   told-client (Err x) q told e f same = tt
 
--- where memory is wanting there was no cause, and then the call isn't refused
+-- where memory runs out there was no cause, and then the call isn't refused
 pub told-wanting : {E : Type 0} (r : Result Said E) (cause bar : Option ClientCause) (n : NodeState) (c : ClientState) (call made : Called) → OnErr r (cause ≡ None) → made ≡ unless n c bar call → cause ≡ bar
     → is_refused call.said ≡ false → OnErr r (is_refused made.said ≡ false)
 told-wanting (Ok said) cause bar n c call made none e same done = tt

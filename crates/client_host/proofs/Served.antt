@@ -50,7 +50,7 @@ there n cs port i x s below at e =
 pub tied-at : (n : HostNode) (cs : List (Option OpenClient)) (port i : ℕ) (x : Option OpenClient) → IsServed n cs → port < 8 → i ≡ port → x ≡ slice_index_or cs i x → IsTied n.host n.hosts port (port_at n.state port) x
 tied-at n cs port i x s below at e = subst (IsTied n.host n.hosts port (port_at n.state port)) (sym (there n cs port i x s below at e)) (s.tied port)
 
--- behind a call
+-- after a call
 pub called-served : (n m : HostNode) (cs : List (Option OpenClient)) (port i : ℕ) (q : Option OpenClient) (call : Called) → IsServed n cs → port < 8 → i ≡ port → m ≡ in_state n call.node
     → CallTied n.host n.hosts n.state port call q → IsServed m (slice_set cs i q)
 called-served n m cs port i q call s below at e k =
@@ -182,7 +182,7 @@ ending-closed p q cs ds x port split at e s =
     (λ j other. ap (λ h. port_at h.state j) new ∙ get_or-set_other p.state.ports (length ds) j None None other)
     (ap (λ h. port_at h.state (length ds)) new ∙ get_or-set_same p.state.ports (length ds) None None (omega (arith, all, few, many)))
 
--- a packet that was heard, or not for want of memory
+-- a packet that was heard, or not, since memory ran out
 pub packet-served : {E : Type 0} (n m : HostNode) (cs : List (Option OpenClient)) (wire : List ℕ) (r : Result Arrival E) → IsServed n cs → IfOk r (λ arrival. hear n.host n.hosts n.state wire ≡ (arrival, m.state))
     → m.host ≡ n.host → m.hosts ≡ n.hosts → OnErr r (m ≡ n) → IsServed m cs
 packet-served n m cs wire (Ok arrival) s heard host hosts err =
@@ -193,7 +193,7 @@ packet-served n m cs wire (Err e) s heard host hosts err = subst (λ y. IsServed
 pub sent-served : (n m : HostNode) (cs : List (Option OpenClient)) → IsServed n cs → m ≡ in_state n (after_first n) → IsServed m cs
 sent-served n m cs s e = in-served n m cs (after_first n) s e (once_sent-tied n.hosts n.state (to_send n.host n.state))
 
--- a call that may want memory
+-- a call that may run out of memory
 pub call-kept : {A E : Type 0} (r : Result A E) (n m : HostNode) (cs : List (Option OpenClient)) (port i : ℕ) (x q p : Option OpenClient) (call : Called) → IsServed n cs → port < 8 → i ≡ port → x ≡ slice_index_or cs i x
     → CallTied n.host n.hosts n.state port call p → OnOk r (m ≡ in_state n call.node) → OnOk r (q ≡ p) → OnErr r (m ≡ n) → OnErr r (q ≡ x) → IsServed m (slice_set cs i q)
 call-kept (Ok a) n m cs port i x q p call s below at e tie node client node_stays client_stays =

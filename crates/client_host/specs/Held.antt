@@ -29,7 +29,7 @@ unused_host host hosts = record {
 abbrev pub client_in : ServedHost → ℕ → Option ClientState
 client_in s port = slice_index_or s.clients port None
 
--- the host behind a call on a port
+-- the host after a call on a port
 abbrev pub after_call : ServedHost → ℕ → Called → ServedHost
 after_call s port call = record s { state = call.node; clients = slice_set s.clients port call.client }
 

@@ -36,7 +36,7 @@ IsCounted (CloseFilling n) = Unit {0}
 abbrev pub size_cause : ℕ → ℕ → Option ClientCause
 size_cause size prio = if is_bad_size size prio then Some BadSize else None
 
--- a message isn't accepted, as the client is told of it: no cause for want of memory, and for a buffer that is too
+-- a message isn't accepted, as the client is told of it: no cause where memory ran out, and for a buffer that is too
 -- short, which a client's never is
 abbrev pub send_cause : NodeSend → Option ClientCause
 send_cause NothingSends = Some NotOpen

@@ -24,7 +24,7 @@ pub fn new_hosts(alloc: Global, hosts: u16) -> Result<Vec<ClientHost>, AllocErro
     }
 }
 
-// All of so many hosts, one behind the other, where there is none yet and room for each.
+// All of so many hosts, one after the other, where there is none yet and room for each.
 fn push_hosts(alloc: Global, nodes: &mut Vec<ClientHost>, hosts: u16) -> Result<(), AllocError>
     requires none { nodes.old.items ≡ [] }
     requires len { vec_len nodes.old ≡ 0 }

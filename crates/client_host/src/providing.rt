@@ -82,8 +82,8 @@ fn provide_open(
     }
 }
 
-// A token is provided with a new buffer. It comes back where that is refused, with the cause, or with none for want
-// of memory.
+// A token is provided with a new buffer. It comes back where that is refused, with the cause, or where memory runs
+// out, with none.
 fn provide_token(
     alloc: Global,
     node: &mut NicNode,

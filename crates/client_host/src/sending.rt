@@ -91,8 +91,8 @@ fn send_open(
     }
 }
 
-// A token sends the message of a new buffer. It comes back exactly where that is refused, with the cause, and for want
-// of memory with none. The host is asked before any memory is.
+// A token sends the message of a new buffer. It comes back exactly where that is refused, with the cause, or where
+// memory runs out, with none. The host is asked before any memory is.
 fn send_token(
     alloc: Global,
     node: &mut NicNode,
@@ -126,7 +126,7 @@ fn send_token(
     }
 }
 
-// A token sends the message of a new buffer, which isn't refused. It comes back for want of memory alone.
+// A token sends the message of a new buffer, which isn't refused. It comes back only where memory runs out.
 fn send_new(
     alloc: Global,
     node: &mut NicNode,
@@ -156,7 +156,7 @@ fn send_new(
     }
 }
 
-// A token sends a message of these bytes, which isn't refused. It comes back for want of memory alone.
+// A token sends a message of these bytes, which isn't refused. It comes back only where memory runs out.
 fn send_bytes(
     alloc: Global,
     node: &mut NicNode,
@@ -192,7 +192,7 @@ fn send_bytes(
     }
 }
 
-// A refusal of the host, as the client is told of it; none for want of memory. A client's buffer is never too short.
+// A refusal of the host, as the client is told of it; none where memory ran out. A client's buffer is never too short.
 fn cause_of(refusal: NodeSend) -> Option<ClientCause>
     requires { refusal ≢ NodeSend.BufferShort }
     ensures { result ≡ send_cause refusal }

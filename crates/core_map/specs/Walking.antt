@@ -30,7 +30,7 @@ pub record IsLastAt (m : NetMap) (v bound last : ℕ) : Type 0 where
   pub ends : (i : ℕ) → last ≡ suc i → EndsAt m i v
   pub none : (i : ℕ) → last ≤ i → i < bound → EndsAt m i v → ⊥
 
--- The links tell the cables below a bound.
+-- The links have the cables below a bound.
 pub record AreLinked (m : NetMap) (ls : Links) (bound : ℕ) : Type 0 where
   pub is_map : IsMap m
   pub long : length ls.last ≡ length m.vertices

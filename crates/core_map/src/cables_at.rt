@@ -8,7 +8,7 @@ use fabric_map::{FabricMap, MapCable};
 use std::alloc::{AllocError, Global};
 use std::marker::Model;
 
-/// For each vertex its last cable, and for each cable the one before it at either end. A cable is told by its number
+/// For each vertex its last cable, and for each cable the one before it at either end. A cable is named by its number
 /// and one; 0 is no cable.
 #[derive(Drop)]
 pub(crate) struct CablesAt {

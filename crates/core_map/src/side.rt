@@ -31,7 +31,7 @@ fn first_marks(alloc: Global, m: &FabricMap, v: u32) -> Result<Vec<bool>, AllocE
     Ok(marks)
 }
 
-// Spreads marks along each cable but one, and tells whether a vertex got one.
+// Spreads marks along each cable but one, and says whether a vertex got one.
 fn spread_around(cables: &[MapCable], k: usize, marks: &mut [bool]) -> bool
     requires cable { k < length cables.now }
     requires vertices { AllByRecursion (λ c. (c.v < length marks.old) × (c.w < length marks.old)) cables.now }
@@ -43,7 +43,7 @@ fn spread_around(cables: &[MapCable], k: usize, marks: &mut [bool]) -> bool
     before || after
 }
 
-// Spreads marks along each cable, and tells whether a vertex got one.
+// Spreads marks along each cable, and says whether a vertex got one.
 fn spread_all(cables: &[MapCable], marks: &mut [bool]) -> bool
     requires { AllByRecursion (λ c. (c.v < length marks.old) × (c.w < length marks.old)) cables.now }
     ensures value { marks.new ≡ spread_along cables.now marks.old }

@@ -261,7 +261,7 @@ impl Walk {
         }
     }
 
-    // Puts a step behind the others.
+    // Puts a step after the others.
     fn push(&mut self, step: Step) -> Result<(), AllocError>
         ensures { OnOk result (self.new ≡ with_path self.old (step ∷ self.old.path)) }
     {

@@ -22,7 +22,7 @@ either_way n =
     let e : n + 8 ≡ 8 + n = omega arith in
     replicate-append-replicate n 8 false ∙ ap zeros e ∙ sym (replicate-append-replicate 8 n false)
 
--- zero bytes behind leave what their bits leave
+-- zero bytes leave after a byte what their bits leave
 crc-zeros_after : (bytes : List ℕ) (n : ℕ) → crc (bytes ++ replicate n 0) ≡ left (crc bytes) (zeros (8 * n))
 crc-zeros_after bytes n =
     let b = bits_of bytes in
@@ -40,7 +40,7 @@ sum_of_parts : (front rest : List ℕ) → xor_bytes (front ++ replicate (length
 sum_of_parts [] rest = zeros_sum rest
 sum_of_parts (x ∷ front) rest = λ i. xor_zero_r x i ∷ sum_of_parts front rest i
 
--- the CRC of bytes behind others
+-- the CRC of bytes after others
 pub crc-append : (front rest : List ℕ) → crc (front ++ rest) ≡ bit_xor (left (crc front) (zeros (8 * length rest))) (crc rest)
 crc-append front rest =
     let n = length rest in

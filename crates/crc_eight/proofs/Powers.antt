@@ -1,4 +1,4 @@
--- The powers of x, and what is left of a byte with zeros behind it.
+-- The powers of x, and what is left of a byte with zeros after it.
 use Rattle.std.proofs.Common.{◌≡◌, ◌<◌, ◌+◌, ◌*◌, ◌/◌, ◌%◌, ℕ, zero, suc, false, ◌∷◌, ◌++◌, replicate, refl, sym, ap, ◌∙◌, arith, append_assoc}
 use Rattle.std.proofs.lemmas.List.{replicate-append-replicate}
 use Rattle.packet_defs.specs.Bits.{bits_of_byte, bits_of, zeros}

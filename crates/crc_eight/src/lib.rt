@@ -60,7 +60,7 @@ fn round(places: usize) -> usize
     }
 }
 
-// What a byte adds: what is left of it behind whole slices of zero bytes takes its place.
+// What a byte adds: what is left of it after whole slices of zero bytes takes its place.
 fn far_contribution(byte: u8, places: usize) -> u8
     requires { places < PERIOD }
     ensures { result ≡ contribution byte places }

@@ -21,7 +21,7 @@ macro_rules! sums {
 }
 
 // Row b of the first table is the CRC of the byte b, and that of each other the CRC of the byte with one zero byte more
-// behind it. The numbers are those of the bytes with one bit: the powers of x from the eighth on, each once. They stand
+// after it. The numbers are those of the bytes with one bit: the powers of x from the eighth on, each once. They stand
 // in a static, since a table in a function is made again at each call.
 static TABLES: [[u8; 256]; SLICE] = [
     sums!([0] 0x07 0x0E 0x1C 0x38 0x70 0xE0 0xC7 0x89),
@@ -42,7 +42,7 @@ static TABLES: [[u8; 256]; SLICE] = [
     sums!([0] 0x02 0x04 0x08 0x10 0x20 0x40 0x80 0x07),
 ];
 
-// Row b of table k is what the CRC would be behind k slices of zero bytes, were it b before them. Its numbers are the
+// Row b of table k is what the CRC would be after k slices of zero bytes, were it b before them. Its numbers are the
 // powers of x from that of 128 k on.
 static BEHIND: [[u8; 256]; SLICES] = [
     sums!([0] 0x01 0x02 0x04 0x08 0x10 0x20 0x40 0x80),
@@ -63,7 +63,7 @@ pub(crate) fn near_contribution(byte: u8, places: usize) -> u8
     TABLES[places][usize::from(byte)]
 }
 
-/// What is left of a byte behind so many slices of zero bytes: it adds so much as the byte does in front of them.
+/// What is left of a byte after so many slices of zero bytes: it adds as much as the byte does before them.
 pub(crate) fn behind_slices(byte: u8, slices: usize) -> u8
     requires { slices < SLICES }
     ensures { (places : ℕ) → contribution result places ≡ contribution byte (SLICE * slices + places) }

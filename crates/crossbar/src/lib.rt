@@ -17,7 +17,8 @@ pub use link_defs::Turned;
 use myri_packet::Packet;
 use net_defs::leaving_port;
 
-/// Where a switch of P ports sends a packet that entered by a port: by the turn in front of its head. P is 4, 8 or 16.
+/// Where a switch of P ports sends a packet that entered by a port: by the turn in the first byte of its head. P is 4,
+/// 8 or 16.
 pub fn aim<const P: usize>(entry: u8, p: &Packet) -> Turned
     requires entered { entry < P }
     requires few { P ≤ 16 }

@@ -27,7 +27,7 @@ finished_all p (t ∷ ts) = finished_all (finished p t.token) ts
 abbrev pub first_pending : LaneState → ℕ
 first_pending l = length l.sent - length l.pending
 
--- sends come back, acknowledged or not, whose messages stand one behind the other from a place on
+-- sends come back, acknowledged or not, whose messages stand one after the other from a place on
 abbrev pub returned_from : ℕ → Bool → ℕ → List Ticket → List Returned
 returned_from known unsure place [] = []
 returned_from known unsure place (t ∷ ts) =

@@ -21,7 +21,7 @@ get-append [] ys k x e = absurd (none-some x e)
 get-append (y ∷ xs) ys zero x e = e
 get-append (y ∷ xs) ys (suc k) x e = get-append xs ys k x e
 
--- the element behind a front is the first of the rest
+-- the element after a front is the first of the rest
 pub get-behind : {X : Type 0} (xs ys : List X) (x : X) → slice_get (xs ++ ys) (length xs) ≡ Some x → (rest : List X) × (ys ≡ x ∷ rest)
 get-behind [] [] x e = absurd (none-some x e)
 get-behind [] (y ∷ ys) x e = (ys, ap (λ z. z ∷ ys) (same_Some y x e))

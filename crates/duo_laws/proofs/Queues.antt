@@ -1,4 +1,4 @@
--- Sends in a port's queue, and what the events of a port tell of those that came back.
+-- Sends in a port's queue, and what the events of a port say of those that came back.
 use Rattle.std.proofs.Common.{◌≡◌, ◌≢◌, ◌<◌, ◌+◌, ℕ, suc, Bool, true, false, nat_eq, nat_lt, List, [], ◌∷◌, ◌++◌, length, map, find, Some, refl, sym, ap, ◌∙◌, subst, arith, append_assoc, if◌then◌else◌}
 use Rattle.std.specs.Prelude.{slice_get}
 use Rattle.std.specs.List.{AllByRecursion}
@@ -72,7 +72,7 @@ pub record IsQueued (p : PortState) (sent : List Message) (place : ℕ) (t : Tic
   pub there : slice_get sent place ≡ Some (plain_message message)
   pub queued : send_of p t.token ≡ Some (record { token = t.token; buffer = message })
 
--- sends wait whose messages stand one behind the other from a place on
+-- sends wait whose messages stand one after the other from a place on
 abbrev pub AreQueued : PortState → List Message → ℕ → List Ticket → Type 0
 AreQueued p sent place [] = Unit {0}
 AreQueued p sent place (t ∷ ts) = IsQueued p sent place t × AreQueued p sent (suc place) ts
@@ -144,7 +144,7 @@ told-later f g rs (SentEvent u c ∷ es) l k = record {
 
 -- ---- sends come back
 
--- What is left once the first of the sends that wait came back: the others wait, and the events tell of all that came
+-- What is left once the first of the sends that wait came back: the others wait, and the events report all that came
 -- back.
 pub record CameBack (p : PortState) (sent : List Message) (f : ℕ → List Message) (place : ℕ) (vs : List Ticket) (rs : List Returned) : Type 0 where
   pub wait : AreQueued p sent place vs

@@ -38,7 +38,7 @@ use Rattle.duo_laws.proofs.Periods.{Grow, grow-present, at-present}
 use Rattle.duo_laws.proofs.Ends.{IsLane}
 use Rattle.duo_laws.proofs.Queues.{tokens_of, find-new, find-other, none-found, IsQueued, AreQueued, waiting_tokens, told-received, Longer, told-later, came-back}
 
--- What ties the sends of an end to its port: each that waits stands in the queue, none twice, and the events tell of
+-- What ties the sends of an end to its port: each that waits stands in the queue, none twice, and the events report
 -- those that came back.
 pub record IsTied (e : EndState) : Type 0 where
   pub waits : AreQueued e.port e.present.lane.sent (first_pending e.present.lane) e.present.lane.pending

@@ -12,12 +12,12 @@ use Rattle.event_lists.specs.PartWay.{IsPartWay}
 use Rattle.event_lists.proofs.Events.{sends-done, given_up-done, host_tries-done}
 use Rattle.event_lists.proofs.PartWay.{way-front, way-behind, way-step, way-as}
 
--- along the drain behind an injection
+-- along the drain after an injection
 pub sends-behind : (w u v : WorldState) (h : ℕ) → u ≡ (step w (Inject h)).1 → IsPartWay u (drain_events u) v → IsPartWay w (sends_events w h) v
 unfolding sends_events
 sends-behind w u v h is p = way-step w (step w (Inject h)).1 v (Inject h) (drain_events (step w (Inject h)).1) refl (subst (λ x. IsPartWay x (drain_events x) v) is p)
 
--- an injection, and the drain behind it, by their worlds
+-- an injection, and the drain after it, by their worlds
 pub sends-world : (w u v : WorldState) (h : ℕ) → u ≡ (step w (Inject h)).1 → v ≡ (drain u).1 → v ≡ (sends w h).world
 unfolding sends
 sends-world w u v h is led = led ∙ ap (λ x. (drain x).1) is
@@ -32,7 +32,7 @@ tries-within is_found one events k w v p =
     let more : List Event = if is_found (one w).found then [] else tries_events is_found one events k (one w).world in
     way-front w v (events w) more p
 
--- and along those behind one that found nothing
+-- and along those after one that found nothing
 pub tries-behind : {A : Type 0} (is_found : A → Bool) (one : WorldState → Tried A) (events : WorldState → List Event) → ((w : WorldState) → (one w).world ≡ after_all w (events w)) → (k : ℕ) (w next v : WorldState) → is_found (one w).found ≡ false → next ≡ (one w).world
     → IsPartWay next (tries_events is_found one events k next) v → IsPartWay w (tries_events is_found one events (suc k) w) v
 tries-behind is_found one events led k w next v none is p =

@@ -1,4 +1,4 @@
--- The events of a drain are those of its first pass and of the drain behind it, whatever bounds the passes; and what is
+-- The events of a drain are those of its first pass and of the drain after it, whatever bounds the passes; and what is
 -- part of the way along a drain or a clear.
 use Rattle.std.proofs.Common.{◌≡◌, ◌≢◌, ◌<◌, ◌+◌, ℕ, zero, suc, Bool, true, false, List, [], ◌∷◌, ◌++◌, map, nat_eq, refl, sym, ◌∙◌, ap, subst, arith, if◌then◌else◌}
 use Rattle.std.proofs.lemmas.Bool.Decides.{nat_tests}
@@ -43,7 +43,7 @@ after-pass : (w : WorldState) → (pass w).1 ≡ after_all w (map Advance (chann
 unfolding pass
 after-pass w = steps-after w (map Advance (channels_of w))
 
--- part of the way along a drain, behind a first pass that changed something
+-- part of the way along a drain, after a first pass that changed something
 pub drain-on : (w next v : WorldState) → changes (pass w).0 ≢ 0 → next ≡ (pass w).1 → IsPartWay next (drain_events next) v → IsPartWay w (drain_events w) v
 drain-on w next v some is p =
     way-as w v (drain_events w) (map Advance (channels_of w) ++ drain_events (pass w).1) (drain-goes_on w some)
@@ -103,7 +103,7 @@ pub clear-within : (w v : WorldState) → IsPartWay w (drain_events w) v → IsP
 unfolding clear_events
 clear-within w v p = way-front w v (drain_events w) (resets_of (drain w).1) p
 
--- and along the resets behind it
+-- and along the resets after it
 pub clear-behind : (w u v : WorldState) → u ≡ (drain w).1 → IsPartWay u (resets_of u) v → IsPartWay w (clear_events w) v
 unfolding clear_events
 clear-behind w u v is p =

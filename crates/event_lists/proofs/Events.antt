@@ -1,4 +1,4 @@
--- The events of a drain, a clear, a settle, an ask and an installation lead to the worlds behind these, and flip eight bits at most.
+-- The events of a drain, a clear, a settle, an ask and an installation lead to the worlds after these, and flip eight bits at most.
 use Rattle.std.proofs.Common.{◌≡◌, ◌+◌, ℕ, zero, suc, Bool, true, false, List, [], ◌∷◌, ◌++◌, map, nat_eq, nat_lt, Option, Some, None, is_some, refl, sym, ◌∙◌, ap, if◌then◌else◌}
 use Rattle.std.specs.Prelude.{ℤ}
 use Rattle.std.specs.List.{AllByRecursion, filter}

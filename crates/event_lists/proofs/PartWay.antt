@@ -1,4 +1,4 @@
--- Along one list of events, and along another behind it.
+-- Along one list of events, and along another after it.
 use Rattle.std.proofs.Common.{◌≡◌, ◌<◌, ◌≤◌, ◌+◌, ◌-◌, ℕ, zero, suc, List, [], ◌∷◌, ◌++◌, map, refl, sym, ◌∙◌, ap, subst, arith}
 use Rattle.std.specs.List.{range_with_len}
 use Rattle.std.proofs.lemmas.List.{append_assoc}
@@ -20,7 +20,7 @@ way-front w v es fs p = record {
   there = p.there;
 }
 
--- part of the way along the events behind those that led to a world
+-- part of the way along the events after those that led to a world
 pub way-behind : (w u v : WorldState) (es fs : List Event) → u ≡ after_all w es → IsPartWay u fs v → IsPartWay w (es ++ fs) v
 way-behind w u v es fs led p = record {
   done = es ++ p.done;
@@ -28,7 +28,7 @@ way-behind w u v es fs led p = record {
   there = p.there ∙ ap (λ x. after_all x p.done) led ∙ sym (after_all-append w es p.done);
 }
 
--- behind one event
+-- after one event
 pub way-step : (w u v : WorldState) (e : Event) (es : List Event) → u ≡ (step w e).1 → IsPartWay u es v → IsPartWay w (e ∷ es) v
 way-step w u v e es led p = way-behind w u v (e ∷ []) es led p
 
@@ -53,7 +53,7 @@ way-skip f w v (suc gap) from all next rest a n idle p =
     subst (λ k. IsPartWay w (map f (range_with_len from k)) v) more
     (way-step w w v (f from) (map f (range_with_len (from + 1) (gap + rest))) (idle from (omega arith) (omega (arith, n))) further)
 
--- behind the event of a number, where those of the numbers before it change nothing
+-- after the event of a number, where those of the numbers before it change nothing
 pub way-next : (f : ℕ → Event) (w u v : WorldState) (from count c : ℕ) → from ≤ c → c < count → ((k : ℕ) → from ≤ k → k < c → w ≡ (step w (f k)).1) → u ≡ (step w (f c)).1
     → IsPartWay u (map f (range_with_len (c + 1) (count - (c + 1)))) v → IsPartWay w (map f (range_with_len from (count - from))) v
 way-next f w u v from count c low high idle led p =

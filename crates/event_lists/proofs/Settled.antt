@@ -46,7 +46,7 @@ passes-within w v p =
     let rest : List Event = if is_last_pass (round_pass w) then [] else round_passes_events (measure w) (round_pass w).world in
     way-as w v (passes_from w) (round_pass_events w ++ rest) (ap (λ k. round_passes_events k w) more) (way-front w v (round_pass_events w) rest p)
 
--- behind a pass that wasn't the last
+-- after a pass that wasn't the last
 pub passes-behind : (w next v : WorldState) → is_last_pass (round_pass w) ≡ false → next ≡ (round_pass w).world → IsPartWay next (passes_from next) v → IsPartWay w (passes_from w) v
 passes-behind w next v goes is p =
     let last : WorldState = (round_pass w).world in
@@ -95,7 +95,7 @@ pass-replays w u x v is cleared p =
     (subst (λ y. IsPartWay y (clear_events y ++ replays_events (serials (clear y).1) (clear y).1) v) is
     (way-behind u last v (clear_events u) (replays_events (serials last) last) (clear-done u).there (subst (λ y. IsPartWay y (replays_events (serials y) y) v) cleared p)))
 
--- along the replay of the first of some serials, and along those behind it
+-- along the replay of the first of some serials, and along those after it
 pub replays-within : (s : ℕ) (ss : List ℕ) (w v : WorldState) → IsPartWay w (Replay s ∷ clear_events (step w (Replay s)).1) v → IsPartWay w (replays_events (s ∷ ss) w) v
 replays-within s ss w v p =
     let u : WorldState = (step w (Replay s)).1 in
@@ -108,7 +108,7 @@ replays-behind s ss w next v is p =
     way-step w u v (Replay s) (clear_events u ++ replays_events ss last) refl
     (way-behind u last v (clear_events u) (replays_events ss last) (clear-done u).there (subst (λ y. IsPartWay y (replays_events ss y) v) is p))
 
--- along the clear behind a replay
+-- along the clear after a replay
 pub replay-clear : (s : ℕ) (w u v : WorldState) → u ≡ (step w (Replay s)).1 → IsPartWay u (clear_events u) v → IsPartWay w (Replay s ∷ clear_events (step w (Replay s)).1) v
 replay-clear s w u v is p = way-step w (step w (Replay s)).1 v (Replay s) (clear_events (step w (Replay s)).1) refl (subst (λ y. IsPartWay y (clear_events y) v) is p)
 
@@ -191,7 +191,7 @@ rounds-within w v p =
     let rest : List Event = if is_last_round w (round w).world then [] else rounds_events (left_over w) (round w).world in
     way-as w v (rounds_from w) (round_events w ++ rest) (ap (λ k. rounds_events k w) more) (way-front w v (round_events w) rest p)
 
--- behind a round that wasn't the last
+-- after a round that wasn't the last
 pub rounds-behind : (w next v : WorldState) → HasSenders w → is_last_round w (round w).world ≡ false → next ≡ (round w).world → IsPartWay next (rounds_from next) v → IsPartWay w (rounds_from w) v
 rounds-behind w next v m goes is p =
     let last : WorldState = (round w).world in

@@ -29,13 +29,13 @@ drain_events w = passes_events (total_hops w.links + 1) w
 unfoldable pub clear_events : WorldState → List Event
 clear_events w = drain_events w ++ resets_of (drain w).1
 
--- the events of replays of these serials, with a clear behind each
+-- the events of replays of these serials, with a clear after each
 abbrev pub replays_events : List ℕ → WorldState → List Event
 replays_events [] w = []
 replays_events (s ∷ ss) w = Replay s ∷ clear_events (step w (Replay s)).1
     ++ replays_events ss (clear (step w (Replay s)).1).1
 
--- the world behind the give-ups and the injections of a pass of a settle
+-- the world after the give-ups and the injections of a pass of a settle
 abbrev pub after_injections : WorldState → WorldState
 after_injections w = (steps (after_all w (map GiveUp (addresses w))) (map Inject (addresses w))).1
 
@@ -64,7 +64,7 @@ rounds_events (suc k) w = round_events w
 unfoldable pub settle_events : WorldState → List Event
 settle_events w = clear_events w ++ rounds_events (round_bound (clear w).1) (clear w).1
 
--- the events of a host's injection and of the drain behind it
+-- the events of a host's injection and of the drain after it
 unfoldable pub sends_events : WorldState → ℕ → List Event
 sends_events w h = Inject h ∷ drain_events (step w (Inject h)).1
 
@@ -140,16 +140,16 @@ hosts_events a tries (h ∷ hs) w = parts_events a.mapper h tries (parts_of a h)
 unfoldable pub install_events : Adoption → List ℕ → ℕ → WorldState → List Event
 install_events a hosts tries w = map GiveUp (addresses w) ++ hosts_events a tries hosts (all_given_up w)
 
--- the events of a settle lead to the world behind it
+-- the events of a settle lead to the world after it
 abbrev pub SettleIsItsEvents : Type 0
 SettleIsItsEvents = (w : WorldState) → (settle w).world ≡ after_all w (settle_events w)
 
--- those of an ask to the world behind it
+-- those of an ask to the world after it
 abbrev pub AskIsItsEvents : Type 0
 AskIsItsEvents = (mapper tries : ℕ) (walk : List ℤ) (w : WorldState)
     → (ask mapper tries walk w).world ≡ after_all w (ask_events mapper tries walk w)
 
--- and those of an installation to the world behind it
+-- and those of an installation to the world after it
 abbrev pub InstallationIsItsEvents : Type 0
 InstallationIsItsEvents = (a : Adoption) (hosts : List ℕ) (tries : ℕ) (w : WorldState)
     → (installed a hosts tries w).1 ≡ after_all w (install_events a hosts tries w)

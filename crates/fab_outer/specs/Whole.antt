@@ -6,7 +6,7 @@ use Rattle.std.specs.Io.KnownBytes.{Appends, Consumes, IsAtEnd}
 abbrev pub IsWhole : Option (List ℕ) → Option (List ℕ) → List ℕ → Type 0
 IsWhole before now content = Consumes before now content × IsAtEnd now
 
--- More than so many bytes were left. Silent where the source doesn't tell.
+-- More than so many bytes were left. Silent where the source doesn't show them.
 abbrev pub IsLonger : Option (List ℕ) → ℕ → Type 0
 IsLonger before limit = IfSome before (λ left. limit < length left)
 

@@ -8,7 +8,7 @@ use crate::Failed;
 
 /// What takes bytes, in order.
 pub trait Sink {
-    /// The bytes that it took, where the sink tells them.
+    /// The bytes that it took, where the sink shows them.
     ghost taken: { Self → Option (List ℕ) };
 
     /// How often a write has failed or taken nothing. It never falls.

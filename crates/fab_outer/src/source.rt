@@ -10,7 +10,7 @@ pub struct Failed;
 
 /// Bytes that are read in pieces, in order.
 pub trait Source {
-    /// The bytes that are left, where the source tells them.
+    /// The bytes that are left, where the source shows them.
     ghost left: { Self → Option (List ℕ) };
 
     /// How often a read has failed. It never falls.

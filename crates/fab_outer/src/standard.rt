@@ -1,7 +1,7 @@
 //! The trusted edge: std's readers and writers as a source and a sink.
 //!
-//! What a reader has left, and what a writer holds, is known where its type tells it, as over memory: a file and a
-//! terminal tell nothing, so of these the clauses say the counts alone.
+//! What a reader has left, and what a writer holds, is known where its type shows it, as over memory: a file and a
+//! terminal show nothing, so of these the clauses say the counts alone.
 
 ghost use Rattle.std.specs.Prelude.{◌≡◌, ◌<◌, ◌≤◌, ℕ, List, length, take, Option, None, Ok, IfOk, OnOk, OnErr, is_err};
 ghost use Rattle.std.specs.Prelude.{if◌then◌else◌};
@@ -53,7 +53,7 @@ impl<R: Read> Source for StdSource<R> {
 /// A sink over any writer of std. It flushes after each write. Each `Err` is a fault, and so is a write that takes
 /// nothing.
 ///
-/// It tells no content as a sink: where a write took bytes and the flush after it failed, the writer holds bytes of a
+/// It shows no content as a sink: where a write took bytes and the flush after it failed, the writer holds bytes of a
 /// call that answers `Err`.
 #[derive(Debug, Drop)]
 pub struct StdSink<W> {
@@ -81,7 +81,7 @@ impl<W: Write> Sink for StdSink<W> {
         ensures appended { WriteAppends None None result from.now }
         ensures cause { HasCause self.old.faults self.new.faults result }
         ensures stalled { result ≡ Ok 0 → 0 < length from.now → Rose self.old.faults self.new.faults }
-        // As many bytes as are told went to the writer, and no others.
+        // As many bytes as are reported went to the writer, and no others.
         ensures written { IfOk result (λ n.
             Appends (W.contents self.old.inner) (W.contents self.new.inner) (take n from.now)) }
         ensures part { OnErr result (TakesPrefix (W.contents self.old.inner) (W.contents self.new.inner) from.now) }

@@ -1,4 +1,4 @@
--- What a line alone prints, and what more text behind it.
+-- What a line alone prints, and what more text after it.
 use Rattle.std.proofs.Common.{ℕ, ◌≡◌, List, [], ◌∷◌, ◌++◌, ap, sym, ◌∙◌}
 use Rattle.std.proofs.lemmas.Grind.{flat_map-append}
 use Rattle.std.proofs.lemmas.List.{append-nil}
@@ -18,7 +18,7 @@ line_printed n l text figures e f =
     let k = f ∙ sym (append-nil (figures_of l)) in
     λ i. record { text = t i; figures = k i }
 
--- pieces without figures behind others
+-- pieces without figures after others
 pub followed : (n : Network) (out rest : List Piece) (before now : PrintedState) (more : List ℕ) → before ≡ printed_of n out → more ≡ output_text n rest → figures_in rest ≡ []
     → now ≡ record { text = before.text ++ more; figures = before.figures } → now ≡ printed_of n (out ++ rest)
 followed n out rest before now more e f none g =

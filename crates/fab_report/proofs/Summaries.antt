@@ -11,7 +11,7 @@ use Rattle.run_defs.specs.LineText.{line_text, output_text, piece_text}
 use Rattle.run_defs.specs.Output.{Piece, lines}
 use Rattle.run_defs.specs.Summary.{count_line, mapping_lines, settle_lines, summary}
 
--- lines behind others
+-- lines after others
 lines-both : (xs ys : List Line) → lines (xs ++ ys) ≡ lines xs ++ lines ys
 lines-both [] ys = refl
 lines-both (x ∷ xs) ys = ap (λ t. Piece.OneLine x ∷ t) (lines-both xs ys)
@@ -19,7 +19,7 @@ lines-both (x ∷ xs) ys = ap (λ t. Piece.OneLine x ∷ t) (lines-both xs ys)
 texts-both : (n : Network) (xs ys : List Line) → output_text n (lines (xs ++ ys)) ≡ output_text n (lines xs) ++ output_text n (lines ys)
 texts-both n xs ys = ap (output_text n) (lines-both xs ys) ∙ flat_map-append (piece_text n) (lines xs) (lines ys)
 
--- the lines that figures tell, one after another
+-- the lines that show figures, one after another
 texts-all : (n : Network) (g : Figure → List Line) (ks : List Figure) → flat_map (λ k. output_text n (lines (g k))) ks ≡ output_text n (lines (flat_map g ks))
 texts-all n g [] = refl
 texts-all n g (k ∷ ks) = ap (λ t. output_text n (lines (g k)) ++ t) (texts-all n g ks) ∙ sym (texts-both n (g k) (flat_map g ks))

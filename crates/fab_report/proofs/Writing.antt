@@ -1,4 +1,4 @@
--- Lines that are written in more than one part: the first words, and those behind them.
+-- Lines that are written in more than one part: the first words, and those after them.
 use Rattle.std.proofs.Common.{ℕ, ℤ, ◌≡◌, ◌<◌, ◌≤◌, ◌+◌, ◌-◌, ◌/◌, ◌%◌, List, [], ◌∷◌, ◌++◌, ap, sym, ◌∙◌, map, codes, decimal, arith}
 use Rattle.std.specs.Prelude.{flat_map}
 use Rattle.std.proofs.lemmas.Fmt.{decimal_digit, decimal_step}
@@ -11,7 +11,7 @@ use Rattle.run_defs.specs.declared.line.PlaceEntry.{PlaceEntry}
 use Rattle.run_defs.specs.LineText.{turn_text, place_text}
 use Rattle.fab_report.specs.Words.{behind}
 
--- words with one space between them are the first, and two lists of others behind it
+-- words with one space between them are the first, and two lists of others after it
 spaced_both : (w : List ℕ) (ws vs : List (List ℕ)) → spaced (w ∷ (ws ++ vs)) ≡ w ++ (behind ws ++ behind vs)
 spaced_both w ws vs = spaced_behind w (ws ++ vs) ∙ ap (λ t. w ++ t) (flat_map-append (λ x. 32 ∷ x) ws vs)
 
@@ -19,13 +19,13 @@ spaced_both w ws vs = spaced_behind w (ws ++ vs) ∙ ap (λ t. w ++ t) (flat_map
 two : (old a b : List ℕ) {t u : List ℕ} → t ≡ old ++ a → u ≡ t ++ b → u ≡ old ++ (a ++ b)
 two old a b e f = f ∙ ap (λ x. x ++ b) e ∙ append_assoc old a b
 
--- words of a line, and others behind them
+-- words of a line, and others after them
 pub continued : (old w : List ℕ) (ws vs : List (List ℕ)) {t u : List ℕ} → t ≡ old ++ spaced (w ∷ ws) → u ≡ t ++ behind vs → u ≡ old ++ spaced (w ∷ (ws ++ vs))
 continued old w ws vs e f =
     two old (spaced (w ∷ ws)) (behind vs) e f
     ∙ ap (λ t. old ++ t) (ap (λ t. t ++ behind vs) (spaced_behind w ws) ∙ append_assoc w (behind ws) (behind vs) ∙ sym (spaced_both w ws vs))
 
--- words behind others, and more behind them
+-- words after others, and more after them
 pub followed_by : (old : List ℕ) (ws vs : List (List ℕ)) {t u : List ℕ} → t ≡ old ++ behind ws → u ≡ t ++ behind vs → u ≡ old ++ behind (ws ++ vs)
 followed_by old ws vs e f = two old (behind ws) (behind vs) e f ∙ ap (λ t. old ++ t) (sym (flat_map-append (λ x. 32 ∷ x) ws vs))
 
@@ -36,7 +36,7 @@ pub routed : (old s r : List ℕ) (ts : List ℤ) {t u : List ℕ} → t ≡ old
 routed old s r ts {t} e f =
     continued old (codes "route") (s ∷ r ∷ []) (map turn_text ts) e (f ∙ ap (λ x. t ++ x) (sym (flat_map-map (λ w. 32 ∷ w) turn_text ts)))
 
--- tokens with their places behind a word
+-- tokens with their places after a word
 places_behind : (ps : List PlaceEntry) → behind (map place_text ps) ≡ flat_map (λ p. 32 ∷ place_text p) ps
 places_behind ps = flat_map-map (λ w. 32 ∷ w) place_text ps
 

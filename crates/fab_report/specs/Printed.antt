@@ -6,7 +6,7 @@ use Rattle.run_defs.specs.LineText.{output_text}
 use Rattle.run_defs.specs.Output.{Piece}
 use Rattle.run_defs.specs.Summary.{figures_in}
 
--- What was printed: a text, and what a summary tells of it.
+-- What was printed: a text, and what a summary shows of it.
 pub record PrintedState : Type 0 where
   pub text : List ℕ
   pub figures : List Figure

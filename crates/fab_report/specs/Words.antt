@@ -1,4 +1,4 @@
--- Words behind others, as they are written.
+-- Words after others, as they are written.
 use Rattle.std.specs.Prelude.{ℕ, List, ◌∷◌, flat_map}
 
 -- words that follow others in a line: a space before each

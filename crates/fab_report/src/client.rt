@@ -50,7 +50,7 @@ fn call_of(call: ClientCall) -> &'static [u8]
     }
 }
 
-// What the call was answered, behind other words.
+// What the call was answered, after other words.
 fn append_said(text: &mut Vec<u8>, f: &Fabric, said: &Said) -> Result<(), AllocError>
     requires { IsSaidOf f.now said.now }
     ensures { OnOk result (text.new.items ≡ text.old.items ++ behind (said_words f.now said.now)) }
@@ -122,7 +122,7 @@ fn append_body(text: &mut Vec<u8>, prio: u8, body: &[u8]) -> Result<(), AllocErr
     )
 }
 
-// Why the call is refused, behind other words.
+// Why the call is refused, after other words.
 fn append_refused(text: &mut Vec<u8>, cause: ClientCause) -> Result<(), AllocError>
     ensures { OnOk result (text.new.items ≡ text.old.items ++ behind (codes "refused" ∷ client_cause cause)) }
 {

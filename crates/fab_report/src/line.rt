@@ -38,7 +38,7 @@ pub fn print_line(alloc: Global, l: &Line, f: &Fabric) -> Result<Vec<u8>, AllocE
     Ok(text)
 }
 
-/// The same behind a text. Where memory is wanting, a part of the line may stand there.
+/// The same after a text. Where memory runs out, a part of the line may stand there.
 pub fn print_line_onto(text: &mut Vec<u8>, l: &Line, f: &Fabric) -> Result<(), AllocError>
     requires there { AreThere f.now l.now }
     ensures text { OnOk result (text.new.items ≡ text.old.items ++ line_text f.now l.now) }
@@ -56,7 +56,7 @@ pub(crate) fn print_made_onto(text: &mut Vec<u8>, l: Line, f: &Fabric) -> Result
     print_line_onto(text, &l, f)
 }
 
-/// The line of a route behind a text, without a copy of its walk. Where memory is wanting, a part of the line may
+/// The line of a route after a text, without a copy of its walk. Where memory runs out, a part of the line may
 /// stand there.
 pub fn print_route_onto(text: &mut Vec<u8>, r: &Route, f: &Fabric) -> Result<(), AllocError>
     requires there { AreThere f.now (route_line r.now) }

@@ -59,7 +59,7 @@ fn map_line(
     append_map_words(text, words, asks, packets)
 }
 
-/// How far a map is known to be right, its asks and its packets, behind other words.
+/// How far a map is known to be right, its asks and its packets, after other words.
 pub(crate) fn append_map_words(
     text: &mut Vec<u8>,
     words: MapWords,
@@ -81,7 +81,7 @@ pub(crate) fn append_map_words(
     )
 }
 
-// How far a map is known to be right, behind other words.
+// How far a map is known to be right, after other words.
 fn append_known(text: &mut Vec<u8>, words: MapWords) -> Result<(), AllocError>
     ensures { OnOk result (text.new.items ≡ text.old.items ++ behind (map_words words)) }
 {
@@ -158,7 +158,7 @@ fn append_turns(text: &mut Vec<u8>, turns: &[i8]) -> Result<(), AllocError>
     Ok(())
 }
 
-// A turn behind other words. Most words of a report are turns, so none is made a `Word` first.
+// A turn after other words. Most words of a report are turns, so none is made a `Word` first.
 fn append_turn(text: &mut Vec<u8>, turn: i8) -> Result<(), AllocError>
     ensures { OnOk result (text.new.items ≡ text.old.items ++ 32 ∷ turn_text turn) }
 {

@@ -33,7 +33,7 @@ pub(crate) fn tokens_line(
     append_both(text, sends, recvs)
 }
 
-// The tokens to send with and those to receive with, behind other words.
+// The tokens to send with and those to receive with, after other words.
 fn append_both(
     text: &mut Vec<u8>,
     sends: &[PlaceEntry],

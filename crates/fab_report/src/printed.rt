@@ -13,7 +13,7 @@ use std::alloc::{AllocError, Global};
 use std::marker::Model;
 use world_defs::Said;
 
-/// What a command printed: its text, and the figure that a summary tells of it, if there is one. Contracts see the
+/// What a command printed: its text, and the figure that a summary shows of it, if there is one. Contracts see the
 /// text and the figures.
 #[derive(Drop)]
 pub struct Printed {
@@ -40,7 +40,7 @@ impl Printed {
         }
     }
 
-    /// A text was printed, of which a summary tells this.
+    /// A text was printed, of which a summary shows this.
     pub fn with(text: Vec<u8>, figure: Figure) -> Printed
         ensures { result ≡ record { text = text.items; figures = figure ∷ [] } }
     {
@@ -79,14 +79,14 @@ impl Printed {
         self.text
     }
 
-    /// What a summary tells of it.
+    /// What a summary shows of it.
     pub fn figure(&self) -> Option<Figure>
         ensures { listed result ≡ self.now.figures }
     {
         self.figure
     }
 
-    /// More text was printed, of which a summary tells nothing.
+    /// More text was printed, of which a summary shows nothing.
     pub fn follow(&mut self, more: &[u8]) -> Result<(), AllocError>
         ensures { OnOk result (self.new ≡ record { text = self.old.text ++ more.now; figures = self.old.figures }) }
     {
@@ -94,7 +94,7 @@ impl Printed {
     }
 }
 
-// What a summary tells of a line.
+// What a summary shows of a line.
 fn figure_of(l: &Line) -> Option<Figure>
     ensures { listed result ≡ figures_of l.now }
 {
@@ -128,7 +128,7 @@ fn figure_of(l: &Line) -> Option<Figure>
     }
 }
 
-// What a summary tells of an answer to a client's call.
+// What a summary shows of an answer to a client's call.
 fn call_figure(call: ClientCall, said: &Said) -> Option<Figure>
     ensures { listed result ≡ call_figures call said.now }
 {

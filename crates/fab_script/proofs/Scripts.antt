@@ -16,7 +16,7 @@ use Rattle.run_defs.specs.declared.command.Command.{Command}
 use Rattle.run_defs.specs.Script.{command_of, ended, is_end, script_from, turns_of}
 use Rattle.fab_script.specs.Lists.{behind, where_sound, sound_from}
 
--- one item more behind others
+-- one item more after others
 pub behind-one : {X E : Type 0} (done : List X) (x : X) (r : Result (List X) E) → behind done (behind (x ∷ []) r) ≡ behind (done ++ x ∷ []) r
 behind-one done x (Ok xs) = ap Ok (sym (append_assoc done (x ∷ []) xs))
 behind-one done x (Err e) = refl

@@ -6,7 +6,7 @@ use Rattle.fab_text.specs.Line.{TextLine, lines_left, words_of}
 use Rattle.net_defs.specs.Network.{Network}
 use Rattle.run_defs.specs.Script.{command_of, ended, is_end}
 
--- what was read, behind others
+-- what was read, after others
 abbrev pub behind : {X E : Type 0} → List X → Result (List X) E → Result (List X) E
 behind done r = and_then r (λ more. Ok (done ++ more))
 
@@ -27,7 +27,7 @@ sound_from n (l ∷ ls) =
     if is_end (words_of l.bytes) then where_sound (ended ls) (l ∷ [])
     else where_sound (command_of n (words_of l.bytes)) (l ∷ sound_from n ls)
 
--- The sound lines of a script, behind so many: those before its first fault, up to `end`, which counts where nothing
+-- The sound lines of a script, after so many: those before its first fault, up to `end`, which counts where nothing
 -- that says something follows it.
 abbrev pub sound_lines : Network → ℕ → List ℕ → List TextLine
 sound_lines n line text = sound_from n (lines_left (record { number = line + 1; text = text }))

@@ -1,4 +1,4 @@
-//! Exactly so many words: the number of a line's words is told before their forms.
+//! Exactly so many words: the number of a line's words is judged before their forms.
 
 ghost use Rattle.std.specs.Prelude.{◌≡◌, ◌∷◌, [], false, length, nat_eq, MatchOption};
 ghost use Rattle.fab_text.specs.Line.{words_of};
@@ -65,7 +65,7 @@ pub(crate) fn four(mut args: Words) -> Option<(&[u8], &[u8], &[u8], &[u8])>
     }
 }
 
-/// The seven words that are left: three, and four behind them.
+/// The seven words that are left: three, and four after them.
 pub(crate) fn seven(
     mut args: Words,
 ) -> Option<((&[u8], &[u8], &[u8]), (&[u8], &[u8], &[u8], &[u8]))>

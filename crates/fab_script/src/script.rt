@@ -39,19 +39,19 @@ impl Script {
     }
 }
 
-/// Reads the script of a text: the lines behind its line `script`, which has the number `line`. Names are those of
+/// Reads the script of a text: the lines after its line `script`, which has the number `line`. Names are those of
 /// the fabric.
 ///
 /// A script that isn't of the form is refused with its first fault: the first line that has one, and in it, in this
 /// order, the first word (with `plan` and `step` the second word too), the number of words, each further word's form
 /// from left to right, and then the rules of the fabric: `NoVertex` for a name that no vertex has, or a switch's
 /// where a host must stand, and `PortRange` for a port that its vertex lacks. A script without `end` is refused at
-/// the line behind its last.
+/// the line after its last.
 pub fn read_script(alloc: Global, text: &[u8], line: u32, f: &Fabric) -> Result<Script, TextFault>
     requires { line + length text.now ≤ 4294967290 }
     // Exactly the commands that the lines say, or exactly the first fault.
     ensures reading { TextGives (script_reading f.now line text.now) result }
-    // Memory may be wanting only where a line stands before the first fault: one that has a fault takes none.
+    // Memory may run out only where a line stands before the first fault: one that has a fault takes none.
     ensures memory { IsErrOf result TextFault.NoMemory → 0 < length (sound_lines f.now line text.now) }
     // They name hosts and ends of the fabric, with numbers in the ranges of their places.
     ensures ranged { IfOk result (λ s. AllByRecursion (IsCommandOf f.now) s) }
@@ -85,7 +85,7 @@ fn read_lines(alloc: Global, text: &[u8], line: u32, f: &Fabric) -> Result<Scrip
     })
 }
 
-// The commands with `end` behind them, where nothing that says something follows it.
+// The commands with `end` after them, where nothing that says something follows it.
 fn finished(mut commands: Vec<Command>, mut left: Lines) -> Result<Script, TextFault>
     ensures reading { TextGives (behind commands.items (ended (lines_left left.entry))) result }
     ensures memory { IsErrOf result TextFault.NoMemory → IsOk (ended (lines_left left.entry)) }

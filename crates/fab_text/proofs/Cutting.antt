@@ -1,4 +1,4 @@
--- A text behind its first line, and a line behind its first word.
+-- A text after its first line, and a line after its first word.
 use Rattle.std.proofs.Common.{◌≡◌, ◌<◌, ◌≤◌, ℕ, suc, ◌+◌, ◌-◌, List, [], ◌∷◌, Bool, true, false, not, cond, ◌&&◌, length, take, drop, nat_lt, slice_index, Some, None, unwrap_or, true≢false, refl, ap, sym, ◌∙◌, arith, if◌then◌else◌}
 use Rattle.std.specs.Prelude.{position}
 use Rattle.std.specs.List.{position_or_len, onto_first}

@@ -10,7 +10,7 @@ use Rattle.fab_text.specs.declared.fault.LineFault.TheVariants.{Wrong, NoMemory 
 use Rattle.fab_text.specs.declared.fault.TextFault.{TextFault}
 use Rattle.fab_text.specs.declared.fault.TextFault.TheVariants.{At, NoMemory}
 
--- a kind as a report tells it
+-- a kind as a report shows it
 abbrev pub kind_word : FaultKind → List ℕ
 kind_word BadWord = codes "badword"
 kind_word NotNumber = codes "notnumber"

@@ -1,4 +1,4 @@
--- A text cut behind its first line, and a line cut behind its first word.
+-- A text cut after its first line, and a line cut after its first word.
 use Rattle.std.specs.Prelude.{ℕ, ◌-◌, ◌&&◌, List, length, take, drop, nat_lt, slice_index, if◌then◌else◌}
 use Rattle.std.specs.List.{position_or_len}
 use Rattle.fab_text.specs.Line.{is_line_end, is_return}

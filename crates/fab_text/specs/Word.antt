@@ -45,7 +45,7 @@ with_sign sign (Err e) = Err e
 abbrev pub minus : ℕ → ℤ
 minus n = neg_ℤ (pos n)
 
--- A turn is a number up to 15, behind `+` (43), `-` (45) or no sign.
+-- A turn is a number up to 15, after `+` (43), `-` (45) or no sign.
 abbrev pub turn_of : List ℕ → Result ℤ NumFault
 turn_of [] = Err NotNumber
 turn_of (b ∷ bs) =

@@ -8,7 +8,7 @@ use thiserror::Error;
 /// Why a word is no number of its place.
 #[derive(Clone, Copy, Debug, PartialEq, Eq, Error)]
 pub enum NumFault {
-    /// The word isn't of the form: digits, for a turn behind at most one sign.
+    /// The word isn't of the form: digits, for a turn after at most one sign.
     #[error("not a number")]
     NotNumber,
     /// Its value is outside the range of its place, above or below.
@@ -52,7 +52,7 @@ pub enum FaultKind {
 }
 
 impl FaultKind {
-    /// The kind in lower-case letters, as a report tells it.
+    /// The kind in lower-case letters, as a report shows it.
     pub fn word(self) -> &'static [u8]
         ensures { result.now ≡ kind_word self }
     {

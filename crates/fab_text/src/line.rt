@@ -1,4 +1,4 @@
-//! A text cut behind its first line.
+//! A text cut after its first line.
 
 ghost use Rattle.std.specs.Prelude.{◌≡◌, ◌≤◌, ◌<◌, ◌+◌, ◌∷◌, [], length, position, MatchOption};
 ghost use Rattle.std.specs.List.{position_or_len};

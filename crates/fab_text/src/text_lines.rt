@@ -35,7 +35,7 @@ impl<'a> Lines<'a> {
         Lines { number, rest: text }
     }
 
-    /// The text behind the line that came last, or behind the lines that were passed over at the end.
+    /// The text after the line that came last, or after the lines that were passed over at the end.
     pub fn rest(&self) -> &'a [u8]
         ensures { result.now ≡ self.now.text }
     {

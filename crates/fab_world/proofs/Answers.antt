@@ -1,4 +1,4 @@
--- What follows of an answer, where it is one or a want of memory.
+-- What follows of an answer, where it is one, or memory ran out.
 use Rattle.std.specs.Prelude.{Result, Ok, Err, OnErr, IfOk}
 
 pub if-ok : {A E : Type 0} {P Q : A → Type 0} (r : Result A E) → ((a : A) → P a → Q a) → IfOk r P → IfOk r Q

@@ -10,7 +10,7 @@ use Rattle.client_host.specs.Calls.{IsClientCall, IsCallGiven, host_of_call, por
 use Rattle.fab_world.specs.Events.{IsHostOf, IsGiven, takes_memory}
 use Rattle.fab_world.specs.Held.{IsPolledOfHosts}
 
--- An event is a call at its host: it may be made there, and the world tells of it what the host does.
+-- An event is a call at its host: it may be made there, and the world says of it what the host does.
 pub record IsCall (w : WorldState) (e : Event) : Type 0 where
   pub there : IsHostOf w (host_of_call e)
   pub given : IsCallGiven (host_count w) e

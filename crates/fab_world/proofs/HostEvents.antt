@@ -20,7 +20,7 @@ use Rattle.client_host.specs.Held.{ServedHost, in_state}
 use Rattle.fab_world.specs.Held.{world_of}
 use Rattle.fab_world.proofs.Places.{IsAt, found, changed-under, changed, same}
 
--- what a host does or leaves undone, as the world tells it
+-- what a host does or leaves undone, as the world says it
 done-or-idle : (w v : WorldState) (effect : Effect) (t b : Bool) (m : WorldState) → t ≡ b → (b ≡ true → m ≡ v) → (b ≡ false → m ≡ w)
     → (if t then (effect, v) else (let r : Effect × WorldState = (Idle, w) in r)) ≡ (if b then effect else Idle, m)
 done-or-idle w v effect t true m e done idle = ap (λ k. if k then (effect, v) else (let r : Effect × WorldState = (Idle, w) in r)) e ∙ ap (λ u. (effect, u)) (sym (done refl))

@@ -62,7 +62,7 @@ pub later-channels : (w v : WorldState) → IsMoment w → IsLater w v → lengt
 later-channels w v m l =
     (later-moment w v m l).world.links.slots ∙ ap channel_count (later-fabric w v l) ∙ sym m.world.links.slots
 
--- the world after a step, or after one that wanted memory
+-- the world after a step, or after one that ran out of memory
 pub step-later : {E : Type 0} (w v : WorldState) (e : Event) (r : Result Effect E) → IfOk r (λ x. step w e ≡ (x, v)) → OnErr r (v ≡ w) → IsLater w v
 step-later w v e (Ok x) is err = (e ∷ [], sym (ap (λ p. p.1) is))
 step-later w v e (Err y) is err = ([], err)
@@ -73,7 +73,7 @@ new-moment n f = record { fabric = f; world = new-world n; senders = new-senders
 pub planned-moment : (w : WorldState) (ahead : ℕ) (fault : Fault) → IsByteFault fault → IsMoment w → IsMoment (planned w ahead fault).1
 planned-moment w ahead fault low m = record { fabric = m.fabric; world = planned-world w ahead fault m.world; senders = planned-senders w ahead fault m.senders; plan = with-all (w.injected + ahead) fault w.plan low m.plan; adopted = m.adopted }
 
--- the world after a plan, or after one that wanted memory
+-- the world after a plan, or after one that ran out of memory
 pub plan-later : {E : Type 0} (w v : WorldState) (ahead : ℕ) (fault : Fault) (r : Result ℕ E) → IsByteFault fault → IsMoment w → IfOk r (λ number. planned w ahead fault ≡ (number, v)) → OnErr r (v ≡ w) → IsMoment v × (fabric_of v ≡ fabric_of w)
 plan-later w v ahead fault (Ok number) low m is err =
     let same : (planned w ahead fault).1 ≡ v = ap (λ p. p.1) is in

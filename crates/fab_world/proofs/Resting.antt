@@ -112,7 +112,7 @@ module _ (P : ℕ → NodeState → Type 0) where
     passed-by : (marks : List ℕ) (from h : ℕ) → world_of p ss o ≡ w → AreMarked P ss marks → IsNextMark marks from h → h < length ss → (k : ℕ) → from ≤ k → k < h → P k (node_at w k)
     passed-by marks from h is a next low k above below = holds-there marks k is a (omega (arith, below, low)) (next.passed k above below)
 
-    -- of all behind the last mark
+    -- of all after the last mark
     pub none-marked : (marks : List ℕ) (from : ℕ) → world_of p ss o ≡ w → AreMarked P ss marks → ((k : ℕ) → from ≤ k → mark_at marks k ≡ 0) → (h : ℕ) → from ≤ h → h < host_count w → P h (node_at w h)
     none-marked marks from is a bare h above low =
         let count = count-is p ss o w is in

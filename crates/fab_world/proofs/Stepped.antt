@@ -1,4 +1,4 @@
--- What an event leaves of a world, whether it happened or wanted memory.
+-- What an event leaves of a world, whether it happened or ran out of memory.
 use Rattle.std.proofs.Common.{◌≡◌, length, refl, ◌∙◌}
 use Rattle.std.specs.Prelude.{Result, Ok, Err, OnErr, IfOk}
 use Rattle.world_defs.specs.declared.event.Event.{Event}

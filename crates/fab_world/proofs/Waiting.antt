@@ -1,4 +1,4 @@
--- Whether something of a host isn't acknowledged, as the sum over its peers tells.
+-- Whether something of a host isn't acknowledged, as the sum over its peers says.
 use Rattle.std.proofs.Common.{◌≡◌, ◌<◌, ◌≤◌, ◌+◌, ℕ, zero, suc, Bool, true, false, nat_eq, nat_lt, List, [], ◌∷◌, map, length, refl, sym, ap, subst, arith}
 use Rattle.std.specs.List.{range_with_len}
 use Rattle.std.proofs.lemmas.Bool.Decides.{nat_tests}
@@ -30,7 +30,7 @@ some-in-sum f from (suc n) p low high some =
         let rest = later less in
         omega (arith, rest)
 
--- as a host's lanes tell it
+-- as a host's lanes say it
 by-sum : (w : WorldState) (host : ℕ) (b : Bool) → IsMoment w → IsHostOf w host → IsTold (node_at w host) b → b ≡ nat_lt 0 (unacknowledged_from w host)
 by-sum w host false m there told = sym (ap (nat_lt 0) (none-in-sum (unacknowledged_to (node_at w host)) (addresses w) (told.0 refl)))
 by-sum w host true m there told = by (told.1 refl)
@@ -49,7 +49,7 @@ by-sum w host true m there told = by (told.1 refl)
         let sum : 0 < unacknowledged_from w host = some-in-sum (unacknowledged_to n) 0 (host_count w) peer (omega arith) (omega (arith, among)) waits in
         grind (arith, nat_tests)
 
--- and as a host that stands in the world told it
+-- and as a host that stands in the world said it
 pub told-by-sum : (w v : WorldState) (n : NodeState) (host : ℕ) (b : Bool) → w ≡ v → IsMoment w → IsHostOf v host → n ≡ node_at w host
     → (b ≡ false → (peer : ℕ) → unacknowledged_to n peer ≡ 0) → (b ≡ true → (lane : ℕ) × (lane < length n.lanes) × (0 < unacknowledged_on n lane))
     → b ≡ nat_lt 0 (unacknowledged_from v host)

@@ -90,7 +90,7 @@ nth-map f [] i = refl
 nth-map f (y ∷ ys) zero = refl
 nth-map f (y ∷ ys) (suc i) = nth-map f ys i
 
--- elements that are apart: the parts before and behind a place
+-- elements that are apart: the parts before and after a place
 pub all-at : {X : Type 0} (P : X → Type 0) (xs ys : List X) (y : X) → AllByRecursion P (xs ++ y ∷ ys) → P y
 all-at P [] ys y all = all.0
 all-at P (x ∷ xs) ys y all = all-at P xs ys y all.1

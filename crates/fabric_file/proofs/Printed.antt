@@ -13,7 +13,7 @@ use Rattle.fabric_file.specs.Printing.{host_words, switch_words, cable_words, ho
 use Rattle.fabric_file.proofs.Cutting.{printed-more}
 use Rattle.fabric_file.proofs.Names.{nth-there, ends-nth, vertex-there}
 
--- one element more behind what was printed
+-- one element more after what was printed
 behind : {X : Type 0} (f : X → List ℕ) (xs : List X) (i : ℕ) (x : X) (text loop new : List ℕ) → slice_get xs i ≡ Some x
     → loop ≡ text ++ flat_map f (take i xs) → new ≡ loop ++ f x → new ≡ text ++ flat_map f (take (i + 1) xs)
 behind f xs i x text loop new at so_far more =

@@ -46,7 +46,7 @@ sound-some n m ls rest l e s d =
     ∙ ap (λ r. length (sound_behind l r (λ m. sound_from m rest))) d in
     omega (arith, one)
 
--- and so is one at which memory is wanting
+-- and so is one at which memory runs out
 pub sound-wanting : (n : Network) (ls rest : List TextLine) (l : TextLine) → ls ≡ l ∷ rest → false ≡ is_script (words_of l.bytes) → IsOk (declared n (words_of l.bytes)) → 0 < length (sound_from n ls)
 sound-wanting n ls rest l e s o = by (declared n (words_of l.bytes)) refl o
   where

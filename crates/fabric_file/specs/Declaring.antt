@@ -19,7 +19,7 @@ use Rattle.fab_text.specs.Word.{name_test, u32_of}
 use Rattle.fab_text.specs.Line.{one_of, two_of, four_of}
 use Rattle.fab_text.specs.Fault.{as_kind, and_then}
 
--- the kind of a fabric's refusal (which is never want of memory)
+-- the kind of a fabric's refusal (running out of memory is none)
 abbrev pub refusal_kind : GraphFault → FaultKind
 refusal_kind NoPort = PortRange
 refusal_kind IsTaken = NameTaken

@@ -19,12 +19,12 @@ fabric_from size past n (l ∷ ls) =
     then Ok (record { fabric = n; next = size - length l.after; line = l.number })
     else and_then (at_line l.number (declared n (words_of l.bytes))) (λ m. fabric_from size past m ls)
 
--- The fabric of a text, where it is accepted up to its line `script`, or the first fault.
+-- A text says a fabric where it is accepted up to its line `script`; else it has a first fault.
 abbrev pub fabric_reading : List ℕ → Result FabricText FirstFault
 fabric_reading text = fabric_from (length text) (line_count text + 1) empty_network
     (lines_left (record { number = 1; text = text }))
 
--- a line, where it has no fault, and the lines of those behind it
+-- a line, where it has no fault, and the lines of those after it
 abbrev pub sound_behind : TextLine → Result Network FaultKind → (Network → List TextLine) → List TextLine
 sound_behind l (Ok n) behind = l ∷ behind n
 sound_behind l (Err kind) behind = []

@@ -30,7 +30,7 @@ pub fn read_fabric(alloc: Global, text: &[u8]) -> Result<FabricText, TextFault>
     requires { length text.now ≤ 4294967290 }
     // Exactly the fabric that the lines declare, or exactly the first fault.
     ensures reading { TextGives (fabric_reading text.now) result }
-    // Memory may be wanting only where a line stands before the first fault: one that has a fault takes none.
+    // Memory may run out only where a line stands before the first fault: one that has a fault takes none.
     ensures memory { IsErrOf result TextFault.NoMemory → 0 < length (sound_lines text.now) }
     ensures fabric { IfOk result (λ t. IsFabric t.fabric) }
     ensures named { IfOk result (λ t. AreNamed t.fabric) }

@@ -42,7 +42,7 @@ lines-short (l ∷ ls) all =
     let sum : length (line_text l ++ lines_text ls) ≡ length (line_text l) + length (lines_text ls) = length-append (line_text l) (lines_text ls) in
     omega arith
 
--- lines behind lines
+-- lines after lines
 two-short : (a b : ℕ) (ls ms : List (List (List ℕ))) → length (lines_text ls) ≤ a → length (lines_text ms) ≤ b → length (lines_text (ls ++ ms)) ≤ a + b
 two-short a b ls ms h k =
     let sum : length (lines_text (ls ++ ms)) ≡ length (lines_text ls) + length (lines_text ms) =

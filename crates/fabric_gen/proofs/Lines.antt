@@ -7,13 +7,13 @@ use Rattle.std.proofs.lemmas.List.FromFn.{map-range_with_len_more}
 use Rattle.fab_text.specs.Written.{line_text}
 use Rattle.fabric_gen.specs.Text.{below, lines_text}
 
--- lines behind others
+-- lines after others
 pub lines_written : (old first text : List ℕ) (xs ys : List (List (List ℕ))) → first ≡ old ++ lines_text xs → text ≡ first ++ lines_text ys
     → text ≡ old ++ lines_text (xs ++ ys)
 lines_written old first text xs ys a b =
     b ∙ ap (λ t. t ++ lines_text ys) a ∙ append_assoc old (lines_text xs) (lines_text ys) ∙ ap (λ t. old ++ t) (sym (flat_map-append line_text xs ys))
 
--- one line behind others
+-- one line after others
 pub line_written : (old first text : List ℕ) (xs : List (List (List ℕ))) (l : List (List ℕ)) → first ≡ old ++ lines_text xs → text ≡ first ++ line_text l
     → text ≡ old ++ lines_text (xs ++ l ∷ [])
 line_written old first text xs l a b = lines_written old first text xs (l ∷ []) a (b ∙ ap (λ t. first ++ t) (sym (append-nil (line_text l))))

@@ -15,7 +15,7 @@ pub keeps-same : (taken : Option (List ℕ)) → Keeps taken taken
 keeps-same None = tt
 keeps-same (Some bytes) = refl
 
--- where memory was wanting before a refusal was written, and before the first command
+-- where memory ran out before a refusal was written, and before the first command
 pub refusal-nothing : (f : FirstFault) (taken : Option (List ℕ)) (faults risen : ℕ) (s : Status) (held : Option SessionState) → s ≡ NoMemory → held ≡ None → RefusalEnds f taken taken faults risen s held
 refusal-nothing f taken faults risen s held e h = subst (λ t. RefusalEnds f taken taken faults risen t held) (sym e) (keeps-same taken, h)
 

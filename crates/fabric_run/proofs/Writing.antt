@@ -97,7 +97,7 @@ some-at [] i x h e = absurd (omega arith)
 some-at (y ∷ ys) zero x h e = ap Some (sym e)
 some-at (y ∷ ys) (suc i) x h e = some-at ys i x (omega arith) e
 
--- memory was wanting for a command behind first ones
+-- memory ran out for a command after the first ones
 pub interrupted : (n : Network) (cs : List Command) (i : ℕ) (taken now : Option (List ℕ)) (s t : SessionState) (c : Command) → i < length cs → c ≡ get_or cs i c → HaveRun n (take i cs) taken now s
     → IsCutShort s c t.world → t.last_map ≡ s.last_map → t.last_routes ≡ s.last_routes → IsInterrupted (record { network = n; commands = cs }) taken now (Some t)
 interrupted n cs i taken now s t c low at ran cut made found = record {
@@ -132,7 +132,7 @@ cut-part a r taken now held k =
     text_of_both n k.before k.own ∙ ap (λ l. first ++ l) k.took.2 ∙ sym (append_assoc first k.took.0 k.took.1) in
     part-of-all a r (suc k.count) taken now k.last (k.before ++ k.own) (first ++ k.took.0) k.took.1 k.run whole k.took.4
 
--- and before memory was wanting
+-- and before memory ran out
 pub interrupted-part : (a : AcceptedText) (r : HasRun a.network a.commands) (taken now : Option (List ℕ)) (held : Option SessionState) → IsInterrupted a taken now held → IsPartOfReport a taken now
 interrupted-part a r taken now held k =
     let printed : List ℕ = output_text a.network k.ran.output in

@@ -54,7 +54,7 @@ abbrev pub TakesPast : Option (List ℕ) → Option (List ℕ) → List ℕ → 
 TakesPast taken now first second = (part : List ℕ) × (rest : List ℕ) × (second ≡ part ++ rest) × (0 < length rest)
     × Appends taken now (first ++ part)
 
--- A write failed behind a command: all that those before it printed was taken, and a prefix of its own text, but not
+-- A write failed after a command: all that those before it printed was taken, and a prefix of its own text, but not
 -- all of that; its session is handed back.
 pub record IsCutOff (a : AcceptedText) (taken now : Option (List ℕ)) (held : Option SessionState) : Type 0 where
   pub count : ℕ
@@ -67,8 +67,8 @@ pub record IsCutOff (a : AcceptedText) (taken now : Option (List ℕ)) (held : O
   pub took : TakesPast taken now (output_text a.network before) (output_text a.network own)
   pub hands_back : held ≡ Some last
 
--- The command of a text behind so many was cut short in a session and left another: a prefix of its acts leads from the
--- one world to the other, and the last map and the last routes are as they were.
+-- The command of a text after so many others was cut short in a session and left another: a prefix of its acts leads
+-- from the one world to the other, and the last map and the last routes are as they were.
 pub record IsLeftShort (a : AcceptedText) (count : ℕ) (before left : SessionState) : Type 0 where
   pub command : Command
   pub next : slice_get a.commands count ≡ Some command
@@ -76,7 +76,7 @@ pub record IsLeftShort (a : AcceptedText) (count : ℕ) (before left : SessionSt
   pub map_stays : left.last_map ≡ before.last_map
   pub routes_stay : left.last_routes ≡ before.last_routes
 
--- Memory was wanting for a command, or for the first session: the sink took exactly what the commands before it
+-- Memory ran out for a command, or for the first session: the sink took exactly what the commands before it
 -- printed, and the session that is handed back is theirs with this command cut short. None is handed back only where
 -- no command had run.
 pub record IsInterrupted (a : AcceptedText) (taken now : Option (List ℕ)) (held : Option SessionState) : Type 0 where
@@ -102,14 +102,14 @@ RefusalEnds f taken now faults risen WriteFault held =
 RefusalEnds f taken now faults risen NoMemory held = Keeps taken now × (held ≡ None)
 RefusalEnds f taken now faults risen _ held = ⊥
 
--- A write failed: behind a command of an accepted text, of whose report a prefix was taken, or in the one line of a
+-- A write failed: after a command of an accepted text, of whose report a prefix was taken, or in the one line of a
 -- refused text, which has no session. Not all of what was due was taken.
 abbrev pub IsWriteCut : Result AcceptedText FirstFault → Option (List ℕ) → Option (List ℕ) → Option SessionState
     → Type 0
 IsWriteCut (Ok a) taken now held = IsCutOff a taken now held × IsPartOfReport a taken now
 IsWriteCut (Err f) taken now held = TakesProperPrefix taken now (refusal_text f) × (held ≡ None)
 
--- Memory was wanting: for a command of an accepted text, of whose report a prefix was taken, or for the one line of a
+-- Memory ran out: for a command of an accepted text, of whose report a prefix was taken, or for the one line of a
 -- refused text, of which nothing was taken, and which has no session.
 abbrev pub IsMemoryCut : Result AcceptedText FirstFault → Option (List ℕ) → Option (List ℕ) → Option SessionState
     → Type 0
@@ -126,7 +126,7 @@ TextEnds text taken now faults risen NoMemory held =
     (Keeps taken now × (held ≡ None)) ⊎ IsMemoryCut (reading text) taken now held
 TextEnds text taken now faults risen _ held = ⊥
 
--- what is told of the source and the sink at a moment
+-- what is known of the source and the sink at a moment
 pub record Moment : Type 0 where
   pub left : Option (List ℕ)
   pub read_faults : ℕ
@@ -139,7 +139,8 @@ SomeTextEnds before now status held =
     (text : List ℕ) × Came before.left now.left text
     × TextEnds text before.taken now.taken before.write_faults now.write_faults status held
 
--- How a run of the form `run` may end.
+-- A run of the form `run` may end so: each status says what was read and what the sink took, and which session is
+-- handed back. It never ends with `Usage`.
 abbrev pub InputEnds : Moment → Moment → Status → Option SessionState → Type 0
 InputEnds before now Done held = SomeTextEnds before now Done held
 InputEnds before now (Refused line kind) held = SomeTextEnds before now (Refused line kind) held

@@ -16,7 +16,7 @@ use Rattle.fabric_run.specs.declared.status.Status.{Status}
 use Rattle.fabric_run.specs.declared.status.Status.TheVariants.{Done, WriteFault, NoMemory}
 use Rattle.input_texts.specs.Reading.{AcceptedText, IsAccepted}
 
--- A command was done, and its figures were put behind others.
+-- A command was done, and its figures were put after others.
 pub record IsCounted (s : SessionState) (c : Command) (next : SessionState) (before now : List Figure) : Type 0 where
   pub output : List Piece
   pub does : Does s c output next
@@ -47,7 +47,7 @@ pub record IsGenerated (hosts seed : ℕ) (due : List ℕ) (last : SessionState)
   pub accepted : IsAccepted (gen_text hosts seed) says
   pub run : IsRunOf says hosts seed due last
 
--- How the writing of a summary may end: the session behind all commands is handed back.
+-- How the writing of a summary may end: the session after all commands is handed back.
 abbrev pub SummaryEnds : List ℕ → SessionState → Option (List ℕ) → Option (List ℕ) → ℕ → ℕ → Status
     → Option SessionState → Type 0
 SummaryEnds due last taken now faults risen Done held = Appends taken now due × (held ≡ Some last)
@@ -64,7 +64,7 @@ pub record IsSummed (hosts seed : ℕ) (taken now : Option (List ℕ)) (faults r
   pub written : SummaryEnds due last taken now faults risen status held
 
 -- How a run of the form `gen` may end: the whole summary was taken, or a prefix before a failed write, and not all of
--- it; where memory was wanting, nothing, and no session is handed back.
+-- it; where memory ran out, nothing, and no session is handed back.
 abbrev pub GenEnds : ℕ → ℕ → Option (List ℕ) → Option (List ℕ) → ℕ → ℕ → Status → Option SessionState → Type 0
 GenEnds hosts seed taken now faults risen Done held = IsSummed hosts seed taken now faults risen Done held
 GenEnds hosts seed taken now faults risen WriteFault held = IsSummed hosts seed taken now faults risen WriteFault held

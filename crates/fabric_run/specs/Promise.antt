@@ -1,4 +1,4 @@
--- What every accepted text promises, behind each of its commands.
+-- What every accepted text promises, after each of its commands.
 use Rattle.std.specs.Prelude.{◌≡◌, ℕ, ◌<◌, ◌≤◌, List, [], ◌∷◌, length, take, Some, Ok, slice_get}
 use Rattle.net_defs.specs.Network.{Network}
 use Rattle.journal_defs.specs.declared.entry.Entry.{Entry}
@@ -39,19 +39,19 @@ pub record IsRight (n : Network) (mapper : ℕ) (m : NetMap) : Type 0 where
   pub part : IsMapOfPart n mapper m
   pub read_back : map_reading n (map_text n m) ≡ Ok m
 
--- behind first commands of a text the next one does something, and one thing
+-- after the first commands of a text the next one does something, and one thing
 abbrev pub EachCommandIsDone : AcceptedText → Type 0
 EachCommandIsDone a =
     (count : ℕ) (out : List Piece) (s : SessionState) (c : Command)
     → IsRun a.network (take count a.commands) out s → slice_get a.commands count ≡ Some c → HasDone s c
 
--- every map that a run of first commands of a text prints under the word complete is right
+-- every map that a run of the first commands of a text prints under the word complete is right
 abbrev pub CompleteMapsAreTrue : AcceptedText → Type 0
 CompleteMapsAreTrue a =
     (count : ℕ) (out : List Piece) (last : SessionState) (mapper : ℕ) (m : NetMap)
     → IsRun a.network (take count a.commands) out last → HasPrinted out mapper m → IsRight a.network mapper m
 
--- behind first commands of a text, on a quiet fabric, a map from a host of the fabric to the depth that suffices, of
+-- after the first commands of a text, on a quiet fabric, a map from a host of the fabric to the depth that suffices, of
 -- at most 32 cables, with 1 to 8 tries an ask, says complete
 abbrev pub DeepMapsAreComplete : AcceptedText → Type 0
 DeepMapsAreComplete a =
@@ -70,12 +70,12 @@ DeepMapsArePrinted a =
     → Does s (Map host depth tries) printed next → IsQuiet host s.world next.world
     → enough_depth a.network host ≤ depth → (m : NetMap) × HasPrinted printed host m
 
--- behind first commands of a text no channel waits for itself along the installed routes
+-- after the first commands of a text no channel waits for itself along the installed routes
 abbrev pub RoutesHaveNoCycle : AcceptedText → Type 0
 RoutesHaveNoCycle a = (count : ℕ) (out : List Piece) (last : SessionState)
     → IsRun a.network (take count a.commands) out last → HasNoCycle (IsBefore (installed_channels last.world))
 
--- behind first commands of a text, where the next one is an installation that prints `installed K of N`, that line
+-- after the first commands of a text, where the next one is an installation that prints `installed K of N`, that line
 -- has its cause
 abbrev pub InstalledLinesAreTrue : AcceptedText → Type 0
 InstalledLinesAreTrue a =
@@ -83,7 +83,7 @@ InstalledLinesAreTrue a =
     → IsRun a.network (take count a.commands) out s → slice_get a.commands count ≡ Some (Install tries)
     → Does s (Install tries) (OneLine (Installed acked total) ∷ rest) next → IsInstalledLine s next tries acked total
 
--- so it counts all hosts where injections are left behind it and no planned fault lost, held or flipped a packet of it
+-- so it counts all hosts where injections are left after it and no planned fault lost, held or flipped a packet of it
 abbrev pub UnharmedInstallationsCountAll : AcceptedText → Type 0
 UnharmedInstallationsCountAll a =
     (count : ℕ) (out rest : List Piece) (s next : SessionState) (tries acked total : ℕ)
@@ -91,8 +91,8 @@ UnharmedInstallationsCountAll a =
     → Does s (Install tries) (OneLine (Installed acked total) ∷ rest) next
     → next.world.injected < last_count → next.world.harmed ≡ s.world.harmed → acked ≡ total
 
--- behind first commands of a text, where the next one is a settle, what its line says is true; and where injections
--- are left behind it, the world is settled
+-- after the first commands of a text, where the next one is a settle, what its line says is true; and where injections
+-- are left after it, the world is settled
 abbrev pub SettledLinesAreTrue : AcceptedText → Type 0
 SettledLinesAreTrue a =
     (count : ℕ) (out rest : List Piece) (s next : SessionState) (rounds resets unacked : ℕ)
@@ -100,12 +100,12 @@ SettledLinesAreTrue a =
     → Does s Settle (OneLine (SettleLine rounds resets unacked) ∷ rest) next
     → IsSettledLine s next rounds resets unacked
 
--- behind first commands of a text the world is sound
+-- after the first commands of a text the world is sound
 abbrev pub WorldsAreSound : AcceptedText → Type 0
 WorldsAreSound a = (count : ℕ) (out : List Piece) (last : SessionState)
     → IsRun a.network (take count a.commands) out last → IsSound last.world
 
--- behind first commands of a text the world is reached: acts that may happen lead to it from the fabric's first world
+-- after the first commands of a text the world is reached: acts that may happen lead to it from the first world
 abbrev pub WorldsAreReached : AcceptedText → Type 0
 WorldsAreReached a = (count : ℕ) (out : List Piece) (last : SessionState)
     → IsRun a.network (take count a.commands) out last → IsReached a.network last.world
@@ -115,15 +115,15 @@ WorldsAreReached a = (count : ℕ) (out : List Piece) (last : SessionState)
 abbrev pub PartsAreTied : AcceptedText → Type 0
 PartsAreTied a = (w : WorldState) → IsReached a.network w → HasTiedParts w
 
--- behind first commands of a text, the next one, once it is done, has been acts that lead to the world behind it, each
--- of them one action of one host or of one channel, and behind each prefix of these acts the world is sound
+-- after the first commands of a text, the next one, once it is done, was acts that lead to the world after it, each of
+-- them one action of one host or of one channel, and after each prefix of these acts the world is sound
 abbrev pub CommandsHaveSoundActs : AcceptedText → Type 0
 CommandsHaveSoundActs a =
     (count : ℕ) (out printed : List Piece) (s next : SessionState) (c : Command)
     → IsRun a.network (take count a.commands) out s → slice_get a.commands count ≡ Some c → Does s c printed next
     → HasSoundActs s c next
 
--- and where it is cut short for want of memory, the world is sound too
+-- and where it is cut short, since memory ran out, the world is sound too
 abbrev pub CutCommandsLeaveSound : AcceptedText → Type 0
 CutCommandsLeaveSound a =
     (count : ℕ) (out : List Piece) (s : SessionState) (c : Command) (v : WorldState)
@@ -138,7 +138,7 @@ pub record IsCircuitRight (n : Network) (host depth asks : ℕ) (m : NetMap) : T
   pub core : (es : List Ear) → ArePathsOfCore n host es → most_back es ≤ depth → IsMapOfCore n host m
   pub read_back : map_reading n (map_text n m) ≡ Ok m
 
--- every map of circuit links that a run of first commands of a text prints is right so
+-- every map of circuit links that a run of the first commands of a text prints is right so
 abbrev pub CircuitMapsAreTrue : AcceptedText → Type 0
 CircuitMapsAreTrue a =
     (count : ℕ) (out : List Piece) (last : SessionState) (host depth asks : ℕ) (m : NetMap)
@@ -147,8 +147,8 @@ CircuitMapsAreTrue a =
 
 -- The promise of an accepted text: its commands have a run, and one, whose text is the report. Its maps under the word
 -- complete are true, deep maps of a quiet fabric say so, its maps of circuit links are true, each count of installed
--- hosts has its cause, and each settle ends settled while injections are left. Each command is acts, each one action
--- of one host or of one channel, and may happen. The world is sound behind its first commands, and behind each
+-- hosts has its cause, and each settle ends settled while injections are left. Each command is acts that may happen,
+-- each of them one action of one host or of one channel. The world is sound after its first commands, and after each
 -- prefix of the acts of the next one, where that is done and where it is cut short: the installed routes have no
 -- cycle, what was got is a prefix of what was sent, for each sender, receiver and priority, and each token has one
 -- owner; and of a message that came in part one provided buffer holds what came. So it is at every moment, whatever

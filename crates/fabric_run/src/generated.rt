@@ -32,7 +32,7 @@ pub(crate) fn run_generated<K: Sink>(alloc: Global, n: u8, seed: u32, out: &mut 
     }
 }
 
-// The session behind all commands of the text, and the summary of what they printed.
+// The session after all commands of the text, and the summary of what they printed.
 fn run_text(alloc: Global, n: u8, seed: u32) -> Result<(Session, Vec<u8>), AllocError>
     requires some { 2 ≤ n }
     requires few { n ≤ 24 }
@@ -44,7 +44,7 @@ fn run_text(alloc: Global, n: u8, seed: u32) -> Result<(Session, Vec<u8>), Alloc
     with_summary(alloc, n, seed, session, &figures)
 }
 
-// The session behind all commands of what a text says, and the figures of what they printed.
+// The session after all commands of what a text says, and the figures of what they printed.
 fn run_accepted(alloc: Global, accepted: Accepted) -> Result<(Session, Vec<Figure>), AllocError>
     requires over { AllByRecursion (IsCommandOf accepted.network) accepted.commands }
     ensures counted { IfOk result (λ r. HaveCounted accepted.network accepted.commands r.1.items r.0) }
@@ -93,7 +93,7 @@ fn run_commands(
     Ok((session, figures))
 }
 
-// Lets a session do a command, and puts the figure of what it printed, if there is one, behind the others.
+// Lets a session do a command, and puts the figure of what it printed, if there is one, after the others.
 fn run_command(
     alloc: Global,
     session: Session,
@@ -113,7 +113,7 @@ fn run_command(
     }
 }
 
-// Puts a figure, if there is one, behind others.
+// Puts a figure, if there is one, after others.
 fn keep_figure(
     session: Session,
     figure: Option<Figure>,

@@ -11,7 +11,7 @@ pub enum Status {
     Done,
     /// The words are none of the forms. Nothing was read or written.
     Usage,
-    /// The text isn't accepted. The line `refused LINE KIND` was taken, which tells the first fault.
+    /// The text isn't accepted. The line `refused LINE KIND` was taken, which reports the first fault.
     Refused {
         /// The number of the line, from 1.
         line: u32,

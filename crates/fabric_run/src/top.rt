@@ -31,7 +31,7 @@ const MAX_INPUT: usize = 1048576;
 /// Does what the words of a command line ask for.
 ///
 /// Under `run` it reads a text to its end, and writes the report of its script, each command's lines once it has run,
-/// or the one line of a text that is refused, which tells the first fault. Under `gen N SEED` it reads nothing: it
+/// or the one line of a text that is refused, which reports the first fault. Under `gen N SEED` it reads nothing: it
 /// runs the text of N hosts and the seed, and writes the summary of its report once all commands ran. The session of
 /// the script is handed back.
 pub fn run<S: Source, K: Sink>(alloc: Global, words: &[Word], input: &mut S, out: &mut K) -> Ran
@@ -56,7 +56,7 @@ pub fn run<S: Source, K: Sink>(alloc: Global, words: &[Word], input: &mut S, out
         × ((a : AcceptedText) × IsAccepted text a × IsReported a (K.taken out.old)
         (K.taken out.new) result.session) }
 
-    // The whole input was read and isn't accepted, and the sink took exactly the line that tells its first fault.
+    // The whole input was read and isn't accepted, and the sink took exactly the line that reports its first fault.
     ensures refused { (line kind : _) → result.status ≡ Status.Refused line kind
         → (text : List ℕ) × Came (S.left input.old) (S.left input.new) text × IsRefused text line kind
         × Appends (K.taken out.old) (K.taken out.new) (refusal_text (record { line = line; kind = kind })) }
@@ -66,9 +66,9 @@ pub fn run<S: Source, K: Sink>(alloc: Global, words: &[Word], input: &mut S, out
     ensures read_fault_writes_nothing { result.status ≡ Status.ReadFault → out.new ≡ out.old }
     ensures write_fault { result.status ≡ Status.WriteFault → Rose (K.faults out.old) (K.faults out.new) }
 
-    // Under `run`, after a failed write: the session behind the commands that ran, of which the sink took what they
+    // Under `run`, after a failed write: the session after the commands that ran, of which the sink took what they
     // printed, but for the end of the last one's text; or, of a refusal's line, a prefix, not the whole. So where
-    // the sink tells that it took such a line whole, the answer is the refusal.
+    // the sink says that it took such a line whole, the answer is the refusal.
     ensures write_fault_part { IsRunForm words.now → result.status ≡ Status.WriteFault
         → (text : List ℕ) × Came (S.left input.old) (S.left input.new) text
         × IsWriteCut (reading text) (K.taken out.old) (K.taken out.new) result.session }
@@ -87,7 +87,7 @@ pub fn run<S: Source, K: Sink>(alloc: Global, words: &[Word], input: &mut S, out
 
     // Under `gen N SEED` nothing is read. The text of N and SEED is accepted and all its commands ran: the sink took
     // exactly the summary of what they printed, or a prefix before a failed write, and not all of it, and their
-    // session is handed back; or memory was wanting, nothing was written, and no session is handed back. There is no
+    // session is handed back; or memory ran out, nothing was written, and no session is handed back. There is no
     // other answer.
     ensures gen_reads_nothing { (n seed : ℕ) → IsGenForm words.now n seed → input.new ≡ input.old }
     ensures generated { (n seed : ℕ) → IsGenForm words.now n seed
@@ -101,7 +101,7 @@ pub fn run<S: Source, K: Sink>(alloc: Global, words: &[Word], input: &mut S, out
     // right, a deep one of a quiet fabric says so, a map of circuit links is the circuit map to its depth, each count
     // of installed hosts has its cause, each settle ends settled, and the installed routes have no cycle. Each command
     // is acts, each one action of one host or of one channel. Every moment of the run is sound, and reached by acts
-    // that may happen: the world behind its first commands, and behind each prefix of the acts of the next one.
+    // that may happen: the world after its first commands, and after each prefix of the acts of the next one.
     ensures promise { (text : List ℕ) (a : AcceptedText) → IsAccepted text a → IsPromised a }
 {
     promised_texts();

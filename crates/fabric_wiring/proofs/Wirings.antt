@@ -91,7 +91,7 @@ counted-there n e s f there is =
     let at : nat_lt e.p (ports_of n (Switch s)) ≡ true = sym (ap (λ v. nat_lt e.p (ports_of n v)) is) ∙ there in
     ap (λ v. is_port_count (ports_of n v)) is ∙ switch-counted n.switches s e.p f.port_counts at
 
--- what an entry tells of its channel
+-- what an entry says of its channel
 pub record IsEntry (n : Network) (c : ℕ) (e : Entry) : Type 0 where
   pub end : channel_head n c ≡ Some e.end
   pub ports : e.ports ≡ ports_of n e.end.v

@@ -65,7 +65,7 @@ gone_on-host s c held (Arrives g) h wire e = cc
 gone_on-host s c held (Enters next) h wire e = absurd (entered-host s c held next (packet_in (emptied s c) next) h wire e)
 gone_on-host s c held (Drops why) h wire e = cc
 
--- and so is the one that an advance tells
+-- and so is the one that an advance reports
 pub host_there : (s : LinkState) (c h : ℕ) (wire : List ℕ) → IsFabric s.net → (advance s c).0 ≡ AtHost h wire → h < length s.net.hosts
 host_there s c h wire fabric e = by (packet_in s c) e
   where

@@ -108,7 +108,7 @@ abbrev pub drops_by : ℕ → Moved (List ℕ) → ℕ
 drops_by n (MovedDropped why) = counted n
 drops_by n _ = n
 
--- a part behind an advance of the links
+-- a part after an advance of the links
 abbrev pub went : LinksAndPlan → Moved (List ℕ) × LinkState → LinksAndPlan
 went p o = record p { links = o.1; dropped = drops_by p.dropped o.0 }
 
@@ -138,7 +138,7 @@ hops old p q c (Hopped next) l same is after = goes old p q c (To next) l same r
 hops old p q c (Waits next) l same is after = goes old p q c (MovedBlocked next) l same refl (sym (ap (λ x. x.0) is)) (sym (ap (λ x. x.1) is)) after
 hops old p q c Untried l same is after = (after ∙ ap (linked p) is.0 ∙ same, ap (λ r. is_hop (advance r.links c).0) (sym same) ∙ is.1)
 
--- a part behind a fault that may have struck
+-- a part after a fault that may have struck
 abbrev pub struck : LinksAndPlan → Fault → Bool × LinkState → LinksAndPlan
 struck p f o = record p { links = o.1; struck = if o.0 then p.struck + 1 else p.struck; harmed = if o.0 then (if is_harm f then p.harmed + 1 else p.harmed) else p.harmed }
 

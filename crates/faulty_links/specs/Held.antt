@@ -25,7 +25,7 @@ pub record CountState : Type 0 where
   pub struck : ℕ
   pub harmed : ℕ
 
--- the counts behind an injection for which a fault was planned: whether it struck, and whether it is one that harms
+-- the counts after an injection for which a fault was planned: whether it struck, and whether it is one that harms
 abbrev pub behind_fault : CountState → Bool → Bool → CountState
 behind_fault n strikes is_harm = record n {
   injected = n.injected + 1;
@@ -101,7 +101,7 @@ abbrev pub IsHeardAt : LinksAndPlan → ℕ → ℕ → List ℕ → Type 0
 IsHeardAt p c h wire = (w : WorldState) → advanced (with_part w p) c
     ≡ arrived (lost (with_part w p) c).1 h (hear h (host_count w) (node_at w h) wire)
 
--- an arrival at a host of the packet of a channel is told so, and leaves these links, in which the channel is empty,
+-- an arrival at a host of a channel's packet is reported so, and leaves these links, in which the channel is empty,
 -- whatever it made of the host
 abbrev pub IsToldOf : LinksAndPlan → ℕ → ℕ → Arrival → Effect → LinksAndPlan → Type 0
 IsToldOf old c h arrival effect new = (w : WorldState) (n : NodeState)

@@ -34,7 +34,7 @@ finished-by w n answer e up is = let all = heard-finished w n e in let more = fi
 pub taken-up : (s : SenderState) (n : ℕ) → is_taken s n ≡ true → s.base ≤ n
 taken-up s n e = let b = (both (nat_lt s.base n) (nat_le n s.top) e).0 in grind (arith, nat_tests)
 
--- and no more than the numbers behind the first that waits
+-- and no more than the numbers after the first that waits
 whole-most : (ms : List Message) (n : ℕ) → whole_below ms n ≤ n
 whole-most [] n = omega arith
 whole-most (m ∷ ms) n = by (nat_le (piece_count (length m.body)) n) refl (whole-most ms (n - piece_count (length m.body)))

@@ -142,7 +142,7 @@ module _ (sent : List Message) (s : ℕ) where
   pub cut-count : length (fragments sent) ≡ length (fragments (take s sent)) + length (fragments (drop s sent))
   cut-count = ap (λ l. length (fragments l)) cut ∙ ap length (fragments-append (take s sent) (drop s sent)) ∙ length-append (fragments (take s sent)) (fragments (drop s sent))
 
-  -- a number behind the fragments of those before
+  -- a number after the fragments of those before
   pub cut-get : (k : ℕ) → slice_get (fragments sent) (length (fragments (take s sent)) + k) ≡ slice_get (fragments (drop s sent)) k
   cut-get k = ap (λ l. slice_get (fragments l) (length (fragments (take s sent)) + k)) cut ∙ ap (λ l. slice_get l (length (fragments (take s sent)) + k)) (fragments-append (take s sent) (drop s sent))
       ∙ get-behind (fragments (take s sent)) (fragments (drop s sent)) k
@@ -159,7 +159,7 @@ below-behind (m ∷ xs) ys k =
     whole-late m (xs ++ ys) (length (fragments (m ∷ xs)) + k) past in
     omega (arith, all, rest)
 
--- what waits is of the last messages: so many were sent before, and the first fragment that waits is the one behind theirs
+-- what waits is of the last messages: so many were sent before, and the first fragment that waits is the one after theirs
 pub record IsLast (w : Outgoing) (sent : List Message) : Type 0 where
   pub few : length w.waiting ≤ length sent
   pub before : length (take (length sent - length w.waiting) sent) ≡ length sent - length w.waiting

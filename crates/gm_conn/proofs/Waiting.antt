@@ -97,7 +97,7 @@ none-at w place most e = by (slice_get w.waiting place) refl e
         ap (λ l. whole_below l most) (drop-at (messages w) place (message_of d) (message-at w place d t))
         ∙ whole-early (message_of d) (drop (place + 1) (messages w)) most (omega (arith, low, many))
 
--- ---- a walk over the messages that wait: so many lie wholly below a number, and the fragments behind them begin there
+-- ---- a walk over the messages that wait: so many lie wholly below a number, and the fragments after them begin there
 pub record IsWalked (w : Outgoing) (n place from : ℕ) : Type 0 where
   pub before : from ≡ first w + length (fragments (take place (messages w)))
   pub left : place_below w n ≡ place + whole_below (drop place (messages w)) (n - from)

@@ -119,7 +119,7 @@ pub record IsOutgoingFrom (from : ℕ) (w : Outgoing) : Type 0 where
 abbrev pub place_below : Outgoing → ℕ → ℕ
 place_below w n = whole_below (messages w) (n - first w)
 
--- and the number of the first fragment behind them
+-- and the number of the first fragment after them
 abbrev pub first_below : Outgoing → ℕ → ℕ
 first_below w n = first w + length (fragments (take (place_below w n) (messages w)))
 

@@ -56,7 +56,7 @@ impl DescRing {
         }
     }
 
-    /// Puts one behind the others, into the room that was made.
+    /// Puts one after the others, into the room that was made.
     pub(crate) fn push_back_reserved(&mut self, d: Desc)
         requires { 0 < self.old.spare }
         ensures items { self.new.items ≡ self.old.items ++ d ∷ [] }

@@ -236,7 +236,7 @@ impl Sender {
         let _ = &self.base;
     }
 
-    // How many of the messages that wait lie wholly below a number, and the number of the first fragment behind them.
+    // How many of the messages that wait lie wholly below a number, and the number of the first fragment after them.
     fn below(&self, n: u32) -> (usize, u32)
         requires { first self.now ≤ n }
         ensures place { result.0 ≡ place_below self.now n }

@@ -35,7 +35,7 @@ get-pieces_from m (suc k) offset (suc n) low =
 get-pieces : (m : Message) (n : ℕ) → n < piece_count (length m.body) → slice_get (pieces m) n ≡ Some (fragment_at m (n * piece))
 get-pieces m n low = let e : 0 + n * piece ≡ n * piece = omega arith in get-pieces_from m (piece_count (length m.body)) 0 n low ∙ ap (λ o. Some (fragment_at m o)) e
 
--- places in two lists, one behind the other
+-- places in two lists, one after the other
 pub get-front : {A : Type 0} (xs ys : List A) (i : ℕ) → i < length xs → slice_get (xs ++ ys) i ≡ slice_get xs i
 get-front [] ys i low = absurd (omega (arith, low))
 get-front (x ∷ xs) ys zero low = refl
@@ -111,7 +111,7 @@ goes-on len n low e = let k : piece < len - n * piece = grind (arith, nat_tests)
 short-rest : (len n : ℕ) → is_last len (n * piece) ≡ true → len - n * piece ≤ piece
 short-rest len n e = grind (arith, nat_tests)
 
--- bytes before a place, those of the piece there, and those behind it
+-- bytes before a place, those of the piece there, and those after it
 take-none : {A : Type 0} (k : ℕ) (xs : List A) → xs ≡ [] → take k xs ≡ []
 take-none zero xs e = refl
 take-none (suc k) [] e = refl
@@ -241,7 +241,7 @@ more-below (m ∷ xs) ys n low = by (nat_lt n (piece_count (length m.body))) ref
         let r = rest (omega (arith, long, low, past)) in
         (whole-late m (xs ++ ys) n past ∙ ap (λ k. 1 + k) r.0 ∙ sym (whole-late m xs n past), begun-late m (xs ++ ys) n past ∙ r.1 ∙ sym (begun-late m xs n past))
 
--- all messages lie wholly below the number behind their last fragment
+-- all messages lie wholly below the number after their last fragment
 pub all-below : AllBelowLast
 all-below [] = refl
 all-below (m ∷ ms) =
@@ -287,7 +287,7 @@ below-few (m ∷ ms) n = by (nat_le (piece_count (length m.body)) n) (below-few 
     by true rest = omega (arith, rest)
     by false rest = omega arith
 
--- Where the message of a number's fragment begins: behind the fragments of those wholly below, and the fragment so many pieces from there.
+-- Where the message of a number's fragment begins: after the fragments of those wholly below, and the fragment so many pieces from there.
 pub record IsHolder (ms : List Message) (k : ℕ) (f : Fragment) : Type 0 where
   pub low : length (fragments (take (whole_below ms k) ms)) ≤ k
   pub offset : f.offset ≡ (k - length (fragments (take (whole_below ms k) ms))) * piece

@@ -124,7 +124,7 @@ MoreIsSent =
     (ms more : List Message) (n : ℕ) → n ≤ length (fragments ms)
     → (whole_below (ms ++ more) n ≡ whole_below ms n) × (begun_below (ms ++ more) n ≡ begun_below ms n)
 
--- all messages are whole below the number behind their last fragment
+-- all messages are whole below the number after their last fragment
 abbrev pub AllBelowLast : Type 0
 AllBelowLast = (ms : List Message) → whole_below ms (length (fragments ms)) ≡ length ms
 

@@ -125,12 +125,12 @@ is_from src (Some f) = nat_eq f.src src
 abbrev pub is_filling_for : ℕ → ℕ → Provided → Bool
 is_filling_for src prio r = is_from src r.filling && nat_eq r.prio prio
 
--- some token of a port is
+-- some token of a port is filling for them
 abbrev pub has_begun : PortState → ℕ → ℕ → Bool
 has_begun p src prio = list_any (is_filling_for src prio) p.provided
 
--- What holds of the filling tokens of a port: each is filling right, and of two not both with messages of one host and
--- one priority.
+-- The filling tokens of a port are right: each is filling right, and no two with messages of the same host and
+-- priority.
 pub record AreFilling (p : PortState) : Type 0 where
   pub right : AllByRecursion IsFillingRight p.provided
   pub once : (src prio : ℕ) → length (filter (is_filling_for src prio) p.provided) ≤ 1
@@ -148,8 +148,8 @@ abbrev pub holds_before : FrameHead → Option Filling → Bool
 holds_before h None = false
 holds_before h (Some f) = nat_eq f.src h.src && nat_eq f.total h.total && nat_eq f.held h.offset
 
--- A token takes a fragment of a port where a token for its message has begun or hasn't: a message's first fragment
--- where none has and the token is free for the message, a later one where the token holds exactly what comes before it.
+-- A provided token takes a message's first fragment where no token has begun a message of that host and priority, and
+-- this one is free for it; it takes a later fragment where it holds exactly what comes before that.
 abbrev pub takes : FrameHead → Bool → Provided → Bool
 takes h begun r =
     if nat_eq h.offset 0 then not begun && is_free_for h.total h.prio r

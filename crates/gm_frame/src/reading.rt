@@ -40,7 +40,7 @@ fn is_frame(b: &[u8]) -> bool
     b.len() >= FRAME_LENGTH && begins_with(FRAME, b) && is_head(&head_in(b)) && has_part(b)
 }
 
-// Whether as many bytes stand behind a frame's head as it says.
+// Whether as many bytes stand after a frame's head as it says.
 fn has_part(b: &[u8]) -> bool
     requires { FRAME_LENGTH ≤ length b.now }
     ensures { result ≡ nat_eq (length (part_in b.now)) (head_in b.now).len }

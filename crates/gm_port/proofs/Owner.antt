@@ -90,7 +90,7 @@ apart-with_send s (x ∷ ss) us apart new = by (nat_lt s.token x.token) refl (ap
     by true e r = rw e (new, apart)
     by false e r = rw e (all-with_send (λ u. x.token ≢ u) s ss us (λ same. new.0 (sym same)) apart.0, r)
 
--- one is found, taken out, and put behind
+-- one is found, taken out, and put last
 module _ {A : Type 0} (f : A → ℕ) (test : A → Bool) where
   pub all-moved : (P : ℕ → Type 0) (xs : List A) (us : List ℕ) (r : A) → find test xs ≡ Some r → AllByRecursion P (map f xs ++ us) → AllByRecursion P (map f (without_first test xs) ++ (us ++ f r ∷ []))
   all-moved P [] us r e all = cc
@@ -146,7 +146,7 @@ few-events p one =
     let c = count-events p.events in
     omega (arith, s, r, c, sends, recvs)
 
--- what is in the front of a list, without what is behind it
+-- what is in the front of a list, without what is after it
 all-without : (P : ℕ → Type 0) (ts : List ℕ) (u : ℕ) (us : List ℕ) → AllByRecursion P (ts ++ u ∷ us) → AllByRecursion P (ts ++ us)
 all-without P [] u us all = all.1
 all-without P (t ∷ ts) u us all = (all.0, all-without P ts u us all.1)

@@ -1,6 +1,6 @@
 //! The unfinished sends of a port.
 //!
-//! A send's ticket is the number of its token, so who knows a token knows its ticket: a slab doesn't tell which key it
+//! A send's ticket is the number of its token, so who knows a token knows its ticket: a slab doesn't say which key it
 //! gives out next, and a port's next state is one value. `slots` says where token and buffer lie.
 //!
 //! ```text

@@ -1,4 +1,4 @@
--- Two journals that are told alike and have grown to one depth are one.
+-- Two journals that are answered alike and have grown to one depth are one.
 use Rattle.std.proofs.Common.{◌≡◌, ◌≤◌, ℕ, List, [], ◌∷◌, ◌++◌, length, Bool, true, false, sym, ◌∙◌, subst, ap, refl, arith, append_assoc, append-nil, if◌then◌else◌, ◌⊎◌, inl, inr}
 use Rattle.std.specs.Prelude.{ℤ}
 use Rattle.std.specs.List.{AllByRecursion}
@@ -46,7 +46,7 @@ data Begins (j l : List Entry) : Type 0 where
   goes_further : (rest : List Entry) → l ≡ j ++ rest → Begins j l
   stops_before : (rest : List Entry) → j ≡ l ++ rest → Begins j l
 
--- what was told of a journal was told of its beginnings
+-- what was answered to a journal was answered to its beginnings
 told-part : (tell : List Entry → List ℤ → Answer) (j l rest : List Entry) → IsTold tell l → l ≡ j ++ rest → IsTold tell j
 told-part tell j l rest t is = record { told = λ before e r p. t.told before e (r ++ rest) (is ∙ ap (λ i. i ++ rest) p ∙ append_assoc before (e ∷ r) rest) }
 
@@ -61,7 +61,7 @@ told-push tell j e t a = record { told = λ before f r p. by before f r p (by_la
         let split : j ++ e ∷ [] ≡ (before ++ f ∷ ys) ++ y ∷ [] = p ∙ ap (λ x. before ++ f ∷ x) q ∙ sym (append_assoc before (f ∷ ys) (y ∷ [])) in
         t.told before f ys (push-parts j (before ++ f ∷ ys) e y split).0
 
--- true answers are told by the fabric, whatever was asked before
+-- true answers are given by the fabric, whatever was asked before
 pub true-told : (n : Network) (host : ℕ) (j : List Entry) → IsTrueJournal n host j → IsTold (λ i w. answer n host w) j
 true-told n host j all = record { told = λ before e rest p. (true-parts n host before (e ∷ rest) (subst (IsTrueJournal n host) p all)).1.0 }
 

@@ -12,18 +12,18 @@ use Rattle.journal_defs.specs.Growth.{NextAsk, node_limit, IsGrowing, IsGrown, I
 use Rattle.journal_defs.specs.Part.{farthest, host_distance}
 use Rattle.journal_defs.specs.Depth.{IsSmallEnough, enough_depth}
 
--- Each answer is what is told of its walk after the entries before it: by a fabric, or by a world that probes have
+-- Each answer is what is said of its walk after the entries before it: by a fabric, or by a world that probes have
 -- changed.
 pub record IsTold (tell : List Entry → List ℤ → Answer) (j : List Entry) : Type 0 where
   pub told : (before : List Entry) (e : Entry) (rest : List Entry) → j ≡ before ++ e ∷ rest
       → e.answer ≡ tell before e.walk
 
--- Two journals that are told so and have grown to one depth are one journal.
+-- Two journals that are answered so and have grown to one depth are one journal.
 abbrev pub ToldJournalIsOne : Type 0
 ToldJournalIsOne = (tell : List Entry → List ℤ → Answer) (host depth : ℕ) (j l : List Entry) → IsTold tell j
     → IsTold tell l → IsGrown host depth j → IsGrown host depth l → j ≡ l
 
--- What is told is true of a fabric wherever it finds something.
+-- What is said is true of a fabric wherever it finds something.
 abbrev pub TellsTruth : Network → ℕ → (List Entry → List ℤ → Answer) → Type 0
 TellsTruth n host tell = (j : List Entry) (w : List ℤ) → tell j w ≢ Nothing → tell j w ≡ answer n host w
 

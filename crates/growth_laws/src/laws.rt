@@ -11,7 +11,7 @@ ghost use Rattle.growth_laws.specs.Laws.{
   BoundIsTight,
 };
 
-/// A journal that has grown to a depth is one: with true answers, and with any that are told after the entries before.
+/// A journal that has grown to a depth is one: with true answers, and with any that are given after the entries before.
 pub fn grown_journal_is_one()
     ensures told { ToldJournalIsOne }
     ensures true_answers { GrownJournalIsOne }

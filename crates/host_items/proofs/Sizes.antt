@@ -40,7 +40,7 @@ entries-short (e ∷ es) h =
 abbrev numbers_ruled : RoutePart → Bool
 numbers_ruled p = nat_lt p.epoch (2 ^ 32) && nat_lt p.mapper (2 ^ 16) && nat_lt p.dst (2 ^ 16) && nat_lt p.part p.parts && nat_le p.parts 16
 
--- its numbers behind the kind
+-- its numbers after the kind
 abbrev numbers_of : RoutePart → List ℕ
 numbers_of p = 4 ∷ to_be_bytes w32 p.epoch ++ to_be_bytes w16 p.mapper ++ to_be_bytes w16 p.dst ++ p.part ∷ p.parts ∷ []
 

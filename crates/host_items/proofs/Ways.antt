@@ -1,4 +1,4 @@
--- A way back that is written turn after turn, and the heads of probes piece behind piece.
+-- A way back that is written turn after turn, and the heads of probes piece after piece.
 use Rattle.std.proofs.Common.{◌≡◌, ◌<◌, ◌+◌, ◌-◌, ◌*◌, ℕ, List, [], ◌∷◌, ◌++◌, take, map, set, get_or, length, append_assoc, sym, ap, ◌∙◌, arith}
 use Rattle.std.specs.Prelude.{ℤ, pos, neg_ℤ, reverse}
 use Rattle.std.proofs.lemmas.List.{take_more, take_more_set, get_or-map, get_or-reverse, length-map, length-reverse, map-append}
@@ -42,7 +42,7 @@ way-written bytes turns place put turn room low same is before =
 pub way-bytes-length : (turns : List ℤ) → length (map route_byte (way_back turns)) ≡ length turns
 way-bytes-length turns = length-map (way_back turns) route_byte ∙ way-length turns
 
--- what is written piece behind piece is the head of a host probe
+-- what is written piece after piece is the head of a host probe
 pub host-laid : (turns back : List ℤ) (front body one two three four : List ℕ) (n : ℕ) → take (0 + n) one ≡ map route_byte turns → take (n + 2) two ≡ take n one ++ 0 ∷ 5 ∷ []
     → take (n + 2 + 12) three ≡ take (n + 2) two ++ front → take (n + 14 + n) four ≡ take (n + 14) three ++ map route_byte back → front ++ map route_byte back ≡ body
     → take (2 * n + 14) four ≡ head_of turns Mapping body

@@ -15,7 +15,7 @@ use turn_bytes::{route_byte, write_turns};
 /// The most bytes of a probe's head: 64 route bytes, the type, and a body.
 pub(crate) const MAX_HEAD: usize = 142;
 
-/// The head of a host probe, and zeros behind it.
+/// The head of a host probe, and zeros after it.
 pub(crate) fn host_head(turns: &[i8], number: u64, mapper: u16) -> [u8; MAX_HEAD]
     requires few { length turns.now ≤ 64 }
     requires turns { All IsTurn turns.now }
@@ -35,7 +35,7 @@ pub(crate) fn host_head(turns: &[i8], number: u64, mapper: u16) -> [u8; MAX_HEAD
     head
 }
 
-/// The head of a probe that returns, and zeros behind it. Its route is the turns, the turn 0 that leads back into the
+/// The head of a probe that returns, and zeros after it. Its route is the turns, the turn 0 that leads back into the
 /// last cable, and the way back.
 pub(crate) fn loop_head(turns: &[i8], number: u64, mapper: u16) -> [u8; MAX_HEAD]
     requires few { length turns.now ≤ 31 }
@@ -53,7 +53,7 @@ pub(crate) fn loop_head(turns: &[i8], number: u64, mapper: u16) -> [u8; MAX_HEAD
     head
 }
 
-// Writes bytes behind the first so many.
+// Writes bytes after the first so many.
 fn put(head: &mut [u8], at: usize, bytes: &[u8])
     requires { at + length bytes.now ≤ length head.old }
     ensures front { take (at + length bytes.now) head.new ≡ take at head.old ++ bytes.now }
@@ -62,7 +62,7 @@ fn put(head: &mut [u8], at: usize, bytes: &[u8])
     head[at..at + bytes.len()].copy_from_slice(bytes);
 }
 
-// Writes the route bytes of turns behind the first so many bytes.
+// Writes the route bytes of turns after the first so many bytes.
 fn put_route(head: &mut [u8], at: usize, turns: &[i8])
     requires { at + length turns.now ≤ length head.old }
     ensures front { take (at + length turns.now) head.new ≡ take at head.old ++ map route_byte turns.now }
@@ -71,7 +71,7 @@ fn put_route(head: &mut [u8], at: usize, turns: &[i8])
     write_turns(&mut head[at..at + turns.len()], turns);
 }
 
-// Writes the route bytes of a way back behind the first so many bytes.
+// Writes the route bytes of a way back after the first so many bytes.
 fn put_way_back(head: &mut [u8], at: usize, turns: &[i8])
     requires there { at + length turns.now ≤ length head.old }
     requires turns { All IsTurn turns.now }

@@ -284,7 +284,7 @@ heard-state p u n k is key numbers gone = λ i. record {
   state = record p.state { sender = numbers i; pending = (gone ∙ ap (λ c. drop c p.state.pending) is) i };
 }
 
--- what holds of each holds of those behind the first so many
+-- what holds of each holds of those after the first so many
 all-dropped : {X : Type 0} (P : X → Type 0) (k : ℕ) (xs : List X) → AllByRecursion P xs → AllByRecursion P (drop k xs)
 all-dropped P zero xs all = all
 all-dropped P (suc k) [] all = all

@@ -1,5 +1,5 @@
 //! Sets of a host's lanes: those that owe an acknowledgement, those with a fragment due, and those on which something
-//! isn't acknowledged. A host with nothing to do is told by a look at the least of each.
+//! isn't acknowledged. A host with nothing to do is seen by a look at the least of each.
 
 ghost use Rattle.std.specs.Prelude.{◌≡◌, ◌<◌, ◌≤◌, ◌^◌, ℕ, length, IfOk, IfSome, IfNone};
 ghost use Rattle.number_marks.specs.Marks.{IsNextMark, mark_at};

@@ -297,7 +297,7 @@ fn message_in(alloc: Global, e: Envelope, b: &mut Reg, len: u32) -> Result<Messa
     }
 }
 
-// The bytes of a fragment come behind those of its message that came before. With the last the message joins those
+// The bytes of a fragment come after those of its message that came before. With the last the message joins those
 // that were got.
 fn keep(
     alloc: Global,
@@ -333,7 +333,7 @@ fn keep(
     }
 }
 
-// Puts the bytes of a fragment behind those that came of its message. A first one makes room for all of them.
+// Puts the bytes of a fragment after those that came of its message. A first one makes room for all of them.
 fn append(coming: &mut Vec<u8>, h: &FrameHead, part: &[u8]) -> Result<(), AllocError>
     ensures ok { OnOk result (coming.new.items ≡ coming.old.items ++ part.now) }
     ensures err { OnErr result (coming.new.items ≡ coming.old.items) }

@@ -19,7 +19,7 @@ use Rattle.input_texts.proofs.Cases.{IsCase, each-case}
 use Rattle.input_texts.proofs.Meant.{IsThere, map-said, open-sender-said, open-receiver-said, poll-said, provide-said, send-said, routes-said, install-said, lose-said, hold-said, repeat-said, settle-said}
 use Rattle.input_texts.proofs.Saying.{Says, says-both, says-range, read-lines, read-end}
 
--- the last of five lists, behind the others
+-- the last of five lists, after the others
 shifted : {X : Type 0} (a b c d e : List X) → a ++ (b ++ (c ++ (d ++ e))) ≡ (a ++ (b ++ (c ++ d))) ++ e
 shifted a b c d e = sym (simp append_assoc)
 

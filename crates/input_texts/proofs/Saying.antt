@@ -55,7 +55,7 @@ read-lines past k f ((w ∷ ws) ∷ ls) (c ∷ cs) rest last says end =
 pub read-end : (past k : ℕ) (f : Network) → script_from past f (lines_left (record { number = k; text = line_text (codes "end" ∷ []) })) ≡ Ok (Finish ∷ [])
 read-end past k f = refl
 
--- lines behind lines
+-- lines after lines
 pub says-both : (f : Network) (ls ms : List (List (List ℕ))) (cs ds : List Command) → Says f ls cs → Says f ms ds → Says f (ls ++ ms) (cs ++ ds)
 says-both f [] ms [] ds a b = b
 says-both f [] ms (c ∷ cs) ds a b = absurd a

@@ -20,7 +20,7 @@ abbrev pub gen_of : Option ℕ → Option ℕ → Option Form
 gen_of (Some n) (Some seed) = Some (Gen n seed)
 gen_of _ _ = None
 
--- behind `gen` stand two numbers: hosts from 2 to 24, and a seed up to 1,000,000
+-- after `gen` stand two numbers: hosts from 2 to 24, and a seed up to 1,000,000
 abbrev pub gen_form : List (List ℕ) → Option Form
 gen_form (n ∷ seed ∷ []) = gen_of (number_from 2 24 n) (number_from 0 1000000 seed)
 gen_form _ = None

@@ -73,7 +73,7 @@ gen_commands n seed = mapping_commands n ++ (client_commands n seed
 abbrev pub script_start : ℕ → ℕ
 script_start n = length (lines_text (fabric_lines n))
 
--- A text is accepted: it has its fabric up to the line `script`, and behind that line exactly its commands.
+-- A text is accepted: it has its fabric up to the line `script`, and after that line exactly its commands.
 pub record IsAccepted (n seed : ℕ) : Type 0 where
   pub fabric : fabric_reading (gen_text n seed)
       ≡ Ok (record { fabric = gen_fabric n; next = script_start n; line = 4 * n })

@@ -1,5 +1,5 @@
 //! What an input says: words ask for a run, and a text is read as a fabric and its commands, or its first fault is
-//! told.
+//! reported.
 //!
 //! It runs nothing: that is `fabric_run`. `specs/Forms.antt` says what words ask for, `specs/Reading.antt` which texts
 //! are accepted and what they say, `specs/Generated.antt` what every generated text says.

@@ -18,7 +18,7 @@ use std::marker::Model;
 pub struct Accepted {
     /// The fabric of its lines up to `script`.
     pub fabric: Fabric,
-    /// The commands of the lines behind that.
+    /// The commands of the lines after that.
     pub script: Script,
 }
 

@@ -8,7 +8,7 @@ use fab_text::FaultKind;
 use port_graph::Fabric;
 use std::alloc::{AllocError, Global};
 
-/// The line of a text that isn't accepted: it tells the first fault. It names no vertex, so it is printed with the
+/// The line of a text that isn't accepted: it reports the first fault. It names no vertex, so it is printed with the
 /// names of none.
 pub fn refusal_line(alloc: Global, line: u32, kind: FaultKind) -> Result<Vec<u8>, AllocError>
     ensures { IfOk result (λ text. text.items ≡ refusal_text record { line = line; kind = kind }) }

@@ -74,7 +74,7 @@ pub answer-first : (h : ℕ) (n : NodeState) (x : StagedAck) → n.staged ≡ No
 unfolding to_send
 answer-first h n x e f g = rw (e, f, g) refl
 
--- what is left of the host behind it
+-- what is left of the host after it
 pub part-left : (mapper h : ℕ) (n : NodeState) (p : RoutePart) (by : List ℤ) → IsBetween mapper h n → IsBetween mapper h (after_sending n (TablePart p by)) × SamePorts n (after_sending n (TablePart p by))
 unfolding after_sending
 part-left mapper h n p by b = (record { unstaged = λ other. refl; no_reply = b.no_reply; low = b.low }, record { lanes = refl; ports = refl })

@@ -115,7 +115,7 @@ entries-rules n host (r ∷ rs) up all = by (nat_eq r.from host) refl (entries-r
 pub entries-ruled : (n : Network) (host : ℕ) (rs : List Route) → AreRising rs → AllByRecursion (IsWay n) rs → AreRuled n (entries_from rs host)
 entries-ruled n host rs up all = record { rules = entries-rules n host rs up all; hosts = entries-all (IsWay n) (λ e. e.to < length n.hosts) host rs (λ r f w. w.host) all }
 
--- the rules of an entry and of those behind it
+-- the rules of an entry and of those after it
 record Ruled (e : RouteEntry) (es : List RouteEntry) : Type 0 where
   first : (nat_lt e.to (2 ^ 16) && is_route e.walk) ≡ true
   above : list_all (λ d. nat_lt e.to d.to) es ≡ true

@@ -34,7 +34,7 @@ EachMissedWasHarmed a tries (h ∷ hs) w =
     ((host_installed a tries h w).0 ≡ false → HasHarmedPart a.mapper h tries (parts_of a h) w)
     × EachMissedWasHarmed a tries hs (host_installed a tries h w).1
 
--- Where injections are left behind an installation, each host that it doesn't count has a part each of whose tries
+-- Where injections are left after an installation, each host that it doesn't count has a part each of whose tries
 -- met a planned loss, hold or flip, on the part or on its acknowledgement.
 abbrev pub MissedHostsWereHarmed : Type 0
 MissedHostsWereHarmed =

@@ -48,7 +48,7 @@ UnplannedCountsAll =
     → lookup (nat_eq number) w.plan ≡ None)
     → (installed a hosts tries w).0 ≡ length hosts
 
--- What the count of an installation tells: each host that isn't counted has a part each of whose tries met a planned
+-- What the count of an installation shows: each host that isn't counted has a part each of whose tries met a planned
 -- loss, hold or flip, on the part or on its acknowledgement; so all hosts are counted where none did.
 pub record TellsCause (a : Adoption) (hosts : List ℕ) (tries acked : ℕ) (w v : WorldState) : Type 0 where
   pub missed : EachMissedWasHarmed a tries hosts (all_given_up w)

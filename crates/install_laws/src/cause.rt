@@ -12,7 +12,7 @@ pub fn missed_hosts()
 {}
 
 /// At most all hosts are counted; all exactly where each part was acknowledged, and so where no planned fault harms.
-/// What a count tells is the cause of each host that isn't counted, and this.
+/// A count shows the cause of each host that isn't counted, and this.
 pub fn counted_hosts()
     ensures at_most { CountsAtMostAll }
     ensures acknowledged { CountsAllWhereAcknowledged }

@@ -1,6 +1,6 @@
 //! Why an installation counts fewer hosts than it has, and what it leaves as it was.
 //!
-//! It installs nothing, and leaves open whether a counted host's table is active behind the installation; what the line
+//! It installs nothing, and leaves open whether a counted host's table is active after the installation; what the line
 //! of an installation says in a run is `install_line_laws`. Read `specs/Cause.antt` first.
 //!
 //! | file of `specs/` | says |

@@ -46,7 +46,7 @@ RunRoutesAreOfMap =
     → AllByRecursion (IsActOf n) commands
     → IsRun n commands out s → s.last_routes ≡ Some l → IsSetOfMap n l
 
--- where nothing refuses an installation behind a run, the last routes can be installed once they are adopted
+-- where nothing refuses an installation after a run, the last routes can be installed once they are adopted
 abbrev pub RunCanInstall : Type 0
 RunCanInstall =
     (n : Network) (commands : List Command) (out : List Piece) (s : SessionState) (l : LastRoutes) → IsFabric n
@@ -69,7 +69,7 @@ pub record IsInstalledLine (s next : SessionState) (tries acked total : ℕ) : T
       (all_given_up (adopted_by s.world last.mapper last.routes))
   pub unharmed : 0 < tries → next.world.injected < last_count → next.world.harmed ≡ s.world.harmed → acked ≡ total
 
--- every such line behind a run says so
+-- every such line after a run says so
 abbrev pub InstalledLineIsTrue : Type 0
 InstalledLineIsTrue =
     (n : Network) (commands : List Command) (out rest : List Piece) (s next : SessionState) (tries acked total : ℕ)

@@ -40,7 +40,7 @@ near n x m = within same_vertex (edges_of n.cables) x m
 abbrev pub distance : Network → Vertex → Vertex → ℕ
 distance n x y = edges_between same_vertex (edges_of n.cables) (length (vertices n)) x y
 
--- the mapper's part, computed
+-- the mapper's part, computed: the vertices that cables join to the mapper's host
 abbrev pub part : Network → ℕ → List Vertex
 part n host = filter (is_among same_vertex (near n (Host host) (length (vertices n)))) (vertices n)
 

@@ -38,7 +38,7 @@ use Rattle.lawful_laws.proofs.Stuck.{led-flows}
 use Rattle.table_laws.proofs.Dependencies.{reached-of}
 use Rattle.lawful_laws.proofs.Lawful.{led-lawful}
 
--- what holds of the packet in each channel holds so behind an advance
+-- what holds of the packet in each channel holds so after an advance
 abbrev IsInEach : (ℕ → Held → Type 0) → LinkState → Type 0
 IsInEach F s = (j : ℕ) → IfSome (packet_in s j) (F j)
 

@@ -54,7 +54,7 @@ no_body high (low ∷ more) r h e = let bad : of_kind None more ≡ Ok r = ap (�
 past-first : (byte : ℕ) (rest : List ℕ) → is_route_byte byte ≡ false → past_route (byte ∷ rest) ≡ byte ∷ rest
 past-first byte rest e = rw e refl
 
--- whatever stands behind the route bytes of a mapping packet is its own body
+-- whatever stands after the route bytes of a mapping packet is its own body
 past-read : (route : List ℤ) (payload : List ℕ) (r : Kind × List ℕ) → body_of (past_route (head_of route Mapping payload)) ≡ Ok r → (Mapping, payload) ≡ r
 past-read [] payload r e = cc
 past-read (turn ∷ route) payload r e = by (is_route_byte (route_byte turn)) refl (past-read route payload r)

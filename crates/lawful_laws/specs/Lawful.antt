@@ -39,7 +39,7 @@ LimboIsRead =
     → slice_get w.links.limbo place ≡ Some (serial, caught) → caught.held.marked ≡ false
     → IsReadAsProbe caught.held.wire ⊎ IsLawful w caught.channel caught.held
 
--- where all traffic is lawful, it is so behind an advance of any channel
+-- where all traffic is lawful, it is so after an advance of any channel
 abbrev pub AdvanceKeepsLawful : Type 0
 AdvanceKeepsLawful = (n : Network) (w : WorldState) (c : ℕ) → IsReached n w → IsLawfulTraffic w
     → IsLawfulTraffic (step w (Advance c)).1

@@ -12,7 +12,7 @@ use Rattle.world_defs.specs.Settle.{round_bound, settle}
 use Rattle.world_defs.specs.Traffic.{IsLawfulTraffic}
 use Rattle.act_defs.specs.Acts.{IsReached}
 
--- the worlds behind a replay of each of these serials, with a clear between
+-- the worlds after a replay of each of these serials, with a clear between
 abbrev pub replay_clears : List ℕ → WorldState → List WorldState
 replay_clears [] w = []
 replay_clears (s ∷ ss) w = (step w (Replay s)).1 ∷ replay_clears ss (clear (step w (Replay s)).1).1
@@ -21,7 +21,7 @@ replay_clears (s ∷ ss) w = (step w (Replay s)).1 ∷ replay_clears ss (clear (
 abbrev pub all_injected : WorldState → WorldState
 all_injected w = (steps (after_all w (map GiveUp (addresses w))) (map Inject (addresses w))).1
 
--- the worlds in which the clears of a pass begin: behind its injections, and behind each replay
+-- the worlds in which the clears of a pass begin: after its injections, and after each replay
 abbrev pub pass_clears : WorldState → List WorldState
 pass_clears w = all_injected w ∷ replay_clears (serials (clear (all_injected w)).1) (clear (all_injected w)).1
 
@@ -36,7 +36,7 @@ passes_clears zero w = []
 passes_clears (suc k) w = pass_clears w ++ unless_last (is_last_pass (round_pass w)) (round_pass w).world
     (passes_clears k)
 
--- those of a round: its passes behind all expiries
+-- those of a round: its passes after all expiries
 abbrev pub round_clears : WorldState → List WorldState
 round_clears w = passes_clears (pass_bound w) (after_all w (expiries w))
 
@@ -46,7 +46,7 @@ rounds_clears zero w = []
 rounds_clears (suc k) w = round_clears w ++ unless_last (is_last_round w (round w).world) (round w).world
     (rounds_clears k)
 
--- The worlds in which the clears of a settle begin, in order: its own, and those of its rounds behind the first clear.
+-- The worlds in which the clears of a settle begin, in order: its own, and those of its rounds after the first clear.
 abbrev pub settle_clears : WorldState → List WorldState
 settle_clears w = w ∷ rounds_clears (round_bound (clear w).1) (clear w).1
 

@@ -28,7 +28,7 @@ pub record IsProbe (wire : List ℕ) : Type 0 where
   pub written : wire ≡ packet_of route Mapping (mapping_bytes body)
   pub probe : is_probe body ≡ true
 
--- A packet that is read as a probe or a reply: so says the body behind its route bytes.
+-- A packet that is read as a probe or a reply: so says the body after its route bytes.
 pub record IsReadAsProbe (wire : List ℕ) : Type 0 where
   pub payload : List ℕ
   pub body : MappingBody

@@ -1,4 +1,4 @@
--- Words with one space between them: the first, and the others behind it.
+-- Words with one space between them: the first, and the others after it.
 use Rattle.std.proofs.Common.{ℕ, ◌≡◌, List, [], ◌∷◌, ◌++◌, map, ap, sym, ◌∙◌, append_assoc}
 use Rattle.std.specs.Prelude.{flat_map}
 use Rattle.std.proofs.lemmas.List.{append-nil}

@@ -1,4 +1,4 @@
-//! Words of a line, written behind a text.
+//! Words of a line, written after a text.
 //!
 //! It reads nothing, and knows no line of a report. `specs/Words.antt` says how each word is written.
 //!

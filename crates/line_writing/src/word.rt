@@ -14,7 +14,7 @@ pub enum Word<'a> {
     Text(&'a [u8]),
     /// A number in decimal.
     Number(u64),
-    /// A mark with a number behind it: `#3`, `+3`.
+    /// A mark with a number after it: `#3`, `+3`.
     Marked(u8, u64),
     /// A number with what stands for it: `3=event`.
     Entry(u64, &'a [u8]),
@@ -22,7 +22,7 @@ pub enum Word<'a> {
     Hex(&'a [u8]),
 }
 
-/// Puts a word behind a text. Most words are written with less than a call takes, so it stands in its callers.
+/// Puts a word after a text. Most words are written with less than a call takes, so it stands in its callers.
 #[inline(always)]
 pub(crate) fn append_word(text: &mut Vec<u8>, word: &Word) -> Result<(), AllocError>
     ensures { OnOk result (text.new.items ≡ text.old.items ++ word_text word.now) }
@@ -77,7 +77,7 @@ fn append_digits(text: &mut Vec<u8>, number: u64) -> Result<(), AllocError>
     text.extend_from_slice(buffer.format(number).as_bytes())
 }
 
-/// Puts a mark and a number behind a text, as [`Word::Marked`] is written. Where memory is wanting, a part of them may
+/// Puts a mark and a number after a text, as [`Word::Marked`] is written. Where memory runs out, a part of them may
 /// stand there.
 #[inline(always)]
 pub fn append_marked(text: &mut Vec<u8>, mark: u8, number: u64) -> Result<(), AllocError>

@@ -7,7 +7,7 @@ ghost use Rattle.line_writing.specs.Words.{word_text};
 use crate::word::{Word, append_word};
 use std::alloc::AllocError;
 
-/// Puts a line of these words behind a text. Where memory is wanting, a part of it may stand there.
+/// Puts a line of these words after a text. Where memory runs out, a part of it may stand there.
 pub fn append_line(text: &mut Vec<u8>, words: &[Word]) -> Result<(), AllocError>
     ensures { OnOk result (text.new.items ≡ text.old.items ++ line_text (map word_text words.now)) }
 {
@@ -16,7 +16,7 @@ pub fn append_line(text: &mut Vec<u8>, words: &[Word]) -> Result<(), AllocError>
     Ok(())
 }
 
-/// Puts words with one space between them behind a text. Where memory is wanting, a part of them may stand there.
+/// Puts words with one space between them after a text. Where memory runs out, a part of them may stand there.
 #[tactic(auto, using(crate::proofs::Written::spaced_written))]
 pub fn append_words(text: &mut Vec<u8>, words: &[Word]) -> Result<(), AllocError>
     ensures { OnOk result (text.new.items ≡ text.old.items ++ spaced (map word_text words.now)) }
@@ -30,7 +30,7 @@ pub fn append_words(text: &mut Vec<u8>, words: &[Word]) -> Result<(), AllocError
     }
 }
 
-/// Puts words with a space before each behind a text. Where memory is wanting, a part of them may stand there.
+/// Puts words with a space before each after a text. Where memory runs out, a part of them may stand there.
 pub fn append_behind(text: &mut Vec<u8>, words: &[Word]) -> Result<(), AllocError>
     ensures { OnOk result (text.new.items ≡ text.old.items ++ flat_map (λ w. 32 ∷ word_text w) words.now) }
 {
@@ -40,7 +40,7 @@ pub fn append_behind(text: &mut Vec<u8>, words: &[Word]) -> Result<(), AllocErro
     Ok(())
 }
 
-/// Puts a word with a space before it behind a text. Where memory is wanting, a part of it may stand there.
+/// Puts a word with a space before it after a text. Where memory runs out, a part of it may stand there.
 #[inline(always)]
 pub fn append_spaced(text: &mut Vec<u8>, word: &Word) -> Result<(), AllocError>
     ensures { OnOk result (text.new.items ≡ text.old.items ++ 32 ∷ word_text word.now) }

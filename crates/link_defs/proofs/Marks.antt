@@ -53,7 +53,7 @@ pick-marks : {X : Type 0} (t : Bool) (x y : X × LinkState) → HasTrueMarks x.1
 pick-marks true x y k m = k
 pick-marks false x y k m = m
 
--- a turn is in front of a packet of at least two bytes
+-- a turn is at the front of a packet of at least two bytes
 two_bytes : (wire : List ℕ) (turn : ℤ) → front_turn wire ≡ Some turn → 2 ≤ length wire
 two_bytes [] turn e = cc
 two_bytes (byte ∷ []) turn e = cc

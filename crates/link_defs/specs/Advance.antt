@@ -1,4 +1,4 @@
--- One step of a channel's packet: on through a switch, to its host, or nowhere.
+-- A channel's packet takes one step: on through a switch, to its host, or nowhere.
 use Rattle.std.specs.Prelude.{ℕ, List, Option, Some, None}
 use Rattle.net_defs.specs.declared.vertex.Vertex.{Vertex}
 use Rattle.net_defs.specs.declared.vertex.Vertex.TheVariants.{Host, Switch}
@@ -28,7 +28,7 @@ course_out n s (Out port) = course_by_channel (channel_from n (record { v = Swit
 course_out n s TurnedTooFar = Drops OutOfRange
 course_out n s NoTurn = Drops NotRoute
 
--- a packet arrives at a host, and goes on at a switch by the turn in front
+-- a packet arrives at a host, and goes on at a switch by its front turn
 abbrev pub course_at : Network → Vertex → ℕ → List ℕ → Course
 course_at n (Host h) entry wire = Arrives h
 course_at n (Switch s) entry wire = course_out n s (aim (ports_of n (Switch s)) entry wire)
@@ -38,9 +38,9 @@ abbrev pub course_into : Network → Option End → List ℕ → Course
 course_into n None wire = Drops NoCable
 course_into n (Some e) wire = course_at n e.v e.p wire
 
--- Where a channel's packet goes, whatever the other channels hold: to the host at the channel's head, or by the turn
--- in front of it into the next channel. A switch drops a packet without a turn, with a turn to a port that it lacks,
--- and with one to a port without cable.
+-- Where a channel's packet goes, whatever the other channels hold: to the host at the channel's head, or by its front
+-- turn into the next channel. A switch drops a packet without a turn, with a turn to a port that it lacks, and with
+-- one to a port without cable.
 abbrev pub course : Network → ℕ → List ℕ → Course
 course n c wire = course_into n (channel_head n c) wire
 
@@ -62,6 +62,6 @@ abbrev pub advance_of : LinkState → ℕ → Option Held → Moved (List ℕ) �
 advance_of s c None = (Empty, s)
 advance_of s c (Some held) = gone_on s c held (course s.net c held.wire)
 
--- One step of a channel: what became of its packet, and the links after it.
+-- A channel advances: what becomes of its packet, and the links then.
 abbrev pub advance : LinkState → ℕ → Moved (List ℕ) × LinkState
 advance s c = advance_of s c (packet_in s c)

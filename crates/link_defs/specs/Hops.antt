@@ -40,6 +40,6 @@ abbrev pub is_still_below : LinkState → ℕ → Bool
 is_still_below s zero = true
 is_still_below s (suc c) = not (changes (advance s c).0) && is_still_below s c
 
--- stuck: some channel holds a packet, and no advance changes anything
+-- the links are stuck: some channel holds a packet, and no advance changes anything
 abbrev pub is_stuck : LinkState → Bool
 is_stuck s = not (is_idle s) && is_still_below s (length s.channels)

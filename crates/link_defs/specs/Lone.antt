@@ -29,7 +29,7 @@ lone_after n wire (Arrives h) = (AtHost h wire, empty_links n)
 lone_after n wire (Enters next) = (To next, lone n next (stripped wire))
 lone_after n wire (Drops why) = (Dropped why, empty_links n)
 
--- a packet that a switch drops for want of a turn ended at that switch
+-- a packet that a switch drops since it has no turn ended at that switch
 abbrev pub dropped_place : Network → ℕ → Why → Place
 dropped_place n c NotRoute = place_at (channel_head n c)
 dropped_place n c OutOfRange = Stuck

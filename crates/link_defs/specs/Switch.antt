@@ -15,7 +15,7 @@ abbrev pub aim_of : ℕ → ℕ → Option ℤ → Turned
 aim_of ports entry None = NotRoute
 aim_of ports entry (Some turn) = out_by (leaving_port ports entry turn)
 
--- Where a switch sends a packet: by the turn of the byte in front of its head, if that is a route byte.
+-- Where a switch sends a packet: by the turn of the first byte of its head, if that is a route byte.
 abbrev pub aim : ℕ → ℕ → List ℕ → Turned
 aim ports entry wire = aim_of ports entry (front_turn wire)
 

@@ -1,6 +1,6 @@
 //! Where a switch sends a packet.
 
-/// Where a switch sends a packet by the byte in front of its head.
+/// Where a switch sends a packet by the first byte of its head.
 #[derive(Clone, Copy, Debug, PartialEq, Eq)]
 pub enum Turned {
     /// By this port.

@@ -66,7 +66,7 @@ released-links s serial x is found empty =
     let after : (replay s serial).1 ≡ released s serial x = ap (λ o. (replay_of s serial o).1) found ∙ ap (λ t. (replay_by s serial x t).1) empty in
     subst IsLinks after (stepped-links s (Replay serial) is)
 
--- the channel that was told is that of the packet
+-- the channel that was named is that of the packet
 pub channel-found : (s : LinkState) (serial c : ℕ) (x : Caught) → Some c ≡ option_map (λ e. e.channel) (lookup (nat_eq serial) s.limbo) → lookup (nat_eq serial) s.limbo ≡ Some x → x.channel ≡ c
 channel-found s serial c x got found = let both : Some c ≡ Some x.channel = got ∙ ap (option_map (λ e. e.channel)) found in cc
 

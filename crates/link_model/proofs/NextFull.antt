@@ -6,7 +6,7 @@ use Rattle.link_defs.specs.Links.{LinkState, packet_in}
 use Rattle.channel_slots.proofs.Fullness.{find-found, find-missed, none-there}
 use Rattle.link_model.specs.Full.{next_full, IsNextFull}
 
--- ---- what the next full channel tells
+-- ---- what the next full channel says
 -- it is the least full channel from the number on, and the channels below it hold nothing
 pub next_full-some : (s : LinkState) (from c : ℕ) → next_full s from ≡ Some c → IsNextFull s from c
 next_full-some s from c is = by (find-found (λ k. is_some (packet_in s k)) (length s.channels - from) from c is)

@@ -45,7 +45,7 @@ emptied-none s c others k = by (nat_eq k c) refl
         let other : k ≢ c = λ h. true≢false (sym ((Decides-eqb k c).1 h) ∙ e) in
         get_or-set_other s.channels c k None None other ∙ others k other
 
--- the channel that a packet is in behind its advance, if it is in any
+-- the channel that a packet is in after its advance, if it is in any
 abbrev pub behind : Moved (List ℕ) → ℕ → ℕ
 behind (To next) c = next
 behind (AtHost h wire) c = c

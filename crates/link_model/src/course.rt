@@ -43,7 +43,7 @@ fn course_out(wiring: &Wiring, s: u16, turned: Turned) -> Course
     }
 }
 
-/// The packet of a channel behind the switch ahead, which turns it: it is known to go on into a channel.
+/// The packet of a channel after the switch ahead, which turns it: it is known to go on into a channel.
 pub(crate) fn turned(wiring: &Wiring, c: u16, slot: Slot) -> Slot
     requires there { c < channel_count wiring.now }
     requires goes { IsSentOn wiring.now c slot.wire }

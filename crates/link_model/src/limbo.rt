@@ -67,7 +67,7 @@ impl Limbo {
         }
     }
 
-    /// Adds a packet under a serial above all others. It hands the packet back where memory is wanting.
+    /// Adds a packet under a serial above all others. It hands the packet back where memory runs out.
     pub(crate) fn push(&mut self, serial: u64, channel: u16, slot: Slot) -> Result<(), Slot>
         requires { AllByRecursion (λ e. e.0 < serial) self.old }
         ensures ok { OnOk result (self.new ≡ self.old ++ (serial, record { channel = channel; held = slot }) ∷ []) }

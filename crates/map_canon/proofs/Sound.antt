@@ -1,4 +1,4 @@
--- Lines that stand before the first fault, and what want of memory may stand for.
+-- Lines that stand before the first fault, and what running out of memory may stand for.
 use Rattle.std.proofs.Common.{◌≡◌, ◌≢◌, ◌<◌, ℕ, suc, List, [], ◌∷◌, Bool, true, false, not, nat_lt, length, Option, Some, None, inl, inr, Result, Ok, Err, refl, sym, ap, ◌∙◌, subst, arith, if◌then◌else◌}
 use Rattle.std.specs.Prelude.{IsOk}
 use Rattle.net_defs.specs.Network.{Network}
@@ -23,7 +23,7 @@ sound-some f m k ls rest l e s d =
     ∙ ap (λ r. length (sound_behind l r (λ k. sound_from f k rest))) d in
     omega (arith, one)
 
--- and so is one at which memory is wanting
+-- and so is one at which memory runs out
 pub sound-wanting : (f : Network) (m : NetMap) (ls rest : List TextLine) (l : TextLine) → ls ≡ l ∷ rest → false ≡ is_end (words_of l.bytes) → IsOk (declared f m (words_of l.bytes)) → 0 < length (sound_from f m ls)
 sound-wanting f m ls rest l e s o = by (declared f m (words_of l.bytes)) refl o
   where
@@ -31,7 +31,7 @@ sound-wanting f m ls rest l e s o = by (declared f m (words_of l.bytes)) refl o
     by (Ok k) d o = sound-some f m k ls rest l e s d
     by (Err kind) d o = cc
 
--- a cable is never refused for want of memory
+-- no refusal of a cable is that memory ran out
 either : (b : Bool) (e : MapFault) (o : Option MapFault) → e ≢ NoMemory → o ≢ Some NoMemory → (if b then Some e else o) ≢ Some NoMemory
 either true e o first rest is = let same : e ≡ NoMemory = cc in first same
 either false e o first rest is = rest is
@@ -59,7 +59,7 @@ cable-told m c =
     (either (not (is_near (first_end c) (second_end c))) PortRange _ range-told (either (is_used m c) PortUsed _ used-told
     (either (is_full (length m.cables)) Full _ full-told none-told))))))
 
--- so where memory is wanting for one, nothing refuses it
+-- so where memory runs out for one, nothing refuses it
 pub cable-wanting : (m : NetMap) (c : MapCable) (e : MapFault) → Refuses {T = ℕ} (cable_refusal m c) NoMemory (Err e) → refused_line e ≡ WantsMemory → IsOk (cable_placed m c)
 cable-wanting m c HostTaken told is = cc
 cable-wanting m c Full told is = cc

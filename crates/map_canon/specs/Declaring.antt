@@ -26,7 +26,7 @@ use Rattle.fabric_map.specs.declared.fault.MapFault.TheVariants.{PortRange as No
 use Rattle.fabric_map.specs.declared.fault.MapFault.TheVariants.{NoMemory as NoMoreMemory}
 use Rattle.fabric_map.specs.Growing.{host_refusal, switch_refusal, cable_refusal, with_host, with_switch, with_cable}
 
--- the kind of a map's refusal (which is never want of memory)
+-- the kind of a map's refusal (running out of memory is none)
 abbrev pub refusal_kind : MapFault → FaultKind
 refusal_kind HostTaken = NameTaken
 refusal_kind IsFull = Full
@@ -61,12 +61,12 @@ is_number (Ok s) = true
 is_number (Err AboveRange) = true
 is_number (Err NoNumber) = false
 
--- `#K`: a number behind `#` (35)
+-- `#K`: a number after `#` (35)
 abbrev pub switch_test : List ℕ → Bool
 switch_test [] = false
 switch_test (b ∷ bs) = nat_eq b 35 && is_number (u32_of bs)
 
--- the form of a vertex: a host's name, or a switch's number behind `#`
+-- the form of a vertex: a host's name, or a switch's number after `#`
 abbrev pub vertex_test : List ℕ → Bool
 vertex_test w = name_test w || switch_test w
 

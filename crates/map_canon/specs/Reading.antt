@@ -27,7 +27,7 @@ map_from past f m (l ∷ ls) =
     then ended m ls
     else and_then (at_line l.number (declared f m (words_of l.bytes))) (λ k. map_from past f k ls)
 
--- a line, where it has no fault, and the lines of those behind it
+-- a line, where it has no fault, and the lines of those after it
 abbrev pub sound_behind : TextLine → Result NetMap FaultKind → (NetMap → List TextLine) → List TextLine
 sound_behind l (Ok m) behind = l ∷ behind m
 sound_behind l (Err kind) behind = []

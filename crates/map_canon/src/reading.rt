@@ -26,7 +26,7 @@ pub fn read_map(alloc: Global, text: &[u8], f: &Fabric) -> Result<FabricMap, Tex
     requires { length text.now ≤ 4294967290 }
     // Exactly the map that the lines declare, or exactly the first fault.
     ensures reading { TextGives (map_reading f.now text.now) result }
-    // Memory may be wanting only where a line stands before the first fault: one that has a fault takes none.
+    // Memory may run out only where a line stands before the first fault: one that has a fault takes none.
     ensures memory { IsErrOf result TextFault.NoMemory → 0 < length (sound_lines f.now text.now) }
     ensures is_map { IfOk result (λ m. IsFabricMap m) }
     ensures of_fabric { IfOk result (λ m. AreOfFabric f.now m) }

@@ -1,4 +1,4 @@
--- A map: the vertices that a mapper found, with cables between ports that count from each switch's own entry port.
+-- A map has the vertices that a mapper found, and cables between ports that count from each switch's entry port.
 use Rattle.std.specs.Prelude.{◌≡◌, ℕ, ◌<◌, ℤ, pos, ◌-ℤ◌, Bool, true, false, ◌&&◌, ◌||◌, List, [], ◌∷◌, length, nat_eq}
 use Rattle.std.specs.Prelude.{nat_lt, int_lt, slice_get, if◌then◌else◌, Option, Some, None}
 use Rattle.std.specs.Ordering.{int_eq}
@@ -11,7 +11,7 @@ use Rattle.map_defs.specs.declared.vertex.MapVertex.{MapVertex}
 use Rattle.map_defs.specs.declared.vertex.MapVertex.TheVariants.{Host, Switch}
 use Rattle.map_defs.specs.declared.vertex.MapCable.{MapCable}
 
--- The vertices by number, the cables by number, and for each vertex whether it is of the core.
+-- A map has vertices and cables by number, and says of each vertex whether it is of the core.
 pub record NetMap : Type 0 where
   pub vertices : List MapVertex
   pub cables : List MapCable

@@ -50,7 +50,7 @@ falls_to order v (Some e) = falls order v e.v
 abbrev pub is_up : NetMap → List ℕ → MapPort → Bool
 is_up m order d = falls_to order d.v (map_far m d)
 
--- One place for each of so many vertices, each place once.
+-- An order gives each of so many vertices a place, and each place once.
 pub record IsOrder (order : List ℕ) (count : ℕ) : Type 0 where
   pub one_each : length order ≡ count
   pub below : AllByRecursion (λ k. k < count) order

@@ -70,7 +70,7 @@ pub record IsLeastLegal (m : NetMap) (order : List ℕ) (a b : ℕ) (turns : Lis
   pub least : (others : List ℤ) → LeadsTo m a b others → is_legal m order a others ≡ true
       → walk_below others turns ≡ false
 
--- The routes of a map: the least legal one for each two different hosts, and no other.
+-- The routes of a map are, from each host to each other host, the least legal one, and no others.
 pub record AreRoutesOf (m : NetMap) (order : List ℕ) (routes : List Route) : Type 0 where
   pub in_order : AreRising routes
   pub between_hosts : AllByRecursion (λ r. r.from ≢ r.to) routes

@@ -50,6 +50,6 @@ Joined n v _ w _ = ⊥
 abbrev pub graph_of_part : Network → ℕ → PortGraph Vertex
 graph_of_part n host = record { IsIn = IsInPart n host; address = address_of; Joins = Joined n }
 
--- the map is right: the same as the mapper's part, up to offset
+-- the map is right: it is the same graph as the mapper's part, up to an offset at each switch
 abbrev pub IsMapOfPart : Network → ℕ → NetMap → Type 0
 IsMapOfPart n host m = IsSame (graph_of_map m) (graph_of_part n host)

@@ -1,4 +1,4 @@
--- What is printed of circuit links is what the definition tells of them.
+-- What is printed of circuit links is what the definition says of them.
 use Rattle.std.proofs.Common.{◌≡◌, ◌<◌, ℕ, [], ◌∷◌, length, sym, subst, ap, arith, Result, Ok, Err, IfOk}
 use Rattle.std.proofs.lemmas.Bool.Decides.{nat_tests}
 use Rattle.net_defs.specs.Network.{Network, IsFabric}
@@ -25,7 +25,7 @@ use Rattle.map_making.proofs.Hosts.{quotient-of_fabric}
 pub host_there : (n : Network) (h : ℕ) → IsHost n h → h < length n.hosts
 host_there n h e = grind (arith, nat_tests)
 
--- what a mapping answers is what is told
+-- what a mapping answers is what is reported
 told : (n : Network) (host depth : ℕ) (m : NetMap) (asks : ℕ) (end : CircEnd) → IsMappedBy n host depth m asks end → IsCircuitTold n host depth (circuit_pieces host depth m asks end)
 told n host depth m asks Whole w = whole w.journal m w.growing w.ended w.map_is (ap (λ a. OneLine (Circuit host depth a) ∷ MapLines m ∷ []) w.asks_is)
 told n host depth m asks Nodes p = too_many_nodes p.0.journal p.0.growing p.0.passed (ap (λ a. OneLine (CircuitNodes host a) ∷ []) p.0.asks_is)

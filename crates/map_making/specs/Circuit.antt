@@ -14,7 +14,7 @@ abbrev pub circuit_pieces : ℕ → ℕ → NetMap → ℕ → CircEnd → List 
 circuit_pieces host depth m asks Whole = OneLine (Circuit host depth asks) ∷ MapLines m ∷ []
 circuit_pieces host depth m asks Nodes = OneLine (CircuitNodes host asks) ∷ []
 
--- This is the text of what is told of the circuit links of a fabric, from a host to a depth.
+-- This is the text of what is reported of the circuit links of a fabric, from a host to a depth.
 pub record IsCircuitPrinted (n : Network) (host depth : ℕ) (told : PrintedState) : Type 0 where
   pub output : List Piece
   pub is_told : IsCircuitTold n host depth output

@@ -1,4 +1,4 @@
-//! The line of a map, and the lines of the map itself behind it.
+//! The line of a map, and the lines of the map itself after it.
 
 ghost use Rattle.std.specs.Prelude.{◌≡◌, ◌∷◌, [], IfOk};
 ghost use Rattle.fab_report.specs.Printed.{printed_of};
@@ -42,7 +42,7 @@ pub fn print_made(
     }
 }
 
-/// A line, and the lines of a map behind it.
+/// A line, and the lines of a map after it.
 #[tactic(auto, using(crate::proofs::MapLines::map_followed))]
 pub(crate) fn print_with_map(
     alloc: Global,

@@ -33,7 +33,7 @@ answered-entry (x ∷ j) w a e = by (same_turns x.walk w) refl e (answered-entry
     by true p q rest = record { place = 0; entry = x; there = refl; walk = same_turns-true x.walk w p; answer = (let one : x.answer ≡ a = cc in one) }
     by false p q rest = let r = rest q in record { place = suc r.place; entry = r.entry; there = r.there; walk = r.walk; answer = r.answer }
 
--- an entry tells the answer to its walk
+-- an entry has the answer to its walk
 pub entry-answered : (j : List Entry) (k : ℕ) (e : Entry) → IsJournal j → slice_get j k ≡ Some e → answered j e.walk ≡ Some e.answer
 entry-answered j k e once s = answered-at j e.walk k e once (slice_get-map (λ x. x.walk) j k ∙ ap (option_map (λ (x : Entry). x.walk)) s) s
 

@@ -1,4 +1,4 @@
--- The cables that the walks tell of are taken: none of them is refused.
+-- The cables that the walks show are taken: none of them is refused.
 use Rattle.std.proofs.Common.{◌≡◌, ◌≢◌, ◌<◌, ◌≤◌, ◌+◌, ◌^◌, ◌||◌, inl, inr, ℕ, List, [], ◌∷◌, map, Bool, true, false, length, nat_lt, Option, Some, None, is_some, refl, ap, sym, ◌∙◌, subst, arith, if◌then◌else◌}
 use Rattle.std.specs.Prelude.{ℤ, pos, ◌+ℤ◌, ◌-ℤ◌, slice_get}
 use Rattle.std.specs.Ordering.{int_eq}
@@ -259,6 +259,6 @@ module _ (host : ℕ) (j : List Entry) (walks : List (List ℤ)) (c : ClassTable
           (λ i. is_some (free i) || is_some (unused free i) || same_port-false (first_end x) (second_end x) (led-differs (first_end x) (second_end x) led.0) i)
           (not-full (length m.cables) room)
 
-    -- the cable that the next walk tells of is refused for nothing
+    -- the cable that the next walk shows is refused for nothing
     pub told-taken : AreTaken walks c vertices first
     told-taken at m walk x joins there tells free = next-told at m walk x joins there tells free

@@ -1,4 +1,4 @@
--- The cables that the walks tell of are those of the map, and no others.
+-- The cables that the walks show are those of the map, and no others.
 use Rattle.std.proofs.Common.{◌≡◌, ◌≢◌, ◌<◌, ◌+◌, ◌⊎◌, inl, inr, ℕ, suc, List, [], ◌∷◌, ◌++◌, Bool, true, false, length, Option, Some, None, is_some, refl, ap, sym, ◌∙◌, subst, arith, if◌then◌else◌}
 use Rattle.std.specs.Prelude.{ℤ, pos, slice_get}
 use Rattle.std.proofs.lemmas.Bool.{cases_eq}
@@ -103,7 +103,7 @@ module _ (host : ℕ) (j : List Entry) (walks : List (List ℤ)) (c : ClassTable
   there : (n : ℕ) (u : Node) → n < length c.nodes → node_at c.nodes n ≡ u → IsNode j u
   there n u l e = subst (IsNode j) e (is_node host j c least vertices g n l)
 
-  -- the ends of a cable that is told of are joined, both ways
+  -- the ends of a cable that is shown are joined, both ways
   pub told-led : (at : ℕ) (w : List ℤ) (o : Option MapCable) (x : MapCable) → slice_get walks at ≡ Some w → TellsCable walks c vertices w (at + 1) o → o ≡ Some x → Led (first_end x) (second_end x) × Led (second_end x) (first_end x)
   told-led at w o x s (from_mapper e is) q =
       let n = node-of at w s in
@@ -159,7 +159,7 @@ module _ (host : ℕ) (j : List Entry) (walks : List (List ℤ)) (c : ClassTable
         by true = q
         by false = cabled-old m x d e q
 
-    -- the cable that a walk tells of is there
+    -- the cable that a walk shows is there
     record IsTold (m : NetMap) (at : ℕ) : Type 0 where
       pub walk : List ℤ
       pub told : Option MapCable

@@ -1,4 +1,4 @@
--- The cables that the walks of a journal tell of.
+-- The cables that the walks of a journal show.
 use Rattle.std.specs.Prelude.{◌≡◌, ℕ, ◌+◌, ◌<◌, ℤ, pos, ◌+ℤ◌, false, List, [], ◌∷◌, ◌++◌, length, slice_get}
 use Rattle.std.specs.Prelude.{slice_index_or, unwrap_or, is_some, if◌then◌else◌, Option, Some, None}
 use Rattle.net_defs.specs.Turn.{IsTurn}
@@ -27,7 +27,7 @@ cable_between c vertices m p n = record {
   q = (port_of c vertices n (pos 0)).p;
 }
 
--- What the walk to a node tells: a cable from the mapper's host, or from the node in front; nothing where that was
+-- What the walk to a node shows: a cable from the mapper's host, or from the node in front; nothing where that was
 -- not found.
 pub data TellsCable (walks : List (List ℤ)) (c : ClassTable) (vertices : List (Option ℕ)) (walk : List ℤ) (n : ℕ)
     (o : Option MapCable) : Type 0 where
@@ -41,7 +41,7 @@ pub data TellsCable (walks : List (List ℤ)) (c : ClassTable) (vertices : List 
 abbrev pub joined : NetMap → MapCable → NetMap
 joined m c = if is_some (map_far m (first_end c)) then m else with_cable m c
 
--- a map with the cable that a walk tells of, if it tells of one
+-- a map with the cable that a walk shows, if it shows one
 abbrev pub joined_by : NetMap → Option MapCable → NetMap
 joined_by m None = m
 joined_by m (Some c) = joined m c
@@ -54,7 +54,7 @@ pub data JoinsBelow (walks : List (List ℤ)) (c : ClassTable) (vertices : List 
       → JoinsBelow walks c vertices first at old → slice_get walks at ≡ Some walk
       → TellsCable walks c vertices walk (at + 1) o → new ≡ joined_by old o → JoinsBelow walks c vertices first k new
 
--- The cable that the next walk tells of is refused for nothing, where there is none at its first end.
+-- The cable that the next walk shows is refused for nothing, where there is none at its first end.
 abbrev pub AreTaken : List (List ℤ) → ClassTable → List (Option ℕ) → NetMap → Type 0
 AreTaken walks c vertices first = (at : ℕ) (m : NetMap) (walk : List ℤ) (x : MapCable)
     → JoinsBelow walks c vertices first at m → slice_get walks at ≡ Some walk

@@ -1,4 +1,4 @@
-//! The cables of a map, from the walks of a journal: each walk tells of one, to the node that it reached from the
+//! The cables of a map, from the walks of a journal: each walk shows one, to the node that it reached from the
 //! node in front.
 
 ghost use Rattle.std.specs.Prelude.{◌≡◌, ℕ, ◌+◌, ◌<◌, ◌^◌, ℤ, List, length, slice_get, Some, None, IfSome, OnOk};
@@ -16,7 +16,7 @@ use probe::WalkIndex;
 use replicate_merge::Merged;
 use std::alloc::AllocError;
 
-/// Joins in a map what the walks tell. The classes have these vertices.
+/// Joins in a map what the walks show. The classes have these vertices.
 pub(crate) fn join_all(
     map: &mut FabricMap,
     walks: &WalkIndex,
@@ -100,7 +100,7 @@ fn vertex_of(vertices: &[Option<u32>], class: u32) -> u32
     vertices[class as usize].unwrap()
 }
 
-// Adds a cable that was told of, where there is none yet.
+// Adds a cable that was shown, where there is none yet.
 fn join_told(map: &mut FabricMap, told: Option<MapCable>) -> Result<(), AllocError>
     requires { IfSome told (λ x. map_far map.old (first_end x) ≡ None → cable_refusal map.old x ≡ None) }
     ensures { OnOk result (map.new ≡ joined_by map.old told) }

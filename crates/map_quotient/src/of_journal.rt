@@ -20,7 +20,7 @@ use replicate_merge::{Classes, Merged};
 use std::alloc::{AllocError, Global};
 
 /// The map of a journal, whose classes these are: a vertex for each class in the order of their least walks, the
-/// mapper's host first, and the cables that the walks tell of, once each in order. All vertices are of the core. The
+/// mapper's host first, and the cables that the walks show, once each in order. All vertices are of the core. The
 /// answers other than Nothing are true of one fabric.
 pub fn quotient(alloc: Global, j: &Journal, c: &Classes) -> Result<FabricMap, AllocError>
     requires stands { StandsFor j.now.host j.now.entries c.now }
@@ -44,7 +44,7 @@ pub fn merged_quotient(alloc: Global, j: &Journal, c: Merged) -> Result<FabricMa
     Ok(map)
 }
 
-// The map with its cables as the walks tell of them. The classes end here.
+// The map with its cables as the walks show them. The classes end here.
 fn unordered(alloc: Global, j: &Journal, c: Merged) -> Result<FabricMap, AllocError>
     requires classes { AreClassesOf j.now.host j.now.entries c }
     requires true_of_one { IsTrueOfOne j.now.host j.now.entries }

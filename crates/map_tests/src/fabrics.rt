@@ -8,7 +8,7 @@ use fabric_file::read_fabric;
 use port_graph::Fabric;
 use std::alloc::Global;
 
-/// The fabric of a text; none where that is long, isn't accepted, or memory is wanting.
+/// The fabric of a text; none where that is long, isn't accepted, or memory runs out.
 pub(crate) fn fabric_of(alloc: Global, text: &str) -> Option<Fabric> {
     if text.len() > 1000 {
         return None;

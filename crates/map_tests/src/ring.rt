@@ -40,10 +40,10 @@ fn map_in(made: Mapped) -> FabricMap
     map
 }
 
-// What the check tells of the routes of a map and of others, both under the ranks of that map.
+// What the check says of the routes of a map and of others, both under the ranks of that map.
 type Told = (usize, Result<(), CheckFault>, Result<(), CheckFault>);
 
-// What it tells of a connected map.
+// What it says of a connected map.
 fn told(alloc: Global, m: &FabricMap, others: &RouteSet) -> Result<Told, AllocError>
     requires connected { IsConnected m.now }
     requires few { length (switches_of m.now.vertices) ≤ 64 }
@@ -82,7 +82,7 @@ fn put_around(alloc: Global, set: &mut RouteSet, from: u16) -> Option<()> {
     }
 }
 
-// What it tells of one that is small enough.
+// What it says of one that is small enough.
 fn told_if_few(alloc: Global, m: &FabricMap, others: &RouteSet) -> Option<Told>
     requires { IsConnected m.now }
 {

@@ -111,7 +111,7 @@ module _ (S : Type 0) (asked : S → List ℤ → Answer → S → Type 0) (n : 
       within-limit : (t : Tree) (s : S) (l : ℕ) → IsUnderWay t → (g : HasGrown S asked n old before lost t s l) → length (nodes (old.journal.entries ++ g.more)) ≤ node_limit
       within-limit t s l u g = let c = u.counted in let k = u.kept in let e : length (nodes t.journal.entries) ≡ length (nodes (old.journal.entries ++ g.more)) = ap (λ i. length (nodes i)) g.entries in omega arith
 
-      -- want of memory before the next ask, and in it
+      -- memory runs out before the next ask, and in it
       pub midst-stops : (front : List ℤ) (k : ℕ) (t : Tree) (s : S) (l : ℕ) → IsMidst front k t s l → StopsShort S asked cut old.journal.host old.depth old.journal.entries before s
       midst-stops front k t s l m = stops-between S asked cut n old.journal.host old.depth old.journal.entries m.grown.more before s lost l m.grown.by_asks (within-limit t s l m.under_way m.grown)
 
@@ -149,7 +149,7 @@ walk-turn front w r t turn is same = is ∙ ap (λ u. front ++ u ∷ []) (back �
     back : to_z w8 (of_z w8 r) ≡ r
     back = grind (arith, ints)
 
--- want of memory before anything was asked
+-- memory runs out before anything was asked
 pub stops-still : (S : Type 0) (asked : S → List ℤ → Answer → S → Type 0) (cut : S → List ℤ → S → Type 0) (n : Network) (t : Tree) (s : S) (lost : ℕ) → IsUnderWay t → StopsShort S asked cut t.journal.host t.depth t.journal.entries s s
 stops-still S asked cut n t s lost u = stops-between S asked cut n t.journal.host t.depth t.journal.entries [] s s lost lost (grows-none S asked n t.journal.host t.depth t.journal.entries s lost u.growing) (let c = u.counted in let k = u.kept in let e : length (nodes (t.journal.entries ++ [])) ≡ length (nodes t.journal.entries) = ap (λ i. length (nodes i)) (append-nil t.journal.entries) in omega arith)
 

@@ -1,4 +1,4 @@
--- What a journal that has grown is worth: it is short, its end tells whether it is closed, and memory may be wanted behind it.
+-- What a journal that has grown is worth: it is short, its end says whether it is closed, and memory may run out after it.
 use Rattle.std.proofs.Common.{◌≡◌, ◌<◌, ◌≤◌, ℕ, List, [], ◌∷◌, ◌++◌, length, Bool, true, false, if◌then◌else◌, subst, ap, refl, arith, ◌⊎◌, inl, inr}
 use Rattle.std.specs.Prelude.{ℤ, nat_lt}
 use Rattle.std.proofs.lemmas.Bool.Decides.{nat_tests}
@@ -45,7 +45,7 @@ short-grown host depth j g = by g.ended
         let kept = l.kept in
         omega arith
 
--- want of memory after the last ask
+-- memory runs out after the last ask
 pub stops-grown : (S : Type 0) (asked : S → List ℤ → Answer → S → Type 0) (cut : S → List ℤ → S → Type 0) (host depth : ℕ) (j : List Entry) (before after : S) → IsGrown host depth j → AreAsked S asked before j after → StopsShort S asked cut host depth [] before after
 stops-grown S asked cut host depth j before after g led = between_asks j g.growing (ended-kept host depth j g.ended) led
 

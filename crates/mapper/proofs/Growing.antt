@@ -86,7 +86,7 @@ module _ (S : Type 0) (asked : S → List ℤ → Answer → S → Type 0) where
       exact (inr d) calm = absurd (calm d.1)
 
   module _ (cut : S → List ℤ → S → Type 0) where
-    -- want of memory between two asks
+    -- memory runs out between two asks
     pub stops-between : (n : Network) (host depth : ℕ) (j more : List Entry) (before after : S) (lost now : ℕ) → GrowsBy S asked n host depth j before lost more after now → length (nodes (j ++ more)) ≤ node_limit → StopsShort S asked cut host depth j before after
     stops-between n host depth j more before after lost now g l = between_asks more g.growing (inl l) g.led
 

@@ -83,11 +83,11 @@ module _ (S : Type 0) (asked : S → List ℤ → Answer → S → Type 0) (n : 
     pub stops-first : (w : List ℤ) → w ≡ [] → IsLostAsk S asked cut before w after → StopsShort S asked cut host depth [] before after
     stops-first w empty lost_ask = stops-lost S asked cut n host depth [] [] before before after lost lost w (grows-none S asked n host depth [] before lost (nothing)) (omega arith) (first refl empty) lost_ask
 
-    -- want of memory after some asks
+    -- memory runs out after some asks
     pub stops-on : (old : Tree) (last : S) → old.journal.host ≡ host → old.depth ≡ depth → GrowsBy S asked n host depth [] before lost old.journal.entries after now → StopsShort S asked cut old.journal.host old.depth old.journal.entries after last → StopsShort S asked cut host depth [] before last
     stops-on old last h d g s = stops-later S asked cut n host depth [] old.journal.entries before after last lost now g (subst (λ x. StopsShort S asked cut x depth old.journal.entries after last) h (subst (λ x. StopsShort S asked cut old.journal.host x old.journal.entries after last) d s))
 
--- the number of nodes tells whether the growth ended at the limit
+-- the number of nodes says whether the growth ended at the limit
 pub limit-told : (t : Tree) → IsWhole t → IsTrue (nat_lt 65536 t.nodes) ↔ IsEndedAtLimit t.journal.entries
 limit-told t w = ((λ e. by w.grown.ended (grind (arith, nat_tests))), (λ l. let p = l.passed in let c = w.counted in let more : 65536 < t.nodes = omega arith in grind (arith, nat_tests)))
   where

@@ -131,7 +131,7 @@ module _ (t : Tree) (next : ℕ) (settled : IsSettled t next) where
           let all = before-open t.journal.host t.depth t.journal.entries next (length t.journal.entries) settled.expanded rest in
           subst (λ u. HasExpanded t.journal.host t.journal.entries (Reached u)) s.walk (all.each s.place s.entry (omega arith) (slice-within t.journal.entries s.place s.entry s.there) s.there s.answer (subst (λ u. crossed u < t.depth) (sym s.walk) near))
 
-  -- once the node at the next open place is expanded, the tree is settled behind it
+  -- once the node at the next open place is expanded, the tree is settled up to the next place
   module _ (S : Type 0) (asked : S → List ℤ → Answer → S → Type 0) (n : Network) (new : Tree) (before after : S) (lost now : ℕ) (g : HasGrown S asked n t before lost new after now) where
     pub open-settled : (place : ℕ) → IsNextOpen t.journal.host t.depth t.journal.entries next place → (w : List ℤ) (e : Entry) → slice_get t.journal.entries place ≡ Some e → e.walk ≡ w → IsUnderWay new → IsAtRest new.journal.entries → IsExpanded new.journal.entries w → IsSettled new (place + 1)
     open-settled place o w e at is under rest x = record {
@@ -200,7 +200,7 @@ short-settled t next s = short-journal t.journal.host t.depth t.journal.entries 
 abbrev Gives : Result Bool AllocError → Bool → Type 0
 Gives r b = r ≡ Ok b
 
--- what the test of the limit tells after a node was expanded
+-- what the test of the limit says after a node was expanded
 module _ (S : Type 0) (asked : S → List ℤ → Answer → S → Type 0) (n : Network) (t : Tree) (next : ℕ) (settled : IsSettled t next) (new : Tree) (before after : S) (lost now : ℕ) (g : HasGrown S asked n t before lost new after now) where
   pub goes-settled : (place : ℕ) → IsNextOpen t.journal.host t.depth t.journal.entries next place → (w : List ℤ) (e : Entry) → slice_get t.journal.entries place ≡ Some e → e.walk ≡ w → ExpandsOrFills new w → Gives (Ok (nat_le new.nodes 65536)) true → IsSettled new (place + 1)
   goes-settled place o w e at is (expands u r x) ok = open-settled t next settled S asked n new before after lost now g place o w e at is u r x

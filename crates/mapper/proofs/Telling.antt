@@ -1,4 +1,4 @@
--- What the classes of a journal tell of its entries.
+-- What the classes of a journal say of its entries.
 use Rattle.std.proofs.Common.{◌≡◌, ◌≢◌, ◌<◌, ◌≤◌, ◌+◌, ℕ, zero, suc, List, [], ◌∷◌, map, length, Bool, true, false, not, true≢false, Some, sym, ◌∙◌, subst, ap, refl, arith, ◌⊎◌, inl, inr}
 use Rattle.std.specs.Prelude.{ℤ, slice_get}
 use Rattle.std.proofs.lemmas.Bool.{false≢true, cases_order}
@@ -66,11 +66,11 @@ not-true : (b : Bool) → not b ≡ false → b ≡ true
 not-true true e = refl
 not-true false e = absurd (true≢false e)
 
--- and that is what the program tells
+-- and that is what the program says
 pub tells-not : (c : ClassTable) (e : Entry) (depth : ℕ) (marked : Bool) → e.answer ≡ Switch → crossed e.walk < depth → TellsExpanded c e.walk marked → TellsOpen c e depth (not marked)
 tells-not c e depth marked switch near t = tells-switch c e depth marked switch near t (not marked) (not-false marked) (not-true marked)
 
--- the first place that tells so is the next
+-- the first place that says so is the next
 pub open-found : (host depth : ℕ) (j l : List Entry) (c : ClassTable) (from place : ℕ) (told : Bool) → StandsFor host j c → IsJournal j → l ≡ j → TellsOpenAt c l place depth told → told ≡ true → from ≤ place → AreExpanded host depth j from place → IsNextOpen host depth j from place
 open-found host depth j l c from place told s once same t opened low all =
     let there : slice_get j place ≡ Some t.entry = ap (λ i. slice_get i place) (sym same) ∙ t.there in

@@ -1,4 +1,4 @@
--- What holds of a place that was found, and what the classes of a journal tell of its entries.
+-- What holds of a place that was found, and what the classes of a journal say of its entries.
 use Rattle.std.specs.Prelude.{◌≡◌, ℕ, ◌<◌, ℤ, Bool, true, false, List, slice_get, Some}
 use Rattle.net_defs.specs.declared.place.Answer.TheVariants.{Switch}
 use Rattle.journal_defs.specs.declared.entry.Entry.{Entry}

@@ -30,7 +30,7 @@ pub record GrowsBy (S : Type 0) (asked : S → List ℤ → Answer → S
   pub truth : (Rose lost now → ⊥) → IsTrueJournal n host more
   pub later : lost ≤ now
 
--- The growth stopped for want of memory: between two asks, or within the next one.
+-- The growth stopped since memory ran out: between two asks, or within the next one.
 pub data StopsShort (S : Type 0) (asked : S → List ℤ → Answer → S → Type 0) (cut : S → List ℤ → S
     → Type 0) (host depth : ℕ) (j : List Entry) (before after : S) : Type 0 where
   between_asks : (more : List Entry) → IsGrowing host depth (j ++ more)
@@ -89,7 +89,7 @@ pub record IsAsk (S : Type 0) (asked : S → List ℤ → Answer → S
   pub is_true : IsTrueOrDrowned truth lost now told
   pub grown : GrownBy w told old new
 
--- One ask that wanted memory, or whose answer did.
+-- One ask that ran out of memory, or whose answer did.
 pub data IsLostAsk (S : Type 0) (asked : S → List ℤ → Answer → S → Type 0) (cut : S → List ℤ → S
     → Type 0) (before : S) (w : List ℤ) (after : S) : Type 0 where
   was_asked : (told : Answer) → asked before w told after → IsLostAsk S asked cut before w after

@@ -32,8 +32,8 @@ pub struct Grown {
 ///
 /// The next ask is always the least that is due: the empty walk, the next turn of the node that is being expanded, or
 /// the first turn of the next node that lies within the depth and whose class has no expanded member. Classes go on
-/// with each answer, so that no ask looks at the whole journal. Where it wants memory, the journal is lost, and the
-/// prober was asked a part of these asks.
+/// with each answer, so that no ask looks at the whole journal. Where it runs out of memory, the journal is lost, and
+/// the prober was asked a part of these asks.
 pub fn grow<P: Prober>(alloc: Global, p: &mut P, depth: u8) -> Result<Grown, AllocError>
     requires shallow { depth ≤ 32 }
     requires is_ready { P.ready p.old }
@@ -84,7 +84,7 @@ fn grown_of(tree: Tree) -> Grown
     }
 }
 
-// The end of a tree whose growth wanted memory. It ends here, since a proof goes through all its parts.
+// The end of a tree whose growth ran out of memory. It ends here, since a proof goes through all its parts.
 fn lost(tree: Tree) -> AllocError {
     let _tree = tree;
     AllocError

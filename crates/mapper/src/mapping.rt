@@ -46,7 +46,7 @@ pub struct Mapped {
 ///
 /// A map that ends `Closed` while no ask drowned is the host's part of the fabric, the ports of each switch counted
 /// from elsewhere. While no ask drowns, a depth of Q + D + 1 makes it end so, where the fabric is small enough. Where
-/// it wants memory, journal and map are lost, and the prober was asked a part of the journal's asks.
+/// it runs out of memory, journal and map are lost, and the prober was asked a part of the journal's asks.
 pub fn map<P: Prober>(alloc: Global, p: &mut P, depth: u8) -> Result<Mapped, AllocError>
     requires some { 1 ≤ depth }
     requires shallow { depth ≤ 32 }

@@ -44,7 +44,7 @@ pub(crate) fn onward(alloc: Global, front: &[i8], turn: i8) -> Result<Walk, Allo
     walk_of(alloc, &turns[..=front.len()])
 }
 
-// Turns with one more behind them, and zeros behind that.
+// Turns with one more after them, and zeros after that.
 fn one_more(front: &[i8], turn: i8) -> [i8; MAX_TURNS]
     requires { length front.now < MAX_TURNS }
     ensures { take (length front.now + 1) result ≡ front.now ++ turn ∷ [] }

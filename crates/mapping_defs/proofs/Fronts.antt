@@ -10,7 +10,7 @@ use Rattle.mapping_defs.specs.Mapping.{number_front}
 use Rattle.gm_defs.specs.Laws.{AreBytes}
 use Rattle.gm_defs.proofs.Choices.{if-some}
 
--- bytes behind others, and in front of others, are bytes
+-- bytes after others, and in front of others, are bytes
 pub bytes_behind : (xs ys : List ℕ) → AreBytes (xs ++ ys) → AreBytes ys
 bytes_behind [] ys h = h
 bytes_behind (x ∷ xs) ys h = bytes_behind xs ys (λ i. h (suc i))
@@ -21,7 +21,7 @@ bytes_in_front (suc n) [] h i = omega arith
 bytes_in_front (suc n) (b ∷ bytes) h zero = h zero
 bytes_in_front (suc n) (b ∷ bytes) h (suc i) = bytes_in_front n bytes (λ k. h (suc k)) i
 
--- What was written stands in front of bytes, and bytes are behind it.
+-- What was written stands in front of bytes, and bytes are after it.
 pub record IsFront (written rest bytes : List ℕ) : Type 0 where
   pub whole : bytes ≡ written ++ rest
   pub behind : AreBytes rest

@@ -246,7 +246,7 @@ rules-some (Some c) b e =
     let p = if-some (is_mapping c) (Some c) b e in
     (p.1, subst (λ x. is_mapping x ≡ true) (same_Some c b p.1) p.0)
 
--- the body of each kind: its bytes, and what is behind them
+-- the body of each kind: its bytes, and what is after them
 front-probe : (b : MappingBody) (bytes rest : List ℕ) → AreBytes bytes → probe_front bytes ≡ Some (b, rest) → 1 ∷ bytes ≡ mapping_bytes b ++ rest
 front-probe b bytes rest h e =
     let t = then-some (λ two. option_map (λ back. (HostProbe two.0.0 two.0.1 back.0, back.1)) (route_front two.1)) (two_front w64 8 bytes) (b, rest) e in

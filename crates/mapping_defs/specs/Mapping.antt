@@ -75,7 +75,7 @@ is_mapping (Loopback number mapper) = nat_lt number (2 ^ 64) && nat_lt mapper (2
 is_mapping (Part p) = is_part p
 is_mapping (PartAck epoch host part) = nat_lt epoch (2 ^ 32) && nat_lt host (2 ^ 16) && nat_lt part 256
 
--- a value that stands in front of bytes, and the bytes behind it
+-- a value that stands in front of bytes, and the bytes after it
 abbrev pub Front : Type 0 → Type 0
 Front A = Option (A × List ℕ)
 

@@ -54,7 +54,7 @@ all-carried (x ∷ ws) e = let parts = and_parts (fits x) (list_all fits ws) e i
 abbrev walks_of : List Entry → List (List ℤ)
 walks_of j = map (λ (e : Entry). e.walk) j
 
--- what is told of a walk behind a journal: the answer of an ask in the world behind the asks of that journal
+-- what is answered to a walk after a journal: the answer of an ask in the world after the asks of that journal
 abbrev tell : ℕ → ℕ → WorldState → List Entry → List ℤ → Answer
 tell host tries w j x = if list_all fits (walks_of j) && fits x then (ask host tries x (asked_all host tries (walks_of j) w).world).answer else Nothing
 
@@ -94,7 +94,7 @@ append-assoc : (xs : List Entry) (e : Entry) (ys : List Entry) → (xs ++ e ∷ 
 append-assoc [] e ys = refl
 append-assoc (x ∷ xs) e ys = ap (λ l. x ∷ l) (append-assoc xs e ys)
 
--- asks of a journal that is told so have its entries
+-- asks of a journal that is answered so have its entries
 entries-are : (host tries : ℕ) (w : WorldState) (before rest : List Entry)
     → ((xs : List Entry) (e : Entry) (ys : List Entry) → before ++ rest ≡ xs ++ e ∷ ys → e.answer ≡ (ask host tries e.walk (asked_all host tries (walks_of xs) w).world).answer)
     → (asked_all host tries (walks_of rest) (asked_all host tries (walks_of before) w).world).entries ≡ rest

@@ -63,7 +63,7 @@ rest-none drowned k none = omega (arith, none)
 none-both : (drowned : Bool) (k : ℕ) → drowned ≡ false → k ≡ 0 → one_if drowned + k ≡ 0
 none-both drowned k a b = let one : one_if drowned ≡ 0 = ap one_if a in omega (arith, one, b)
 
--- an ask, and those behind it
+-- an ask, and those after it
 ask-push : (host tries : ℕ) (walk : List ℤ) (walks : List (List ℤ)) (w : WorldState) → CanAsk w host [] → IsCarried walk → ((u : WorldState) → CanAsk u host [] → AreAsked host tries u walks (asked_all host tries walks u)) → AreAsked host tries w (walk ∷ walks) (asked_all host tries (walk ∷ walks) w)
 ask-push host tries walk walks w can is others = record {
   kept = kept-both w a.world rest.world kept r.kept;

@@ -1,4 +1,4 @@
--- What is told of the circuit links of a fabric, from any host to any depth: the asking of the tree ends, and the whole
+-- What is reported of circuit links, from any host to any depth: the asking of the tree ends, and the whole
 -- tree has a circuit map.
 use Rattle.std.proofs.Common.{List, [], ◌∷◌, length, inl, inr, refl}
 use Rattle.journal_defs.specs.declared.entry.Entry.{Entry}

@@ -42,7 +42,7 @@ record IsLastAdopted (s : SessionState) (o : Option Adoption) : Type 0 where
   are : s.last_routes ≡ Some last
   is : o ≡ Some (adoption_of last)
 
--- a session behind another that holds the same, but may have adopted the last routes
+-- a session after another that holds the same, but may have adopted the last routes
 record HeldBy (s next : SessionState) : Type 0 where
   last_map : next.last_map ≡ s.last_map
   last_routes : next.last_routes ≡ s.last_routes

@@ -1,4 +1,4 @@
--- Each line that says complete, or tells of circuit links, is followed by a right map, in what every command prints and
+-- Each line that says complete, or reports circuit links, is followed by a right map, in what every command prints and
 -- so in what a run prints.
 use Rattle.std.proofs.Common.{◌≡◌, ◌≤◌, ℕ, Bool, true, false, not, List, [], ◌∷◌, ◌++◌, map, Option, Some, None, refl, sym, subst, if◌then◌else◌}
 use Rattle.std.specs.List.{AllByRecursion}
@@ -44,7 +44,7 @@ use Rattle.mapping_laws.specs.Circuits.{CircuitMapsAreTrue, DeepCircuitMapsAreCo
 use Rattle.mapping_laws.proofs.Made.{made_map_is_right, deep_map_is_complete}
 use Rattle.mapping_laws.proofs.Sessions.{can-map, can-map-now, does-stays, new-session, run_keeps_world}
 
--- what the map behind a line is to be: the mapper's part, or the circuit map
+-- what the map after a line is to be: the mapper's part, or the circuit map
 data Heading : Type 0 where
   OfPart : (mapper : ℕ) → Heading
   OfCircuit : (host depth asks : ℕ) → Heading
@@ -90,12 +90,12 @@ right-both : (n : Network) (xs ys : List Piece) → AreRight n xs → AreRight n
 right-both n [] ys a b = b
 right-both n (x ∷ xs) ys a b = (followed-both n (heading_of x) xs ys a.0, right-both n xs ys a.1 b)
 
--- a map that is printed behind a line is right
+-- a map that is printed after a line is right
 printed-right : (n : Network) (l : Line) (m : NetMap) (before behind : List Piece) → AreRight n (before ++ OneLine l ∷ MapLines m ∷ behind) → IsFollowed n (heading_in l) (MapLines m ∷ behind)
 printed-right n l m [] behind all = all.0
 printed-right n l m (p ∷ before) behind all = printed-right n l m before behind all.1
 
--- lines that ask for no map behind them
+-- lines that ask for no map after them
 abbrev IsOther : Line → Type 0
 IsOther l = heading_in l ≡ None
 
@@ -202,7 +202,7 @@ pub circuit_maps_are_true : CircuitMapsAreTrue
 circuit_maps_are_true n commands out last host depth asks m f all r p =
     printed-right n (CircuitLine host depth asks) m p.before p.behind (subst (AreRight n) p.there (runs-right n f all (new-session n) r))
 
--- the map that is told of circuit links
+-- the map that is reported of circuit links
 told-map : (n : Network) (host depth asks : ℕ) (m : NetMap) (out : List Piece) → out ≡ OneLine (CircuitLine host depth asks) ∷ MapLines m ∷ [] → IsCircuitTold n host depth out → (j : List Entry) × IsCircuitMap n host depth j m
 told-map n host depth asks m out same (whole j k growing kept is printed) =
     let one : k ≡ m = cc in

@@ -1,4 +1,4 @@
--- The maps of circuit links that a run prints, and that there is always one to be told.
+-- The maps of circuit links that a run prints, and that there is always one to report.
 use Rattle.std.specs.Prelude.{◌≡◌, ℕ, ◌≤◌, List, [], ◌∷◌, ◌++◌}
 use Rattle.std.specs.List.{AllByRecursion}
 use Rattle.net_defs.specs.Network.{Network, IsFabric}
@@ -37,11 +37,11 @@ DeepCircuitMapsAreCores =
     → IsFabric n → AllByRecursion (IsCommandOf n) commands → IsRun n commands out last
     → HasPrintedCircuit out host depth asks m → ArePathsOfCore n host es → most_back es ≤ depth → IsMapOfCore n host m
 
--- What is told of the circuit links of a fabric, asked from a host to a depth.
+-- What is reported of the circuit links of a fabric, asked from a host to a depth.
 pub record HasToldCircuit (n : Network) (host depth : ℕ) : Type 0 where
   pub out : List Piece
   pub told : IsCircuitTold n host depth out
 
--- There is something to be told, whatever the host and the depth.
+-- There is something to report, whatever the host and the depth.
 abbrev pub CircuitIsTold : Type 0
 CircuitIsTold = (n : Network) (host depth : ℕ) → IsFabric n → HasToldCircuit n host depth

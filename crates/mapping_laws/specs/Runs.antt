@@ -27,6 +27,6 @@ RunKeepsWorld = (n : Network) (commands : List Command) (out : List Piece) (last
 abbrev pub CompleteMapsAreTrue : Type 0
 CompleteMapsAreTrue = (n : Network) (commands : List Command) → CompleteIsTrue n commands
 
--- and behind it, on a quiet fabric, a map to the depth that suffices, with 1 to 8 tries an ask, says complete
+-- and after it, on a quiet fabric, a map to the depth that suffices, with 1 to 8 tries an ask, says complete
 abbrev pub DeepMapsAreComplete : Type 0
 DeepMapsAreComplete = (n : Network) (commands : List Command) → DeepIsComplete n commands

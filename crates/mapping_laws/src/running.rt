@@ -17,7 +17,7 @@ pub fn maps_of_runs()
 {}
 
 /// Every map of circuit links that a run prints is the circuit map of the fabric to its depth, and where that is deep
-/// enough it is the core. There is always something to be told of the links.
+/// enough it is the core. There is always something to report of the links.
 pub fn circuit_maps_of_runs()
     ensures told { CircuitMapsAreTrue }
     ensures core { DeepCircuitMapsAreCores }

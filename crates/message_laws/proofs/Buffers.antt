@@ -65,7 +65,7 @@ called-still o r (provides p token size prio e d) =
     record { still = λ a. subst AreUntouched (sym d) (all-push IsUntouched p.provided new (subst AreUntouched e a) (record { long = length-replicate {A = ℕ} (room size) 0; others = refl; fitting = tt })) }
 called-still o r (polls p e d) = record { still = λ a. subst AreUntouched (sym d) (subst AreUntouched e a) }
 
--- a buffer with bytes from a place on is as long as before, and the same behind them
+-- a buffer with bytes from a place on is as long as before, and the same after them
 written-long : (buffer part : List ℕ) (offset : ℕ) → offset + length part ≤ length buffer → length (filled buffer offset part) ≡ length buffer
 written-long buffer part offset low =
     let front : List ℕ = take offset buffer ++ part in

@@ -1,4 +1,4 @@
--- What each act makes of the messages sent and got: they stay, or one comes behind them.
+-- What each act makes of the messages sent and got: they stay, or one comes after them.
 use Rattle.std.proofs.Common.{◌≡◌, ℕ, List, get_or, Option, None, refl, sym, ◌∙◌, subst}
 use Rattle.gm_defs.specs.declared.message.Message.{Message}
 use Rattle.gm_defs.specs.declared.frame.FrameHead.{FrameHead}

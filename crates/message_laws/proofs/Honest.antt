@@ -1,4 +1,4 @@
--- Each packet that no flip has met is honest: what stands behind the route bytes is what was built.
+-- Each packet that no flip has met is honest: what stands after the route bytes is what was built.
 use Rattle.std.proofs.Common.{◌≡◌, ◌+◌, ◌*◌, ◌≤◌, ℕ, suc, Bool, true, false, ℤ, List, [], ◌∷◌, drop, None, IfSome, Ok, sym, ap, ◌∙◌, subst, arith, if◌then◌else◌}
 use Rattle.std.specs.List.{prefix_len}
 use Rattle.std.proofs.lemmas.Bool.Decides.{nat_tests}
@@ -31,7 +31,7 @@ high-body : (high : ℕ) (bytes : List ℕ) (r : Kind × List ℕ) → 128 ≤ h
 high-body high [] r h e = cc
 high-body high (low ∷ bytes) r h e = let bad = sym (ap (λ k. of_kind k bytes) (high-kind high low h)) ∙ e in cc
 
--- what is read behind the route of a packet is its kind and its payload
+-- what is read after the route of a packet is its kind and its payload
 behind-read : (route : List ℤ) (kind k : Kind) (payload body : List ℕ) → body_of (behind_route (head_of route kind payload)) ≡ Ok (k, body) → ◌≡◌ {A = Kind × List ℕ} (kind, payload) (k, body)
 behind-read [] Mapping k payload body e = cc
 behind-read [] Gm k payload body e = cc

@@ -126,7 +126,7 @@ frame-fragment c sent seq f e =
     let m = map-some (λ f. (head_of c seq f, f.part)) (slice_get (fragments sent) seq) f e in
     record { fragment = m.0; there = m.1.0; is = sym m.1.1 }
 
--- the message behind a prefix makes it longer
+-- the message after a prefix makes it longer
 front-more : {A : Type 0} (got rest : List A) (m : A) → slice_get (got ++ rest) (length got) ≡ Some m → IsPrefix (got ++ m ∷ []) (got ++ rest)
 front-more [] [] m e = cc
 front-more [] (x ∷ rest) m e = record { rest = rest; both = ap (λ y. y ∷ rest) (same_Some x m e) }

@@ -58,7 +58,7 @@ node-kept S n m e = record { count = ap length e; lanes = λ k. subst (λ l. Lan
 lane-node : (S : ℕ → List Message) (n : NodeState) (k : ℕ) (q : LaneState) → LaneNext (S k) (prio_of k) (lane_at n k) q → NodeNext S n (with_lane n k q)
 lane-node S n k q here = record { count = length-set n.lanes k q; lanes = λ p. each-set (λ j x. LaneNext (S j) (prio_of j) (lane_at n j) x) n.lanes k p q new_lane here (λ j. lane-same (S j) (prio_of j) (lane_at n j)) }
 
--- one change behind another
+-- one change after another
 node-then : (S : ℕ → List Message) (n m r : NodeState) → NodeNext S n m → NodeNext S m r → NodeNext S n r
 node-then S n m r f g = record { count = g.count ∙ f.count; lanes = λ k. lane-then (S k) (prio_of k) (lane_at n k) (lane_at m k) (lane_at r k) (f.lanes k) (g.lanes k) }
 

@@ -51,7 +51,7 @@ module _ (h : FrameHead) (part : List ℕ) (p : PortState) (r : Provided) (e : t
   abbrev after : Provided
   after = filling_with h part r
 
-  -- for another host or another priority it doesn't count, before and behind the fragment
+  -- for another host or another priority it doesn't count, before and after the fragment
   module _ (src prio : ℕ) (other : (nat_eq h.src src && nat_eq h.prio prio) ≡ false) where
     before-other : is_filling_for src prio r ≡ false
     before-other = by is-taker

@@ -67,7 +67,7 @@ answer_on_its_way =
     option_map (λ held. body_of (unrouted held.wire))
     (packet_in (acted_all message_world (Adopts 1 setup_routes ∷ Happens (Inject 1) ∷ [])).links 2)
 
--- behind its route it is the acknowledgement of one fragment, as many as host 1 has taken
+-- after its route it is the acknowledgement of one fragment, as many as host 1 has taken
 abbrev pub AnswerIsHonest : Type 0
 AnswerIsHonest = answer_on_its_way ≡ Some (Ok (Gm, ack_bytes (ack_on (connection 0 1 0) 1)))
 
@@ -76,7 +76,7 @@ abbrev pub TakenAheadOfBase : Type 0
 TakenAheadOfBase = (taken_on message_world (connection 0 1 0) ≡ 1)
     × (sender_on message_world (connection 0 1 0) ≡ record { base = 0; cursor = 1; top = 1; next = 1 })
 
--- behind it all is acknowledged, and the message is got
+-- after it all is acknowledged, and the message is got
 abbrev pub AllIsAcknowledged : Type 0
 AllIsAcknowledged =
     (sender_on answered_world (connection 0 1 0) ≡ record { base = 1; cursor = 1; top = 1; next = 1 })

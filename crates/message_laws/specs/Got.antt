@@ -28,7 +28,7 @@ IsAllGot w = (c : ConnectionKey) → got_on w c ≡ sent_on w c
 abbrev pub NoneUnacknowledgedIsAllGot : Type 0
 NoneUnacknowledgedIsAllGot = (n : Network) (w : WorldState) → IsReached n w → unacknowledged_in w ≡ 0 → IsAllGot w
 
--- so a settle behind which no fragment is unacknowledged leaves all got
+-- so a settle after which no fragment is unacknowledged leaves all got
 abbrev pub SettleGetsAll : Type 0
 SettleGetsAll = (n : Network) (w : WorldState) → IsReached n w → unacknowledged_in (settle w).world ≡ 0
     → IsAllGot (settle w).world

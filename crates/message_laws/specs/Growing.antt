@@ -5,7 +5,7 @@ use Rattle.world_defs.specs.World.{WorldState}
 use Rattle.world_defs.specs.Traffic.{sent_on, got_on}
 use Rattle.act_defs.specs.Acts.{Act, acted}
 
--- A list stays, or has one element more, behind the others.
+-- A list stays, or has one element more, after the others.
 pub data GrowsByOne {A : Type 0} (xs ys : List A) : Type 0 where
   stays : ys ≡ xs → GrowsByOne xs ys
   one_more : (x : A) → ys ≡ xs ++ x ∷ [] → GrowsByOne xs ys
@@ -15,6 +15,6 @@ pub record MessagesGrow (w v : WorldState) (c : ConnectionKey) : Type 0 where
   pub sent : GrowsByOne (sent_on w c) (sent_on v c)
   pub got : GrowsByOne (got_on w c) (got_on v c)
 
--- so it is behind every act, in every world
+-- so it is after every act, in every world
 abbrev pub MessagesOnlyGrow : Type 0
 MessagesOnlyGrow = (w : WorldState) (a : Act) (c : ConnectionKey) → MessagesGrow w (acted w a) c

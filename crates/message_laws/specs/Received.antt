@@ -12,7 +12,7 @@ use Rattle.world_defs.specs.Traffic.{got_on}
 use Rattle.act_defs.specs.Acts.{IsReached}
 
 -- What a received event says is of a message that was got from there, of its priority, for its port: the message's
--- bytes stand in front, and behind them the zero bytes of the buffer that was provided, which is of the least size
+-- bytes stand in front, and after them the zero bytes of the buffer that was provided, which is of the least size
 -- that has room.
 pub record IsOfMessage (got : ℕ → List Message) (port : ℕ) (buffer : List ℕ) (from sport prio len : ℕ) : Type 0 where
   pub place : ℕ

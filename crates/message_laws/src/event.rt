@@ -2,7 +2,7 @@
 
 ghost use Rattle.message_laws.specs.Received.{ReceivedEventsAreOfMessages};
 
-/// A received event holds the bytes of a message that was got, and behind them what was provided.
+/// A received event holds the bytes of a message that was got, and after them what was provided.
 pub fn received_messages()
     ensures messages { ReceivedEventsAreOfMessages }
 {}

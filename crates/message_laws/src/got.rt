@@ -8,7 +8,7 @@ pub fn messages_below_taken()
     ensures got { GotIsWholeBelowTaken }
 {}
 
-/// Where all is acknowledged, all is got: of one connection, of all at once, and so behind a settle.
+/// Where all is acknowledged, all is got: of one connection, of all at once, and so after a settle.
 pub fn acknowledged_messages()
     ensures connection { AllAcknowledgedIsAllGot }
     ensures all { NoneUnacknowledgedIsAllGot }

@@ -9,7 +9,7 @@
 //! | file of `specs/` | says |
 //! |---|---|
 //! | `Order` | what was got is a prefix of what was sent |
-//! | `Growing` | what was sent and got only grows, behind what was there |
+//! | `Growing` | what was sent and got only grows, after what was there |
 //! | `Says` | what a frame on its way says |
 //! | `Windows` | the window of each connection, and the packets on their way |
 //! | `Got` | how much of what was sent is got |

@@ -20,7 +20,7 @@ pub fn frames_on_their_way()
     ensures frames { FramesAreHonest }
 {}
 
-/// What was sent and what was got on a connection only grow, each by one message an act at most, behind the others.
+/// What was sent and what was got on a connection only grow, each by one message an act at most, after the others.
 pub fn messages_only_grow()
     ensures { MessagesOnlyGrow }
 {}

@@ -6,7 +6,7 @@ use Rattle.packet_defs.specs.Packet.{type_of, head_of, front_turn}
 use Rattle.packet_defs.specs.Burst.{flipped, masked}
 use Rattle.packet_defs.proofs.Masks.{flipped-masked}
 
--- a payload behind what stands before it
+-- a payload after what stands before it
 pub front-behind : (route : List ℤ) (kind : Kind) (payload : List ℕ) → head_of route kind [] ++ payload ≡ head_of route kind payload
 front-behind route kind payload = append_assoc (map route_byte route) (0 ∷ type_of kind ∷ []) payload
 

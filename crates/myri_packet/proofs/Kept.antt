@@ -42,7 +42,7 @@ pub strip-off : (h : List ℕ) (d : ℕ) → 2 ≤ length (wire_of h d) → wire
 strip-off [] d two = absurd (omega (arith, two))
 strip-off (byte ∷ h) d two = front_off byte h d
 
--- a mask on a byte of the head, on the byte behind it, and past both
+-- a mask on a byte of the head, on the byte after it, and past both
 pub masked-head : (h : List ℕ) (check place mask : ℕ) → place < length h
     → masked h place mask ++ check ∷ [] ≡ masked (h ++ check ∷ []) place mask
 masked-head [] check place mask l = absurd (omega arith)

@@ -20,7 +20,7 @@ pub fn encode(alloc: Global, route: &[i8], kind: Kind, payload: &[u8]) -> Result
     seal(bytes)
 }
 
-/// What of a packet stands before its payload, with room for so many bytes of that. A payload that is written behind
+/// What of a packet stands before its payload, with room for so many bytes of that. A payload that is written after
 /// it needs no buffer of its own.
 pub fn packet_front(
     alloc: Global,

@@ -11,9 +11,9 @@ use packet_defs::{HostDrop, Kind};
 /// The payload of a packet, by its kind.
 #[derive(Clone, Copy, Debug)]
 pub enum Body<'a> {
-    /// The bytes behind type 0x0005: a mapper's packet, or an answer to one.
+    /// The bytes after type 0x0005: a mapper's packet, or an answer to one.
     Mapping(&'a [u8]),
-    /// The bytes behind type 0x0008: a fragment of a message, or an acknowledgement of fragments.
+    /// The bytes after type 0x0008: a fragment of a message, or an acknowledgement of fragments.
     Gm(&'a [u8]),
 }
 

@@ -2,7 +2,7 @@
 //! the status.
 //!
 //! It prints nothing itself. Statuses: 0 done, 2 usage, 3 the text is refused, 4 a read failed, 5 a write failed, 6
-//! want of memory, 7 the input is too long, 8 the system refused the words of the command line.
+//! out of memory, 7 the input is too long, 8 the system refused the words of the command line.
 #![tactic(auto)]
 
 use fab_outer::{StdSink, StdSource};
@@ -23,7 +23,7 @@ fn main(rt: HostRuntime) -> ExitCode {
     }
 }
 
-// The words behind the program's name.
+// The words after the program's name.
 fn command_line(rt: &HostRuntime) -> io::Result<Vec<Word>> {
     let mut words = Vec::new(rt.alloc());
     for text in env::args(rt)?.skip(1) {

@@ -1,4 +1,4 @@
--- A fabric as a labelled port graph: hosts of one port, switches of 4, 8 or 16 ports, and cables that join two ports.
+-- A fabric is a labelled port graph: hosts of one port, switches of 4, 8 or 16 ports, and cables that join two ports.
 use Rattle.std.specs.Prelude.{◌≡◌, ◌≢◌, ℕ, ◌≤◌, Bool, true, false, ◌&&◌, ◌||◌, List, [], ◌∷◌, ◌++◌, map, length, nat_eq}
 use Rattle.std.specs.Prelude.{nat_lt, slice_get, if◌then◌else◌, Option, Some, None}
 use Rattle.std.specs.Option.{option_map_or}
@@ -13,7 +13,7 @@ pub record NamedSwitch : Type 0 where
   pub name : List ℕ
   pub ports : ℕ
 
--- The names of the hosts by address, the switches by number and the cables by number.
+-- A fabric has the names of its hosts by address, and its switches and its cables by number.
 pub record Network : Type 0 where
   pub hosts : List (List ℕ)
   pub switches : List NamedSwitch
@@ -70,8 +70,8 @@ ends_of (c ∷ cs) = c.a ∷ c.b ∷ ends_of cs
 abbrev pub is_port_count : ℕ → Bool
 is_port_count p = nat_eq p 4 || nat_eq p 8 || nat_eq p 16
 
--- What makes a fabric: at most 128 hosts and 64 switches, names apart, and cables between ports that exist, no port
--- in two.
+-- A network is a fabric where it has at most 128 hosts and 64 switches, no name stands twice, each switch has
+-- 4, 8 or 16 ports, and the ends of its cables are ports that exist, no port twice.
 pub record IsFabric (n : Network) : Type 0 where
   pub few_hosts : length n.hosts ≤ 128
   pub few_switches : length n.switches ≤ 64

@@ -44,7 +44,7 @@ pub send-fragment : (host : ℕ) (n : NodeState) (x : Option Outgoing) → is_so
 send-fragment host n x none nothing is =
     is ∙ ap (λ z. either z (first_some (due_on host n) (lanes_of n))) nothing ∙ either-none (first_of (items_in n)) (behind host n) none ∙ in-order host n
 
--- a packet that was made, or memory was wanting
+-- a packet that was made, or memory ran out
 pub made-as : {P E : Type 0} (r : Result P E) (x y : P) → IfOk r (λ p. p ≡ x) → x ≡ y → IfOk r (λ p. p ≡ y)
 made-as (Ok p) x y is e = is ∙ e
 made-as (Err error) x y is e = tt

@@ -14,7 +14,7 @@ use Rattle.nic_node.proofs.Choosing.{Found, found}
 abbrev pub waits_on : NodeState → ℕ → Bool
 waits_on n lane = nat_lt 0 (unacknowledged_on n lane)
 
--- what is told of a whole search
+-- what is said of a whole search
 abbrev pub IsTold : NodeState → Bool → Type 0
 IsTold n b = (b ≡ false → (peer : ℕ) → unacknowledged_to n peer ≡ 0)
     × (b ≡ true → (lane : ℕ) × (lane < length n.lanes) × (0 < unacknowledged_on n lane))

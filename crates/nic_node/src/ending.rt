@@ -1,6 +1,6 @@
 //! A port is ended, whatever it holds.
 //!
-//! Its unfinished sends go with it, and their tickets may stand on any lane, before and behind those of other ports. So
+//! Its unfinished sends go with it, and their tickets may stand on any lane, before and after those of other ports. So
 //! the lanes forget all that they sent and took: the host has no fragment due, and stays one on which every call can be
 //! made. The peers aren't told. The sends of other ports stay in their queues, until their ports end too.
 

@@ -43,7 +43,7 @@ pub(crate) fn hear(
     }
 }
 
-// A frame came, its bytes behind its head. It must name this host, and a host that sent it.
+// A frame came, its bytes after its head. It must name this host, and a host that sent it.
 fn hear_frame(
     alloc: Global,
     host: u16,

@@ -93,7 +93,7 @@ impl NicNode {
         self.lane_route(lane).is_some()
     }
 
-    // The number behind a lane's. There is one, since the number of lanes is one too.
+    // The number after a lane's. There is one, since the number of lanes is one too.
     fn after(&self, lane: u32) -> u32
         requires { lane < length self.now.state.lanes }
         ensures { result ≡ lane + 1 }

@@ -94,7 +94,7 @@ impl NicNode {
 
     /// Accepts a message of a port for a peer. The port has token and buffer until the message is acknowledged. A
     /// refusal hands both back and changes nothing: NotOpen, TooLong, BufferShort, NoRoute, Spent, in this order, and
-    /// only then want of memory.
+    /// only then out of memory.
     pub fn send(
         &mut self,
         alloc: Global,

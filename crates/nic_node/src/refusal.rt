@@ -1,6 +1,6 @@
 //! Why a host doesn't accept a message.
 
-/// Why a message isn't accepted. Where several hold, the first is told.
+/// Why a message isn't accepted. Where several hold, the first is reported.
 #[derive(Clone, Copy, Debug, PartialEq, Eq)]
 pub enum NodeSend {
     /// The port isn't open.

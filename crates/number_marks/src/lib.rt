@@ -1,6 +1,6 @@
 //! Sets of numbers, as marks: a bit for each number, in words of 64.
 //!
-//! `Marks` has the least of its numbers at hand, so that an empty set is told at once; the functions beside it are for
+//! `Marks` has the least of its numbers at hand, so that an empty set is seen at once; the functions beside it are for
 //! words whose owner knows that otherwise. What the numbers are is the owner's. `specs/Marks.antt` says what a mark is.
 //!
 //! ```text

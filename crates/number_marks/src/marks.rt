@@ -75,7 +75,7 @@ impl Marks {
         }
     }
 
-    /// The least marked number that isn't below another. It looks at a word for 64 numbers behind the least.
+    /// The least marked number that isn't below another. It looks at a word for 64 numbers after the least.
     pub fn next(&self, from: usize) -> Option<usize>
         ensures next { IfSome result (IsNextMark self.now from) }
         ensures none { IfNone result ((k : ℕ) → from ≤ k → mark_at self.now k ≡ 0) }

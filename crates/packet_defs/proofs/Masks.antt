@@ -26,7 +26,7 @@ flipped-first (byte ∷ bytes) pattern =
 abbrev two_writes : List ℕ → ℕ → ℕ → List ℕ
 two_writes bytes bit pattern = masked (masked bytes (bit / 8) (pattern / 2 ^ (bit % 8))) (bit / 8 + 1) (pattern * 2 ^ (8 - bit % 8) % 256)
 
--- writes behind the first byte
+-- writes after the first byte
 masked-behind : (byte : ℕ) (bytes : List ℕ) (place a b : ℕ) → masked (masked (byte ∷ bytes) (suc place) a) (suc place + 1) b ≡ byte ∷ masked (masked bytes place a) (place + 1) b
 masked-behind byte bytes place a b = let e : suc place + 1 ≡ suc (place + 1) = omega arith in ap (λ n. masked (byte ∷ masked bytes place a) n b) e
 

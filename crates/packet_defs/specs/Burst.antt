@@ -1,4 +1,4 @@
--- A burst: neighbouring bits of a packet that flip on a cable, at most eight.
+-- A burst flips neighbouring bits of a packet on a cable, at most eight.
 use Rattle.std.specs.Prelude.{ℕ, ◌+◌, ◌-◌, ◌*◌, ◌/◌, ◌%◌, ◌^◌, Bool, true, false, not, ◌&&◌, nat_lt, List, [], ◌∷◌}
 use Rattle.std.specs.Prelude.{◌++◌, length, slice_index, slice_set}
 use Rattle.std.specs.Int.Bits.{bit_xor}

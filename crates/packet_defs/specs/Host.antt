@@ -27,8 +27,8 @@ abbrev pub body_of : List ℕ → Result (Kind × List ℕ) HostDrop
 body_of (high ∷ low ∷ payload) = of_kind (kind_of (256 * high + low)) payload
 body_of _ = Err Malformed
 
--- The kind and the payload of a packet that reached a host, or the first reason to drop it: a difference, a route
--- that is left, a head that is too short, another type.
+-- A host takes the kind and the payload of a packet, or drops it for the first of these reasons: its CRC has a
+-- difference, a route is left, its head is too short, it has another type.
 abbrev pub decode : List ℕ → Result (Kind × List ℕ) HostDrop
 decode wire =
     if nat_eq (difference wire) 0 then if has_route (head wire) then Err RouteLeft else body_of (head wire)

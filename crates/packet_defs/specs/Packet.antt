@@ -1,4 +1,4 @@
--- A packet's bytes on the wire: route bytes, a type of two bytes, a payload, and the CRC of all before it (packets of
+-- A packet on the wire is route bytes, a type of two bytes, a payload, and the CRC of all before it (packets of
 -- ANSI/VITA 26-1998; the codes are this project's own). The head is all bytes before the CRC.
 use Rattle.std.specs.Prelude.{ℕ, zero, suc, ◌-◌, ℤ, List, [], ◌∷◌, ◌++◌, map, length, take, slice_index, slice_get}
 use Rattle.std.specs.Prelude.{Option, option_and_then}

@@ -3,7 +3,7 @@
 //!
 //! This crate holds definitions and the small types that they speak of. It holds no packet in memory and computes no
 //! CRC. `specs/Packet.antt` says what a packet's bytes are, `specs/Crc.antt` its CRC, `specs/Bits.antt` the remainder
-//! behind it, `specs/RouteByte.antt` the byte of a turn, `specs/Burst.antt` a flip, and `specs/Host.antt` what a host
+//! after it, `specs/RouteByte.antt` the byte of a turn, `specs/Burst.antt` a flip, and `specs/Host.antt` what a host
 //! answers.
 //!
 //! ```text

@@ -53,7 +53,7 @@ fn aim_from_each<const P: usize>(packet: &Packet, aims: &mut Aims)
     }
 }
 
-// The packet of a few bytes, which are no packet only where memory is wanting.
+// The packet of a few bytes, which are no packet only where memory runs out.
 fn packet_of(alloc: Global, bytes: &[u8]) -> Result<Packet, AllocError> {
     match Packet::from_wire(alloc, bytes) {
         Ok(packet) => Ok(packet),

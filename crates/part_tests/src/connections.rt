@@ -25,7 +25,7 @@ fn the_last_number_is_used_once(rt: HostRuntime) -> Result<(), Fail> {
     Ok(())
 }
 
-// How many messages are taken behind the delivery of a packet.
+// How many messages are taken after the delivery of a packet.
 fn taken(pair: &mut Pair, packet: u32) -> Result<usize, AllocError> {
     pair.step(PairEvent::Deliver { packet, fits: true })?;
     Ok(pair.taken().len())

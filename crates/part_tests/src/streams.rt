@@ -6,7 +6,7 @@ use fab_outer::{
 use std::io::{Error, ErrorKind, Read, Write};
 use std::test::Fail;
 
-// Fails at each read, and at each flush behind a write.
+// Fails at each read, and at each flush after a write.
 #[derive(Drop)]
 struct Broken;
 

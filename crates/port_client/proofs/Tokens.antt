@@ -53,7 +53,7 @@ nowhere true b x y e f = absurd (grind arith)
 nowhere false true x y e f = absurd (grind arith)
 nowhere false false x y e f = refl
 
--- a number in front of each other
+-- a number at the front is below the count, and none of those that are out
 module _ (count t : ℕ) (out : List ℕ) where
   front : (l : List ℕ) → slice_get l 0 ≡ Some t → IsEachOnce count (l ++ out) → (t < count) × AllByRecursion (λ y. t ≡ y → ⊥) out
   front [] e is = absurd (none-some t e)

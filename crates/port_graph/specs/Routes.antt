@@ -21,7 +21,7 @@ abbrev pub push_refusal : List Route → Route → Option RoutePush
 push_refusal routes r = if is_above (slice_get routes (length routes - 1)) r then None else Some Order
 
 -- The call refuses exactly where there is a refusal, with that one, and hands back the value. Only where there is
--- none may memory be wanting.
+-- none may memory run out.
 abbrev pub HandsBack : {T V E : Type 0} → Option E → E → V → Result T (V × E) → Type 0
 HandsBack refusal no_memory value (Ok x) = refusal ≡ None
 HandsBack refusal no_memory value (Err e) = (e.0 ≡ value)

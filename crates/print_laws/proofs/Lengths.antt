@@ -22,7 +22,7 @@ use Rattle.map_canon.proofs.ReadBack.{map-numbered}
 use Rattle.map_canon.proofs.Words.{AreNumbered, number-most}
 use Rattle.print_laws.specs.Printed.{IsPrintable}
 
--- the bytes of words with one more behind each
+-- the bytes of words with one more after each
 abbrev total : List (List ℕ) → ℕ
 total [] = 0
 total (w ∷ ws) = length w + (1 + total ws)

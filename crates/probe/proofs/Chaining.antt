@@ -54,7 +54,7 @@ latest-low buckets walks bucket (suc at) = by (nat_eq (bucket_at buckets walks a
     by true l = omega arith
     by false l = omega arith
 
--- where a walk stands neither at a place nor behind it
+-- where a walk stands neither at a place nor after it
 passed-on : (walks : List (List ℤ)) (turns : List ℤ) (at : ℕ) → slice_get walks at ≢ Some turns → ((k : ℕ) → suc at ≤ k → slice_get walks k ≢ Some turns) → (k : ℕ) → at ≤ k → slice_get walks k ≢ Some turns
 passed-on walks turns at here behind k low = by (cases_order at k)
   where

@@ -1,4 +1,4 @@
--- Walks whose turns lie one after another: where one lies, and how one more goes behind them.
+-- Walks whose turns lie one after another: where one lies, and how one more goes after them.
 use Rattle.std.proofs.Common.{◌≡◌, ◌≢◌, ◌<◌, ◌≤◌, ◌+◌, ◌-◌, ℕ, zero, suc, List, [], ◌∷◌, ◌++◌, length, take, drop, Some, refl, ap, ◌∙◌, sym, arith}
 use Rattle.std.specs.Prelude.{ℤ, slice_get, slice_index_or, slice_range}
 use Rattle.std.proofs.lemmas.List.{take-append-le, take_all, drop-append-le, drop_at, length-drop, length-append}
@@ -10,7 +10,7 @@ range-kept turns more i j low high =
     ap (take (j - i)) (drop-append-le i turns more (omega arith))
     ∙ take-append-le (j - i) (drop i turns) more (let l = length-drop i turns in omega arith)
 
--- what goes behind them is their last part
+-- what goes after them is their last part
 range-behind : (turns more : List ℤ) (i j : ℕ) → i ≡ length turns → j ≡ length turns + length more → slice_range (turns ++ more) i j ≡ more
 range-behind turns more i j start end =
     ap (take (j - i)) (drop_at turns more i (sym start))
@@ -41,7 +41,7 @@ pub start-read : (start : ℕ) (ends : List ℕ) (at : ℕ) → at ≢ 0 → sli
 start-read start ends zero some = absurd (some refl)
 start-read start ends (suc at) some = ap (λ k. slice_index_or ends k 0) (let one : suc at - 1 ≡ at = omega arith in one)
 
--- walks with one more behind them
+-- walks with one more after them
 pub walks-push : (turns more : List ℤ) (start : ℕ) (ends : List ℕ) (end : ℕ) → AreEnds turns start ends → end ≡ length turns + length more → walks_in (turns ++ more) start (ends ++ end ∷ []) ≡ walks_in turns start ends ++ more ∷ []
 walks-push turns more start [] end are is = ap (λ w. w ∷ []) (range-behind turns more start end are is)
 walks-push turns more start (e ∷ ends) end are is =

@@ -70,7 +70,7 @@ impl ProbeBody {
         Ok(bytes)
     }
 
-    /// Puts its bytes behind others: at most 76.
+    /// Puts its bytes after others: at most 76.
     pub fn append(&self, bytes: &mut Vec<u8>) -> Result<(), AllocError>
         ensures bytes { OnOk result (bytes.new.items ≡ bytes.old.items ++ mapping_bytes (said self.now)) }
         ensures few { length (mapping_bytes (said self.now)) ≤ 76 }
@@ -105,7 +105,7 @@ impl ProbeBody {
     }
 }
 
-// Puts the bytes of a host probe behind others.
+// Puts the bytes of a host probe after others.
 fn append_host_probe(
     bytes: &mut Vec<u8>,
     number: u64,
@@ -141,7 +141,7 @@ pub fn loop_bytes(number: u64, mapper: u16) -> [u8; 11]
     numbers(LOOP, number, mapper)
 }
 
-// The host probe whose bytes behind the kind are these.
+// The host probe whose bytes after the kind are these.
 fn probe_of(alloc: Global, bytes: &[u8]) -> Result<ProbeBody, BodyFault>
     ensures ok { IfOk result (λ body. probe_in (1 ∷ bytes.now) ≡ Some (said body)) }
     ensures refused { Refuses (body_refusal (1 ∷ bytes.now)) BodyFault.NoMemory result }
@@ -159,7 +159,7 @@ fn probe_of(alloc: Global, bytes: &[u8]) -> Result<ProbeBody, BodyFault>
     }
 }
 
-// The reply whose bytes behind the kind are these.
+// The reply whose bytes after the kind are these.
 fn reply_of(bytes: &[u8]) -> Result<ProbeBody, BodyFault>
     ensures ok { IfOk result (λ body. probe_in (2 ∷ bytes.now) ≡ Some (said body)) }
     ensures refused { Refuses (body_refusal (2 ∷ bytes.now)) BodyFault.NoMemory result }
@@ -170,7 +170,7 @@ fn reply_of(bytes: &[u8]) -> Result<ProbeBody, BodyFault>
     }
 }
 
-// The loopback probe whose bytes behind the kind are these.
+// The loopback probe whose bytes after the kind are these.
 fn loop_of(bytes: &[u8]) -> Result<ProbeBody, BodyFault>
     ensures ok { IfOk result (λ body. probe_in (3 ∷ bytes.now) ≡ Some (said body)) }
     ensures refused { Refuses (body_refusal (3 ∷ bytes.now)) BodyFault.NoMemory result }

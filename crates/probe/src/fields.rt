@@ -16,7 +16,7 @@ pub(crate) fn whole_numbers(bytes: &[u8]) -> Option<(u64, u16)>
     }
 }
 
-/// A packet's number and a host, and the bytes behind them; none where there are fewer bytes.
+/// A packet's number and a host, and the bytes after them; none where there are fewer bytes.
 pub(crate) fn numbers_front(bytes: &[u8]) -> Option<((u64, u16), &[u8])>
     ensures value { option_map (λ p. (p.0, p.1.now)) result ≡ two_front w64 8 bytes.now }
     ensures fits { IfSome result (λ p. (p.0.0 < 2 ^ 64) × (p.0.1 < 2 ^ 16)) }
@@ -48,7 +48,7 @@ fn host_front(bytes: &[u8]) -> Option<(u16, &[u8])>
     }
 }
 
-/// Puts a body's kind and numbers behind other bytes.
+/// Puts a body's kind and numbers after other bytes.
 pub(crate) fn append_numbers(
     bytes: &mut Vec<u8>,
     kind: u8,

@@ -90,7 +90,7 @@ fn start_of(ends: &[u32], at: usize) -> usize
     if at == 0 { 0 } else { ends[at - 1] as usize }
 }
 
-// Where so many turns end behind so many.
+// Where so many turns end after so many.
 fn end_behind(start: usize, turns: usize) -> Result<u32, AllocError>
     ensures { IfOk result (λ end. end ≡ start + turns) }
 {

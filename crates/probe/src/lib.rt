@@ -16,7 +16,7 @@
 //! | `prober` | the trait |
 //! | `fabric_prober`, `fake_prober` | a prober that tells the truth, and one whose chosen asks drown |
 //! | `journal` | answers in order, found by their walks |
-//! | `walk_index`, `flat_walks` | walks found by their turns, which lie one behind the other in one block |
+//! | `walk_index`, `flat_walks` | walks found by their turns, which lie one after the other in one block |
 //! | `walk_list`, `chains` | walks wherever they lie, and their chains by hash |
 //! | `body`, `fields`, `whole_route` | bodies as bytes |
 #![tactic(auto)]

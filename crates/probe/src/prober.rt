@@ -28,7 +28,7 @@ pub trait Prober {
     /// An ask of this walk with this answer leads from the one state to the other.
     ghost asked: { State → List ℤ → Answer → State → Type 0 };
 
-    /// An ask of this walk that wanted memory leads from the one state to the other.
+    /// An ask of this walk that ran out of memory leads from the one state to the other.
     ghost cut: { State → List ℤ → State → Type 0 };
 
     /// It may be asked.

@@ -1,4 +1,4 @@
--- The acts that a command stands for: they may happen, they lead to the world behind it, and behind each prefix of them the world is sound.
+-- The acts that a command stands for: they may happen, they lead to the world after it, and after each prefix of them the world is sound.
 use Rattle.std.proofs.Common.{◌≡◌, ℕ, Bool, true, false, not, List, [], ◌∷◌, ◌++◌, map, Option, Some, None, refl, sym, ◌∙◌, ap, subst, if◌then◌else◌}
 use Rattle.std.specs.List.{AllByRecursion}
 use Rattle.net_defs.specs.Network.{Network}
@@ -187,7 +187,7 @@ may-append : (w : WorldState) (xs ys : List Act) → MayActAll w xs → MayActAl
 may-append w [] ys a b = b
 may-append w (x ∷ xs) ys a b = (a.0, may-append (acted w x) xs ys a.1 b)
 
--- acts that may happen behind reached ones lead to a reached world
+-- acts that may happen after reached ones lead to a reached world
 reached-behind : (n : Network) (w : WorldState) (acts : List Act) → IsReached n w → MayActAll w acts → IsReached n (acted_all w acts)
 reached-behind n w acts r may = record {
   fabric = r.fabric;

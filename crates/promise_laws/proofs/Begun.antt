@@ -44,7 +44,7 @@ kept-before before e rest (inr q) = by (by_last (e ∷ rest))
         let longer = reached-more before r in
         omega (arith, same, kept, longer)
 
--- each entry of a growing journal was the next ask behind those before it
+-- each entry of a growing journal was the next ask after those before it
 ask-at : (host depth : ℕ) (l j : List Entry) (e : Entry) (rest : List Entry) → IsGrowing host depth l → l ≡ j ++ e ∷ rest → NextAsk host depth j e.walk
 ask-at host depth l j e rest (nothing) is = absurd (none j (sym is))
   where
@@ -95,7 +95,7 @@ answers-first host tries u e j is = same-entry (entry_of host tries u e.walk) e 
 answers-rest : (host tries : ℕ) (u : WorldState) (e : Entry) (j : List Entry) → Answers host tries u (e ∷ j) → Answers host tries (ask host tries e.walk u).world j
 answers-rest host tries u e j is = same-rest (entry_of host tries u e.walk) e (asked_all host tries (walks_of j) (ask host tries e.walk u).world).entries j is
 
--- of asks in a row from a world, which grow behind a journal, those that have grown begin with the others
+-- of asks in a row from a world, which grow after a journal, those that have grown begin with the others
 asked-front : (host depth tries : ℕ) (before i j : List Entry) (u : WorldState) → Answers host tries u i → Answers host tries u j → IsGrowing host depth (before ++ i) → IsKept (before ++ i) → IsGrown host depth (before ++ j) → IsPrefix i j
 asked-front host depth tries before [] j u a b g k h = record { rest = j; both = refl }
 asked-front host depth tries before (e ∷ i) j u a b g k h =
@@ -117,14 +117,14 @@ asked-front host depth tries before (e ∷ i) j u a b g k h =
         let p = again tail (subst (λ x. Answers host tries (ask host tries x u).world tail) walk (answers-rest host tries u f tail b1)) h2 in
         record { rest = p.rest; both = there ∙ ap (λ l. e ∷ l) p.both }
 
--- the events of asks in a row, and of those behind them
+-- the events of asks in a row, and of those after them
 asks-append : (host tries : ℕ) (xs ys : List (List ℤ)) (w : WorldState) → asks_events host tries (xs ++ ys) w ≡ asks_events host tries xs w ++ asks_events host tries ys (asked_all host tries xs w).world
 asks-append host tries [] ys w = refl
 asks-append host tries (x ∷ xs) ys w =
     let v : WorldState = (ask host tries x w).world in
     ap (λ l. ask_events host tries x w ++ l) (asks-append host tries xs ys v) ∙ sym (append_assoc (ask_events host tries x w) (asks_events host tries xs v) (asks_events host tries ys (asked_all host tries xs v).world))
 
--- part of the way along asks behind others
+-- part of the way along asks after others
 way-asks : (host tries : ℕ) (w u v : WorldState) (i rest : List Entry) → u ≡ (asked_all host tries (walks_of i) w).world → IsPartWay u (asks_events host tries (walks_of rest) u) v
     → IsPartWay w (asks_events host tries (walks_of (i ++ rest)) w) v
 way-asks host tries w u v i rest is p =
@@ -135,7 +135,7 @@ way-asks host tries w u v i rest is p =
     (ap (λ l. asks_events host tries l w) (map-append (λ (e : Entry). e.walk) i rest) ∙ asks-append host tries (walks_of i) (walks_of rest) w)
     (way-behind w mid v first behind (asks-done host tries (walks_of i) w).there (subst (λ x. IsPartWay x (asks_events host tries (walks_of rest) x) v) is p))
 
--- within the next ask behind them
+-- within the next ask after them
 way-within : (host tries : ℕ) (w u v : WorldState) (i rest : List Entry) (x : List ℤ) → u ≡ (asked_all host tries (walks_of i) w).world → IsPartWay u (ask_events host tries x u) v → StartsWith x rest
     → IsPartWay w (asks_events host tries (walks_of (i ++ rest)) w) v
 way-within host tries w u v i rest x is way (starts e tail same walk) =

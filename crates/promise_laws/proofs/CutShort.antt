@@ -1,4 +1,4 @@
--- Commands that are cut short: before their acts, behind them, and part of the way along them.
+-- Commands that are cut short: before their acts, after them, and part of the way along them.
 use Rattle.std.proofs.Common.{◌≡◌, ℕ, Bool, true, false, not, List, [], ◌∷◌, map, Option, Some, None, refl, sym, ◌∙◌, ap, subst, append-nil, if◌then◌else◌}
 use Rattle.std.proofs.lemmas.List.{map-append}
 use Rattle.link_defs.specs.Links.{is_idle}
@@ -49,7 +49,7 @@ part-events w v es p = record {
 pub way-whole : (w v : WorldState) (es : List Event) → v ≡ after_all w es → IsPartWay w es v
 way-whole w v es led = record { done = es; front = record { rest = []; both = sym (append-nil es) }; there = led }
 
--- behind a first act
+-- after a first act
 pub part-behind : (w u v : WorldState) (a : Act) (acts : List Act) → u ≡ acted_all w (a ∷ []) → IsPartActed u acts v → IsPartActed w (a ∷ acts) v
 part-behind w u v a acts led p = record {
   done = a ∷ p.done;
@@ -178,7 +178,7 @@ begun_maps_are_cut_short s host depth tries v can begun =
       way = part-events s.world v es (begun-way host depth tries s.world v h.after h.journal k.drowned k.grown k.asked begun);
     }
 
--- what is done behind a run is one list of acts, and behind each prefix of them the world is sound
+-- what is done after a run is one list of acts, and after each prefix of them the world is sound
 pub cut_commands_leave_sound : CutCommandsLeaveSound
 cut_commands_leave_sound n commands out s c v f all of_n r cut =
     let d = each_command_is_done n commands out s c f all of_n r in

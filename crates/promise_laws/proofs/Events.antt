@@ -1,4 +1,4 @@
--- The events of asks in a row lead to the world behind the last, and flip eight bits at most.
+-- The events of asks in a row lead to the world after the last, and flip eight bits at most.
 use Rattle.std.proofs.Common.{ℕ, List, [], ◌∷◌}
 use Rattle.std.specs.Prelude.{ℤ}
 use Rattle.world_defs.specs.World.{WorldState}

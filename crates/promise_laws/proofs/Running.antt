@@ -1,4 +1,4 @@
--- A run exists: each command does something in the session behind a run.
+-- A run exists: each command does something in the session after a run.
 use Rattle.std.proofs.Common.{◌≡◌, ◌-◌, List, [], ◌∷◌, ◌++◌, length, append_assoc, Option, Some, None, refl, sym, subst}
 use Rattle.std.specs.List.{AllByRecursion}
 use Rattle.std.proofs.lemmas.List.{append-nil}
@@ -70,7 +70,7 @@ does-exist n s c f of_n led = by (outcome s c) refl
 pub each_command_is_done : EachCommandIsDone
 each_command_is_done n commands out s c f all of_n r = does-exist n s c f of_n (run-led n commands out s f all r)
 
--- commands behind a run
+-- commands after a run
 runs-on : (n : Network) (first rest : List Command) (out : List Piece) (s : SessionState) → IsFabric n → AllByRecursion (IsActOf n) first → AllByRecursion (IsActOf n) rest → IsRun n first out s → HasRun n (first ++ rest)
 runs-on n first [] out s f all more r =
     let run : IsRun n (first ++ []) out s = subst (λ cs. IsRun n cs out s) (sym (append-nil first)) r in

@@ -43,7 +43,7 @@ install_acts w tries None = []
 install_acts w tries (Some l) =
     if not (is_idle w.links) then [] else if is_other l.routes w.adopted then [] else install_now_acts w l tries
 
--- The acts of a command, where its session determines them: those of all commands but a map that is made.
+-- The session determines which acts a command stands for, except those of a map that is made.
 abbrev pub acts_of : SessionState → Command → Option (List Act)
 acts_of s (Walk host walk) = Some []
 acts_of s (Map host depth tries) = if is_idle s.world.links then None else Some []
@@ -70,9 +70,9 @@ pub data StandsFor (s : SessionState) : Command → List Act → Type 0 where
       → acts ≡ map Happens (asks_events host tries (map (λ e. e.walk) j) s.world)
       → StandsFor s (Map host depth tries) acts
 
--- What a command that is done stands for: acts, which are one list; they may happen one after another, they lead to
--- the world behind it, each is one action in the world that those before it lead to, and behind each prefix of them the
--- world is sound, and what came of each message in part stands in one provided buffer.
+-- A command that is done stands for one list of acts. They may happen one after another, and lead to the world after
+-- it; each is one action in the world that those before it lead to; and after each prefix of them the world is sound,
+-- and what came of each message in part stands in one provided buffer.
 pub record HasSoundActs (s : SessionState) (c : Command) (next : SessionState) : Type 0 where
   pub acts : List Act
   pub are : StandsFor s c acts
@@ -84,14 +84,14 @@ pub record HasSoundActs (s : SessionState) (c : Command) (next : SessionState) :
   pub sound : (prefix rest : List Act) → acts ≡ prefix ++ rest → IsSound (acted_all s.world prefix)
   pub parts : (prefix rest : List Act) → acts ≡ prefix ++ rest → HasTiedParts (acted_all s.world prefix)
 
--- every command that is done behind a run has such acts
+-- every command that is done after a run has such acts
 abbrev pub CommandsHaveSoundActs : Type 0
 CommandsHaveSoundActs =
     (n : Network) (commands : List Command) (out printed : List Piece) (s next : SessionState) (c : Command)
     → IsFabric n → AllByRecursion (IsActOf n) commands → IsActOf n c → IsRun n commands out s → Does s c printed next
     → HasSoundActs s c next
 
--- so the world behind every run is sound
+-- so the world after every run is sound
 abbrev pub RunsEndSound : Type 0
 RunsEndSound = (n : Network) (commands : List Command) (out : List Piece) (last : SessionState) → IsFabric n
     → AllByRecursion (IsActOf n) commands → IsRun n commands out last → IsSound last.world

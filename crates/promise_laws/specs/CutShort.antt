@@ -1,4 +1,4 @@
--- A command that is cut short, for want of memory: a prefix of the acts that it stands for leads to the world.
+-- A command is cut short where memory runs out: a prefix of the acts that it stands for leads to the world.
 use Rattle.std.specs.Prelude.{◌≡◌, ◌⊎◌, ℕ, ◌≤◌, ℤ, List, map, length}
 use Rattle.std.specs.List.{AllByRecursion}
 use Rattle.net_defs.specs.Network.{Network, IsFabric}

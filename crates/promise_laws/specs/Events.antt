@@ -5,7 +5,7 @@ use Rattle.world_defs.specs.Step.{after_all}
 use Rattle.run_defs.specs.Mapped.{asked_all}
 use Rattle.event_lists.specs.Events.{asks_events}
 
--- the events of asks in a row lead to the world behind the last
+-- the events of asks in a row lead to the world after the last
 abbrev pub AsksAreTheirEvents : Type 0
 AsksAreTheirEvents = (mapper tries : ℕ) (walks : List (List ℤ)) (w : WorldState)
     → (asked_all mapper tries walks w).world ≡ after_all w (asks_events mapper tries walks w)

@@ -1,4 +1,4 @@
--- That commands over a fabric have a run, and one: behind every run each command does something, and nothing else.
+-- That commands over a fabric have a run, and one: after every run each command does something, and nothing else.
 use Rattle.std.specs.Prelude.{◌≡◌, List}
 use Rattle.std.specs.List.{AllByRecursion}
 use Rattle.net_defs.specs.Network.{Network, IsFabric}
@@ -15,13 +15,13 @@ pub record HasDone (s : SessionState) (c : Command) : Type 0 where
   pub does : Does s c out next
   pub one : (other : List Piece) (end : SessionState) → Does s c other end → (other ≡ out) × (end ≡ next)
 
--- behind every run each command does something
+-- after every run each command does something
 abbrev pub EachCommandIsDone : Type 0
 EachCommandIsDone =
     (n : Network) (commands : List Command) (out : List Piece) (s : SessionState) (c : Command)
     → IsFabric n → AllByRecursion (IsActOf n) commands → IsActOf n c → IsRun n commands out s → HasDone s c
 
--- The run of commands over a fabric: what they print, and the session that they leave. There is no other.
+-- Commands over a fabric have one run, and no other: they print these pieces, and leave this session.
 pub record HasRun (n : Network) (commands : List Command) : Type 0 where
   pub out : List Piece
   pub last : SessionState

@@ -38,7 +38,7 @@ DeepMapsOfScriptsAreComplete =
     → IsQuiet host s.world after
     → 1 ≤ tries → tries ≤ 8 → enough_depth n host ≤ depth → words ≡ Complete
 
--- Acts that may happen lead to the world behind its run.
+-- Acts that may happen lead to the world after its run.
 abbrev pub ScriptIsReached : Type 0
 ScriptIsReached =
     (n : Network) (line : ℕ) (text : List ℕ) (commands : List Command) (out : List Piece) (last : SessionState)

@@ -2,7 +2,7 @@
 
 ghost use Rattle.promise_laws.specs.Events.{AsksAreTheirEvents};
 
-/// The events of asks in a row lead to the world behind the last.
+/// The events of asks in a row lead to the world after the last.
 pub fn asks_in_order()
     ensures { AsksAreTheirEvents }
 {}

@@ -5,15 +5,15 @@ ghost use Rattle.promise_laws.specs.CommandActs.{CommandsHaveSoundActs, RunsEndS
 ghost use Rattle.promise_laws.specs.CutShort.{BegunMapsAreCutShort, CutCommandsLeaveSound};
 ghost use Rattle.promise_laws.specs.OneAction.{ActsAreOneAction};
 
-/// Each command that is done behind a run stands for one list of acts: they may happen, they lead to the world behind
-/// it, and behind each prefix of them the world is sound. So the world behind every run is sound.
+/// Each command that is done after a run stands for one list of acts: they may happen, they lead to the world after
+/// it, and after each prefix of them the world is sound. So the world after every run is sound.
 pub fn acts_of_commands()
     ensures acts { CommandsHaveSoundActs }
     ensures ended { RunsEndSound }
 {}
 
 /// A map that was begun and stopped is the command cut short: a prefix of the acts that it stands for was done. And a
-/// command that is cut short behind a run leaves a sound world.
+/// command that is cut short after a run leaves a sound world.
 pub fn acts_of_cut_commands()
     ensures begun { BegunMapsAreCutShort }
     ensures sound { CutCommandsLeaveSound }

@@ -6,10 +6,10 @@
 //! | file of `specs/` | says |
 //! |---|---|
 //! | `Events` | that asks in a row are one list of events |
-//! | `CommandActs` | which acts a command stands for, and that behind each prefix of them the world is sound |
+//! | `CommandActs` | which acts a command stands for, and that after each prefix of them the world is sound |
 //! | `CutShort` | that a command is cut short, and a map that was begun |
 //! | `OneAction` | whose an act is, and that it is one action, of one host or of one channel |
-//! | `Existence` | each command does something behind every run, and so there is a run |
+//! | `Existence` | each command does something after every run, and so there is a run |
 //! | `Promised` | every moment is sound, and every run keeps its promise |
 //! | `Scripts` | what every script promises that is read without a fault |
 //! | `Examples` | whose acts of a message's way are |

@@ -133,7 +133,7 @@ fn is_switch(m: &FabricMap, v: u32) -> bool
     }
 }
 
-/// The channel that leaves by the port at a place of a vertex. One may be wanting in the table.
+/// The channel that leaves by the port at a place of a vertex. One may be missing in the table.
 pub(crate) fn crossing_at(table: &[Option<Crossing>], v: u32, k: usize) -> Option<Crossing>
     requires { k < 31 }
     ensures { (m : NetMap) (ks : List RankEntry) → AreCrossings m ks table.now

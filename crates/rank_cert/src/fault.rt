@@ -26,7 +26,7 @@ pub enum CheckFault {
     BadRank {
         /// The earlier channel, by the place of its vertex and its port.
         c: (u32, i8),
-        /// The channel behind it, likewise.
+        /// The channel after it, likewise.
         d: (u32, i8),
         /// The rank of `c`.
         rank_c: u64,

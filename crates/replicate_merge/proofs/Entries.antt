@@ -18,7 +18,7 @@ use Rattle.replicate_merge.proofs.Prefixes.{walk-at}
 pub entry-in : (es j : List Entry) (k : ℕ) (d : Entry) → es ≡ j → k < length j → slice_get j k ≡ Some (slice_index_or es k d)
 entry-in es j k d list l = slice_get-get_or j k d l ∙ ap (λ (xs : List Entry). Some (slice_index_or xs k d)) (sym list)
 
--- the node of an entry stands behind those of the entries before it
+-- the node of an entry stands after those of the entries before it
 reached-place : (j : List Entry) (k : ℕ) (e : Entry) → slice_get j k ≡ Some e → is_found e.answer ≡ true → slice_get (reached j) (length (reached (take k j))) ≡ Some (Reached e.walk)
 reached-place [] k e at f = cc
 reached-place (x ∷ j) zero e at f =
@@ -59,7 +59,7 @@ entry-of (x ∷ j) w f = by (same_turns x.walk w) refl f (entry-of j w)
     by true p g rest = record { place = 0; entry = x; there = refl; walk = same_turns-true x.walk w p; answer = ap (λ b. if b then Some x.answer else answered j w) p }
     by false p g rest = let r = rest g in record { place = suc r.place; entry = r.entry; there = r.there; walk = r.walk; answer = ap (λ b. if b then Some x.answer else answered j w) p ∙ r.answer }
 
--- what an entry tells is the answer to its walk
+-- what an entry has is the answer to its walk
 pub answered-at : (j : List Entry) (k : ℕ) (e : Entry) → IsJournal j → slice_get j k ≡ Some e → answered j e.walk ≡ Some e.answer
 answered-at [] k e once at = cc
 answered-at (x ∷ j) zero e once at =

@@ -97,7 +97,7 @@ same-table walks t new asked orphans ahead m = λ i. record {
 pub room-view : (walks later : List (List ℤ)) (t new : Joined) (asked counted : List ℕ) (orphans : List (List ℤ)) (ahead : Bool) → later ≡ walks → SameItems t new → counted ≡ asked → class_table later (kept_of new counted orphans ahead) new.heads.marks.items ≡ class_table walks (kept_of t asked orphans ahead) t.heads.marks.items
 room-view walks later t new asked counted orphans ahead e same c = (λ i. class_table (e i) (kept_of new (c i) orphans ahead) new.heads.marks.items) ∙ same-table walks t new asked orphans ahead same
 
--- what holds anyway holds on want of memory
+-- what holds anyway holds where memory runs out
 pub on-err : {X E P : Type 0} (r : Result X E) → P → OnErr r P
 on-err (Ok x) p = tt
 on-err (Err e) p = p

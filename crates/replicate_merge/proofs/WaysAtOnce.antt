@@ -32,7 +32,7 @@ use Rattle.replicate_merge.proofs.Entries.{answered-at, entry-of}
 use Rattle.replicate_merge.proofs.Nexts.{once-of}
 use Rattle.replicate_merge.proofs.NodesAtOnce.{settling-room}
 
--- a host that a journal tells of
+-- a host that a journal shows
 host-answer : (a : ℕ) (x : Answer) → host_in (Some x) ≡ Some a → x ≡ HostAnswer a
 host-answer a (HostAnswer b) p = let one : b ≡ a = cc in ap HostAnswer one
 host-answer a Switch p = cc

@@ -1,4 +1,4 @@
--- The ways of an entry's own node: those that the entry alone tells of.
+-- The ways of an entry's own node: those that the entry alone shows.
 use Rattle.std.specs.Prelude.{◌≡◌, ℕ, ◌<◌, ◌≤◌, ℤ, pos, List, length}
 use Rattle.net_defs.specs.declared.place.Answer.TheVariants.{Host as HostAnswer}
 use Rattle.journal_defs.specs.declared.entry.Entry.{Entry}

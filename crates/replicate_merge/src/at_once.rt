@@ -1,4 +1,4 @@
-//! The classes of a whole journal, joined at once: first all its nodes, then the ways that each entry tells of, and
+//! The classes of a whole journal, joined at once: first all its nodes, then the ways that each entry shows, and
 //! then joins until no pair is open.
 
 ghost use Rattle.std.specs.Prelude.{◌≡◌, ◌+◌, ◌<◌, length, IfOk, OnOk};
@@ -89,7 +89,7 @@ fn add_all_ways(
     Ok(())
 }
 
-// Adds the ways that the entry at a place tells of.
+// Adds the ways that the entry at a place shows.
 fn add_ways_at(
     alloc: Global,
     j: &Journal,

@@ -26,7 +26,7 @@ pub(crate) fn is_found(answer: Answer) -> bool
     }
 }
 
-/// Puts the ways that an entry tells of by itself in the place of others: of the host at its node, and between its node
+/// Puts the ways that an entry shows by itself in the place of others: of the host at its node, and between its node
 /// and the one in front, whose walk is looked for first at a place where it is likely to stand.
 pub(crate) fn own_ways(
     ways: &mut Vec<Way>,

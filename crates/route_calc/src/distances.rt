@@ -56,7 +56,7 @@ fn first_distances(alloc: Global, m: &FabricMap, to: u32) -> Result<Vec<u8>, All
     Ok(far)
 }
 
-// Lowers each distance once, and tells whether there may be more to lower.
+// Lowers each distance once, and says whether there may be more to lower.
 fn lower_again(m: &FabricMap, exits: &[Exits], numbered: bool, far: &mut [u8]) -> bool
     requires exits { exits.now ≡ all_exits m.now (order_of m.now) }
     requires numbered { numbered ≡ true → AreNumbered m.now (order_of m.now) }
@@ -70,7 +70,7 @@ fn lower_again(m: &FabricMap, exits: &[Exits], numbered: bool, far: &mut [u8]) -
     if numbered { false } else { lowers }
 }
 
-// Lowers each distance once, and tells whether one was lowered: first those after a channel down, from the last
+// Lowers each distance once, and says whether one was lowered: first those after a channel down, from the last
 // vertex on, since a channel down leads to a later one; then the others, from the first vertex on.
 fn lower_all(m: &FabricMap, exits: &[Exits], far: &mut [u8]) -> bool
     requires exits { exits.now ≡ all_exits m.now (order_of m.now) }

@@ -109,7 +109,7 @@ abbrev from_on : ℕ → ℕ → List Numbered → Option (List RouteEntry)
 from_on k zero ps = Some []
 from_on k (suc n) ps = option_and_then (λ es. option_map (λ rest. es ++ rest) (from_on (suc k) n ps)) (lookup (nat_eq k) ps)
 
--- the same, taken from behind
+-- the same, taken from the end
 from-last : (n k : ℕ) (ps : List Numbered) → from_on k (suc n) ps ≡ option_and_then (λ front. option_map (λ es. front ++ es) (lookup (nat_eq (k + n)) ps)) (from_on k n ps)
 from-last zero k ps = let e : k + 0 ≡ k = omega arith in by (lookup (nat_eq k) ps) ∙ ap (λ j. option_map (λ es. [] ++ es) (lookup (nat_eq j) ps)) (sym e)
   where
@@ -222,7 +222,7 @@ all-joined (suc m) ps up =
     joined-from (suc m) ps ∙ stand-from m 0 ps up (all-least ps)
     ∙ ap (λ j. if has_number (slice_get ps m) j then Some (joined_all (take (suc m) ps)) else None) e
 
--- the first entry for a host: of the part at a place, or of those behind
+-- the first entry for a host: of the part at a place, or of those after
 pub found-at : (t : RouteEntry → Bool) (i : ℕ) (p : Numbered) (ps : List Numbered) → i < length ps → p ≡ get_or ps i p → find t (joined_all (drop i ps)) ≡ option_or (find t p.1) (find t (joined_all (drop (i + 1) ps)))
 found-at t i p ps l e =
     let split : drop i ps ≡ p ∷ drop (suc i) ps = drop-cons ps i p l ∙ ap (λ q. q ∷ drop (suc i) ps) (sym e) in

@@ -76,7 +76,7 @@ first-risen e to ps up there same = by (rises_from 0 (joined_all ps)) refl up
     by None is up = cc
     by (Some m) is up = subst (λ t. find (λ f. nat_eq f.to t) (joined_all ps) ≡ Some e) same (first-of e 0 m (joined_all ps) there.0 is there.1).1
 
--- hosts of entries end to end rise where those of the first rise, and those behind from there
+-- hosts of entries end to end rise where those of the first rise, and those after from there
 pub rises-append : (n : ℕ) (es fs : List RouteEntry) → rises_from n (es ++ fs) ≡ option_and_then (λ m. rises_from m fs) (rises_from n es)
 rises-append n [] fs = refl
 rises-append n (x ∷ es) fs = by (nat_lt x.to n) (rises-append (x.to + 1) es fs)
@@ -85,7 +85,7 @@ rises-append n (x ∷ es) fs = by (nat_lt x.to n) (rises-append (x.to + 1) es fs
     by true rest = refl
     by false rest = rest
 
--- the hosts of the parts from one on, behind those of that one
+-- the hosts of the parts from one on, after those of that one
 pub rises-at : (n : ℕ) (i : ℕ) (p : Numbered) (ps : List Numbered) → i < length ps → p ≡ get_or ps i p → rises_from n (joined_all (drop i ps)) ≡ option_and_then (λ m. rises_from m (joined_all (drop (i + 1) ps))) (rises_from n p.1)
 rises-at n i p ps l e =
     let split : drop i ps ≡ p ∷ drop (suc i) ps = drop-cons ps i p l ∙ ap (λ q. q ∷ drop (suc i) ps) (sym e) in

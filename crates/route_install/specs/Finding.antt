@@ -4,7 +4,7 @@ use Rattle.std.specs.Prelude.{Option, Some, None}
 use Rattle.mapping_defs.specs.Mapping.{RouteEntry}
 use Rattle.route_install.specs.Collecting.{Numbered, joined_all}
 
--- the number behind the last host of entries, where their hosts rise from a least one on
+-- the number after the last host of entries, where their hosts rise from a least one on
 abbrev pub rises_from : ℕ → List RouteEntry → Option ℕ
 rises_from least [] = Some least
 rises_from least (e ∷ es) = if nat_lt e.to least then None else rises_from (e.to + 1) es

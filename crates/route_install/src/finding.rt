@@ -34,7 +34,7 @@ pub(crate) fn are_rising(parts: &[Collected]) -> bool
     true
 }
 
-// The number behind the last host of entries, whose hosts rise from a least one on.
+// The number after the last host of entries, whose hosts rise from a least one on.
 fn rises_from(first: u32, entries: &[TableEntry]) -> Option<u32>
     requires { first ≤ 2 ^ 16 }
     ensures value { result ≡ rises_from first entries.now }

@@ -81,7 +81,7 @@ impl Table {
         })
     }
 
-    /// Takes a part of this host's table. It changes nothing where memory is wanting.
+    /// Takes a part of this host's table. It changes nothing where memory runs out.
     pub fn apply(&mut self, p: RoutePart) -> Result<Applied, AllocError>
         requires { p.dst ≡ self.old.host }
         ensures ok { IfOk result (λ a. (a, self.new.state) ≡ applied self.old.state p) }

@@ -29,7 +29,7 @@ pub struct MadeRoutes {
 }
 
 /// The routes of a connected map, whose hosts are hosts of a fabric: for each two the least legal one. They are
-/// printed with the fabric's names, and only behind the check that the ranks rise along each of them.
+/// printed with the fabric's names, and only after the check that the ranks rise along each of them.
 pub fn make_routes(alloc: Global, m: &FabricMap, f: &Fabric) -> Result<MadeRoutes, AllocError>
     requires connected { IsConnected m.now }
     requires few { length (switches_of m.now.vertices) ≤ 64 }
@@ -43,7 +43,7 @@ pub fn make_routes(alloc: Global, m: &FabricMap, f: &Fabric) -> Result<MadeRoute
     Ok(MadeRoutes { set, printed })
 }
 
-// The routes of a map with their ranks, behind the check of both.
+// The routes of a map with their ranks, after the check of both.
 fn certified_routes(alloc: Global, m: &FabricMap) -> Result<(RouteSet, Ranks), AllocError>
     requires connected { IsConnected m.now }
     requires few { length (switches_of m.now.vertices) ≤ 64 }

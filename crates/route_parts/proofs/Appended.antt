@@ -1,4 +1,4 @@
--- A part behind other bytes: its numbers, its route back, and its entries, one after the other.
+-- A part after other bytes: its numbers, its route back, and its entries, one after the other.
 use Rattle.std.proofs.Common.{ℕ, ◌≡◌, List, [], ◌∷◌, ◌++◌, map, length, ap, ◌∙◌, append_assoc}
 use Rattle.std.specs.Prelude.{ℤ}
 use Rattle.std.specs.Int.{w16, w32, to_be_bytes}
@@ -6,7 +6,7 @@ use Rattle.packet_defs.specs.RouteByte.{route_byte}
 use Rattle.mapping_defs.specs.Mapping.{RouteEntry, RoutePart, mapping_bytes, entry_bytes, route_bytes}
 use Rattle.mapping_defs.specs.Mapping.MappingBody.{Part}
 
--- four lists behind one, as they were written
+-- four lists after one, as they were written
 abbrev pub four_behind : (old a b c d : List ℕ) → List ℕ
 four_behind old a b c d = (((old ++ a) ++ b) ++ c) ++ d
 
@@ -24,7 +24,7 @@ place_of p = p.part ∷ p.parts ∷ []
 abbrev numbers_of : RoutePart → List ℕ
 numbers_of p = epoch_of p ++ (to_be_bytes w16 p.mapper ++ (to_be_bytes w16 p.dst ++ place_of p))
 
--- its numbers, its route back and its entries behind other bytes are its bytes behind them
+-- its numbers, its route back and its entries after other bytes are its bytes after them
 pub appended : (old : List ℕ) (p : RoutePart) (walk : List ℤ) (es : List RouteEntry) {t u v : List ℕ} → walk ≡ p.back → es ≡ p.entries
     → t ≡ four_behind old (4 ∷ to_be_bytes w32 p.epoch) (to_be_bytes w16 p.mapper) (to_be_bytes w16 p.dst) (p.part ∷ p.parts ∷ [])
     → u ≡ t ++ length walk ∷ map route_byte walk

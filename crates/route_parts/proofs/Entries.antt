@@ -36,7 +36,7 @@ whole-changed f None = refl
 whole-changed f (Some (a, [])) = refl
 whole-changed f (Some (a, byte ∷ bytes)) = refl
 
--- the entry in front and those behind
+-- the entry in front and those after
 pub entries-next : (k : ℕ) (bytes behind : List ℕ) (e : RouteEntry) → entry_front bytes ≡ Some (e, behind) → whole (entries_front (suc k) bytes) ≡ option_map (λ es. e ∷ es) (whole (entries_front k behind))
 entries-next k bytes behind e r =
     ap (λ (o : Front RouteEntry). whole (option_and_then (λ d. option_map (λ es. (d.0 ∷ es.0, es.1)) (entries_front k d.1)) o)) r

@@ -25,7 +25,7 @@ part-ruled (Some (p, [])) = by (is_part p)
     by false = refl
 part-ruled (Some (p, x ∷ xs)) = refl
 
--- a part behind its kind: its numbers, and its routes
+-- a part after its kind: its numbers, and its routes
 pub part-read : (bytes : List ℕ) → part_in (4 ∷ bytes) ≡ option_and_then (λ (h : Head × List ℕ). part_behind h.0 h.1) (numbers_front bytes)
 part-read bytes = part-ruled (part_front bytes) ∙ by (two_front w32 4 bytes)
   where

@@ -42,7 +42,7 @@ missing (Some a) = None
 abbrev pub bytes_front : List ℕ → Front (ℕ × ℕ)
 bytes_front bytes = option_and_then (λ n. option_map (λ m. ((n.0, m.0), m.1)) (byte_front n.1)) (byte_front bytes)
 
--- the numbers in front of a part behind its kind
+-- the numbers in front of a part after its kind
 abbrev pub numbers_front : List ℕ → Front Head
 numbers_front bytes =
     option_and_then

@@ -5,11 +5,11 @@ use Rattle.packet_defs.specs.RouteByte.{turns_of}
 use Rattle.route_parts.specs.declared.head.Head.{Head}
 use Rattle.mapping_defs.specs.Mapping.{RouteEntry, RoutePart, Front, entries_front, whole}
 
--- the route that is in front, by its bytes and those behind
+-- the route that is in front, by its bytes and those after
 abbrev pub route_viewed : Front (List ℕ) → Front (List ℤ)
 route_viewed o = option_and_then (λ p. option_map (λ walk. (walk, p.1)) (turns_of p.0)) o
 
--- the entry that is in front, by its host and its route bytes and those behind
+-- the entry that is in front, by its host and its route bytes and those after
 abbrev pub entry_viewed : Front (ℕ × List ℕ) → Front RouteEntry
 entry_viewed o = option_and_then (λ p. option_map (λ walk.
     (record { to = p.0.0; walk = walk }, p.1)) (turns_of p.0.1)) o

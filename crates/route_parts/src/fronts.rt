@@ -59,7 +59,7 @@ fn bytes_front(bytes: &[u8]) -> Option<((u8, u8), &[u8])>
     Some(((first, second), bytes))
 }
 
-/// The numbers of a part behind its kind.
+/// The numbers of a part after its kind.
 pub(crate) fn numbers_front(bytes: &[u8]) -> Option<(Head, &[u8])>
     ensures value { option_map (λ p. (p.0, p.1.now)) result ≡ numbers_front bytes.now }
     ensures fits { IfSome result (λ p. (p.0.epoch < 2 ^ 32) × (p.0.mapper < 2 ^ 16) × (p.0.dst < 2 ^ 16)) }

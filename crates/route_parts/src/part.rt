@@ -71,7 +71,7 @@ impl RoutePart {
         Ok(bytes)
     }
 
-    /// Its bytes behind others. Where memory is wanting, a part of them may stand there.
+    /// Its bytes after others. Where memory runs out, a part of them may stand there.
     pub fn append(&self, bytes: &mut Vec<u8>) -> Result<(), AllocError>
         requires { is_part self.now ≡ true }
         ensures { OnOk result (bytes.new.items ≡ bytes.old.items ++ mapping_bytes (MappingBody.Part self.now)) }

@@ -49,7 +49,7 @@ fn is_ruled(head: Head, count: u8) -> bool
     head.part < head.parts && head.parts <= 16 && 1 <= count && count <= 8
 }
 
-// The part whose bytes are known to be one. None where memory is wanting.
+// The part whose bytes are known to be one. None where memory runs out.
 fn read_part(alloc: Global, head: Head, back: &[u8], count: u8, bytes: &[u8]) -> Option<RoutePart>
     requires few { length back.now ≤ 64 }
     requires turns { IsSome (turns_of back.now) }
@@ -69,7 +69,7 @@ fn read_part(alloc: Global, head: Head, back: &[u8], count: u8, bytes: &[u8]) ->
     })
 }
 
-// The route of bytes that are known to be one. None where memory is wanting.
+// The route of bytes that are known to be one. None where memory runs out.
 fn read_route(alloc: Global, bytes: &[u8]) -> Option<Walk>
     requires few { length bytes.now ≤ 64 }
     requires turns { IsSome (turns_of bytes.now) }
@@ -82,7 +82,7 @@ fn read_route(alloc: Global, bytes: &[u8]) -> Option<Walk>
     }
 }
 
-// The entries whose bytes are known to be some. None where memory is wanting.
+// The entries whose bytes are known to be some. None where memory runs out.
 fn read_entries(alloc: Global, count: u8, bytes: &[u8]) -> Option<EntryList>
     requires { rise_from None count bytes.now ≡ true }
     ensures { IfSome result (λ entries. whole (entries_front count bytes.now) ≡ Some entries) }

@@ -14,7 +14,7 @@ use turn_bytes::is_route_byte;
 // The most turns of a route.
 const MAX_TURNS: usize = 64;
 
-/// The route bytes in front, with their number before them, and the bytes behind.
+/// The route bytes in front, with their number before them, and the bytes after.
 pub(crate) fn route_front(bytes: &[u8]) -> Option<(&[u8], &[u8])>
     ensures value { route_viewed (option_map (λ p. (p.0.now, p.1.now)) result) ≡ route_front bytes.now }
     ensures turns { IfSome result (λ p. (length p.0.now ≤ 64) × IsSome (turns_of p.0.now)) }
@@ -47,7 +47,7 @@ fn are_route_bytes(bytes: &[u8]) -> bool
     bytes.iter().all(|byte| is_route_byte(*byte))
 }
 
-/// The host and the route bytes of the entry in front, and the bytes behind.
+/// The host and the route bytes of the entry in front, and the bytes after.
 pub(crate) fn entry_front(bytes: &[u8]) -> Option<((u16, &[u8]), &[u8])>
     ensures value { entry_viewed (option_map (λ p. ((p.0.0, p.0.1.now), p.1.now)) result) ≡ entry_front bytes.now }
     ensures turns { IfSome result (λ p. (p.0.0 < 2 ^ 16) × (length p.0.1.now ≤ 64) × IsSome (turns_of p.0.1.now)) }

@@ -3,7 +3,7 @@
 //!
 //! The texts lie in `data/`, as files that `worked_texts` describes. A line is printed for each run, by name: `ok
 //! NAME`, or `failed NAME` with the first difference. A file that belongs to no text, and a text without its report,
-//! fail too. More runs, whose outcome a rule tells, let reads and writes fail, read the longest input, and make a
+//! fail too. More runs, whose outcome a rule gives, let reads and writes fail, read the longest input, and make a
 //! text anew. The last line counts, and the exit status is 0 only where nothing failed.
 #![tactic(auto)]
 

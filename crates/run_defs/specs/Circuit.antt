@@ -9,8 +9,8 @@ use Rattle.circ_defs.specs.CircuitMap.{IsCircuitMap}
 use Rattle.run_defs.specs.declared.line.Line.TheVariants.{Circuit, CircuitNodes}
 use Rattle.run_defs.specs.Output.{Piece, OneLine, MapLines}
 
--- What is printed of the circuit links of a fabric, asked from a host to a depth: the number of the asks and the
--- circuit map, where the whole tree keeps the limit of nodes; else the number of the asks until it was passed, alone.
+-- `circuit` from a host to a depth prints the number of its asks and the circuit map, where the whole tree stays
+-- within the limit of nodes; else it prints only how many asks there were until that was passed.
 pub data IsCircuitTold (n : Network) (host depth : ℕ) (out : List Piece) : Type 0 where
   whole : (j : List Entry) (m : NetMap) → IsTreeGrowing n host depth j → IsTreeEnded depth j
       → IsCircuitMap n host depth j m → out ≡ OneLine (Circuit host depth (length j)) ∷ MapLines m ∷ []

@@ -81,7 +81,7 @@ single_events =
     ∷ Step (Lose (switch_end 0 7)) ∷ Settle
     ∷ Poll 1 1 ∷ Poll 1 1 ∷ Finish ∷ []
 
--- the world behind the asks of a map, from the first host on
+-- the world after the asks of a map, from the first host on
 abbrev pub mapped_world : WorldState
 mapped_world = (asked_all 0 1 (map (λ e. e.walk) two_hosts_journal) (new_world two_hosts)).world
 
@@ -93,7 +93,7 @@ mapping = Map 0 4 1 ∷ Finish ∷ []
 abbrev pub mapping_output : List Piece
 mapping_output = OneLine (MapLine 0 Complete 31 62) ∷ MapLines setup_map ∷ OneLine (FinishLine 62 59) ∷ []
 
--- the session behind it
+-- the session after it
 abbrev pub mapped_session : SessionState
 mapped_session = record {
   world = mapped_world;

@@ -224,7 +224,7 @@ words_in n (GenMap words asks packets) = codes "map" ∷ map_words words
     ++ codes "asks" ∷ decimal asks ∷ codes "packets" ∷ decimal packets ∷ []
 words_in n (GenCount accepted received) = codes "messages" ∷ decimal accepted ∷ codes "received" ∷ decimal received ∷ []
 
--- The text of a line.
+-- The text of a line is its words with a space between them, and the byte that ends a line.
 abbrev pub line_text : Network → Line → List ℕ
 line_text n l = line_of (words_in n l)
 

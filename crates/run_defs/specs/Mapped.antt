@@ -34,15 +34,15 @@ abbrev pub asked_all : ℕ → ℕ → List (List ℤ) → WorldState → AskedA
 asked_all mapper tries [] w = record { entries = []; drowned = 0; world = w }
 asked_all mapper tries (walk ∷ walks) w = with_ask walk (ask mapper tries walk w) (asked_all mapper tries walks)
 
--- What a map may be called: the first of these words that holds.
+-- A map is called by the first of these words that holds.
 pub data IsCalled (host : ℕ) (j : List Entry) (drowned : ℕ) : MapWords → Type 0 where
   too_many_nodes : IsEndedAtLimit j → IsCalled host j drowned IncompleteNodes
   too_shallow : ¬ IsEndedAtLimit j → ¬ IsClosed host j → IsCalled host j drowned IncompleteDepth
   doubted : ¬ IsEndedAtLimit j → IsClosed host j → 0 < drowned → IsCalled host j drowned (Doubtful drowned)
   right : ¬ IsEndedAtLimit j → IsClosed host j → drowned ≡ 0 → IsCalled host j drowned Complete
 
--- Mapping from a host, to a depth, with so many tries an ask: from one world to another, by a journal, to a map and
--- its words.
+-- The asks of a journal that has grown from a host to a depth, with so many tries each, lead from one world to
+-- another. The map is the journal's quotient with its core marked, and these words are what it is called.
 pub record IsMapped (host depth tries : ℕ) (before after : WorldState) (j : List Entry) (m : NetMap)
     (words : MapWords) : Type 0 where
   pub drowned : ℕ

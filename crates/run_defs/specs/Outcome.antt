@@ -162,7 +162,7 @@ token_lines host port None = Client TokensCall host port (Refused NotOpen) ∷ [
 token_lines host port (Some p) = TokensLine host port (places p.sends (place_of_send p))
     (places p.recvs (place_of_recv p)) ∷ []
 
--- a settle prints its rounds, its resets and what isn't acknowledged behind it; a count of resets stays at its last
+-- a settle prints its rounds, its resets and what isn't acknowledged after it; a count of resets stays at its last
 -- value
 abbrev pub settled : SessionState → Rounds → Outcome
 settled s r = says s (SettleLine r.rounds (min r.resets last_count) (unacknowledged_in r.world) ∷ []) r.world
@@ -201,7 +201,8 @@ abbrev pub routes_refused : SessionState → Option LastMap → Option Outcome
 routes_refused s (Some l) = None
 routes_refused s None = Some (says_only s (NoMap ∷ []))
 
--- The outcome of a command, where it is determined.
+-- What a command prints, and the session after it, where its session determines them. That leaves out a map that is
+-- made, the map of circuit links, and routes that are computed.
 abbrev pub outcome : SessionState → Command → Option Outcome
 outcome s (Walk host walk) = Some (says_only s (WalkLine (place (fabric_of s.world) host walk) ∷ []))
 outcome s (Map host depth tries) = map_refused s host

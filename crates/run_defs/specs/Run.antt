@@ -84,6 +84,6 @@ pub data Runs : SessionState → List Command → List Piece → SessionState �
   goes_on : {s next last : SessionState} {c : Command} {cs : List Command} {out rest all : List Piece}
       → Does s c out next → Runs next cs rest last → all ≡ out ++ rest → Runs s (c ∷ cs) all last
 
--- a run of a script over a fabric
+-- commands run one after another from the fabric's new session on: they print these pieces, and leave this session
 abbrev pub IsRun : Network → List Command → List Piece → SessionState → Type 0
 IsRun n commands out last = Runs (new_session n) commands out last

@@ -198,7 +198,7 @@ replay_meant n _ = Err BadWord
 abbrev pub kind : List ℕ → List Form → (Network → List Value → Result Command FaultKind) → LineKind
 kind word forms meaning = record { word = word; forms = forms; meaning = meaning }
 
--- the lines that begin with one word
+-- the lines that begin with one word: each row has the word, the forms of the words after it, and what it means
 abbrev pub line_kinds : List LineKind
 line_kinds =
     kind (codes "map") (OfName ∷ OfNumber 1 32 ∷ of_tries ∷ []) map_meant

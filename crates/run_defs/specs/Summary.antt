@@ -1,4 +1,4 @@
--- The summary of a run: the figures of its report, and the lines that tell them.
+-- The summary of a run: the figures of its report, and the lines that show them.
 use Rattle.std.specs.Prelude.{ℕ, Bool, true, false, List, [], ◌∷◌, ◌++◌, length, flat_map, count_by}
 use Rattle.net_defs.specs.Network.{Network}
 use Rattle.world_defs.specs.declared.effect.Said.{Said}
@@ -37,14 +37,14 @@ piece_figures (MapLines m) = []
 abbrev pub figures_in : List Piece → List Figure
 figures_in out = flat_map piece_figures out
 
--- the line that tells of a map, of routes or of an installation
+-- the line that reports a map, routes or an installation
 abbrev pub mapping_lines : Figure → List Line
 mapping_lines (Mapped words asks packets) = GenMap words asks packets ∷ []
 mapping_lines (Routed count) = Routes count ∷ []
 mapping_lines (FigureInstalled acked of) = Installed acked of ∷ []
 mapping_lines _ = []
 
--- the line that tells of a settle
+-- the line that reports a settle
 abbrev pub settle_lines : Figure → List Line
 settle_lines (Settled rounds resets unacked) = Settle rounds resets unacked ∷ []
 settle_lines _ = []

@@ -129,7 +129,7 @@ pub fn lines_of_scripts()
         ≡ Err FaultKind.NoVertex }
 {}
 
-/// A script behind eight lines, one that lacks its end, and one that goes on behind it.
+/// A script after eight lines, one that lacks its end, and one that goes on after it.
 pub fn whole_scripts()
     ensures read { script_reading two_hosts 8 (codes "# commands" ++ 13 ∷ 10 ∷ codes "routes"
         ++ 10 ∷ 10 ∷ codes "  end") ≡ Ok (Command.Routes ∷ Command.Finish ∷ []) }

@@ -2,7 +2,7 @@
 
 use crate::line::MapWords;
 
-/// What a summary tells of one line of a report. Most lines have none.
+/// What a summary shows of one line of a report. Most lines have none.
 #[derive(Clone, Copy, Debug)]
 pub enum Figure {
     /// A map was made: how far it is known to be right, its asks, and the packets that they injected.
@@ -33,7 +33,7 @@ pub enum Figure {
         rounds: u64,
         /// How many stuck packets were taken away.
         resets: u64,
-        /// How many fragments aren't acknowledged behind it.
+        /// How many fragments aren't acknowledged after it.
         unacked: u64,
     },
 }

@@ -12,7 +12,7 @@
 //! | `Run` | what commands in order do |
 //! | `LineText` | the text of each line and of a map |
 //! | `Headline` | the promise of a run |
-//! | `Summary` | the figures of a report, and the lines that tell them |
+//! | `Summary` | the figures of a report, and the lines that show them |
 #![tactic(auto)]
 
 mod command;

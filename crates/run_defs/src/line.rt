@@ -46,7 +46,7 @@ pub enum ClientCall {
     Send,
     /// `poll`: the first event of a port's queue is taken.
     Poll,
-    /// `tokens`: it is told where a port's tokens are.
+    /// `tokens`: it says where a port's tokens are.
     Tokens,
 }
 
@@ -236,7 +236,7 @@ pub enum Line {
         rounds: u64,
         /// How many stuck packets were taken away.
         resets: u64,
-        /// How many fragments aren't acknowledged behind it.
+        /// How many fragments aren't acknowledged after it.
         unacked: u64,
     },
     /// `end injected N dropped M`: the script ended.

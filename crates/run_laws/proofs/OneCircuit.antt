@@ -1,4 +1,4 @@
--- What is told of the circuit links of a fabric is one, since each has one tree to a depth, and that one map.
+-- What is reported of the circuit links of a fabric is one, since each has one tree to a depth, and that one map.
 use Rattle.std.proofs.Common.{◌≡◌, ℕ, List, [], ◌∷◌, length, sym, ◌∙◌, subst, inl, inr, arith}
 use Rattle.net_defs.specs.Network.{Network}
 use Rattle.journal_defs.specs.declared.entry.Entry.{Entry}

@@ -1,4 +1,4 @@
--- A mapping is one, since each answer is told by the asks before it. So every mapping of the two hosts is the known one.
+-- A mapping is one, since each answer follows from the asks before it. So every mapping of the two hosts is the known one.
 use Rattle.std.proofs.Common.{◌≡◌, ◌≤◌, inl, ℕ, List, [], ◌∷◌, ◌++◌, map, refl, sym, ap, ◌∙◌, subst, arith}
 use Rattle.std.specs.Prelude.{ℤ}
 use Rattle.net_defs.specs.declared.place.Answer.{Answer}
@@ -29,7 +29,7 @@ use Rattle.run_laws.specs.TwoHosts.{MappingIsComplete}
 abbrev walks_of : List Entry → List (List ℤ)
 walks_of j = map (λ e. e.walk) j
 
--- the world behind a journal's asks
+-- the world after a journal's asks
 abbrev behind : ℕ → ℕ → WorldState → List Entry → WorldState
 behind host tries w j = (asked_all host tries (walks_of j) w).world
 
@@ -39,7 +39,7 @@ same_entry d e xs ys same = cc
 same_rest : (d e : Entry) (xs ys : List Entry) → d ∷ xs ≡ e ∷ ys → xs ≡ ys
 same_rest d e xs ys same = cc
 
--- an entry's answer is the ask's in the world behind those before it
+-- an entry's answer is the ask's in the world after those before it
 answer-told : (host tries : ℕ) (w : WorldState) (before : List Entry) (e : Entry) (rest : List Entry) → (asked_all host tries (walks_of (before ++ e ∷ rest)) w).entries ≡ before ++ e ∷ rest
     → e.answer ≡ (ask host tries e.walk (behind host tries w before)).answer
 answer-told host tries w [] e rest same =
@@ -51,7 +51,7 @@ answer-told host tries w (b ∷ before) e rest same =
     answer-told host tries a.world before e rest
     (same_rest (record { walk = b.walk; answer = a.answer }) b (asked_all host tries (walks_of (before ++ e ∷ rest)) a.world).entries (before ++ e ∷ rest) same)
 
--- what a world tells a host that asks with so many tries
+-- what a world answers a host that asks with so many tries
 abbrev tell : ℕ → ℕ → WorldState → List Entry → List ℤ → Answer
 tell host tries w before walk = (ask host tries walk (behind host tries w before)).answer
 

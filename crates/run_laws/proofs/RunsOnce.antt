@@ -120,7 +120,7 @@ append-none (x ∷ xs) = ap (λ l. x ∷ l) (append-none xs)
 pub runs-more : {s middle last : SessionState} {cs : List Command} {out : List Piece} → (c : Command) (more : List Piece) → Runs s cs out middle → Does middle c more last → Runs s (cs ++ c ∷ []) (out ++ more) last
 runs-more c more r d = runs-join (c ∷ []) more r (goes_on d ended (append-none more))
 
--- a run is split behind each of its commands
+-- a run is split after each of its commands
 pub runs-split : (k : ℕ) {s last : SessionState} {cs : List Command} {all : List Piece} → Runs s cs all last → IsSplit s last (take k cs) (drop k cs) all
 runs-split zero {s = s} {all = all} r = record { middle = s; out = []; rest = all; before = ended; behind = r; whole = refl }
 runs-split (suc k) {s = s} ended = record { middle = s; out = []; rest = []; before = ended; behind = ended; whole = refl }

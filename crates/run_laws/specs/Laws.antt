@@ -6,7 +6,7 @@ use Rattle.world_defs.specs.World.{WorldState}
 use Rattle.run_defs.specs.declared.line.MapWords.{MapWords}
 use Rattle.run_defs.specs.Mapped.{IsMapped}
 
--- A host's mapping of a world to a depth, with so many tries an ask, is one: the world behind it, the journal, the
+-- A host's mapping of a world to a depth, with so many tries an ask, is one: the world after it, the journal, the
 -- map and its words.
 abbrev pub MappingIsOne : Type 0
 MappingIsOne =

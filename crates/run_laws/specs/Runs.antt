@@ -40,7 +40,7 @@ pub record IsSplit (s last : SessionState) (first more : List Command) (all : Li
   pub behind : Runs middle more rest last
   pub whole : all ≡ out ++ rest
 
--- a run is split behind each of its commands
+-- a run is split after each of its commands
 abbrev pub RunsSplit : Type 0
 RunsSplit = (k : ℕ) (s last : SessionState) (commands : List Command) (all : List Piece) → Runs s commands all last
     → IsSplit s last (take k commands) (drop k commands) all

@@ -13,7 +13,7 @@ use Rattle.run_defs.specs.Headline.{CompleteIsTrue}
 use Rattle.run_defs.specs.Examples.{mapped_world, setup_map}
 
 -- Every mapping of the first world from host 0 with one try an ask, to a depth of two cables or more, has one
--- journal, one map and one world behind it, and says complete.
+-- journal, one map and one world after it, and says complete.
 abbrev pub MappingIsComplete : Type 0
 MappingIsComplete =
     (depth : ℕ) (after : WorldState) (j : List Entry) (m : NetMap) (words : MapWords) → 2 ≤ depth

@@ -17,7 +17,7 @@ pub fn one_run()
     ensures commands { RunsAreOne }
 {}
 
-/// Runs in a row are a run, and a run is split behind each of its commands: what the first commands print stands at
+/// Runs in a row are a run, and a run is split after each of its commands: what the first commands print stands at
 /// the beginning.
 pub fn runs_in_a_row()
     ensures joined { RunsJoin }

@@ -118,7 +118,7 @@ made-over s depth m t packets none few k p =
 pub made-rises : (s : WorldAsking) (depth : ℕ) (m : MadeMap) (t : WorldAsking) → s.drowned ≡ 0 → IsMade WorldAsking IsAsked s.host depth s t.drowned m t → s.world.injected ≤ t.world.injected
 made-rises s depth m t none k = (came-from s k.journal t (omega (arith, none)) k.led).rises
 
--- the same for the mapper that a world is given to, and the counts of injections before and behind it
+-- the same for the mapper that a world is given to, and the counts of injections before and after it
 pub made-from : (w : WorldState) (order : MapOrder) (s t : WorldAsking) (m : MadeMap) (after : WorldState) (b a : ℕ) → s ≡ record { world = w; host = order.host; tries = order.tries; drowned = 0 } → after ≡ t.world
     → b ≡ w.injected → a ≡ after.injected → m.asks < 2 ^ 64 → IsMade WorldAsking IsAsked s.host order.depth s t.drowned m t → IsMadeOver order w after m (a - b)
 made-from w order s t m after b a e f g h few k =

@@ -69,7 +69,7 @@ installed_told w mid after l tries p idle other is told = record {
         ∙ ap (choice (session_of w made (Some l)) l tries true) other
         ∙ ap (install_done (session_of w made (Some l)) l.hosts) counted
 
--- an installation that was counted is told
+-- an installation that was counted is reported
 pub counted-told : (w after : WorldState) (l : LastRoutes) (tries acked total : ℕ) (hosts : List ℕ) (p : PrintedState) → w.adopted ≡ Some (adoption_of l) → IfSome w.adopted (λ a. installed a hosts tries w ≡ (acked, after)) → total ≡ length hosts → hosts ≡ l.hosts → fabric_of after ≡ fabric_of w → p ≡ printed_of (fabric_of after) (lines (Installed acked total ∷ map (table_line after) hosts)) → AreInstalledTold w l tries after p
 counted-told w after l tries acked total hosts p adopted counted all same net e = record {
   acked = acked;
@@ -91,7 +91,7 @@ installed_so w v made found tries p told =
       printed = told.printed made;
     }
 
--- an installation of adopted routes that wanted memory, or was made and its text wanted it, is part of the way along its events
+-- an installation of adopted routes that ran out of memory, or was made and its text ran out of it, is part of the way along its events
 pub installed-part : (w after : WorldState) (l : LastRoutes) (tries : ℕ) (hosts : List ℕ) → w.adopted ≡ Some (adoption_of l) → IfSome w.adopted (λ a. IsPartWay w (install_events a hosts tries w) after) → hosts ≡ l.hosts
     → IsPartWay w (install_events (adoption_of l) l.hosts tries w) after
 installed-part w after l tries hosts adopted way same =

@@ -23,21 +23,21 @@ use Rattle.run_session.specs.declared.mapping.MapOrder.{MapOrder}
 abbrev pub map_of : MapOrder → Command
 map_of m = MapCommand m.host m.depth m.tries
 
--- A map was made over a world: by the asks of a journal, whose number is told with the packets that they injected.
+-- A map was made over a world: by the asks of a journal, whose number is reported with the packets that they injected.
 pub record IsMadeOver (order : MapOrder) (before after : WorldState) (m : MadeMap) (packets : ℕ) : Type 0 where
   pub journal : List Entry
   pub mapped : IsMapped order.host order.depth order.tries before after journal m.map m.words
   pub asks : m.asks ≡ length journal
   pub injected : packets ≡ after.injected - before.injected
 
--- Routes were computed of a map and are told: they are the last ones, with the map's mapper and its hosts by address.
+-- Routes were computed of a map and reported: they are the last ones, with the map's mapper and its hosts by address.
 pub record AreRoutesTold (w : WorldState) (l : LastMap) (found : Option LastRoutes) (told : PrintedState) : Type 0 where
   pub routes : List Route
   pub are : AreRoutesOf l.made (order_of l.made) routes
   pub last : found ≡ Some (record { mapper = l.mapper; hosts = hosts_by_address w l.made; routes = routes })
   pub printed : told ≡ printed_of (fabric_of w) (lines (routes_lines l.made routes))
 
--- Adopted routes were installed over a world and are told: how many of their hosts have acknowledged all parts, of
+-- Adopted routes were installed over a world and are reported: how many of their hosts have acknowledged all parts, of
 -- how many, and then each host's table.
 pub record AreInstalledTold (w : WorldState) (l : LastRoutes) (tries : ℕ) (after : WorldState)
     (told : PrintedState) : Type 0 where
@@ -46,8 +46,8 @@ pub record AreInstalledTold (w : WorldState) (l : LastRoutes) (tries : ℕ) (aft
   pub printed : told ≡ printed_of (fabric_of w)
       (lines (Installed acked (length l.hosts) ∷ map (table_line after) l.hosts))
 
--- The last routes, where there are any, were installed over a world or that was refused, and it is told: whatever the
--- last map, which stays as the routes do.
+-- The last routes, where there are any, were installed over a world or that was refused, and it is reported: whatever
+-- the last map, which stays as the routes do.
 pub record IsInstallTold (w : WorldState) (last : Option LastRoutes) (tries : ℕ) (after : WorldState)
     (told : PrintedState) : Type 0 where
   pub printed : (made : Option LastMap) → told ≡ printed_of (fabric_of w)

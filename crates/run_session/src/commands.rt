@@ -23,7 +23,7 @@ use run_defs::Command;
 use std::alloc::{AllocError, Global};
 use world_commands::do_one;
 
-/// Does a command that makes no map: `map` only where that is refused. Where memory is wanting, the world is one that a
+/// Does a command that makes no map: `map` only where that is refused. Where memory runs out, the world is one that a
 /// prefix of its acts leads to.
 #[tactic(auto, using(crate::proofs::ByCommand::commands_obeyed))]
 pub(crate) fn obey_here(

@@ -64,7 +64,7 @@ impl Held {
         }
     }
 
-    /// Does a command. Where memory is wanting, the world is one that a prefix of the command's acts leads to, and the
+    /// Does a command. Where memory runs out, the world is one that a prefix of the command's acts leads to, and the
     /// last map and the last routes are as they were.
     pub(crate) fn obey(&mut self, alloc: Global, c: &Command) -> Result<Printed, AllocError>
         requires command { IsCommandOf (fabric_of self.old.world) c.now }

@@ -64,7 +64,7 @@ pub(crate) fn busy_text(alloc: Global, w: &World, host: u16) -> Result<Printed, 
     Printed::of_line(alloc, Line::MapBusy(host), w.fabric())
 }
 
-/// Maps from a host of an idle world: the world then, and the text, unless memory was wanting. The map is the last
+/// Maps from a host of an idle world: the world then, and the text, unless memory ran out. The map is the last
 /// one then. Want of memory leaves the last map, and a world that a prefix of the map's acts leads to.
 pub(crate) fn map(
     alloc: Global,
@@ -102,7 +102,7 @@ struct Mapping {
     packets: u64,
 }
 
-// Maps from a host of an idle world: the world then, and the map, unless memory was wanting.
+// Maps from a host of an idle world: the world then, and the map, unless memory ran out.
 fn map_world(alloc: Global, world: World, order: MapOrder) -> (World, Result<Mapping, AllocError>)
     requires idle { is_idle world.links ≡ true }
     requires order { IsCommandOf (fabric_of world) (map_of order) }

@@ -59,7 +59,7 @@ impl Session {
         }
     }
 
-    /// Does a command over its fabric: the session then, and the text of what it printed. Where memory is wanting, the
+    /// Does a command over its fabric: the session then, and the text of what it printed. Where memory runs out, the
     /// session comes back with a world that a prefix of the command's acts leads to, and with the last map and the last
     /// routes as they were. A command `circuit` leaves the session as it is.
     pub fn exec(
@@ -81,7 +81,7 @@ impl Session {
         }
     }
 
-    /// Does a command as [`Session::exec`] does: the session then, and what it printed, with what a summary tells of
+    /// Does a command as [`Session::exec`] does: the session then, and what it printed, with what a summary shows of
     /// it.
     pub fn perform(
         self,

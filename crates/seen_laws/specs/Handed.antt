@@ -1,4 +1,4 @@
--- What the clients of ports are handed and what they send, as the effects of acts tell it.
+-- What the clients of ports are handed and what they send, as the effects of acts show it.
 use Rattle.std.specs.Prelude.{ℕ, ◌<◌, Bool, ◌&&◌, List, [], ◌∷◌, ◌++◌, take, nat_eq, if◌then◌else◌, Option, Some, None}
 use Rattle.gm_defs.specs.declared.message.Message.{Message}
 use Rattle.gm_defs.specs.declared.frame.ConnectionKey.{ConnectionKey}

@@ -1,4 +1,4 @@
-//! What the clients of ports saw, as the effects of their calls tell it, against the lists of messages that each
+//! What the clients of ports saw, as the effects of their calls show it, against the lists of messages that each
 //! connection keeps: the messages that polls handed out are the first of those that sends were accepted with.
 //!
 //! It says nothing of how a connection keeps its lists in order, which is `message_laws`, of send tokens, which is

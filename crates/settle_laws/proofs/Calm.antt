@@ -47,7 +47,7 @@ node-quiet n m e f = record {
   ports = λ port. subst (λ l. PortCalm (port_at n port) (get_or l port None)) (sym f) (λ len prio h. h);
 }
 
--- one change behind another
+-- one change after another
 sender-both : (s t u : SenderState) → SenderCalm s t → SenderCalm t u → SenderCalm s u
 sender-both s t u (SenderCalm.same e) (SenderCalm.same f) = SenderCalm.same (f ∙ e)
 sender-both s t u (SenderCalm.same e) (SenderCalm.risen r) = SenderCalm.risen (subst (λ x. x.base < u.base) e r)

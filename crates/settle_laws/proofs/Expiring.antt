@@ -196,7 +196,7 @@ all-parts (e ∷ es) ds all = let r = all-parts es ds all.1 in ((all.0, r.0), r.
 pub expiries-links : (w : WorldState) → (after_all w (expiries w)).links ≡ w.links
 expiries-links w = (after_all-along ExpireSo IsExpiry along-expires w (expiries w) (all-expiries w (addresses w))).links
 
--- behind the expiries
+-- after the expiries
 pub expiries-again : (w : WorldState) (c : ConnectionKey) → c.src < host_count w → c.dst < host_count w → sending_lane c < length (node_at w c.src).lanes → (sender_on w c).base < (sender_on w c).next → (sender_on (after_all w (expiries w)) c).cursor ≡ (sender_on w c).base
 expiries-again w c low below lane some =
     let left : 0 < unacknowledged_to (node_at w c.src) c.dst = let within = lane-within (node_at w c.src) c.dst c.prio in omega (arith, some, within) in

@@ -41,7 +41,7 @@ at-place P [] i x all e = cc
 at-place P (y ∷ xs) zero x all e = subst P (same_Some y x e) all.0
 at-place P (y ∷ xs) (suc i) x all e = at-place P xs i x all.1 e
 
--- the message may be read behind its frame: its ports and its priority are by the rules
+-- the message may be read after its frame: its ports and its priority are by the rules
 pub record IsReadable (m : Message) : Type 0 where
   pub from_port : m.sport < 8
   pub to_port : m.dport < 8

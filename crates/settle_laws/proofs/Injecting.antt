@@ -1,4 +1,4 @@
--- An injection behind a give-up: the fragment stays, or its frame or an acknowledgement of it begins its way.
+-- An injection after a give-up: the fragment stays, or its frame or an acknowledgement of it begins its way.
 use Rattle.std.proofs.Common.{◌≡◌, ◌≢◌, ◌<◌, ◌≤◌, ◌+◌, ℕ, Bool, true, false, ℤ, List, length, get_or, set, nat_eq, Some, None, option_map, refl, sym, ap, ◌∙◌, subst, arith}
 use Rattle.std.proofs.lemmas.Bool.Decides.{nat_tests}
 use Rattle.std.proofs.lemmas.List.{get_or-set_other}

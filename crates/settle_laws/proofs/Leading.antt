@@ -1,4 +1,4 @@
--- The turns before a packet lead to a host: each into the next channel, and behind the last it arrives.
+-- The turns before a packet lead to a host: each into the next channel, and after the last it arrives.
 use Rattle.std.proofs.Common.{◌≡◌, ◌<◌, ◌+◌, ℕ, suc, Bool, true, false, nat_le, ℤ, List, [], ◌∷◌, length, Option, Some, None, refl, sym, ap, ◌∙◌, arith, if◌then◌else◌}
 use Rattle.std.specs.List.{AllByRecursion}
 use Rattle.std.proofs.lemmas.Bool.Decides.{nat_tests}

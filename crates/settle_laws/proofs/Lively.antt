@@ -50,7 +50,7 @@ pub data Lively (key : ConnectionKey) (k : ℕ) (fragment : FragmentOf) (v : Wor
   ack : (next : ℕ) → k < next → next ≤ taken_on v key → OnWay (ack_payload key next) key.src v → Lively key k fragment v
 
 module _ (n : Network) (key : ConnectionKey) (k : ℕ) (fragment : FragmentOf) (w v : WorldState) (f : Facts n key k fragment w) where
-  -- the host behind a frame of the fragment, and the frame's lane there
+  -- the host after a frame of the fragment, and the frame's lane there
   abbrev taker : NodeState
   taker = node_at w key.dst
 
@@ -117,7 +117,7 @@ module _ (n : Network) (key : ConnectionKey) (k : ℕ) (fragment : FragmentOf) (
       let at : node_at v key.dst ≡ node_then (frame_took taker (head_of key k fragment)) = ap (λ l. get_or l key.dst (new_node 0)) e ∙ get_or-set_same w.nodes key.dst _ (new_node 0) f.peer ∙ heard in
       taker-still r.priority (nat_eq k (lane_at taker here).taken) fits (is_last (length fragment.message.body) fragment.offset) refl refl at
 
-  -- the host behind an acknowledgement
+  -- the host after an acknowledgement
   pub ack-lands : (next : ℕ) → k < next → next ≤ taken_on w key → v.nodes ≡ set w.nodes key.src (hear key.src (host_count w) (node_at w key.src) (packet_of [] Gm (ack_payload key next))).1 → Still key k fragment v
   ack-lands next more most e = Still.risen (subst (λ s. k < s.base) (sym sender) (by (is_taken s next) refl))
     where

@@ -30,7 +30,7 @@ use Rattle.settle_laws.proofs.Kept.{along-going, event-going, along-facts}
 use Rattle.settle_laws.proofs.Lively.{Lively, advance-lively}
 use Rattle.settle_laws.proofs.Injecting.{inject-lively}
 
--- a drain behind injections leaves idle links
+-- a drain after injections leaves idle links
 abbrev pub PlainDrainsIdle : Type 0
 PlainDrainsIdle = (n : Network) (w : WorldState) → IsReached n w → IsPlain w.links → is_idle (drain w).1.links ≡ true
 

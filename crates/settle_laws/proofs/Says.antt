@@ -188,7 +188,7 @@ sent-says n (Fragment lane head part by) = says-lane n _ lane (lane_sent_one (la
 lane-expired : (n : NodeState) (lane : ℕ) → NodeSays n (with_expired n lane)
 lane-expired n lane = says-lane n _ lane (lane_expired (lane_at n lane)) refl refl (λ all. all) (λ port fit. fit)
 
--- an expiry sends nothing new, so its two lanes go one behind the other
+-- an expiry sends nothing new, so its two lanes go one after the other
 sent-same : (n : NodeState) (lane k : ℕ) → (lane_at (with_expired n lane) k).sent ≡ (lane_at n k).sent
 sent-same n lane k = at-set (λ a b. b.sent ≡ a.sent) (λ a. refl) n.lanes lane k (lane_expired (lane_at n lane)) new_lane refl
 

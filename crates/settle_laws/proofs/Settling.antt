@@ -1,4 +1,4 @@
--- A settle ends settled: in its last round no base rose and no planned fault struck, so what isn't acknowledged behind it waits for a token.
+-- A settle ends settled: in its last round no base rose and no planned fault struck, so what isn't acknowledged after it waits for a token.
 use Rattle.std.proofs.Common.{◌≡◌, ◌≢◌, ◌<◌, ◌≤◌, ℕ, Bool, true, false, not, ◌||◌, ℤ, List, nat_eq, nat_lt, Option, Some, None, is_some, option_map, refl, sym, ap, ◌∙◌, subst, arith, true≢false}
 use Rattle.std.specs.Prelude.{slice_get}
 use Rattle.std.proofs.lemmas.Bool.Decides.{nat_tests}
@@ -56,7 +56,7 @@ passes-idle : (p : ℕ) (w : WorldState) (s : Stretch) → RoundPasses p w s →
 passes-idle p w s (RoundPasses.last_pass e) = pass-idle w
 passes-idle p w s (RoundPasses.another_pass {n = j} {s = rest} e more c d) = ap (λ t. is_idle t.world.links) d ∙ passes-idle j (round_pass w).world rest more
 
--- a connection behind the last pass of a round
+-- a connection after the last pass of a round
 record Ended (n : Network) (key : ConnectionKey) (k : ℕ) (fragment : FragmentOf) (z : WorldState) : Type 0 where
   facts : Facts n key k fragment z
   still : Still key k fragment z
@@ -106,7 +106,7 @@ route-back n z a b is joined there active back =
     let y : HasRoute (adopted_routes z) b a = subst (λ t. HasRoute (adopted_routes z) t a) x.to (subst (HasRoute (adopted_routes z) x.route.to) x.from (joined x.place x.route x.there)) in
     ap is_some (table-route n z b a is back) ∙ in-route (adopted_routes z) b a y.place y.route y.there y.from y.to
 
--- a connection behind the last round
+-- a connection after the last round
 module _ (flows : PlainDrainsIdle) (n : Network) (w : WorldState) (s : Stretch) (round : IsRound w s) (is : IsReached n w) (net : fabric_of w ≡ n) (idle : is_idle w.links ≡ true) (few : s.world.struck ≤ w.struck) (left : s.world.injected < last_count) (joined : HasRoutesBack s.world) (key : ConnectionKey) (low : key.src < host_count w) (below : key.dst < host_count w) (same : (sender_on s.world key).base ≡ (sender_on w key).base) (some : (sender_on w key).base < (sender_on w key).next) where
   abbrev k : ℕ
   k = (sender_on w key).base

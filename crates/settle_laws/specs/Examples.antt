@@ -28,7 +28,7 @@ lost_world = acted_all (new_world two_hosts) lost_acts
 abbrev pub LostWorldCanSettle : Type 0
 LostWorldCanSettle = CanSettle lost_world
 
--- one fragment isn't acknowledged before the settle, and none behind it: the message came
+-- one fragment isn't acknowledged before the settle, and none after it: the message came
 abbrev pub LostFrameIsSentAgain : Type 0
 LostFrameIsSentAgain =
     (unacknowledged_in lost_world ≡ 1) × (unacknowledged_in (settle lost_world).world ≡ 0)
@@ -48,7 +48,7 @@ bare_world = acted_all (new_world two_hosts) bare_acts
 abbrev pub BareWorldCanSettle : Type 0
 BareWorldCanSettle = CanSettle bare_world
 
--- behind a settle the message still waits
+-- after a settle the message still waits
 abbrev pub MessageWaitsForToken : Type 0
 MessageWaitsForToken = (unacknowledged_in (settle bare_world).world ≡ 1)
     × IsWaiting (settle bare_world).world (connection 0 1 0)

@@ -8,7 +8,7 @@
 //! |---|---|
 //! | `Premises` | what a world must be for a settle to end settled |
 //! | `Settles` | that it does, and that whoever has sent a message has a route for it |
-//! | `Examples` | a settle behind a lost frame, and one in which a message waits for a token |
+//! | `Examples` | a settle after a lost frame, and one in which a message waits for a token |
 //!
 //! Why the last round leaves nothing to do, of the first fragment that isn't acknowledged:
 //!

@@ -9,7 +9,7 @@ pub fn one_lost_frame()
     ensures settled { LostFrameIsSentAgain }
 {}
 
-/// A message for which no token was provided waits, behind a settle too.
+/// A message for which no token was provided waits, after a settle too.
 pub fn no_token_waits()
     ensures premise { BareWorldCanSettle }
     ensures settled { MessageWaitsForToken }

@@ -17,7 +17,7 @@ use Rattle.lawful_laws.specs.Moments.{settle_clears}
 use Rattle.message_laws.specs.Got.{IsAllGot}
 use Rattle.settle_laws.specs.Premises.{CanSettle}
 
--- behind every run a settle can be made over the run's fabric: acts that may happen lead there, and each route of the
+-- after every run a settle can be made over the run's fabric: acts that may happen lead there, and each route of the
 -- adopted set has one back
 abbrev pub RunCanSettle : Type 0
 RunCanSettle =
@@ -27,7 +27,7 @@ RunCanSettle =
 
 -- What the line `settle rounds R resets N unacked U` says: there were R rounds, at least one and at most one more
 -- than the unacknowledged fragments and planned faults before; N is 0 unless the traffic wasn't lawful when some
--- clear of the settle began; U fragments aren't acknowledged behind it; where injections are left then, the world is
+-- clear of the settle began; U fragments aren't acknowledged after it; where injections are left then, the world is
 -- settled; and where U is 0, all that was sent is got, for each sender, receiver and priority.
 pub record IsSettledLine (s next : SessionState) (rounds resets unacked : ℕ) : Type 0 where
   pub after : next.world ≡ (settle s.world).world
@@ -38,7 +38,7 @@ pub record IsSettledLine (s next : SessionState) (rounds resets unacked : ℕ) :
   pub settled : next.world.injected < last_count → IsSettled next.world
   pub got : unacked ≡ 0 → IsAllGot next.world
 
--- every such line behind a run says so
+-- every such line after a run says so
 abbrev pub SettledLineIsTrue : Type 0
 SettledLineIsTrue =
     (n : Network) (commands : List Command) (out rest : List Piece) (s next : SessionState)

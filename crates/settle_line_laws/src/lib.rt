@@ -1,4 +1,4 @@
-//! What the line of a settle says, behind every run: its rounds, its resets, and what isn't acknowledged then.
+//! What the line of a settle says, after every run: its rounds, its resets, and what isn't acknowledged then.
 //!
 //! It says nothing of what other commands print, nor that a world is settled in which the count of injections has
 //! reached its last value. Read `specs/Lines.antt`.

@@ -2,7 +2,7 @@
 
 ghost use Rattle.settle_line_laws.specs.Lines.{RunCanSettle, SettledLineIsTrue};
 
-/// A settle can be made behind every run, since the routes that a run adopts are those of a map, in which each has
+/// A settle can be made after every run, since the routes that a run adopts are those of a map, in which each has
 /// one back.
 pub fn settling_runs()
     ensures { RunCanSettle }

@@ -1,4 +1,4 @@
--- What an installation tells of the hosts that it doesn't count.
+-- What an installation shows of the hosts that it doesn't count.
 use Rattle.std.proofs.Common.{◌≡◌, ◌≢◌, ◌<◌, ◌≤◌, ℕ, true, ◌||◌, nat_eq, List, Option, Some, None, sym, ap, ◌∙◌, subst, arith}
 use Rattle.std.specs.Prelude.{IfSome}
 use Rattle.std.specs.List.{AllByRecursion, list_any}

@@ -42,7 +42,7 @@ others-same tries k ks (h ∷ hs) all =
     let one : acked_of (over tries (k ∷ ks)) h ≡ acked_of (over tries ks) h = rw other refl in
     (λ i. (if one i then 1 else 0) + others-same tries k ks hs all.1 i)
 
--- the work of a host tells of it
+-- the work of a host says whether it is counted
 own-tells : (tries : ℕ) (k : Work) (ks : List Work) → AllByRecursion (λ g. k.host < g) (map (λ k. k.host) ks) → acked_of (over tries (k ∷ ks)) k.host ≡ is_acked k
 own-tells tries k ks all =
     let own : nat_eq k.host k.host ≡ true = grind (arith, nat_tests) in

@@ -1,4 +1,4 @@
--- The hosts of an installation are hosts of the world, few, and what is told of it is what its definition says.
+-- The hosts of an installation are hosts of the world, few, and what is said of it is what its definition says.
 use Rattle.std.proofs.Common.{◌≡◌, ◌<◌, ◌≤◌, ◌+◌, ℕ, Bool, true, false, true≢false, ◌||◌, nat_eq, List, [], ◌∷◌, length, Option, Some, None, refl, sym, ◌∙◌, ap, subst, arith, if◌then◌else◌}
 use Rattle.std.specs.Prelude.{IfSome, IsSome, option_map}
 use Rattle.std.specs.List.{AllByRecursion, list_any, range_with_len}
@@ -106,7 +106,7 @@ pub cut-of : (w v : WorldState) (hosts : List ℕ) (tries : ℕ) (o : Option Ado
 cut-of w v hosts tries None is way = tt
 cut-of w v hosts tries (Some a) is way = way a is
 
--- an installation behind the hosts' giving up
+-- an installation after the hosts' giving up
 pub told : (w v u : WorldState) (hosts : List ℕ) (tries acked : ℕ) (o : Option Adoption) → w.adopted ≡ o → v ≡ all_given_up w → v.adopted ≡ w.adopted
     → ((a : Adoption) → v.adopted ≡ Some a → hosts_installed a tries hosts v ≡ (acked, u)) → IfSome o (λ a. installed a hosts tries w ≡ (acked, u))
 unfolding installed

@@ -27,7 +27,7 @@ from_part mapper tries dst part silences zero w = (true, w)
 from_part mapper tries dst part silences (suc n) w =
     or_given_up (tried mapper dst part (tries - silences) w) (parts_installed mapper dst tries (range_with_len (part + 1) n))
 
--- the events of parts behind tries of one
+-- the events of parts after tries of one
 abbrev events_behind : (mapper tries dst part n : ℕ) → Tried Bool → List Event
 events_behind mapper tries dst part n t =
     if t.found then parts_events mapper dst tries (range_with_len (part + 1) n) t.world else []
@@ -192,7 +192,7 @@ try-left mapper tries k w false e f =
     silent-left mapper tries k one.world o
     ∙ sym (open-left mapper tries k w o ∙ ap (λ t. or_given_up t more) (tries-further (λ b. b) false (part_try mapper k.host k.acked) o.again w f))
 
--- the events of the first try, and of those behind it
+-- the events of the first try, and of those after it
 first-events : (mapper dst part n : ℕ) (w : WorldState) (found : Bool) → (part_try mapper dst part w).found ≡ found
     → tried_events mapper dst part (suc n) w ≡ part_try_events mapper dst part w ++ (if found then [] else tried_events mapper dst part n (part_try mapper dst part w).world)
 first-events mapper dst part n w found f =
@@ -227,7 +227,7 @@ counted-same : (b : Bool) (v w : WorldState) (r s : WorldState → ℕ × WorldS
 counted-same true v w r s e = ap (λ (x : ℕ × WorldState). (x.0 + 1, x.1)) e
 counted-same false v w r s e = e
 
--- what is left of all works is left behind a try of the first open one
+-- what is left of all works is left after a try of the first open one
 pub all-on : (mapper tries : ℕ) (f : Work → Work) (k : Work) (ks : List Work) (w next : WorldState) → find (λ x. not (is_done tries x)) ks ≡ Some k
     → left_of mapper tries (f k) next ≡ left_of mapper tries k w → all_left mapper tries (changed (is_done tries) f ks) next ≡ all_left mapper tries ks w
 all-on mapper tries f k [] w next e same = cc
@@ -254,7 +254,7 @@ done-first mapper tries x xs w d =
     ap (λ es. es ++ all_events mapper tries xs (left_of mapper tries x w).1) (done-events mapper tries x w d)
     ∙ ap (λ (r : Bool × WorldState). all_events mapper tries xs r.1) (done-left mapper tries x w d)
 
--- and the events that are left are those of the try, and then those that are left behind it
+-- and the events that are left are those of the try, and then those that are left after it
 pub all-events : (mapper tries : ℕ) (f : Work → Work) (k : Work) (ks : List Work) (w next : WorldState) (es : List Event) → find (λ x. not (is_done tries x)) ks ≡ Some k
     → left_of mapper tries (f k) next ≡ left_of mapper tries k w → events_of mapper tries k w ≡ es ++ events_of mapper tries (f k) next
     → all_events mapper tries ks w ≡ es ++ all_events mapper tries (changed (is_done tries) f ks) next

@@ -268,7 +268,7 @@ serving-on a mapper tries dst part hosts first now next i after found s one same
           (subst (λ x. IsPartWay x (all_events m tries rest x) v) world (subst (λ (ks : List Work). IsPartWay next (all_events m tries ks next) v) works p))));
     }
 
--- memory was wanting within a try
+-- memory ran out within a try
 pub serving-cut : (a : Adoption) (mapper tries dst part : ℕ) (hosts : List ℕ) (first now v : WorldState) (i : Installation) → IsServing a tries hosts first now i → a.mapper ≡ mapper → i.tries ≡ tries → awaited i ≡ Some (dst, part)
     → IsPartWay now (part_try_events mapper dst part now) v → IsPartWay first (hosts_events a tries hosts first) v
 serving-cut a mapper tries dst part hosts first now v i s one same e p =

@@ -27,7 +27,7 @@ has_parts o h = nat_lt 0 (part_count_for o h)
 abbrev pub works_of : Option Adoption → List ℕ → List Work
 works_of o hosts = map (λ h. new_work (part_count_for o h) h) (filter (has_parts o) hosts)
 
--- the installation behind a try of the awaited part: it was acknowledged, or met silence
+-- the installation after a try of the awaited part: it was acknowledged, or met silence
 abbrev pub after_try : Installation → (dst part : ℕ) → Bool → Installation
 after_try i dst part acked = if acked then after_ack i dst part else after_silence i
 

@@ -15,7 +15,7 @@ pub record Built (G : Kind → List ℕ → Type 0) (wire : List ℕ) : Type 0 w
   pub written : wire ≡ packet_of route kind payload
   pub good : G kind payload
 
--- A packet is honest: its mark tells whether its CRC has a difference, and without a mark it is as it was built.
+-- A packet is honest: its mark says whether its CRC has a difference, and without a mark it is as it was built.
 pub record IsHonest (G : Kind → List ℕ → Type 0) (held : Held) : Type 0 where
   pub mark : HasTrueMark held
   pub built : held.marked ≡ false → Built G held.wire

@@ -4,10 +4,10 @@ use std::alloc::{AllocError, Global};
 use std::{fs, io};
 use text_trials::{Difference, REFUSED, Row, Tally, TopCall, Wanted, try_text};
 
-// What the table says of a cut behind which the text is still accepted: the report is the whole text's.
+// What the table says of a cut after which the text is still accepted: the report is the whole text's.
 const DONE: &str = "done";
 
-/// Runs a text cut at each place, from its first byte to behind its last. Each line of the table is what must come of a
+/// Runs a text cut at each place, from its first byte to after its last. Each line of the table is what must come of a
 /// cut, in this order: the line of a refusal, or `done`.
 pub fn try_cuts<T: TopCall>(rt: &HostRuntime, name: &str, tally: &mut Tally) -> io::Result<()> {
     let Some(row) = Row::read(rt, name)? else {
@@ -38,7 +38,7 @@ fn try_places<T: TopCall>(
     Ok(None)
 }
 
-// Runs a text that is cut, and tells what differs from what its line says.
+// Runs a text that is cut, and says what differs from what its line says.
 fn try_cut<T: TopCall>(
     alloc: Global,
     row: &Row,

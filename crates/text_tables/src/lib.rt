@@ -3,11 +3,11 @@
 //! It runs no text that has a report of its own: `worked_texts` does. No clause says what it runs; what one run is, is
 //! in `text_trials`.
 //!
-//! `NAME.cuts` has a line for each place at which the text `NAME.in` is cut, from its first byte to behind its last,
+//! `NAME.cuts` has a line for each place at which the text `NAME.in` is cut, from its first byte to after its last,
 //! with what must come of it: the line of a refusal, or `done`, where the report is the whole text's.
 //!
 //! A table of refused lines has two files. `NAME.front` has the first lines of a text. Each line of `NAME.refused`
-//! has a kind of fault, a space, and the line that has this fault behind the front lines.
+//! has a kind of fault, a space, and the line that has this fault after the front lines.
 //!
 //! | module | has |
 //! |---|---|

@@ -4,7 +4,7 @@ use std::alloc::{AllocError, Global};
 use std::{fs, io};
 use text_trials::{Difference, REFUSED, Tally, TopCall, Wanted, run_word, try_text};
 
-/// Runs the front lines of a table with each of its lines behind them, which is told to be the text's first fault.
+/// Runs the front lines of a table with each of its lines after them, which is reported as the text's first fault.
 pub fn try_refused<T: TopCall>(rt: &HostRuntime, name: &str, tally: &mut Tally) -> io::Result<()> {
     let front = fs::read(rt, format!(in rt.alloc(); "{name}.front")?.as_str())?;
     let table = fs::read_to_string(rt, format!(in rt.alloc(); "{name}.refused")?.as_str())?;
@@ -21,7 +21,7 @@ pub fn try_refused<T: TopCall>(rt: &HostRuntime, name: &str, tally: &mut Tally) 
     Ok(())
 }
 
-// Runs the front lines with one line behind them.
+// Runs the front lines with one line after them.
 fn try_line<T: TopCall>(
     alloc: Global,
     front: &[u8],

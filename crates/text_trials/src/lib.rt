@@ -1,6 +1,6 @@
 //! One run of a worked text through a top call over memory, and what differs from what is wanted.
 //!
-//! It runs nothing of its own: the call is a [`TopCall`], which `rows` makes of the program's. What is told of a
+//! It runs nothing of its own: the call is a [`TopCall`], which `rows` makes of the program's. What is said of a
 //! difference stands in no clause but one: `compare` finds none exactly where report and status are as wanted.
 //!
 //! A text is made of files with one name, in the folder that the program is started in:

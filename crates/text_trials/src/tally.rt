@@ -3,17 +3,17 @@
 use crate::difference::Difference;
 use std::io;
 
-/// How many lines told that all is well, and how many that something isn't.
+/// How many lines said that all is well, and how many that something isn't.
 #[derive(Clone, Copy, Debug, Drop)]
 pub struct Tally {
-    /// How many lines told that all is well.
+    /// How many lines said that all is well.
     pub passed: u32,
-    /// How many lines told that something isn't.
+    /// How many lines said that something isn't.
     pub failed: u32,
 }
 
 impl Tally {
-    /// Nothing was told yet.
+    /// Nothing was said yet.
     pub fn new() -> Tally {
         Tally {
             passed: 0,

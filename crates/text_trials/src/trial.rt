@@ -19,12 +19,12 @@ pub trait TopCall {
     fn run(alloc: Global, words: &[Word], source: &mut MemSource, sink: &mut MemSink) -> u8;
 }
 
-/// Runs a text with its words, and tells what differs from what is wanted of it.
+/// Runs a text with its words, and says what differs from what is wanted of it.
 pub fn try_row<T: TopCall>(alloc: Global, row: &Row) -> Result<Option<Difference>, AllocError> {
     try_text::<T>(alloc, &row.words, &row.text, row.wanted())
 }
 
-/// Runs a text whose reads and writes all succeed, and tells what differs from what is wanted. There is room for the
+/// Runs a text whose reads and writes all succeed, and says what differs from what is wanted. There is room for the
 /// wanted report before the run, so that no write of it takes memory.
 pub fn try_text<T: TopCall>(
     alloc: Global,
@@ -37,7 +37,7 @@ pub fn try_text<T: TopCall>(
     try_run::<T>(alloc, words, source, sink, wanted)
 }
 
-/// Runs what a source has, and tells what differs from what is wanted.
+/// Runs what a source has, and says what differs from what is wanted.
 pub fn try_run<T: TopCall>(
     alloc: Global,
     words: &[Word],

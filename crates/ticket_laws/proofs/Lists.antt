@@ -1,4 +1,4 @@
--- The front of a list, its last element, and what stands behind the first elements.
+-- The front of a list, its last element, and what stands after the first elements.
 use Rattle.std.proofs.Common.{◌≡◌, ◌+◌, ℕ, zero, suc, List, [], ◌∷◌, ◌++◌, length, drop, Some, refl, sym, ap, ◌∙◌, arith}
 use Rattle.std.specs.Prelude.{slice_get}
 

@@ -116,7 +116,7 @@ module _ (count t : ℕ) (held out rest : List ℕ) where
       once-moved count t (held ++ (out ++ t ∷ rest)) ((held ++ t ∷ []) ++ (out ++ rest)) (held ++ (out ++ rest))
       (into-right held (out ++ t ∷ rest) (out ++ rest) (into-right out (t ∷ rest) rest here)) (into-left (held ++ t ∷ []) held (out ++ rest) (into-end t held)) is
 
--- what is in front of a queue
+-- what is at the front of a queue
 pub front : {X : Type 0} (xs : List X) (x : X) → slice_get xs 0 ≡ Some x → xs ≡ x ∷ drop 1 xs
 front [] x e = cc
 front (y ∷ xs) x e = let same : y ≡ x = cc in ap (λ z. z ∷ xs) same

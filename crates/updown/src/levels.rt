@@ -45,7 +45,7 @@ fn root(m: &FabricMap) -> usize
     }
 }
 
-// Lowers levels along each cable, and tells whether one was lowered.
+// Lowers levels along each cable, and says whether one was lowered.
 fn lower_all(cables: &[MapCable], levels: &mut [u32]) -> bool
     requires { AllByRecursion (λ c. (c.v < length levels.old) × (c.w < length levels.old)) cables.now }
     ensures value { levels.new ≡ lowered_along cables.now levels.old }

@@ -9,7 +9,7 @@ const LONGEST: usize = 1_048_576;
 
 const PIECE: usize = 65_536;
 
-/// Runs an input of the greatest length, which has no script, and one with a byte more, of which nothing is told.
+/// Runs an input of the greatest length, which has no script, and one with a byte more, of which nothing is reported.
 pub fn try_limit<T: TopCall>(rt: &HostRuntime, tally: &mut Tally) -> io::Result<()> {
     try_spaces::<T>(
         rt,

@@ -48,7 +48,7 @@ trying-on is_found nothing one events tries first now next (suc k) after harmed 
       hosts = hosts ∙ t.hosts;
     }
 
--- memory was wanting within a try
+-- memory ran out within a try
 pub trying-cut : {A : Type 0} (is_found : A → Bool) (nothing : A) (one : WorldState → Tried A) (events : WorldState → List Event) (tries : ℕ) (first now v : WorldState) (left : ℕ) (harmed : Bool)
     → Trying is_found nothing one events tries first now left harmed → 0 < left → IsPartWay now (events now) v → IsPartWay first (tries_events is_found one events tries first) v
 trying-cut is_found nothing one events tries first now v zero harmed t some p = absurd (omega (arith, some))

@@ -24,7 +24,7 @@ pub record IsAsking (p : WorldAsking) : Type 0 where
 abbrev pub next_ask : WorldAsking → List ℤ → Asked
 next_ask p walk = ask p.host p.tries walk p.world
 
--- the mapper behind its next ask: the count of drowned asks is one greater where that drowned, and stays at its last
+-- the mapper after its next ask: the count of drowned asks is one greater where that drowned, and stays at its last
 -- value
 abbrev pub after_ask : WorldAsking → List ℤ → WorldAsking
 after_ask p walk = record p {
@@ -37,7 +37,7 @@ pub record IsAsked (before : WorldAsking) (walk : List ℤ) (answer : Answer) (a
   pub told : answer ≡ (next_ask before walk).answer
   pub led : after ≡ after_ask before walk
 
--- An ask of a walk wanted memory: a prefix of its events leads to the world, and all else is as it was.
+-- An ask of a walk ran out of memory: a prefix of its events leads to the world, and all else is as it was.
 pub record IsCutAsk (before : WorldAsking) (walk : List ℤ) (after : WorldAsking) : Type 0 where
   pub way : IsPartWay before.world (ask_events before.host before.tries walk before.world) after.world
   pub rest : after ≡ record before { world = after.world }

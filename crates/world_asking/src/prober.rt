@@ -16,8 +16,8 @@ use std::alloc::{AllocError, Global};
 use std::marker::Model;
 
 /// A mapper that asks by probe packets over a world: each ask stands for events of that world. It may be asked while
-/// no packet is on its way. An ask that wants memory leaves a world that a prefix of its events leads to, and its count
-/// as it was.
+/// no packet is on its way. An ask that runs out of memory leaves a world that a prefix of its events leads to, and
+/// its count as it was.
 ///
 /// It holds the world, and must be spent, by [`WorldProber::into_world`].
 pub struct WorldProber {

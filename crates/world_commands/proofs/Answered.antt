@@ -6,7 +6,7 @@ pub if-ok : {A E : Type 0} (r : Result A E) (P Q : A → Type 0) → ((x : A) �
 if-ok (Ok x) P Q f p = f x p
 if-ok (Err e) P Q f p = tt
 
--- what holds anyway holds where memory was wanting
+-- what holds anyway holds where memory ran out
 pub on-any : {A E : Type 0} {P : Type 0} (r : Result A E) → P → OnErr r P
 on-any (Ok x) p = tt
 on-any (Err e) p = p

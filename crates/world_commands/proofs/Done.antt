@@ -78,7 +78,7 @@ idle_so w line told none e = one (Step line) (StepOutput Idle) w w told (λ made
 pub done_as : (c d : Command) (w v : WorldState) (told : PrintedState) → IsDone d w v told → d ≡ c → IsDone c w v told
 done_as c d w v told done same = subst (λ x. IsDone x w v told) same done
 
--- where its text alone is wanting
+-- where only its text is missing
 pub called_anyway : (c : Command) (call : ClientCall) (at : PortAt) (event : Event) (x : Effect × WorldState) (w v : WorldState) → IsCall c call at event → step w event ≡ x → v ≡ x.1 → IsAllOrNothing c w v
 called_anyway c call at event x w v is happened same =
     let told : PrintedState = printed_of (fabric_of w) (lines (client_lines call at.host at.port x.0)) in

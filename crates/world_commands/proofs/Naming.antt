@@ -96,6 +96,6 @@ naming-over w v (ReplayedTo c) net count is = subst (λ k. c < k) (sym count) is
 naming-over w v Staged net count is = tt
 naming-over w v (Said said) net count is = tt
 
--- what an event did names what is there behind it
+-- what an event did names what is there after it
 pub step-naming : (w v : WorldState) (e : Event) (x : Effect) → IsMoment w → step w e ≡ (x, v) → fabric_of v ≡ fabric_of w → length v.links.channels ≡ length w.links.channels → IsNaming v x
 step-naming w v e x m is net count = naming-over w v x net count (subst (IsNaming w) (ap (λ p. p.0) is) (change-naming (view w e) m))

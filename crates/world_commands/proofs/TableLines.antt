@@ -1,4 +1,4 @@
--- The lines of tables behind the line of an installation.
+-- The lines of tables after the line of an installation.
 use Rattle.std.proofs.Common.{◌≡◌, ℕ, ◌∷◌, [], ◌++◌, List, map, refl, ap, ◌∙◌}
 use Rattle.std.specs.Prelude.{flat_map}
 use Rattle.net_defs.specs.Network.{Network}
@@ -20,7 +20,7 @@ tables-none : (w : WorldState) (hosts : List ℕ) → figures_in (lines (map (ta
 tables-none w [] = refl
 tables-none w (h ∷ hosts) = tables-none w hosts
 
--- a line, and the tables behind it
+-- a line, and the tables after it
 pub tables-told : (n : Network) (w : WorldState) (l : Line) (hosts tables : List ℕ) (before after : PrintedState) → before ≡ printed_of n (OneLine l ∷ [])
     → tables ≡ flat_map (λ h. line_text n (table_line w h)) hosts → after ≡ record { text = before.text ++ tables; figures = before.figures }
     → after ≡ printed_of n (lines (l ∷ map (table_line w) hosts))

@@ -27,7 +27,7 @@ pub record IsDone (c : Command) (before after : WorldState) (told : PrintedState
       (record { output = output; after = session_of after made found })
   pub printed : told ≡ printed_of (fabric_of before) output
 
--- Nothing of a command was done over a world, or all of it, and then its text alone is wanting.
+-- Nothing of a command was done over a world, or all of it, and then only its text is missing.
 abbrev pub IsAllOrNothing : Command → WorldState → WorldState → Type 0
 IsAllOrNothing c before after = (after ≡ before) ⊎ ((told : PrintedState) × IsDone c before after told)
 

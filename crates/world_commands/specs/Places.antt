@@ -1,4 +1,4 @@
--- The line that tells where the tokens of a port are.
+-- The line that shows where the tokens of a port are.
 use Rattle.std.specs.Prelude.{ℕ, true, false, Option}
 use Rattle.gm_defs.specs.Token.{PortState}
 use Rattle.host_ports.specs.Held.{place_at}

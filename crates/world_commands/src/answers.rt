@@ -19,7 +19,7 @@ use run_defs::{ClientCall, Line};
 use std::alloc::{AllocError, Global};
 use world_defs::Said;
 
-/// A client's call at a port, by its event: the command that this call is was done. Where memory is wanting, nothing of
+/// A client's call at a port, by its event: the command that this call is was done. Where memory runs out, nothing of
 /// it was done, or all of it but its line.
 pub(crate) fn call(
     alloc: Global,

@@ -1,4 +1,4 @@
-//! The calls of clients, each one event. Where memory is wanting, nothing of a call was done, or all of it but its
+//! The calls of clients, each one event. Where memory runs out, nothing of a call was done, or all of it but its
 //! line.
 
 ghost use Rattle.std.specs.Prelude.{◌≡◌, ◌≤◌, IfOk, OnErr};

@@ -17,7 +17,7 @@ use link_model::Links;
 use run_defs::Command;
 use std::alloc::{AllocError, Global};
 
-/// Does a command of one event at most. Where memory is wanting, nothing of it was done, or all of it but its line.
+/// Does a command of one event at most. Where memory runs out, nothing of it was done, or all of it but its line.
 #[tactic(auto, using(crate::proofs::Done::done_as, crate::proofs::Done::all_as, crate::proofs::Done::nothing_done))]
 pub fn do_one(
     alloc: Global,
@@ -45,7 +45,7 @@ pub fn do_one(
     }
 }
 
-// Opens a port, closes it, or tells where its tokens are.
+// Opens a port, closes it, or says where its tokens are.
 #[tactic(auto, using(crate::proofs::Done::done_as, crate::proofs::Done::all_as, crate::proofs::Done::nothing_done))]
 fn do_port(alloc: Global, w: &mut World, c: &Command) -> Result<Printed, AllocError>
     requires port { IsPortCommand c.now }

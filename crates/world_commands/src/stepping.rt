@@ -21,7 +21,7 @@ use net_defs::End;
 use run_defs::{Line, StepLine, StepWords};
 use std::alloc::{AllocError, Global};
 
-/// One event, and what it did; no event where the port that the line names has no cable. Where memory is wanting,
+/// One event, and what it did; no event where the port that the line names has no cable. Where memory runs out,
 /// nothing was done, or all but the line.
 #[tactic(auto, using(crate::proofs::Done::stepped_so, crate::proofs::Done::idle_so))]
 pub fn step(alloc: Global, w: &mut World, line: StepLine) -> Result<Printed, AllocError>
@@ -61,7 +61,7 @@ fn event_of(w: &World, line: StepLine) -> Option<Event>
     }
 }
 
-// An event, and the line of what it did. Where memory is wanting, the event may have happened.
+// An event, and the line of what it did. Where memory runs out, the event may have happened.
 fn event_text(alloc: Global, w: &mut World, event: Event) -> Result<Printed, AllocError>
     requires { IsGiven w.old event }
     ensures text { IfOk result (λ p. p ≡ printed_of (fabric_of w.old)

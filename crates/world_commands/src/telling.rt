@@ -33,7 +33,7 @@ pub fn walk(
     Printed::of_line(alloc, Line::Walk(end), w.fabric())
 }
 
-/// Plans a fault for the injection so far ahead. Where memory is wanting, nothing was done, or all but the line.
+/// Plans a fault for the injection so far ahead. Where memory runs out, nothing was done, or all but the line.
 #[tactic(auto, using(crate::proofs::Done::planned_so))]
 pub fn plan(alloc: Global, w: &mut World, ahead: u64, kind: PlanKind) -> Result<Printed, AllocError>
     requires { 1 ≤ ahead }

@@ -47,7 +47,7 @@ abbrev pub number_of : Effect → Option ℕ
 number_of (Injected n) = Some n
 number_of _ = None
 
--- a host's injection, and the drain behind it: whether no injection was left for it, its number, what happened in the
+-- a host's injection, and the drain after it: whether no injection was left for it, its number, what happened in the
 -- drain, and the world then
 pub record Sent : Type 0 where
   pub used_up : Bool
@@ -59,7 +59,7 @@ pub record Sent : Type 0 where
 abbrev pub drained_behind : Bool → Option ℕ → List Effect × WorldState → Sent
 drained_behind used number (xs, w) = record { used_up = used; number = number; effects = xs; world = w }
 
--- the drain behind an injection
+-- the drain after an injection
 abbrev pub drained_after : Bool → Effect × WorldState → Sent
 drained_after used (x, w) = drained_behind used (number_of x) (drain w)
 
@@ -122,7 +122,7 @@ loop_try mapper walk w = looped_back w mapper (sends (step w (Ask mapper walk tr
 abbrev pub also_harmed : {A : Type 0} → Bool → Tried A → Tried A
 also_harmed harmed t = record t { harmed = harmed && t.harmed }
 
--- tries go on behind one that found nothing
+-- tries go on after one that found nothing
 abbrev pub or_further : {A : Type 0} → (A → Bool) → Tried A → (WorldState → Tried A) → Tried A
 or_further is_found t rest = if is_found t.found then t else also_harmed t.harmed (rest t.world)
 
@@ -150,7 +150,7 @@ abbrev pub loop_answer : Bool → Answer
 loop_answer true = Switch
 loop_answer false = Nothing
 
--- what an ask comes to behind its loopback probes: it drowned where nothing was found, and a fault met every try of
+-- what an ask comes to after its loopback probes: it drowned where nothing was found, and a fault met every try of
 -- one of the two kinds
 abbrev pub asked_loops : Bool → Tried Bool → Asked
 asked_loops harmed t = record {
@@ -159,7 +159,7 @@ asked_loops harmed t = record {
   world = t.world;
 }
 
--- what an ask comes to behind its host probes: a host, or what the loopback probes find
+-- what an ask comes to after its host probes: a host, or what the loopback probes find
 abbrev pub asked_hosts : ℕ → List ℤ → ℕ → Bool → WorldState → Option ℕ → Asked
 asked_hosts mapper walk tries harmed w (Some h) = record { answer = Host h; drowned = false; world = w }
 asked_hosts mapper walk tries harmed w None = asked_loops harmed (loop_tries mapper walk tries w)
@@ -172,8 +172,8 @@ asked_by mapper walk tries t = asked_hosts mapper walk tries t.harmed t.world t.
 abbrev pub all_given_up : WorldState → WorldState
 all_given_up w = after_all w (map GiveUp (addresses w))
 
--- An ask of a mapper: every host gives up what it staged; up to so many host probes, to the first reply; without one,
--- up to so many loopback probes, to the first that returns. It drowns where the answer is Nothing and a fault met
--- each host probe's try or each loopback probe's.
+-- A mapper asks: every host gives up what it staged; then the mapper sends up to so many host probes, until one is
+-- answered, and, where none is, up to so many loopback probes, until one returns. The ask drowns where its answer is
+-- Nothing and a fault met each host probe's try or each loopback probe's.
 unfoldable pub ask : ℕ → ℕ → List ℤ → WorldState → Asked
 ask mapper tries walk w = asked_by mapper walk tries (host_tries mapper walk tries (all_given_up w))

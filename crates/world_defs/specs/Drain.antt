@@ -33,7 +33,7 @@ pass w = steps w (map Advance (channels_of w))
 abbrev pub and_then : List Effect × WorldState → (WorldState → List Effect × WorldState) → List Effect × WorldState
 and_then (xs, w) rest = (xs ++ (rest w).0, (rest w).1)
 
--- passes go on behind one that changed something
+-- passes go on after one that changed something
 abbrev pub pass_or_end : WorldState → List Effect × WorldState → (WorldState → List Effect × WorldState)
     → List Effect × WorldState
 pass_or_end w p rest = if nat_eq (changes p.0) 0 then ([], w) else and_then p rest
@@ -62,7 +62,7 @@ resets_of w = map Reset (channels_of w)
 abbrev pub reset_count : List Effect × WorldState → ℕ × WorldState
 reset_count (xs, w) = (changes xs, w)
 
--- the resets of a clear behind its drain
+-- the resets of a clear after its drain
 abbrev pub clear_drained : List Effect × WorldState → ℕ × WorldState
 clear_drained (xs, w) = reset_count (steps w (resets_of w))
 

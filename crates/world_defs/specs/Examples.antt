@@ -205,7 +205,7 @@ abbrev pub forged : WorldState
 forged = with_node on_its_way 1 (with_lane (node_at on_its_way 1) (lane_of 0 0)
     (record new_lane { got = message [] ∷ [] }))
 
--- a message waits for a token that fits, behind a settle
+-- a message waits for a token that fits, after a settle
 abbrev pub unserved : WorldState
 unserved = (settle (after_all ready (opened 1 2 (provide 1 ∷ send 2 1 ∷ [])))).world
 

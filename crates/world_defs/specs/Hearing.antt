@@ -161,6 +161,6 @@ abbrev pub hear_decoded : ℕ → ℕ → NodeState → Result (Kind × List ℕ
 hear_decoded host hosts n (Err drop) = (Dropped drop, n)
 hear_decoded host hosts n (Ok (kind, body)) = hear_body host hosts n kind body
 
--- What a host, one of so many, makes of the bytes of a packet that reached it, and the host after it.
+-- A host, one of so many, hears the bytes of a packet that reached it: what it makes of them, and the host then.
 unfoldable pub hear : ℕ → ℕ → NodeState → List ℕ → Arrival × NodeState
 hear host hosts n wire = hear_decoded host hosts n (decode_packet wire)

@@ -75,7 +75,8 @@ hosts_installed a tries [] w = (0, w)
 hosts_installed a tries (h ∷ hs) w = host_counted (parts_installed a.mapper h tries (parts_of a h) w)
     (hosts_installed a tries hs)
 
--- An installation of adopted routes on these hosts: every host gives up what it staged; then each host is sent its
--- parts, each up to so many times. A part that isn't acknowledged ends the work for its host.
+-- Adopted routes are installed on these hosts: every host gives up what it staged; then each host is sent its parts,
+-- each up to so many times. A part that isn't acknowledged ends the work for its host. The hosts that have
+-- acknowledged all parts are counted, with the mapper among them.
 unfoldable pub installed : Adoption → List ℕ → ℕ → WorldState → ℕ × WorldState
 installed a hosts tries w = hosts_installed a tries hosts (all_given_up w)

@@ -70,7 +70,7 @@ lane_sent_one l = record l { sender = sent_one l.sender }
 abbrev pub lane_answered : LaneState → LaneState
 lane_answered l = record l { owes = false }
 
--- a message whose last bytes these are, behind those that came before
+-- a message whose last bytes these are, after those that came before
 abbrev pub ending : List ℕ → Message → Message
 ending coming m = record m { body = coming ++ m.body }
 

@@ -1,4 +1,4 @@
--- A settle: rounds of expiries and of passes over all hosts, until nothing is unacknowledged or nothing helps.
+-- A settle repeats expiries and passes over all hosts, until nothing is unacknowledged or nothing helps.
 use Rattle.std.specs.Prelude.{ℕ, zero, suc, ◌+◌, ◌*◌, ◌-◌, Bool, not, ◌&&◌, ◌||◌, List, [], ◌∷◌, ◌++◌, map, length}
 use Rattle.std.specs.Prelude.{nat_eq, nat_lt, is_none, if◌then◌else◌}
 use Rattle.std.specs.List.{list_any, list_all, filter}
@@ -10,7 +10,7 @@ use Rattle.world_defs.specs.World.{WorldState, node_at, addresses, last_count, s
 use Rattle.world_defs.specs.Step.{steps, after_all}
 use Rattle.world_defs.specs.Drain.{changes, clear}
 
--- how many fragments of all connections aren't acknowledged
+-- how many fragments of a host's connections aren't acknowledged
 abbrev pub unacknowledged_from : WorldState → ℕ → ℕ
 unacknowledged_from w h = sum_of (map (unacknowledged_to (node_at w h)) (addresses w))
 
@@ -45,7 +45,7 @@ going_on s rest = record (rest s.world) {
   resets = s.resets + (rest s.world).resets;
 }
 
--- a clear behind so many moves
+-- a clear after so many moves
 abbrev pub cleared : ℕ → ℕ × WorldState → Stretch
 cleared moves (resets, w) = record { moves = moves; resets = resets; world = w }
 
@@ -53,7 +53,7 @@ cleared moves (resets, w) = record { moves = moves; resets = resets; world = w }
 abbrev pub then_clear : List Effect × WorldState → Stretch
 then_clear (xs, w) = cleared (changes xs) (clear w)
 
--- a replay of each of these serials, with a clear behind each
+-- a replay of each of these serials, with a clear after each
 abbrev pub replay_each : List ℕ → WorldState → Stretch
 replay_each [] w = record { moves = 0; resets = 0; world = w }
 replay_each (s ∷ ss) w = going_on (then_clear (steps w (Replay s ∷ []))) (replay_each ss)
@@ -62,8 +62,8 @@ replay_each (s ∷ ss) w = going_on (then_clear (steps w (Replay s ∷ []))) (re
 abbrev pub serials : WorldState → List ℕ
 serials w = map (λ e. e.0) w.links.limbo
 
--- A pass: every host gives up what it staged; every host injects, by rising address; a clear; then each packet in
--- limbo is replayed, with a clear behind it.
+-- In a pass every host gives up what it staged, every host injects, by rising address, and a clear follows; then each
+-- packet in limbo is replayed, with a clear after it.
 unfoldable pub round_pass : WorldState → Stretch
 round_pass w =
     going_on (then_clear (steps (after_all w (map GiveUp (addresses w))) (map Inject (addresses w)))) (λ next.
@@ -73,11 +73,11 @@ round_pass w =
 abbrev pub is_quiet : WorldState → Bool
 is_quiet w = list_all (λ h. is_none (to_send h (node_at w h))) (addresses w) && nat_eq (length w.links.limbo) 0
 
--- passes end behind one that leaves the world quiet, or in which each injection and each replay was idle
+-- passes end after one that leaves the world quiet, or in which each injection and each replay was idle
 abbrev pub is_last_pass : Stretch → Bool
 is_last_pass s = is_quiet s.world || nat_eq s.moves 0
 
--- a pass, and those behind it where it isn't the last
+-- a pass, and those after it where it isn't the last
 abbrev pub pass_or_more : Stretch → (WorldState → Stretch) → Stretch
 pass_or_more s rest = if is_last_pass s then s else going_on s rest
 
@@ -111,7 +111,7 @@ base_rose before w = list_any (λ h. list_any (rose_to before w h) (addresses w)
 abbrev pub has_helped : WorldState → WorldState → Bool
 has_helped before w = base_rose before w || nat_lt before.struck w.struck
 
--- a round is the last where nothing is unacknowledged behind it, or where it didn't help
+-- a round is the last where nothing is unacknowledged after it, or where it didn't help
 abbrev pub is_last_round : WorldState → WorldState → Bool
 is_last_round before w = nat_eq (unacknowledged_in w) 0 || not (has_helped before w)
 
@@ -125,11 +125,11 @@ pub record Rounds : Type 0 where
 abbrev pub one_round : Stretch → Rounds
 one_round s = record { rounds = 1; resets = s.resets; world = s.world }
 
--- a round, and those behind it
+-- a round, and those after it
 abbrev pub after_round : Stretch → Rounds → Rounds
 after_round s r = record { rounds = r.rounds + 1; resets = s.resets + r.resets; world = r.world }
 
--- a round, and those behind it where it isn't the last
+-- a round, and those after it where it isn't the last
 abbrev pub round_or_more : WorldState → Stretch → (WorldState → Rounds) → Rounds
 round_or_more before s rest = if is_last_round before s.world then one_round s else after_round s (rest s.world)
 
@@ -146,10 +146,10 @@ round_bound w = unacknowledged_in w + length w.plan + 1
 abbrev pub behind_clear : ℕ → Rounds → Rounds
 behind_clear resets r = record r { resets = resets + r.resets }
 
--- the rounds of a settle behind its clear
+-- the rounds of a settle after its clear
 abbrev pub settle_cleared : ℕ × WorldState → Rounds
 settle_cleared (resets, w) = behind_clear resets (rounds_of (round_bound w) w)
 
--- A settle: a clear, and then rounds up to the last.
+-- A settle is a clear, and then rounds up to the last.
 unfoldable pub settle : WorldState → Rounds
 settle w = settle_cleared (clear w)

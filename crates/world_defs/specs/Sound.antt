@@ -1,5 +1,4 @@
--- What holds at every moment of a run: no cycle among the installed routes, the messages got on each connection a
--- prefix of those sent, one owner for each token.
+-- Soundness of a world, which holds at every moment of a run.
 use Rattle.std.specs.Prelude.{◌≡◌, ℕ, ◌<◌, List, [], ◌∷◌, ◌++◌, map, length, Option, Some, None}
 use Rattle.std.specs.List.{AllByRecursion}
 use Rattle.net_defs.specs.Network.{Apart}
@@ -55,7 +54,8 @@ AreOwned (Some p) (Some c) = HasOwners p c
 AreOwned None None = Unit {0}
 AreOwned _ _ = ⊥
 
--- A moment is sound.
+-- A world is sound: the installed routes have no cycle, what was got on each connection is a prefix of what was sent,
+-- and each token has one owner.
 pub record IsSound (w : WorldState) : Type 0 where
   pub no_cycle : HasNoCycle (IsBefore (installed_channels w))
   pub in_order : (c : ConnectionKey) → IsPrefix (got_on w c) (sent_on w c)

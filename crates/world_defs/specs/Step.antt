@@ -202,7 +202,7 @@ expired w h peer =
     if nat_lt 0 (unacknowledged_to (node_at w h) peer) then (Expired, with_node w h (node_expired (node_at w h) peer))
     else (Idle, w)
 
--- a host drops its staged items, where it has one
+-- a host drops its staged items, where it has any
 unfoldable pub gave_up : WorldState → ℕ → Effect × WorldState
 gave_up w h = if has_staged (node_at w h) then (GaveUp, with_node w h (given_up (node_at w h))) else (Idle, w)
 

@@ -30,7 +30,7 @@ routes_in (Some a) = a.routes
 abbrev pub adopted_routes : WorldState → List Route
 adopted_routes w = routes_in w.adopted
 
--- a byte's turn and those behind it; none where the byte has none
+-- a byte's turn and those after it; none where the byte has none
 abbrev pub front_turn_then : Option ℤ → List ℤ → List ℤ
 front_turn_then None turns = []
 front_turn_then (Some turn) turns = turn ∷ turns

@@ -13,9 +13,9 @@ use Rattle.world_defs.specs.Table.{Adoption, whole_table}
 use Rattle.world_defs.specs.Node.{NodeState, new_node, port_count}
 use Rattle.world_defs.specs.Client.{ClientState}
 
--- The links with their fabric; the hosts by address; the clients by host and port, where it is open; the adopted
--- routes; the planned faults by injection; how many injections there were, how many packets were dropped, and how
--- many planned faults struck, and of these how many lost, held or flipped their packet.
+-- A world has the links with their fabric, the hosts by address, the clients by host and port, where it is open, the
+-- adopted routes, and the planned faults by injection. It counts injections, dropped packets and planned faults that
+-- struck, and of these those that lost, held or flipped their packet.
 pub record WorldState : Type 0 where
   pub links : LinkState
   pub nodes : List NodeState
@@ -89,7 +89,7 @@ without_fault number fs = remove_entry (nat_eq number) fs
 abbrev pub with_fault : ℕ → Fault → List (ℕ × Fault) → List (ℕ × Fault)
 with_fault number fault fs = insert_entry nat_cmp fs number fault
 
--- a fault is planned for an injection so far ahead, in the place of an earlier one: the number of the injection
+-- a fault is planned for an injection so far ahead, in place of one planned for it before, and answers that number
 abbrev pub planned : WorldState → ℕ → Fault → ℕ × WorldState
 planned w ahead fault = (w.injected + ahead, record w { plan = with_fault (w.injected + ahead) fault w.plan })
 

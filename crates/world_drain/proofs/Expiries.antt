@@ -186,7 +186,7 @@ expiring_all-on first now next host r low is hosts =
       hosts = hosts ∙ r.hosts;
     }
 
--- memory was wanting within the expiries of a host
+-- memory ran out within the expiries of a host
 pub expiring_all-cut : (first now v : WorldState) (host : ℕ) → ExpiringAll first now host → host < host_count first → IsPartWay now (expiries_of now host) v → IsPartWay first (expiries first) v
 expiring_all-cut first now v host r low p =
     let left : host_count first - host ≡ suc (host_count first - (host + 1)) = omega (arith, low) in

@@ -1,4 +1,4 @@
--- A host that injects, with a drain behind it, leads from world to world by events, and so do the other parts of an ask.
+-- A host that injects, with a drain after it, leads from world to world by events, and so do the other parts of an ask.
 use Rattle.std.proofs.Common.{ℕ, refl}
 use Rattle.world_defs.specs.declared.event.Event.TheVariants.{Ask, Inject, GiveUp}
 use Rattle.world_defs.specs.World.{WorldState}

@@ -110,6 +110,6 @@ replay-on : (w : WorldState) (serial : ℕ) → from_on (serial + 1) (step w (Re
 unfolding replayed
 replay-on w serial = replay_of-on w serial (caught_as w.links serial)
 
--- a replay and the clear behind it leave the later serials
+-- a replay and the clear after it leave the later serials
 pub behind-replay : (w : WorldState) (serial : ℕ) → from_on (serial + 1) (then_clear (steps w (Replay serial ∷ []))).world.links.limbo ≡ from_on (serial + 1) w.links.limbo
 behind-replay w serial = ap (from_on (serial + 1)) (clear-limbo (step w (Replay serial)).1) ∙ replay-on w serial

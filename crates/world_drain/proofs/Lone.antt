@@ -132,7 +132,7 @@ all-channels : (w : WorldState) (c count : ℕ) → c < count → length w.links
     → map Advance (channels_of w) ≡ map Advance (range_with_len 0 (c + 1)) ++ map Advance (range_with_len (c + 1) (count - (c + 1)))
 all-channels w c count low long = ap (λ n. map Advance (range_with_len 0 n)) long ∙ range-parts Advance (c + 1) 0 count (c + 1) (count - (c + 1)) (omega (arith, low)) (omega arith)
 
--- what is part of the way along the drain behind it is so along the drain
+-- what is part of the way along the drain after it is so along the drain
 way-above : (watch : Watch) (w v u : WorldState) (x : Effect) (c at : ℕ) → IsLoneStep w v x c at → c < at → changes (pass w).0 ≢ 0 → (pass w).1 ≡ (pass v).1
     → IsPartWay v (drain_events v) u → IsPartWay w (drain_events w) u
 way-above watch w v u x c at s high some same p =
@@ -253,7 +253,7 @@ along-drained watch w c links hops at others (IsRun.further {hops = n} {at = b} 
 run-part : (watch : Watch) (w u : WorldState) (c hops at : ℕ) → AreOthersEmpty w.links c → IsRunIn w c hops at u → IsDrainedTo watch w u (hopped watch hops)
 run-part watch w u c hops at others (run, rest) = subst (λ y. IsDrainedTo watch w y (hopped watch hops)) (sym rest) (along-drained watch w c u.links hops at others run)
 
--- a run of the only packet, and its advance behind that
+-- a run of the only packet, and its advance after that
 pub run-drained : (watch : Watch) (w u v : WorldState) (c hops at : ℕ) (last all : Seen) → AreOthersEmpty w.links c → IsRunIn w c hops at u → IsLone u.links.channels at
     → v ≡ (step u (Advance at)).1 → last ≡ seen_in watch ((step u (Advance at)).0 ∷ []) → all ≡ record last { changes = hops + last.changes } → IsDrainedTo watch w v all
 run-drained watch w u v c hops at last all others run lone led shows made =

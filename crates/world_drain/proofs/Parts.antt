@@ -1,4 +1,4 @@
--- Parts of a drain: nothing yet, one part behind another, and a pass.
+-- Parts of a drain: nothing yet, one part after another, and a pass.
 use Rattle.std.proofs.Common.{◌≡◌, ◌≢◌, Bool, true, false, nat_eq, [], ◌++◌, refl, sym, ◌∙◌, ap, subst, arith}
 use Rattle.std.proofs.lemmas.Bool.Decides.{nat_tests}
 use Rattle.link_defs.specs.Links.{is_idle}

@@ -76,7 +76,7 @@ abbrev pub advances_from : WorldState → (from count : ℕ) → List Effect × 
 advances_from w from count = steps w (map Advance (range_with_len from (count - from)))
 
 -- what the advances from one channel on show and do where the next that may change something is this: it goes first,
--- and then those behind it
+-- and then those after it
 pub pass-on : (watch : Watch) (w : WorldState) (from count c : ℕ) → from ≤ c → c < count → ((k : ℕ) → from ≤ k → k < c → IsStill w k)
     → (seen_in watch (advances_from w from count).0 ≡ seen_then (seen_in watch ((step w (Advance c)).0 ∷ [])) (seen_in watch (advances_from (step w (Advance c)).1 (c + 1) count).0))
     × ((advances_from w from count).1 ≡ (advances_from (step w (Advance c)).1 (c + 1) count).1)

@@ -18,7 +18,7 @@ use Rattle.world_drain.proofs.Later.{later-same, later-both}
 use Rattle.world_drain.proofs.Limbo.{from_on, on-zero, next-on, next-none, next-below, behind-replay}
 use Rattle.world_drain.proofs.Telling.{moved-sum, one-moved, one-change, capped-few, capped-sum}
 
--- a replay and a clear, and what is told of them
+-- a replay and a clear, and what is reported of them
 abbrev pub one_replay : WorldState → ℕ → Stretch
 one_replay w serial = then_clear (steps w (Replay serial ∷ []))
 
@@ -99,7 +99,7 @@ replaying-on first now next from serial moved one both resets more all r m found
       later = later-both first now next r.later (replay-later now next serial is);
     }
 
--- memory was wanting within a replay and the clear behind it
+-- memory ran out within a replay and the clear after it
 pub replaying-cut : (first now v : WorldState) (from serial : ℕ) (moved : Bool) (resets : ℕ) → Replaying first now from moved resets
     → IsMoment first → next_limbo now.links from ≡ Some serial → IsPartWay now (Replay serial ∷ clear_events (step now (Replay serial)).1) v → IsPartWay first (replays_events (serials first) first) v
 replaying-cut first now v from serial moved resets r m found p =
@@ -120,7 +120,7 @@ replaying-all first now from moved resets r none =
     let cleared : r.cleared ≡ (all_replays first).resets = omega (arith, b, resets_left) in
     (r.any ∙ ap (nat_lt 0) moves, r.counted ∙ ap capped cleared, sym (ap (λ s. s.world) end) ∙ r.world_left)
 
--- a serial in limbo has one behind it
+-- a serial in limbo has a next one
 pub serial-few : (first now : WorldState) (from serial : ℕ) → IsMoment first → IsLater first now → next_limbo now.links from ≡ Some serial → serial + 1 < 2 ^ 64
 serial-few first now from serial m l found =
     let links : IsLinks now.links = (later-moment first now m l).world.links in

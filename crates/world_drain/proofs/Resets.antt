@@ -108,7 +108,7 @@ resetting-all first now from resets r empty =
     let here : (steps first (resets_of first)).1 ≡ now = sym r.after ∙ end.1 in
     λ i. (all i, here i)
 
--- resets behind a drain are a clear
+-- resets after a drain are a clear
 pub is-clear : {E : Type 0} (w u v : WorldState) (r : Result ℕ E) → u ≡ (drain w).1
     → IfOk r (λ n. reset_count (steps u (resets_of u)) ≡ (n, v)) → IfOk r (λ n. clear w ≡ (n, v))
 unfolding clear

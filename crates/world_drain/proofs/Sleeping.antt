@@ -72,7 +72,7 @@ pub record IsOut (s : LinkState) (c : ℕ) (t : LinkState) : Type 0 where
   pub others : (k : ℕ) → k ≢ c → packet_in t k ≡ packet_in s k
   pub gone : packet_in t c ≡ None
 
--- what an advance did to the links, as a hop tells it
+-- what an advance did to the links, as a hop reports it
 abbrev pub IsGone : LinkState → ℕ → Hop → LinkState → Type 0
 IsGone s c (Moved next) t = IsOn s c next t
 IsGone s c (Blocked next) t = (t ≡ s) × WaitsFor s c next
@@ -383,7 +383,7 @@ out-awake s t c m p n a o = record { rows = subst (λ k. HasRows k m p n) (sym o
     by k (inr other) (inl e) = inl (inl (o.others k other ∙ e))
     by k (inr other) (inr (g, x, l)) = goes k g other x l (cases_eq g c)
 
--- behind an advance, whatever its hop tells
+-- after an advance, whatever its hop reports
 gone-behind : (s t : LinkState) (c : ℕ) (h : Hop) (m p n : List ℕ) → length s.channels ≡ channel_count s.net → AreAwake s m p n → IsGone s c h t → AreAwakeBehind h t c m p n
 gone-behind s t c (Moved next) m p n long a o = let there = o.there in let same = o.long in (on-awake s t c next m p n a o, omega (arith, there, same, long))
 gone-behind s t c (Blocked next) m p n long a (same, x) = (subst (λ l. AreAwake l m p n) (sym same) a, subst (λ l. WaitsFor l c next) (sym same) x)

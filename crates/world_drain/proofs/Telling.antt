@@ -1,4 +1,4 @@
--- What is told of stretches in a row: whether one of them moved something, and counts that stay at their last value.
+-- What is said of stretches in a row: whether one of them moved something, and counts that stay at their last value.
 use Rattle.std.proofs.Common.{◌≡◌, ◌≤◌, ℕ, ◌+◌, Bool, true, false, not, ◌||◌, [], ◌∷◌, nat_eq, nat_lt, refl, ◌∙◌, ap, arith}
 use Rattle.std.proofs.lemmas.Bool.Decides.{nat_tests}
 use Rattle.world_defs.specs.declared.effect.Effect.{Effect}

@@ -314,7 +314,7 @@ none-acknowledged : (mapper : ℕ) (p : Option AwaitedPart) → acknowledged_in 
 none-acknowledged mapper None = refl
 none-acknowledged mapper (Some p) = refl
 
--- nothing seen behind it changes nothing
+-- nothing seen after it changes nothing
 pub then-nothing : (watch : Watch) (s : Seen) → seen_then s (seen_in watch []) ≡ s
 then-nothing watch s =
     same_seen (seen_then s (seen_in watch [])) s (omega arith) (or-none s.probed)

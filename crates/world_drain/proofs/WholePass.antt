@@ -16,7 +16,7 @@ use Rattle.world_drain.proofs.Injects.{all_injects}
 use Rattle.world_drain.proofs.Replays.{all_replays}
 use Rattle.world_drain.proofs.Telling.{moved-sum, capped-few, capped-sum, not-moved}
 
--- What is told of a pass: whether it moved something, its resets, and the world behind it.
+-- What is reported of a pass: whether it moved something, its resets, and the world after it.
 pub record IsPass (w last : WorldState) (moved : Bool) (resets : ℕ) : Type 0 where
   pub any : moved ≡ nat_lt 0 (round_pass w).moves
   pub counted : resets ≡ capped (round_pass w).resets
@@ -67,7 +67,7 @@ passing-none w = record {
   way = λ v q. q;
 }
 
--- whether a pass was the last, by what is told of it
+-- whether a pass was the last, by what is reported of it
 last-told : (w last : WorldState) (moved : Bool) (resets : ℕ) → IsPass w last moved resets → (is_quiet last || not moved) ≡ is_last_pass (round_pass w)
 last-told w last moved resets p =
     ap (λ x. is_quiet x || not moved) p.led ∙ ap (λ t. is_quiet (round_pass w).world || t) (ap not p.any ∙ not-moved (round_pass w).moves)

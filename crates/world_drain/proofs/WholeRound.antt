@@ -22,7 +22,7 @@ use Rattle.world_drain.proofs.Risen.{last-is}
 use Rattle.world_drain.proofs.RoundRows.{round-later}
 use Rattle.world_drain.proofs.Telling.{capped-few, capped-sum}
 
--- passes behind all expiries are a round
+-- passes after all expiries are a round
 pub round-told : (w u v : WorldState) (resets : ℕ) → u ≡ after_all w (expiries w) → ArePasses u v resets
     → (resets ≡ capped (round w).resets) × (v ≡ (round w).world)
 round-told w u v resets is p =

@@ -51,20 +51,20 @@ pub record AreAwakeBut (s : LinkState) (emptied : ℕ) (marks places counts : Li
   pub rows : HasRows (length s.channels) marks places counts
   pub sleep : (c : ℕ) → mark_at marks c ≡ 0 → Sleeps s places counts c ⊎ IsListed places counts c emptied
 
--- The same behind an advance by which a channel's packet has gone on into another that has no mark yet.
+-- The same after an advance by which a channel's packet has gone on into another that has no mark yet.
 pub record AreAwakeOnce (s : LinkState) (left next : ℕ) (marks places counts : List ℕ) : Type 0 where
   pub rows : HasRows (length s.channels) marks places counts
   pub gone : left ≢ next → packet_in s left ≡ None
   pub sleep : (c : ℕ) → c ≢ next → mark_at marks c ≡ 0 → Sleeps s places counts c ⊎ IsListed places counts c left
 
--- The same behind an advance that a hop tells of, while the marks and rows are still those before it.
+-- The same after an advance that a hop reports, while the marks and rows are still those before it.
 abbrev pub AreAwakeBehind : Hop → LinkState → ℕ → (marks places counts : List ℕ) → Type 0
 AreAwakeBehind (Moved next) s c marks places counts =
     AreAwakeOnce s c next marks places counts × (next < length s.channels)
 AreAwakeBehind (Blocked next) s c marks places counts = AreAwake s marks places counts × WaitsFor s c next
 AreAwakeBehind Untried s c marks places counts = AreAwakeBut s c marks places counts × (packet_in s c ≡ None)
 
--- what an effect of an advance tells of a packet that stays in the channels
+-- what an effect of an advance says of a packet that stays in the channels
 abbrev pub hop_of : Effect → Hop
 hop_of (MovedTo next) = Moved next
 hop_of (StaysFor next) = Blocked next

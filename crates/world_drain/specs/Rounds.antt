@@ -1,4 +1,4 @@
--- What is told of the rounds of a settle.
+-- What is reported of the rounds of a settle.
 use Rattle.std.specs.Prelude.{◌≡◌, ℕ}
 use Rattle.world_defs.specs.World.{WorldState}
 use Rattle.world_defs.specs.Settle.{Rounds}

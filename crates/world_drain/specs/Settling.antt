@@ -1,4 +1,4 @@
--- What is told of the passes of a settle: counts of resets stay at their last value once there.
+-- What is reported of the passes of a settle: counts of resets stay at their last value once there.
 use Rattle.std.specs.Prelude.{◌≡◌, ℕ, min}
 use Rattle.world_defs.specs.World.{WorldState, last_count}
 use Rattle.world_defs.specs.Settle.{Stretch}

@@ -40,7 +40,7 @@ seen_in watch xs = record {
   acknowledged = acknowledged_in watch.mapper watch.part xs;
 }
 
--- what is seen first, and then what is seen behind it
+-- what is seen first, and then what is seen after it
 abbrev pub seen_then : Seen → Seen → Seen
 seen_then a b = record {
   changes = a.changes + b.changes;

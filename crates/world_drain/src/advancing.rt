@@ -83,7 +83,7 @@ fn next(w: &World, noted: &Option<Awake>, from: u16) -> Option<u16>
     }
 }
 
-// The note follows an advance of a channel, of which a hop tells where its packet is now.
+// The note follows an advance of a channel, of which a hop says where its packet is now.
 fn follow(w: &World, noted: &mut Option<Awake>, c: u16, hop: Hop)
     requires awake { IfSome noted.old (λ a.
         AreAwakeBehind hop w.now.links c a.marks a.places.items a.counts.items) }
@@ -176,7 +176,7 @@ fn leave(
     Ok(watch.see(&effect))
 }
 
-// What an effect of an advance tells of a packet that stays in the channels.
+// What an effect of an advance says of a packet that stays in the channels.
 fn hop_of(effect: &Effect) -> Hop
     ensures { result ≡ hop_of effect.now }
 {

@@ -59,7 +59,7 @@ impl Awake {
         }
     }
 
-    /// The marks and rows follow an advance of a channel, of which a hop tells where its packet is now. One that is
+    /// The marks and rows follow an advance of a channel, of which a hop says where its packet is now. One that is
     /// empty wakes those that waited for it, and the one that a packet has entered is awake.
     pub(crate) fn after(&mut self, w: &World, c: u16, hop: Hop)
         requires awake { AreAwakeBehind hop w.now.links c self.old.marks self.old.places.items self.old.counts.items }

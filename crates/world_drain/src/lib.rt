@@ -1,6 +1,6 @@
 //! What drives a world without a mapper: drains, clears and settles.
 //!
-//! It keeps nothing of its own: all that it does are events of the world. One event that wants memory changes nothing.
+//! It keeps nothing of its own: all that it does are events of the world. An event out of memory changes nothing.
 //! A drain, a clear, a settle and the give-ups of all hosts leave a world that a prefix of their own events leads to.
 //! A drain can be watched: `specs/Watch.antt` says what is looked for. What the other calls come to are the
 //! definitions of `world_defs`: read its `specs/Drain.antt` and `specs/Settle.antt`.
@@ -19,7 +19,7 @@
 //! | `draining` | a drain |
 //! | `advancing` | its passes over channels; of many packets, those that wait for another channel are passed by |
 //! | `awake` | the channels that may go on |
-//! | `happening` | one event, and what is told of it |
+//! | `happening` | one event, and what is reported of it |
 //! | `giving_up` | every host gives up what it staged |
 //! | `clearing` | a clear |
 //! | `replaying`, `passes` | replays of what is in limbo, a pass over hosts and limbo, passes in a row |

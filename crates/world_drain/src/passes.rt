@@ -66,8 +66,8 @@ fn none_sends(w: &World) -> bool
     true
 }
 
-// A pass: every host gives up what it staged; every host injects, by rising address; a clear; and each packet in
-// limbo is replayed, with a clear behind it.
+// In a pass every host gives up what it staged, every host injects, by rising address, and a clear follows; then each
+// packet in limbo is replayed, with a clear after it.
 #[tactic(auto, unfolding(world_defs::specs::Settle::round_pass))]
 fn pass(alloc: Global, w: &mut World) -> Result<Told, AllocError>
     ensures moved { IfOk result (λ t. t.moved ≡ nat_lt 0 (round_pass w.old).moves) }

@@ -23,7 +23,7 @@ pub(crate) struct Told {
 }
 
 impl Told {
-    /// What is told of a stretch that another follows.
+    /// What is reported of a stretch that another follows.
     pub(crate) fn then(self, next: Told) -> Told
         ensures moved { result.moved ≡ (self.moved || next.moved) }
         ensures resets { result.resets ≡ capped (self.resets + next.resets) }
@@ -35,7 +35,7 @@ impl Told {
     }
 }
 
-/// A replay of each packet that stands in limbo now, by rising serial, with a clear behind each. None comes to limbo
+/// A replay of each packet that stands in limbo now, by rising serial, with a clear after each. None comes to limbo
 /// meanwhile. Want of memory leaves a world that a prefix of their events leads to.
 pub(crate) fn replay_all(alloc: Global, w: &mut World) -> Result<Told, AllocError>
     ensures moved { IfOk result (λ t. t.moved ≡ nat_lt 0 (replay_each (serials w.old) w.old).moves) }
@@ -57,7 +57,7 @@ pub(crate) fn replay_all(alloc: Global, w: &mut World) -> Result<Told, AllocErro
     Ok(told)
 }
 
-// A replay of one packet in limbo, and a clear behind it.
+// A replay of one packet in limbo, and a clear after it.
 fn replay(alloc: Global, w: &mut World, serial: u64) -> Result<Told, AllocError>
     ensures moved { IfOk result (λ t. t.moved ≡ nat_lt 0 (then_clear (steps w.old (Replay serial ∷ []))).moves) }
     ensures resets { IfOk result (λ t. t.resets ≡ capped (then_clear (steps w.old (Replay serial ∷ []))).resets) }

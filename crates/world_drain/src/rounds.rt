@@ -31,7 +31,7 @@ pub struct Settled {
     pub rounds: u64,
     /// How many channels were reset, by its first clear and in its rounds.
     pub resets: u64,
-    /// How many fragments aren't acknowledged behind it.
+    /// How many fragments aren't acknowledged after it.
     pub unacked: u64,
 }
 

@@ -8,7 +8,7 @@ use Rattle.world_defs.specs.Settle.{Stretch, Rounds, unacknowledged_in, expiries
 use Rattle.world_defs.specs.Settle.{round, is_last_round, one_round, after_round, behind_clear, settle}
 use Rattle.world_laws.specs.Shape.{HasSenders}
 
--- two stretches, one behind the other
+-- two stretches, one after the other
 abbrev pub joined_stretch : Stretch → Stretch → Stretch
 joined_stretch s t = record t { moves = s.moves + t.moves; resets = s.resets + t.resets }
 

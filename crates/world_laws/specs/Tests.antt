@@ -11,7 +11,7 @@ pub record IsQuiet (w : WorldState) : Type 0 where
   pub empty_limbo : w.links.limbo ≡ []
   pub nothing_to_send : (h : ℕ) → h < host_count w → to_send h (node_at w h) ≡ None
 
--- the test of a pass: the world is quiet behind it
+-- the test of a pass: the world is quiet after it
 abbrev pub QuietTest : Type 0
 QuietTest = (w : WorldState) → is_quiet w ≡ true ↔ IsQuiet w
 
@@ -32,7 +32,7 @@ BaseTest = (before w : WorldState) → base_rose before w ≡ true ↔ BaseRose 
 abbrev pub IsAllAcknowledged : WorldState → Type 0
 IsAllAcknowledged w = (h peer : ℕ) → h < host_count w → peer < host_count w → unacknowledged_to (node_at w h) peer ≡ 0
 
--- the test of the last round: nothing is left to acknowledge behind it
+-- the test of the last round: nothing is left to acknowledge after it
 abbrev pub NoneLeftTest : Type 0
 NoneLeftTest = (w : WorldState) → unacknowledged_in w ≡ 0 ↔ IsAllAcknowledged w
 

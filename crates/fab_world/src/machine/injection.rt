@@ -74,7 +74,7 @@ impl Machine {
     }
 }
 
-/// A packet enters a channel that can take it. Where memory is wanting it ends, and nothing has changed: here, away
+/// A packet enters a channel that can take it. Where memory runs out it ends, and nothing has changed: here, away
 /// from the hosts, since a proof goes through its parts wherever it ends.
 pub(crate) fn enter(
     links: &mut FaultyLinks,

@@ -27,7 +27,7 @@ impl FaultyLinks {
     }
 
     /// Puts a packet into an empty channel under the next number; the fault that is planned for this injection
-    /// strikes at once. Where memory is wanting it hands the packet back, and nothing has changed.
+    /// strikes at once. Where memory runs out it hands the packet back, and nothing has changed.
     pub fn inject(
         &mut self,
         alloc: Global,
@@ -56,7 +56,7 @@ impl FaultyLinks {
 }
 
 // Puts a packet into an empty channel, where a fault strikes it: whether it did. It keeps a copy, to hand it back
-// where memory is wanting.
+// where memory runs out.
 fn put_under(
     links: &mut Links,
     alloc: Global,

@@ -104,7 +104,7 @@ impl Links {
         }
     }
 
-    // Adds a packet to limbo under the next serial. It hands the packet back where memory is wanting.
+    // Adds a packet to limbo under the next serial. It hands the packet back where memory runs out.
     fn catch(&mut self, c: u16, slot: Slot) -> Result<u64, Slot>
         requires there { c < length self.old.channels }
         requires left { is_used_up self.old ≡ false }

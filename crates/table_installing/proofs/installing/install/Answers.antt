@@ -41,7 +41,7 @@ install_hosts-requires-clause-hosts c =
 pub install_hosts-requires-clause-few : goal.install_hosts-requires-clause-few
 install_hosts-requires-clause-few c = (few-hosts c.args.w.now c.args.hosts.now c.args.tries c.moment.ensures.kept c.requires).few
 
--- where memory was wanting among the hosts
+-- where memory ran out among the hosts
 cut : (c : goal.After-from_residual-in_err-acked-in-Some) → IsLater c.args.w.now c.install_hosts.new.w
 cut c =
     let v : WorldState = c.give_up_all.new.w in

@@ -19,14 +19,14 @@ use Rattle.table_installing.proofs.installing.install_hosts.Goals as goal
 adopter : (o : Option Adoption) (mapper : ℕ) (a : Adoption) → option_map (λ a. a.mapper) o ≡ Some mapper → o ≡ Some a → a.mapper ≡ mapper
 adopter o mapper a e is = same_Some a.mapper mapper (sym (ap (option_map (λ (a : Adoption). a.mapper)) is) ∙ e)
 
--- the works behind a try
+-- the works after a try
 works-then : (i after : Installation) (dst part : ℕ) (found : Bool) → awaited i ≡ Some (dst, part) → after ≡ after_try i dst part found → after.works ≡ changed (is_done i.tries) (told found) i.works
 works-then i after dst part found e is = (λ j. (is j).works) ∙ (λ j. (tried-works i dst part found e j).works)
 
 tries-then : (i after : Installation) (dst part : ℕ) (found : Bool) → awaited i ≡ Some (dst, part) → after ≡ after_try i dst part found → after.tries ≡ i.tries
 tries-then i after dst part found e is = (λ j. (is j).tries) ∙ (λ j. (tried-works i dst part found e j).tries)
 
--- ---- memory was wanting for the works
+-- ---- memory ran out for the works
 pub returns-in_err-works-clause-err : goal.returns-in_err-works-clause-err
 returns-in_err-works-clause-err c =
     λ a e. on-any c.from_residual.result (way-still c.args.w.now c.args.w.now (hosts_events a c.args.tries c.args.hosts.now c.args.w.now) refl)
@@ -92,7 +92,7 @@ serving-smaller c =
     let most : i.tries ≤ 8 = subst (λ n. n ≤ 8) (sym k.same_tries) c.requires.few_tries in
     subst (λ (ks : List Work). tries_left ks < tries_left i.works) (sym (works-then i c.tell.new.installer dst part found e c.tell.ensures)) (fewer-left i.tries found a.work i.works most a.first)
 
--- ---- memory was wanting within a try
+-- ---- memory ran out within a try
 pub returns-in_err-epoch-clause-err : goal.returns-in_err-epoch-clause-err
 returns-in_err-epoch-clause-err c =
     let w : WorldState = c.args.w.now in

@@ -15,7 +15,7 @@ use Rattle.world_drain.proofs.RoundRows.{rounds-later}
 use Rattle.world_drain.proofs.WholeRound.{IsSettled, settled-is}
 use Rattle.world_drain.proofs.rounds.settle.Goals as goal
 
--- where memory was wanting among the rounds
+-- where memory ran out among the rounds
 cut : (c : goal.After-from_residual-in_err-rest) → IsLater c.args.w.now c.all_rounds.new.w
 cut c = later-both c.args.w.now c.clear.new.w c.all_rounds.new.w (clear-later c.args.w.now c.clear.new.w c.in_ok-first.first c.in_ok-first.ensures.ok) (way-later c.clear.new.w c.all_rounds.new.w c.in_err-rest.ensures.err)
 
