@@ -40,7 +40,7 @@ pub record IsTwo (n : Network) (host : ℕ) (gs : List ℕ) (x y : Vertex) (t : 
   pub body : two.body ≡ t.body
   pub tail : two.tail ≡ t.tail
 
--- these are two walks to two vertices, in the order that they tell
+-- these are two walks to two vertices, in the order that they say
 pub data AreTwo (n : Network) (host : ℕ) (gs : List ℕ) (x y : Vertex) (t : Two) : Type 0 where
   straight : t.swapped ≡ false → IsTwo n host gs x y t → AreTwo n host gs x y t
   crossed : t.swapped ≡ true → IsTwo n host gs y x t → AreTwo n host gs x y t

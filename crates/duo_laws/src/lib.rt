@@ -7,7 +7,7 @@
 //! ```text
 //!   sent(0, 1, 1)   m0 m1 m2          what end 0, as incarnation 1, accepted for incarnation 1 of end 1
 //!   got(0, 1, 1)    m0 m1             what that incarnation of end 1 has of it: a prefix
-//!   sent(0, 1, 2)   m3                end 1 restarted; m2 was told as unsure, and m3 is for incarnation 2
+//!   sent(0, 1, 2)   m3                end 1 restarted; m2 was reported unsure, and m3 is for incarnation 2
 //! ```
 #![tactic(auto)]
 

@@ -4,7 +4,7 @@
 //! It makes no packet, and knows no route and no port: the host's node asks which peer is owed an acknowledgement, or
 //! has a frame due, looks for the way there, and hands over what came. What a contract sees of one lane is
 //! `specs/Lane.antt`, over the state of a lane in `world_defs`, whose `specs/Lane.antt` says what each call makes of
-//! it; `specs/Lanes.antt` is the same for all lanes by their numbers. Sets of lanes tell which one is next, and no
+//! it; `specs/Lanes.antt` is the same for all lanes by their numbers. Sets of lanes say which one is next, and no
 //! lane is looked at for it: `specs/Sets.antt` says what is in them.
 //!
 //! ```text

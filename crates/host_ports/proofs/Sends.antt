@@ -7,7 +7,7 @@ use Rattle.gm_defs.specs.Token.{PortState, has_number, sent_tokens, place_of_sen
 use Rattle.gm_defs.specs.Port.{send_of}
 use Rattle.gm_port.proofs.Tables.{found-number}
 
--- asking whether a token's place is the queue tells whether the token has an unfinished send
+-- asking whether a token's place is the queue shows whether the token has an unfinished send
 pub queue-asked : (same : TokenPlace → TokenPlace → Bool) (place : Option TokenPlace) (answer : Bool) (p : PortState) (t : ℕ) → answer ≡ option_eq same place (Some Queue) → place ≡ place_of_send p t
     → same Queue Queue ≡ true → same Event Queue ≡ false → answer ≡ is_some (send_of p t)
 queue-asked same place answer p t asked at queue event = asked ∙ ap is_queue at ∙ by (has_number (map (λ s. s.token) p.queue) t) refl (has_number (sent_tokens p.events) t) refl

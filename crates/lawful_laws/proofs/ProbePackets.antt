@@ -73,7 +73,7 @@ probe-nothing_else wire kind payload p e =
     let pair : (Mapping, mapping_bytes p.body) ≡ (kind, payload) = past-read p.route (mapping_bytes p.body) (kind, payload) (sym (ap (λ l. body_of (past_route l)) same) ∙ e) in
     (sym (ap (λ x. x.0) pair), (λ b d. probe-read p.body b p.probe (ap decode_mapping (ap (λ x. x.1) pair) ∙ d)))
 
--- a head tells its kind
+-- a head says its kind
 first_byte : List ℕ → ℕ
 first_byte bytes = slice_index_or bytes 0 0
 

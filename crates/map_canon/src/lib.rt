@@ -1,4 +1,4 @@
-//! The text of a map, printed and read back; and where all that makes, renumbers and tells a map is reached.
+//! The text of a map, printed and read back; and where all that makes, renumbers and judges a map is reached.
 //!
 //! It makes no map of a journal: `quotient` and `closed` are those of `map_quotient`, `canon` that of
 //! `map_renumber`. It prints no other line of a report. `specs/LineText.antt` of `run_defs` says what

@@ -46,7 +46,7 @@ abbrev pub joined_by : NetMap → Option MapCable → NetMap
 joined_by m None = m
 joined_by m (Some c) = joined m c
 
--- A map with the cables more that the first walks tell of.
+-- A map with the cables more that the first walks show.
 pub data JoinsBelow (walks : List (List ℤ)) (c : ClassTable) (vertices : List (Option ℕ)) (first : NetMap) : ℕ
     → NetMap → Type 0 where
   start : (m : NetMap) → m ≡ first → JoinsBelow walks c vertices first 0 m

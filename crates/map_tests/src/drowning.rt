@@ -6,7 +6,7 @@ use port_graph::Fabric;
 use probe::{FakeProber, Prober};
 use std::alloc::Global;
 
-// What is told of a walk that is asked twice, the second ask of which drowns; and how many asks drowned.
+// What is answered to a walk that is asked twice, the second ask of which drowns; and how many asks drowned.
 fn asked_twice(alloc: Global, fabric: &Fabric, walk: &Walk) -> Option<(Answer, Answer, u64)> {
     if fabric.hosts() == 0 {
         return None;

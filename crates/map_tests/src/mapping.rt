@@ -15,7 +15,7 @@ use std::alloc::Global;
 // How many asks drowned, how the map ended, and how many vertices and switches it has.
 type Told = (u64, MapEnd, usize, usize);
 
-// What is told of the map of a fabric from host 0 to a depth of 8, where these asks drown.
+// What is said of the map of a fabric from host 0 to a depth of 8, where these asks drown.
 fn told(alloc: Global, fabric: &Fabric, drown: Vec<u32>) -> Option<Told> {
     if fabric.hosts() == 0 {
         return None;

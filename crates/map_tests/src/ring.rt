@@ -92,7 +92,7 @@ fn told_if_few(alloc: Global, m: &FabricMap, others: &RouteSet) -> Option<Told>
     told(alloc, m, others).ok()
 }
 
-// What is told of the map of a fabric.
+// What is said of the map of a fabric.
 fn told_of(alloc: Global, fabric: &Fabric) -> Option<Told> {
     let around = routes_around(alloc)?;
     match map_from(alloc, fabric) {

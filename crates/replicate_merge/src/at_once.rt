@@ -71,7 +71,7 @@ fn add_node_at(
     Ok(())
 }
 
-// Adds the ways that each entry of a journal tells of.
+// Adds the ways that each entry of a journal shows.
 fn add_all_ways(
     alloc: Global,
     j: &Journal,

@@ -1,4 +1,4 @@
--- The turns by first ports are the best ones, over as many channels as distances tell.
+-- The turns by first ports are the best ones, over as many channels as distances say.
 use Rattle.std.proofs.Common.{◌≡◌, ◌<◌, ◌≤◌, ℕ, zero, suc, Bool, List, ◌∷◌, Some, refl, ap, ◌∙◌, arith, w8, SFits}
 use Rattle.std.specs.Prelude.{ℤ, ◌-ℤ◌}
 use Rattle.std.proofs.lemmas.Bool.Decides.{nat_tests}

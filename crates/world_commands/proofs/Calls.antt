@@ -1,4 +1,4 @@
--- When a client's call may be made, and what its answer tells.
+-- When a client's call may be made, and what its answer says.
 use Rattle.std.proofs.Common.{◌≡◌, ◌<◌, ◌≤◌, ◌+◌, ◌++◌, ℕ, true, [], ◌∷◌, length, Option, Some, None, sym, ◌∙◌, ap, arith}
 use Rattle.std.specs.Option.{option_map}
 use Rattle.std.proofs.lemmas.Bool.Decides.{nat_tests}
