@@ -13,7 +13,7 @@ pub data IsOfTree (depth : ℕ) (j : List Entry) (x : List ℤ) : Type 0 where
   onward : (w : List ℤ) (t : ℤ) → IsSwitchNode j w → crossed w < depth → IsOnward t → x ≡ w ++ t ∷ []
       → IsOfTree depth j x
 
--- The next ask: the least walk of the tree, in the order of walks, that isn't asked.
+-- The next ask is the least walk of the tree, in the order of walks, that isn't asked.
 pub record IsNextOfTree (depth : ℕ) (j : List Entry) (x : List ℤ) : Type 0 where
   pub of_tree : IsOfTree depth j x
   pub unasked : is_asked j x ≡ false

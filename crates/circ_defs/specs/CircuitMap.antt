@@ -48,7 +48,7 @@ pub record IsWithoutOutside (m k : NetMap) : Type 0 where
   pub cables_in_order : AreInOrder k.cables
   pub all_core : k.core ≡ map (λ v. true) k.vertices
 
--- The circuit map of a fabric to a depth: the map of its whole tree, without what is outside.
+-- The circuit map of a fabric to a depth is the map of its whole tree, without what is outside.
 pub record IsCircuitMap (n : Network) (host depth : ℕ) (j : List Entry) (k : NetMap) : Type 0 where
   pub tree : IsWholeTree n host depth j
   pub with_outside : NetMap

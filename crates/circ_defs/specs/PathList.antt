@@ -6,7 +6,7 @@ use Rattle.net_defs.specs.Network.{Network, far}
 use Rattle.net_defs.specs.Route.{host_port}
 use Rattle.circ_defs.specs.Ways.{Step, IsWay, IsNewWay, IsOneOf, AreAmong, AreNone, IsTouched, IsOwnCable, cables_on}
 
--- A path with its return walk: over the cables before it, across it, and over those after it. (An ear, as graphs
+-- A path has its return walk: over the cables before it, across it, and over those after it. (It is an ear, as graphs
 -- without bridges have them.)
 pub record Ear : Type 0 where
   pub before : List Step
@@ -53,7 +53,7 @@ pub record IsFirstEar (n : Network) (host : ℕ) (ear : Ear) : Type 0 where
   pub nothing_before : ear.before ≡ []
   pub nothing_after : ear.after ≡ []
 
--- A path list: paths taken one by one, the last one first. It is empty where the mapper has no cable.
+-- A path list has paths taken one by one, the last one first. It is empty where the mapper has no cable.
 abbrev pub IsPathList : Network → ℕ → List Ear → Type 0
 IsPathList n host [] = far n (host_port host) ≡ None
 IsPathList n host (e ∷ []) = IsFirstEar n host e

@@ -12,8 +12,8 @@ abbrev pub IsHomeward : ℕ → List Step → Type 0
 IsHomeward host [] = Unit {0}
 IsHomeward host (s ∷ ss) = (s.into ≡ host_port host) × (ss ≡ [])
 
--- Two walks over these cables: one from the mapper's host to the first vertex, one from the second vertex to some
--- host, with no cable in common, and none twice, but the mapper's own.
+-- Two walks go over these cables, one from the mapper's host to the first vertex, one from the second vertex to some
+-- host. They have no cable in common, and none twice, but the mapper's own.
 pub record HasTwo (n : Network) (host : ℕ) (gs : List ℕ) (x y : Vertex) : Type 0 where
   pub there : List Step
   pub body : List Step

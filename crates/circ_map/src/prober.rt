@@ -7,7 +7,7 @@ ghost use Rattle.circ_defs.specs.Circuit.{circuit_answer};
 use net_defs::{Answer, Walk};
 use std::alloc::AllocError;
 
-/// Tells circuit answers from one host of one fabric.
+/// Gives circuit answers from one host of one fabric.
 pub trait CircProber {
     /// The fabric whose circuit answers it gives.
     ghost fabric: { Self → Network };

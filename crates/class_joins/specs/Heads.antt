@@ -28,7 +28,7 @@ pub record AreSeen (hs : List Head) (fs : List ClassFrame) : Type 0 where
   pub named : (n : ℕ) → n < length fs → (frame_at fs n).class < length hs
   pub turns : (n : ℕ) → n < length fs → IsTurn (seen_frame hs (frame_at fs n)).offset
 
--- Numbers without gaps, and the least node of each class.
+-- Classes are numbered without gaps, and each has its least node.
 pub record HasHeads (ns : List Node) (fs : List ClassFrame) (hs : List Head) (names : List ℕ) : Type 0 where
   pub named : (n : ℕ) → n < length ns → slice_get names (head_at hs (frame_at fs n).class).number
       ≡ Some (frame_at fs n).class
@@ -40,7 +40,7 @@ pub record HasHeads (ns : List Node) (fs : List ClassFrame) (hs : List Head) (na
   pub least : (n : ℕ) → n < length ns → node_below (node_at ns n)
       (node_at ns (head_at hs (frame_at fs n).class).least) ≡ false
 
--- An expanded node of a class.
+-- A class has an expanded node.
 pub record HasExpandedNode (j : List Entry) (ns : List Node) (fs : List ClassFrame) (name : ℕ) : Type 0 where
   pub number : ℕ
   pub below : number < length ns

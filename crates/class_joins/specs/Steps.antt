@@ -56,7 +56,7 @@ pub record MarksNode (node : ℕ) (old new : Joined) : Type 0 where
   pub hosts : new.hosts ≡ old.hosts
   pub todo : new.todo ≡ old.todo
 
--- Tables with other room, perhaps, and the same items.
+-- Two tables have the same items, and perhaps other room.
 pub record SameItems (old new : Joined) : Type 0 where
   pub frames : new.frames.items ≡ old.frames.items
   pub ends : new.ends.items ≡ old.ends.items
@@ -66,7 +66,7 @@ pub record SameItems (old new : Joined) : Type 0 where
   pub names : new.heads.names.items ≡ old.heads.names.items
   pub marks : new.heads.marks.items ≡ old.heads.marks.items
 
--- Tables without nodes.
+-- The tables have no nodes.
 pub record HasNoNodes (t : Joined) : Type 0 where
   pub frames : t.frames.items ≡ []
   pub ends : t.ends.items ≡ []

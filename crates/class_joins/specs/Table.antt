@@ -18,7 +18,7 @@ pub record ClassTable : Type 0 where
   pub expanded : List Bool
   pub kept : Kept
 
--- The node of a number, with its frame.
+-- The node of a number is there, with its frame.
 pub record IsFramed (c : ClassTable) (n : ℕ) (u : Node) (f : ClassFrame) : Type 0 where
   pub node : slice_get c.nodes n ≡ Some u
   pub frame : slice_get c.frames n ≡ Some f

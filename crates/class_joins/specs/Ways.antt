@@ -52,7 +52,7 @@ abbrev pub IsWay : ℕ → List Entry → List Node → Way → Type 0
 IsWay host j ns (Host address n) = (n < length ns) × (host_of host j (node_at ns n) ≡ Some address)
 IsWay host j ns (Cable m p n i) = (m < length ns) × (n < length ns) × Leads j (node_at ns m) p (node_at ns n) i
 
--- All ways of a journal, over its nodes by number.
+-- These are all ways of a journal, over its nodes by number.
 pub record AreWays (host : ℕ) (j : List Entry) (ns : List Node) (ws : List Way) : Type 0 where
   pub each : (w : Way) → Has ws w → IsWay host j ns w
   pub hosts : (n address : ℕ) → n < length ns → host_of host j (node_at ns n) ≡ Some address → Has ws (Host address n)

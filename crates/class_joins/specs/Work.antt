@@ -60,7 +60,7 @@ pub record Knows (host : ℕ) (j : List Entry) (ns : List Node) (ws : List Way) 
   pub meet : (m : Meeting) → Among todo m → IsMeeting host j ns m
   pub seen : (g : ℕ → ℕ) → Agrees g fs todo → (w : Way) → Has ws w → IsSeen g fs (known (begins_at fs w)) w
 
--- Ways with one more.
+-- One way more was added.
 pub record HasOneMore (old : List Way) (w : Way) (new : List Way) : Type 0 where
   pub kept : (v : Way) → Has old v → Has new v
   pub there : Has new w

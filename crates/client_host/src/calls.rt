@@ -21,8 +21,8 @@ use std::alloc::{AllocError, Global};
 use world_defs::Said;
 
 impl ClientHost {
-    /// Opens a port, where it isn't open: its client holds so many send tokens and receive tokens. Want of memory
-    /// changes nothing, and hides no refusal.
+    /// Opens a port, where it isn't open: its client holds so many send tokens and receive tokens. Running out of
+    /// memory changes nothing, and hides no refusal.
     pub(crate) fn begin(
         &mut self,
         alloc: Global,
@@ -55,8 +55,8 @@ impl ClientHost {
         close(alloc, &mut self.node, slot, port)
     }
 
-    /// The client provides the receive token that it has held longest, with a buffer of zero bytes. Want of memory
-    /// changes nothing, and hides no refusal.
+    /// The client provides the receive token that it has held longest, with a buffer of zero bytes. Running out of
+    /// memory changes nothing, and hides no refusal.
     pub(crate) fn provide(
         &mut self,
         alloc: Global,
@@ -78,7 +78,7 @@ impl ClientHost {
     }
 
     /// The client sends so many bytes with the send token that it has held longest: byte i is the seed plus i, modulo
-    /// 256. Want of memory changes nothing, and hides no refusal.
+    /// 256. Running out of memory changes nothing, and hides no refusal.
     pub(crate) fn send(
         &mut self,
         alloc: Global,

@@ -11,8 +11,8 @@ use std::alloc::{AllocError, Global};
 use world_defs::{Event, Said};
 
 impl ClientHost {
-    /// A client's call at this host, on a port of it. Want of memory changes nothing, and hides no refusal; a close and
-    /// a poll take none. A message that a poll hands out came from one of the hosts.
+    /// A client's call at this host, on a port of it. Running out of memory changes nothing, and hides no refusal; a
+    /// close and a poll take none. A message that a poll hands out came from one of the hosts.
     pub fn call(&mut self, alloc: Global, e: &Event) -> Result<Said, AllocError>
         requires { IsCallGiven self.old.hosts e.now }
         ensures said { IfOk result (λ said.

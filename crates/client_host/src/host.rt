@@ -74,7 +74,7 @@ impl ClientHost {
         self.node.hosts()
     }
 
-    /// A packet reached the host: what was made of it is exactly what the definition makes of its bytes. Want of
+    /// A packet reached the host: what was made of it is exactly what the definition makes of its bytes. Running out of
     /// memory changes nothing.
     pub fn on_packet(&mut self, alloc: Global, p: &Packet) -> Result<Arrival, AllocError>
         ensures heard { IfOk result (λ arrival. arrival ≡ (hear self.old.host self.old.hosts self.old.state p.now).0) }

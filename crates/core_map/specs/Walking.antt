@@ -207,7 +207,7 @@ pub record IsDone (m : NetMap) (numbers parents : List ℕ) (cut : List Bool) (v
       → is_some (host_of_vertex m w) ≡ true → ⊥
   pub held : slice_index_or cut v false ≡ false → IsHeld m numbers entry v
 
--- The vertices in the order of their numbers, from 2 on.
+-- The vertices stand in the order of their numbers, from 2 on.
 pub record AreOrdered (m : NetMap) (numbers order : List ℕ) : Type 0 where
   pub at : (v : ℕ) → 2 ≤ slice_index_or numbers v 0
       → (j : ℕ) × (slice_index_or numbers v 0 ≡ j + 2) × (slice_get order j ≡ Some v)
@@ -219,7 +219,7 @@ pub record AreRoots (m : NetMap) (numbers : List ℕ) : Type 0 where
   pub beside : (i v w : ℕ) → IsJoinedBy m i v w → is_some (host_of_vertex m w) ≡ true → slice_index_or numbers v 0 ≡ 1
   pub lasts : (v : ℕ) → slice_index_or numbers v 0 ≡ 1 → Lasts m v
 
--- The walk so far.
+-- What holds of the walk so far.
 pub record IsWalk (m : NetMap) (t : WalkState) : Type 0 where
   pub is_map : IsMap m
   pub long : length t.numbers ≡ length m.vertices

@@ -17,16 +17,16 @@ pub record Period : Type 0 where
 abbrev pub new_period : ℕ → ℕ → Period
 new_period inc known = record { inc = inc; known = known; lane = new_lane }
 
--- A send that is in an event: its token, the incarnation of the peer that its message is counted to, the message's
--- place among those sent to it, and whether it wasn't acknowledged.
+-- A send that is in an event has its token, the incarnation of the peer that its message is counted to, the message's
+-- place among those sent to it, and a mark where it wasn't acknowledged.
 pub record Returned : Type 0 where
   pub token : ℕ
   pub known : ℕ
   pub place : ℕ
   pub unsure : Bool
 
--- An end: its present period and those before it, the latest first; whether it owes a hello; its sends that are in
--- events, in the order of these; its port and the port's client.
+-- An end has its present period and those before it, the latest first; a mark where it owes a hello; its sends that are
+-- in events, in the order of these; its port and the port's client.
 pub record EndState : Type 0 where
   pub present : Period
   pub past : List Period

@@ -118,7 +118,7 @@ IsFair (Expire x) = x < 2
 IsFair (Poll x) = x < 2
 IsFair (Restart x) = x < 2
 
--- Events in order.
+-- Events happen in order.
 abbrev pub after_all : DuoState → List DuoEvent → DuoState
 after_all d [] = d
 after_all d (e ∷ es) = after_all (step d e).1 es

@@ -15,7 +15,7 @@ pub enum ReadEnd {
     ReadFault,
     /// More bytes came than the limit.
     TooLong,
-    /// Want of memory for the bytes.
+    /// Memory ran out for the bytes.
     NoMemory,
 }
 

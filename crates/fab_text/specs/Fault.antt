@@ -33,7 +33,7 @@ abbrev pub as_kind : {X : Type 0} → Result X NumFault → Result X FaultKind
 as_kind (Ok x) = Ok x
 as_kind (Err e) = Err (kind_of_number e)
 
--- The first fault of a text: the line that it is in, and its kind.
+-- The first fault of a text has its line and its kind.
 pub record FirstFault : Type 0 where
   pub line : ℕ
   pub kind : FaultKind
@@ -53,7 +53,7 @@ abbrev pub and_then : {X Y E : Type 0} → Result X E → (X → Result Y E) →
 and_then (Ok x) f = f x
 and_then (Err e) f = Err e
 
--- The answer is exactly what is said of a line. Want of memory may stand in the place of any answer.
+-- The answer is exactly what is said of a line. Running out of memory may stand in the place of any answer.
 abbrev pub LineGives : {X : Type 0} → Result X FaultKind → Result X LineFault → Type 0
 LineGives said (Ok x) = said ≡ Ok x
 LineGives said (Err (Wrong kind)) = said ≡ Err kind
@@ -65,7 +65,7 @@ LineLeaves said left (Ok t) = said ≡ Ok left
 LineLeaves said left (Err (Wrong kind)) = said ≡ Err kind
 LineLeaves said left (Err NoMemoryInLine) = Unit {0}
 
--- The answer is exactly what is said of a text. Want of memory may stand in the place of any answer.
+-- The answer is exactly what is said of a text. Running out of memory may stand in the place of any answer.
 abbrev pub TextGives : {X : Type 0} → Result X FirstFault → Result X TextFault → Type 0
 TextGives said (Ok x) = said ≡ Ok x
 TextGives said (Err (At line kind)) = said ≡ Err (record { line = line; kind = kind })

@@ -15,7 +15,7 @@ is_return b = nat_eq b 13
 abbrev pub is_blank : ℕ → Bool
 is_blank b = nat_eq b 32 || nat_eq b 9
 
--- A line: its number, its bytes without their end, and the text that follows it.
+-- A line has its number, its bytes without their end, and the text that follows it.
 pub record TextLine : Type 0 where
   pub number : ℕ
   pub bytes : List ℕ
@@ -31,7 +31,7 @@ abbrev pub onto_first_line : ℕ → ℕ → List TextLine → List TextLine
 onto_first_line number b [] = record { number = number; bytes = b ∷ []; after = [] } ∷ []
 onto_first_line number b (l ∷ ls) = record l { bytes = b ∷ l.bytes } ∷ ls
 
--- The lines of a text, numbered from a first number on. LF ends a line, the last one may lack it, and a CR directly
+-- The lines of a text are numbered from a first number on. LF ends a line, the last one may lack it, and a CR directly
 -- before an LF is no byte of its line.
 abbrev pub lines_from : ℕ → List ℕ → List TextLine
 lines_from number [] = []
@@ -45,7 +45,7 @@ abbrev pub ends_word : List ℕ → Bool
 ends_word [] = true
 ends_word (b ∷ bs) = is_blank b
 
--- The words of a line: the longest pieces without a blank.
+-- The words of a line are its longest pieces without a blank.
 abbrev pub words_of : List ℕ → List (List ℕ)
 words_of [] = []
 words_of (b ∷ bs) =

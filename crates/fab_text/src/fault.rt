@@ -88,7 +88,7 @@ pub enum LineFault {
     /// Its first fault.
     #[error("{0}")]
     Wrong(FaultKind),
-    /// Want of memory while it was read.
+    /// Memory ran out while it was read.
     #[error("out of memory")]
     NoMemory,
 }
@@ -116,7 +116,7 @@ pub enum TextFault {
         /// What is wrong with it.
         kind: FaultKind,
     },
-    /// Want of memory while it was read.
+    /// Memory ran out while it was read.
     #[error("out of memory")]
     NoMemory,
 }

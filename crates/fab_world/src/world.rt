@@ -103,8 +103,8 @@ impl World {
     }
 
     /// A host stages a probe by a walk, in the place of what it has staged, and puts it into its channel:
-    /// [`World::step`] of [`Event::Ask`] and then of [`Event::Inject`], whose effect it answers. Want of memory changes
-    /// nothing.
+    /// [`World::step`] of [`Event::Ask`] and then of [`Event::Inject`], whose effect it answers. Running out of memory
+    /// changes nothing.
     pub fn probe(
         &mut self,
         alloc: Global,
@@ -123,7 +123,7 @@ impl World {
         self.machine.probe(alloc, host, walk, looped)
     }
 
-    /// [`World::step`] of [`Event::Inject`]. Want of memory changes nothing.
+    /// [`World::step`] of [`Event::Inject`]. Running out of memory changes nothing.
     pub fn inject(&mut self, alloc: Global, host: u16) -> Result<Effect, AllocError>
         requires { IsHostOf self.old host }
         ensures ok { IfOk result (λ x. step self.old (Inject host) ≡ (x, self.new)) }
@@ -136,7 +136,7 @@ impl World {
         self.machine.inject(alloc, host)
     }
 
-    /// [`World::step`] of [`Event::Advance`]. Want of memory changes nothing.
+    /// [`World::step`] of [`Event::Advance`]. Running out of memory changes nothing.
     pub fn advance(&mut self, alloc: Global, c: u16) -> Result<Effect, AllocError>
         requires { IsChannelOf self.old c }
         ensures ok { IfOk result (λ x. step self.old (Advance c) ≡ (x, self.new)) }

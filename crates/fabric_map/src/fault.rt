@@ -20,7 +20,7 @@ pub enum MapFault {
     /// A port that has a cable, or a cable from a port to itself.
     #[error("the port has a cable")]
     PortUsed,
-    /// Want of memory; the map stays.
+    /// Memory ran out; the map stays.
     #[error("out of memory")]
     NoMemory,
 }

@@ -22,7 +22,7 @@ pub enum Status {
     ReadFault,
     /// A write failed. The sink took a prefix of what was due, and not all of it.
     WriteFault,
-    /// Want of memory. The sink took a prefix of what was due.
+    /// Memory ran out. The sink took a prefix of what was due.
     NoMemory,
     /// More than 1,048,576 bytes came. Nothing was written.
     TooLong,

@@ -77,7 +77,7 @@ pub fn run<S: Source, K: Sink>(alloc: Global, words: &[Word], input: &mut S, out
     ensures too_long { result.status ≡ Status.TooLong → IsLonger (S.left input.old) input_limit }
     ensures too_long_writes_nothing { result.status ≡ Status.TooLong → out.new ≡ out.old }
 
-    // Want of memory under `run`: nothing was written, and no session is handed back; or exactly what the commands that
+    // Memory ran out under `run`: nothing was written, and no session is handed back; or exactly what the commands that
     // ran printed was written, and the session is theirs with the next command cut short: a prefix of its acts leads
     // to the world, and the last map and the last routes are theirs. Where a command had run it is handed back.
     ensures no_memory { IsRunForm words.now → result.status ≡ Status.NoMemory

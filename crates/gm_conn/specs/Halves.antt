@@ -15,15 +15,15 @@ use Rattle.gm_conn.specs.declared.desc.Due.{Due}
 use Rattle.gm_conn.specs.declared.refusal.OfferRefusal.{OfferRefusal}
 use Rattle.gm_conn.specs.declared.refusal.OfferRefusal.TheVariants.{Spent}
 
--- A sender: its connection, its numbers, the descriptors that were offered and not taken out again, oldest first, and
--- the room that was made for more.
+-- A sender has its connection, its numbers, the descriptors that were offered and not taken out again, oldest first,
+-- and the room that was made for more.
 pub record Outgoing : Type 0 where
   pub key : ConnectionKey
   pub numbers : SenderState
   pub waiting : List Desc
   pub spare : ℕ
 
--- A receiver: its connection, and how many fragments it has taken.
+-- A receiver has its connection, and the count of fragments that it has taken.
 pub record Incoming : Type 0 where
   pub key : ConnectionKey
   pub taken : ℕ

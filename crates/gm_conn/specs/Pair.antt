@@ -20,8 +20,8 @@ use Rattle.gm_conn.specs.declared.event.PairEvent.{PairEvent}
 use Rattle.gm_conn.specs.declared.event.PairEvent.TheVariants.{Offer, Emit, EmitAck, Deliver, Expire}
 use Rattle.gm_conn.specs.Halves.{Outgoing, Incoming, message_of}
 
--- A pair: its connection, the sender's numbers, how many fragments the receiver has taken, all that was ever emitted,
--- the messages that were offered and those that were taken whole.
+-- A pair has its connection, the sender's numbers, the count of fragments that the receiver has taken, all that was
+-- ever emitted, the messages that were offered and those that were taken whole.
 pub record PairState : Type 0 where
   pub key : ConnectionKey
   pub numbers : SenderState

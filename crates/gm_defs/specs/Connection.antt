@@ -23,15 +23,15 @@ key_of (Acknowledges a) = connection a.dst a.src a.prio
 abbrev pub ack_on : ConnectionKey → ℕ → Ack
 ack_on c taken = record { src = c.dst; dst = c.src; prio = c.prio; next = taken }
 
--- A sender: the first number that isn't acknowledged, the next to send, one past the greatest ever sent, one past the
--- last offered.
+-- A sender has the first number that isn't acknowledged, the next to send, one past the greatest ever sent, and one
+-- past the last offered.
 pub record SenderState : Type 0 where
   pub base : ℕ
   pub cursor : ℕ
   pub top : ℕ
   pub next : ℕ
 
--- The order of these numbers.
+-- A sender's numbers rise in order, up to the limit.
 pub record IsSender (s : SenderState) : Type 0 where
   pub base_below : s.base ≤ s.cursor
   pub cursor_below : s.cursor ≤ s.top

@@ -9,7 +9,7 @@ use Rattle.gm_defs.specs.declared.frame.GmBody.TheVariants.{Frame, Ack as Acknow
 use Rattle.gm_defs.specs.Body.{piece}
 use Rattle.gm_defs.specs.Connection.{key_of}
 
--- One piece of a message: where it begins, and its bytes.
+-- A piece of a message begins at an offset, and has its bytes.
 pub record Fragment : Type 0 where
   pub message : Message
   pub offset : ℕ

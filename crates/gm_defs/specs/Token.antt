@@ -29,12 +29,12 @@ is_size size (Some least) = nat_eq size least
 abbrev pub fits : ℕ → ℕ → ℕ → ℕ → Bool
 fits size prio len message_prio = is_size size (size_for_length len) && nat_eq prio message_prio
 
--- A send that isn't finished: its token and its buffer.
+-- A send that isn't finished has its token and its buffer.
 pub record Sending : Type 0 where
   pub token : ℕ
   pub buffer : List ℕ
 
--- A provided token, with its buffer. It is filling where its buffer holds a part of a message.
+-- A provided token has its buffer. It is filling where its buffer holds a part of a message.
 pub record Provided : Type 0 where
   pub token : ℕ
   pub size : ℕ
@@ -47,8 +47,8 @@ pub data PortEvent : Type 0 where
   Sent : (token : ℕ) → (buffer : List ℕ) → PortEvent
   Received : (token : ℕ) → (buffer : List ℕ) → (from sport prio len : ℕ) → PortEvent
 
--- An open port: how many tokens of each kind it has, the sends that aren't finished, the provided tokens, first
--- provided first, and the events, first put in first.
+-- An open port has so many tokens of each kind, the sends that aren't finished, the provided tokens, first provided
+-- first, and the events, first put in first.
 pub record PortState : Type 0 where
   pub sends : ℕ
   pub recvs : ℕ

@@ -45,8 +45,8 @@ impl Blob {
         }
     }
 
-    /// The blob of these bytes, in a block of which others can be fronts. It copies none. Want of memory hands the
-    /// bytes back.
+    /// The blob of these bytes, in a block of which others can be fronts. It copies none. Running out of memory hands
+    /// the bytes back.
     pub fn shared(alloc: Global, bytes: Vec<u8>) -> Result<Blob, AllocFailed<Vec<u8>>>
         ensures ok { IfOk result (λ b. b ≡ bytes.items) }
         ensures handed_back { IfErr result (λ e. e.value.items ≡ bytes.items) }

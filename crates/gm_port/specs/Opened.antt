@@ -5,7 +5,7 @@ use Rattle.gm_defs.specs.declared.token.TokenPlace.{TokenPlace}
 use Rattle.gm_defs.specs.Token.{PortState, HasOneOwner, AreFilling, room, place_of_send, place_of_recv}
 use Rattle.gm_port.specs.Held.{Sends, Buffers, Events}
 
--- An open port: whose it is, and its state.
+-- An open port says whose it is, and has its state.
 pub record OpenPort : Type 0 where
   pub host : ℕ
   pub port : ℕ

@@ -1,7 +1,7 @@
 -- What a contract sees of a token.
 use Rattle.std.specs.Prelude.{ℕ}
 
--- A token: the host and the port whose it is, and its number there.
+-- A token has the host and the port whose it is, and its number there.
 pub record Token : Type 0 where
   pub host : ℕ
   pub port : ℕ

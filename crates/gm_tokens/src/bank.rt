@@ -6,7 +6,7 @@ ghost use Rattle.gm_tokens.specs.Minted.{tokens, AreAll};
 use crate::token::{RecvToken, SendToken};
 use std::alloc::{AllocError, Global};
 
-/// Want of memory.
+/// Memory ran out.
 pub type NoMemory = AllocError;
 
 /// The right to retire the tokens of one opening of a port: whose they are, and how many of each kind were minted.

@@ -16,7 +16,7 @@ use Rattle.world_defs.specs.Lane.{Ticket, LaneState, new_lane}
 use Rattle.host_lanes.specs.declared.due.DueFrame.{DueFrame}
 use Rattle.host_lanes.specs.declared.envelope.Envelope.{Envelope}
 
--- A lane of a host: the connection on which it sends, and the lane's state.
+-- A lane of a host has the connection on which it sends, and its state.
 pub record HostLane : Type 0 where
   pub key : ConnectionKey
   pub state : LaneState

@@ -265,7 +265,7 @@ impl Lane {
     }
 
     /// A frame came; `fits` says whether a token takes its fragment. Whatever is made of it, an acknowledgement is
-    /// owed. Want of memory changes nothing.
+    /// owed. Running out of memory changes nothing.
     pub fn on_frame(
         &mut self,
         alloc: Global,

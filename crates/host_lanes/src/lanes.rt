@@ -225,7 +225,7 @@ impl Lanes {
     }
 
     /// A frame came from a peer; `fits` says whether a token takes its fragment. Whatever is made of it, its lane owes
-    /// an acknowledgement. Want of memory changes nothing.
+    /// an acknowledgement. Running out of memory changes nothing.
     pub fn on_frame(
         &mut self,
         alloc: Global,

@@ -64,7 +64,7 @@ fn run_form(others: &[Word]) -> Option<Form>
     }
 }
 
-// Behind `gen` stand two numbers.
+// After `gen` stand two numbers.
 fn gen_form(others: &[Word]) -> Option<Form>
     ensures form { result ≡ gen_form others.now }
     ensures range { IfSome result IsInRange }

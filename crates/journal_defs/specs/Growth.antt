@@ -38,7 +38,7 @@ pub record IsLeastUnasked (j : List Entry) (w : List ℤ) (t : ℤ) : Type 0 whe
 abbrev pub crossed : List ℤ → ℕ
 crossed w = suc (length w)
 
--- The node to expand next: the least switch that crosses fewer than so many cables and whose class has no expanded
+-- The node to expand next is the least switch that crosses fewer than so many cables and whose class has no expanded
 -- member.
 pub record IsChosen (host depth : ℕ) (j : List Entry) (w : List ℤ) : Type 0 where
   pub switch : IsSwitchNode j w
@@ -46,7 +46,7 @@ pub record IsChosen (host depth : ℕ) (j : List Entry) (w : List ℤ) : Type 0 
   pub fresh : ¬ HasExpanded host j (Reached w)
   pub lesser : (v : List ℤ) → IsSwitchNode j v → walk_below v w ≡ true → HasExpanded host j (Reached v)
 
--- The next ask to a depth: the empty walk first; then the least turn of the least node that is begun and not
+-- The next ask to a depth is the empty walk first; then the least turn of the least node that is begun and not
 -- expanded; with none left, the turn -15 of the next node.
 pub data NextAsk (host depth : ℕ) (j : List Entry) (x : List ℤ) : Type 0 where
   first : j ≡ [] → x ≡ [] → NextAsk host depth j x

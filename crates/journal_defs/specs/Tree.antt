@@ -32,7 +32,7 @@ abbrev pub has_found : Option Answer → Bool
 has_found None = false
 has_found (Some a) = is_found a
 
--- A node: the mapper's host, or what a walk reached. Its ports count from the port by which it was entered.
+-- A node is the mapper's host, or what a walk reached. Its ports count from the port by which it was entered.
 pub data Node : Type 0 where
   Mapper : Node
   Reached : List ℤ → Node

@@ -21,7 +21,7 @@ is_probe (Loopback number mapper) = true
 is_probe (Part p) = false
 is_probe (PartAck epoch host part) = false
 
--- A packet of a probe or of a reply: the bytes of some route and of its body, whatever the walk that a mapper asked.
+-- A packet of a probe or a reply is the bytes of some route and of its body, whatever the walk that a mapper asked.
 pub record IsProbe (wire : List ℕ) : Type 0 where
   pub route : List ℤ
   pub body : MappingBody

@@ -6,7 +6,7 @@ use Rattle.std.specs.List.{list_all}
 use Rattle.net_defs.specs.Network.{Network}
 use Rattle.link_defs.specs.Channel.{channel_count}
 
--- A packet in a channel or in limbo: its bytes, and a mark where a flip has met it.
+-- A packet in a channel or in limbo has its bytes, and a mark where a flip has met it.
 pub record Held : Type 0 where
   pub wire : List ℕ
   pub marked : Bool

@@ -34,8 +34,8 @@ pub data IsSentAlong (n : Network) (c : ℕ) (wire : List ℕ) : ℕ → ℕ →
   one_more : {hops at next : ℕ} {now : List ℕ} → IsSentAlong n c wire hops at now → course n at now ≡ Enters next
       → IsSentAlong n c wire (hops + 1) next (stripped now)
 
--- Advances in a row, each of the channel that the packet of the one before entered: of this channel first, so many, to
--- this channel and these links.
+-- So many advances in a row, the first of this channel and each other of the channel that the packet entered by the one
+-- before, lead to this channel and these links.
 pub data IsRun (s : LinkState) (c : ℕ) : ℕ → ℕ → LinkState → Type 0 where
   not_begun : IsRun s c 0 c s
   further : {hops at next : ℕ} {now after : LinkState} → IsRun s c hops at now → advance now at ≡ (To next, after)

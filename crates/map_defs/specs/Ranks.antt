@@ -29,7 +29,7 @@ pub record Rises (ranks : List RankEntry) (c d : MapPort) : Type 0 where
   pub is_high : rank_of ranks d ≡ Some high
   pub rises : low < high
 
--- A rank certificate of routes: each channel in use has a rank, and ranks rise along every route.
+-- Ranks are a certificate of routes: each channel in use has a rank, and ranks rise along every route.
 pub record IsCertificate (m : NetMap) (routes : List Route) (ranks : List RankEntry) : Type 0 where
   pub ranked : AllByRecursion (λ cs. AllByRecursion (λ c. is_some (rank_of ranks c) ≡ true) cs)
       (channels_of_routes m routes)

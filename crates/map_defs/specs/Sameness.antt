@@ -6,7 +6,7 @@ use Rattle.net_defs.specs.Network.{Network, far}
 use Rattle.journal_defs.specs.Part.{IsInPart}
 use Rattle.map_defs.specs.NetMap.{NetMap, IsCabled, host_of_vertex}
 
--- A port graph with host addresses: which vertices are in it, which of them are hosts, and which ports a cable joins.
+-- A port graph says which vertices are in it, which of them are hosts of which address, and which ports a cable joins.
 pub record PortGraph (V : Type 0) : Type 1 where
   pub IsIn : V → Type 0
   pub address : V → Option ℕ

@@ -14,7 +14,7 @@ pub record IsPlaced (numbers : List ℕ) (n : ℕ) : Type 0 where
   pub place : ℕ
   pub there : slice_get numbers place ≡ Some n
 
--- The numbers of all nodes, no node before a lesser one.
+-- These are the numbers of all nodes, and none stands before that of a lesser node.
 pub record IsNodeOrder (ns : List Node) (order : List ℕ) : Type 0 where
   pub rises : (i k m n : ℕ) → i < k → slice_get order i ≡ Some m → slice_get order k ≡ Some n
       → node_below (node_at ns n) (node_at ns m) ≡ false
@@ -40,7 +40,7 @@ pub record HasNumber (c : ClassTable) (least : List ℕ) (vertices : List (Optio
   pub framed : slice_get c.frames n ≡ Some (frame_at c.frames n)
   pub inside : class_at c n < length c.expanded
 
--- The least node of each vertex, in the order of nodes, and the vertex of each class.
+-- Each vertex has its least node here, in the order of nodes, and each class its vertex.
 pub record AreVertices (c : ClassTable) (least : List ℕ) (vertices : List (Option ℕ)) : Type 0 where
   pub few : length least ≤ length c.nodes
   pub inside : (v n : ℕ) → slice_get least v ≡ Some n → n < length c.nodes

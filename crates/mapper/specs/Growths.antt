@@ -55,7 +55,7 @@ grown_by t w a classes = record t {
   nodes = t.nodes + (if is_found a then 1 else 0);
 }
 
--- A tree with an entry more, and the classes of that journal.
+-- The new tree has an entry more, and the classes of that journal.
 pub record GrownBy (w : List ℤ) (a : Answer) (old new : Tree) : Type 0 where
   pub kept : new ≡ grown_by old w a new.classes
   pub stands : StandsFor new.journal.host new.journal.entries new.classes

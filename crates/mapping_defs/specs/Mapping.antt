@@ -7,13 +7,13 @@ use Rattle.std.specs.Int.{Width, w16, w32, w64, to_be_bytes, from_be_bytes}
 use Rattle.net_defs.specs.Turn.{is_turn}
 use Rattle.packet_defs.specs.RouteByte.{route_byte, turns_of}
 
--- An entry of a table: the route to a host.
+-- An entry of a table is the route to a host.
 pub record RouteEntry : Type 0 where
   pub to : ℕ
   pub walk : List ℤ
 
--- One part of a host's table: the epoch of the routes, their mapper, the host, which part of how many, the way back,
--- and entries.
+-- A part of a host's table names the epoch of the routes, their mapper, the host, and which part it is of how many. It
+-- has the way back, and entries.
 pub record RoutePart : Type 0 where
   pub epoch : ℕ
   pub mapper : ℕ

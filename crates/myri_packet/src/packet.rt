@@ -23,7 +23,7 @@ pub enum WireFault {
     Empty,
     /// There are more than 1,107.
     TooLong,
-    /// Want of memory for bytes that are a packet.
+    /// Memory ran out for bytes that are a packet.
     NoMemory,
 }
 

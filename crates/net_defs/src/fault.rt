@@ -20,7 +20,7 @@ pub enum GraphFault {
     /// A port that has a cable, or a cable from a port to itself.
     #[error("the port has a cable")]
     PortUsed,
-    /// Want of memory; the fabric stays.
+    /// Memory ran out; the fabric stays.
     #[error("out of memory")]
     NoMemory,
 }

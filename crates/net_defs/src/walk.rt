@@ -25,7 +25,7 @@ pub enum WalkFault {
     /// One lies outside -15 to 15.
     #[error("a turn is from -{max} to {max}", max = MAX_TURN)]
     TurnRange,
-    /// Want of memory for turns that are a walk.
+    /// Memory ran out for turns that are a walk.
     #[error("out of memory")]
     NoMemory,
 }

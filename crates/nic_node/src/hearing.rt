@@ -11,7 +11,7 @@ use std::alloc::{AllocError, Global};
 use world_defs::Arrival;
 
 impl NicNode {
-    /// A packet reached the host: what was made of it is exactly what the definition makes of its bytes. Want of
+    /// A packet reached the host: what was made of it is exactly what the definition makes of its bytes. Running out of
     /// memory changes nothing.
     #[tactic(auto, unfolding(world_defs::specs::Hearing::hear))]
     pub fn on_packet(&mut self, alloc: Global, p: &Packet) -> Result<Arrival, AllocError>

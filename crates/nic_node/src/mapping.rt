@@ -19,7 +19,7 @@ use std::alloc::{AllocError, Global};
 use world_defs::{Applied, Arrival, Heard};
 
 impl NicNode {
-    /// A body of the mapper's protocol came. Want of memory changes nothing.
+    /// A body of the mapper's protocol came. Running out of memory changes nothing.
     pub(crate) fn hear_mapping(&mut self, alloc: Global, body: &[u8]) -> Result<Arrival, AllocError>
         ensures heard { IfOk result (λ arrival. hear_mapping_body self.old.host self.old.hosts self.old.state
             (decode_mapping body.now) ≡ (arrival, self.new.state)) }

@@ -17,7 +17,7 @@ use std::alloc::{AllocError, Global};
 use world_defs::{Arrival, Heard};
 
 /// The body of a packet came to the host that has these lanes and ports. Whatever else the host has, what is
-/// made of the body, and what becomes of lanes and ports, is as the world's host makes it. Want of memory
+/// made of the body, and what becomes of lanes and ports, is as the world's host makes it. Running out of memory
 /// changes nothing.
 pub(crate) fn hear(
     alloc: Global,

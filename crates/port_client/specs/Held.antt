@@ -3,8 +3,8 @@ use Rattle.std.specs.Prelude.{ℕ, List, map}
 use Rattle.gm_tokens.specs.Token.{Token, token_at}
 use Rattle.world_defs.specs.Client.{ClientState, new_client}
 
--- The client of one opening of a port: whose port it is, how many tokens of each kind were minted, and those that it
--- holds, by number.
+-- The client of one opening of a port knows whose port it is and how many tokens of each kind were minted, and has
+-- those that it holds, by number.
 pub record OpenClient : Type 0 where
   pub host : ℕ
   pub port : ℕ

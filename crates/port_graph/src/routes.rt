@@ -16,7 +16,7 @@ pub enum RoutePush {
     /// Its sender and receiver don't stand above those of the last.
     #[error("the routes are out of order")]
     Order,
-    /// Want of memory for a route that stands above the last.
+    /// Memory ran out for a route that stands above the last.
     #[error("out of memory")]
     NoMemory,
 }

@@ -47,7 +47,7 @@ pub enum ProbeBody {
 pub enum BodyFault {
     /// They are none.
     Malformed,
-    /// Want of memory for a body that is one.
+    /// Memory ran out for a body that is one.
     NoMemory,
 }
 

@@ -17,7 +17,7 @@ use std::marker::Model;
 pub enum JournalPush {
     /// The walk stands in the journal.
     Known,
-    /// Want of memory for a walk that isn't in it.
+    /// Memory ran out for a walk that isn't in it.
     NoMemory,
 }
 

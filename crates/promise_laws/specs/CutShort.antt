@@ -51,7 +51,7 @@ abbrev pub BegunMapsAreCutShort : Type 0
 BegunMapsAreCutShort = (s : SessionState) (host depth tries : ℕ) (v : WorldState) → CanMap host depth s.world
     → IsBegunMap host depth tries s.world v → IsCutShort s (Map host depth tries) v
 
--- Behind every run, a command that is cut short leaves a sound world.
+-- After every run, a command that is cut short leaves a sound world.
 abbrev pub CutCommandsLeaveSound : Type 0
 CutCommandsLeaveSound =
     (n : Network) (commands : List Command) (out : List Piece) (s : SessionState) (c : Command) (v : WorldState)

@@ -27,7 +27,7 @@ ScriptMapsAreTrue =
     → IsFabric n → script_reading n line text ≡ Ok commands → IsRun n commands out last → HasPrinted out mapper m
     → IsMapOfPart n mapper m
 
--- Behind its run, on a quiet fabric, a map from a host of the fabric to the depth that suffices, of at most 65
+-- After its run, on a quiet fabric, a map from a host of the fabric to the depth that suffices, of at most 65
 -- cables, with 1 to 8 tries an ask, says complete.
 abbrev pub DeepMapsOfScriptsAreComplete : Type 0
 DeepMapsOfScriptsAreComplete =

@@ -80,7 +80,7 @@ abbrev pub Tells : Option CheckFault → Result (Unit {0}) CheckFault → Type 0
 Tells fault (Ok u) = fault ≡ None
 Tells fault (Err e) = fault ≡ Some e
 
--- The routes and the ranks of a map by one order of its vertices: the least legal routes, and the ranks of `certify`.
+-- The routes and the ranks of a map go by one order of its vertices: these are its least legal routes and its ranks.
 pub record AreOfOneOrder (m : NetMap) (routes : List Route) (ranks : List RankEntry) : Type 0 where
   pub order : List ℕ
   pub is_order : IsOrder order (length m.vertices)

@@ -21,7 +21,7 @@ known_among walks orphans w [] = 0
 known_among walks orphans w (t ∷ ts) = (if is_known walks orphans (w ++ t ∷ []) then 1 else 0)
     + known_among walks orphans w ts
 
--- A way between a node and one behind it, by a turn.
+-- A way leads between a node and the one behind it by a turn.
 pub data IsBehind (ns : List Node) (walk : List ℤ) (n : ℕ) (p : ℤ) (w : Way) : Type 0 where
   down : (x : ℕ) → x < length ns → node_at ns x ≡ Reached (walk ++ p ∷ []) → w ≡ Cable n p x (pos 0)
       → IsBehind ns walk n p w
@@ -32,7 +32,7 @@ pub data IsBehind (ns : List Node) (walk : List ℤ) (n : ℕ) (p : ℤ) (w : Wa
 abbrev pub AreOnce : List Node → Type 0
 AreOnce ns = (m n : ℕ) → m < length ns → n < length ns → node_at ns m ≡ node_at ns n → m ≡ n
 
--- The ways between a node and each behind it were added, by the turns from -15 to -15 and so many.
+-- The ways between a node and each behind it were added, by the first so many turns from -15 on.
 pub record AddsBelow (ns : List Node) (walk : List ℤ) (n count : ℕ) (old new : List Way) : Type 0 where
   pub few : length new ≤ length old + 2 * count
   pub kept : (w : Way) → Has old w → Has new w

@@ -16,7 +16,7 @@ pub data IsOwnWay (ns : List Node) (e : Entry) (n : ℕ) (w : Way) : Type 0 wher
   to_front : (m : ℕ) (p : ℤ) → m < length ns → IsInFront (node_at ns m) p e.walk → w ≡ Cable n (pos 0) m p
       → IsOwnWay ns e n w
 
--- All own ways of an entry, and no others.
+-- These are all own ways of an entry, and no others.
 pub record AreOwnWays (ns : List Node) (e : Entry) (n : ℕ) (ways : List Way) : Type 0 where
   pub few : length ways ≤ 3
   pub only : (w : Way) → Has ways w → IsOwnWay ns e n w

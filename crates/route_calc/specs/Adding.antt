@@ -12,7 +12,7 @@ pub record IsRightRoute (m : NetMap) (order : List ℕ) (r : Route) : Type 0 whe
   pub differ : r.from ≢ r.to
   pub least : IsLeastLegal m order r.from r.to r.walk
 
--- Routes with right ones after them: one from a host to each other of the first ones, and to none of the rest.
+-- Right routes were added: one from a host to each other of the first so many hosts, and none to the rest.
 pub record AddsRoutes (m : NetMap) (order : List ℕ) (from : ℕ) (ways : List HostWays) (count : ℕ)
     (old new : List Route) : Type 0 where
   pub added : List Route

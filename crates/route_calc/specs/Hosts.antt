@@ -36,7 +36,7 @@ pub record HasWays (ws : List HostWays) (host : ℕ) : Type 0 where
   pub there : slice_get ws place ≡ Some ways
   pub same : ways.host ≡ host
 
--- The ways to each host of a map, by address.
+-- These are the ways to each host of a map, by address.
 pub record AreAllWays (m : NetMap) (order : List ℕ) (ws : List HostWays) : Type 0 where
   pub each : AllByRecursion (AreWaysOf m order) ws
   pub rising : AreRisingHosts ws

@@ -6,7 +6,7 @@ use Rattle.std.specs.List.{filter, list_all, list_any, AllByRecursion}
 use Rattle.world_defs.specs.Table.{part_count}
 use Rattle.route_install.specs.declared.installer.Work.{Work}
 
--- An installation: how often a part is tried, and the work for each host that is sent parts.
+-- An installation says how often a part is tried, and has the work for each host that is sent parts.
 pub record Installation : Type 0 where
   pub tries : ℕ
   pub works : List Work

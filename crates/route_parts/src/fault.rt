@@ -5,6 +5,6 @@
 pub enum BodyFault {
     /// They are none.
     Malformed,
-    /// Want of memory for bytes that are a body.
+    /// Memory ran out for bytes that are a body.
     NoMemory,
 }

@@ -257,7 +257,7 @@ abbrev pub cable_words : Network → NetMap → MapCable → List (List ℕ)
 cable_words n m c = codes "cable" ∷ vertex_numbered n m c.v ∷ turn_text c.p ∷ vertex_numbered n m c.w ∷ turn_text c.q
     ∷ []
 
--- The lines of a map: its vertices, its cables, and the end.
+-- The lines of a map are those of its vertices and its cables, and the end.
 abbrev pub map_text : Network → NetMap → List ℕ
 map_text n m =
     vertices_text n m.vertices m.core ++ flat_map (λ c. line_of (cable_words n m c)) m.cables

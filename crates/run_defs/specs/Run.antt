@@ -78,7 +78,7 @@ pub data Does (s : SessionState) : Command → List Piece → SessionState → T
       }
       → Does s Routes out next
 
--- What commands in order do.
+-- Commands in order do what each does in the session that the ones before it left.
 pub data Runs : SessionState → List Command → List Piece → SessionState → Type 0 where
   ended : {s : SessionState} → Runs s [] [] s
   goes_on : {s next last : SessionState} {c : Command} {cs : List Command} {out rest all : List Piece}

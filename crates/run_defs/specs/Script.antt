@@ -51,7 +51,7 @@ values_of _ _ = Err BadWord
 abbrev pub said_by : List Form → List (List ℕ) → Result (List Value) FaultKind
 said_by forms words = if nat_eq (length forms) (length words) then values_of forms words else Err BadWord
 
--- A kind of line: the word that it begins with, the forms of its further words, and what their values mean over a
+-- A kind of line has the word that it begins with, the forms of its further words, and what their values mean over a
 -- fabric.
 pub record LineKind : Type 0 where
   pub word : List ℕ

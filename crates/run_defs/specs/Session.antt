@@ -7,13 +7,13 @@ use Rattle.world_defs.specs.World.{WorldState, new_world}
 use Rattle.run_defs.specs.declared.line.MapWords.{MapWords}
 use Rattle.run_defs.specs.declared.line.MapWords.TheVariants.{Complete, Doubtful, IncompleteDepth, IncompleteNodes}
 
--- The last map that was made: by which mapper, how far it is known to be right, and the map.
+-- The last map was made by this mapper, and these words say how far it is known to be right.
 pub record LastMap : Type 0 where
   pub mapper : ℕ
   pub words : MapWords
   pub made : NetMap
 
--- The last routes that were computed: the mapper and the hosts of their map, by address, and the routes.
+-- The last routes that were computed have the mapper and the hosts of their map, by address.
 pub record LastRoutes : Type 0 where
   pub mapper : ℕ
   pub hosts : List ℕ

@@ -63,8 +63,8 @@ is_received _ = false
 abbrev pub count_line : List Figure → Line
 count_line figures = GenCount (count_by is_accepted figures) (count_by is_received figures)
 
--- The lines of the summary of a generated run: what was generated, each map, set of routes and installation, the
--- count of messages, and each settle.
+-- The summary of a generated run has a line for what was generated, for each map, set of routes and installation, for
+-- the count of messages, and for each settle.
 abbrev pub summary : ℕ → ℕ → Network → List Figure → List Line
 summary n seed f figures =
     GenHead n seed (length f.hosts) (length f.switches) (length f.cables)

@@ -115,7 +115,7 @@ pub enum Command {
         /// The port, from 0 to 7.
         port: u8,
     },
-    /// Tells where each token of a port is.
+    /// Shows where each token of a port is.
     Tokens {
         /// The address of the port's host.
         host: u16,

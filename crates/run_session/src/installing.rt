@@ -25,7 +25,7 @@ use table_installing::install;
 use world_commands::print_tables;
 
 /// Installs the last routes, unless that is refused: no routes were computed, a channel holds a packet, or other
-/// routes are adopted. Want of memory leaves a world that a prefix of its acts leads to.
+/// routes are adopted. Running out of memory leaves a world that a prefix of its acts leads to.
 pub(crate) fn install_text(
     alloc: Global,
     w: &mut World,

@@ -65,7 +65,7 @@ pub(crate) fn busy_text(alloc: Global, w: &World, host: u16) -> Result<Printed, 
 }
 
 /// Maps from a host of an idle world: the world then, and the text, unless memory ran out. The map is the last
-/// one then. Want of memory leaves the last map, and a world that a prefix of the map's acts leads to.
+/// one then. Running out of memory leaves the last map, and a world that a prefix of the map's acts leads to.
 pub(crate) fn map(
     alloc: Global,
     world: World,

@@ -13,8 +13,8 @@ use run_defs::Line;
 use std::alloc::{AllocError, Global};
 use world_drain::settle;
 
-/// Settles a world: its text is the line of what that came to. Want of memory leaves a world that a prefix of its
-/// events leads to.
+/// Settles a world: its text is the line of what that came to. Running out of memory leaves a world that a prefix of
+/// its events leads to.
 #[tactic(auto, using(crate::proofs::Obeying::settled_so))]
 pub(crate) fn settle_text(alloc: Global, w: &mut World) -> Result<Printed, AllocError>
     ensures done { IfOk result (λ p. IsDone Settle w.old w.new p) }

@@ -1,4 +1,4 @@
--- Behind the expiries of a round each connection with something unacknowledged sends again from the first number that isn't.
+-- After the expiries of a round each connection with something unacknowledged sends again from the first number that isn't.
 use Rattle.std.proofs.Common.{◌≡◌, ◌≢◌, ◌<◌, ◌≤◌, ◌+◌, ℕ, zero, suc, Bool, true, false, true≢false, List, [], ◌∷◌, ◌++◌, map, length, nat_eq, nat_lt, ◌⊎◌, inl, inr, refl, sym, ap, ◌∙◌, subst, arith, append_assoc, if◌then◌else◌}
 use Rattle.std.specs.List.{AllByRecursion, range_with_len, filter}
 use Rattle.std.proofs.lemmas.Bool.Decides.{nat_tests}

@@ -1,4 +1,4 @@
--- Behind a give-up of every host only packets of connections enter idle links, and no flip has met them.
+-- After a give-up of every host only packets of connections enter idle links, and no flip has met them.
 use Rattle.std.proofs.Common.{◌≡◌, ◌≤◌, ◌+◌, ℕ, zero, suc, true, false, ℤ, List, [], ◌∷◌, get_or, Option, Some, None, is_none, refl, sym, ◌∙◌, subst, true≢false}
 use Rattle.std.specs.List.{list_all}
 use Rattle.std.proofs.lemmas.Option.{same_Some}

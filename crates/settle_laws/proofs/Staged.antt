@@ -1,4 +1,4 @@
--- Behind a give-up of every host nothing is staged, and what a host sends then goes to a peer by its active table's route.
+-- After a give-up of every host nothing is staged, and what a host sends then goes to a peer by its active table's route.
 use Rattle.std.proofs.Common.{◌≡◌, ◌<◌, ◌+◌, ◌≤◌, ℕ, zero, suc, Bool, true, false, ◌||◌, ℤ, List, [], ◌∷◌, map, length, get_or, set, nat_lt, is_some, Option, Some, None, option_map, refl, sym, ap, ◌∙◌, subst, arith, if◌then◌else◌}
 use Rattle.std.specs.List.{AllByRecursion, range_with_len}
 use Rattle.std.proofs.lemmas.Bool.Decides.{nat_tests}

@@ -31,7 +31,7 @@ pub struct Installed {
 /// Installs the adopted routes on the adopter and the hosts that they name. Every host gives up what it staged; then
 /// each host is sent its parts, each up to so many times, and a part that isn't acknowledged ends the work for its
 /// host. Where injections are left then, each host that isn't counted has a part each of whose tries met a planned
-/// fault. Want of memory leaves a world that a prefix of its events leads to.
+/// fault. Running out of memory leaves a world that a prefix of its events leads to.
 #[tactic(auto, unfolding(world_defs::specs::Install::installed))]
 pub fn install(
     alloc: Global,

@@ -14,7 +14,7 @@ use std::alloc::{AllocError, Global};
 use world_drain::{AwaitedPart, Seen, Watch, drain_watching, happen};
 
 /// One try of a part: the part alone, and then the acknowledgement of its host. The epoch of that, where the mapper
-/// hears it. Want of memory leaves a world that a prefix of its events leads to.
+/// hears it. Running out of memory leaves a world that a prefix of its events leads to.
 #[tactic(auto, unfolding(world_defs::specs::Install::part_try))]
 pub(crate) fn part_try(
     alloc: Global,

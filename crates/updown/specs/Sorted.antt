@@ -13,7 +13,7 @@ by_level x y = ordering_then (nat_cmp x.0 y.0) (nat_cmp x.1 y.1)
 abbrev pub levelled : List ℕ → List (ℕ × ℕ)
 levelled ls = map (λ v. (slice_index ls v, v)) (numbers_below (length ls))
 
--- All vertices with their levels, sorted.
+-- These are all vertices with their levels, sorted.
 pub record AreByLevel (ls : List ℕ) (vertices : List (ℕ × ℕ)) : Type 0 where
   pub all : IsPermutation (levelled ls) vertices
   pub rise : IsSorted by_level vertices

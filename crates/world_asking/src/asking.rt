@@ -21,7 +21,8 @@ pub(crate) struct Asked {
 }
 
 /// An ask: every host gives up what it staged; up to so many host probes, to the first reply; without one up to so
-/// many loopback probes, to the first that returns. Want of memory leaves a world that a prefix of its events leads to.
+/// many loopback probes, to the first that returns. Running out of memory leaves a world that a prefix of its events
+/// leads to.
 #[tactic(auto, unfolding(world_defs::specs::Asking::ask))]
 pub(crate) fn ask(
     alloc: Global,

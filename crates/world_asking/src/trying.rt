@@ -35,8 +35,8 @@ pub(crate) struct LoopTry {
     pub(crate) harmed: bool,
 }
 
-/// At most so many tries of a host probe, up to the first that is replied to. Want of memory leaves a world that a
-/// prefix of their events leads to.
+/// At most so many tries of a host probe, up to the first that is replied to. Running out of memory leaves a world that
+/// a prefix of their events leads to.
 pub(crate) fn host_tries(
     alloc: Global,
     w: &mut World,
@@ -72,8 +72,8 @@ pub(crate) fn host_tries(
     })
 }
 
-/// At most so many tries of a loopback probe, up to the first that returns. Want of memory leaves a world that a prefix
-/// of their events leads to.
+/// At most so many tries of a loopback probe, up to the first that returns. Running out of memory leaves a world that a
+/// prefix of their events leads to.
 pub(crate) fn loop_tries(
     alloc: Global,
     w: &mut World,
@@ -169,7 +169,7 @@ fn loop_try(alloc: Global, w: &mut World, mapper: u16, walk: &Walk) -> Result<Lo
     })
 }
 
-// Stages a probe of a walk at a host, which puts it into its channel. Want of memory changes nothing.
+// Stages a probe of a walk at a host, which puts it into its channel. Running out of memory changes nothing.
 fn send_probe(
     alloc: Global,
     w: &mut World,
@@ -192,7 +192,7 @@ fn send_probe(
     Ok(Injection { used_up, number })
 }
 
-// A host puts what it has to send first into its channel. Want of memory changes nothing.
+// A host puts what it has to send first into its channel. Running out of memory changes nothing.
 fn inject(alloc: Global, w: &mut World, host: u16) -> Result<Injection, AllocError>
     requires there { IsHostOf w.old host }
     ensures used { IfOk result (λ i. i.used_up ≡ is_used_up w.old host) }

@@ -1,4 +1,4 @@
--- The client of a host's port: the tokens that it holds, and its calls.
+-- The client of a host's port has tokens, and makes calls.
 use Rattle.std.specs.Prelude.{ℕ, ◌+◌, ◌%◌, List, [], ◌∷◌, ◌++◌, map, length, take, replicate, is_none, nat_lt}
 use Rattle.std.specs.Prelude.{if◌then◌else◌, Option, Some, None}
 use Rattle.std.specs.List.{range_with_len}

@@ -43,7 +43,7 @@ abbrev pub passes : ℕ → WorldState → List Effect × WorldState
 passes zero w = ([], w)
 passes (suc k) w = pass_or_end w (pass w) (passes k)
 
--- A drain: passes up to one that changes nothing. Each advance that changes something lowers the hops left, so these
+-- A drain is passes up to one that changes nothing. Each advance that changes something lowers the hops left, so these
 -- bound the passes.
 unfoldable pub drain : WorldState → List Effect × WorldState
 drain w = passes (total_hops w.links + 1) w
@@ -66,7 +66,7 @@ reset_count (xs, w) = (changes xs, w)
 abbrev pub clear_drained : List Effect × WorldState → ℕ × WorldState
 clear_drained (xs, w) = reset_count (steps w (resets_of w))
 
--- A clear: a drain, and then a reset of each channel that still holds a packet, by rising number; how many resets,
--- and the world then.
+-- A clear is a drain, and then a reset of each channel that still holds a packet, by rising number: how many resets
+-- there were, and the world then.
 unfoldable pub clear : WorldState → ℕ × WorldState
 clear w = clear_drained (drain w)

@@ -6,7 +6,7 @@ use Rattle.gm_defs.specs.declared.token.Took.TheVariants.{NotNext, NoToken, Part
 use Rattle.gm_defs.specs.Fragment.{piece_count, whole_below}
 use Rattle.gm_defs.specs.Connection.{SenderState, starting, sent_one, acknowledged, expired, offered, taken_after}
 
--- A send that isn't finished: its port, and its token there.
+-- A ticket names the port and the token of a send that isn't finished.
 pub record Ticket : Type 0 where
   pub port : ℕ
   pub token : ℕ

@@ -1,4 +1,4 @@
--- One host: what it has staged, its table, its lanes and its ports; and what it sends first.
+-- What a host has, and what it sends first.
 use Rattle.std.specs.Prelude.{ℕ, ◌+◌, ◌*◌, ◌/◌, ◌%◌, min, ℤ, pos, neg_ℤ, Bool, true, false, ◌||◌, List, [], ◌∷◌, ◌++◌}
 use Rattle.std.specs.Prelude.{map, reverse, length, replicate, slice_index_or, slice_set, is_some, if◌then◌else◌}
 use Rattle.std.specs.Prelude.{Option, Some, None, option_map, option_and_then}
@@ -21,18 +21,18 @@ pub data Staged : Type 0 where
   StagedProbe : (walk : List ℤ) → (looped : Bool) → Staged
   StagedPart : (part : RoutePart) → (by : List ℤ) → Staged
 
--- A reply to the probe of a number, and the way back.
+-- A reply says which probe it answers, by its number, and has the way back.
 pub record StagedReply : Type 0 where
   pub number : ℕ
   pub back : List ℤ
 
--- The acknowledgement of a part, and the way back.
+-- An acknowledgement says which part of which epoch was taken, and has the way back.
 pub record StagedAck : Type 0 where
   pub epoch : ℕ
   pub part : ℕ
   pub back : List ℤ
 
--- One host: the staged probe or part, the reply to a probe, the acknowledgement of a part, its table, its lanes by
+-- A host has the staged probe or part, the reply to a probe, the acknowledgement of a part, its table, its lanes by
 -- number, and its ports by number, where they are open.
 pub record NodeState : Type 0 where
   pub staged : Option Staged
@@ -163,8 +163,8 @@ abbrev pub lanes_of : NodeState → List ℕ
 lanes_of n = range_with_len 0 (length n.lanes)
 
 -- What a host sends first: a staged probe or part; a probe reply; a part acknowledgement; an owed acknowledgement; a
--- due fragment. Of the last two that of the least lane: of the peer of least address, and for one peer of the least
--- priority.
+-- due fragment. Of the last two it sends that of the least lane: of the peer of least address, and for one peer of the
+-- least priority.
 unfoldable pub to_send : ℕ → NodeState → Option Outgoing
 to_send host n =
     either (option_map outgoing_staged n.staged)

@@ -14,7 +14,7 @@ use Rattle.world_defs.specs.declared.applied.Applied.TheVariants.{Part, Active, 
 abbrev pub part_size : ℕ
 part_size = 8
 
--- A set of routes that was adopted: by which mapper, and its epoch.
+-- A set of routes was adopted by this mapper, and has this epoch.
 pub record Adoption : Type 0 where
   pub mapper : ℕ
   pub epoch : ℕ
@@ -54,8 +54,8 @@ part_with a dst part entries (Some back) = Some (record {
   entries = part_entries entries part;
 })
 
--- A part of a host's table: at most eight entries by rising destination, and the set's route back to the mapper. The
--- mapper itself has none.
+-- A part of a host's table has at most eight entries by rising destination, and the set's route back to the mapper.
+-- The mapper itself has none.
 abbrev pub part_for : Adoption → ℕ → ℕ → Option RoutePart
 part_for a dst part =
     if nat_eq dst a.mapper then None
@@ -63,12 +63,12 @@ part_for a dst part =
     then part_with a dst part (entries_from a.routes dst) (route_of a.routes dst a.mapper)
     else None
 
--- An active table: its epoch and its routes.
+-- An active table has its epoch and its routes.
 pub record ActiveTable : Type 0 where
   pub epoch : ℕ
   pub entries : List RouteEntry
 
--- A host's table: the latest epoch that it has seen, the parts of that epoch so far, by rising number, and what is
+-- A host's table has the latest epoch that it has seen, the parts of that epoch so far, by rising number, and what is
 -- active.
 pub record TableState : Type 0 where
   pub epoch : ℕ

@@ -1,4 +1,4 @@
--- The world: the links of a fabric, its hosts and their clients, the adopted routes, the plan of faults, and counts.
+-- What a world is, and how it is read and changed.
 use Rattle.std.specs.Prelude.{ℕ, ◌+◌, ◌-◌, ◌^◌, List, [], ◌∷◌, length, min, replicate, slice_index_or, slice_set}
 use Rattle.std.specs.Prelude.{nat_eq, Option, Some, None}
 use Rattle.std.specs.List.{range_with_len}

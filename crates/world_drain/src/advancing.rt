@@ -60,7 +60,7 @@ fn all_passes(
     Ok(seen)
 }
 
-// Behind a pass with so many changes, channels that wait are noted from now on, if they are many.
+// After a pass with so many changes, channels that wait are noted from now on, if they are many.
 fn note(alloc: Global, w: &World, noted: &mut Option<Awake>, changes: u64) -> Result<(), AllocError>
     requires { IfSome noted.old (λ a. AreAwake w.now.links a.marks a.places.items a.counts.items) }
     ensures { OnOk result (IfSome noted.new (λ a. AreAwake w.now.links a.marks a.places.items a.counts.items)) }

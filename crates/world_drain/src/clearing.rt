@@ -14,7 +14,7 @@ use fab_world::{Event, World};
 use std::alloc::{AllocError, Global};
 
 /// Clears the links: drains them, and then resets each channel that still holds a packet, by rising number. It
-/// answers how many resets there were. Want of memory leaves a world that a prefix of its events leads to.
+/// answers how many resets there were. Running out of memory leaves a world that a prefix of its events leads to.
 #[tactic(auto, unfolding(world_defs::specs::Drain::clear))]
 pub fn clear(alloc: Global, w: &mut World) -> Result<u64, AllocError>
     ensures ok { IfOk result (λ resets. clear w.old ≡ (resets, w.new)) }

@@ -17,7 +17,7 @@ use fab_world::World;
 use std::alloc::{AllocError, Global};
 
 /// Advances packets until none moves any more: how many advances changed something, at most the hops that the packets
-/// had left. Want of memory leaves a world that a prefix of the drain's events leads to.
+/// had left. Running out of memory leaves a world that a prefix of the drain's events leads to.
 pub fn drain(alloc: Global, w: &mut World) -> Result<u64, AllocError>
     ensures ok { IfOk result (λ n. n ≡ changes (drain w.old).0) }
     ensures few { IfOk result (λ n. n ≤ total_hops w.old.links) }
@@ -33,7 +33,7 @@ pub fn drain(alloc: Global, w: &mut World) -> Result<u64, AllocError>
     Ok(seen.changes)
 }
 
-/// A drain, with what a mapper sees of it. Want of memory leaves a world that a prefix of its events leads to.
+/// A drain, with what a mapper sees of it. Running out of memory leaves a world that a prefix of its events leads to.
 pub fn drain_watching(alloc: Global, w: &mut World, watch: Watch) -> Result<Seen, AllocError>
     ensures seen { IfOk result (λ s. s ≡ seen_in watch (drain w.old).0) }
     ensures heard { IfOk result (λ s. IfSome s.probed (λ h. h < host_count w.old)) }

@@ -13,7 +13,7 @@ use fab_world::{Event, World};
 use std::alloc::{AllocError, Global};
 
 /// Every host gives up what it staged, by rising address. Silent ones have staged nothing, and those that are silent or
-/// at rest then are passed by from now on. Want of memory leaves a world that a prefix of these events leads to.
+/// at rest then are passed by from now on. Running out of memory leaves a world that a prefix of these events leads to.
 pub fn give_up_all(alloc: Global, w: &mut World) -> Result<(), AllocError>
     ensures after { OnOk result (w.new ≡ all_given_up w.old) }
     ensures err { OnErr result (IsPartWay w.old (map GiveUp (addresses w.old)) w.new) }

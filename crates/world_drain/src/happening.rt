@@ -12,7 +12,7 @@ use fab_world::{Effect, Event, World};
 use net_defs::Walk;
 use std::alloc::{AllocError, Global};
 
-/// One event whose effect doesn't matter. Want of memory changes nothing.
+/// One event whose effect doesn't matter. Running out of memory changes nothing.
 pub fn happen(alloc: Global, w: &mut World, e: Event) -> Result<(), AllocError>
     requires { IsGiven w.old e }
     ensures after { OnOk result (w.new ≡ (step w.old e).1) }
@@ -25,8 +25,8 @@ pub fn happen(alloc: Global, w: &mut World, e: Event) -> Result<(), AllocError>
     Ok(())
 }
 
-/// An injection of a host: the number of the packet that entered its channel, where one did. Want of memory changes
-/// nothing.
+/// An injection of a host: the number of the packet that entered its channel, where one did. Running out of memory
+/// changes nothing.
 pub fn inject(alloc: Global, w: &mut World, host: u16) -> Result<Option<u64>, AllocError>
     requires { IsHostOf w.old host }
     ensures number { IfOk result (λ n. n ≡ number_of (step w.old (Inject host)).0) }
@@ -39,8 +39,8 @@ pub fn inject(alloc: Global, w: &mut World, host: u16) -> Result<Option<u64>, Al
     Ok(number_of(&effect))
 }
 
-/// An ask of a host, and its injection: the number of the probe's packet, where that entered the host's channel. Want
-/// of memory changes nothing.
+/// An ask of a host, and its injection: the number of the probe's packet, where that entered the host's channel.
+/// Running out of memory changes nothing.
 pub fn probe(
     alloc: Global,
     w: &mut World,

@@ -1,8 +1,8 @@
 //! What drives a world without a mapper: drains, clears and settles.
 //!
-//! It keeps nothing of its own: all that it does are events of the world. An event out of memory changes nothing.
-//! A drain, a clear, a settle and the give-ups of all hosts leave a world that a prefix of their own events leads to.
-//! A drain can be watched: `specs/Watch.antt` says what is looked for. What the other calls come to are the
+//! It keeps nothing of its own: all that it does are events of the world. An event that runs out of memory changes
+//! nothing; a drain, a clear, a settle and the give-ups of all hosts leave a world that a prefix of their own events
+//! leads to. A drain can be watched: `specs/Watch.antt` says what is looked for. What the other calls come to are the
 //! definitions of `world_defs`: read its `specs/Drain.antt` and `specs/Settle.antt`.
 //!
 //! ```text

@@ -22,7 +22,7 @@ use std::alloc::{AllocError, Global};
 
 /// Passes, at least one, up to one that leaves limbo empty and no host with anything to send, or in which each
 /// injection and each replay was idle: how many channels were reset. That count stays at its last value once there.
-/// Want of memory leaves a world that a prefix of their events leads to.
+/// Running out of memory leaves a world that a prefix of their events leads to.
 pub(crate) fn passes(alloc: Global, w: &mut World) -> Result<u64, AllocError>
     ensures ok { IfOk result (λ resets. ArePasses w.old w.new resets) }
     ensures err { OnErr result (IsPartWay w.old (round_passes_events (pass_bound w.old) w.old) w.new) }

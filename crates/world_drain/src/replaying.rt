@@ -36,7 +36,7 @@ impl Told {
 }
 
 /// A replay of each packet that stands in limbo now, by rising serial, with a clear after each. None comes to limbo
-/// meanwhile. Want of memory leaves a world that a prefix of their events leads to.
+/// meanwhile. Running out of memory leaves a world that a prefix of their events leads to.
 pub(crate) fn replay_all(alloc: Global, w: &mut World) -> Result<Told, AllocError>
     ensures moved { IfOk result (λ t. t.moved ≡ nat_lt 0 (replay_each (serials w.old) w.old).moves) }
     ensures resets { IfOk result (λ t. t.resets ≡ capped (replay_each (serials w.old) w.old).resets) }

@@ -38,8 +38,8 @@ pub struct Settled {
 /// Settles a world: a clear, and then rounds, at least one, up to one that leaves nothing unacknowledged or that
 /// helps nothing. It answers at most one round more than there were unacknowledged fragments and planned faults, and
 /// no resets where the traffic was lawful as each of its clears began. Where injections are left, the world is settled
-/// then; and where it answers that nothing is unacknowledged, all that was sent is got. Want of memory leaves a world
-/// that a prefix of its events leads to.
+/// then; and where it answers that nothing is unacknowledged, all that was sent is got. Running out of memory leaves a
+/// world that a prefix of its events leads to.
 pub fn settle(alloc: Global, w: &mut World) -> Result<Settled, AllocError>
     ensures after { OnOk result (w.new ≡ (settle w.old).world) }
     ensures rounds { IfOk result (λ s. s.rounds ≡ (settle w.old).rounds) }

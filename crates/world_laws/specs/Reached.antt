@@ -32,7 +32,7 @@ IsOfSettle (Expire h peer) = Unit {0}
 IsOfSettle (GiveUp h) = Unit {0}
 IsOfSettle _ = ⊥
 
--- From one world to another by events of a kind, in a row.
+-- Events of a kind lead in a row from one world to another.
 pub record IsReachedBy (kind : Event → Type 0) (w v : WorldState) : Type 0 where
   pub events : List Event
   pub kinds : AllByRecursion kind events

@@ -19,7 +19,7 @@ pub data RoundPasses : ℕ → WorldState → Stretch → Type 0 where
   another_pass : {n m : ℕ} {w : WorldState} {s t : Stretch} → is_last_pass (round_pass w) ≡ false
       → RoundPasses n (round_pass w).world s → m ≡ n + 1 → t ≡ joined_stretch (round_pass w) s → RoundPasses m w t
 
--- A round: an expiry for each connection with something unacknowledged, and then passes, at least one.
+-- A round is an expiry for each connection with something unacknowledged, and then passes, at least one.
 pub record IsRound (w : WorldState) (s : Stretch) : Type 0 where
   pub passes : ℕ
   pub through : RoundPasses passes (after_all w (expiries w)) s
@@ -31,7 +31,7 @@ pub data AllRounds : WorldState → Rounds → Type 0 where
   another_round : {w : WorldState} {s : Stretch} {r t : Rounds} → IsRound w s → is_last_round w s.world ≡ false
       → AllRounds s.world r → t ≡ after_round s r → AllRounds w t
 
--- A settle: a clear, and then rounds.
+-- A settle is a clear, and then rounds.
 pub record Settles (w : WorldState) (r : Rounds) : Type 0 where
   pub rest : Rounds
   pub rounds : AllRounds (clear w).1 rest

@@ -13,8 +13,8 @@ use std::alloc::{AllocError, Global};
 use world_defs::{Effect, Event, Fault};
 
 impl Machine {
-    /// One event: its effect, and links and hosts after it. Want of memory changes nothing, and hides no refusal of a
-    /// client's call.
+    /// One event: its effect, and links and hosts after it. Running out of memory changes nothing, and hides no refusal
+    /// of a client's call.
     pub(crate) fn step(&mut self, alloc: Global, e: &Event) -> Result<Effect, AllocError>
         requires given { IsGiven self.old e.now }
         requires hosts { host_count self.old ≡ length (fabric_of self.old).hosts }

@@ -16,7 +16,7 @@ use world_defs::Effect;
 
 impl Machine {
     /// An ask of a host, and its injection. Where the probe's packet enters the host's channel it is made of the walk
-    /// itself: nothing is staged between. Want of memory changes nothing.
+    /// itself: nothing is staged between. Running out of memory changes nothing.
     pub(crate) fn probe(
         &mut self,
         alloc: Global,

@@ -10,7 +10,7 @@ use std::alloc::{AllocError, Global};
 use world_defs::Effect;
 
 impl Machine {
-    /// A probe of a copy of this walk is staged at a host. Want of memory changes nothing.
+    /// A probe of a copy of this walk is staged at a host. Running out of memory changes nothing.
     pub(crate) fn stage_probe(
         &mut self,
         alloc: Global,
