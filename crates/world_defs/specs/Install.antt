@@ -64,7 +64,7 @@ parts_installed mapper dst tries (p ∷ ps) w =
 abbrev pub parts_of : Adoption → ℕ → List ℕ
 parts_of a dst = if nat_eq dst a.mapper then [] else range_with_len 0 (part_count (length (entries_from a.routes dst)))
 
--- a host more counts where all its parts were acknowledged
+-- one more host counts where all its parts were acknowledged
 abbrev pub host_counted : Bool × WorldState → (WorldState → ℕ × WorldState) → ℕ × WorldState
 host_counted (true, w) rest = ((rest w).0 + 1, (rest w).1)
 host_counted (false, w) rest = rest w
