@@ -1,37 +1,85 @@
-"""What the words of a report and an exit status mean, and what to do."""
+"""What the words of a report and an exit status mean, and what to do: the one source of tools/try, tools/explain and of the tables of pages."""
+
+import re
 
 from fabtools import fabric as fabrics
 from fabtools import refusals
 
-STATUS = {
-    2: "the words of the command line are neither 'run' nor 'gen N SEED'; nothing was run",
-    3: "the text is refused, and nothing was run",
-    4: "standard input can't be read, so nothing was run",
-    5: "standard output can't be written: a full disk, or a reader that closed the pipe; what was written is a prefix of the report",
-    6: "out of memory; what was written is a prefix of the report",
-    7: "the text has more than 1,048,576 bytes, so nothing was run: cut it into runs",
-    8: "the system refuses the words of the command line",
-    132: "a check of the build failed, which the proved program rules out: please keep the text and report it",
+# An exit status; why; what was written; what to do.
+STATUSES = [
+    (2, "the words are neither `run` nor `gen N SEED` with N 2 to 24 and SEED 0 to 1,000,000", "nothing", "`myrifab run < TEXT`, `myrifab gen 24 7`; there are no options"),
+    (3, "the text is refused", "its one line", "mend [the line that it names](#the-text-is-refused)"),
+    (4, "standard input can't be read", "nothing", "look at the file, the pipe, the disk"),
+    (5, "standard output can't be written", "a prefix of the report", "a full disk, or a reader that closed the pipe"),
+    (6, "out of memory", "a prefix of the report or nothing", "free memory, or a smaller fabric"),
+    (7, "the text has more than 1,048,576 bytes", "nothing", "cut it into runs"),
+    (8, "the system refuses the words, as one that isn't UTF-8", "nothing", "plain words"),
+    (132, "a check of a build without proofs failed, which the proved program rules out", "a prefix of the report or nothing", "please keep the text and report it"),
+]
+
+# The words of a map line: where they hold; what that means; what to do.
+MAP_WORDS = {
+    "incomplete nodes": (
+        "the mapper's tree has more than 65,536 nodes; no lines of a map follow",
+        "the tree of walks got too large, as where many parallel cables join two switches far from any host, so no map follows",
+        "map from a host that is nearer, or put hosts at those switches",
+    ),
+    "incomplete depth": (
+        "some switch wasn't expanded, since it stands DEPTH cables away or further on every way that was found",
+        "the map is cut off: a switch stands as far away as it is deep, so one switch may be shown several times",
+        "map [deeper](#which-depth), or from a host nearer to all",
+    ),
+    "doubtful {count}": (
+        "{count} asks drowned: a planned fault met every try of one of their two probes",
+        "{count} asks met a planned fault in every try: what they found to be nothing may be something",
+        "map again, since faults strike once; or give more TRIES than you planned faults",
+    ),
+    "complete": (
+        "none of these holds: the map is the mapper's part of the fabric",
+        "the map is the real network, as far as cables join it to {host}",
+        "",
+    ),
+    "circuit {host} nodes": (
+        "",
+        "the tree of circuit answers got too large (65,536 nodes), so no map follows",
+        "a lesser DEPTH, or a host that is nearer to many others",
+    ),
 }
 
-MAP_WORDS = {
-    "complete": "the map is the real network, as far as cables join it to {host}",
-    "doubtful": "{count} asks met a planned fault in every try: what they found to be nothing may be something; map again",
-    "incomplete depth": "the map is cut off: a switch stands as far away as it is deep",
-    "incomplete nodes": "the tree of walks got too large (65,536), so no map follows",
-}
+
+def plain(text):
+    """A cell of a page's table as plain text: links by their words, and names in quotes."""
+    return re.sub(r"\[([^]]*)\]\([^)]*\)", r"\1", text).replace("`", "'")
 
 
 def of_status(status):
     """What an exit status of the program means; None for 0, and for one that the program doesn't have."""
-    if status > 128 and status not in STATUS:
-        return None if status == 128 + 13 else f"the program was ended by signal {status - 128}"
-    return STATUS.get(status)
+    for known, why, written, repair in STATUSES:
+        if known == status:
+            return plain(f"{why}, and {written} was written: {repair}")
+    return f"the program was ended by signal {status - 128}" if status > 128 and status != 128 + 13 else None
 
 
 def of_map(words, host):
-    kind = "doubtful" if words.startswith("doubtful") else words
-    return MAP_WORDS[kind].format(host=host, count=words.split()[-1])
+    """What the words of a map line mean, and what to do; where the map is cut off, of_depth says that better."""
+    kind = "doubtful {count}" if words.startswith("doubtful") else words
+    _, means, repair = MAP_WORDS[kind]
+    repair = "" if kind == "incomplete depth" else repair
+    return plain((f"{means}; {repair}" if repair else means).format(host=host, count=words.split()[-1]))
+
+
+def status_rows():
+    return [f"| {status} | {why} | {written} | {repair} |" for status, why, written, repair in STATUSES]
+
+
+def map_rows():
+    """Where each word of a map line holds."""
+    return [f"| `{words}` | {where} |".format(host="H", count="N") for words, (where, _, _) in MAP_WORDS.items() if where]
+
+
+def map_repairs():
+    """What each word of a map line other than `complete` means, and what to do."""
+    return [f"| `{words}` | {means} | {repair} |".format(host="H", count="N") for words, (_, means, repair) in MAP_WORDS.items() if repair]
 
 
 def of_depth(fabric, host, is_complete=False):
@@ -64,7 +112,7 @@ def of_line(words):
         cause = words[at + 1]
         return refusals.meaning(words[0], cause)
     if words[0] == "circuit" and words[2] == "nodes":
-        return "the tree of circuit answers got too large (65,536), so no map follows"
+        return of_map("circuit {host} nodes", words[1])
     if words[0] == "settle" and words[-1] != "0":
         return "messages wait: for a token that fits (its SIZE exactly, its priority), a port that is open, or a receiver with a table"
     if words[0] == "settle" and words[4] != "0":
@@ -74,5 +122,5 @@ def of_line(words):
     if words[0] == "table" and words[2] == "none":
         return f"{words[1]} has no routes, so it can send nothing"
     if words == ["step", "idle"]:
-        return "that wasn't possible, and changed nothing"
+        return refusals.IDLE[1]
     return None
