@@ -13,11 +13,13 @@ TOOLS = Path(__file__).resolve().parent.parent
 sys.dont_write_bytecode = True
 sys.path.insert(0, str(TOOLS))
 
+from fabrics import RNG, fat_tree, mapped  # noqa: E402
 from fabtools import fabric as fabrics  # noqa: E402
 from fabtools.run import Run  # noqa: E402
 
 EXAMPLES = TOOLS.parent / "examples"
 LOOKS = ("fat-tree", "torus", "room")
+HOSTS_A_LEAF = 8
 FLAGS = ("--headless", "--no-sandbox", "--disable-gpu", "--virtual-time-budget=4000", "--host-resolver-rules=MAP * ~NOTFOUND")
 
 
@@ -84,10 +86,31 @@ def dom(chromium, page, choice):
     return Dom(ran.stdout)
 
 
-def faults(chromium, name, folder):
-    text, report = ((EXAMPLES / f"{name}.{it}").read_text() for it in ("in", "out"))
+def turns(a, b):
+    """The turns of a route of the large fabric between hosts of these numbers, by spine0 where they stand at two leaves."""
+    (leaf, port), (to_leaf, to_port) = divmod(a, HOSTS_A_LEAF), divmod(b, HOSTS_A_LEAF)
+    way = [to_port - port] if leaf == to_leaf else [HOSTS_A_LEAF - port, to_leaf - leaf, to_port - HOSTS_A_LEAF]
+    return " ".join(f"{it:+}" for it in way)
+
+
+def write_large(folder):
+    """A fabric of as many hosts as there may be, and a report of its map and its 16,256 routes."""
+    fabric = fat_tree(leaves=16, spines=8, hosts=HOSTS_A_LEAF)
+    shown = mapped(fabric, "h0", RNG)
+    lines = ["map h0 complete asks 0 packets 0"]
+    lines += [f"switch {it} core" if it.startswith("#") else f"host {it}" for it in shown.vertices]
+    lines += [f"cable {v} {p:+} {w} {q:+}".replace("+0", "0") for (v, p), (w, q) in shown.cables]
+    hosts = range(len(fabric.hosts))
+    routes = [f"route h{a} h{b} {turns(a, b)}" for a in hosts for b in hosts if a != b]
+    lines += ["endmap", f"routes {len(routes)}", *routes, "endroutes", "end injected 0 dropped 0"]
+    (folder / "large.in").write_text(fabric.text() + "map h0 32 1\nroutes\nend\n")
+    (folder / "large.out").write_text("".join(f"{it}\n" for it in lines))
+
+
+def faults(chromium, name, examples, folder):
+    text, report = ((examples / f"{name}.{it}").read_text() for it in ("in", "out"))
     page = Path(folder) / f"{name}.html"
-    page.write_text(subprocess.run([TOOLS / "page", EXAMPLES / f"{name}.in", EXAMPLES / f"{name}.out"], capture_output=True, text=True, check=True).stdout)
+    page.write_text(subprocess.run([TOOLS / "page", examples / f"{name}.in", examples / f"{name}.out"], capture_output=True, text=True, check=True).stdout)
     run = Run(text, report)
     loads = run.loads()
     busiest = max(loads, key=lambda it: (loads[it], it))
@@ -124,8 +147,9 @@ def pieces(text):
 
 def main(words):
     with tempfile.TemporaryDirectory(prefix="pages-") as folder:
-        for name in LOOKS:
-            for it in faults(words[0], name, folder):
+        write_large(Path(folder))
+        for name, where in [*((it, EXAMPLES) for it in LOOKS), ("large", Path(folder))]:
+            for it in faults(words[0], name, where, folder):
                 print(it)
         for it in by_hand(words[0], folder):
             print(it)
