@@ -60,6 +60,10 @@ RANGES = {
     "SERIAL": (0, 2**32 - 1),
 }
 NAMES = {"NAME": "a new name", "H": "a host", "B": "a host", "V": "a host or switch", "W": "a host or switch"}
+# Of these a run takes fewer than the form allows.
+SENSIBLE = {"SIZE": (4, 16)}
+# So many numbers and more aren't proposed one by one.
+MANY = 40
 # The words that a line begins with in two.
 IN_TWO = ("plan", "step")
 

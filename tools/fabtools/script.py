@@ -1,4 +1,4 @@
-"""The script of a text, line by line, and the first fault of a whole text with what is wrong there."""
+"""The script of a text, line by line: its first fault, with what is wrong there, and the words that may stand next."""
 
 from fabtools import fabric as fabrics
 from fabtools import forms
@@ -82,6 +82,28 @@ def at_hosts(fabric, line, names):
             raise Fault(line, "novertex", f"{shown(it)} is a switch, and a host must stand there")
         if it not in fabric.hosts:
             raise Fault(line, "novertex", f"the fabric has no host {shown(it)}{nearest(it, fabric.hosts)}")
+
+
+def next_words(fabric, words):
+    """The words that may stand next in a line of the script that begins with these, as far as they are few: for completion."""
+    first = " ".join(words[: 1 + (words[:1] != [] and words[0] in IN_TWO)])
+    if first not in SCRIPT_FORMS:
+        firsts = [it for it in SCRIPT_FORMS if it != "end"]
+        return list(dict.fromkeys(it.split()[len(words)] for it in firsts if it.split()[: len(words)] == words and len(it.split()) > len(words)))
+    form, at = SCRIPT_FORMS[first], len(words) - len(first.split())
+    return choices(fabric, form[at], words[-1]) if at < len(form) else []
+
+
+def choices(fabric, field, before):
+    """The words that may stand for this name of a form, with the word before them; none where they are many."""
+    if field in ("H", "B"):
+        return list(fabric.hosts)
+    if field == "V":
+        return fabric.vertices()
+    if field == "P":
+        return [str(it) for it in range(fabric.ports(before)) if fabric.far((before, it))]
+    least, most = forms.SENSIBLE.get(field) or forms.RANGES.get(field, (0, forms.MANY))
+    return [str(it) for it in range(least, most + 1)] if most - least < forms.MANY else []
 
 
 def form_of(words):
