@@ -26,7 +26,7 @@ mod ranks;
 mod rising;
 
 pub use certifying::certify;
-pub use checking::check;
+pub use checking::{check, leads};
 pub use fault::CheckFault;
 pub use map_defs::RankEntry;
 pub use ranks::Ranks;
