@@ -20,7 +20,7 @@ def pairs(hosts, kind, shift=1):
 
 
 def script(rounds, length, faults, seed):
-    """The lines behind an installation: ports opened, and the rounds sent in batches."""
+    """The lines after an installation: ports opened, and the rounds sent in batches."""
     chance = Random(seed)
     batches = [rounds[at : at + TOKENS] for at in range(0, len(rounds), TOKENS)]
     lines = list(opened(rounds, min(TOKENS, len(rounds))))

@@ -1,4 +1,4 @@
-"""What waits behind a settle, and for what: the script's calls and the report's answers, followed side by side."""
+"""What waits after a settle, and for what: the script's calls and the report's answers, followed side by side."""
 
 from fabtools.report import Routes, Shown
 
@@ -23,7 +23,7 @@ class Calls:
         self.open, self.provided, self.sent, self.tables, self.is_known = set(), {}, {}, {}, True
 
     def call(self, line, words, answer):
-        """One call of a script, at its line, with the words of its answer behind its host and port."""
+        """One call of a script, at its line, with the words of its answer after its host and port."""
         at = tuple(words[1:3])
         if "refused" in answer:
             return
@@ -79,7 +79,7 @@ class Calls:
 
 
 def behind_settles(script, items):
-    """For the line of each settle in a report: what waits behind it, where its count of unacknowledged fragments agrees."""
+    """For the line of each settle in a report: what waits after it, where its count of unacknowledged fragments agrees."""
     calls, told, items = Calls(), {}, list(items)
     for line, words in script:
         if not items:

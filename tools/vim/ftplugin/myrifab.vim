@@ -20,7 +20,7 @@ let s:hosts = {'walk': [1], 'map': [1], 'circuit': [1], 'open': [1], 'provide': 
 let s:host_steps = {'inject': [2], 'giveup': [2], 'expire': [2, 3]}
 let s:vertex_steps = ['advance', 'lose', 'repeat', 'hold', 'reset', 'flip']
 
-" The names behind the words host and, where they are asked for, switch.
+" The names after the words host and, where they are asked for, switch.
 function! s:Names(kinds) abort
   let found = []
   for line in getline(1, '$')
@@ -32,7 +32,7 @@ function! s:Names(kinds) abort
   return found
 endfunction
 
-" What may stand behind these words of a line.
+" What may stand after these words of a line.
 function! s:Next(words) abort
   let at = len(a:words)
   if at == 0
