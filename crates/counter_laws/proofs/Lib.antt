@@ -1,0 +1,4 @@
+pub mod Present
+pub mod Acting
+pub mod Summing
+pub mod Working

@@ -1,0 +1,8 @@
+use Rattle.counter_laws.proofs.Working.{six-counted, six-in_counters}
+use Rattle.counter_laws.proofs.worked.six_probes.Goals as goal
+
+pub returns-clause-kinds : goal.returns-clause-kinds
+returns-clause-kinds c = six-counted
+
+pub returns-clause-counters : goal.returns-clause-counters
+returns-clause-counters c = six-in_counters

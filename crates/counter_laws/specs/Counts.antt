@@ -1,0 +1,109 @@
+-- What acts did to packets: the effects of their events, the planned faults that struck, and how many of each kind.
+use Rattle.std.specs.Prelude.{ℕ, ◌+◌, Bool, true, false, List, [], ◌∷◌, ◌++◌, length, nat_eq, nat_lt, is_some, count_by}
+use Rattle.std.specs.Prelude.{option_to_list, if◌then◌else◌, Option}
+use Rattle.std.specs.Map.{lookup}
+use Rattle.link_defs.specs.Links.{LinkState}
+use Rattle.world_defs.specs.declared.effect.Effect.{Effect}
+use Rattle.world_defs.specs.declared.effect.Effect.TheVariants.{Injected, Arrived, Dropped, Lost, Reset, Repeated}
+use Rattle.world_defs.specs.declared.fault.Fault.{Fault}
+use Rattle.world_defs.specs.declared.fault.Fault.TheVariants.{Lose as LoseFault, Repeat as RepeatFault}
+use Rattle.world_defs.specs.World.{WorldState}
+use Rattle.world_defs.specs.Step.{step}
+use Rattle.act_defs.specs.Acts.{Act, Happens, Plans, Adopts, acted}
+
+-- the effect of an act that is an event
+abbrev pub effect_of : WorldState → Act → List Effect
+effect_of w (Happens e) = (step w e).0 ∷ []
+effect_of w (Plans ahead fault) = []
+effect_of w (Adopts mapper routes) = []
+
+-- the effects of the events among acts, in order
+abbrev pub effects_of : WorldState → List Act → List Effect
+effects_of w [] = []
+effects_of w (a ∷ acts) = effect_of w a ++ effects_of (acted w a) acts
+
+-- the fault that is planned for the next injection
+abbrev pub next_fault : WorldState → Option Fault
+next_fault w = lookup (nat_eq (w.injected + 1)) w.plan
+
+-- the planned fault that struck between two worlds: that of the next injection, where the second world counts more
+-- faults that struck
+abbrev pub strike_between : WorldState → WorldState → List Fault
+strike_between before after = if nat_lt before.struck after.struck then option_to_list (next_fault before) else []
+
+-- the planned faults that struck within acts, in order
+abbrev pub strikes_of : WorldState → List Act → List Fault
+strikes_of w [] = []
+strikes_of w (a ∷ acts) = strike_between w (acted w a) ++ strikes_of (acted w a) acts
+
+-- a host injected a packet
+abbrev pub is_injection : Effect → Bool
+is_injection (Injected number) = true
+is_injection _ = false
+
+-- a packet was copied into limbo
+abbrev pub is_copy : Effect → Bool
+is_copy (Repeated serial) = true
+is_copy _ = false
+
+-- a host heard a packet
+abbrev pub is_arrival : Effect → Bool
+is_arrival (Arrived host heard) = true
+is_arrival _ = false
+
+-- a switch or a host dropped a packet
+abbrev pub is_drop : Effect → Bool
+is_drop (Dropped cause) = true
+is_drop _ = false
+
+-- a channel lost its packet
+abbrev pub is_loss : Effect → Bool
+is_loss Lost = true
+is_loss _ = false
+
+-- a reset took a channel's packet
+abbrev pub is_reset : Effect → Bool
+is_reset Reset = true
+is_reset _ = false
+
+-- a fault that copies the packet of its injection
+abbrev pub is_copying : Fault → Bool
+is_copying RepeatFault = true
+is_copying _ = false
+
+-- a fault that loses the packet of its injection
+abbrev pub is_losing : Fault → Bool
+is_losing LoseFault = true
+is_losing _ = false
+
+-- how many packets hosts injected
+abbrev pub injections : List Effect → ℕ
+injections es = count_by is_injection es
+
+-- how many packets were copied, by events and by planned faults
+abbrev pub copies : List Effect → List Fault → ℕ
+copies es fs = count_by is_copy es + count_by is_copying fs
+
+-- how many packets hosts heard
+abbrev pub arrivals : List Effect → ℕ
+arrivals es = count_by is_arrival es
+
+-- how many packets switches and hosts dropped
+abbrev pub drops : List Effect → ℕ
+drops es = count_by is_drop es
+
+-- how many packets were lost, by events and by planned faults
+abbrev pub losses : List Effect → List Fault → ℕ
+losses es fs = count_by is_loss es + count_by is_losing fs
+
+-- how many packets resets took
+abbrev pub resets : List Effect → ℕ
+resets es = count_by is_reset es
+
+-- how many packets stand in channels
+abbrev pub in_channels : LinkState → ℕ
+in_channels s = count_by is_some s.channels
+
+-- how many packets stand in limbo
+abbrev pub in_limbo : LinkState → ℕ
+in_limbo s = length s.limbo

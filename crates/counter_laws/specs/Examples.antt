@@ -1,0 +1,51 @@
+-- Packets that end in each way, worked out: the two hosts at one switch, of which host 0 sends probes.
+use Rattle.std.specs.Prelude.{◌≡◌, ℤ, pos, false, List, [], ◌∷◌, ◌++◌}
+use Rattle.net_defs.specs.Examples.{two_hosts}
+use Rattle.world_defs.specs.declared.event.Event.TheVariants.{Ask, Inject, Advance, Lose, Repeat, Reset}
+use Rattle.world_defs.specs.declared.effect.Effect.{Effect}
+use Rattle.world_defs.specs.declared.fault.Fault.{Fault}
+use Rattle.world_defs.specs.declared.fault.Fault.TheVariants.{Lose as LoseFault, Repeat as RepeatFault}
+use Rattle.world_defs.specs.World.{WorldState, new_world}
+use Rattle.act_defs.specs.Acts.{Act, Happens, Plans, acted_all}
+use Rattle.counter_laws.specs.Counts.{effects_of, strikes_of, injections, copies, arrivals, drops, losses, resets}
+use Rattle.counter_laws.specs.Counts.{in_channels, in_limbo}
+
+-- host 0 injects a probe of a walk
+abbrev pub probe : List ℤ → List Act
+probe walk = Happens (Ask 0 walk false) ∷ Happens (Inject 0) ∷ []
+
+-- The first probe is copied by plan, and dropped at the switch, where its walk ends; the second is lost by plan, the
+-- third by an event; the fourth is taken by a reset; the fifth is copied, and host 1 hears it; the sixth stays in its
+-- channel.
+abbrev pub six_probes : List Act
+six_probes =
+    Plans 1 RepeatFault ∷ Plans 2 LoseFault
+    ∷ probe [] ++ Happens (Advance 0) ∷ probe [] ++ probe [] ++ Happens (Lose 0) ∷ probe [] ++ Happens (Reset 0)
+    ∷ probe (pos 3 ∷ []) ++ Happens (Repeat 0) ∷ Happens (Advance 0) ∷ Happens (Advance 3) ∷ probe []
+
+-- their effects
+abbrev pub six_effects : List Effect
+six_effects = effects_of (new_world two_hosts) six_probes
+
+-- the planned faults that struck
+abbrev pub six_strikes : List Fault
+six_strikes = strikes_of (new_world two_hosts) six_probes
+
+-- the world after them
+abbrev pub six_world : WorldState
+six_world = acted_all (new_world two_hosts) six_probes
+
+-- six packets were injected and two copied; one is in a channel and two are in limbo; one was heard, one dropped, two
+-- lost and one reset
+abbrev pub SixProbesAreCounted : Type 0
+SixProbesAreCounted =
+    (injections six_effects ≡ 6) × (copies six_effects six_strikes ≡ 2)
+    × (in_channels six_world.links ≡ 1) × (in_limbo six_world.links ≡ 2)
+    × (arrivals six_effects ≡ 1) × (drops six_effects ≡ 1) × (losses six_effects six_strikes ≡ 2) × (resets six_effects ≡ 1)
+
+-- the faults that struck are the two that were planned, of which one harmed its packet; six injections and one drop
+-- are counted
+abbrev pub SixProbesAreInCounters : Type 0
+SixProbesAreInCounters =
+    (six_strikes ≡ RepeatFault ∷ LoseFault ∷ [])
+    × (six_world.injected ≡ 6) × (six_world.dropped ≡ 1) × (six_world.struck ≡ 2) × (six_world.harmed ≡ 1)
