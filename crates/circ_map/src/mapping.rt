@@ -1,6 +1,6 @@
 //! The circuit map.
 
-ghost use Rattle.std.specs.Prelude.{◌≡◌, ◌<◌, ◌≤◌, true, false, length, slice_get, Some, IfOk, OnOk};
+ghost use Rattle.std.specs.Prelude.{◌≡◌, ◌<◌, ◌≤◌, true, false, length, slice_get, Some, IfOk, IsOk, OnOk};
 ghost use Rattle.journal_defs.specs.Tree.{IsJournal, is_asked};
 ghost use Rattle.probe.specs.Keeping.{with_entry};
 ghost use Rattle.map_defs.specs.Quotient.{IsQuotient};
@@ -62,13 +62,14 @@ pub fn map_circuit<P: CircProber>(
 }
 
 // The map of a tree that is whole, and how often was asked; no vertices where it isn't, and then nothing is made of
-// what was found.
+// what was found, which takes no memory.
 fn mapped(alloc: Global, tree: &Tree, whole: bool) -> Result<CircMapped, AllocError>
     requires once { whole ≡ true → IsJournal tree.now.found.items }
     requires true_of_one { whole ≡ true → IsTrueOfOne tree.now.host tree.now.found.items }
     requires few { whole ≡ true → length tree.now.found.items < 4294967295 }
-    ensures { IfOk result (λ m.
+    ensures told { IfOk result (λ m.
         IsTreeMapped tree.now.host tree.now.found.items tree.now.asks whole m.map m.asks m.end) }
+    ensures limit { whole ≡ false → IsOk result }
 {
     if whole {
         let found = journal_of(alloc, tree.host, &tree.found)?;

@@ -38,7 +38,7 @@ returns-clause-mapped g c =
     (λ (m : CircMapped). IsMappedBy (p.fabric c.args.p.now) (p.mapper c.args.p.now) c.args.depth m.map m.asks m.end) c.mapped.result
     (λ m t. tree-mapped (p.fabric c.args.p.now) (p.fabric c.started.new.p) (p.mapper c.args.p.now) (p.mapper c.started.new.p) c.grow.new.tree.host c.args.depth c.grow.new.tree.found.items c.grow.new.tree.asks c.in_ok-whole.whole m.map m.asks m.end
     c.started.ensures.same_fabric c.started.ensures.same_mapper (c.in_ok-whole.ensures.host ∙ c.in_ok-tree.ensures.host) (λ e. c.in_ok-whole.ensures.whole (ap Ok e)) (λ e. c.in_ok-whole.ensures.passed (ap Ok e)) t)
-    c.mapped.ensures
+    c.mapped.ensures.told
 
 pub returns-clause-core : goal.returns-clause-core
 returns-clause-core g c =
