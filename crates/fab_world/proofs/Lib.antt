@@ -2,6 +2,7 @@ pub mod Answers
 pub mod Arriving
 pub mod Calling
 pub mod Hopping
+pub mod Hearing
 pub mod HostEvents
 pub mod Injecting
 pub mod Moments

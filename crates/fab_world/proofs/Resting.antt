@@ -1,17 +1,17 @@
 -- Silent hosts, hosts at rest and the marks of the others, as a world's hosts change.
-use Rattle.std.proofs.Common.{◌≡◌, ◌<◌, ◌≤◌, ◌+◌, ◌/◌, ℕ, zero, suc, Bool, true, false, true≢false, nat_eq, List, [], ◌∷◌, length, replicate, Option, None, is_some, option_map, refl, sym, ap, subst, ◌∙◌, arith, if◌then◌else◌}
+use Rattle.std.proofs.Common.{◌≡◌, ◌<◌, ◌≤◌, ◌+◌, ◌/◌, ℕ, zero, suc, Bool, true, false, true≢false, ◌||◌, nat_eq, List, [], ◌∷◌, length, replicate, Option, Some, None, is_some, option_map, refl, sym, ap, subst, ◌∙◌, arith, if◌then◌else◌}
 use Rattle.std.specs.Prelude.{slice_index_or, slice_set, option_and_then}
 use Rattle.std.proofs.lemmas.Bool.Decides.{Decides-eqb}
-use Rattle.std.proofs.lemmas.List.{set-get_or, length-set, length-map, length-replicate, get_or-map, get_or-set_other, get_or-replicate}
+use Rattle.std.proofs.lemmas.List.{set-get_or, length-set, length-map, length-replicate, get_or-map, get_or-set_same, get_or-set_other, get_or-replicate}
 use Rattle.gm_defs.specs.Connection.{due, unacknowledged}
 use Rattle.gm_defs.specs.Fragment.{frame_of}
 use Rattle.number_marks.specs.Marks.{mark_at, IsWritten, IsNextMark}
 use Rattle.world_defs.specs.Table.{Adoption}
 use Rattle.world_defs.specs.Lane.{LaneState, new_lane}
-use Rattle.world_defs.specs.Node.{NodeState, FrameAnswer, Fragment, new_node, lane_at, lane_of, lane_count, lane_route, lanes_of, sends_on, owed_on, due_on, either, first_some, to_send, unacknowledged_to}
+use Rattle.world_defs.specs.Node.{NodeState, Staged, has_staged, FrameAnswer, Fragment, new_node, lane_at, lane_of, lane_count, lane_route, lanes_of, sends_on, owed_on, due_on, either, first_some, to_send, unacknowledged_to}
 use Rattle.world_defs.specs.World.{WorldState, host_count, node_at}
 use Rattle.faulty_links.specs.Held.{LinksAndPlan}
-use Rattle.client_host.specs.Held.{ServedHost}
+use Rattle.client_host.specs.Held.{ServedHost, in_state}
 use Rattle.client_host.specs.Hosts.{AreHosts, states, no_host}
 use Rattle.fab_world.specs.Held.{world_of}
 use Rattle.fab_world.specs.declared.host_marks.HostMarks.{HostMarks}
@@ -86,6 +86,25 @@ module _ (P : ℕ → NodeState → Type 0) where
           let there : slice_index_or (slice_set ss i q) k no_host ≡ slice_index_or ss k no_host = get_or-set_other ss i k q no_host differs in
           subst (λ (s : ServedHost). P k s.state) (sym there) (a.bare k (omega (arith, low, long)) (sym (written.others k differs) ∙ none))
 
+  -- a host changes so that what held of it holds, and the marks stay
+  stays-marked : (ss : List ServedHost) (i : ℕ) (marks : List ℕ) (q : ServedHost) → i < length ss → (P i (slice_index_or ss i no_host).state → P i q.state) → AreMarked P ss marks → AreMarked P (slice_set ss i q) marks
+  stays-marked ss i marks q inside keeps a = record {
+    room = let l = length-set ss i q in let r = a.room in omega (arith, l, r);
+    bare = λ k low none. by k low none (nat_eq k i) refl;
+  }
+    where
+      by : (k : ℕ) → k < length (slice_set ss i q) → mark_at marks k ≡ 0 → (t : Bool) → nat_eq k i ≡ t → P k (slice_index_or (slice_set ss i q) k no_host).state
+      by k low none true e =
+          let same : k ≡ i = (Decides-eqb k i).0 e in
+          let there : slice_index_or (slice_set ss i q) i no_host ≡ q = get_or-set_same ss i q no_host inside in
+          let holds : P i q.state = keeps (a.bare i inside (subst (λ j. mark_at marks j ≡ 0) same none)) in
+          subst (λ j. P j (slice_index_or (slice_set ss i q) j no_host).state) (sym same) (subst (λ (s : ServedHost). P i s.state) (sym there) holds)
+      by k low none false e =
+          let differs : k ≡ i → ⊥ = λ f. true≢false (sym ((Decides-eqb k i).1 f) ∙ e) in
+          let long = length-set ss i q in
+          let there : slice_index_or (slice_set ss i q) k no_host ≡ slice_index_or ss k no_host = get_or-set_other ss i k q no_host differs in
+          subst (λ (s : ServedHost). P k s.state) (sym there) (a.bare k (omega (arith, low, long)) none)
+
   module _ (p : LinksAndPlan) (ss : List ServedHost) (o : Option Adoption) (w : WorldState) where
     -- a host of which it holds loses its mark
     unmarked : (old now : List ℕ) (h i : ℕ) → world_of p ss o ≡ w → AreMarked P ss old → i ≡ h → P h (node_at w h) → IsWritten old now i 0 → AreMarked P ss now
@@ -154,6 +173,35 @@ pub still-watched : {p : LinksAndPlan} {ss : List ServedHost} {o : Option Adopti
 still-watched {p} {ss} {o} {w} {h} {i} {x} m q at a e =
     let there : x ≡ slice_index_or ss i no_host = read-within ss i x (within at) at.there in
     subst (λ l. AreWatched l m) (sym (ap (slice_set ss i) (e ∙ there) ∙ set-get_or ss i no_host)) a
+
+-- a host that has nothing staged stays as it is where that is taken from it
+unstaged-same : (n : NodeState) → has_staged n ≡ false → record n { staged = None } ≡ n
+unstaged-same n none = by n.staged refl
+  where
+    by : (o : Option Staged) → n.staged ≡ o → record n { staged = None } ≡ n
+    by None e = ap (λ s. record n { staged = s }) (sym e)
+    by (Some s) e = absurd (true≢false (sym (ap (λ o. is_some o || is_some n.reply || is_some n.part_ack) e) ∙ none))
+
+-- where the staged probe of a host is spent, the marks stay: without a mark it had none
+pub spent-watched : {p : LinksAndPlan} {ss : List ServedHost} {o : Option Adoption} {w : WorldState} {h i : ℕ} {x : ServedHost} (m : HostMarks) (q : ServedHost) → IsAt p ss o w h i x → AreWatched ss m → AreHosts (slice_set ss i q)
+    → q ≡ in_state x (record x.state { staged = None }) → AreWatched (slice_set ss i q) m
+spent-watched {p} {ss} {o} {w} {h} {i} {x} m q at a are e = record {
+  hosts = are;
+  awake = stays-marked IsAtRest ss i m.awake q (within at) (λ r. subst (IsAtRest i) (sym (state r.silent.unstaged)) r) a.awake;
+  busy = stays-marked IsSilent ss i m.busy q (within at) (λ r. subst (IsSilent i) (sym (state r.unstaged)) r) a.busy;
+}
+  where
+    there : x ≡ slice_index_or ss i no_host
+    there = read-within ss i x (within at) at.there
+
+    state : has_staged (slice_index_or ss i no_host).state ≡ false → q.state ≡ (slice_index_or ss i no_host).state
+    state none = ap (λ (s : ServedHost). s.state) e ∙ ap (λ (s : ServedHost). record s.state { staged = None }) there ∙ unstaged-same (slice_index_or ss i no_host).state none
+
+-- a host hears a packet: the marks stay where that leaves it as it was, and else it is marked
+pub heard-watched : {p : LinksAndPlan} {ss : List ServedHost} {o : Option Adoption} {w : WorldState} {h i : ℕ} {x : ServedHost} (m now : HostMarks) (q : ServedHost) (leaves : Bool) → IsAt p ss o w h i x → AreWatched ss m
+    → AreHosts (slice_set ss i q) → (leaves ≡ true → q ≡ x) → (leaves ≡ true → now ≡ m) → (leaves ≡ false → IsMarked m now i) → AreWatched (slice_set ss i q) now
+heard-watched {ss = ss} {i = i} m now q true at a are same stays changes = subst (AreWatched (slice_set ss i q)) (sym (stays refl)) (still-watched m q at a (same refl))
+heard-watched m now q false at a are same stays changes = marked m now q at a are (changes refl)
 
 -- a host that is silent is busy no more
 pub quieted : (p : LinksAndPlan) (ss : List ServedHost) (o : Option Adoption) (w : WorldState) (m : HostMarks) (busy : List ℕ) (h i : ℕ) → world_of p ss o ≡ w → AreWatched ss m → i ≡ h → IsSilentIn w h

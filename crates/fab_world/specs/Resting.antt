@@ -1,6 +1,10 @@
 -- Silent hosts and those at rest, and the marks of those that may not be.
-use Rattle.std.specs.Prelude.{◌≡◌, ℕ, ◌<◌, ◌≤◌, ◌*◌, false, List, length, slice_index_or, is_some}
+use Rattle.std.specs.Prelude.{◌≡◌, ℕ, ◌<◌, ◌≤◌, ◌*◌, Bool, true, false, List, length, slice_index_or, is_some}
 use Rattle.number_marks.specs.Marks.{mark_at, IsWritten}
+use Rattle.world_defs.specs.declared.heard.Heard.{Heard}
+use Rattle.world_defs.specs.declared.heard.Heard.TheVariants.{Reply, Loop, RoutesAck}
+use Rattle.world_defs.specs.declared.arrival.Arrival.{Arrival}
+use Rattle.world_defs.specs.declared.arrival.Arrival.TheVariants.{Heard as Hears, Dropped, NotMine}
 use Rattle.world_defs.specs.Node.{NodeState, has_staged, to_send, unacknowledged_to}
 use Rattle.world_defs.specs.World.{WorldState, host_count, node_at}
 use Rattle.client_host.specs.Held.{ServedHost}
@@ -57,3 +61,16 @@ pub record AreWatched (ss : List ServedHost) (m : HostMarks) : Type 0 where
   pub hosts : AreHosts ss
   pub awake : AreMarked IsAtRest ss m.awake
   pub busy : AreMarked IsSilent ss m.busy
+
+-- an answer was heard to a probe or to a part, which leaves the host as it was
+abbrev pub is_answer : Heard → Bool
+is_answer (Reply number host) = true
+is_answer (Loop number) = true
+is_answer (RoutesAck epoch host part) = true
+is_answer _ = false
+
+-- what was made of a packet leaves the host as it was, whatever the host
+abbrev pub leaves_host : Arrival → Bool
+leaves_host (Hears heard) = is_answer heard
+leaves_host (Dropped drop) = true
+leaves_host NotMine = true

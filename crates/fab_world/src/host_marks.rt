@@ -1,8 +1,10 @@
 //! Which hosts are looked at.
 
-ghost use Rattle.std.specs.Prelude.{◌≡◌, ◌+◌, ◌/◌, length, IfOk};
-ghost use Rattle.fab_world.specs.Resting.{HasPlace, IsMarked};
+ghost use Rattle.std.specs.Prelude.{◌≡◌, ◌+◌, ◌/◌, true, false, length, IfOk};
+ghost use Rattle.fab_world.specs.Resting.{HasPlace, IsMarked, leaves_host};
 
+use crate::hosts::leaves_host;
+use client_host::Arrival;
 use number_marks::Marks;
 use std::alloc::{AllocError, Global};
 
@@ -33,5 +35,16 @@ impl HostMarks {
     {
         self.awake.mark(at);
         self.busy.mark(at);
+    }
+
+    /// A host has heard a packet, so it is looked at if that may have changed it.
+    pub(crate) fn mark_heard(&mut self, at: usize, arrival: Arrival)
+        requires { HasPlace self.old at }
+        ensures stays { leaves_host arrival ≡ true → self.new ≡ self.old }
+        ensures marked { leaves_host arrival ≡ false → IsMarked self.old self.new at }
+    {
+        if !leaves_host(arrival) {
+            self.mark(at);
+        }
     }
 }

@@ -64,7 +64,6 @@ impl Machine {
         let effect = enter(&mut self.links, alloc, c, packet)?;
         let at = usize::from(host);
         self.hosts[at].probe_sent();
-        self.marks.mark(at);
         Ok(effect)
     }
 }

@@ -27,7 +27,7 @@ impl Machine {
             Some((host, packet)) => {
                 let at = usize::from(host);
                 let arrival = self.hosts[at].on_packet(alloc, packet)?;
-                self.marks.mark(at);
+                self.marks.mark_heard(at, arrival);
                 Ok(self.links.heard(c, host, arrival))
             }
             None => Ok(self.links.advance(c)),

@@ -1,11 +1,14 @@
 use Rattle.std.proofs.Common.{◌<◌, length, option_map, ap, sym, subst, ◌∙◌, arith}
 use Rattle.world_defs.specs.Step.{advanced}
 use Rattle.world_defs.specs.Hearing.{hear}
+use Rattle.client_host.specs.Held.{in_state}
 use Rattle.fab_world.specs.Held.{world_of}
+use Rattle.fab_world.specs.Resting.{leaves_host}
 use Rattle.fab_world.proofs.Answers.{on-any-err}
 use Rattle.fab_world.proofs.HostEvents.{heard-is}
 use Rattle.fab_world.proofs.Places.{IsAt, count-is, below-is, kept-in-state, same}
-use Rattle.fab_world.proofs.Resting.{marked, still-watched, has-mark}
+use Rattle.fab_world.proofs.Hearing.{stays-heard}
+use Rattle.fab_world.proofs.Resting.{heard-watched, still-watched, has-mark}
 use Rattle.fab_world.proofs.machine.Machine.advance.Goals as goal
 
 pub reaching-requires : goal.reaching-requires
@@ -20,8 +23,8 @@ advance-requires-clause-there c = subst (λ v. c.args.c < length v.links.channel
 pub advance-requires-clause-inside : goal.advance-requires-clause-inside
 advance-requires-clause-inside c = sym c.reaching.ensures.reaching ∙ ap (option_map (λ t. (t.0, t.1.now))) c.in-None.is
 
-pub mark-requires : goal.mark-requires
-mark-requires c =
+pub mark_heard-requires : goal.mark_heard-requires
+mark_heard-requires c =
     has-mark c.self.inside.links c.self.inside.hosts.items c.self.inside.adopted c.args.self.now c.self.inside.marks c.in-Some.host c.from-at.result c.self.view_is c.self.invariant
     (below-is c.args.self.now c.self.inside.links c.self.inside.hosts.items c.self.inside.adopted c.in-Some.host c.self.view_is c.requires.hosts c.in-Some.ensures.host) c.from-at.ensures
 
@@ -42,7 +45,12 @@ pub invariant_of-self-in-Some : goal.invariant_of-self-in-Some
 invariant_of-self-in-Some c =
     let at : IsAt c.self.inside.links c.self.inside.hosts.items c.self.inside.adopted c.args.self.now c.in-Some.host c.from-at.result c.index_mut.result.now =
     record { is = c.self.view_is; kept = c.self.invariant.hosts; below = below-is c.args.self.now c.self.inside.links c.self.inside.hosts.items c.self.inside.adopted c.in-Some.host c.self.view_is c.requires.hosts c.in-Some.ensures.host; at = c.from-at.ensures; there = c.index_mut.ensures.value } in
-    marked c.self.inside.marks c.mark.new.self c.on_packet.new.self at c.self.invariant (kept-in-state c.on_packet.new.self (hear c.index_mut.result.now.host c.index_mut.result.now.hosts c.index_mut.result.now.state c.in-Some.packet.now).1 at c.in_ok-arrival-in-Some.ensures.after) c.mark.ensures
+    let x = c.index_mut.result.now in
+    let k = c.in_ok-arrival-in-Some.ensures in
+    heard-watched c.self.inside.marks c.mark_heard.new.self c.on_packet.new.self (leaves_host c.in_ok-arrival-in-Some.arrival) at c.self.invariant
+    (kept-in-state c.on_packet.new.self (hear x.host x.hosts x.state c.in-Some.packet.now).1 at k.after)
+    (λ e. k.after ∙ ap (in_state x) (stays-heard x.host x.hosts x.state c.in-Some.packet.now (ap leaves_host (sym k.heard) ∙ e)))
+    c.mark_heard.ensures.stays c.mark_heard.ensures.marked
 
 pub returns-in_err-arrival-in-Some-clause-err : goal.returns-in_err-arrival-in-Some-clause-err
 returns-in_err-arrival-in-Some-clause-err c =

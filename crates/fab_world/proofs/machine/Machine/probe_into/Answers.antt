@@ -5,7 +5,7 @@ use Rattle.world_defs.specs.Node.{probe_packet}
 use Rattle.world_defs.specs.World.{WorldState}
 use Rattle.fab_world.specs.Held.{world_of}
 use Rattle.fab_world.proofs.Places.{IsAt, kept-in-state}
-use Rattle.fab_world.proofs.Resting.{marked}
+use Rattle.fab_world.proofs.Resting.{spent-watched}
 use Rattle.fab_world.proofs.Probing.{probed-is}
 use Rattle.fab_world.proofs.machine.Machine.probe_into.Goals as goal
 
@@ -13,8 +13,8 @@ pub invariant_of-self-2 : goal.invariant_of-self-2
 invariant_of-self-2 c =
     let at : IsAt c.self.inside.links c.self.inside.hosts.items c.self.inside.adopted c.args.self.now c.args.host c.from-at.result c.index_mut.result.now =
     record { is = c.self.view_is; kept = c.self.invariant.hosts; below = c.requires.there; at = c.from-at.ensures; there = c.index_mut.ensures.value } in
-    marked c.self.inside.marks c.mark.new.self c.probe_sent.new.self at c.self.invariant
-    (kept-in-state c.probe_sent.new.self (record c.index_mut.result.now.state { staged = None }) at c.probe_sent.ensures) c.mark.ensures
+    spent-watched c.self.inside.marks c.probe_sent.new.self at c.self.invariant
+    (kept-in-state c.probe_sent.new.self (record c.index_mut.result.now.state { staged = None }) at c.probe_sent.ensures) c.probe_sent.ensures
 
 -- what was made is the ask with the injection
 pub returns-clause-ok : goal.returns-clause-ok
