@@ -1,9 +1,10 @@
-pub mod Tables
-pub mod Queue
-pub mod Owner
-pub mod Listed
-pub mod Ports
 pub mod Bytes
-pub mod Heads
 pub mod Filling
+pub mod Heads
 pub mod Keyed
+pub mod Listed
+pub mod Owner
+pub mod Ports
+pub mod Queue
+pub mod Tables
+pub mod Tallies

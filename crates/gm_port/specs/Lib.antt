@@ -5,3 +5,4 @@ pub mod Opened
 pub mod Refusal
 pub mod Slots
 pub mod Table
+pub mod Tallies

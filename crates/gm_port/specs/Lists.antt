@@ -1,14 +1,15 @@
 -- What the lists of provided tokens and of events hold besides what contracts see.
-use Rattle.std.specs.Prelude.{◌≡◌, ℕ, ◌≤◌, Bool, false, List, [], length, find, nat_eq, Option, Some, None}
+use Rattle.std.specs.Prelude.{◌≡◌, ℕ, ◌≤◌, Bool, false, List, [], length, map, find, nat_eq, Option, Some, None}
 use Rattle.std.specs.List.{AllByRecursion, list_any}
 use Rattle.gm_tokens.specs.Token.{Token}
 use Rattle.gm_defs.specs.declared.frame.FrameHead.{FrameHead}
-use Rattle.gm_defs.specs.Token.{Provided, is_filling_for, takes}
+use Rattle.gm_defs.specs.Token.{Provided, sent_tokens, received_tokens, is_filling_for, takes}
 use Rattle.gm_defs.specs.Port.{with_first, filling_with}
 use Rattle.gm_port.specs.declared.event.PortEvent.{PortEvent as Event}
 use Rattle.gm_port.specs.declared.event.PortEvent.TheVariants.{Sent as SentEvent, Received as ReceivedEvent}
 use Rattle.gm_port.specs.declared.event.ProvidedToken.{ProvidedToken}
 use Rattle.gm_port.specs.Held.{provided_at, provided_of, event_at, event_of}
+use Rattle.gm_port.specs.Tallies.{AreTallied}
 
 -- each token is of this port
 abbrev pub AreOwnTokens : ℕ → ℕ → List ProvidedToken → Type 0
@@ -17,6 +18,14 @@ AreOwnTokens host port rs = AllByRecursion (λ r. provided_at host port (provide
 -- the events are of this port
 abbrev pub AreOwnEvents : ℕ → ℕ → List Event → Type 0
 AreOwnEvents host port es = AllByRecursion (λ e. event_at host port (event_of e) ≡ e) es
+
+-- The events are of this port, there is no more room than for one of each token, and it is counted how many have each
+-- send token, and how many each receive token.
+pub record AreCountedEvents (host port : ℕ) (es : List Event) (room : ℕ) (sent received : List ℕ) : Type 0 where
+  pub own : AreOwnEvents host port es
+  pub few : room ≤ 131070
+  pub sends : AreTallied sent (sent_tokens (map event_of es))
+  pub receives : AreTallied received (received_tokens (map event_of es))
 
 -- The provided tokens are of this port and no more than it has, and there is room for all of them and for the list in
 -- which they are handed back.

@@ -9,6 +9,7 @@ ghost use Rattle.gm_port.specs.Held.{provided_at, provided_at_token, provided_of
 ghost use Rattle.gm_port.specs.Lists.{taking, taking_here, filled_in};
 
 use crate::event::ProvidedToken;
+use crate::tally::Tally;
 use gm_defs::{Filling, FrameHead};
 use gm_tokens::{RecvToken, fits};
 use reg_mem::Reg;
@@ -22,6 +23,8 @@ pub(crate) struct BufferList {
     port: u8,
     limit: u16,
     provided: VecDeque<ProvidedToken>,
+    // How many of them have each number.
+    tally: Tally,
     // Empty: the list in which the tokens are handed back.
     listed: Vec<(RecvToken, Reg)>,
 }
@@ -34,6 +37,7 @@ impl Model for BufferList {
     ghost Value = { Buffers };
 
     ghost use Rattle.gm_port.specs.Lists.{AreBuffers};
+    ghost use Rattle.gm_port.specs.Tallies.{AreTallied, numbers_of};
 
     ghost view = { λ b. record {
       host = b.host;
@@ -43,11 +47,13 @@ impl Model for BufferList {
     } };
 
     ghost invariant = { λ b. AreBuffers b.host b.port b.limit b.provided.items
-        (deque_capacity b.provided) b.listed.items (vec_capacity b.listed) };
+        (deque_capacity b.provided) b.listed.items (vec_capacity b.listed)
+        × AreTallied b.tally (numbers_of b.provided.items) };
 }
 
 impl BufferList {
     /// A list with room for this many tokens.
+    #[tactic(auto, using(crate::proofs::Tallies::tallied_none))]
     pub(crate) fn with_room(
         alloc: Global,
         host: u16,
@@ -56,6 +62,7 @@ impl BufferList {
     ) -> Result<BufferList, AllocError>
         ensures { IfOk result (λ b. b ≡ record { host = host; port = port; limit = limit; provided = [] }) }
     {
+        let tally = Tally::with_room(alloc, limit)?;
         let provided = VecDeque::with_capacity(alloc, usize::from(limit))?;
         match Vec::with_capacity(alloc, usize::from(limit)) {
             Ok(listed) => Ok(BufferList {
@@ -63,6 +70,7 @@ impl BufferList {
                 port,
                 limit,
                 provided,
+                tally,
                 listed,
             }),
             Err(error) => {
@@ -76,7 +84,10 @@ impl BufferList {
     pub(crate) fn has(&self, number: u16) -> bool
         ensures { result ≡ has_number (map (λ r. r.token) self.now.provided) number }
     {
-        has_token(&self.provided, number)
+        match self.tally.has(number) {
+            Some(known) => known,
+            None => has_token(&self.provided, number),
+        }
     }
 
     /// Whether a token takes a fragment.
@@ -101,6 +112,9 @@ impl BufferList {
         requires room { length self.old.provided < self.old.limit }
         ensures { self.new ≡ record self.old { provided = self.old.provided ++ provided_of r ∷ [] } }
     {
+        // No more tokens are provided than a port has, which 16 bits count.
+        let _limit = self.limit;
+        self.tally.add(r.token.number());
         self.provided.push_back_reserved(r);
     }
 
@@ -117,7 +131,10 @@ impl BufferList {
             unreachable!();
         };
         match self.provided.remove(at) {
-            Some(taken) => taken,
+            Some(taken) => {
+                self.tally.remove(taken.token.number());
+                taken
+            }
             None => unreachable!(),
         }
     }
@@ -146,6 +163,7 @@ impl BufferList {
             port: _,
             limit: _,
             provided,
+            tally: _,
             listed,
         } = self;
         list_provided(provided, listed)

@@ -21,6 +21,7 @@
 //! | `sends` | the queue: unfinished sends by token |
 //! | `slots` | where a send's token and buffer lie: the slots of a slab |
 //! | `buffers` | the provided tokens |
+//! | `tally` | how many tokens of a list have each number |
 //! | `events` | the queue of events |
 //! | `port` | the port |
 //! | `laws` | one owner, and bytes that stay, over all ports |
@@ -34,6 +35,7 @@ mod laws;
 mod port;
 mod sends;
 mod slots;
+mod tally;
 
 pub use ask::{CloseRefusal, ProvideRefusal, SendAsk, SendRefusal};
 pub use event::{PortEvent, Wreck};

@@ -64,8 +64,7 @@ impl Port {
                 return Err(error);
             }
         };
-        let limit = usize::from(sends) + usize::from(recvs);
-        match EventQueue::with_room(alloc, host, port, limit) {
+        match EventQueue::with_room(alloc, host, port, sends, recvs) {
             Ok(events) => Ok(Port {
                 sends: send_queue,
                 buffers,

@@ -9,7 +9,7 @@ pub overflow_cast-result : goal.overflow_cast-result
 overflow_cast-result c =
     let is = c.count_filling.ensures in
     let most = count_by-le-length (λ r. is_some r.filling) c.self.inside.provided.items in
-    let few = c.self.invariant.few in
+    let few = c.self.invariant.0.few in
     omega (arith, is, most, few)
 
 pub returns : goal.returns

@@ -5,4 +5,4 @@ use Rattle.gm_port.proofs.buffers.BufferList.into_list.Goals as goal
 
 pub returns : goal.returns
 returns c =
-    subst (λ (b : Buffers). c.list_provided.result.items ≡ map (receive_at b.host b.port) b.provided) c.self.view_is (c.list_provided.ensures ∙ own-list c.self.inside.host c.self.inside.port c.self.inside.provided.items c.self.invariant.own)
+    subst (λ (b : Buffers). c.list_provided.result.items ≡ map (receive_at b.host b.port) b.provided) c.self.view_is (c.list_provided.ensures ∙ own-list c.self.inside.host c.self.inside.port c.self.inside.provided.items c.self.invariant.0.own)
