@@ -28,12 +28,14 @@ use Rattle.run_defs.specs.Run.Does.{determined, maps, circuits, routes}
 use Rattle.run_laws.specs.Acts.{IsActOf}
 use Rattle.run_laws.proofs.OneMapping.{mapping_is_one}
 use Rattle.run_laws.proofs.Reaching.{LastAdoptable, IsLed, run-led, event-bytes}
-use Rattle.event_lists.specs.Events.{asks_events, settle_events, install_events}
+use Rattle.log_defs.specs.Logs as log
 use Rattle.promise_laws.specs.CommandActs.{step_acts, install_now_acts, install_acts, acts_of, StandsFor, HasSoundActs, CommandsHaveSoundActs, RunsEndSound}
 use Rattle.promise_laws.specs.CommandActs.StandsFor.{determined as told, asks}
 use Rattle.message_laws.proofs.Fillings.{coming-tied}
 use Rattle.message_laws.proofs.Sound.{reached-sound}
-use Rattle.event_lists.proofs.Events.{IsDoneBy, settle-done, installed-done}
+use Rattle.log_defs.specs.Row.{IsRow}
+use Rattle.log_defs.proofs.Worlds.{settle-done}
+use Rattle.log_defs.proofs.Asks.{installed-done}
 use Rattle.promise_laws.proofs.Events.{asks-done}
 use Rattle.promise_laws.proofs.OneAction.{acts_are_one_action}
 use Rattle.promise_laws.proofs.Sound.{always_sound}
@@ -58,7 +60,7 @@ by-none w = record { may = tt; there = refl }
 by-event : (w : WorldState) (e : Event) → IsByteEvent e → LeadsBy (Happens e ∷ []) w (step w e).1
 by-event w e low = record { may = (low, tt); there = refl }
 
-by-events : (w v : WorldState) (es : List Event) → IsDoneBy es w v → LeadsBy (map Happens es) w v
+by-events : (w v : WorldState) (es : List Event) → IsRow IsByteEvent w es v → LeadsBy (map Happens es) w v
 by-events w v es d = record { may = may-events w es d.kinds; there = d.there ∙ sym (acted-events w es) }
 
 -- an installation
@@ -71,7 +73,7 @@ install-leads n s tries (Some l) net may = by (not (is_idle s.world.links)) (is_
     by false true e = by-none s.world
     by false false e =
         let w : WorldState = adopted_by s.world l.mapper l.routes in
-        let es : List Event = install_events (adoption_of l) l.hosts tries w in
+        let es : List Event = (log.install (adoption_of l) l.hosts tries w).events in
         let d = by-events w (installed (adoption_of l) l.hosts tries w).1 es (installed-done (adoption_of l) l.hosts tries w) in
         record { may = ((subst (λ k. AreAdoptable k l.routes) (sym net) (may l refl), not-other l.routes s.world.adopted e), d.may); there = d.there }
 
@@ -111,7 +113,7 @@ outcome-acts n s (ProvideCommand h port size prio) of_n net may = by-event s.wor
 outcome-acts n s (SendCommand h port dest dport prio len seed) of_n net may = by-event s.world (Event.Send h port dest dport prio len seed) tt
 outcome-acts n s (Plan ahead kind) of_n net may = record { may = (of_n, tt); there = refl }
 outcome-acts n s (Step line) of_n net may = step-leads s (event_of s.world line) (event-bytes s.world line of_n)
-outcome-acts n s Settle of_n net may = by-events s.world _ (settle_events s.world) (settle-done s.world)
+outcome-acts n s Settle of_n net may = by-events s.world _ (log.settle s.world).events (settle-done s.world)
 outcome-acts n s Finish of_n net may = by-none s.world
 
 -- what a command that is done stands for
@@ -143,10 +145,10 @@ does-stand : {s next : SessionState} {c : Command} {out : List Piece} → (n : N
 does-stand {s = s} {next = next} {c = c} {out = out} n of_n led (determined e) = determined-stands s next c out e (outcome-acts n s c of_n led.session.fabric led.adoptable)
 does-stand {s = s} {next = next} n of_n led (maps {host = host} {depth = depth} {tries = tries} after j m words none made printed left) =
     let walks = map (λ (e : Entry). e.walk) j in
-    let d = by-events s.world (asked_all host tries walks s.world).world (asks_events host tries walks s.world) (asks-done host tries walks s.world) in
+    let d = by-events s.world (asked_all host tries walks s.world).world (log.asks host tries walks s.world).events (asks-done host tries walks s.world) in
     let there : next.world ≡ (asked_all host tries walks s.world).world = ap (λ (x : SessionState). x.world) left ∙ sym (ap (λ (a : AskedAll). a.world) made.asked) in
     record {
-      acts = map Happens (asks_events host tries walks s.world);
+      acts = map Happens (log.asks host tries walks s.world).events;
       are = asks after j m words (idle-there s host none) made refl;
       leads = record { may = d.may; there = there ∙ d.there };
     }
@@ -162,10 +164,10 @@ none-list s host depth tries xs e idle =
     let none : acts_of s (Map host depth tries) ≡ None = ap (λ b. if b then None else Some []) idle in cc
 
 asked-one : (s : SessionState) (host depth tries : ℕ) (xs ys : List Act) (v w : WorldState) (j l : List Entry) (m k : NetMap) (x y : MapWords) → IsMapped host depth tries s.world v j m x → IsMapped host depth tries s.world w l k y
-    → xs ≡ map Happens (asks_events host tries (map (λ e. e.walk) j) s.world) → ys ≡ map Happens (asks_events host tries (map (λ e. e.walk) l) s.world) → ys ≡ xs
+    → xs ≡ map Happens (log.asks host tries (map (λ e. e.walk) j) s.world).events → ys ≡ map Happens (log.asks host tries (map (λ e. e.walk) l) s.world).events → ys ≡ xs
 asked-one s host depth tries xs ys v w j l m k x y first second e f =
     let one = mapping_is_one host depth tries s.world v w j l m k x y first second in
-    f ∙ sym (ap (λ (z : List Entry). map Happens (asks_events host tries (map (λ e. e.walk) z) s.world)) one.1) ∙ sym e
+    f ∙ sym (ap (λ (z : List Entry). map Happens (log.asks host tries (map (λ e. e.walk) z) s.world).events) one.1) ∙ sym e
 
 stands-one : {s : SessionState} {c : Command} {xs ys : List Act} → StandsFor s c xs → StandsFor s c ys → ys ≡ xs
 stands-one {xs = xs} {ys = ys} (told e) (told f) = some-list ys xs (sym f ∙ e)

@@ -11,16 +11,19 @@ use Rattle.growth_laws.proofs.Asks.{ByLast, by_last, push-parts}
 use Rattle.growth_laws.proofs.Asks.ByLast.{empty, pushed}
 use Rattle.growth_laws.proofs.OneJournal.{reached-more}
 use Rattle.world_defs.specs.declared.event.Event.{Event}
+use Rattle.world_defs.specs.EightBits.{IsByteEvent}
 use Rattle.world_defs.specs.World.{WorldState}
 use Rattle.world_defs.specs.Sound.{IsPrefix}
 use Rattle.world_defs.specs.Asking.{ask}
-use Rattle.event_lists.specs.Events.{ask_events, asks_events}
-use Rattle.event_lists.specs.PartWay.{IsPartWay}
-use Rattle.event_lists.proofs.PartWay.{way-start, way-front, way-behind, way-as}
+use Rattle.log_defs.specs.Log.{Log}
+use Rattle.log_defs.specs.Logs as log
+use Rattle.log_defs.specs.Row.{IsPartWay}
+use Rattle.log_defs.proofs.Rows.{asks-row, byte_asks}
+use Rattle.log_laws.proofs.PartWay.{way-start, way-front, way-behind, way-as}
 use Rattle.run_defs.specs.Mapped.{AskedAll, asked_all}
 use Rattle.promise_laws.specs.CutShort.{IsBegunMap}
 use Rattle.promise_laws.specs.CutShort.IsBegunMap.{stopped_between, stopped_within}
-use Rattle.promise_laws.proofs.Events.{asks-done}
+use Rattle.promise_laws.proofs.Events.{asks-log}
 
 -- the walks of a journal
 abbrev walks_of : List Entry → List (List ℤ)
@@ -118,39 +121,41 @@ asked-front host depth tries before (e ∷ i) j u a b g k h =
         record { rest = p.rest; both = there ∙ ap (λ l. e ∷ l) p.both }
 
 -- the events of asks in a row, and of those after them
-asks-append : (host tries : ℕ) (xs ys : List (List ℤ)) (w : WorldState) → asks_events host tries (xs ++ ys) w ≡ asks_events host tries xs w ++ asks_events host tries ys (asked_all host tries xs w).world
+asks-append : (host tries : ℕ) (xs ys : List (List ℤ)) (w : WorldState) → (log.asks host tries (xs ++ ys) w).events ≡ (log.asks host tries xs w).events ++ (log.asks host tries ys (log.asks host tries xs w).world).events
 asks-append host tries [] ys w = refl
 asks-append host tries (x ∷ xs) ys w =
-    let v : WorldState = (ask host tries x w).world in
-    ap (λ l. ask_events host tries x w ++ l) (asks-append host tries xs ys v) ∙ sym (append_assoc (ask_events host tries x w) (asks_events host tries xs v) (asks_events host tries ys (asked_all host tries xs v).world))
+    let one : Log log.Asked = log.ask host tries x w in
+    let more : Log log.AskedAll = log.asks host tries xs one.world in
+    ap (λ l. one.events ++ l) (asks-append host tries xs ys one.world) ∙ sym (append_assoc one.events more.events (log.asks host tries ys more.world).events)
 
 -- part of the way along asks after others
-way-asks : (host tries : ℕ) (w u v : WorldState) (i rest : List Entry) → u ≡ (asked_all host tries (walks_of i) w).world → IsPartWay u (asks_events host tries (walks_of rest) u) v
-    → IsPartWay w (asks_events host tries (walks_of (i ++ rest)) w) v
+way-asks : (host tries : ℕ) (w u v : WorldState) (i rest : List Entry) → u ≡ (asked_all host tries (walks_of i) w).world → IsPartWay u (log.asks host tries (walks_of rest) u).events v
+    → IsPartWay w (log.asks host tries (walks_of (i ++ rest)) w).events v
 way-asks host tries w u v i rest is p =
-    let first : List Event = asks_events host tries (walks_of i) w in
-    let mid : WorldState = (asked_all host tries (walks_of i) w).world in
-    let behind : List Event = asks_events host tries (walks_of rest) mid in
-    way-as w v (asks_events host tries (walks_of (i ++ rest)) w) (first ++ behind)
-    (ap (λ l. asks_events host tries l w) (map-append (λ (e : Entry). e.walk) i rest) ∙ asks-append host tries (walks_of i) (walks_of rest) w)
-    (way-behind w mid v first behind (asks-done host tries (walks_of i) w).there (subst (λ x. IsPartWay x (asks_events host tries (walks_of rest) x) v) is p))
+    let first : List Event = (log.asks host tries (walks_of i) w).events in
+    let mid : WorldState = (log.asks host tries (walks_of i) w).world in
+    let behind : List Event = (log.asks host tries (walks_of rest) mid).events in
+    way-as w v (log.asks host tries (walks_of (i ++ rest)) w).events (first ++ behind)
+    (ap (λ l. (log.asks host tries l w).events) (map-append (λ (e : Entry). e.walk) i rest) ∙ asks-append host tries (walks_of i) (walks_of rest) w)
+    (way-behind w mid v first behind (asks-row {Q = IsByteEvent} byte_asks (λ h walk looped. tt) host tries (walks_of i) w).there
+    (subst (λ x. IsPartWay x (log.asks host tries (walks_of rest) x).events v) (is ∙ ap (λ r. r.world) (asks-log host tries (walks_of i) w)) p))
 
 -- within the next ask after them
-way-within : (host tries : ℕ) (w u v : WorldState) (i rest : List Entry) (x : List ℤ) → u ≡ (asked_all host tries (walks_of i) w).world → IsPartWay u (ask_events host tries x u) v → StartsWith x rest
-    → IsPartWay w (asks_events host tries (walks_of (i ++ rest)) w) v
+way-within : (host tries : ℕ) (w u v : WorldState) (i rest : List Entry) (x : List ℤ) → u ≡ (asked_all host tries (walks_of i) w).world → IsPartWay u (log.ask host tries x u).events v → StartsWith x rest
+    → IsPartWay w (log.asks host tries (walks_of (i ++ rest)) w).events v
 way-within host tries w u v i rest x is way (starts e tail same walk) =
-    let first : IsPartWay u (ask_events host tries e.walk u) v = subst (λ y. IsPartWay u (ask_events host tries y u) v) (sym walk) way in
-    let here : IsPartWay u (asks_events host tries (walks_of (e ∷ tail)) u) v =
-    way-front u v (ask_events host tries e.walk u) (asks_events host tries (walks_of tail) (ask host tries e.walk u).world) first in
-    way-asks host tries w u v i rest is (subst (λ r. IsPartWay u (asks_events host tries (walks_of r) u) v) (sym same) here)
+    let first : IsPartWay u (log.ask host tries e.walk u).events v = subst (λ y. IsPartWay u (log.ask host tries y u).events v) (sym walk) way in
+    let here : IsPartWay u (log.asks host tries (walks_of (e ∷ tail)) u).events v =
+    way-front u v (log.ask host tries e.walk u).events (log.asks host tries (walks_of tail) (log.ask host tries e.walk u).world).events first in
+    way-asks host tries w u v i rest is (subst (λ r. IsPartWay u (log.asks host tries (walks_of r) u).events v) (sym same) here)
 
 pub begun-way : (host depth tries : ℕ) (w v last : WorldState) (j : List Entry) (d : ℕ) → IsGrown host depth j → asked_all host tries (walks_of j) w ≡ record { entries = j; drowned = d; world = last }
-    → IsBegunMap host depth tries w v → IsPartWay w (asks_events host tries (walks_of j) w) v
+    → IsBegunMap host depth tries w v → IsPartWay w (log.asks host tries (walks_of j) w).events v
 begun-way host depth tries w v last j d grown asked (stopped_between i drowned g kept is) =
     let p : IsPrefix i j = asked-front host depth tries [] i j w (ap (λ (a : AskedAll). a.entries) is) (ap (λ (a : AskedAll). a.entries) asked) g kept grown in
-    subst (λ l. IsPartWay w (asks_events host tries (walks_of l) w) v) (sym p.both)
-    (way-asks host tries w v v i p.rest (sym (ap (λ (a : AskedAll). a.world) is)) (way-start v (asks_events host tries (walks_of p.rest) v)))
+    subst (λ l. IsPartWay w (log.asks host tries (walks_of l) w).events v) (sym p.both)
+    (way-asks host tries w v v i p.rest (sym (ap (λ (a : AskedAll). a.world) is)) (way-start v (log.asks host tries (walks_of p.rest) v).events))
 begun-way host depth tries w v last j d grown asked (stopped_within i drowned x u g kept is ask way) =
     let p : IsPrefix i j = asked-front host depth tries [] i j w (ap (λ (a : AskedAll). a.entries) is) (ap (λ (a : AskedAll). a.entries) asked) g (inl kept) grown in
-    subst (λ l. IsPartWay w (asks_events host tries (walks_of l) w) v) (sym p.both)
+    subst (λ l. IsPartWay w (log.asks host tries (walks_of l) w).events v) (sym p.both)
     (way-within host tries w u v i p.rest x (sym (ap (λ (a : AskedAll). a.world) is)) way (grown-next host depth i p.rest x (subst (IsGrown host depth) p.both grown) kept ask))

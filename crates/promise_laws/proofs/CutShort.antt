@@ -10,9 +10,10 @@ use Rattle.world_defs.specs.World.{WorldState, adopted_by}
 use Rattle.world_defs.specs.Step.{after_all}
 use Rattle.world_defs.specs.Sound.{IsSound}
 use Rattle.act_defs.specs.Acts.{Act, Happens, Plans, acted_all}
-use Rattle.event_lists.specs.Events.{asks_events, settle_events, install_events}
-use Rattle.event_lists.specs.PartWay.{IsPartWay}
-use Rattle.event_lists.proofs.Events.{settle-done, installed-done}
+use Rattle.log_defs.specs.Logs as log
+use Rattle.log_defs.specs.Row.{IsPartWay}
+use Rattle.log_defs.proofs.Worlds.{settle-done}
+use Rattle.log_defs.proofs.Asks.{installed-done}
 use Rattle.run_defs.specs.declared.command.Command.{Command}
 use Rattle.run_defs.specs.declared.command.Command.TheVariants.{Walk, Map, Circuit, Routes, Install, Begin as BeginCommand, Close as CloseCommand, Poll as PollCommand, Tokens, Provide as ProvideCommand, Send as SendCommand, Plan, Step, Settle, Finish}
 use Rattle.run_defs.specs.declared.line.MapWords.{MapWords}
@@ -72,7 +73,7 @@ acts-there s (ProvideCommand h port size prio) busy = (Happens (Event.Provide h 
 acts-there s (SendCommand h port dest dport prio len seed) busy = (Happens (Event.Send h port dest dport prio len seed) ∷ [], refl)
 acts-there s (Plan ahead kind) busy = (Plans ahead (fault_of kind) ∷ [], refl)
 acts-there s (Step line) busy = (step_acts (event_of s.world line), refl)
-acts-there s Settle busy = (map Happens (settle_events s.world), refl)
+acts-there s Settle busy = (map Happens (log.settle s.world).events, refl)
 acts-there s Finish busy = ([], refl)
 
 pub cut_unchanged : (s : SessionState) (c : Command) (v : WorldState) → ((host depth tries : ℕ) → c ≡ Map host depth tries → is_idle s.world.links ≡ false) → v ≡ s.world → IsCutShort s c v
@@ -108,7 +109,7 @@ led-install s tries (Some l) = by (not (is_idle s.world.links)) (is_other l.rout
     by false true = refl
     by false false =
         let w : WorldState = adopted_by s.world l.mapper l.routes in
-        let es : List Event = install_events (adoption_of l) l.hosts tries w in
+        let es : List Event = (log.install (adoption_of l) l.hosts tries w).events in
         (installed-done (adoption_of l) l.hosts tries w).there ∙ sym (acted-events w es)
 
 led-in : (s : SessionState) (c : Command) → LedIn s (outcome s c) (acts_of s c)
@@ -125,7 +126,7 @@ led-in s (ProvideCommand h port size prio) = refl
 led-in s (SendCommand h port dest dport prio len seed) = refl
 led-in s (Plan ahead kind) = refl
 led-in s (Step line) = led-step s (event_of s.world line)
-led-in s Settle = (settle-done s.world).there ∙ sym (acted-events s.world (settle_events s.world))
+led-in s Settle = (settle-done s.world).there ∙ sym (acted-events s.world (log.settle s.world).events)
 led-in s Finish = refl
 
 -- a command that was done, but for its text
@@ -137,8 +138,8 @@ cut_done s c o v is same = by (acts_of s c) refl (subst (λ r. LedIn s r (acts_o
     by None there led = absurd led
 
 -- a settle and an installation
-pub cut_settled : (s : SessionState) (v : WorldState) → IsPartWay s.world (settle_events s.world) v → IsCutShort s Settle v
-cut_settled s v p = record { acts = map Happens (settle_events s.world); are = determined refl; way = part-events s.world v (settle_events s.world) p }
+pub cut_settled : (s : SessionState) (v : WorldState) → IsPartWay s.world (log.settle s.world).events v → IsCutShort s Settle v
+cut_settled s v p = record { acts = map Happens (log.settle s.world).events; are = determined refl; way = part-events s.world v (log.settle s.world).events p }
 
 pub cut_installed : (s : SessionState) (tries : ℕ) (v : WorldState) → IsPartActed s.world (install_acts s.world tries s.last_routes) v → IsCutShort s (Install tries) v
 cut_installed s tries v p = record { acts = install_acts s.world tries s.last_routes; are = determined refl; way = p }
@@ -148,10 +149,10 @@ abbrev unless : Bool → Bool → List Act → List Act
 unless busy other acts = if busy then [] else if other then [] else acts
 
 -- along an installation that isn't refused
-pub part-installed : (w u v : WorldState) (l : LastRoutes) (tries : ℕ) → is_idle w.links ≡ true → is_other l.routes w.adopted ≡ false → u ≡ adopted_by w l.mapper l.routes → IsPartWay u (install_events (adoption_of l) l.hosts tries u) v
+pub part-installed : (w u v : WorldState) (l : LastRoutes) (tries : ℕ) → is_idle w.links ≡ true → is_other l.routes w.adopted ≡ false → u ≡ adopted_by w l.mapper l.routes → IsPartWay u (log.install (adoption_of l) l.hosts tries u).events v
     → IsPartActed w (install_acts w tries (Some l)) v
 part-installed w u v l tries idle other led p =
-    let events : WorldState → List Event = install_events (adoption_of l) l.hosts tries in
+    let events : WorldState → List Event = λ x. (log.install (adoption_of l) l.hosts tries x).events in
     let now : List Act = install_now_acts w l tries in
     let are : install_acts w tries (Some l) ≡ now =
     ap (λ b. unless (not b) (is_other l.routes w.adopted) now) idle ∙ ap (λ b. unless false b now) other in
@@ -162,7 +163,7 @@ part-installed w u v l tries idle other led p =
 -- a map that was made, but for its text
 pub cut_mapped : (s : SessionState) (host depth tries : ℕ) (v : WorldState) (j : List Entry) (m : NetMap) (words : MapWords) → is_idle s.world.links ≡ true → IsMapped host depth tries s.world v j m words → IsCutShort s (Map host depth tries) v
 cut_mapped s host depth tries v j m words idle made =
-    let es : List Event = asks_events host tries (map (λ (e : Entry). e.walk) j) s.world in
+    let es : List Event = (log.asks host tries (map (λ (e : Entry). e.walk) j) s.world).events in
     let led : v ≡ after_all s.world es = sym (ap (λ (a : AskedAll). a.world) made.asked) ∙ (asks-done host tries (map (λ (e : Entry). e.walk) j) s.world).there in
     record { acts = map Happens es; are = asks v j m words idle made refl; way = part-events s.world v es (way-whole s.world v es led) }
 
@@ -171,7 +172,7 @@ pub begun_maps_are_cut_short : BegunMapsAreCutShort
 begun_maps_are_cut_short s host depth tries v can begun =
     let h = mapping_exists host depth tries s.world can in
     let k = h.is in
-    let es : List Event = asks_events host tries (map (λ (e : Entry). e.walk) h.journal) s.world in
+    let es : List Event = (log.asks host tries (map (λ (e : Entry). e.walk) h.journal) s.world).events in
     record {
       acts = map Happens es;
       are = asks h.after h.journal h.made h.words can.idle k refl;

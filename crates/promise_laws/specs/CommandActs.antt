@@ -24,7 +24,7 @@ use Rattle.run_defs.specs.Session.{SessionState, LastRoutes}
 use Rattle.run_defs.specs.Outcome.{event_of, fault_of, adoption_of}
 use Rattle.run_defs.specs.Run.{Does, IsRun}
 use Rattle.run_laws.specs.Acts.{IsActOf}
-use Rattle.event_lists.specs.Events.{asks_events, settle_events, install_events}
+use Rattle.log_defs.specs.Logs as log
 use Rattle.promise_laws.specs.OneAction.{IsOneAction}
 
 -- an event that may be none, as acts
@@ -35,7 +35,7 @@ step_acts (Some e) = Happens e ∷ []
 -- the acts of an installation that isn't refused: the last routes are adopted, and then distributed
 abbrev pub install_now_acts : WorldState → LastRoutes → ℕ → List Act
 install_now_acts w l tries = Adopts l.mapper l.routes
-    ∷ map Happens (install_events (adoption_of l) l.hosts tries (adopted_by w l.mapper l.routes))
+    ∷ map Happens (log.install (adoption_of l) l.hosts tries (adopted_by w l.mapper l.routes)).events
 
 -- the acts of an installation: none where it is refused
 abbrev pub install_acts : WorldState → ℕ → Option LastRoutes → List Act
@@ -58,7 +58,7 @@ acts_of s (ProvideCommand h port size prio) = Some (Happens (Provide h port size
 acts_of s (SendCommand h port dest dport prio len seed) = Some (Happens (Send h port dest dport prio len seed) ∷ [])
 acts_of s (Plan ahead kind) = Some (Plans ahead (fault_of kind) ∷ [])
 acts_of s (Step line) = Some (step_acts (event_of s.world line))
-acts_of s Settle = Some (map Happens (settle_events s.world))
+acts_of s Settle = Some (map Happens (log.settle s.world).events)
 acts_of s Finish = Some []
 
 -- The acts that a command stands for in a session. Those of a map that is made are the events of its asks.
@@ -67,7 +67,7 @@ pub data StandsFor (s : SessionState) : Command → List Act → Type 0 where
   asks : {host depth tries : ℕ} {acts : List Act} → (after : WorldState) (j : List Entry) (m : NetMap)
       (words : MapWords)
       → is_idle s.world.links ≡ true → IsMapped host depth tries s.world after j m words
-      → acts ≡ map Happens (asks_events host tries (map (λ e. e.walk) j) s.world)
+      → acts ≡ map Happens (log.asks host tries (map (λ e. e.walk) j) s.world).events
       → StandsFor s (Map host depth tries) acts
 
 -- A command that is done stands for one list of acts. They may happen one after another, and lead to the world after

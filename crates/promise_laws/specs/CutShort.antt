@@ -8,8 +8,8 @@ use Rattle.journal_defs.specs.Growth.{IsGrowing, IsEndedAtLimit, NextAsk, node_l
 use Rattle.world_defs.specs.World.{WorldState}
 use Rattle.world_defs.specs.Sound.{IsPrefix, IsSound}
 use Rattle.act_defs.specs.Acts.{Act, acted_all}
-use Rattle.event_lists.specs.Events.{ask_events}
-use Rattle.event_lists.specs.PartWay.{IsPartWay}
+use Rattle.log_defs.specs.Logs as log
+use Rattle.log_defs.specs.Row.{IsPartWay}
 use Rattle.run_defs.specs.declared.command.Command.{Command}
 use Rattle.run_defs.specs.declared.command.Command.TheVariants.{Map}
 use Rattle.run_defs.specs.Mapped.{asked_all}
@@ -42,7 +42,7 @@ pub data IsBegunMap (host depth tries : ℕ) (w v : WorldState) : Type 0 where
   stopped_within : (j : List Entry) (drowned : ℕ) (x : List ℤ) (between : WorldState) → IsGrowing host depth j
       → length (nodes j) ≤ node_limit
       → asked_all host tries (map (λ e. e.walk) j) w ≡ record { entries = j; drowned = drowned; world = between }
-      → NextAsk host depth j x → IsPartWay between (ask_events host tries x between) v
+      → NextAsk host depth j x → IsPartWay between (log.ask host tries x between).events v
       → IsBegunMap host depth tries w v
 
 -- Where a map can be made, one that was begun and stopped is the command cut short: its asks are the first ones of the

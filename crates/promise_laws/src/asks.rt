@@ -1,4 +1,4 @@
-//! Asks in a row as a list of events: `specs/Events.antt` of `event_lists` has the list.
+//! Asks in a row as one log: `specs/Logs.antt` of `log_defs` has it.
 
 ghost use Rattle.promise_laws.specs.Events.{AsksAreTheirEvents};
 

@@ -5,19 +5,21 @@ use Rattle.journal_defs.specs.declared.entry.Entry.{Entry}
 use Rattle.world_defs.specs.World.{WorldState}
 use Rattle.world_defs.specs.declared.event.Event.{Event}
 use Rattle.world_defs.specs.Step.{step, after_all}
-use Rattle.world_defs.specs.Asking.{Asked, ask}
+use Rattle.world_defs.specs.EightBits.{IsByteEvent}
 use Rattle.world_laws.proofs.Counting.{step-counts}
-use Rattle.ask_laws.proofs.Along.{ask-events}
 use Rattle.map_making.specs.declared.making.MadeMap.{MadeMap}
 use Rattle.map_making.specs.Made.{IsMade}
 use Rattle.run_session.specs.declared.mapping.MapOrder.{MapOrder}
 use Rattle.run_session.specs.Told.{IsMadeOver}
-use Rattle.run_defs.specs.Mapped.{AskedAll, one_if, asked_all, IsCalled}
+use Rattle.run_defs.specs.Mapped.{AskedAll, one_if, with_ask, asked_all, IsCalled}
 use Rattle.mapper.specs.Asks.{AreAsked}
 use Rattle.mapper.specs.Growths.{StopsShort}
 use Rattle.mapper.specs.Growths.StopsShort.{between_asks, within_ask}
-use Rattle.event_lists.specs.Events.{ask_events}
-use Rattle.event_lists.specs.PartWay.{IsPartWay}
+use Rattle.log_defs.specs.Log.{Log}
+use Rattle.log_defs.specs.Logs as log
+use Rattle.log_defs.proofs.Rows.{ask-row, byte_asks}
+use Rattle.log_defs.proofs.Asks.{ask-log}
+use Rattle.log_defs.specs.Row.{IsPartWay}
 use Rattle.promise_laws.specs.CutShort.{IsBegunMap}
 use Rattle.promise_laws.specs.CutShort.IsBegunMap.{stopped_between, stopped_within}
 use Rattle.world_asking.specs.Prober.{WorldAsking, IsAsked, IsCutAsk, next_ask, after_ask}
@@ -37,11 +39,11 @@ events-rise : (w : WorldState) (es : List Event) → w.injected ≤ (after_all w
 events-rise w [] = omega arith
 events-rise w (e ∷ es) = let a = (step-counts w e).injected in let b = events-rise (step w e).1 es in omega (arith, a, b)
 
-ask-rises : (w : WorldState) (mapper tries : ℕ) (walk : List ℤ) → w.injected ≤ (ask mapper tries walk w).world.injected
+ask-rises : (w : WorldState) (mapper tries : ℕ) (walk : List ℤ) → w.injected ≤ (log.ask mapper tries walk w).world.injected
 ask-rises w mapper tries walk =
-    let r = ask-events w mapper tries walk in
-    let e : (ask mapper tries walk w).world.injected ≡ (after_all w r.events).injected = ap (λ v. v.injected) r.there in
-    let k = events-rise w r.events in
+    let l : Log log.Asked = log.ask mapper tries walk w in
+    let e : l.world.injected ≡ (after_all w l.events).injected = ap (λ v. v.injected) (ask-row {Q = IsByteEvent} byte_asks (λ h wk looped. tt) mapper tries walk w).there in
+    let k = events-rise w l.events in
     omega (arith, e, k)
 
 counted-on : (b : Bool) (before between after more : ℕ) → between ≡ (if b then one_more before else before) → after ≡ min (between + more) (2 ^ 64 - 1) → after ≡ min (before + (one_if b + more)) (2 ^ 64 - 1)
@@ -63,7 +65,8 @@ came-from s [] t low same = record {
   rises = let e : t.world.injected ≡ s.world.injected = sym (ap (λ u. u.world.injected) same) in omega (arith, e);
 }
 came-from s (e ∷ rest) t low (between, is, more) =
-    let a : Asked = next_ask s e.walk in
+    let l : Log log.Asked = next_ask s e.walk in
+    let a : log.Asked = l.value in
     let at : between ≡ after_ask s e.walk = is.led in
     let count : between.drowned ≡ (if a.drowned then one_more s.drowned else s.drowned) = ap (λ u. u.drowned) at in
     let below : between.drowned < 2 ^ 64 = count-below a.drowned s.drowned between.drowned low count in
@@ -71,13 +74,14 @@ came-from s (e ∷ rest) t low (between, is, more) =
     let few = r.few in
     let one = one_if-few a.drowned in
     let first = ask-rises s.world s.host s.tries e.walk in
-    let here : between.world.injected ≡ a.world.injected = ap (λ u. u.world.injected) at in
+    let here : between.world.injected ≡ l.world.injected = ap (λ u. u.world.injected) at in
     let later = r.rises in
-    let rest_is : asked_all s.host s.tries (map (λ x. x.walk) rest) a.world ≡ record { entries = rest; drowned = r.drowned; world = t.world } =
+    let rest_is : asked_all s.host s.tries (map (λ x. x.walk) rest) l.world ≡ record { entries = rest; drowned = r.drowned; world = t.world } =
     ap (λ (u : WorldAsking). asked_all u.host u.tries (map (λ x. x.walk) rest) u.world) (sym at) ∙ r.asked in
     record {
       drowned = one_if a.drowned + r.drowned;
-      asked = ap (λ (x : AskedAll). record { entries = record { walk = e.walk; answer = a.answer } ∷ x.entries; drowned = one_if a.drowned + x.drowned; world = x.world }) rest_is
+      asked = ap (λ x. with_ask e.walk x (asked_all s.host s.tries (map (λ y. y.walk) rest))) (ask-log s.host s.tries e.walk s.world)
+          ∙ ap (λ (x : AskedAll). record { entries = record { walk = e.walk; answer = a.answer } ∷ x.entries; drowned = one_if a.drowned + x.drowned; world = x.world }) rest_is
           ∙ ap (λ y. record { entries = record { walk = e.walk; answer = y } ∷ rest; drowned = one_if a.drowned + r.drowned; world = t.world }) (sym is.told);
       few = omega (arith, few, one);
       counted = counted-on a.drowned s.drowned between.drowned t.drowned r.drowned count r.counted;
@@ -143,9 +147,9 @@ begun-over s t depth none (between_asks more growing kept led) =
     stopped_between more r.drowned growing kept r.asked
 begun-over s t depth none (within_ask more x between growing kept led ask cut) =
     let r = came-from s more between (omega (arith, none)) led in
-    let way : IsPartWay between.world (ask_events s.host s.tries x between.world) t.world =
-    subst (λ h. IsPartWay between.world (ask_events h s.tries x between.world) t.world) r.host
-    (subst (λ k. IsPartWay between.world (ask_events between.host k x between.world) t.world) r.tries cut.way) in
+    let way : IsPartWay between.world (log.ask s.host s.tries x between.world).events t.world =
+    subst (λ h. IsPartWay between.world (log.ask h s.tries x between.world).events t.world) r.host
+    (subst (λ k. IsPartWay between.world (log.ask between.host k x between.world).events t.world) r.tries cut.way) in
     stopped_within more r.drowned x between.world growing kept r.asked ask way
 
 pub begun-from : (w : WorldState) (order : MapOrder) (s t : WorldAsking) (after : WorldState) → s ≡ record { world = w; host = order.host; tries = order.tries; drowned = 0 } → after ≡ t.world

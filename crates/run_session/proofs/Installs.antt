@@ -5,9 +5,9 @@ use Rattle.link_defs.specs.Links.{is_idle}
 use Rattle.world_defs.specs.World.{WorldState, fabric_of, adopted_by}
 use Rattle.world_defs.specs.Table.{Adoption, is_other}
 use Rattle.world_defs.specs.Install.{installed}
-use Rattle.event_lists.specs.Events.{install_events}
-use Rattle.event_lists.specs.PartWay.{IsPartWay}
-use Rattle.event_lists.proofs.Events.{installed-done}
+use Rattle.log_defs.specs.Logs as log
+use Rattle.log_defs.specs.Row.{IsPartWay}
+use Rattle.log_defs.proofs.Asks.{installed-done}
 use Rattle.run_defs.specs.declared.command.Command.TheVariants.{Install}
 use Rattle.run_defs.specs.declared.line.Line.TheVariants.{Installed, InstallRefused}
 use Rattle.run_defs.specs.declared.line.InstallCause.{InstallCause}
@@ -92,22 +92,22 @@ installed_so w v made found tries p told =
     }
 
 -- an installation of adopted routes that ran out of memory, or was made and its text ran out of it, is part of the way along its events
-pub installed-part : (w after : WorldState) (l : LastRoutes) (tries : ℕ) (hosts : List ℕ) → w.adopted ≡ Some (adoption_of l) → IfSome w.adopted (λ a. IsPartWay w (install_events a hosts tries w) after) → hosts ≡ l.hosts
-    → IsPartWay w (install_events (adoption_of l) l.hosts tries w) after
+pub installed-part : (w after : WorldState) (l : LastRoutes) (tries : ℕ) (hosts : List ℕ) → w.adopted ≡ Some (adoption_of l) → IfSome w.adopted (λ a. IsPartWay w (log.install a hosts tries w).events after) → hosts ≡ l.hosts
+    → IsPartWay w (log.install (adoption_of l) l.hosts tries w).events after
 installed-part w after l tries hosts adopted way same =
-    subst (λ (hs : List ℕ). IsPartWay w (install_events (adoption_of l) hs tries w) after) same
-    (subst (λ (o : Option Adoption). IfSome o (λ a. IsPartWay w (install_events a hosts tries w) after)) adopted way)
+    subst (λ (hs : List ℕ). IsPartWay w (log.install (adoption_of l) hs tries w).events after) same
+    (subst (λ (o : Option Adoption). IfSome o (λ a. IsPartWay w (log.install a hosts tries w).events after)) adopted way)
 
 pub installed-whole : (w after : WorldState) (l : LastRoutes) (tries acked : ℕ) (hosts : List ℕ) → w.adopted ≡ Some (adoption_of l) → IfSome w.adopted (λ a. installed a hosts tries w ≡ (acked, after)) → hosts ≡ l.hosts
-    → IsPartWay w (install_events (adoption_of l) l.hosts tries w) after
+    → IsPartWay w (log.install (adoption_of l) l.hosts tries w).events after
 installed-whole w after l tries acked hosts adopted counted same =
     let is : installed (adoption_of l) hosts tries w ≡ (acked, after) = subst (λ (o : Option Adoption). IfSome o (λ a. installed a hosts tries w ≡ (acked, after))) adopted counted in
-    subst (λ (hs : List ℕ). IsPartWay w (install_events (adoption_of l) hs tries w) after) same
-    (way-whole w after (install_events (adoption_of l) hosts tries w) (sym (ap (λ (p : ℕ × WorldState). p.1) is) ∙ (installed-done (adoption_of l) hosts tries w).there))
+    subst (λ (hs : List ℕ). IsPartWay w (log.install (adoption_of l) hs tries w).events after) same
+    (way-whole w after (log.install (adoption_of l) hosts tries w).events (sym (ap (λ (p : ℕ × WorldState). p.1) is) ∙ (installed-done (adoption_of l) hosts tries w).there))
 
 -- where the last routes were adopted, and where others were
 pub adopted-cut : (w mid v : WorldState) (l : LastRoutes) (tries : ℕ) (adopted : Bool) → adopted ≡ true → is_idle w.links ≡ true → is_other l.routes w.adopted ≡ not adopted → mid ≡ (if adopted then adopted_by w l.mapper l.routes else w)
-    → IsPartWay mid (install_events (adoption_of l) l.hosts tries mid) v → IsPartActed w (install_acts w tries (Some l)) v
+    → IsPartWay mid (log.install (adoption_of l) l.hosts tries mid).events v → IsPartActed w (install_acts w tries (Some l)) v
 adopted-cut w mid v l tries true is idle other led p = part-installed w mid v l tries idle other led p
 adopted-cut w mid v l tries false is idle other led p = cc
 

@@ -3,8 +3,8 @@
 ghost use Rattle.std.specs.Prelude.{◌≡◌, ◌≤◌, ◌∷◌, [], true, not, Some, if◌then◌else◌, IfOk, OnErr};
 ghost use Rattle.link_defs.specs.Links.{is_idle};
 ghost use Rattle.world_defs.specs.World.{fabric_of, adopted_by};
-ghost use Rattle.event_lists.specs.Events.{install_events};
-ghost use Rattle.event_lists.specs.PartWay.{IsPartWay};
+ghost use Rattle.log_defs.specs.Logs as log;
+ghost use Rattle.log_defs.specs.Row.{IsPartWay};
 ghost use Rattle.run_defs.specs.Output.{OneLine};
 ghost use Rattle.run_defs.specs.Outcome.{adoption_of};
 ghost use Rattle.world_defs.specs.Table.{is_other};
@@ -127,7 +127,8 @@ fn install_adopted(
     requires some { 1 ≤ tries }
     requires few { tries ≤ 8 }
     ensures told { IfOk result (λ p. AreInstalledTold w.old l.now tries w.new p) }
-    ensures err { OnErr result (IsPartWay w.old (install_events (adoption_of l.now) l.now.hosts tries w.old) w.new) }
+    ensures err { OnErr result (IsPartWay w.old
+        (log.install (adoption_of l.now) l.now.hosts tries w.old).events w.new) }
     ensures fabric { fabric_of w.new ≡ fabric_of w.old }
 {
     w.moment();

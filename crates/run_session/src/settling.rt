@@ -2,8 +2,8 @@
 
 ghost use Rattle.std.specs.Prelude.{◌≡◌, IfOk, OnErr};
 ghost use Rattle.world_defs.specs.World.{fabric_of};
-ghost use Rattle.event_lists.specs.Events.{settle_events};
-ghost use Rattle.event_lists.specs.PartWay.{IsPartWay};
+ghost use Rattle.log_defs.specs.Logs as log;
+ghost use Rattle.log_defs.specs.Row.{IsPartWay};
 ghost use Rattle.run_defs.specs.declared.command.Command.TheVariants.{Settle};
 ghost use Rattle.world_commands.specs.Done.{IsDone};
 
@@ -18,7 +18,7 @@ use world_drain::settle;
 #[tactic(auto, using(crate::proofs::Obeying::settled_so))]
 pub(crate) fn settle_text(alloc: Global, w: &mut World) -> Result<Printed, AllocError>
     ensures done { IfOk result (λ p. IsDone Settle w.old w.new p) }
-    ensures err { OnErr result (IsPartWay w.old (settle_events w.old) w.new) }
+    ensures err { OnErr result (IsPartWay w.old (log.settle w.old).events w.new) }
     ensures fabric { fabric_of w.new ≡ fabric_of w.old }
 {
     let settled = settle(alloc, w)?;

@@ -5,12 +5,14 @@ use Rattle.std.proofs.lemmas.Bool.Decides.{nat_tests}
 use Rattle.std.proofs.lemmas.List.{drop_more}
 use Rattle.world_defs.specs.Table.{Adoption}
 use Rattle.world_defs.specs.World.{WorldState}
-use Rattle.world_defs.specs.Install.{hosts_installed}
+use Rattle.log_defs.specs.Log.{Log, still}
+use Rattle.log_defs.specs.Logs as log
+use Rattle.log_defs.specs.Laws.{came_to}
 use Rattle.route_install.specs.declared.installer.Work.{Work}
 use Rattle.route_install.specs.Installing.{Installation, AreHosts, is_acked, is_done, acked_of}
 use Rattle.table_installing.specs.Installing.{has_parts, acked_among}
 use Rattle.table_installing.proofs.Lefts.{acked_works, all_left, all-done}
-use Rattle.table_installing.proofs.Serving.{without, IsServing, and_more, hosts-left}
+use Rattle.table_installing.proofs.Serving.{without, IsServing}
 
 -- an installation of these works
 abbrev over : ℕ → List Work → Installation
@@ -100,11 +102,9 @@ one-few false = omega arith
 
 -- where no part is awaited any more, the installation has come to its end
 pub served-all : (a : Adoption) (tries : ℕ) (hosts : List ℕ) (first now : WorldState) (i : Installation) → IsServing a tries hosts first now i → i.tries ≡ tries → AreHosts hosts → map (λ k. k.host) i.works ≡ filter (has_parts (Some a)) hosts
-    → list_all (is_done i.tries) i.works ≡ true → hosts_installed a tries hosts first ≡ (acked_among i hosts, now)
+    → list_all (is_done i.tries) i.works ≡ true → came_to (log.hosts a tries hosts first) ≡ (acked_among i hosts, now)
 served-all a tries hosts first now i s same rise of done =
     let n : ℕ = without (Some a) hosts in
-    let ended : all_left a.mapper tries i.works now ≡ (acked_works i.works, now) =
+    let ended : all_left a.mapper tries i.works now ≡ still (acked_works i.works) now =
     ap (λ m. all_left a.mapper m i.works now) (sym same) ∙ all-done a.mapper i.tries i.works now done in
-    hosts-left a tries hosts first
-    ∙ ap (and_more n) (sym s.left ∙ ended)
-    ∙ ap (λ (m : ℕ). (m, now)) (sym (counts (Some a) i.tries hosts i.works rise of))
+    ap came_to s.all ∙ ap (λ (l : Log ℕ). (n + l.value, l.world)) ended ∙ ap (λ (m : ℕ). (m, now)) (sym (counts (Some a) i.tries hosts i.works rise of))

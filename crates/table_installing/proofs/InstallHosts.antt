@@ -5,18 +5,20 @@ use Rattle.std.specs.List.{AllByRecursion, list_any, range_with_len}
 use Rattle.std.proofs.lemmas.Bool.Decides.{nat_tests}
 use Rattle.net_defs.proofs.Distinct.{all-weaker}
 use Rattle.net_defs.specs.declared.route.Route.{Route}
-use Rattle.link_defs.specs.Links.{is_idle}
 use Rattle.world_defs.specs.Table.{Adoption, part_count, entries_from}
 use Rattle.world_defs.specs.World.{WorldState, fabric_of, host_count}
 use Rattle.world_defs.specs.Asking.{all_given_up}
-use Rattle.world_defs.specs.Install.{parts_of, hosts_installed, installed}
+use Rattle.world_defs.specs.EightBits.{IsByteEvent}
+use Rattle.world_defs.specs.Install.{parts_of, installed}
+use Rattle.log_defs.specs.Laws.{came_to}
+use Rattle.log_defs.proofs.Rows.{hosts-row, byte_asks}
+use Rattle.log_defs.proofs.Asks.{install-log}
 use Rattle.route_install.specs.Installing.{AreHosts}
 use Rattle.adopted_routes.specs.Adopting.{is_among, IsSetOfHosts, part_count_for}
-use Rattle.event_lists.specs.Events.{install_events}
-use Rattle.event_lists.specs.PartWay.{IsPartWay}
-use Rattle.fab_world.specs.Held.{IsMoment}
+use Rattle.log_defs.specs.Logs as log
+use Rattle.log_defs.specs.Row.{IsPartWay}
+use Rattle.fab_world.specs.Held.{IsMoment, IsLater}
 use Rattle.table_installing.specs.Installing.{CanInstall}
-use Rattle.table_installing.proofs.Installs.{installed-idle}
 
 -- the hosts among a set's are hosts
 among-there : (n mapper : ℕ) (routes : List Route) (h : ℕ) → mapper < n → AllByRecursion (λ r. (r.from < n) × (r.to < n)) routes → is_among mapper routes h ≡ true → h < n
@@ -101,19 +103,24 @@ parts-are a dst = by (nat_eq dst a.mapper)
     by false = refl
 
 -- part of the way along an installation, where routes are adopted
-pub cut-of : (w v : WorldState) (hosts : List ℕ) (tries : ℕ) (o : Option Adoption) → w.adopted ≡ o → ((a : Adoption) → w.adopted ≡ Some a → IsPartWay w (install_events a hosts tries w) v)
-    → IfSome o (λ a. IsPartWay w (install_events a hosts tries w) v)
+pub cut-of : (w v : WorldState) (hosts : List ℕ) (tries : ℕ) (o : Option Adoption) → w.adopted ≡ o → ((a : Adoption) → w.adopted ≡ Some a → IsPartWay w (log.install a hosts tries w).events v)
+    → IfSome o (λ a. IsPartWay w (log.install a hosts tries w).events v)
 cut-of w v hosts tries None is way = tt
 cut-of w v hosts tries (Some a) is way = way a is
 
 -- an installation after the hosts' giving up
 pub told : (w v u : WorldState) (hosts : List ℕ) (tries acked : ℕ) (o : Option Adoption) → w.adopted ≡ o → v ≡ all_given_up w → v.adopted ≡ w.adopted
-    → ((a : Adoption) → v.adopted ≡ Some a → hosts_installed a tries hosts v ≡ (acked, u)) → IfSome o (λ a. installed a hosts tries w ≡ (acked, u))
-unfolding installed
+    → ((a : Adoption) → v.adopted ≡ Some a → came_to (log.hosts a tries hosts v) ≡ (acked, u)) → IfSome o (λ a. installed a hosts tries w ≡ (acked, u))
+unfolding log.install
 told w v u hosts tries acked None is given same all = tt
-told w v u hosts tries acked (Some a) is given same all = ap (hosts_installed a tries hosts) (sym given) ∙ all a (same ∙ is)
+told w v u hosts tries acked (Some a) is given same all = install-log a hosts tries w ∙ ap (λ x. came_to (log.hosts a tries hosts x)) (sym given) ∙ all a (same ∙ is)
 
--- it leaves the links idle
-pub idle-behind : (w u : WorldState) (hosts : List ℕ) (tries acked : ℕ) (o : Option Adoption) → IsMoment w → is_idle w.links ≡ true → IsSome o → IfSome o (λ a. installed a hosts tries w ≡ (acked, u)) → is_idle u.links ≡ true
-idle-behind w u hosts tries acked None m idle some is = absurd (true≢false (sym some))
-idle-behind w u hosts tries acked (Some a) m idle some is = ap (λ r. is_idle r.1.links) (sym is) ∙ installed-idle a hosts tries w m.world idle
+-- hosts that are served lead on by events
+pub hosts-later : (a : Adoption) (tries : ℕ) (hosts : List ℕ) (w v : WorldState) (acked : ℕ) → came_to (log.hosts a tries hosts w) ≡ (acked, v) → IsLater w v
+hosts-later a tries hosts w v acked is =
+    ((log.hosts a tries hosts w).events, sym (ap (λ p. p.1) is) ∙ (hosts-row {Q = IsByteEvent} byte_asks (λ dst part. tt) a tries hosts w).there)
+
+-- what routes of one adopter make later, adopted routes of it make later
+pub adopted-later : (w v : WorldState) (o : Option Adoption) (mapper : ℕ) → option_map (λ a. a.mapper) o ≡ Some mapper → ((a : Adoption) → o ≡ Some a → IsLater w v) → IsLater w v
+adopted-later w v None mapper e later = cc
+adopted-later w v (Some a) mapper e later = later a refl

@@ -3,21 +3,22 @@ use Rattle.std.proofs.Common.{◌≡◌, ◌<◌, ◌≤◌, ◌+◌, ◌-◌, �
 use Rattle.std.specs.Prelude.{find, option_map}
 use Rattle.std.specs.List.{range_with_len, list_all, filter, AllByRecursion}
 use Rattle.std.proofs.lemmas.Bool.Decides.{nat_tests}
-use Rattle.world_defs.specs.declared.event.Event.{Event}
+use Rattle.world_defs.specs.EightBits.{IsByteEvent}
 use Rattle.world_defs.specs.Table.{Adoption}
 use Rattle.world_defs.specs.World.{WorldState}
-use Rattle.world_defs.specs.Install.{part_try, parts_installed, host_counted, hosts_installed}
-use Rattle.event_lists.specs.Events.{part_try_events, parts_events, hosts_events}
-use Rattle.event_lists.specs.PartWay.{IsPartWay}
-use Rattle.event_lists.proofs.Events.{part_try-done}
-use Rattle.event_lists.proofs.PartWay.{way-front, way-behind, way-as}
+use Rattle.log_defs.specs.Log.{Log, told as tell}
+use Rattle.log_defs.specs.Logs as log
+use Rattle.log_defs.specs.Row.{IsPartWay}
+use Rattle.log_defs.proofs.Rows.{part_try-row, byte_asks}
+use Rattle.log_laws.proofs.PartWay.{way-front, way-as}
+use Rattle.log_laws.proofs.UnderWay.{UnderWay, under_way-on, under_way-cut}
 use Rattle.route_install.specs.declared.installer.Work.{Work}
 use Rattle.route_install.specs.Installing.{Installation, AreOpen, new_work, is_done, first_open, awaited, is_awaited, one_acked, changed}
 use Rattle.route_install.proofs.Works.{open-undone}
 use Rattle.adopted_routes.specs.Adopting.{part_count_for}
 use Rattle.table_installing.specs.Installing.{has_parts, works_of, after_try}
 use Rattle.table_installing.proofs.InstallHosts.{parts-are}
-use Rattle.table_installing.proofs.Lefts.{left_of, all_left, all_events, told, new-left, new-events, try-left, try-events, all-on, all-events}
+use Rattle.table_installing.proofs.Lefts.{left_of, all_left, behind, counted, told, new-left, try-left, all-on}
 
 -- ---- where it begins
 -- how many of these hosts are sent no parts
@@ -25,67 +26,36 @@ abbrev pub without : Option Adoption → List ℕ → ℕ
 without o [] = 0
 without o (h ∷ hs) = (if has_parts o h then 0 else 1) + without o hs
 
--- hosts that are sent no parts count at once
-abbrev pub and_more : ℕ → ℕ × WorldState → ℕ × WorldState
-and_more n r = (n + r.0, r.1)
-
-counted-more : (n : ℕ) (r : Bool × WorldState) (s : WorldState → ℕ × WorldState) → host_counted r (λ v. and_more n (s v)) ≡ and_more (0 + n) (host_counted r s)
-counted-more n (true, v) s = let e : n + (s v).0 + 1 ≡ 0 + n + ((s v).0 + 1) = omega arith in ap (λ (m : ℕ). (m, (s v).1)) e
-counted-more n (false, v) s = let e : n + (s v).0 ≡ 0 + n + (s v).0 = omega arith in ap (λ (m : ℕ). (m, (s v).1)) e
-
-same-rest : (r : Bool × WorldState) (s t : WorldState → ℕ × WorldState) → ((v : WorldState) → s v ≡ t v) → host_counted r s ≡ host_counted r t
-same-rest (true, v) s t same = ap (λ (x : ℕ × WorldState). (x.0 + 1, x.1)) (same v)
-same-rest (false, v) s t same = same v
-
--- the works of hosts, and the hosts, come to the same
-pub hosts-left : (a : Adoption) (tries : ℕ) (hosts : List ℕ) (w : WorldState) → hosts_installed a tries hosts w ≡ and_more (without (Some a) hosts) (all_left a.mapper tries (works_of (Some a) hosts) w)
+-- the works of hosts, and the hosts, come to the same, but for those that are sent no parts
+pub hosts-left : (a : Adoption) (tries : ℕ) (hosts : List ℕ) (w : WorldState) → log.hosts a tries hosts w ≡ tell (λ n. without (Some a) hosts + n) (all_left a.mapper tries (works_of (Some a) hosts) w)
 hosts-left a tries [] w = refl
 hosts-left a tries (h ∷ hs) w =
-    ap (λ ps. host_counted (parts_installed a.mapper h tries ps w) (hosts_installed a tries hs)) (sym (parts-are a h))
-    ∙ same-rest (parts_installed a.mapper h tries (range_with_len 0 n) w) (hosts_installed a tries hs) (λ v. and_more (without (Some a) hs) (rest v)) (hosts-left a tries hs)
+    ap (λ ps. counted (log.parts a.mapper h tries ps w) (log.hosts a tries hs)) (sym (parts-are a h))
+    ∙ ap (onto (log.parts a.mapper h tries (range_with_len 0 n) w)) (hosts-left a tries hs (log.parts a.mapper h tries (range_with_len 0 n) w).world)
     ∙ by (nat_lt 0 n) refl
   where
     n : ℕ
     n = part_count_for (Some a) h
 
-    rest : WorldState → ℕ × WorldState
-    rest = all_left a.mapper tries (works_of (Some a) hs)
+    rest : WorldState → Log ℕ
+    rest v = tell (λ m. without (Some a) hs + m) (all_left a.mapper tries (works_of (Some a) hs) v)
+
+    onto : Log Bool → Log ℕ → Log ℕ
+    onto l m = record { value = (if l.value then 1 else 0) + m.value; events = l.events ++ m.events; world = m.world }
 
     by : (b : Bool) → nat_lt 0 n ≡ b
-        → host_counted (parts_installed a.mapper h tries (range_with_len 0 n) w) (λ v. and_more (without (Some a) hs) (rest v))
-        ≡ and_more ((if b then 0 else 1) + without (Some a) hs) (all_left a.mapper tries (map (λ g. new_work (part_count_for (Some a) g) g) (if b then h ∷ filter (has_parts (Some a)) hs else filter (has_parts (Some a)) hs)) w)
+        → counted (log.parts a.mapper h tries (range_with_len 0 n) w) rest
+        ≡ tell (λ m. ((if b then 0 else 1) + without (Some a) hs) + m) (all_left a.mapper tries (map (λ g. new_work (part_count_for (Some a) g) g) (if b then h ∷ filter (has_parts (Some a)) hs else filter (has_parts (Some a)) hs)) w)
     by true e =
-        counted-more (without (Some a) hs) (parts_installed a.mapper h tries (range_with_len 0 n) w) rest
-        ∙ ap (λ r. and_more (0 + without (Some a) hs) (host_counted r rest)) (sym (new-left a.mapper tries h n w))
+        let l : Log Bool = left_of a.mapper tries (new_work n h) w in
+        let m : Log ℕ = all_left a.mapper tries (works_of (Some a) hs) l.world in
+        let sum : (if l.value then 1 else 0) + (without (Some a) hs + m.value) ≡ (0 + without (Some a) hs) + ((if l.value then 1 else 0) + m.value) = omega arith in
+        ap (λ r. counted r rest) (sym (new-left a.mapper tries h n w)) ∙ ap (λ k. record { value = k; events = l.events ++ m.events; world = m.world }) sum
     by false e =
         let none : n ≡ 0 = grind (arith, nat_tests) in
-        let one : without (Some a) hs + (rest w).0 + 1 ≡ 1 + without (Some a) hs + (rest w).0 = omega arith in
-        ap (λ k. host_counted (parts_installed a.mapper h tries (range_with_len 0 k) w) (λ v. and_more (without (Some a) hs) (rest v))) none
-        ∙ ap (λ (m : ℕ). (m, (rest w).1)) one
-
--- and so do their events
-pub hosts-events : (a : Adoption) (tries : ℕ) (hosts : List ℕ) (w : WorldState) → hosts_events a tries hosts w ≡ all_events a.mapper tries (works_of (Some a) hosts) w
-hosts-events a tries [] w = refl
-hosts-events a tries (h ∷ hs) w =
-    ap (λ ps. parts_events a.mapper h tries ps w ++ hosts_events a tries hs (parts_installed a.mapper h tries ps w).1) (sym (parts-are a h))
-    ∙ ap (λ es. parts_events a.mapper h tries (range_with_len 0 n) w ++ es) (hosts-events a tries hs (parts_installed a.mapper h tries (range_with_len 0 n) w).1)
-    ∙ by (nat_lt 0 n) refl
-  where
-    n : ℕ
-    n = part_count_for (Some a) h
-
-    rest : WorldState → List Event
-    rest = all_events a.mapper tries (works_of (Some a) hs)
-
-    by : (b : Bool) → nat_lt 0 n ≡ b
-        → parts_events a.mapper h tries (range_with_len 0 n) w ++ rest (parts_installed a.mapper h tries (range_with_len 0 n) w).1
-        ≡ all_events a.mapper tries (map (λ g. new_work (part_count_for (Some a) g) g) (if b then h ∷ filter (has_parts (Some a)) hs else filter (has_parts (Some a)) hs)) w
-    by true e =
-        ap (λ (r : Bool × WorldState). parts_events a.mapper h tries (range_with_len 0 n) w ++ rest r.1) (sym (new-left a.mapper tries h n w))
-        ∙ ap (λ es. es ++ rest (left_of a.mapper tries (new_work n h) w).1) (sym (new-events a.mapper tries h n w))
-    by false e =
-        let none : n ≡ 0 = grind (arith, nat_tests) in
-        ap (λ k. parts_events a.mapper h tries (range_with_len 0 k) w ++ rest (parts_installed a.mapper h tries (range_with_len 0 k) w).1) none
+        let m : Log ℕ = all_left a.mapper tries (works_of (Some a) hs) w in
+        let sum : 1 + (without (Some a) hs + m.value) ≡ (1 + without (Some a) hs) + m.value = omega arith in
+        ap (λ k. counted (log.parts a.mapper h tries (range_with_len 0 k) w) rest) none ∙ ap (λ k. record { value = k; events = m.events; world = m.world }) sum
 
 -- the works are few, and none of them is done
 some-left : (o : Option Adoption) (tries h : ℕ) → 1 ≤ tries → has_parts o h ≡ true → not (is_done tries (new_work (part_count_for o h) h)) ≡ true
@@ -215,66 +185,47 @@ fewer-left tries found k (x ∷ xs) most e = by (is_done tries x) refl e (fewer-
     by true d e ih = let less = ih e in omega (arith, less)
     by false d e ih = let less = fewer-tries tries found x most d in omega (arith, less)
 
--- The tries so far: what is left of the works is what is left of the installation.
-pub record IsServing (a : Adoption) (tries : ℕ) (hosts : List ℕ) (first now : WorldState) (i : Installation) : Type 0 where
-  pub left : all_left a.mapper tries i.works now ≡ all_left a.mapper tries (works_of (Some a) hosts) first
-  pub way : (v : WorldState) → IsPartWay now (all_events a.mapper tries i.works now) v → IsPartWay first (hosts_events a tries hosts first) v
+-- The tries so far: with what is left of the works they are the installation.
+abbrev pub IsServing : Adoption → ℕ → List ℕ → WorldState → WorldState → Installation → Type 0
+IsServing a tries hosts first now i = UnderWay (λ n. without (Some a) hosts + n) (log.hosts a tries hosts first) first now (all_left a.mapper tries i.works now)
 
 pub serving-none : (a : Adoption) (tries : ℕ) (hosts : List ℕ) (first : WorldState) (i : Installation) → i.works ≡ works_of (Some a) hosts → IsServing a tries hosts first first i
 serving-none a tries hosts first i is = record {
-  left = ap (λ (ks : List Work). all_left a.mapper tries ks first) is;
-  way = λ v p. way-as first v (hosts_events a tries hosts first) (all_events a.mapper tries i.works first) (hosts-events a tries hosts first ∙ ap (λ (ks : List Work). all_events a.mapper tries ks first) (sym is)) p;
+  done = [];
+  led = refl;
+  all = hosts-left a tries hosts first ∙ ap (λ (ks : List Work). tell (λ n. without (Some a) hosts + n) (all_left a.mapper tries ks first)) (sym is);
 }
 
--- the events that are left begin with those of the next try
-next-events : (mapper tries dst part : ℕ) (i : Installation) (now : WorldState) (found : Bool) → i.tries ≡ tries → awaited i ≡ Some (dst, part) → (part_try mapper dst part now).found ≡ found
-    → all_events mapper tries i.works now ≡ part_try_events mapper dst part now ++ all_events mapper tries (changed (is_done i.tries) (told found) i.works) (part_try mapper dst part now).world
-next-events mapper tries dst part i now found same e f =
-    let a : IsAwaited i dst part = awaits i dst part e in
-    let k : Work = a.work in
-    let is : (part_try mapper k.host k.acked now).found ≡ found = (λ j. (part_try mapper (a.host j) (a.acked j) now).found) ∙ f in
-    let whole : all_events mapper i.tries i.works now ≡ part_try_events mapper k.host k.acked now ++ all_events mapper i.tries (changed (is_done i.tries) (told found) i.works) (part_try mapper k.host k.acked now).world =
-    all-events mapper i.tries (told found) k i.works now (part_try mapper k.host k.acked now).world (part_try_events mapper k.host k.acked now) a.first
-    (try-left mapper i.tries k now found a.undone is) (try-events mapper i.tries k now found a.undone is) in
-    ap (λ n. all_events mapper n i.works now) (sym same) ∙ whole
-    ∙ (λ j. part_try_events mapper (a.host j) (a.acked j) now ++ all_events mapper (same j) (changed (is_done i.tries) (told found) i.works) (part_try mapper (a.host j) (a.acked j) now).world)
-
-next-left : (mapper tries dst part : ℕ) (i : Installation) (now : WorldState) (found : Bool) → i.tries ≡ tries → awaited i ≡ Some (dst, part) → (part_try mapper dst part now).found ≡ found
-    → all_left mapper tries (changed (is_done i.tries) (told found) i.works) (part_try mapper dst part now).world ≡ all_left mapper tries i.works now
+-- what is left begins with the next try
+next-left : (mapper tries dst part : ℕ) (i : Installation) (now : WorldState) (found : Bool) → i.tries ≡ tries → awaited i ≡ Some (dst, part) → (log.part_try mapper dst part now).value.found ≡ found
+    → all_left mapper tries i.works now ≡ behind (log.part_try mapper dst part now).events (all_left mapper tries (changed (is_done i.tries) (told found) i.works) (log.part_try mapper dst part now).world)
 next-left mapper tries dst part i now found same e f =
     let a : IsAwaited i dst part = awaits i dst part e in
     let k : Work = a.work in
-    let is : (part_try mapper k.host k.acked now).found ≡ found = (λ j. (part_try mapper (a.host j) (a.acked j) now).found) ∙ f in
-    let whole : all_left mapper i.tries (changed (is_done i.tries) (told found) i.works) (part_try mapper k.host k.acked now).world ≡ all_left mapper i.tries i.works now =
-    all-on mapper i.tries (told found) k i.works now (part_try mapper k.host k.acked now).world a.first (try-left mapper i.tries k now found a.undone is) in
-    (λ j. all_left mapper (sym same j) (changed (is_done i.tries) (told found) i.works) (part_try mapper (sym a.host j) (sym a.acked j) now).world)
-    ∙ whole ∙ ap (λ n. all_left mapper n i.works now) same
+    let is : (log.part_try mapper k.host k.acked now).value.found ≡ found = (λ j. (log.part_try mapper (a.host j) (a.acked j) now).value.found) ∙ f in
+    let whole = all-on mapper i.tries (told found) k i.works now (log.part_try mapper k.host k.acked now).world (log.part_try mapper k.host k.acked now).events a.first (try-left mapper i.tries k now found a.undone is) in
+    ap (λ n. all_left mapper n i.works now) (sym same) ∙ whole
+    ∙ (λ j. behind (log.part_try mapper (a.host j) (a.acked j) now).events (all_left mapper (same j) (changed (is_done i.tries) (told found) i.works) (log.part_try mapper (a.host j) (a.acked j) now).world))
 
 -- a try more
 pub serving-on : (a : Adoption) (mapper tries dst part : ℕ) (hosts : List ℕ) (first now next : WorldState) (i after : Installation) (found : Bool) → IsServing a tries hosts first now i → a.mapper ≡ mapper → i.tries ≡ tries → awaited i ≡ Some (dst, part)
-    → found ≡ (part_try mapper dst part now).found → next ≡ (part_try mapper dst part now).world → after ≡ after_try i dst part found → IsServing a tries hosts first next after
+    → found ≡ (log.part_try mapper dst part now).value.found → next ≡ (log.part_try mapper dst part now).world → after ≡ after_try i dst part found → IsServing a tries hosts first next after
 serving-on a mapper tries dst part hosts first now next i after found s one same e is led told-is =
     let m : ℕ = a.mapper in
-    let f : (part_try m dst part now).found ≡ found = ap (λ n. (part_try n dst part now).found) one ∙ sym is in
-    let world : next ≡ (part_try m dst part now).world = led ∙ ap (λ n. (part_try n dst part now).world) (sym one) in
+    let try_is : Log (log.Tried Bool) = log.part_try m dst part now in
+    let f : try_is.value.found ≡ found = ap (λ n. (log.part_try n dst part now).value.found) one ∙ sym is in
+    let world : next ≡ try_is.world = led ∙ ap (λ n. (log.part_try n dst part now).world) (sym one) in
     let works : after.works ≡ changed (is_done i.tries) (told found) i.works = (λ j. (told-is j).works) ∙ (λ j. (tried-works i dst part found e j).works) in
-    let rest : List Work = changed (is_done i.tries) (told found) i.works in
-    record {
-      left = (λ j. all_left m tries (works j) (world j)) ∙ next-left m tries dst part i now found same e f ∙ s.left;
-      way = λ v p.
-          s.way v
-          (way-as now v (all_events m tries i.works now) (part_try_events m dst part now ++ all_events m tries rest (part_try m dst part now).world) (next-events m tries dst part i now found same e f)
-          (way-behind now (part_try m dst part now).world v (part_try_events m dst part now) (all_events m tries rest (part_try m dst part now).world) (part_try-done m dst part now).there
-          (subst (λ x. IsPartWay x (all_events m tries rest x) v) world (subst (λ (ks : List Work). IsPartWay next (all_events m tries ks next) v) works p))));
-    }
+    under_way-on (λ n. n) (λ n. without (Some a) hosts + n) next try_is.events (all_left m tries after.works next) s
+    (world ∙ (part_try-row {Q = IsByteEvent} byte_asks (λ d p. tt) m dst part now).there)
+    (next-left m tries dst part i now found same e f ∙ (λ j. behind try_is.events (all_left m tries (sym works j) (sym world j)))) (λ n. refl)
 
 -- memory ran out within a try
 pub serving-cut : (a : Adoption) (mapper tries dst part : ℕ) (hosts : List ℕ) (first now v : WorldState) (i : Installation) → IsServing a tries hosts first now i → a.mapper ≡ mapper → i.tries ≡ tries → awaited i ≡ Some (dst, part)
-    → IsPartWay now (part_try_events mapper dst part now) v → IsPartWay first (hosts_events a tries hosts first) v
+    → IsPartWay now (log.part_try mapper dst part now).events v → IsPartWay first (log.hosts a tries hosts first).events v
 serving-cut a mapper tries dst part hosts first now v i s one same e p =
-    let m : ℕ = a.mapper in
-    let found : Bool = (part_try m dst part now).found in
-    let rest : List Event = all_events m tries (changed (is_done i.tries) (told found) i.works) (part_try m dst part now).world in
-    s.way v
-    (way-as now v (all_events m tries i.works now) (part_try_events m dst part now ++ rest) (next-events m tries dst part i now found same e refl)
-    (way-front now v (part_try_events m dst part now) rest (subst (λ n. IsPartWay now (part_try_events n dst part now) v) (sym one) p)))
+    let try_is : Log (log.Tried Bool) = log.part_try a.mapper dst part now in
+    let rest : Log ℕ = all_left a.mapper tries (changed (is_done i.tries) (told try_is.value.found) i.works) try_is.world in
+    under_way-cut v s
+    (way-as now v (all_left a.mapper tries i.works now).events (try_is.events ++ rest.events) (ap (λ l. l.events) (next-left a.mapper tries dst part i now try_is.value.found same e refl))
+    (way-front now v try_is.events rest.events (subst (λ n. IsPartWay now (log.part_try n dst part now).events v) (sym one) p)))

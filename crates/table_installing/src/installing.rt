@@ -5,9 +5,10 @@ ghost use Rattle.std.specs.List.{AllByRecursion};
 ghost use Rattle.link_defs.specs.Links.{is_idle};
 ghost use Rattle.world_defs.specs.Table.{Adoption};
 ghost use Rattle.world_defs.specs.World.{fabric_of, host_count, last_count};
-ghost use Rattle.world_defs.specs.Install.{hosts_installed, installed};
-ghost use Rattle.event_lists.specs.Events.{hosts_events, install_events};
-ghost use Rattle.event_lists.specs.PartWay.{IsPartWay};
+ghost use Rattle.world_defs.specs.Install.{installed};
+ghost use Rattle.log_defs.specs.Laws.{came_to};
+ghost use Rattle.log_defs.specs.Logs as log;
+ghost use Rattle.log_defs.specs.Row.{IsPartWay};
 ghost use Rattle.install_laws.specs.Counts.{TellsCause};
 ghost use Rattle.route_install.specs.Installing.{AreHosts, awaited};
 ghost use Rattle.fab_world.specs.Events.{IsHostOf};
@@ -32,7 +33,6 @@ pub struct Installed {
 /// each host is sent its parts, each up to so many times, and a part that isn't acknowledged ends the work for its
 /// host. Where injections are left then, each host that isn't counted has a part each of whose tries met a planned
 /// fault. Running out of memory leaves a world that a prefix of its events leads to.
-#[tactic(auto, unfolding(world_defs::specs::Install::installed))]
 pub fn install(
     alloc: Global,
     w: &mut World,
@@ -46,7 +46,7 @@ pub fn install(
     ensures cause { IfOk result (λ x. IfSome w.old.adopted (λ a. w.new.injected < last_count
         → TellsCause a hosts.now tries x.acked w.old w.new)) }
     ensures err { OnErr result (IfSome w.old.adopted (λ a.
-        IsPartWay w.old (install_events a hosts.now tries w.old) w.new)) }
+        IsPartWay w.old (log.install a hosts.now tries w.old).events w.new)) }
     ensures idle { OnOk result (is_idle w.new.links ≡ true) }
     ensures fabric { fabric_of w.new ≡ fabric_of w.old }
     ensures hosts { host_count w.new ≡ host_count w.old }
@@ -83,9 +83,9 @@ fn install_hosts(
     requires some_tries { 1 ≤ tries }
     requires few_tries { tries ≤ 8 }
     ensures acked { (a : Adoption) → w.old.adopted ≡ Some a
-        → IfOk result (λ k. hosts_installed a tries hosts.now w.old ≡ (k, w.new)) }
+        → IfOk result (λ k. came_to (log.hosts a tries hosts.now w.old) ≡ (k, w.new)) }
     ensures err { (a : Adoption) → w.old.adopted ≡ Some a
-        → OnErr result (IsPartWay w.old (hosts_events a tries hosts.now w.old) w.new) }
+        → OnErr result (IsPartWay w.old (log.hosts a tries hosts.now w.old).events w.new) }
     ensures fabric { fabric_of w.new ≡ fabric_of w.old }
     ensures hosts { host_count w.new ≡ host_count w.old }
 {

@@ -2,10 +2,8 @@
 
 ghost use Rattle.std.specs.Prelude.{◌≡◌, is_some, IfOk, OnOk, OnErr};
 ghost use Rattle.world_defs.specs.World.{fabric_of, host_count};
-ghost use Rattle.world_defs.specs.Asking.{sends};
-ghost use Rattle.world_defs.specs.Install.{part_try};
-ghost use Rattle.event_lists.specs.Events.{sends_events, part_try_events};
-ghost use Rattle.event_lists.specs.PartWay.{IsPartWay};
+ghost use Rattle.log_defs.specs.Logs as log;
+ghost use Rattle.log_defs.specs.Row.{IsPartWay};
 ghost use Rattle.fab_world.specs.Events.{IsHostOf};
 ghost use Rattle.world_drain.specs.Watch.{seen_in};
 
@@ -15,7 +13,7 @@ use world_drain::{AwaitedPart, Seen, Watch, drain_watching, happen};
 
 /// One try of a part: the part alone, and then the acknowledgement of its host. The epoch of that, where the mapper
 /// hears it. Running out of memory leaves a world that a prefix of its events leads to.
-#[tactic(auto, unfolding(world_defs::specs::Install::part_try))]
+#[tactic(auto, unfolding(log_defs::specs::Logs::part_try))]
 pub(crate) fn part_try(
     alloc: Global,
     w: &mut World,
@@ -25,9 +23,9 @@ pub(crate) fn part_try(
 ) -> Result<Option<u32>, AllocError>
     requires there { IsHostOf w.old mapper }
     requires dst { IsHostOf w.old dst }
-    ensures found { IfOk result (λ epoch. is_some epoch ≡ (part_try mapper dst part w.old).found) }
-    ensures after { OnOk result (w.new ≡ (part_try mapper dst part w.old).world) }
-    ensures err { OnErr result (IsPartWay w.old (part_try_events mapper dst part w.old) w.new) }
+    ensures found { IfOk result (λ epoch. is_some epoch ≡ (log.part_try mapper dst part w.old).value.found) }
+    ensures after { OnOk result (w.new ≡ (log.part_try mapper dst part w.old).world) }
+    ensures err { OnErr result (IsPartWay w.old (log.part_try mapper dst part w.old).events w.new) }
     ensures fabric { fabric_of w.new ≡ fabric_of w.old }
     ensures hosts { host_count w.new ≡ host_count w.old }
 {
@@ -46,12 +44,12 @@ pub(crate) fn part_try(
 }
 
 // A host puts what it has to send first into its channel, and the links are drained.
-#[tactic(auto, unfolding(world_defs::specs::Asking::sends))]
+#[tactic(auto, unfolding(log_defs::specs::Logs::sends))]
 fn send(alloc: Global, w: &mut World, host: u16, watch: Watch) -> Result<Seen, AllocError>
     requires { IsHostOf w.old host }
-    ensures seen { IfOk result (λ s. s ≡ seen_in watch (sends w.old host).effects) }
-    ensures after { OnOk result (w.new ≡ (sends w.old host).world) }
-    ensures err { OnErr result (IsPartWay w.old (sends_events w.old host) w.new) }
+    ensures seen { IfOk result (λ s. s ≡ seen_in watch (log.sends host w.old).value.effects) }
+    ensures after { OnOk result (w.new ≡ (log.sends host w.old).world) }
+    ensures err { OnErr result (IsPartWay w.old (log.sends host w.old).events w.new) }
     ensures fabric { fabric_of w.new ≡ fabric_of w.old }
     ensures hosts { host_count w.new ≡ host_count w.old }
 {

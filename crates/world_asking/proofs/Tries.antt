@@ -1,66 +1,76 @@
--- Tries in a row.
-use Rattle.std.proofs.Common.{◌≡◌, ◌<◌, ◌-◌, ℕ, zero, suc, Bool, true, false, ◌&&◌, List, refl, sym, ◌∙◌, ap, subst, arith}
-use Rattle.world_defs.specs.declared.event.Event.{Event}
+-- Tries in a row, under way.
+use Rattle.std.proofs.Common.{◌≡◌, ◌<◌, ◌-◌, ℕ, zero, suc, Bool, true, false, ◌&&◌, refl, sym, ◌∙◌, ap, arith, if◌then◌else◌}
 use Rattle.world_defs.specs.World.{WorldState, fabric_of, host_count}
 use Rattle.world_defs.specs.Step.{after_all}
-use Rattle.world_drain.proofs.Tries.{tries-found, tries-further}
-use Rattle.world_defs.specs.Asking.{Tried, also_harmed, tries_of}
-use Rattle.event_lists.specs.Events.{tries_events}
-use Rattle.event_lists.specs.PartWay.{IsPartWay}
-use Rattle.event_lists.proofs.Asked.{tries-within, tries-behind}
+use Rattle.log_defs.specs.Log.{Log, told, and_do}
+use Rattle.log_defs.specs.Logs.{Tried, tries}
+use Rattle.log_defs.specs.Row.{IsPartWay}
+use Rattle.log_laws.proofs.UpTo.{up_to-on, up_to-within}
+use Rattle.log_laws.proofs.UnderWay.{UnderWay, under_way-none, under_way-on, under_way-cut, behind}
 
--- a fault met all of some tries, and all of those after them
-pub also-also : {A : Type 0} (a b : Bool) (t : Tried A) → also_harmed a (also_harmed b t) ≡ also_harmed (a && b) t
-also-also true b t = refl
-also-also false b t = refl
+-- a fault met all that were made, or not, and those after them
+abbrev pub also : {A : Type 0} → Bool → Tried A → Tried A
+also harmed t = record t { harmed = harmed && t.harmed }
+
+abbrev both_tried : {A : Type 0} → Tried A → Tried A → Tried A
+both_tried t u = also t.harmed u
 
 -- Tries under way: so many are left, and a fault met all that were made, or not.
-pub record Trying {A : Type 0} (is_found : A → Bool) (nothing : A) (one : WorldState → Tried A) (events : WorldState → List Event) (tries : ℕ) (first now : WorldState) (left : ℕ) (harmed : Bool) : Type 0 where
-  pub rest : also_harmed harmed (tries_of is_found nothing one left now) ≡ tries_of is_found nothing one tries first
-  pub way : (v : WorldState) → IsPartWay now (tries_events is_found one events left now) v → IsPartWay first (tries_events is_found one events tries first) v
+pub record Trying {A : Type 0} (is_found : A → Bool) (nothing : A) (one : WorldState → Log (Tried A)) (k : ℕ) (first now : WorldState) (left : ℕ) (harmed : Bool) : Type 0 where
+  pub way : UnderWay (also harmed) (tries is_found nothing one k first) first now (tries is_found nothing one left now)
   pub fabric : fabric_of now ≡ fabric_of first
   pub hosts : host_count now ≡ host_count first
 
-pub trying-none : {A : Type 0} (is_found : A → Bool) (nothing : A) (one : WorldState → Tried A) (events : WorldState → List Event) (tries : ℕ) (w : WorldState) → Trying is_found nothing one events tries w w tries true
-trying-none is_found nothing one events tries w = record { rest = refl; way = λ v p. p; fabric = refl; hosts = refl }
+pub trying-none : {A : Type 0} (is_found : A → Bool) (nothing : A) (one : WorldState → Log (Tried A)) (k : ℕ) (w : WorldState) → Trying is_found nothing one k w w k true
+trying-none is_found nothing one k w = record { way = under_way-none w (tries is_found nothing one k w); fabric = refl; hosts = refl }
 
-pub trying-found : {A : Type 0} (is_found : A → Bool) (nothing : A) (one : WorldState → Tried A) (events : WorldState → List Event) (tries : ℕ) (first now : WorldState) (left : ℕ) (harmed : Bool)
-    → Trying is_found nothing one events tries first now left harmed → 0 < left → is_found (one now).found ≡ true → also_harmed harmed (one now) ≡ tries_of is_found nothing one tries first
-trying-found is_found nothing one events tries first now zero harmed t some e = absurd (omega (arith, some))
-trying-found is_found nothing one events tries first now (suc k) harmed t some e = sym (ap (also_harmed harmed) (tries-found is_found nothing one k now e)) ∙ t.rest
+-- the last found something
+pub trying-found : {A : Type 0} (is_found : A → Bool) (nothing : A) (one : WorldState → Log (Tried A)) (k : ℕ) (first now : WorldState) (left : ℕ) (harmed : Bool)
+    → Trying is_found nothing one k first now left harmed → 0 < left → is_found (one now).value.found ≡ true
+    → ((tries is_found nothing one k first).value ≡ also harmed (one now).value) × ((tries is_found nothing one k first).world ≡ (one now).world)
+trying-found is_found nothing one k first now zero harmed t some e = absurd (omega (arith, some))
+trying-found {A = A} is_found nothing one k first now (suc n) harmed t some e =
+    let opened : tries is_found nothing one (suc n) now ≡ one now = ap (λ b. if b then one now else and_do (one now) (λ a v. told (both_tried a) (tries is_found nothing one n v))) e in
+    let whole : tries is_found nothing one k first ≡ behind (also harmed) t.way.done (one now) = t.way.all ∙ ap (behind (also harmed) t.way.done) opened in
+    (ap (λ l. l.value) whole, ap (λ l. l.world) whole)
 
-pub trying-on : {A : Type 0} (is_found : A → Bool) (nothing : A) (one : WorldState → Tried A) (events : WorldState → List Event) (tries : ℕ) (first now next : WorldState) (left after : ℕ) (harmed both : Bool)
-    → Trying is_found nothing one events tries first now left harmed → 0 < left → after ≡ left - 1 → is_found (one now).found ≡ false → next ≡ (one now).world → ((w : WorldState) → (one w).world ≡ after_all w (events w))
-    → fabric_of next ≡ fabric_of now → host_count next ≡ host_count now → both ≡ (harmed && (one now).harmed)
-    → Trying is_found nothing one events tries first next after both
-trying-on is_found nothing one events tries first now next zero after harmed both t some less e is led net hosts made = absurd (omega (arith, some))
-trying-on is_found nothing one events tries first now next (suc k) after harmed both t some less e is led net hosts made =
-    let fewer : after ≡ k = omega (arith, less) in
+and-assoc : (a b c : Bool) → (a && (b && c)) ≡ ((a && b) && c)
+and-assoc true b c = refl
+and-assoc false b c = refl
+
+-- it found nothing
+pub trying-on : {A : Type 0} (is_found : A → Bool) (nothing : A) (one : WorldState → Log (Tried A)) (k : ℕ) (first now next : WorldState) (left after : ℕ) (harmed both : Bool)
+    → Trying is_found nothing one k first now left harmed → 0 < left → after ≡ left - 1 → is_found (one now).value.found ≡ false → next ≡ (one now).world → (one now).world ≡ after_all now (one now).events
+    → fabric_of next ≡ fabric_of now → host_count next ≡ host_count now → both ≡ (harmed && (one now).value.harmed)
+    → Trying is_found nothing one k first next after both
+trying-on is_found nothing one k first now next zero after harmed both t some less e is led net hosts made = absurd (omega (arith, some))
+trying-on {A = A} is_found nothing one k first now next (suc n) after harmed both t some less e is led net hosts made =
+    let fewer : after ≡ n = omega (arith, less) in
+    let left : Log (Tried A) = tries is_found nothing one after next in
+    let opened : tries is_found nothing one (suc n) now ≡ behind (also (one now).value.harmed) (one now).events left =
+    up_to-on {A = Tried A} both_tried (record { found = nothing; harmed = true }) (λ before u. is_found u.value.found) one n now e
+    ∙ (λ i. behind (also (one now).value.harmed) (one now).events (tries is_found nothing one (sym fewer i) (sym is i))) in
     record {
-      rest =
-          ap (λ b. also_harmed b (tries_of is_found nothing one after next)) made
-          ∙ ap (λ n. also_harmed (harmed && (one now).harmed) (tries_of is_found nothing one n next)) fewer
-          ∙ ap (λ w. also_harmed (harmed && (one now).harmed) (tries_of is_found nothing one k w)) is
-          ∙ sym (also-also harmed (one now).harmed (tries_of is_found nothing one k (one now).world))
-          ∙ sym (ap (also_harmed harmed) (tries-further is_found nothing one k now e)) ∙ t.rest;
-      way = λ v p. t.way v (tries-behind is_found one events led k now next v e is (subst (λ n. IsPartWay next (tries_events is_found one events n next) v) fewer p));
+      way = under_way-on (also (one now).value.harmed) (also both) next (one now).events left t.way (is ∙ led) opened
+          (λ u. ap (λ b. record u { harmed = b }) (and-assoc harmed (one now).value.harmed u.harmed ∙ ap (λ b. b && u.harmed) (sym made)));
       fabric = net ∙ t.fabric;
       hosts = hosts ∙ t.hosts;
     }
 
 -- memory ran out within a try
-pub trying-cut : {A : Type 0} (is_found : A → Bool) (nothing : A) (one : WorldState → Tried A) (events : WorldState → List Event) (tries : ℕ) (first now v : WorldState) (left : ℕ) (harmed : Bool)
-    → Trying is_found nothing one events tries first now left harmed → 0 < left → IsPartWay now (events now) v → IsPartWay first (tries_events is_found one events tries first) v
-trying-cut is_found nothing one events tries first now v zero harmed t some p = absurd (omega (arith, some))
-trying-cut is_found nothing one events tries first now v (suc k) harmed t some p = t.way v (tries-within is_found one events k now v p)
+pub trying-cut : {A : Type 0} (is_found : A → Bool) (nothing : A) (one : WorldState → Log (Tried A)) (k : ℕ) (first now v : WorldState) (left : ℕ) (harmed : Bool)
+    → Trying is_found nothing one k first now left harmed → 0 < left → IsPartWay now (one now).events v → IsPartWay first (tries is_found nothing one k first).events v
+trying-cut {A = A} is_found nothing one k first now v left harmed t some p =
+    under_way-cut v t.way (up_to-within {A = Tried A} both_tried (record { found = nothing; harmed = true }) (λ before u. is_found u.value.found) one left now v some p)
 
 and-true : (b : Bool) → (b && true) ≡ b
 and-true true = refl
 and-true false = refl
 
-pub trying-all : {A : Type 0} (is_found : A → Bool) (nothing : A) (one : WorldState → Tried A) (events : WorldState → List Event) (tries : ℕ) (first now : WorldState) (left : ℕ) (harmed : Bool)
-    → Trying is_found nothing one events tries first now left harmed → left ≡ 0
-    → (nothing ≡ (tries_of is_found nothing one tries first).found) × (harmed ≡ (tries_of is_found nothing one tries first).harmed) × (now ≡ (tries_of is_found nothing one tries first).world)
-trying-all is_found nothing one events tries first now left harmed t none =
-    let end : also_harmed harmed (tries_of is_found nothing one 0 now) ≡ tries_of is_found nothing one tries first = ap (λ n. also_harmed harmed (tries_of is_found nothing one n now)) (sym none) ∙ t.rest in
-    (ap (λ x. x.found) end, sym (and-true harmed) ∙ ap (λ x. x.harmed) end, ap (λ x. x.world) end)
+-- none is left
+pub trying-all : {A : Type 0} (is_found : A → Bool) (nothing : A) (one : WorldState → Log (Tried A)) (k : ℕ) (first now : WorldState) (left : ℕ) (harmed : Bool)
+    → Trying is_found nothing one k first now left harmed → left ≡ 0
+    → (nothing ≡ (tries is_found nothing one k first).value.found) × (harmed ≡ (tries is_found nothing one k first).value.harmed) × (now ≡ (tries is_found nothing one k first).world)
+trying-all is_found nothing one k first now left harmed t none =
+    let whole = sym (t.way.all ∙ ap (λ n. behind (also harmed) t.way.done (tries is_found nothing one n now)) none) in
+    (ap (λ l. l.value.found) whole, sym (and-true harmed) ∙ ap (λ l. l.value.harmed) whole, ap (λ l. l.world) whole)

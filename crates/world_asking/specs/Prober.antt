@@ -3,9 +3,9 @@ use Rattle.std.specs.Prelude.{◌≡◌, ℕ, ◌≤◌, ◌<◌, ℤ, List, if�
 use Rattle.fab_outer.specs.Fault.{one_more}
 use Rattle.net_defs.specs.declared.place.Answer.{Answer}
 use Rattle.world_defs.specs.World.{WorldState, host_count}
-use Rattle.world_defs.specs.Asking.{Asked, ask}
-use Rattle.event_lists.specs.Events.{ask_events}
-use Rattle.event_lists.specs.PartWay.{IsPartWay}
+use Rattle.log_defs.specs.Log.{Log}
+use Rattle.log_defs.specs.Logs.{Asked, ask}
+use Rattle.log_defs.specs.Row.{IsPartWay}
 
 -- The world, the host that asks, how often it tries a probe of each kind, and how many of its asks drowned.
 pub record WorldAsking : Type 0 where
@@ -20,8 +20,8 @@ pub record IsAsking (p : WorldAsking) : Type 0 where
   pub some : 1 ≤ p.tries
   pub few : p.tries ≤ 8
 
--- what the next ask of a walk comes to
-abbrev pub next_ask : WorldAsking → List ℤ → Asked
+-- the next ask of a walk
+abbrev pub next_ask : WorldAsking → List ℤ → Log Asked
 next_ask p walk = ask p.host p.tries walk p.world
 
 -- the mapper after its next ask: the count of drowned asks is one greater where that drowned, and stays at its last
@@ -29,15 +29,15 @@ next_ask p walk = ask p.host p.tries walk p.world
 abbrev pub after_ask : WorldAsking → List ℤ → WorldAsking
 after_ask p walk = record p {
   world = (next_ask p walk).world;
-  drowned = if (next_ask p walk).drowned then one_more p.drowned else p.drowned;
+  drowned = if (next_ask p walk).value.drowned then one_more p.drowned else p.drowned;
 }
 
 -- An ask of a walk is answered so, and leads from the one to the other.
 pub record IsAsked (before : WorldAsking) (walk : List ℤ) (answer : Answer) (after : WorldAsking) : Type 0 where
-  pub told : answer ≡ (next_ask before walk).answer
+  pub told : answer ≡ (next_ask before walk).value.answer
   pub led : after ≡ after_ask before walk
 
 -- An ask of a walk ran out of memory: a prefix of its events leads to the world, and all else is as it was.
 pub record IsCutAsk (before : WorldAsking) (walk : List ℤ) (after : WorldAsking) : Type 0 where
-  pub way : IsPartWay before.world (ask_events before.host before.tries walk before.world) after.world
+  pub way : IsPartWay before.world (next_ask before walk).events after.world
   pub rest : after ≡ record before { world = after.world }

@@ -2,9 +2,8 @@
 
 ghost use Rattle.std.specs.Prelude.{◌≡◌, ◌≤◌, length, IfOk, OnOk, OnErr};
 ghost use Rattle.world_defs.specs.World.{fabric_of, host_count};
-ghost use Rattle.world_defs.specs.Asking.{ask};
-ghost use Rattle.event_lists.specs.Events.{ask_events};
-ghost use Rattle.event_lists.specs.PartWay.{IsPartWay};
+ghost use Rattle.log_defs.specs.Logs as log;
+ghost use Rattle.log_defs.specs.Row.{IsPartWay};
 ghost use Rattle.fab_world.specs.Events.{IsHostOf};
 
 use crate::trying::{host_tries, loop_tries};
@@ -23,7 +22,7 @@ pub(crate) struct Asked {
 /// An ask: every host gives up what it staged; up to so many host probes, to the first reply; without one up to so
 /// many loopback probes, to the first that returns. Running out of memory leaves a world that a prefix of its events
 /// leads to.
-#[tactic(auto, unfolding(world_defs::specs::Asking::ask))]
+#[tactic(auto, unfolding(log_defs::specs::Logs::ask))]
 pub(crate) fn ask(
     alloc: Global,
     w: &mut World,
@@ -33,10 +32,10 @@ pub(crate) fn ask(
 ) -> Result<Asked, AllocError>
     requires there { IsHostOf w.old mapper }
     requires short { length walk.now ≤ 31 }
-    ensures answer { IfOk result (λ a. a.answer ≡ (ask mapper tries walk.now w.old).answer) }
-    ensures drowned { IfOk result (λ a. a.drowned ≡ (ask mapper tries walk.now w.old).drowned) }
-    ensures after { OnOk result (w.new ≡ (ask mapper tries walk.now w.old).world) }
-    ensures err { OnErr result (IsPartWay w.old (ask_events mapper tries walk.now w.old) w.new) }
+    ensures answer { IfOk result (λ a. a.answer ≡ (log.ask mapper tries walk.now w.old).value.answer) }
+    ensures drowned { IfOk result (λ a. a.drowned ≡ (log.ask mapper tries walk.now w.old).value.drowned) }
+    ensures after { OnOk result (w.new ≡ (log.ask mapper tries walk.now w.old).world) }
+    ensures err { OnErr result (IsPartWay w.old (log.ask mapper tries walk.now w.old).events w.new) }
     ensures fabric { fabric_of w.new ≡ fabric_of w.old }
     ensures hosts { host_count w.new ≡ host_count w.old }
 {

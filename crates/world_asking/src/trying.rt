@@ -1,12 +1,12 @@
 //! The tries of an ask: each a probe alone, injected and drained.
 
-ghost use Rattle.std.specs.Prelude.{◌≡◌, ◌≤◌, ◌&&◌, length, true, is_some, IfOk, OnOk, OnErr};
+ghost use Rattle.std.specs.Prelude.{◌≡◌, ◌≤◌, ◌&&◌, length, true, false, is_some, None, IfOk, OnOk, OnErr};
 ghost use Rattle.world_defs.specs.World.{fabric_of, host_count};
 ghost use Rattle.world_defs.specs.Step.{step};
 ghost use Rattle.world_defs.specs.declared.event.Event.TheVariants.{Ask, Inject};
-ghost use Rattle.world_defs.specs.Asking.{is_used_up, number_of, host_try, loop_try, host_tries, loop_tries};
-ghost use Rattle.event_lists.specs.Events.{host_try_events, loop_try_events, tries_events};
-ghost use Rattle.event_lists.specs.PartWay.{IsPartWay};
+ghost use Rattle.world_defs.specs.Asking.{is_used_up, number_of};
+ghost use Rattle.log_defs.specs.Logs as log;
+ghost use Rattle.log_defs.specs.Row.{IsPartWay};
 ghost use Rattle.fab_world.specs.Events.{IsHostOf};
 
 use fab_world::World;
@@ -45,11 +45,13 @@ pub(crate) fn host_tries(
     tries: u8,
 ) -> Result<HostTry, AllocError>
     requires there { IsHostOf w.old mapper }
-    ensures found { IfOk result (λ t. t.found ≡ (host_tries mapper walk.now tries w.old).found) }
-    ensures harmed { IfOk result (λ t. t.harmed ≡ (host_tries mapper walk.now tries w.old).harmed) }
-    ensures after { OnOk result (w.new ≡ (host_tries mapper walk.now tries w.old).world) }
+    ensures found { IfOk result (λ t. t.found
+        ≡ (log.tries is_some None (log.host_try mapper walk.now) tries w.old).value.found) }
+    ensures harmed { IfOk result (λ t. t.harmed
+        ≡ (log.tries is_some None (log.host_try mapper walk.now) tries w.old).value.harmed) }
+    ensures after { OnOk result (w.new ≡ (log.tries is_some None (log.host_try mapper walk.now) tries w.old).world) }
     ensures err { OnErr result (IsPartWay w.old
-        (tries_events is_some (host_try mapper walk.now) (host_try_events mapper walk.now) tries w.old) w.new) }
+        (log.tries is_some None (log.host_try mapper walk.now) tries w.old).events w.new) }
     ensures fabric { fabric_of w.new ≡ fabric_of w.old }
     ensures hosts { host_count w.new ≡ host_count w.old }
 {
@@ -83,11 +85,13 @@ pub(crate) fn loop_tries(
 ) -> Result<LoopTry, AllocError>
     requires there { IsHostOf w.old mapper }
     requires short { length walk.now ≤ 31 }
-    ensures found { IfOk result (λ t. t.found ≡ (loop_tries mapper walk.now tries w.old).found) }
-    ensures harmed { IfOk result (λ t. t.harmed ≡ (loop_tries mapper walk.now tries w.old).harmed) }
-    ensures after { OnOk result (w.new ≡ (loop_tries mapper walk.now tries w.old).world) }
+    ensures found { IfOk result (λ t. t.found
+        ≡ (log.tries (λ b. b) false (log.loop_try mapper walk.now) tries w.old).value.found) }
+    ensures harmed { IfOk result (λ t. t.harmed
+        ≡ (log.tries (λ b. b) false (log.loop_try mapper walk.now) tries w.old).value.harmed) }
+    ensures after { OnOk result (w.new ≡ (log.tries (λ b. b) false (log.loop_try mapper walk.now) tries w.old).world) }
     ensures err { OnErr result (IsPartWay w.old
-        (tries_events (λ b. b) (loop_try mapper walk.now) (loop_try_events mapper walk.now) tries w.old) w.new) }
+        (log.tries (λ b. b) false (log.loop_try mapper walk.now) tries w.old).events w.new) }
     ensures fabric { fabric_of w.new ≡ fabric_of w.old }
     ensures hosts { host_count w.new ≡ host_count w.old }
 {
@@ -111,13 +115,13 @@ pub(crate) fn loop_tries(
 }
 
 // One try of a host probe: the probe alone, and then the reply of the host that heard it.
-#[tactic(auto, unfolding(world_defs::specs::Asking::host_try, world_defs::specs::Asking::sends))]
+#[tactic(auto, unfolding(log_defs::specs::Logs::host_try, log_defs::specs::Logs::sends))]
 fn host_try(alloc: Global, w: &mut World, mapper: u16, walk: &Walk) -> Result<HostTry, AllocError>
     requires there { IsHostOf w.old mapper }
-    ensures found { IfOk result (λ t. t.found ≡ (host_try mapper walk.now w.old).found) }
-    ensures harmed { IfOk result (λ t. t.harmed ≡ (host_try mapper walk.now w.old).harmed) }
-    ensures after { OnOk result (w.new ≡ (host_try mapper walk.now w.old).world) }
-    ensures err { OnErr result (IsPartWay w.old (host_try_events mapper walk.now w.old) w.new) }
+    ensures found { IfOk result (λ t. t.found ≡ (log.host_try mapper walk.now w.old).value.found) }
+    ensures harmed { IfOk result (λ t. t.harmed ≡ (log.host_try mapper walk.now w.old).value.harmed) }
+    ensures after { OnOk result (w.new ≡ (log.host_try mapper walk.now w.old).world) }
+    ensures err { OnErr result (IsPartWay w.old (log.host_try mapper walk.now w.old).events w.new) }
     ensures fabric { fabric_of w.new ≡ fabric_of w.old }
     ensures hosts { host_count w.new ≡ host_count w.old }
 {
@@ -144,14 +148,14 @@ fn host_try(alloc: Global, w: &mut World, mapper: u16, walk: &Walk) -> Result<Ho
 }
 
 // One try of a loopback probe.
-#[tactic(auto, unfolding(world_defs::specs::Asking::loop_try, world_defs::specs::Asking::sends))]
+#[tactic(auto, unfolding(log_defs::specs::Logs::loop_try, log_defs::specs::Logs::sends))]
 fn loop_try(alloc: Global, w: &mut World, mapper: u16, walk: &Walk) -> Result<LoopTry, AllocError>
     requires there { IsHostOf w.old mapper }
     requires short { length walk.now ≤ 31 }
-    ensures found { IfOk result (λ t. t.found ≡ (loop_try mapper walk.now w.old).found) }
-    ensures harmed { IfOk result (λ t. t.harmed ≡ (loop_try mapper walk.now w.old).harmed) }
-    ensures after { OnOk result (w.new ≡ (loop_try mapper walk.now w.old).world) }
-    ensures err { OnErr result (IsPartWay w.old (loop_try_events mapper walk.now w.old) w.new) }
+    ensures found { IfOk result (λ t. t.found ≡ (log.loop_try mapper walk.now w.old).value.found) }
+    ensures harmed { IfOk result (λ t. t.harmed ≡ (log.loop_try mapper walk.now w.old).value.harmed) }
+    ensures after { OnOk result (w.new ≡ (log.loop_try mapper walk.now w.old).world) }
+    ensures err { OnErr result (IsPartWay w.old (log.loop_try mapper walk.now w.old).events w.new) }
     ensures fabric { fabric_of w.new ≡ fabric_of w.old }
     ensures hosts { host_count w.new ≡ host_count w.old }
 {

@@ -8,7 +8,7 @@ use Rattle.world_defs.specs.Step.{step, steps}
 use Rattle.world_defs.specs.Drain.{channels_of, resets_of, reset_count, clear}
 use Rattle.world_defs.specs.Settle.{then_clear}
 use Rattle.world_laws.proofs.Along.{Along, Clears, SettlesBy, all-map, steps-along, clear-along}
-use Rattle.event_lists.specs.PartWay.{IsPartWay}
+use Rattle.log_defs.specs.Row.{IsPartWay}
 use Rattle.fab_world.specs.Held.{IsLater}
 use Rattle.world_drain.proofs.Later.{later-same, later-both, later-step, way-later}
 

@@ -15,8 +15,8 @@ use Rattle.world_defs.specs.Settle.{unacknowledged_from, expiries_of, expiries_o
 use Rattle.world_laws.proofs.Lists.{at-set}
 use Rattle.world_laws.proofs.Idling.{step-idle}
 use Rattle.world_laws.proofs.Reached.{after_all-append}
-use Rattle.event_lists.specs.PartWay.{IsPartWay}
-use Rattle.event_lists.proofs.PartWay.{way-front, way-behind, way-step}
+use Rattle.log_defs.specs.Row.{IsPartWay}
+use Rattle.log_laws.proofs.PartWay.{way-front, way-behind, way-step}
 
 -- as much isn't acknowledged, of each pair
 abbrev pub HasSameLeft : WorldState → WorldState → Type 0

@@ -1,5 +1,5 @@
 -- A probe that is heard in a drain is heard by a host that is there; and a drain keeps the fabric and the hosts.
-use Rattle.std.proofs.Common.{◌≡◌, ◌<◌, ℕ, List, [], ◌∷◌, map, Option, Some, None, refl, sym, ◌∙◌, subst}
+use Rattle.std.proofs.Common.{◌≡◌, ◌<◌, ℕ, List, [], ◌∷◌, map, Option, Some, None, refl, sym, ◌∙◌, ap, subst}
 use Rattle.std.specs.Prelude.{IfSome, Result, Ok, Err, IfOk, OnOk, OnErr}
 use Rattle.world_defs.specs.declared.heard.Heard.TheVariants.{Probe, Reply, Loop, Routes, RoutesAck, Message, Fragment, NotNext, NoToken, Ack}
 use Rattle.world_defs.specs.declared.event.Event.TheVariants.{Advance}
@@ -11,8 +11,9 @@ use Rattle.world_defs.specs.Step.{step, steps}
 use Rattle.world_defs.specs.Drain.{channels_of, pass, drain, Drains}
 use Rattle.world_defs.specs.Asking.{probed_host}
 use Rattle.world_laws.proofs.Draining.{drain-drains}
-use Rattle.event_lists.specs.Events.{drain_events}
-use Rattle.event_lists.specs.PartWay.{IsPartWay}
+use Rattle.log_defs.specs.Logs as log
+use Rattle.log_defs.specs.Row.{IsPartWay}
+use Rattle.log_defs.proofs.Worlds.{drain-log}
 use Rattle.fab_world.specs.Held.{IsMoment, IsLater, IsOfHosts}
 use Rattle.fab_world.proofs.Arriving.{effect-hosts}
 use Rattle.fab_world.proofs.Moments.{step-moment, later-moment, later-hosts}
@@ -81,13 +82,13 @@ drains-there n w v xs m e (Drains.more {xs = rest} goes d is) =
     subst (λ ys. IsThere n (probed_host ys)) (sym is)
     (subst (IsThere n) (sym (probed-append (pass w).0 rest)) (both-there n (probed_host (pass w).0) (probed_host rest) (pass-there n w m e) behind))
 
-pub drain-heard : {E : Type 0} (watch : Watch) (w : WorldState) (r : Result Seen E) → IsMoment w → IfOk r (λ s. s ≡ seen_in watch (drain w).0)
+pub drain-heard : {E : Type 0} (watch : Watch) (w : WorldState) (r : Result Seen E) → IsMoment w → IfOk r (λ s. s ≡ seen_in watch (log.drain w).value)
     → IfOk r (λ s. IfSome s.probed (λ h. h < host_count w))
 drain-heard watch w (Ok s) m is =
-    subst (λ (t : Seen). IfSome t.probed (λ h. h < host_count w)) (sym is) (drains-there (host_count w) w (drain w).1 (drain w).0 m refl (drain-drains w))
+    subst (λ (t : Seen). IfSome t.probed (λ h. h < host_count w)) (sym (is ∙ ap (λ r. seen_in watch r.0) (sym (drain-log w)))) (drains-there (host_count w) w (drain w).1 (drain w).0 m refl (drain-drains w))
 drain-heard watch w (Err e) m is = tt
 
 -- ---- a drain that came to its end, or was cut off
-pub drained-later : {A E : Type 0} (w v : WorldState) (r : Result A E) → OnOk r (v ≡ (drain w).1) → OnErr r (IsPartWay w (drain_events w) v) → IsLater w v
+pub drained-later : {A E : Type 0} (w v : WorldState) (r : Result A E) → OnOk r (v ≡ (log.drain w).world) → OnErr r (IsPartWay w (log.drain w).events v) → IsLater w v
 drained-later w v (Ok a) after err = drain-later w v after
 drained-later w v (Err e) after err = way-later w v err

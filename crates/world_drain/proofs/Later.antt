@@ -5,7 +5,7 @@ use Rattle.world_defs.specs.declared.event.Event.{Event}
 use Rattle.world_defs.specs.World.{WorldState}
 use Rattle.world_defs.specs.Step.{step, after_all}
 use Rattle.world_laws.proofs.Reached.{after_all-append}
-use Rattle.event_lists.specs.PartWay.{IsPartWay}
+use Rattle.log_defs.specs.Row.{IsPartWay}
 use Rattle.fab_world.specs.Held.{IsLater}
 
 pub later-same : (w : WorldState) → IsLater w w

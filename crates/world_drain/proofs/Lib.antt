@@ -7,7 +7,6 @@ pub mod GivingUp
 pub mod Heard
 pub mod Injects
 pub mod Later
-pub mod Leading
 pub mod Limbo
 pub mod Lone
 pub mod Parts
@@ -21,7 +20,6 @@ pub mod RoundRows
 pub mod Running
 pub mod Sleeping
 pub mod Telling
-pub mod Tries
 pub mod Watching
 pub mod WholePass
 pub mod WholeRound

@@ -1,10 +1,9 @@
 -- A packet alone in the links: a drain is its advance, and then the drain of what that leaves.
-use Rattle.std.proofs.Common.{◌≡◌, ◌≢◌, ◌<◌, ◌≤◌, ℕ, zero, suc, ◌+◌, ◌-◌, Bool, true, false, nat_eq, List, [], ◌∷◌, ◌++◌, map, length, None, append_assoc, ⊎_elim, if◌then◌else◌, refl, sym, ◌∙◌, ap, subst, arith}
+use Rattle.std.proofs.Common.{◌≡◌, ◌≢◌, ◌<◌, ◌≤◌, ℕ, zero, suc, ◌+◌, ◌-◌, Bool, true, false, nat_eq, List, [], ◌∷◌, ◌++◌, map, length, None, append_assoc, ⊎_elim, refl, sym, ◌∙◌, ap, subst, arith}
 use Rattle.std.specs.List.{AllByRecursion, range_with_len}
 use Rattle.std.proofs.lemmas.Bool.{cases_lt}
 use Rattle.std.proofs.lemmas.Bool.Decides.{nat_tests}
 use Rattle.link_defs.specs.Links.{LinkState, packet_in}
-use Rattle.link_defs.specs.Hops.{total_hops}
 use Rattle.link_defs.specs.Advance.{advance}
 use Rattle.channel_slots.specs.Full.{IsLone}
 use Rattle.link_model.specs.Hop.{IsRun}
@@ -15,13 +14,13 @@ use Rattle.world_defs.specs.declared.effect.Effect.{Effect}
 use Rattle.world_defs.specs.declared.effect.Effect.TheVariants.{Moved as MovedTo}
 use Rattle.world_defs.specs.World.{WorldState, with_links}
 use Rattle.world_defs.specs.Step.{step, steps, after_all}
-use Rattle.world_defs.specs.Drain.{changed, changes, channels_of, pass, drain}
+use Rattle.world_defs.specs.Drain.{changed, changes, channels_of, pass}
 use Rattle.world_laws.proofs.Draining.{advance-links, advance-changed, advance-world, changes-push}
-use Rattle.event_lists.specs.Events.{passes_events, drain_events}
-use Rattle.event_lists.specs.PartWay.{IsPartWay}
-use Rattle.event_lists.proofs.Events.{steps-after}
-use Rattle.event_lists.proofs.Drained.{drain-goes_on}
-use Rattle.event_lists.proofs.PartWay.{way-behind, way-as, way-still}
+use Rattle.log_defs.specs.Logs as log
+use Rattle.log_defs.specs.Row.{IsPartWay}
+use Rattle.log_defs.proofs.Rows.{steps-after}
+use Rattle.log_laws.proofs.Drains.{drain-none, drain-events}
+use Rattle.log_laws.proofs.PartWay.{way-behind, way-as, way-still}
 use Rattle.fab_world.specs.Hop.{IsRunIn}
 use Rattle.fab_world.proofs.Hopping.{moved-in}
 use Rattle.world_drain.specs.declared.seen.Watch.{Watch}
@@ -72,14 +71,6 @@ way-past w v (e ∷ es) fs still (d ∷ ds) rest is there =
 none-done : (w v : WorldState) (done rest : List Event) → [] ≡ done ++ rest → v ≡ after_all w done → v ≡ w
 none-done w v [] rest is there = there
 none-done w v (d ∷ ds) rest is there = cc
-
--- a drain whose first pass changes nothing has no events
-drain-none : (w : WorldState) → changes (pass w).0 ≡ 0 → drain_events w ≡ []
-unfolding drain_events
-drain-none w none =
-    let more : total_hops w.links + 1 ≡ suc (total_hops w.links) = omega arith in
-    let same : nat_eq (changes (pass w).0) 0 ≡ true = grind (arith, nat_tests) in
-    ap (λ k. passes_events k w) more ∙ ap (λ b. if b then (let r : List Event = [] in r) else map Advance (channels_of w) ++ passes_events (total_hops w.links) (pass w).1) same
 
 -- ---- the law
 -- what an advance leaves: a packet in one channel at most, of as many
@@ -134,9 +125,9 @@ all-channels w c count low long = ap (λ n. map Advance (range_with_len 0 n)) lo
 
 -- what is part of the way along the drain after it is so along the drain
 way-above : (watch : Watch) (w v u : WorldState) (x : Effect) (c at : ℕ) → IsLoneStep w v x c at → c < at → changes (pass w).0 ≢ 0 → (pass w).1 ≡ (pass v).1
-    → IsPartWay v (drain_events v) u → IsPartWay w (drain_events w) u
+    → IsPartWay v (log.drain v).events u → IsPartWay w (log.drain w).events u
 way-above watch w v u x c at s high some same p =
-    way-as w u (drain_events w) (front ++ (back ++ more)) events (way-behind w v u front (back ++ more) (first-led watch w v x c at s) (by (nat_eq (changes (pass v).0) 0) refl))
+    way-as w u (log.drain w).events (front ++ (back ++ more)) events (way-behind w v u front (back ++ more) (first-led watch w v x c at s) (by (nat_eq (changes (pass v).0) 0) refl))
   where
     count : ℕ
     count = length w.links.channels
@@ -148,10 +139,10 @@ way-above watch w v u x c at s high some same p =
     back = map Advance (range_with_len (c + 1) (count - (c + 1)))
 
     more : List Event
-    more = drain_events (pass w).1
+    more = (log.drain (pass w).1).events
 
-    events : drain_events w ≡ front ++ (back ++ more)
-    events = drain-goes_on w some ∙ ap (λ es. es ++ more) (all-channels w c count s.low refl) ∙ append_assoc front back more
+    events : (log.drain w).events ≡ front ++ (back ++ more)
+    events = drain-events w some ∙ ap (λ es. es ++ more) (all-channels w c count s.low refl) ∙ append_assoc front back more
 
     still : AreStill v front
     still = empties-still v (c + 1) 0 (λ k a b. s.left k (λ e. omega (arith, e, b, high)))
@@ -162,8 +153,8 @@ way-above watch w v u x c at s high some same p =
         way-still v u (back ++ more) (none-done v u p.done p.front.rest (sym (drain-none v none) ∙ p.front.both) p.there)
     by false is =
         let goes : changes (pass v).0 ≢ 0 = λ none. grind (arith, nat_tests) in
-        let list : drain_events v ≡ front ++ (back ++ more) =
-        drain-goes_on v goes ∙ ap (λ es. es ++ drain_events (pass v).1) (all-channels v c count s.low s.long) ∙ append_assoc front back (drain_events (pass v).1) ∙ ap (λ y. front ++ (back ++ drain_events y)) (sym same) in
+        let list : (log.drain v).events ≡ front ++ (back ++ more) =
+        drain-events v goes ∙ ap (λ es. es ++ (log.drain (pass v).1).events) (all-channels v c count s.low s.long) ∙ append_assoc front back (log.drain (pass v).1).events ∙ ap (λ y. front ++ (back ++ (log.drain y).events)) (sym same) in
         way-past v u front (back ++ more) still p.done p.front.rest (sym list ∙ p.front.both) p.there
 
 -- where it is in one above, the pass goes on as the next one would
@@ -175,11 +166,11 @@ above : (watch : Watch) (w v : WorldState) (x : Effect) (c at : ℕ) → IsLoneS
 above watch w v x c at s high = record {
   shown =
       ap (seen_then one) (sym rest.shown)
-      ∙ then-in-a-row one (seen_in watch (pass v).0) (seen_in watch (drain (pass v).1).0)
-      ∙ ap (λ t. seen_then t (seen_in watch (drain (pass v).1).0)) (sym shown)
-      ∙ ap (λ u. seen_then (seen_in watch (pass w).0) (seen_in watch (drain u).0)) (sym same)
+      ∙ then-in-a-row one (seen_in watch (pass v).0) (seen_in watch (log.drain (pass v).1).value)
+      ∙ ap (λ t. seen_then t (seen_in watch (log.drain (pass v).1).value)) (sym shown)
+      ∙ ap (λ u. seen_then (seen_in watch (pass w).0) (seen_in watch (log.drain u).value)) (sym same)
       ∙ all.shown;
-  after = sym rest.after ∙ ap (λ u. (drain u).1) (sym same) ∙ all.after;
+  after = sym rest.after ∙ ap (λ u. (log.drain u).world) (sym same) ∙ all.after;
   way = λ u p. way-above watch w v u x c at s high some same p;
 }
   where
@@ -264,5 +255,5 @@ run-drained watch w u v c hops at last all others run lone led shows made =
     (subst (IsDrainedTo watch w (step u (Advance at)).1) both (drained-on watch w u (step u (Advance at)).1 (hopped watch hops) one (run-part watch w u c hops at others run) end))
 
 -- the run alone is part of the way along the drain
-pub run-way : (watch : Watch) (w u v : WorldState) (c hops at : ℕ) → AreOthersEmpty w.links c → IsRunIn w c hops at u → v ≡ u → IsPartWay w (drain_events w) v
-run-way watch w u v c hops at others run same = (run-part watch w u c hops at others run).way v (way-still u v (drain_events u) same)
+pub run-way : (watch : Watch) (w u v : WorldState) (c hops at : ℕ) → AreOthersEmpty w.links c → IsRunIn w c hops at u → v ≡ u → IsPartWay w (log.drain w).events v
+run-way watch w u v c hops at others run same = (run-part watch w u c hops at others run).way v (way-still u v (log.drain u).events same)

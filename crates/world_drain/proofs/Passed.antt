@@ -7,8 +7,8 @@ use Rattle.world_defs.specs.World.{WorldState}
 use Rattle.world_defs.specs.Step.{step, steps}
 use Rattle.world_defs.specs.Drain.{changed, changes, channels_of, pass}
 use Rattle.world_laws.proofs.Draining.{one_if, changes-push}
-use Rattle.event_lists.specs.PartWay.{IsPartWay}
-use Rattle.event_lists.proofs.PartWay.{way-first, way-next}
+use Rattle.log_defs.specs.Row.{IsPartWay}
+use Rattle.log_laws.proofs.PartWay.{way-first, way-next}
 use Rattle.world_drain.specs.declared.seen.Watch.{Watch}
 use Rattle.world_drain.specs.declared.seen.Seen.{Seen}
 use Rattle.world_drain.specs.Watch.{seen_in, seen_then}

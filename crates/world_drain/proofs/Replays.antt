@@ -7,9 +7,9 @@ use Rattle.world_defs.specs.World.{WorldState}
 use Rattle.world_defs.specs.Step.{step, steps}
 use Rattle.world_defs.specs.Drain.{changed, clear}
 use Rattle.world_defs.specs.Settle.{Stretch, then_clear, replay_each, serials}
-use Rattle.event_lists.specs.Events.{clear_events, replays_events}
-use Rattle.event_lists.specs.PartWay.{IsPartWay}
-use Rattle.event_lists.proofs.Settled.{replays-within, replays-behind}
+use Rattle.log_defs.specs.Logs as log
+use Rattle.log_defs.specs.Row.{IsPartWay}
+use Rattle.log_laws.proofs.Settles.{replays-within, replays-behind}
 use Rattle.fab_world.specs.Held.{IsLater, IsMoment}
 use Rattle.fab_world.proofs.Moments.{later-moment}
 use Rattle.world_drain.specs.Settling.{capped}
@@ -46,7 +46,7 @@ pub record Replaying (first now : WorldState) (from : ℕ) (moved : Bool) (reset
   pub moves_left : moves + (replays_from now from).moves ≡ (all_replays first).moves
   pub resets_left : cleared + (replays_from now from).resets ≡ (all_replays first).resets
   pub world_left : (replays_from now from).world ≡ (all_replays first).world
-  pub way : (v : WorldState) → IsPartWay now (replays_events (from_on from now.links.limbo) now) v → IsPartWay first (replays_events (serials first) first) v
+  pub way : (v : WorldState) → IsPartWay now (log.replays (from_on from now.links.limbo) now).events v → IsPartWay first (log.replays (serials first) first).events v
   pub later : IsLater first now
 
 pub replaying-none : (w : WorldState) → Replaying w w 0 false 0
@@ -62,7 +62,7 @@ replaying-none w =
       moves_left = omega (arith, a);
       resets_left = omega (arith, b);
       world_left = ap (λ s. s.world) whole;
-      way = λ v p. subst (λ ss. IsPartWay w (replays_events ss w) v) (on-zero w) p;
+      way = λ v p. subst (λ ss. IsPartWay w (log.replays ss w).events v) (on-zero w) p;
       later = later-same w;
     }
 
@@ -94,18 +94,18 @@ replaying-on first now next from serial moved one both resets more all r m found
       way = λ v p.
           let same : from_on (serial + 1) next.links.limbo ≡ left = ap (λ w. from_on (serial + 1) w.links.limbo) is ∙ behind-replay now serial in
           r.way v
-          (subst (λ ss. IsPartWay now (replays_events ss now) v) (sym (next-on now.links from serial links found).1)
-          (replays-behind serial left now next v is (subst (λ ss. IsPartWay next (replays_events ss next) v) same p)));
+          (subst (λ ss. IsPartWay now (log.replays ss now).events v) (sym (next-on now.links from serial links found).1)
+          (replays-behind serial left now next v is (subst (λ ss. IsPartWay next (log.replays ss next).events v) same p)));
       later = later-both first now next r.later (replay-later now next serial is);
     }
 
 -- memory ran out within a replay and the clear after it
 pub replaying-cut : (first now v : WorldState) (from serial : ℕ) (moved : Bool) (resets : ℕ) → Replaying first now from moved resets
-    → IsMoment first → next_limbo now.links from ≡ Some serial → IsPartWay now (Replay serial ∷ clear_events (step now (Replay serial)).1) v → IsPartWay first (replays_events (serials first) first) v
+    → IsMoment first → next_limbo now.links from ≡ Some serial → IsPartWay now (Replay serial ∷ (log.clear (step now (Replay serial)).1).events) v → IsPartWay first (log.replays (serials first) first).events v
 replaying-cut first now v from serial moved resets r m found p =
     let links : IsLinks now.links = (later-moment first now m r.later).world.links in
     r.way v
-    (subst (λ ss. IsPartWay now (replays_events ss now) v) (sym (next-on now.links from serial links found).1) (replays-within serial (from_on (serial + 1) now.links.limbo) now v p))
+    (subst (λ ss. IsPartWay now (log.replays ss now).events v) (sym (next-on now.links from serial links found).1) (replays-within serial (from_on (serial + 1) now.links.limbo) now v p))
 
 -- at the end no serial is left
 pub replaying-all : (first now : WorldState) (from : ℕ) (moved : Bool) (resets : ℕ) → Replaying first now from moved resets → next_limbo now.links from ≡ None

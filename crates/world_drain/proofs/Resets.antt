@@ -8,11 +8,13 @@ use Rattle.world_defs.specs.declared.effect.Effect.{Effect}
 use Rattle.world_defs.specs.declared.effect.Effect.TheVariants.{Idle, Reset as WasReset}
 use Rattle.world_defs.specs.World.{WorldState}
 use Rattle.world_defs.specs.Step.{of_links, was_reset, step, steps, followed_by}
-use Rattle.world_defs.specs.Drain.{changes, drain, resets_of, reset_count, clear}
+use Rattle.world_defs.specs.Drain.{changes, resets_of, reset_count, clear}
 use Rattle.world_laws.proofs.Draining.{changes-push}
 use Rattle.world_laws.proofs.Clearing.{reset-changed, clear-idle}
-use Rattle.event_lists.specs.PartWay.{IsPartWay}
-use Rattle.event_lists.proofs.PartWay.{way-first, way-next}
+use Rattle.log_defs.specs.Logs as log
+use Rattle.log_defs.specs.Row.{IsPartWay}
+use Rattle.log_defs.proofs.Worlds.{drain-log}
+use Rattle.log_laws.proofs.PartWay.{way-first, way-next}
 
 -- a reset of an empty channel is idle
 reset-idle : (w : WorldState) (c : ℕ) → packet_in w.links c ≡ None → step w (Reset c) ≡ (Idle, w)
@@ -109,10 +111,10 @@ resetting-all first now from resets r empty =
     λ i. (all i, here i)
 
 -- resets after a drain are a clear
-pub is-clear : {E : Type 0} (w u v : WorldState) (r : Result ℕ E) → u ≡ (drain w).1
+pub is-clear : {E : Type 0} (w u v : WorldState) (r : Result ℕ E) → u ≡ (log.drain w).world
     → IfOk r (λ n. reset_count (steps u (resets_of u)) ≡ (n, v)) → IfOk r (λ n. clear w ≡ (n, v))
 unfolding clear
-is-clear w u v (Ok n) drained is = ap (λ x. reset_count (steps x (resets_of x))) (sym drained) ∙ is
+is-clear w u v (Ok n) drained is = ap (λ x. reset_count (steps x (resets_of x))) (ap (λ r. r.1) (drain-log w) ∙ sym drained) ∙ is
 is-clear w u v (Err e) drained is = tt
 
 pub is-idle : {E : Type 0} (w v : WorldState) (r : Result ℕ E) → IfOk r (λ n. clear w ≡ (n, v)) → OnOk r (is_idle v.links ≡ true)

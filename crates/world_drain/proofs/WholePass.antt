@@ -9,8 +9,8 @@ use Rattle.world_defs.specs.Asking.{all_given_up}
 use Rattle.world_defs.specs.Settle.{Stretch, round_pass, is_quiet, is_last_pass}
 use Rattle.world_laws.specs.Settling.{RoundPasses, joined_stretch}
 use Rattle.world_laws.proofs.Passes.{measure, pass-cost, not_last-moves}
-use Rattle.event_lists.specs.PartWay.{IsPartWay}
-use Rattle.event_lists.proofs.Settled.{passes_from, passes-behind}
+use Rattle.log_defs.specs.Row.{IsPartWay}
+use Rattle.log_laws.proofs.Settles.{passes_from, passes-behind}
 use Rattle.world_drain.specs.Settling.{capped, ArePasses}
 use Rattle.world_drain.proofs.Injects.{all_injects}
 use Rattle.world_drain.proofs.Replays.{all_replays}
@@ -57,7 +57,7 @@ pub record Passing (first now : WorldState) (resets : ℕ) : Type 0 where
   pub before : ℕ
   pub counted : resets ≡ capped before
   pub more : (n : ℕ) (s : Stretch) → RoundPasses n now s → Longer first s.world (before + s.resets)
-  pub way : (v : WorldState) → IsPartWay now (passes_from now) v → IsPartWay first (passes_from first) v
+  pub way : (v : WorldState) → IsPartWay now (passes_from now).events v → IsPartWay first (passes_from first).events v
 
 pub passing-none : (w : WorldState) → Passing w w 0
 passing-none w = record {

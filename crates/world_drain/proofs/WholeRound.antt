@@ -11,8 +11,8 @@ use Rattle.world_laws.specs.Settling.{RoundPasses, IsRound, AllRounds, Settles}
 use Rattle.world_laws.proofs.Passes.{round-is, rounds-one}
 use Rattle.world_laws.proofs.Rounds.{Going, left_over, not_last-less, round_going, settle-settles, settles-one}
 use Rattle.world_laws.proofs.Resting.{settles-idle}
-use Rattle.event_lists.specs.PartWay.{IsPartWay}
-use Rattle.event_lists.proofs.Settled.{rounds_from, rounds-behind}
+use Rattle.log_defs.specs.Row.{IsPartWay}
+use Rattle.log_laws.proofs.Settles.{rounds_from, rounds-behind}
 use Rattle.fab_world.specs.Held.{IsLater, IsMoment}
 use Rattle.fab_world.proofs.Moments.{later-moment}
 use Rattle.world_drain.specs.Rounds.{AreRounds}
@@ -54,7 +54,7 @@ pub record Settling (first now : WorldState) (rounds resets left struck : ℕ) :
   pub cost : rounds + left_over now ≤ left_over first
   pub left_is : left ≡ unacknowledged_in now
   pub struck_is : struck ≡ now.struck
-  pub way : (v : WorldState) → IsPartWay now (rounds_from now) v → IsPartWay first (rounds_from first) v
+  pub way : (v : WorldState) → IsPartWay now (rounds_from now).events v → IsPartWay first (rounds_from first).events v
   pub later : IsLater first now
 
 pub settling-none : (w : WorldState) (left struck : ℕ) → left ≡ unacknowledged_in w → struck ≡ w.struck → Settling w w 0 0 left struck

@@ -5,9 +5,9 @@ ghost use Rattle.std.specs.Prelude.{◌≡◌, ◌<◌, ◌≤◌, ◌+◌, ◌^
 ghost use Rattle.std.specs.Prelude.{OnErr};
 ghost use Rattle.world_defs.specs.declared.event.Event.TheVariants.{Advance};
 ghost use Rattle.world_defs.specs.Step.{step};
-ghost use Rattle.world_defs.specs.Drain.{channels_of, pass, drain};
-ghost use Rattle.event_lists.specs.Events.{drain_events};
-ghost use Rattle.event_lists.specs.PartWay.{IsPartWay};
+ghost use Rattle.world_defs.specs.Drain.{channels_of, pass};
+ghost use Rattle.log_defs.specs.Logs as log;
+ghost use Rattle.log_defs.specs.Row.{IsPartWay};
 ghost use Rattle.world_drain.specs.Watch.{seen_in, seen_then};
 ghost use Rattle.world_drain.specs.Awake.{AreAwake, AreAwakeBehind, IsNextAwake, IsStill, hop_of};
 
@@ -25,10 +25,10 @@ pub(crate) fn drain_by_passes(
     w: &mut World,
     watch: &Watch,
 ) -> Result<Seen, AllocError>
-    ensures seen { IfOk result (λ s. s ≡ seen_in watch.now (drain w.old).0) }
+    ensures seen { IfOk result (λ s. s ≡ seen_in watch.now (log.drain w.old).value) }
     ensures few { IfOk result (λ s. s.changes ≤ 1275264) }
-    ensures after { OnOk result (w.new ≡ (drain w.old).1) }
-    ensures err { OnErr result (IsPartWay w.old (drain_events w.old) w.new) }
+    ensures after { OnOk result (w.new ≡ (log.drain w.old).world) }
+    ensures err { OnErr result (IsPartWay w.old (log.drain w.old).events w.new) }
 {
     let mut noted = None;
     all_passes(alloc, w, watch, &mut noted)
@@ -42,10 +42,10 @@ fn all_passes(
     noted: &mut Option<Awake>,
 ) -> Result<Seen, AllocError>
     requires { IfSome noted.old (λ a. AreAwake w.old.links a.marks a.places.items a.counts.items) }
-    ensures seen { IfOk result (λ s. s ≡ seen_in watch.now (drain w.old).0) }
+    ensures seen { IfOk result (λ s. s ≡ seen_in watch.now (log.drain w.old).value) }
     ensures few { IfOk result (λ s. s.changes ≤ 1275264) }
-    ensures after { OnOk result (w.new ≡ (drain w.old).1) }
-    ensures err { OnErr result (IsPartWay w.old (drain_events w.old) w.new) }
+    ensures after { OnOk result (w.new ≡ (log.drain w.old).world) }
+    ensures err { OnErr result (IsPartWay w.old (log.drain w.old).events w.new) }
 {
     let _few = w.hops_bound();
     let mut seen = watch.nothing();

@@ -5,8 +5,8 @@ ghost use Rattle.link_defs.specs.Links.{is_idle};
 ghost use Rattle.world_defs.specs.World.{fabric_of, host_count};
 ghost use Rattle.world_defs.specs.Step.{steps};
 ghost use Rattle.world_defs.specs.Drain.{resets_of, reset_count, clear};
-ghost use Rattle.event_lists.specs.Events.{clear_events};
-ghost use Rattle.event_lists.specs.PartWay.{IsPartWay};
+ghost use Rattle.log_defs.specs.Logs as log;
+ghost use Rattle.log_defs.specs.Row.{IsPartWay};
 
 use crate::draining::drain;
 use crate::happening::happen;
@@ -19,7 +19,7 @@ use std::alloc::{AllocError, Global};
 pub fn clear(alloc: Global, w: &mut World) -> Result<u64, AllocError>
     ensures ok { IfOk result (λ resets. clear w.old ≡ (resets, w.new)) }
     ensures few { IfOk result (λ resets. resets ≤ 1152) }
-    ensures err { OnErr result (IsPartWay w.old (clear_events w.old) w.new) }
+    ensures err { OnErr result (IsPartWay w.old (log.clear w.old).events w.new) }
     ensures idle { OnOk result (is_idle w.new.links ≡ true) }
     ensures fabric { fabric_of w.new ≡ fabric_of w.old }
     ensures hosts { host_count w.new ≡ host_count w.old }

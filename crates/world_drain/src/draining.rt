@@ -5,9 +5,9 @@ ghost use Rattle.link_defs.specs.Hops.{total_hops};
 ghost use Rattle.world_defs.specs.World.{fabric_of, host_count};
 ghost use Rattle.world_defs.specs.declared.event.Event.TheVariants.{Advance};
 ghost use Rattle.world_defs.specs.Step.{step};
-ghost use Rattle.world_defs.specs.Drain.{changes, drain};
-ghost use Rattle.event_lists.specs.Events.{drain_events};
-ghost use Rattle.event_lists.specs.PartWay.{IsPartWay};
+ghost use Rattle.world_defs.specs.Drain.{changes};
+ghost use Rattle.log_defs.specs.Logs as log;
+ghost use Rattle.log_defs.specs.Row.{IsPartWay};
 ghost use Rattle.world_drain.specs.Watch.{seen_in};
 ghost use Rattle.world_drain.specs.Part.{IsDrainedTo};
 
@@ -19,10 +19,10 @@ use std::alloc::{AllocError, Global};
 /// Advances packets until none moves any more: how many advances changed something, at most the hops that the packets
 /// had left. Running out of memory leaves a world that a prefix of the drain's events leads to.
 pub fn drain(alloc: Global, w: &mut World) -> Result<u64, AllocError>
-    ensures ok { IfOk result (λ n. n ≡ changes (drain w.old).0) }
+    ensures ok { IfOk result (λ n. n ≡ changes (log.drain w.old).value) }
     ensures few { IfOk result (λ n. n ≤ total_hops w.old.links) }
-    ensures after { OnOk result (w.new ≡ (drain w.old).1) }
-    ensures err { OnErr result (IsPartWay w.old (drain_events w.old) w.new) }
+    ensures after { OnOk result (w.new ≡ (log.drain w.old).world) }
+    ensures err { OnErr result (IsPartWay w.old (log.drain w.old).events w.new) }
 {
     let watch = Watch {
         mapper: 0,
@@ -35,10 +35,10 @@ pub fn drain(alloc: Global, w: &mut World) -> Result<u64, AllocError>
 
 /// A drain, with what a mapper sees of it. Running out of memory leaves a world that a prefix of its events leads to.
 pub fn drain_watching(alloc: Global, w: &mut World, watch: Watch) -> Result<Seen, AllocError>
-    ensures seen { IfOk result (λ s. s ≡ seen_in watch (drain w.old).0) }
+    ensures seen { IfOk result (λ s. s ≡ seen_in watch (log.drain w.old).value) }
     ensures heard { IfOk result (λ s. IfSome s.probed (λ h. h < host_count w.old)) }
-    ensures after { OnOk result (w.new ≡ (drain w.old).1) }
-    ensures err { OnErr result (IsPartWay w.old (drain_events w.old) w.new) }
+    ensures after { OnOk result (w.new ≡ (log.drain w.old).world) }
+    ensures err { OnErr result (IsPartWay w.old (log.drain w.old).events w.new) }
     ensures fabric { fabric_of w.new ≡ fabric_of w.old }
     ensures hosts { host_count w.new ≡ host_count w.old }
 {
@@ -48,9 +48,9 @@ pub fn drain_watching(alloc: Global, w: &mut World, watch: Watch) -> Result<Seen
 
 // A packet that is alone runs out, and then what is left is drained.
 fn drain_parts(alloc: Global, w: &mut World, watch: &Watch) -> Result<Seen, AllocError>
-    ensures seen { IfOk result (λ s. s ≡ seen_in watch.now (drain w.old).0) }
-    ensures after { OnOk result (w.new ≡ (drain w.old).1) }
-    ensures err { OnErr result (IsPartWay w.old (drain_events w.old) w.new) }
+    ensures seen { IfOk result (λ s. s ≡ seen_in watch.now (log.drain w.old).value) }
+    ensures after { OnOk result (w.new ≡ (log.drain w.old).world) }
+    ensures err { OnErr result (IsPartWay w.old (log.drain w.old).events w.new) }
 {
     let first = run_out(alloc, w, watch)?;
     if w.links_idle() {
@@ -65,7 +65,7 @@ fn drain_parts(alloc: Global, w: &mut World, watch: &Watch) -> Result<Seen, Allo
 fn run_out(alloc: Global, w: &mut World, watch: &Watch) -> Result<Seen, AllocError>
     ensures part { IfOk result (IsDrainedTo watch.now w.old w.new) }
     ensures few { IfOk result (λ s. s.changes ≤ 1108) }
-    ensures err { OnErr result (IsPartWay w.old (drain_events w.old) w.new) }
+    ensures err { OnErr result (IsPartWay w.old (log.drain w.old).events w.new) }
 {
     match w.lone() {
         Some(c) => {

@@ -8,8 +8,8 @@ ghost use Rattle.world_defs.specs.World.{host_count, node_at, addresses};
 ghost use Rattle.world_defs.specs.Step.{step, steps};
 ghost use Rattle.world_defs.specs.Drain.{changed, changes};
 ghost use Rattle.world_defs.specs.Settle.{is_quiet, round_pass, pass_bound};
-ghost use Rattle.event_lists.specs.Events.{round_pass_events, round_passes_events};
-ghost use Rattle.event_lists.specs.PartWay.{IsPartWay};
+ghost use Rattle.log_defs.specs.Logs as log;
+ghost use Rattle.log_defs.specs.Row.{IsPartWay};
 ghost use Rattle.fab_world.specs.Events.{IsHostOf};
 ghost use Rattle.world_drain.specs.Settling.{capped, ArePasses};
 
@@ -25,7 +25,7 @@ use std::alloc::{AllocError, Global};
 /// Running out of memory leaves a world that a prefix of their events leads to.
 pub(crate) fn passes(alloc: Global, w: &mut World) -> Result<u64, AllocError>
     ensures ok { IfOk result (λ resets. ArePasses w.old w.new resets) }
-    ensures err { OnErr result (IsPartWay w.old (round_passes_events (pass_bound w.old) w.old) w.new) }
+    ensures err { OnErr result (IsPartWay w.old (log.round_passes (pass_bound w.old) w.old).events w.new) }
 {
     let mut resets: u64 = 0;
     'passing: loop {
@@ -73,7 +73,7 @@ fn pass(alloc: Global, w: &mut World) -> Result<Told, AllocError>
     ensures moved { IfOk result (λ t. t.moved ≡ nat_lt 0 (round_pass w.old).moves) }
     ensures resets { IfOk result (λ t. t.resets ≡ capped (round_pass w.old).resets) }
     ensures after { OnOk result (w.new ≡ (round_pass w.old).world) }
-    ensures err { OnErr result (IsPartWay w.old (round_pass_events w.old) w.new) }
+    ensures err { OnErr result (IsPartWay w.old (log.round_pass w.old).events w.new) }
 {
     give_up_all(alloc, w)?;
     let moved = inject_all(alloc, w)?;

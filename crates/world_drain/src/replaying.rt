@@ -4,8 +4,8 @@ ghost use Rattle.std.specs.Prelude.{◌≡◌, ◌∷◌, [], ◌||◌, ◌+◌,
 ghost use Rattle.world_defs.specs.declared.event.Event.TheVariants.{Replay};
 ghost use Rattle.world_defs.specs.Step.{step, steps};
 ghost use Rattle.world_defs.specs.Settle.{then_clear, replay_each, serials};
-ghost use Rattle.event_lists.specs.Events.{clear_events, replays_events};
-ghost use Rattle.event_lists.specs.PartWay.{IsPartWay};
+ghost use Rattle.log_defs.specs.Logs as log;
+ghost use Rattle.log_defs.specs.Row.{IsPartWay};
 ghost use Rattle.world_drain.specs.Settling.{capped};
 
 use crate::clearing::clear;
@@ -41,7 +41,7 @@ pub(crate) fn replay_all(alloc: Global, w: &mut World) -> Result<Told, AllocErro
     ensures moved { IfOk result (λ t. t.moved ≡ nat_lt 0 (replay_each (serials w.old) w.old).moves) }
     ensures resets { IfOk result (λ t. t.resets ≡ capped (replay_each (serials w.old) w.old).resets) }
     ensures after { OnOk result (w.new ≡ (replay_each (serials w.old) w.old).world) }
-    ensures err { OnErr result (IsPartWay w.old (replays_events (serials w.old) w.old) w.new) }
+    ensures err { OnErr result (IsPartWay w.old (log.replays (serials w.old) w.old).events w.new) }
 {
     w.moment();
     let mut told = Told {
@@ -63,7 +63,7 @@ fn replay(alloc: Global, w: &mut World, serial: u64) -> Result<Told, AllocError>
     ensures resets { IfOk result (λ t. t.resets ≡ capped (then_clear (steps w.old (Replay serial ∷ []))).resets) }
     ensures after { OnOk result (w.new ≡ (then_clear (steps w.old (Replay serial ∷ []))).world) }
     ensures err { OnErr result (IsPartWay w.old
-        (Replay serial ∷ clear_events (step w.old (Replay serial)).1) w.new) }
+        (Replay serial ∷ (log.clear (step w.old (Replay serial)).1).events) w.new) }
 {
     let moved = happens(alloc, w, Event::Replay(serial))?;
     let resets = clear(alloc, w)?;

@@ -10,8 +10,8 @@ ghost use Rattle.world_defs.specs.Step.{step, after_all};
 ghost use Rattle.world_defs.specs.Traffic.{IsLawfulTraffic};
 ghost use Rattle.world_defs.specs.Settle.{unacknowledged_in, expiries_of, expiries, round, round_bound, settle};
 ghost use Rattle.world_defs.specs.Settled.{IsSettled};
-ghost use Rattle.event_lists.specs.Events.{round_events, rounds_events, settle_events};
-ghost use Rattle.event_lists.specs.PartWay.{IsPartWay};
+ghost use Rattle.log_defs.specs.Logs as log;
+ghost use Rattle.log_defs.specs.Row.{IsPartWay};
 ghost use Rattle.lawful_laws.specs.Moments.{settle_clears};
 ghost use Rattle.message_laws.specs.Got.{IsAllGot};
 ghost use Rattle.fab_world.specs.Events.{IsHostOf};
@@ -50,7 +50,7 @@ pub fn settle(alloc: Global, w: &mut World) -> Result<Settled, AllocError>
     ensures unacked { IfOk result (λ s. s.unacked ≡ unacknowledged_in w.new) }
     ensures settled { OnOk result (w.new.injected < last_count → IsSettled w.new) }
     ensures got { IfOk result (λ s. s.unacked ≡ 0 → IsAllGot w.new) }
-    ensures err { OnErr result (IsPartWay w.old (settle_events w.old) w.new) }
+    ensures err { OnErr result (IsPartWay w.old (log.settle w.old).events w.new) }
     ensures idle { OnOk result (is_idle w.new.links ≡ true) }
     ensures fabric { fabric_of w.new ≡ fabric_of w.old }
     ensures hosts { host_count w.new ≡ host_count w.old }
@@ -79,7 +79,7 @@ struct Progress {
 fn all_rounds(alloc: Global, w: &mut World) -> Result<Settled, AllocError>
     ensures ok { IfOk result (λ s. AreRounds w.old w.new s.rounds s.resets) }
     ensures unacked { IfOk result (λ s. s.unacked ≡ unacknowledged_in w.new) }
-    ensures err { OnErr result (IsPartWay w.old (rounds_events (round_bound w.old) w.old) w.new) }
+    ensures err { OnErr result (IsPartWay w.old (log.rounds (round_bound w.old) w.old).events w.new) }
 {
     w.moment();
     let _planned = w.planned();
@@ -130,7 +130,7 @@ fn is_last(before: Progress, now: Progress) -> bool
 fn round(alloc: Global, w: &mut World) -> Result<u64, AllocError>
     ensures resets { IfOk result (λ resets. resets ≡ capped (round w.old).resets) }
     ensures after { OnOk result (w.new ≡ (round w.old).world) }
-    ensures err { OnErr result (IsPartWay w.old (round_events w.old) w.new) }
+    ensures err { OnErr result (IsPartWay w.old (log.round w.old).events w.new) }
 {
     expire_all(alloc, w)?;
     passes(alloc, w)

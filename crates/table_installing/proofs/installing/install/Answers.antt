@@ -2,13 +2,13 @@ use Rattle.std.proofs.Common.{◌≡◌, ap, sym, ◌∙◌, subst, refl, ℕ, N
 use Rattle.std.specs.Prelude.{Some, option_map}
 use Rattle.world_defs.specs.Table.{Adoption}
 use Rattle.world_defs.specs.World.{WorldState, host_count}
-use Rattle.world_defs.specs.Install.{hosts_installed}
-use Rattle.event_lists.proofs.Installed.{install-given_up, install-hosts}
+use Rattle.log_defs.specs.Laws.{came_to}
+use Rattle.log_defs.specs.Logs as log
+use Rattle.log_laws.proofs.Installs.{install-given_up, install-hosts}
 use Rattle.fab_world.specs.Held.{IsLater}
 use Rattle.fab_world.proofs.Moments.{later-adopted, later-channels, set-stays}
-use Rattle.table_installing.proofs.Causes.{tells}
-use Rattle.table_installing.proofs.Installs.{hosts-later, adopted-later}
-use Rattle.table_installing.proofs.InstallHosts.{few-hosts, fewer-hosts, adopter-there, told, idle-behind, cut-of}
+use Rattle.table_installing.proofs.Causes.{idle-behind, tells}
+use Rattle.table_installing.proofs.InstallHosts.{few-hosts, fewer-hosts, adopter-there, told, cut-of, hosts-later, adopted-later}
 use Rattle.world_drain.proofs.Later.{later-both, way-later, on-any}
 use Rattle.world_drain.proofs.GivingUp.{given_up-later}
 use Rattle.table_installing.proofs.installing.install.Goals as goal
@@ -81,7 +81,7 @@ done c =
     ]
 
 -- and is what the definition says, where routes are adopted
-served : (c : goal.Joined-adopter) → (a : Adoption) → c.give_up_all.new.w.adopted ≡ Some a → hosts_installed a c.args.tries c.args.hosts.now c.give_up_all.new.w ≡ (c.match-adopter.acked, c.match-adopter.w)
+served : (c : goal.Joined-adopter) → (a : Adoption) → c.give_up_all.new.w.adopted ≡ Some a → came_to (log.hosts a c.args.tries c.args.hosts.now c.give_up_all.new.w) ≡ (c.match-adopter.acked, c.match-adopter.w)
 served c a e =
     elim c.match-adopter.branch [
       | in-Some+in_ok-acked-in-Some w ↦ w.in_ok-acked-in-Some.ensures.acked a e ∙ (λ i. (sym w.acked-is i, sym w.w-is i))
@@ -105,7 +105,8 @@ returns-clause-cause c =
 
 pub returns-clause-idle : goal.returns-clause-idle
 returns-clause-idle c =
-    idle-behind c.args.w.now c.match-adopter.w c.args.hosts.now c.args.tries c.match-adopter.acked c.args.w.now.adopted c.moment.ensures.kept c.requires.idle c.requires.adopted (returns-clause-acked c)
+    let w : WorldState = c.args.w.now in
+    idle-behind (host_count w) w c.match-adopter.w c.args.hosts.now c.args.tries c.match-adopter.acked w.adopted refl c.reached.ensures c.moment.ensures.kept.adopted c.requires.idle c.requires.adopted c.requires.named (returns-clause-acked c)
 
 pub returns-clause-channels : goal.returns-clause-channels
 returns-clause-channels c = later-channels c.args.w.now c.match-adopter.w c.moment.ensures.kept (done c)

@@ -4,8 +4,8 @@ use Rattle.std.specs.List.{filter}
 use Rattle.std.proofs.lemmas.Option.{same_Some}
 use Rattle.world_defs.specs.Table.{Adoption}
 use Rattle.world_defs.specs.World.{WorldState, host_count}
-use Rattle.event_lists.specs.Events.{hosts_events}
-use Rattle.event_lists.proofs.PartWay.{way-still}
+use Rattle.log_defs.specs.Logs as log
+use Rattle.log_laws.proofs.PartWay.{way-still}
 use Rattle.route_install.specs.declared.installer.Work.{Work}
 use Rattle.route_install.specs.Installing.{Installation, is_done, awaited, changed}
 use Rattle.world_drain.proofs.Later.{on-any}
@@ -29,7 +29,7 @@ tries-then i after dst part found e is = (λ j. (is j).tries) ∙ (λ j. (tried-
 -- ---- memory ran out for the works
 pub returns-in_err-works-clause-err : goal.returns-in_err-works-clause-err
 returns-in_err-works-clause-err c =
-    λ a e. on-any c.from_residual.result (way-still c.args.w.now c.args.w.now (hosts_events a c.args.tries c.args.hosts.now c.args.w.now) refl)
+    λ a e. on-any c.from_residual.result (way-still c.args.w.now c.args.w.now (log.hosts a c.args.tries c.args.hosts.now c.args.w.now).events refl)
 
 -- ---- the tries
 pub of_works-installer-requires : goal.of_works-installer-requires

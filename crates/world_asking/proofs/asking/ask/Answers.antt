@@ -1,5 +1,5 @@
 use Rattle.std.proofs.Common.{sym, ◌∙◌}
-use Rattle.event_lists.proofs.Asked.{ask-given_up, ask-hosts, ask-loops}
+use Rattle.log_laws.proofs.Asks.{ask-given_up, ask-hosts, ask-loops}
 use Rattle.world_drain.proofs.Later.{on-any}
 use Rattle.world_asking.proofs.asking.ask.Goals as goal
 

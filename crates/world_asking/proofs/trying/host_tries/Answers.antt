@@ -1,8 +1,8 @@
 use Rattle.std.proofs.Common.{◌≡◌, ap, sym, refl, ◌∙◌, ◌&&◌, false}
 use Rattle.std.specs.Prelude.{is_some, None}
-use Rattle.world_defs.specs.Asking.{host_try}
-use Rattle.event_lists.specs.Events.{host_try_events}
-use Rattle.event_lists.proofs.Events.{host_try-done}
+use Rattle.log_defs.specs.Logs as log
+use Rattle.log_defs.proofs.Rows.{host_try-row, byte_asks}
+use Rattle.world_defs.specs.EightBits.{IsByteEvent}
 use Rattle.world_drain.proofs.Later.{on-any}
 use Rattle.world_asking.proofs.Tries.{trying-on, trying-cut}
 use Rattle.world_asking.proofs.trying.host_tries.Goals as goal
@@ -10,13 +10,12 @@ use Rattle.world_asking.proofs.trying.host_tries.Goals as goal
 pub returns-in_err-t-clause-err : goal.returns-in_err-t-clause-err
 returns-in_err-t-clause-err c =
     on-any c.from_residual.result
-    (trying-cut is_some None (host_try c.args.mapper c.args.walk.now) (host_try_events c.args.mapper c.args.walk.now) c.args.tries c.args.w.now c.trying.w c.host_try.new.w c.trying.left c.trying.harmed
-    c.trying.invariant c.trying-test.true c.in_err-t.ensures.err)
+    (trying-cut is_some None (log.host_try c.args.mapper c.args.walk.now) c.args.tries c.args.w.now c.trying.w c.host_try.new.w c.trying.left c.trying.harmed c.trying.invariant c.trying-test.true c.in_err-t.ensures.err)
 
 pub trying-preserved : goal.trying-preserved
 trying-preserved c =
     let t = c.in_ok-t.ensures in
-    let none : is_some (host_try c.args.mapper c.args.walk.now c.trying.w).found ≡ false = ap is_some (sym t.found) ∙ sym c.is_some.ensures ∙ c.if-is_some.false in
-    trying-on is_some None (host_try c.args.mapper c.args.walk.now) (host_try_events c.args.mapper c.args.walk.now) c.args.tries c.args.w.now c.trying.w c.host_try.new.w c.trying.left _ c.trying.harmed c.both-harmed.result
-    c.trying.invariant c.trying-test.true refl none t.after (λ w. (host_try-done c.args.mapper c.args.walk.now w).there) t.fabric t.hosts
+    let none : is_some (log.host_try c.args.mapper c.args.walk.now c.trying.w).value.found ≡ false = ap is_some (sym t.found) ∙ sym c.is_some.ensures ∙ c.if-is_some.false in
+    trying-on is_some None (log.host_try c.args.mapper c.args.walk.now) c.args.tries c.args.w.now c.trying.w c.host_try.new.w c.trying.left _ c.trying.harmed c.both-harmed.result
+    c.trying.invariant c.trying-test.true refl none t.after (host_try-row {Q = IsByteEvent} byte_asks (λ h walk looped. tt) c.args.mapper c.args.walk.now c.trying.w).there t.fabric t.hosts
     (c.both-harmed.ensures ∙ ap (λ b. c.trying.harmed && b) t.harmed)

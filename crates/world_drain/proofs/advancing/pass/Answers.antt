@@ -3,7 +3,7 @@ use Rattle.std.specs.List.{range_with_len}
 use Rattle.world_defs.specs.declared.event.Event.TheVariants.{Advance}
 use Rattle.world_defs.specs.Step.{step}
 use Rattle.world_drain.specs.Watch.{seen_in}
-use Rattle.event_lists.proofs.PartWay.{way-still}
+use Rattle.log_laws.proofs.PartWay.{way-still}
 use Rattle.world_drain.proofs.Later.{on-any}
 use Rattle.world_drain.proofs.Passing.{as-long}
 use Rattle.world_drain.proofs.Passed.{passed-none, passed-on, passed-all}

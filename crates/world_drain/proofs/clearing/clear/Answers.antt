@@ -1,4 +1,4 @@
-use Rattle.event_lists.proofs.Drained.{clear-within, clear-behind}
+use Rattle.log_laws.proofs.Drains.{clear-within, clear-behind}
 use Rattle.fab_world.specs.Held.{IsLater}
 use Rattle.fab_world.proofs.Moments.{later-fabric, later-hosts, later-channels, later-adopted}
 use Rattle.world_drain.proofs.EventRows.{resets-later}

@@ -1,7 +1,7 @@
 use Rattle.std.proofs.Common.{◌-◌, map, length}
 use Rattle.std.specs.List.{range_with_len}
 use Rattle.world_defs.specs.declared.event.Event.TheVariants.{Reset}
-use Rattle.event_lists.proofs.PartWay.{way-still}
+use Rattle.log_laws.proofs.PartWay.{way-still}
 use Rattle.world_drain.proofs.Later.{on-any}
 use Rattle.world_drain.proofs.Resets.{resetting-none, resetting-on, resetting-all}
 use Rattle.world_drain.proofs.clearing.reset_full.Goals as goal

@@ -2,7 +2,7 @@ use Rattle.std.proofs.Common.{◌<◌, ◌-◌, ◌+◌, map, arith}
 use Rattle.std.specs.List.{range_with_len}
 use Rattle.world_defs.specs.declared.event.Event.TheVariants.{GiveUp}
 use Rattle.world_defs.specs.World.{host_count}
-use Rattle.event_lists.proofs.PartWay.{way-still}
+use Rattle.log_laws.proofs.PartWay.{way-still}
 use Rattle.fab_world.specs.Resting.{IsSilentIn}
 use Rattle.fab_world.proofs.PassedBy.{up-to, to-end}
 use Rattle.world_drain.proofs.AtRest.{giving-by}

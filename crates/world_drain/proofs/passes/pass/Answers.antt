@@ -2,9 +2,8 @@ use Rattle.std.proofs.Common.{◌≡◌, map, sym, ◌∙◌, ap, subst}
 use Rattle.std.specs.List.{range_with_len}
 use Rattle.world_defs.specs.declared.event.Event.TheVariants.{Inject}
 use Rattle.world_defs.specs.World.{WorldState}
-use Rattle.event_lists.specs.Events.{after_injections}
-use Rattle.event_lists.specs.PartWay.{IsPartWay}
-use Rattle.event_lists.proofs.Settled.{pass-given_up, pass-injects, pass-clear, pass-replays}
+use Rattle.log_defs.specs.Row.{IsPartWay}
+use Rattle.log_laws.proofs.Settles.{after_injections, pass-given_up, pass-injects, pass-clear, pass-replays}
 use Rattle.world_drain.proofs.Later.{on-any}
 use Rattle.world_drain.proofs.WholePass.{IsPass, pass-told, injects-there}
 use Rattle.world_drain.proofs.passes.pass.Goals as goal

@@ -1,4 +1,4 @@
-use Rattle.event_lists.proofs.Settled.{passes-within}
+use Rattle.log_laws.proofs.Settles.{passes-within}
 use Rattle.world_drain.proofs.Later.{on-any}
 use Rattle.world_drain.proofs.WholePass.{IsPass, passing-none, passing-on, passing-end, pass-smaller}
 use Rattle.world_drain.proofs.passes.passes.Goals as goal

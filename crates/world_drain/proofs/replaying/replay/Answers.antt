@@ -1,16 +1,16 @@
 use Rattle.std.proofs.Common.{◌∷◌}
 use Rattle.world_defs.specs.declared.event.Event.TheVariants.{Replay}
 use Rattle.world_defs.specs.Step.{step}
-use Rattle.event_lists.specs.Events.{clear_events}
-use Rattle.event_lists.proofs.PartWay.{way-still}
-use Rattle.event_lists.proofs.Settled.{replay-clear}
+use Rattle.log_defs.specs.Logs as log
+use Rattle.log_laws.proofs.PartWay.{way-still}
+use Rattle.log_laws.proofs.Settles.{replay-clear}
 use Rattle.world_drain.proofs.Later.{on-any}
 use Rattle.world_drain.proofs.Replays.{replay-moved, replay-resets, replay-world}
 use Rattle.world_drain.proofs.replaying.replay.Goals as goal
 
 pub returns-in_err-moved-clause-err : goal.returns-in_err-moved-clause-err
 returns-in_err-moved-clause-err c =
-    let events = Replay c.args.serial ∷ clear_events (step c.args.w.now (Replay c.args.serial)).1 in
+    let events = Replay c.args.serial ∷ (log.clear (step c.args.w.now (Replay c.args.serial)).1).events in
     on-any c.from_residual.result (way-still c.args.w.now c.happens.new.w events c.in_err-moved.ensures.err)
 
 pub returns-in_err-resets-clause-err : goal.returns-in_err-resets-clause-err

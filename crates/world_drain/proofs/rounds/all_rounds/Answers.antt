@@ -1,4 +1,4 @@
-use Rattle.event_lists.proofs.Settled.{rounds-within}
+use Rattle.log_laws.proofs.Settles.{rounds-within}
 use Rattle.world_drain.proofs.Later.{on-any}
 use Rattle.world_drain.proofs.WholeRound.{IsOneRound, settling-none, settling-on, settling-end, round-smaller, rounds-few}
 use Rattle.std.proofs.Common.{arith}

@@ -1,7 +1,7 @@
 use Rattle.std.proofs.Common.{◌-◌, arith}
 use Rattle.std.specs.List.{range_with_len}
 use Rattle.world_defs.specs.World.{host_count}
-use Rattle.event_lists.proofs.PartWay.{way-still}
+use Rattle.log_laws.proofs.PartWay.{way-still}
 use Rattle.world_drain.proofs.Expiries.{due_of, expiring-none, expiring-on, expiring-all}
 use Rattle.world_drain.proofs.Later.{on-any}
 use Rattle.world_drain.proofs.rounds.expire_host.Goals as goal

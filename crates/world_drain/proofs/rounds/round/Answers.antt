@@ -1,4 +1,4 @@
-use Rattle.event_lists.proofs.Settled.{round-expiries, round-passes}
+use Rattle.log_laws.proofs.Settles.{round-expiries, round-passes}
 use Rattle.world_drain.proofs.Later.{on-any, on-err}
 use Rattle.world_drain.proofs.WholeRound.{resets-told, world-told}
 use Rattle.world_drain.proofs.rounds.round.Goals as goal

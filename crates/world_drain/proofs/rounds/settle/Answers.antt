@@ -5,7 +5,7 @@ use Rattle.world_laws.proofs.Rounds.{settle-settles, settles-bounded}
 use Rattle.lawful_laws.proofs.Settling.{settle-flows}
 use Rattle.message_laws.specs.Got.{IsAllGot}
 use Rattle.message_laws.proofs.Reaching.{settle-got}
-use Rattle.event_lists.proofs.Settled.{settle-clear, settle-rounds}
+use Rattle.log_laws.proofs.Settles.{settle-clear, settle-rounds}
 use Rattle.fab_world.specs.Held.{IsLater}
 use Rattle.fab_world.proofs.Moments.{later-fabric, later-hosts, later-channels, later-adopted}
 use Rattle.world_drain.proofs.Back.{ends-settled}

@@ -1,0 +1,3 @@
+pub mod Asks
+pub mod Rows
+pub mod Worlds

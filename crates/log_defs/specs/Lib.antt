@@ -1,0 +1,5 @@
+pub mod Examples
+pub mod Laws
+pub mod Log
+pub mod Logs
+pub mod Row
