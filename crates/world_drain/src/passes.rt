@@ -5,12 +5,11 @@ ghost use Rattle.std.specs.List.{list_all};
 ghost use Rattle.world_defs.specs.declared.event.Event.TheVariants.{Inject};
 ghost use Rattle.world_defs.specs.Node.{to_send};
 ghost use Rattle.world_defs.specs.World.{host_count, node_at, addresses};
-ghost use Rattle.world_defs.specs.Step.{step, steps};
-ghost use Rattle.world_defs.specs.Drain.{changed, changes};
+ghost use Rattle.world_defs.specs.Step.{steps};
+ghost use Rattle.world_defs.specs.Drain.{changes};
 ghost use Rattle.world_defs.specs.Settle.{is_quiet, round_pass, pass_bound};
 ghost use Rattle.log_defs.specs.Logs as log;
 ghost use Rattle.log_defs.specs.Row.{IsPartWay};
-ghost use Rattle.fab_world.specs.Events.{IsHostOf};
 ghost use Rattle.world_drain.specs.Settling.{capped, ArePasses};
 
 use crate::clearing::clear;
@@ -92,23 +91,8 @@ fn inject_all(alloc: Global, w: &mut World) -> Result<bool, AllocError>
     let mut moved = false;
     let mut from = 0;
     while let Some(host) = w.next_busy(from) {
-        moved |= inject_due(alloc, w, host)?;
+        moved |= happens(alloc, w, Event::Inject(host))?;
         from = host + 1;
     }
     Ok(moved)
-}
-
-// An injection of a host: whether it wasn't idle, as it would be of one that has nothing to send.
-fn inject_due(alloc: Global, w: &mut World, host: u16) -> Result<bool, AllocError>
-    requires { IsHostOf w.old host }
-    ensures changed { IfOk result (λ b. b ≡ changed (step w.old (Inject host)).0) }
-    ensures after { OnOk result (w.new ≡ (step w.old (Inject host)).1) }
-    ensures err { OnErr result (w.new ≡ w.old) }
-    ensures hosts { host_count w.new ≡ host_count w.old }
-{
-    if w.has_to_send(host) {
-        happens(alloc, w, Event::Inject(host))
-    } else {
-        Ok(false)
-    }
 }

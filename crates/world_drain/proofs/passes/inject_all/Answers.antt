@@ -18,14 +18,14 @@ returns-in_err-moved-clause-err c =
     let f = c.in-Some.ensures.found in
     let at = up-to (IsSilentIn c.loop-host.w) (λ h. Injecting c.args.w.now c.loop-host.w h c.loop-host.moved) c.loop-host.w c.loop-host.from (injecting-by c.args.w.now c.loop-host.w c.loop-host.moved) c.in-Some.host f.above f.there f.passed c.loop-host.invariant in
     let left = map Inject (range_with_len c.in-Some.host (host_count c.args.w.now - c.in-Some.host)) in
-    on-any c.from_residual.result (at.way c.inject_due.new.w (way-still c.loop-host.w c.inject_due.new.w left c.in_err-moved.ensures.err))
+    on-any c.from_residual.result (at.way c.happens.new.w (way-still c.loop-host.w c.happens.new.w left c.in_err-moved.ensures.err))
 
 pub loop-host-preserved : goal.loop-host-preserved
 loop-host-preserved c =
     let f = c.in-Some.ensures.found in
     let at = up-to (IsSilentIn c.loop-host.w) (λ h. Injecting c.args.w.now c.loop-host.w h c.loop-host.moved) c.loop-host.w c.loop-host.from (injecting-by c.args.w.now c.loop-host.w c.loop-host.moved) c.in-Some.host f.above f.there f.passed c.loop-host.invariant in
     let low : c.in-Some.host < host_count c.args.w.now = omega (arith, f.there, c.loop-host.invariant.hosts) in
-    injecting-on c.args.w.now c.loop-host.w c.inject_due.new.w c.in-Some.host c.loop-host.moved c.in_ok-moved.field-0 _ at low
+    injecting-on c.args.w.now c.loop-host.w c.happens.new.w c.in-Some.host c.loop-host.moved c.in_ok-moved.field-0 _ at low
     c.in_ok-moved.ensures.changed c.in_ok-moved.ensures.after refl c.in_ok-moved.ensures.hosts
 
 pub returns-clause-moved : goal.returns-clause-moved
