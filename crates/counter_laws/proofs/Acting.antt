@@ -95,30 +95,22 @@ rests : (w v : WorldState) → v.injected ≡ w.injected → v.struck ≡ w.stru
 rests w v i s h = record { injected = i; struck = s; harmed = h }
 
 -- the links alone
+of_links-tells : (w : WorldState) (s : Step) (x : Effect) (a b : ℕ) → came (x ∷ []) [] ≡ a → went (x ∷ []) [] ≡ b → injections (x ∷ []) ≡ 0 → drops (x ∷ []) ≡ 0 → (IsLinks w.links → present w.links + a ≡ present (stepped w.links s) + b)
+    → Tells w (with_links w (stepped w.links s)) (x ∷ []) (strike_between w (with_links w (stepped w.links s)))
+of_links-tells w s x a b d e none whole balance =
+    let v : WorldState = with_links w (stepped w.links s) in
+    quiet-tells w v (x ∷ []) a b d e none (stepped-links w.links s) balance (none-dropped w v (x ∷ []) whole refl) (rests w v refl refl refl)
+
 links-tells : {w : WorldState} {e : Event} {x : Effect} {s : Step} → LinksChange w e x s → Tells w (with_links w (stepped w.links s)) (x ∷ []) (strike_between w (with_links w (stepped w.links s)))
 links-tells {w = w} (LinksChange.moves {c = c} packet next d e f g) =
-    let v : WorldState = with_links w (stepped w.links (AdvanceLinks c)) in
-    quiet-tells w v (MovedTo next ∷ []) 0 0 refl refl refl (stepped-links w.links (AdvanceLinks c))
-    (λ is. let h : present v.links ≡ present w.links = ap present g ∙ moved-present w.links c next packet (record packet { wire = stripped packet.wire }) is d e f in omega (arith, h))
-    (none-dropped w v (MovedTo next ∷ []) refl refl) (rests w v refl refl refl)
-links-tells {w = w} (LinksChange.loses {c = c} k) =
-    let v : WorldState = with_links w (stepped w.links (LoseLinks c)) in
-    quiet-tells w v (Lost ∷ []) 0 1 refl refl refl (stepped-links w.links (LoseLinks c)) (λ is. let h = lose-present w.links c k in omega (arith, h)) (none-dropped w v (Lost ∷ []) refl refl) (rests w v refl refl refl)
-links-tells {w = w} (LinksChange.resets {c = c} k) =
-    let v : WorldState = with_links w (stepped w.links (ResetLinks c)) in
-    quiet-tells w v (WasReset ∷ []) 0 1 refl refl refl (stepped-links w.links (ResetLinks c)) (λ is. let h = lose-present w.links c k in omega (arith, h)) (none-dropped w v (WasReset ∷ []) refl refl) (rests w v refl refl refl)
-links-tells {w = w} (LinksChange.repeats {c = c} {serial = serial} k) =
-    let v : WorldState = with_links w (stepped w.links (RepeatLinks c)) in
-    quiet-tells w v (Repeated serial ∷ []) 1 0 refl refl refl (stepped-links w.links (RepeatLinks c)) (λ is. let h = repeat-present w.links c (ap is_some k) in omega (arith, h)) (none-dropped w v (Repeated serial ∷ []) refl refl) (rests w v refl refl refl)
-links-tells {w = w} (LinksChange.holds {c = c} {serial = serial} k) =
-    let v : WorldState = with_links w (stepped w.links (HoldLinks c)) in
-    quiet-tells w v (WasHeld serial ∷ []) 0 0 refl refl refl (stepped-links w.links (HoldLinks c)) (λ is. let h = hold-present w.links c (ap is_some k) in omega (arith, h)) (none-dropped w v (WasHeld serial ∷ []) refl refl) (rests w v refl refl refl)
-links-tells {w = w} (LinksChange.flips {c = c} {bit = bit} {pattern = pattern} k) =
-    let v : WorldState = with_links w (stepped w.links (FlipLinks c bit pattern)) in
-    quiet-tells w v (Flipped ∷ []) 0 0 refl refl refl (stepped-links w.links (FlipLinks c bit pattern)) (λ is. let h = flip-present w.links c bit pattern k in omega (arith, h)) (none-dropped w v (Flipped ∷ []) refl refl) (rests w v refl refl refl)
-links-tells {w = w} (LinksChange.replays {serial = serial} {c = c} k) =
-    let v : WorldState = with_links w (stepped w.links (ReplayLinks serial)) in
-    quiet-tells w v (ReplayedTo c ∷ []) 0 0 refl refl refl (stepped-links w.links (ReplayLinks serial)) (λ is. let h = replay-present w.links serial c is k in omega (arith, h)) (none-dropped w v (ReplayedTo c ∷ []) refl refl) (rests w v refl refl refl)
+    of_links-tells w (AdvanceLinks c) (MovedTo next) 0 0 refl refl refl refl
+    (λ is. let h : present (stepped w.links (AdvanceLinks c)) ≡ present w.links = ap present g ∙ moved-present w.links c next packet (record packet { wire = stripped packet.wire }) is d e f in omega (arith, h))
+links-tells {w = w} (LinksChange.loses {c = c} k) = of_links-tells w (LoseLinks c) Lost 0 1 refl refl refl refl (λ is. let h = lose-present w.links c k in omega (arith, h))
+links-tells {w = w} (LinksChange.resets {c = c} k) = of_links-tells w (ResetLinks c) WasReset 0 1 refl refl refl refl (λ is. let h = lose-present w.links c k in omega (arith, h))
+links-tells {w = w} (LinksChange.repeats {c = c} {serial = serial} k) = of_links-tells w (RepeatLinks c) (Repeated serial) 1 0 refl refl refl refl (λ is. let h = repeat-present w.links c (ap is_some k) in omega (arith, h))
+links-tells {w = w} (LinksChange.holds {c = c} {serial = serial} k) = of_links-tells w (HoldLinks c) (WasHeld serial) 0 0 refl refl refl refl (λ is. let h = hold-present w.links c (ap is_some k) in omega (arith, h))
+links-tells {w = w} (LinksChange.flips {c = c} {bit = bit} {pattern = pattern} k) = of_links-tells w (FlipLinks c bit pattern) Flipped 0 0 refl refl refl refl (λ is. let h = flip-present w.links c bit pattern k in omega (arith, h))
+links-tells {w = w} (LinksChange.replays {serial = serial} {c = c} k) = of_links-tells w (ReplayLinks serial) (ReplayedTo c) 0 0 refl refl refl refl (λ is. let h = replay-present w.links serial c is k in omega (arith, h))
 
 -- a packet that leaves its channel for a host, or for nowhere
 module _ (w v : WorldState) (c : ℕ) (same : v.links ≡ stepped w.links (AdvanceLinks c)) (less : present v.links + 1 ≡ present w.links) (still : Rests w v) where

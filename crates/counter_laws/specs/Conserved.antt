@@ -24,7 +24,7 @@ PacketsAreConserved =
 
 -- The counters of a world: injections, exactly; drops, where the counter stays at its last value once it is there; and
 -- planned faults that struck, and those of them that harmed their packet.
-pub record AreTrue (es : List Effect) (fs : List Fault) (w : WorldState) : Type 0 where
+pub record CountersAreOf (es : List Effect) (fs : List Fault) (w : WorldState) : Type 0 where
   pub injected : w.injected ≡ injections es
   pub dropped : w.dropped ≡ min (drops es) last_count
   pub struck : w.struck ≡ length fs
@@ -34,4 +34,4 @@ pub record AreTrue (es : List Effect) (fs : List Fault) (w : WorldState) : Type 
 abbrev pub CountersAreTrue : Type 0
 CountersAreTrue =
     (n : Network) (acts : List Act)
-    → AreTrue (effects_of (new_world n) acts) (strikes_of (new_world n) acts) (acted_all (new_world n) acts)
+    → CountersAreOf (effects_of (new_world n) acts) (strikes_of (new_world n) acts) (acted_all (new_world n) acts)
