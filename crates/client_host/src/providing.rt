@@ -15,8 +15,7 @@ ghost use Rattle.client_host.specs.Tied.{held_of, now_holding, IsTied};
 use crate::telling::refused;
 use gm_tokens::RecvToken;
 use nic_node::NicNode;
-use port_client::{Client, empty_buffer};
-use reg_mem::register;
+use port_client::{Client, zero_buffer};
 use std::alloc::{AllocError, Global};
 use world_defs::{ClientCause, Said};
 
@@ -114,10 +113,10 @@ fn provide_token(
     if is_bad_size(size, prio) {
         return Err((token, Some(ClientCause::BadSize)));
     }
-    match empty_buffer(alloc, size) {
+    match zero_buffer(alloc, size) {
         Ok(buffer) => {
             let number = token.number();
-            match node.provide(port, token, register(buffer), size, prio) {
+            match node.provide(port, token, buffer, size, prio) {
                 Ok(()) => Ok(number),
                 Err(_) => unreachable!(),
             }

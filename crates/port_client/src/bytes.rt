@@ -4,6 +4,7 @@ ghost use Rattle.std.specs.Prelude.{◌≡◌, ◌<◌, ◌≤◌, ◌+◌, ◌%
 ghost use Rattle.gm_defs.specs.Body.{message_limit};
 ghost use Rattle.world_defs.specs.Client.{client_bytes, empty_buffer};
 
+use reg_mem::{Reg, zeroed};
 use std::alloc::{AllocError, Global};
 
 /// The bytes of a client's message: the first is the seed, and each is one more than the one before it, modulo 256.
@@ -33,4 +34,13 @@ pub fn empty_buffer(alloc: Global, size: u8) -> Result<Vec<u8>, AllocError>
     ensures { IfOk result (λ v. v.items ≡ empty_buffer size) }
 {
     Ok(vec![in alloc; 0u8; (1usize << size).saturating_sub(8)]?)
+}
+
+/// A new buffer of these bytes, none of which is written yet.
+pub fn zero_buffer(alloc: Global, size: u8) -> Result<Reg, AllocError>
+    requires least { 4 ≤ size }
+    requires greatest { size ≤ 16 }
+    ensures { IfOk result (λ r. r ≡ empty_buffer size) }
+{
+    zeroed(alloc, (1usize << size).saturating_sub(8))
 }

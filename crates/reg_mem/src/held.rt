@@ -1,6 +1,6 @@
 //! Where the bytes of a buffer are.
 
-ghost use Rattle.std.specs.Prelude.{◌≡◌, ◌+◌, ◌≤◌, [], length, take, true, IfOk, vec_capacity};
+ghost use Rattle.std.specs.Prelude.{◌≡◌, ◌+◌, ◌≤◌, [], length, replicate, take, true, IfOk, vec_capacity};
 ghost use Rattle.reg_mem.specs.Written.{written};
 ghost use Rattle.reg_mem.specs.Held.{held_bytes, HasRoom, is_own};
 
@@ -8,11 +8,18 @@ use gm_defs::Blob;
 use std::alloc::{AllocError, Global};
 use std::mem;
 
+/// How many zeros can be held unwritten.
+pub(crate) const MOST_ZEROS: usize = 65_536;
+
+static ZEROS: [u8; MOST_ZEROS] = [0; MOST_ZEROS];
+
 /// The bytes of a buffer.
 #[derive(Drop)]
 pub(crate) enum Held {
     /// They are the buffer's own.
     Own(Vec<u8>),
+    /// So many zeros, of which none was written. There is room for them, in which nothing is, should one be.
+    Zeros(usize, Vec<u8>),
     /// Messages share them. There is room for them, in which nothing is, should the buffer part from the messages.
     Shared(Blob, Vec<u8>),
 }
@@ -20,21 +27,24 @@ pub(crate) enum Held {
 impl Held {
     /// The bytes.
     pub(crate) fn bytes(&self) -> &[u8]
+        requires { HasRoom self.now }
         ensures { result.now ≡ held_bytes self.now }
     {
         match self {
             Held::Own(bytes) => bytes,
+            Held::Zeros(len, _room) => zeros(*len),
             Held::Shared(whole, _room) => whole.bytes(),
         }
     }
 
     /// A blob of the first so many bytes, which shares them where messages do.
     pub(crate) fn front(&self, alloc: Global, len: usize) -> Result<Blob, AllocError>
-        requires { len ≤ length (held_bytes self.now) }
+        requires room { HasRoom self.now }
+        requires front { len ≤ length (held_bytes self.now) }
         ensures { IfOk result (λ b. b ≡ take len (held_bytes self.now)) }
     {
         match self {
-            Held::Own(bytes) => Ok(Blob::new(bytes[..len].to_vec(alloc)?)),
+            Held::Own(_) | Held::Zeros(..) => Ok(Blob::new(self.bytes()[..len].to_vec(alloc)?)),
             Held::Shared(whole, _room) => whole.front(alloc, len),
         }
     }
@@ -48,6 +58,7 @@ pub(crate) fn into_shared(alloc: Global, held: Held) -> (Held, bool)
 {
     match held {
         Held::Own(bytes) => share(alloc, bytes),
+        Held::Zeros(len, mut room) => share(alloc, filled(&mut room, zeros(len))),
         Held::Shared(whole, room) => (Held::Shared(whole, room), true),
     }
 }
@@ -73,10 +84,8 @@ pub(crate) fn into_bytes(held: Held) -> Vec<u8>
 {
     match held {
         Held::Own(bytes) => bytes,
-        Held::Shared(whole, mut room) => {
-            copy(&mut room, whole.bytes());
-            room
-        }
+        Held::Zeros(len, mut room) => filled(&mut room, zeros(len)),
+        Held::Shared(whole, mut room) => filled(&mut room, whole.bytes()),
     }
 }
 
@@ -90,32 +99,47 @@ pub(crate) fn write(held: &mut Held, at: usize, b: &[u8])
     part(held);
     match held {
         Held::Own(bytes) => bytes[at..at + b.len()].copy_from_slice(b),
-        Held::Shared(..) => unreachable!(),
+        Held::Zeros(..) | Held::Shared(..) => unreachable!(),
     }
 }
 
-// Parts from the messages that share the bytes.
+// Parts from the messages that share the bytes, and writes zeros out.
 fn part(held: &mut Held)
     requires { HasRoom held.old }
     ensures bytes { held_bytes held.new ≡ held_bytes held.old }
     ensures own { is_own held.new ≡ true }
 {
-    if let Held::Shared(whole, room) = held {
-        copy(room, whole.bytes());
-        let mut bytes = Vec::new(*room.allocator());
-        mem::swap(room, &mut bytes);
-        *held = Held::Own(bytes);
+    match held {
+        Held::Own(_) => {}
+        Held::Zeros(len, room) => {
+            let bytes = filled(room, zeros(*len));
+            *held = Held::Own(bytes);
+        }
+        Held::Shared(whole, room) => {
+            let bytes = filled(room, whole.bytes());
+            *held = Held::Own(bytes);
+        }
     }
 }
 
-// Puts bytes into the room that was taken for them.
-fn copy(room: &mut Vec<u8>, bytes: &[u8])
+// Bytes, in the room that was taken for them.
+fn filled(room: &mut Vec<u8>, bytes: &[u8]) -> Vec<u8>
     requires empty { room.old.items ≡ [] }
     requires room { length bytes.now ≤ vec_capacity room.old }
-    ensures { room.new.items ≡ bytes.now }
+    ensures { result.items ≡ bytes.now }
 {
-    match room.extend_from_slice(bytes) {
-        Ok(()) => {}
+    let mut whole = Vec::new(*room.allocator());
+    mem::swap(room, &mut whole);
+    match whole.extend_from_slice(bytes) {
+        Ok(()) => whole,
         Err(_) => unreachable!(),
     }
+}
+
+// So many zeros. They lie in the program, and take no memory.
+fn zeros(len: usize) -> &'static [u8]
+    requires { len ≤ 65536 }
+    ensures { result.now ≡ replicate len 0 }
+{
+    &ZEROS[..len]
 }

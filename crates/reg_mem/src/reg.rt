@@ -1,9 +1,9 @@
 //! A registered buffer.
 
-ghost use Rattle.std.specs.Prelude.{◌≡◌, ◌+◌, ◌≤◌, length, take, IfOk};
+ghost use Rattle.std.specs.Prelude.{◌≡◌, ◌+◌, ◌≤◌, length, replicate, take, IfOk};
 ghost use Rattle.reg_mem.specs.Written.{written};
 
-use crate::held::{Held, into_bytes, into_shared, write};
+use crate::held::{Held, MOST_ZEROS, into_bytes, into_shared, write};
 use gm_defs::Blob;
 use std::alloc::{AllocError, Global};
 use std::marker::Model;
@@ -36,6 +36,19 @@ pub fn register(v: Vec<u8>) -> Reg
     ensures { result ≡ v.items }
 {
     Reg { held: Held::Own(v) }
+}
+
+/// A buffer of so many zeros. Up to 65,536 of them aren't written before something else is: until then the buffer takes
+/// room, and no more.
+pub fn zeroed(alloc: Global, len: usize) -> Result<Reg, AllocError>
+    ensures { IfOk result (λ r. r ≡ replicate len 0) }
+{
+    let held = if len > MOST_ZEROS {
+        Held::Own(vec![in alloc; 0u8; len]?)
+    } else {
+        Held::Zeros(len, Vec::with_capacity(alloc, len)?)
+    };
+    Ok(Reg { held })
 }
 
 /// Gives the bytes of a buffer back. Takes no memory: where a message shares them, they are copied into the room that
