@@ -15,7 +15,7 @@ use duo_defs::{DuoCause, DuoEffect};
 use gm_defs::PIECE;
 use gm_tokens::NoMemory;
 use host_lanes::{Envelope, OfferRefusal};
-use port_client::{SendAsk, client_bytes, empty_buffer};
+use port_client::{SendAsk, client_bytes, zero_buffer};
 use reg_mem::{register, release};
 use std::alloc::{AllocError, Global};
 use world_defs::Said;
@@ -123,7 +123,7 @@ impl End {
         if size < 4 || size > 16 {
             return Ok(DuoEffect::Refused(DuoCause::BadSize));
         }
-        let buffer = register(empty_buffer(alloc, size)?);
+        let buffer = zero_buffer(alloc, size)?;
         Ok(DuoEffect::Token(self.held.provide(buffer, size, 0)))
     }
 

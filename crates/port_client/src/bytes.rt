@@ -27,16 +27,7 @@ fn byte_at(seed: u8, i: u32) -> u8
     ((u32::from(seed) + i) % 256) as u8
 }
 
-/// The zero bytes of a new buffer: all that its size has room for.
-pub fn empty_buffer(alloc: Global, size: u8) -> Result<Vec<u8>, AllocError>
-    requires least { 4 ≤ size }
-    requires greatest { size ≤ 16 }
-    ensures { IfOk result (λ v. v.items ≡ empty_buffer size) }
-{
-    Ok(vec![in alloc; 0u8; (1usize << size).saturating_sub(8)]?)
-}
-
-/// A new buffer of these bytes, none of which is written yet.
+/// A new buffer of zeros, as many as its size has room for, none of which is written yet.
 pub fn zero_buffer(alloc: Global, size: u8) -> Result<Reg, AllocError>
     requires least { 4 ≤ size }
     requires greatest { size ≤ 16 }

@@ -1,5 +1,5 @@
 -- Hosts that are silent or at rest are passed by: what would happen of them changes nothing.
-use Rattle.std.proofs.Common.{◌≡◌, ◌<◌, ◌≤◌, ℕ, zero, suc, ◌+◌, ◌-◌, Bool, false, ◌||◌, ◌&&◌, nat_lt, Option, Some, None, is_some, List, [], ◌∷◌, map, is_none, true, refl, sym, ◌∙◌, ap, subst, arith}
+use Rattle.std.proofs.Common.{◌≡◌, ◌<◌, ◌≤◌, ℕ, suc, ◌+◌, ◌-◌, Bool, false, ◌||◌, ◌&&◌, nat_lt, Option, Some, None, is_some, [], is_none, true, refl, sym, ◌∙◌, ap, arith}
 use Rattle.std.specs.List.{list_all, range_with_len}
 use Rattle.world_defs.specs.Node.{to_send}
 use Rattle.world_defs.specs.World.{WorldState, host_count, node_at}
