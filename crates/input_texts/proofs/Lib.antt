@@ -4,3 +4,4 @@ pub mod Meant
 pub mod Numbers
 pub mod Refusing
 pub mod Saying
+pub mod Sound

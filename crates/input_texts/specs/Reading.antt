@@ -1,11 +1,13 @@
 -- What a text says: a fabric, and then the commands of its script; or its first fault.
-use Rattle.std.specs.Prelude.{◌≡◌, ℕ, List, [], ◌∷◌, drop, Result, Ok, Err, codes, decimal}
+use Rattle.std.specs.Prelude.{◌≡◌, ℕ, List, [], ◌∷◌, ◌++◌, drop, Result, Ok, Err, codes, decimal}
 use Rattle.net_defs.specs.Network.{Network}
 use Rattle.fab_text.specs.declared.fault.FaultKind.{FaultKind}
 use Rattle.fab_text.specs.Fault.{FirstFault, and_then, kind_word}
+use Rattle.fab_text.specs.Line.{TextLine}
 use Rattle.fab_text.specs.Written.{line_text}
 use Rattle.fabric_file.specs.declared.reading.FabricText.{FabricText}
-use Rattle.fabric_file.specs.Reading.{fabric_reading}
+use Rattle.fabric_file.specs.Reading.{fabric_reading, sound_lines as sound_of_fabric}
+use Rattle.fab_script.specs.Lists.{sound_lines as sound_of_script}
 use Rattle.run_defs.specs.declared.command.Command.{Command}
 use Rattle.run_defs.specs.Script.{script_reading}
 
@@ -26,6 +28,15 @@ reading_from text t = and_then (script_reading t.fabric t.line (drop t.next text
 -- What a text says, where it is accepted; or else its first fault.
 abbrev pub reading : List ℕ → Result AcceptedText FirstFault
 reading text = and_then (fabric_reading text) (reading_from text)
+
+-- the sound lines of a script, where the fabric part of its text says this
+abbrev pub sound_behind : List ℕ → Result FabricText FirstFault → List TextLine
+sound_behind text (Ok t) = sound_of_script t.fabric t.line (drop t.next text)
+sound_behind text (Err fault) = []
+
+-- The sound lines of a text: those before its first fault, of its fabric part and of its script.
+abbrev pub sound_lines : List ℕ → List TextLine
+sound_lines text = sound_of_fabric text ++ sound_behind text (fabric_reading text)
 
 -- a text is accepted: it says this
 abbrev pub IsAccepted : List ℕ → AcceptedText → Type 0

@@ -1,10 +1,11 @@
 //! What a text says.
 
-ghost use Rattle.std.specs.Prelude.{◌≤◌, ◌+◌, ◌-◌, length, IfOk};
+ghost use Rattle.std.specs.Prelude.{◌≤◌, ◌<◌, ◌+◌, ◌-◌, drop, length, IfOk, IsErrOf};
 ghost use Rattle.std.specs.List.{AllByRecursion};
 ghost use Rattle.fab_text.specs.Fault.{TextGives};
+ghost use Rattle.fab_script.specs.Lists.{sound_lines as sound_of_script};
 ghost use Rattle.fab_script.specs.Ranges.{IsCommandOf};
-ghost use Rattle.input_texts.specs.Reading.{input_limit, reading, reading_from};
+ghost use Rattle.input_texts.specs.Reading.{input_limit, reading, reading_from, sound_lines};
 
 use fab_script::{Script, read_script};
 use fab_text::TextFault;
@@ -34,6 +35,8 @@ impl Model for Accepted {
 pub fn read_text(alloc: Global, text: &[u8]) -> Result<Accepted, TextFault>
     requires { length text.now ≤ input_limit }
     ensures reading { TextGives (reading text.now) result }
+    // Memory may be wanting only where a line stands before the first fault: a text whose first line has one is refused.
+    ensures memory { IsErrOf result TextFault.NoMemory → 0 < length (sound_lines text.now) }
     ensures over { IfOk result (λ a. AllByRecursion (IsCommandOf a.network) a.commands) }
 {
     match read_fabric(alloc, text) {
@@ -47,6 +50,8 @@ fn read_rest(alloc: Global, text: &[u8], part: FabricText) -> Result<Accepted, T
     requires inside { part.next ≤ length text.now }
     requires bounded { part.line + (length text.now - part.next) ≤ 4294967290 }
     ensures reading { TextGives (reading_from text.now part) result }
+    ensures memory { IsErrOf result TextFault.NoMemory
+        → 0 < length (sound_of_script part.fabric part.line (drop part.next text.now)) }
     ensures over { IfOk result (λ a. AllByRecursion (IsCommandOf a.network) a.commands) }
 {
     let FabricText { fabric, next, line } = part;
