@@ -13,7 +13,7 @@ use Rattle.world_defs.specs.World.{WorldState, fabric_of, last_count}
 use Rattle.world_defs.specs.Asking.{Asked, ask}
 use Rattle.ask_laws.specs.Premises.{CanAsk}
 use Rattle.ask_laws.specs.Kept.{IsAskKept}
-use Rattle.ask_laws.proofs.Answering.{ask-keeps, ask-again, ask-true, ask-heard}
+use Rattle.ask_laws.proofs.Answering.{ask-keeps, ask-again, ask-true, ask-heard, ask-harmed}
 use Rattle.ask_laws.proofs.Few.{ask-few}
 use Rattle.ask_laws.proofs.Ready.{kept-same, kept-both}
 use Rattle.run_defs.specs.Mapped.{AskedAll, one_if, asked_all}
@@ -47,6 +47,7 @@ pub record AreAsked (host tries : ℕ) (w : WorldState) (walks : List (List ℤ)
   pub found : IsTrueWhereFound (fabric_of w) host a.entries
   pub truth : a.drowned ≡ 0 → IsTrueJournal (fabric_of w) host a.entries
   pub heard : 0 < tries → IsQuietFor w a.world → a.drowned ≡ 0
+  pub harmed : 0 < tries → a.world.injected < last_count → 0 < a.drowned → w.harmed < a.world.harmed
   pub few : tries ≤ 8 → a.world.injected ≤ w.injected + 24 * length walks
 
 answer-there : (n : Network) (host : ℕ) (walk : List ℤ) (x : Answer) (drowned : Bool) → (x ≡ answer n host walk) ⊎ ((x ≡ Nothing) × (drowned ≡ true)) → x ≢ Nothing → x ≡ answer n host walk
@@ -71,6 +72,7 @@ ask-push host tries walk walks w can is others = record {
   found = (answer-there n host walk a.answer a.drowned answers, subst (λ k. IsTrueWhereFound k host rest.entries) kept.fabric r.found);
   truth = λ none. (answer-true n host walk a.answer a.drowned rest.drowned answers none, subst (λ k. IsTrueJournal k host rest.entries) kept.fabric (r.truth (rest-none a.drowned rest.drowned none)));
   heard = λ some quiet. none-both a.drowned rest.drowned (first some quiet) (r.heard some (later quiet));
+  harmed = λ some left more. by some left a.drowned refl more;
   few = λ low. (let one = ask-few w host tries walk in let more = r.few low in omega (arith, one, more, low));
 }
   where
@@ -101,6 +103,19 @@ ask-push host tries walk walks w can is others = record {
         let left = quiet.left in
         ask-heard w host tries walk here some (λ number low high. quiet.unplanned number low (omega (arith, high, up))) (omega (arith, up, left))
 
+    by : 0 < tries → rest.world.injected < last_count → (drowned : Bool) → a.drowned ≡ drowned → 0 < one_if drowned + rest.drowned → w.harmed < rest.world.harmed
+    by some left true e more =
+        struck (ask-harmed w host tries walk here some e)
+      where
+        struck : (w.harmed < a.world.harmed) ⊎ (last_count ≤ a.world.injected) → w.harmed < rest.world.harmed
+        struck (inl low) = let up = r.kept.harmed in omega (arith, low, up)
+        struck (inr spent) = let up = r.kept.injected in absurd (omega (arith, left, spent, up))
+    by some left false e more =
+        let none : one_if false ≡ 0 = refl in
+        let up = kept.harmed in
+        let then = r.harmed some left (omega (arith, none, more)) in
+        omega (arith, up, then)
+
     later : IsQuietFor w rest.world → IsQuietFor a.world rest.world
     later quiet = let up = kept.injected in record { unplanned = λ number low high. kept.unplanned number (quiet.unplanned number (omega (arith, low, up)) high); left = quiet.left }
 
@@ -111,6 +126,7 @@ asks-so host tries [] w can all = record {
   found = tt;
   truth = λ none. tt;
   heard = λ some quiet. refl;
+  harmed = λ some left more. absurd (omega (arith, more));
   few = λ low. omega arith;
 }
 asks-so host tries (walk ∷ walks) w can all = ask-push host tries walk walks w can all.0 (λ u c. asks-so host tries walks u c all.1)

@@ -33,8 +33,8 @@ use Rattle.ask_laws.specs.Premises.{CanAsk}
 use Rattle.run_defs.specs.Mapped.{AskedAll, IsMapped, IsCalled}
 use Rattle.run_defs.specs.Mapped.IsCalled.{too_many_nodes, too_shallow, doubted, right}
 use Rattle.run_defs.specs.declared.line.MapWords.{MapWords}
-use Rattle.run_defs.specs.declared.line.MapWords.TheVariants.{Complete}
-use Rattle.mapping_laws.specs.Laws.{CanMap, FoundIsThere, UndrownedIsTrue, MadeMapIsMap, MadeMapIsConnected, MadeMapIsRight, MappingKeeps, DeepMapIsComplete}
+use Rattle.run_defs.specs.declared.line.MapWords.TheVariants.{Complete, Doubtful}
+use Rattle.mapping_laws.specs.Laws.{CanMap, FoundIsThere, UndrownedIsTrue, MadeMapIsMap, MadeMapIsConnected, MadeMapIsRight, MappingKeeps, DeepMapIsComplete, DoubtfulWasHarmed}
 use Rattle.mapping_laws.proofs.Asks.{IsCarried, AreAsked, asks-so}
 
 -- the walks of a grown journal are carried
@@ -155,3 +155,11 @@ deep_map_is_complete host depth tries before after j m words can made quiet some
     let there : has_vertex n (Host host) ≡ true = (let is = can.is_host in let hosts = can.world.hosts in grind (arith, nat_tests)) in
     let ends = depth_suffices n host depth j can.fabric there deep quiet.small (r.truth none) made.grown in
     called-complete host j made.drowned words made.called ends.not_at_limit ends.closed none
+
+-- a map that is called doubtful has drowned asks
+doubted-some : (host : ℕ) (j : List Entry) (drowned count : ℕ) → IsCalled host j drowned (Doubtful count) → 0 < drowned
+doubted-some host j drowned count (doubted l c some) = some
+
+pub doubtful_was_harmed : DoubtfulWasHarmed
+doubtful_was_harmed host depth tries drowned before after j m can made some left =
+    (asked-so host depth tries before after j m (Doubtful drowned) can made).harmed (omega (arith, some)) left (doubted-some host j made.drowned drowned made.called)

@@ -8,12 +8,12 @@ use Rattle.journal_defs.specs.Truth.{IsTrueJournal, IsTrueWhereFound}
 use Rattle.journal_defs.specs.Depth.{enough_depth}
 use Rattle.map_defs.specs.NetMap.{NetMap, IsMap, IsConnected}
 use Rattle.map_defs.specs.Sameness.{IsMapOfPart}
-use Rattle.world_defs.specs.World.{WorldState, fabric_of, host_count}
+use Rattle.world_defs.specs.World.{WorldState, fabric_of, host_count, last_count}
 use Rattle.world_defs.specs.EightBits.{HasByteFaults}
 use Rattle.world_laws.specs.Shape.{IsWorld}
 use Rattle.ask_laws.specs.Kept.{IsAskKept}
 use Rattle.run_defs.specs.declared.line.MapWords.{MapWords}
-use Rattle.run_defs.specs.declared.line.MapWords.TheVariants.{Complete}
+use Rattle.run_defs.specs.declared.line.MapWords.TheVariants.{Complete, Doubtful}
 use Rattle.run_defs.specs.Mapped.{IsMapped}
 use Rattle.run_defs.specs.Headline.{IsQuiet}
 
@@ -74,3 +74,11 @@ DeepMapIsComplete =
     (host depth tries : ℕ) (before after : WorldState) (j : List Entry) (m : NetMap) (words : MapWords)
     → CanMap host depth before → IsMapped host depth tries before after j m words → IsQuiet host before after
     → 1 ≤ tries → tries ≤ 8 → enough_depth (fabric_of before) host ≤ depth → words ≡ Complete
+
+-- A map that is called doubtful has its cause: where injections are left after it, a planned fault lost, held or flipped
+-- a packet of it.
+abbrev pub DoubtfulWasHarmed : Type 0
+DoubtfulWasHarmed =
+    (host depth tries drowned : ℕ) (before after : WorldState) (j : List Entry) (m : NetMap)
+    → CanMap host depth before → IsMapped host depth tries before after j m (Doubtful drowned)
+    → 1 ≤ tries → after.injected < last_count → before.harmed < after.harmed

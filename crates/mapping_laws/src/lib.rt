@@ -5,7 +5,7 @@
 //!
 //! | file of `specs/` | says |
 //! |---|---|
-//! | `Laws` | what a mapping found is there; a map called complete is right; a deep map of a quiet fabric is called so |
+//! | `Laws` | what a mapping found is there; a map called complete is right; a deep map of a quiet fabric is called so; one called doubtful has its cause |
 //! | `Asked` | wherever a map can be made, a journal of asks that has grown to its depth exists, and so a mapping |
 //! | `Runs` | a run keeps a world of its fabric, and each map that it prints under the word complete is right |
 //! | `Circuits` | a circuit map that a run prints is right, where deep enough the core; there always is one |
@@ -20,5 +20,5 @@ mod mapping;
 mod running;
 
 pub use existence::{connected_map_has_routes, journal_has_a_map, tree_has_a_circuit_map};
-pub use mapping::{deep_maps, kept_by_mappings, made_maps, mappings_exist};
+pub use mapping::{deep_maps, doubtful_maps, kept_by_mappings, made_maps, mappings_exist};
 pub use running::{circuit_maps_of_runs, held_by_runs, kept_by_runs, maps_of_runs};

@@ -2,6 +2,7 @@
 
 ghost use Rattle.mapping_laws.specs.Laws.{FoundIsThere, UndrownedIsTrue, MadeMapIsMap, MadeMapIsConnected};
 ghost use Rattle.mapping_laws.specs.Laws.{MadeMapIsRight, MappingKeeps, DeepMapIsComplete};
+ghost use Rattle.mapping_laws.specs.Laws.{DoubtfulWasHarmed};
 ghost use Rattle.mapping_laws.specs.Asked.{AskedJournalExists, MappingExists};
 
 /// Whatever a mapping found is there, its map is a map and connected, and where it is called complete it is the
@@ -22,6 +23,11 @@ pub fn kept_by_mappings()
 /// On a quiet fabric a map that is deep enough is called complete.
 pub fn deep_maps()
     ensures { DeepMapIsComplete }
+{}
+
+/// A map is called doubtful only where a planned fault met a packet of it, while injections are left.
+pub fn doubtful_maps()
+    ensures { DoubtfulWasHarmed }
 {}
 
 /// Wherever a map can be made, whatever is planned, a journal of asks that has grown to its depth exists, and a
