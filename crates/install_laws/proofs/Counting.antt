@@ -1,5 +1,6 @@
 -- How many hosts are counted.
-use Rattle.std.proofs.Common.{◌≡◌, ◌<◌, ◌≤◌, ◌+◌, ◌*◌, ℕ, Bool, true, false, List, [], ◌∷◌, length, ⊎_elim, refl, sym, arith, true≢false}
+use Rattle.std.proofs.Common.{◌≡◌, ◌<◌, ◌≤◌, ◌+◌, ◌*◌, ℕ, Bool, true, false, List, [], ◌∷◌, length, ⊎_elim, refl, sym, arith, true≢false, if◌then◌else◌}
+use Rattle.std.specs.List.{filter}
 use Rattle.std.proofs.Math.Nat.{mul-le-mul_left}
 use Rattle.std.proofs.lemmas.Bool.{cases_lt}
 use Rattle.world_defs.specs.Table.{Adoption}
@@ -8,7 +9,8 @@ use Rattle.world_defs.specs.Asking.{all_given_up}
 use Rattle.world_defs.specs.Install.{host_counted, hosts_installed, installed}
 use Rattle.install_laws.specs.Cause.{host_installed}
 use Rattle.install_laws.specs.Counts.{EachIsAcknowledged, CountsAtMostAll, CountsAllWhereAcknowledged, UnharmedCountsAll, InstallingTellsCause}
-use Rattle.install_laws.proofs.Installing.{missed-harmed, misses-cost}
+use Rattle.install_laws.specs.Tables.{has_table, EachCountedHasTable, CountsTables}
+use Rattle.install_laws.proofs.Installing.{missed-harmed, counted-tables, misses-cost}
 
 most-counted : (r : Bool × WorldState) (rest : WorldState → ℕ × WorldState) (k : ℕ) → (rest r.1).0 ≤ k → (host_counted r rest).0 ≤ k + 1
 most-counted (true, v) rest k most = omega (arith, most)
@@ -24,6 +26,26 @@ hosts-most a tries (h ∷ hs) w =
 pub counts-most : CountsAtMostAll
 unfolding installed
 counts-most a hosts tries w = hosts-most a tries hosts (all_given_up w)
+
+-- counted hosts are among those that have a table
+more-tables : (r : Bool × WorldState) (rest : WorldState → ℕ × WorldState) (h : ℕ) (hs : List ℕ) (b : Bool) → (r.0 ≡ true → b ≡ true) → (rest r.1).0 ≤ length hs → (host_counted r rest).0 ≤ length (if b then h ∷ hs else hs)
+more-tables (true, v) rest h hs true has few = omega (arith, few)
+more-tables (true, v) rest h hs false has few = absurd (true≢false (sym (has refl)))
+more-tables (false, v) rest h hs true has few = omega (arith, few)
+more-tables (false, v) rest h hs false has few = few
+
+hosts-tables : (a : Adoption) (tries : ℕ) (hs : List ℕ) (w v : WorldState) → EachCountedHasTable a tries hs w v → (hosts_installed a tries hs w).0 ≤ length (filter (has_table v) hs)
+hosts-tables a tries [] w v all = omega arith
+hosts-tables a tries (h ∷ hs) w v all =
+    let r : Bool × WorldState = host_installed a tries h w in
+    more-tables r (hosts_installed a tries hs) h (filter (has_table v) hs) (has_table v h) all.0 (hosts-tables a tries hs r.1 v all.1)
+
+tables-of : (a : Adoption) (hosts : List ℕ) (tries : ℕ) (w v : WorldState) → EachCountedHasTable a tries hosts (all_given_up w) v → (installed a hosts tries w).0 ≤ length (filter (has_table v) hosts)
+unfolding installed
+tables-of a hosts tries w v all = hosts-tables a tries hosts (all_given_up w) v all
+
+pub counts-tables : CountsTables
+counts-tables a hosts tries w can adopter = tables-of a hosts tries w (installed a hosts tries w).1 (counted-tables a hosts tries w can adopter)
 
 -- all are counted
 all-counted : (r : Bool × WorldState) (rest : WorldState → ℕ × WorldState) (k : ℕ) → (rest r.1).0 ≤ k → (host_counted r rest).0 ≡ k + 1 → (r.0 ≡ true) × ((rest r.1).0 ≡ k)

@@ -1,8 +1,8 @@
 -- An installation from its start to its end: the cause of each host that isn't counted, and what is kept.
-use Rattle.std.proofs.Common.{ℕ, List, [], ◌∷◌, IfSome, refl, sym, ap, ◌∙◌, subst, arith}
+use Rattle.std.proofs.Common.{ℕ, List, [], ◌∷◌, IfSome, is_some, refl, sym, ap, ◌∙◌, subst, arith}
 use Rattle.net_defs.specs.Network.{Network}
 use Rattle.link_defs.specs.Links.{LinkState, is_idle}
-use Rattle.world_defs.specs.Table.{Adoption}
+use Rattle.world_defs.specs.Table.{Adoption, TableState}
 use Rattle.world_defs.specs.World.{WorldState, fabric_of, new_world}
 use Rattle.world_defs.specs.Asking.{all_given_up}
 use Rattle.world_defs.specs.Install.{hosts_installed, installed}
@@ -17,6 +17,7 @@ use Rattle.install_laws.proofs.Leads.{Leads, along-leads, reached-further}
 use Rattle.install_laws.specs.Premises.{CanInstall}
 use Rattle.install_laws.specs.Kept.{IsInstallKept, InstallingKeeps, InstallingEndsIdle, CanInstallAgain}
 use Rattle.install_laws.specs.Cause.{MissedHostsWereHarmed}
+use Rattle.install_laws.specs.Tables.{CountedHostsHaveTables}
 use Rattle.install_laws.specs.Counts.{EachMissCostsFaults}
 use Rattle.table_laws.proofs.Dependencies.{reached-of}
 use Rattle.install_laws.proofs.Epochs.{reached-low}
@@ -58,6 +59,10 @@ installation a hosts tries w can =
 
 pub missed-harmed : MissedHostsWereHarmed
 missed-harmed a hosts tries w can left = (installation a hosts tries w can).hosts_are.missed left
+
+pub counted-tables : CountedHostsHaveTables
+counted-tables a hosts tries w can adopter =
+    (installation a hosts tries w can).hosts_are.tables (ap (λ (t : TableState). is_some t.active) ((kept-start w).table a.mapper) ∙ adopter)
 
 pub misses-cost : EachMissCostsFaults
 misses-cost a hosts tries w can left =

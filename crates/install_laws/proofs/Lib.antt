@@ -4,6 +4,8 @@ mod Tables
 mod Epochs
 mod Parts
 mod Between
+mod Collecting
+mod Growing
 mod Heard
 mod Trying
 mod Walking

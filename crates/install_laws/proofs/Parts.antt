@@ -196,6 +196,7 @@ pub record IsSent (n : Network) (a : Adoption) (dst part : ℕ) : Type 0 where
   pub mapper : sent.mapper ≡ a.mapper
   pub to : sent.dst ≡ dst
   pub number : sent.part ≡ part
+  pub parts : sent.parts ≡ part_count (length (entries_from a.routes dst))
   pub few_parts : part < 256
   pub adopter : a.mapper < length n.hosts
   pub host : dst < length n.hosts
@@ -245,6 +246,7 @@ sent-part n a dst part f one up all other joined low =
       mapper = refl;
       to = refl;
       number = refl;
+      parts = refl;
       few_parts = omega (arith, low, sixteen);
       adopter = mapper_low;
       host = dst_low;

@@ -21,6 +21,8 @@ use Rattle.ask_laws.proofs.Tries.{stuck-place, one-host, small-host}
 use Rattle.install_laws.specs.Kept.{IsInstallKept}
 use Rattle.install_laws.proofs.Between.{same-ports, Between, between-node, between-sent, kept-both, kept-node, kept-sent}
 use Rattle.install_laws.proofs.Parts.{IsSent}
+use Rattle.install_laws.proofs.Collecting.{Has, applied-grows, applied-takes}
+use Rattle.install_laws.proofs.Growing.{HasPart, Grows, grows-same, grows-both, grows-node, grows-sent, parts_for}
 use Rattle.install_laws.proofs.Heard.{no_part, one_part, one_answer, part-first, answer-first, part-left, answer-left, part-parcel, answer-parcel, ack_of, with_taken, taken-between, part-heard, answer-heard}
 
 -- why a try found nothing
@@ -28,10 +30,12 @@ abbrev pub IsMissed : WorldState → WorldState → Type 0
 IsMissed w v = (w.harmed < v.harmed) ⊎ (last_count ≤ v.injected)
 
 -- What a try comes to.
-pub record IsPartTry (n : Network) (a : Adoption) (w : WorldState) (t : Tried Bool) : Type 0 where
+pub record IsPartTry (n : Network) (a : Adoption) (dst part : ℕ) (w : WorldState) (t : Tried Bool) : Type 0 where
   pub between : Between n a t.world
   pub kept : IsInstallKept w t.world
   pub missed : t.found ≡ false → IsMissed w t.world
+  pub grows : Grows a w t.world
+  pub took : t.found ≡ true → HasPart a dst part t.world
 
 -- the world in which the part is staged
 abbrev with_staged : Adoption → WorldState → RoutePart → List ℤ → WorldState
@@ -45,25 +49,33 @@ part-staged a w dst part p by adopted is way =
     ∙ ap (λ o. (stage_at w a.mapper (Some p) o).1) way
 
 -- nothing was heard of the part
-silent-so : (n : Network) (a : Adoption) (dst part : ℕ) (w : WorldState) (s : Sent) → told s.effects ≡ [] → Between n a s.world → IsInstallKept w s.world → IsMissed w s.world → IsPartTry n a w (part_sent w a.mapper dst part s)
-silent-so n a dst part w s heard b k m =
+silent-so : (n : Network) (a : Adoption) (dst part : ℕ) (w : WorldState) (s : Sent) → told s.effects ≡ [] → Between n a s.world → IsInstallKept w s.world → IsMissed w s.world → Grows a w s.world → IsPartTry n a dst part w (part_sent w a.mapper dst part s)
+silent-so n a dst part w s heard b k m g =
     let none : has_staged_answer s.world dst s.effects ≡ false = ap (λ c. c && is_some (node_at s.world dst).part_ack) (no_part dst s.effects heard) in
     let t : Tried Bool = record { found = false; harmed = is_harmed s.used_up w s.world; world = s.world } in
-    let is : IsPartTry n a w t = record { between = b; kept = k; missed = λ e. m } in
-    subst (λ c. IsPartTry n a w (if c then answered w a.mapper dst part s (sends s.world dst) else t)) (sym none) is
+    let is : IsPartTry n a dst part w t = record { between = b; kept = k; missed = λ e. m; grows = g; took = λ e. absurd (true≢false (sym e)) } in
+    subst (λ c. IsPartTry n a dst part w (if c then answered w a.mapper dst part s (sends s.world dst) else t)) (sym none) is
 
 -- What is known once the host has taken the part.
 record Taken (n : Network) (a : Adoption) (dst : ℕ) (p : RoutePart) (w : WorldState) (v : WorldState) : Type 0 where
   between : Between n a v
   kept : IsInstallKept w v
   ack : (node_at v dst).part_ack ≡ Some (ack_of p)
+  grows : Grows a w v
+  has : HasPart a dst p.part v
 
-answered-so : (n : Network) (a : Adoption) (dst part : ℕ) (w : WorldState) (x : IsSent n a dst part) (s r : Sent) → IsFabric n → Taken n a dst x.sent w s.world → Delivery n s.world dst (PartAnswer (ack_of x.sent)) x.sent.back (PartAck x.sent.epoch dst x.sent.part) r → IsPartTry n a w (answered w a.mapper dst part s r)
+-- the part by its number
+has-part : {n : Network} (a : Adoption) (dst part : ℕ) (x : IsSent n a dst part) (v : WorldState) → HasPart a dst x.sent.part v → HasPart a dst part v
+has-part a dst part x v h = subst (λ q. HasPart a dst q v) x.number h
+
+answered-so : (n : Network) (a : Adoption) (dst part : ℕ) (w : WorldState) (x : IsSent n a dst part) (s r : Sent) → IsFabric n → Taken n a dst x.sent w s.world → Delivery n s.world dst (PartAnswer (ack_of x.sent)) x.sent.back (PartAck x.sent.epoch dst x.sent.part) r → IsPartTry n a dst part w (answered w a.mapper dst part s r)
 answered-so n a dst part w x s r f k (Delivery.no_cable none used num heard same) = absurd (stuck-place n dst a.mapper x.sent.back none x.home)
 answered-so n a dst part w x s r f k (Delivery.none_left most used num heard same) = record {
   between = subst (Between n a) (sym same) k.between;
   kept = subst (IsInstallKept w) (sym same) k.kept;
   missed = λ e. inr (subst (λ v. last_count ≤ v.injected) (sym same) most);
+  grows = subst (Grows a w) (sym same) k.grows;
+  took = λ e. subst (HasPart a dst part) (sym same) (has-part a dst part x s.world k.has);
 }
 answered-so n a dst part w x s r f k (Delivery.struck used num heard c more planned) =
     let out : Outgoing = PartAnswer (ack_of x.sent) in
@@ -73,6 +85,8 @@ answered-so n a dst part w x s r f k (Delivery.struck used num heard c more plan
       between = between-sent n a s.world dst out r.world k.between l.0 c;
       kept = kept-both w s.world r.world k.kept (kept-sent s.world dst out r.world l.1 c);
       missed = λ e. inl (omega (arith, more, h));
+      grows = grows-both a w s.world r.world k.grows (grows-sent a s.world dst out r.world c);
+      took = λ e. ((grows-sent a s.world dst out r.world c).each dst).parts part (has-part a dst part x s.world k.has);
     }
 answered-so n a dst part w x s r f k (Delivery.astray used num heard c same away) = absurd (away a.mapper x.home)
 answered-so n a dst part w x s r f k (Delivery.delivered g base left used num at c same world heard) =
@@ -86,15 +100,18 @@ answered-so n a dst part w x s r f k (Delivery.delivered g base left used num at
     let low : dst < host_count base = omega (arith, hosts, there) in
     let heard_so = answer-heard base g x.sent.epoch dst x.sent.part low in
     let is : r.world ≡ with_node base g (node_at base g) = world ∙ ap (λ y. y.1) heard_so in
+    let on : Grows a s.world r.world = grows-both a s.world base r.world (grows-sent a s.world dst out base c) (subst (Grows a base) (sym is) (grows-node a base g (node_at base g) ((grows-same a base).each g))) in
     let word : told r.effects ≡ (a.mapper, RoutesAck x.sent.epoch dst part) ∷ [] = heard ∙ ap (λ y. told (y.0 ∷ [])) heard_so ∙ ap (λ h. (h, RoutesAck x.sent.epoch dst x.sent.part) ∷ []) home ∙ ap (λ q. (a.mapper, RoutesAck x.sent.epoch dst q) ∷ []) x.number in
     record {
       between = subst (Between n a) (sym is) (between-node n a base g (node_at base g) b (b.nodes g));
       kept = subst (IsInstallKept w) (sym is) (kept-both w base (with_node base g (node_at base g)) kept (kept-node base g (node_at base g) (same-ports (node_at base g))));
       missed = λ e. absurd (true≢false (sym (one_answer a.mapper dst part x.sent.epoch r.effects word) ∙ e));
+      grows = grows-both a w s.world r.world k.grows on;
+      took = λ e. (on.each dst).parts part (has-part a dst part x s.world k.has);
     }
 
 -- its host answers
-answer-sent : (n : Network) (a : Adoption) (dst part : ℕ) (w : WorldState) (x : IsSent n a dst part) (s : Sent) → IsFabric n → dst ≢ a.mapper → Taken n a dst x.sent w s.world → IsPartTry n a w (answered w a.mapper dst part s (sends s.world dst))
+answer-sent : (n : Network) (a : Adoption) (dst part : ℕ) (w : WorldState) (x : IsSent n a dst part) (s : Sent) → IsFabric n → dst ≢ a.mapper → Taken n a dst x.sent w s.world → IsPartTry n a dst part w (answered w a.mapper dst part s (sends s.world dst))
 answer-sent n a dst part w x s f other k =
     let b = k.between in
     let here = b.nodes dst in
@@ -106,17 +123,17 @@ answer-sent n a dst part w x s f other k =
     (deliver n s.world dst (PartAnswer (ack_of x.sent)) x.sent.back (PartAck x.sent.epoch dst x.sent.part) b.bare b.flips b.net first
     (λ low. answer-parcel s.world dst (ack_of x.sent) x.home_turns (omega (arith, one)) (small-host n dst f x.host) (omega (arith, few, number))))
 
-sent-so : (n : Network) (a : Adoption) (dst part : ℕ) (w : WorldState) (x : IsSent n a dst part) (u : WorldState) (s : Sent) → IsFabric n → dst ≢ a.mapper → Between n a u → IsInstallKept w u → Delivery n u a.mapper (TablePart x.sent x.way) x.way (PartBody x.sent) s → IsPartTry n a w (part_sent w a.mapper dst part s)
-sent-so n a dst part w x u s f other b k (Delivery.no_cable none used num heard same) = absurd (stuck-place n a.mapper dst x.way none x.there)
-sent-so n a dst part w x u s f other b k (Delivery.none_left most used num heard same) =
-    silent-so n a dst part w s heard (subst (Between n a) (sym same) b) (subst (IsInstallKept w) (sym same) k) (inr (subst (λ v. last_count ≤ v.injected) (sym same) most))
-sent-so n a dst part w x u s f other b k (Delivery.struck used num heard c more planned) =
+sent-so : (n : Network) (a : Adoption) (dst part : ℕ) (w : WorldState) (x : IsSent n a dst part) (u : WorldState) (s : Sent) → IsFabric n → dst ≢ a.mapper → Between n a u → IsInstallKept w u → Grows a w u → Delivery n u a.mapper (TablePart x.sent x.way) x.way (PartBody x.sent) s → IsPartTry n a dst part w (part_sent w a.mapper dst part s)
+sent-so n a dst part w x u s f other b k grown (Delivery.no_cable none used num heard same) = absurd (stuck-place n a.mapper dst x.way none x.there)
+sent-so n a dst part w x u s f other b k grown (Delivery.none_left most used num heard same) =
+    silent-so n a dst part w s heard (subst (Between n a) (sym same) b) (subst (IsInstallKept w) (sym same) k) (inr (subst (λ v. last_count ≤ v.injected) (sym same) most)) (subst (Grows a w) (sym same) grown)
+sent-so n a dst part w x u s f other b k grown (Delivery.struck used num heard c more planned) =
     let out : Outgoing = TablePart x.sent x.way in
     let l = part-left a.mapper a.mapper (node_at u a.mapper) x.sent x.way (b.nodes a.mapper) in
     let h = k.harmed in
-    silent-so n a dst part w s heard (between-sent n a u a.mapper out s.world b l.0 c) (kept-both w u s.world k (kept-sent u a.mapper out s.world l.1 c)) (inl (omega (arith, more, h)))
-sent-so n a dst part w x u s f other b k (Delivery.astray used num heard c same away) = absurd (away dst x.there)
-sent-so n a dst part w x u s f other b k (Delivery.delivered g base left used num at c same world heard) =
+    silent-so n a dst part w s heard (between-sent n a u a.mapper out s.world b l.0 c) (kept-both w u s.world k (kept-sent u a.mapper out s.world l.1 c)) (inl (omega (arith, more, h))) (grows-both a w u s.world grown (grows-sent a u a.mapper out s.world c))
+sent-so n a dst part w x u s f other b k grown (Delivery.astray used num heard c same away) = absurd (away dst x.there)
+sent-so n a dst part w x u s f other b k grown (Delivery.delivered g base left used num at c same world heard) =
     let out : Outgoing = TablePart x.sent x.way in
     let l = part-left a.mapper a.mapper (node_at u a.mapper) x.sent x.way (b.nodes a.mapper) in
     let arrives : g ≡ dst = one-host g dst (sym at ∙ x.there) in
@@ -138,11 +155,13 @@ sent-so n a dst part w x u s f other b k (Delivery.delivered g base left used nu
       between = subst (Between n a) (sym is) (between-node n a base dst m now (taken-between a.mapper dst (node_at base dst) x.sent x.epoch (now.nodes dst)));
       kept = subst (IsInstallKept w) (sym is) (kept-both w base (with_node base dst m) kept (kept-node base dst m (record { lanes = refl; ports = refl })));
       ack = ack;
+      grows = subst (Grows a w) (sym is) (grows-both a w base (with_node base dst m) (grows-both a w u base grown (grows-sent a u a.mapper out base c)) (grows-node a base dst m (applied-grows (parts_for a dst) (node_at base dst).table x.sent x.epoch x.parts (now.nodes dst).low)));
+      has = subst (HasPart a dst x.sent.part) (sym is) (subst (λ (y : NodeState). Has (parts_for a dst) x.sent.part y.table) (sym (get_or-set_same base.nodes dst m (new_node 0) low)) (applied-takes (parts_for a dst) (node_at base dst).table x.sent x.epoch x.parts (now.nodes dst).low));
     } in
     let t : Tried Bool = record { found = false; harmed = is_harmed s.used_up w s.world; world = s.world } in
-    subst (λ c. IsPartTry n a w (if c then answered w a.mapper dst part s (sends s.world dst) else t)) (sym staged) (answer-sent n a dst part w x s f other taken)
+    subst (λ c. IsPartTry n a dst part w (if c then answered w a.mapper dst part s (sends s.world dst) else t)) (sym staged) (answer-sent n a dst part w x s f other taken)
 
-pub part-tried : (n : Network) (a : Adoption) (dst part : ℕ) (w : WorldState) → IsFabric n → dst ≢ a.mapper → IsSent n a dst part → Between n a w → IsPartTry n a w (part_try a.mapper dst part w)
+pub part-tried : (n : Network) (a : Adoption) (dst part : ℕ) (w : WorldState) → IsFabric n → dst ≢ a.mapper → IsSent n a dst part → Between n a w → IsPartTry n a dst part w (part_try a.mapper dst part w)
 unfolding part_try
 part-tried n a dst part w f other x b =
     let u : WorldState = with_staged a w x.sent x.way in
@@ -155,6 +174,6 @@ part-tried n a dst part w f other x b =
     let staged : (node_at u a.mapper).staged ≡ Some (StagedPart x.sent x.way) = ap (λ (y : NodeState). y.staged) (get_or-set_same w.nodes a.mapper m (new_node 0) (omega (arith, hosts, adopter))) in
     let first = part-first a.mapper (node_at u a.mapper) x.sent x.way staged in
     let is = part-staged a w dst part x.sent x.way b.adopted x.is x.way_is in
-    subst (λ v. IsPartTry n a w (part_sent w a.mapper dst part (sends v a.mapper))) (sym is)
-    (sent-so n a dst part w x u (sends u a.mapper) f other now kept
+    subst (λ v. IsPartTry n a dst part w (part_sent w a.mapper dst part (sends v a.mapper))) (sym is)
+    (sent-so n a dst part w x u (sends u a.mapper) f other now kept (grows-node a w a.mapper m ((grows-same a w).each a.mapper))
     (deliver n u a.mapper (TablePart x.sent x.way) x.way (PartBody x.sent) now.bare now.flips now.net first (λ low. part-parcel u a.mapper x.sent x.way x.turns x.rules)))

@@ -2,4 +2,5 @@ pub mod Premises
 pub mod Kept
 pub mod Cause
 pub mod Counts
+pub mod Tables
 pub mod Examples

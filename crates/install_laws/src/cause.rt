@@ -3,6 +3,7 @@
 ghost use Rattle.install_laws.specs.Cause.{MissedHostsWereHarmed};
 ghost use Rattle.install_laws.specs.Counts.{CountsAtMostAll, CountsAllWhereAcknowledged, EachMissCostsFaults};
 ghost use Rattle.install_laws.specs.Counts.{UnharmedCountsAll, UnplannedCountsAll, InstallingTellsCause};
+ghost use Rattle.install_laws.specs.Tables.{CountedHostsHaveTables, CountsTables};
 
 /// Each host that an installation doesn't count has a part each of whose tries met a planned fault, on the part or on
 /// its acknowledgement.
@@ -19,4 +20,11 @@ pub fn counted_hosts()
     ensures unharmed { UnharmedCountsAll }
     ensures unplanned { UnplannedCountsAll }
     ensures cause { InstallingTellsCause }
+{}
+
+/// Each host that is counted has an active table after the installation, where the adopter had one before; so no more
+/// are counted than have one.
+pub fn counted_tables()
+    ensures tables { CountedHostsHaveTables }
+    ensures counts { CountsTables }
 {}

@@ -1,8 +1,9 @@
 -- Along every run the last routes are those of a right map: so they can be installed, and the line of an installation is true.
-use Rattle.std.proofs.Common.{◌≡◌, ◌≢◌, ◌<◌, ℕ, Bool, true, false, not, ◌||◌, List, [], ◌∷◌, map, length, nat_eq, Option, Some, None, cond, inl, inr, refl, sym, ◌∙◌, ap, subst, true≢false, arith, if◌then◌else◌}
+use Rattle.std.proofs.Common.{◌≡◌, ◌≢◌, ◌<◌, ◌≤◌, ℕ, suc, is_some, Bool, true, false, not, ◌||◌, List, [], ◌∷◌, map, length, nat_eq, Option, Some, None, cond, inl, inr, refl, sym, ◌∙◌, ap, subst, true≢false, arith, if◌then◌else◌}
 use Rattle.std.specs.List.{AllByRecursion, list_any, filter}
 use Rattle.std.proofs.lemmas.Bool.Decides.{Decides-eqb, nat_tests}
 use Rattle.std.proofs.lemmas.Option.{same_Some}
+use Rattle.std.proofs.lemmas.List.{get_or-set_same}
 use Rattle.net_defs.specs.declared.vertex.Vertex.TheVariants.{Host}
 use Rattle.net_defs.specs.Network.{Network, IsFabric, has_vertex}
 use Rattle.link_defs.specs.Links.{is_idle}
@@ -13,7 +14,8 @@ use Rattle.map_defs.specs.Sameness.{address_of}
 use Rattle.map_laws.proofs.Listed.{member-host}
 use Rattle.world_defs.specs.declared.event.Event.{Event}
 use Rattle.world_defs.specs.declared.effect.Effect.{Effect}
-use Rattle.world_defs.specs.World.{WorldState, last_count, addresses, adopted_by}
+use Rattle.world_defs.specs.Node.{NodeState, new_node}
+use Rattle.world_defs.specs.World.{WorldState, fabric_of, host_count, last_count, node_at, addresses, adopted_by}
 use Rattle.world_defs.specs.Step.{step}
 use Rattle.world_defs.specs.Install.{installed}
 use Rattle.run_defs.specs.declared.command.Command.{Command}
@@ -24,7 +26,7 @@ use Rattle.run_defs.specs.declared.line.InstallCause.TheVariants.{NoRoutes, Busy
 use Rattle.run_defs.specs.Output.{Piece, OneLine, lines}
 use Rattle.run_defs.specs.Session.{SessionState, LastMap, LastRoutes, new_session, is_complete, complete_map}
 use Rattle.run_defs.specs.Outcome.{Outcome, says_only, event_of, stepped, step_or_idle, table_line, adoption_of, install_done, install_now, install, map_refused, routes_refused, outcome}
-use Rattle.world_defs.specs.Table.{is_other}
+use Rattle.world_defs.specs.Table.{Adoption, ActiveTable, whole_table, is_other}
 use Rattle.run_defs.specs.Run.{Does, Runs}
 use Rattle.run_defs.specs.Run.Does.{determined, maps, circuits, routes}
 use Rattle.run_defs.specs.Run.Runs.{ended, goes_on}
@@ -38,10 +40,13 @@ use Rattle.run_laws.specs.Acts.{IsActOf}
 use Rattle.install_laws.proofs.Leads.{leads-adoption, reached-further}
 use Rattle.run_laws.proofs.Ranked.{right_routes_are_adoptable}
 use Rattle.run_laws.proofs.Reaching.{run_is_reached}
-use Rattle.install_laws.specs.Premises.{IsJoined}
+use Rattle.install_laws.specs.Premises.{IsJoined, CanInstall}
+use Rattle.install_laws.specs.Tables.{has_table}
 use Rattle.install_line_laws.specs.Runs.{RightRoutesAreShort, IsSetOfMap, RunRoutesAreOfMap, RunCanInstall, IsInstalledLine, InstalledLineIsTrue}
-use Rattle.install_laws.proofs.Installing.{missed-harmed}
-use Rattle.install_laws.proofs.Counting.{counts-most, unharmed-all}
+use Rattle.install_laws.proofs.Installing.{missed-harmed, install-again}
+use Rattle.install_laws.proofs.Counting.{counts-most, counts-tables, unharmed-all}
+use Rattle.table_laws.specs.Set.{IsActive, IsActiveOfSet}
+use Rattle.table_laws.proofs.Dependencies.{active-of_set}
 use Rattle.act_defs.proofs.Routes.{not-other}
 use Rattle.install_line_laws.proofs.Shortest.{least-all-short}
 
@@ -265,6 +270,35 @@ install-prints s next tries acked total rest (Some l) are e = by (is_idle s.worl
     by true true p q d = refusal-prints s next tries acked total rest OtherInstalled d
     by true false p q d = done-prints s next tries acked total rest l (installed (adoption_of l) l.hosts tries (adopted_by s.world l.mapper l.routes)) are p q refl d
 
+-- a list that a test leaves as long as it is passes it
+filter-most : {X : Type 0} (p : X → Bool) (xs : List X) → length (filter p xs) ≤ length xs
+filter-most p [] = omega arith
+filter-most p (x ∷ xs) = by (p x) (filter-most p xs)
+  where
+    by : (b : Bool) → length (filter p xs) ≤ length xs → length (if b then x ∷ filter p xs else filter p xs) ≤ suc (length xs)
+    by true most = omega (arith, most)
+    by false most = omega (arith, most)
+
+filter-all : {X : Type 0} (p : X → Bool) (xs : List X) → length xs ≤ length (filter p xs) → AllByRecursion (λ x. p x ≡ true) xs
+filter-all p [] all = tt
+filter-all p (x ∷ xs) all = by (p x) refl all (filter-most p xs) (filter-all p xs)
+  where
+    by : (b : Bool) → p x ≡ b → suc (length xs) ≤ length (if b then x ∷ filter p xs else filter p xs) → length (filter p xs) ≤ length xs → (length xs ≤ length (filter p xs) → AllByRecursion (λ y. p y ≡ true) xs) → (p x ≡ true) × AllByRecursion (λ y. p y ≡ true) xs
+    by true e more most rest = (e, rest (omega (arith, more)))
+    by false e more most rest = absurd (omega (arith, more, most))
+
+-- the adopter's table is whole at once
+adopter-has : (n : Network) (s : SessionState) (l : LastRoutes) → IsLed n s → IsSetOfMap n l → has_table (adopted_by s.world l.mapper l.routes) l.mapper ≡ true
+adopter-has n s l led k =
+    let m : NodeState = record (node_at s.world l.mapper) { table = whole_table l.routes l.mapper 1 } in
+    let hosts : host_count s.world ≡ length n.hosts = led.session.world.hosts ∙ ap (λ (x : Network). length x.hosts) led.session.fabric in
+    let there = k.is_host in
+    ap (λ (x : NodeState). is_some x.table.active) (get_or-set_same s.world.nodes l.mapper m (new_node 0) (omega (arith, hosts, there)))
+
+-- what is active in a world that has adopted a set
+active-of : (a : Adoption) (hosts : List ℕ) (v : WorldState) → CanInstall a hosts v → (h : ℕ) (t : ActiveTable) → (node_at v h).table.active ≡ Some t → IsActiveOfSet a.routes h t
+active-of a hosts v can h t e = subst (λ o. IsActive o h t) can.adopted (active-of_set (fabric_of v) v h t can.reached e)
+
 line-so : (n : Network) (commands : List Command) (out : List Piece) (s next : SessionState) (tries acked total : ℕ) → IsFabric n → AllByRecursion (IsActOf n) commands → Runs (new_session n) commands out s → Prints s next tries acked total → IsInstalledLine s next tries acked total
 line-so n commands out s next tries acked total f all r p =
     let w : WorldState = adopted_by s.world p.last.mapper p.last.routes in
@@ -273,12 +307,21 @@ line-so n commands out s next tries acked total f all r p =
     let count : (installed (adoption_of p.last) p.last.hosts tries w).0 ≡ acked = ap (λ x. x.0) p.counted in
     let most = counts-most (adoption_of p.last) p.last.hosts tries w in
     let total_is = p.all in
+    let led = run-led n commands out s f all r in
+    let adopter = adopter-has n s p.last led (led.set p.last p.are) in
+    let behind : (installed (adoption_of p.last) p.last.hosts tries w).1 ≡ next.world = ap (λ x. x.1) p.counted in
+    let has : (installed (adoption_of p.last) p.last.hosts tries w).0 ≤ length (filter (has_table (installed (adoption_of p.last) p.last.hosts tries w).1) p.last.hosts) = counts-tables (adoption_of p.last) p.last.hosts tries w can adopter in
+    let now : (installed (adoption_of p.last) p.last.hosts tries w).0 ≤ length (filter (has_table next.world) p.last.hosts) = subst (λ v. (installed (adoption_of p.last) p.last.hosts tries w).0 ≤ length (filter (has_table v) p.last.hosts)) behind has in
+    let again = subst (CanInstall (adoption_of p.last) p.last.hosts) behind (install-again (adoption_of p.last) p.last.hosts tries w can) in
     record {
       last = p.last;
       are = p.are;
       counted = p.counted;
       all = p.all;
       at_most = omega (arith, most, count, total_is);
+      tables = omega (arith, now, count);
+      all_tables = λ e. filter-all (has_table next.world) p.last.hosts (omega (arith, now, count, total_is, e));
+      of_set = active-of (adoption_of p.last) p.last.hosts next.world again;
       cause = λ left. missed-harmed (adoption_of p.last) p.last.hosts tries w can (there left);
       unharmed = λ some left same. sym count ∙ unharmed-all (adoption_of p.last) p.last.hosts tries w can some (there left) (ap (λ x. x.1.harmed) p.counted ∙ same) ∙ sym p.all;
     }

@@ -1,6 +1,6 @@
 -- What every run installs, and what its line says.
 use Rattle.std.specs.Prelude.{◌≡◌, ℕ, ◌<◌, ◌≤◌, true, false, List, ◌∷◌, length, nat_eq, Some}
-use Rattle.std.specs.List.{AllByRecursion, list_any}
+use Rattle.std.specs.List.{AllByRecursion, list_any, filter}
 use Rattle.net_defs.specs.declared.route.Route.{Route}
 use Rattle.net_defs.specs.Network.{Network, IsFabric}
 use Rattle.link_defs.specs.Links.{is_idle}
@@ -8,7 +8,7 @@ use Rattle.map_defs.specs.NetMap.{NetMap, IsMap, hosts_of}
 use Rattle.map_defs.specs.Orientation.{order_of}
 use Rattle.map_defs.specs.Routing.{AreRoutesOf}
 use Rattle.map_defs.specs.Sameness.{IsMapOfPart}
-use Rattle.world_defs.specs.World.{last_count, adopted_by}
+use Rattle.world_defs.specs.World.{last_count, node_at, adopted_by}
 use Rattle.world_defs.specs.Asking.{all_given_up}
 use Rattle.world_defs.specs.Install.{installed}
 use Rattle.run_defs.specs.declared.command.Command.{Command}
@@ -17,11 +17,13 @@ use Rattle.run_defs.specs.declared.line.Line.TheVariants.{Installed}
 use Rattle.run_defs.specs.Output.{Piece, OneLine}
 use Rattle.run_defs.specs.Session.{SessionState, LastRoutes}
 use Rattle.run_defs.specs.Outcome.{adoption_of}
-use Rattle.world_defs.specs.Table.{is_other}
+use Rattle.world_defs.specs.Table.{ActiveTable, is_other}
+use Rattle.table_laws.specs.Set.{IsActiveOfSet}
 use Rattle.run_defs.specs.Run.{Does, IsRun}
 use Rattle.run_laws.specs.Acts.{IsActOf}
 use Rattle.install_laws.specs.Premises.{CanInstall}
 use Rattle.install_laws.specs.Cause.{EachMissedWasHarmed}
+use Rattle.install_laws.specs.Tables.{has_table}
 
 -- Each route of a right map, of a mapper that the fabric has, takes at most 64 turns: it turns at no switch twice.
 abbrev pub RightRoutesAreShort : Type 0
@@ -55,9 +57,10 @@ RunCanInstall =
     → is_other l.routes s.world.adopted ≡ false
     → CanInstall (adoption_of l) l.hosts (adopted_by s.world l.mapper l.routes)
 
--- What the line `installed K of N` says: K hosts of the N of the last routes have all parts acknowledged, and where
--- injections are left then, each other one has a part each of whose tries met a planned loss, hold or flip, on the
--- part or on its acknowledgement; so K is N where none did.
+-- What the line `installed K of N` says: K hosts of the N of the last routes have all parts acknowledged, and at least
+-- so many have an active table, which is the set's routes from its host. Where injections are left then, each other host
+-- has a part each of whose tries met a planned loss, hold or flip, on the part or on its acknowledgement; so K is N where
+-- none did.
 pub record IsInstalledLine (s next : SessionState) (tries acked total : ℕ) : Type 0 where
   pub last : LastRoutes
   pub are : s.last_routes ≡ Some last
@@ -65,6 +68,9 @@ pub record IsInstalledLine (s next : SessionState) (tries acked total : ℕ) : T
       ≡ (acked, next.world)
   pub all : total ≡ length last.hosts
   pub at_most : acked ≤ total
+  pub tables : acked ≤ length (filter (has_table next.world) last.hosts)
+  pub all_tables : acked ≡ total → AllByRecursion (λ h. has_table next.world h ≡ true) last.hosts
+  pub of_set : (h : ℕ) (t : ActiveTable) → (node_at next.world h).table.active ≡ Some t → IsActiveOfSet last.routes h t
   pub cause : next.world.injected < last_count → EachMissedWasHarmed (adoption_of last) tries last.hosts
       (all_given_up (adopted_by s.world last.mapper last.routes))
   pub unharmed : 0 < tries → next.world.injected < last_count → next.world.harmed ≡ s.world.harmed → acked ≡ total

@@ -8,8 +8,8 @@ pub fn short_routes()
     ensures { RightRoutesAreShort }
 {}
 
-/// A run's last routes are those of a right map, so they can be installed, and each line `installed K of N` has its
-/// cause.
+/// A run's last routes are those of a right map, so they can be installed; each line `installed K of N` has its cause,
+/// and no more hosts are counted than have their table, the set's routes from there.
 pub fn installed_lines()
     ensures routes { RunRoutesAreOfMap }
     ensures can { RunCanInstall }
