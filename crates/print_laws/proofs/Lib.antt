@@ -3,3 +3,7 @@ pub mod Hosts
 pub mod Lengths
 pub mod ReadAgain
 pub mod Pieces
+pub mod Standing
+pub mod Shown
+pub mod Marks
+pub mod Routes

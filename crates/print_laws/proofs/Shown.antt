@@ -1,0 +1,185 @@
+-- A map that a command prints was made; so it stands over the fabric, and complete ones are one.
+use Rattle.std.proofs.Common.{◌≡◌, ◌≤◌, ◌-◌, ⊎_elim, inl, inr, ℕ, Bool, true, false, List, [], ◌∷◌, length, Option, Some, None, refl, sym, ap, subst, ◌∙◌, arith, if◌then◌else◌}
+use Rattle.std.specs.Prelude.{ℤ, ◌⊎◌}
+use Rattle.std.proofs.lemmas.Bool.{cases_lt}
+use Rattle.net_defs.specs.Network.{Network, IsFabric}
+use Rattle.link_defs.specs.Links.{is_idle}
+use Rattle.journal_defs.specs.declared.entry.Entry.{Entry}
+use Rattle.journal_defs.specs.Truth.{IsTrueJournal, IsTrueWhereFound}
+use Rattle.journal_defs.specs.Growth.{NextAsk, IsGrowing, IsGrown, IsEndedByDepth, IsEndedAtLimit, IsClosed}
+use Rattle.journal_defs.specs.Growth.NextAsk.{first, goes_on, begins}
+use Rattle.journal_defs.specs.Growth.IsGrowing.{nothing, more}
+use Rattle.map_defs.specs.NetMap.{NetMap}
+use Rattle.map_defs.specs.Quotient.{IsQuotient}
+use Rattle.map_defs.specs.Core.{core_of}
+use Rattle.growth_laws.proofs.OneJournal.{grown_journal_is_one}
+use Rattle.map_laws.proofs.OneMap.{quotient_is_one}
+use Rattle.map_laws.proofs.Alike.{cabled-there}
+use Rattle.world_defs.specs.World.{WorldState, fabric_of}
+use Rattle.run_defs.specs.declared.command.Command.{Command}
+use Rattle.run_defs.specs.declared.command.Command.TheVariants.{Map}
+use Rattle.run_defs.specs.declared.line.Line.TheVariants.{Map as MapLine, MapBusy}
+use Rattle.run_defs.specs.declared.line.MapWords.{MapWords}
+use Rattle.run_defs.specs.declared.line.MapWords.TheVariants.{Complete, Doubtful, IncompleteDepth, IncompleteNodes}
+use Rattle.run_defs.specs.Mapped.{IsMapped, IsCalled}
+use Rattle.run_defs.specs.Mapped.IsCalled.{right}
+use Rattle.run_defs.specs.Output.{Piece, OneLine, MapLines}
+use Rattle.run_defs.specs.Session.{SessionState}
+use Rattle.run_defs.specs.Outcome.{Outcome, outcome, says_only}
+use Rattle.run_defs.specs.Run.{Does, map_pieces}
+use Rattle.run_defs.specs.Run.Does.{determined, maps}
+use Rattle.mapping_laws.specs.Laws.{CanMap}
+use Rattle.mapping_laws.specs.Runs.{IsSessionOf}
+use Rattle.mapping_laws.proofs.Made.{found_is_there, undrowned_is_true}
+use Rattle.mapping_laws.proofs.Sessions.{can-map-now, run_keeps_world}
+use Rattle.print_laws.specs.Standing.{StandsOver}
+use Rattle.print_laws.specs.Shown.{IsPrintedAfter, PrintedMapsStand, CompleteMapsAreOne}
+use Rattle.print_laws.proofs.Standing.{quotient-stands}
+
+-- A map that was made in a session.
+pub record IsMade (s next : SessionState) (host depth tries : ℕ) (words : MapWords) (m : NetMap) : Type 0 where
+  pub none : outcome s (Map host depth tries) ≡ None
+  pub journal : List Entry
+  pub mapped : IsMapped host depth tries s.world next.world journal m words
+
+abbrev map_out : ℕ → MapWords → ℕ → ℕ → NetMap → List Piece
+map_out host words asks packets m = OneLine (MapLine host words asks packets) ∷ MapLines m ∷ []
+
+-- the map of what follows the line
+pieces-map : (words : MapWords) (k m : NetMap) → map_pieces words k ≡ MapLines m ∷ [] → k ≡ m
+pieces-map Complete k m e = cc
+pieces-map (Doubtful n) k m e = cc
+pieces-map IncompleteDepth k m e = cc
+pieces-map IncompleteNodes k m e = cc
+
+abbrev rest_of : List Piece → List Piece
+rest_of [] = []
+rest_of (p ∷ ps) = ps
+
+-- what a determined command prints
+abbrev printed_by : Option Outcome → List Piece
+printed_by None = []
+printed_by (Some o) = o.output
+
+does-made : {s next : SessionState} {out : List Piece} → (host depth tries : ℕ) (words : MapWords) (asks packets : ℕ) (m : NetMap) → out ≡ map_out host words asks packets m → Does s (Map host depth tries) out next → IsMade s next host depth tries words m
+does-made {s = s} {next = next} {out = out} host depth tries words asks packets m says (determined e) = by (is_idle s.world.links) refl
+  where
+    got : Outcome
+    got = record { output = out; after = next }
+
+    by : (idle : Bool) → is_idle s.world.links ≡ idle → IsMade s next host depth tries words m
+    by true i =
+        let none : outcome s (Map host depth tries) ≡ None = ap (λ b. if b then None else Some (says_only s (MapBusy host ∷ []))) i in
+        let bad : None ≡ Some got = sym none ∙ e in
+        cc
+    by false i =
+        let busy : outcome s (Map host depth tries) ≡ Some (says_only s (MapBusy host ∷ [])) = ap (λ b. if b then None else Some (says_only s (MapBusy host ∷ []))) i in
+        let bad : OneLine (MapBusy host) ∷ [] ≡ map_out host words asks packets m = ap printed_by (sym busy ∙ e) ∙ says in
+        cc
+does-made {s = s} {next = next} host depth tries words asks packets m says (maps after j k x none made printed left) =
+    let both : OneLine (MapLine host x (length j) (after.injected - s.world.injected)) ∷ map_pieces x k ≡ map_out host words asks packets m = sym printed ∙ says in
+    let called : x ≡ words = cc in
+    let one : k ≡ m = pieces-map x k m (ap rest_of both) in
+    let world : after ≡ next.world = sym (ap (λ (t : SessionState). t.world) left) in
+    record {
+      none = none;
+      journal = j;
+      mapped = subst (λ w. IsMapped host depth tries s.world w j m words) world (subst (λ y. IsMapped host depth tries s.world after j m y) called (subst (λ y. IsMapped host depth tries s.world after j y x) one made));
+    }
+
+-- the mapping behind a printed map, and what it was made over
+pub record IsMapping (n : Network) (host : ℕ) (words : MapWords) (m : NetMap) : Type 0 where
+  pub before : WorldState
+  pub after : WorldState
+  pub depth : ℕ
+  pub tries : ℕ
+  pub journal : List Entry
+  pub can : CanMap host depth before
+  pub fabric : fabric_of before ≡ n
+  pub mapped : IsMapped host depth tries before after journal m words
+
+pub mapping-of : (n : Network) (commands : List Command) (host : ℕ) (words : MapWords) (m : NetMap) → IsFabric n → IsPrintedAfter n commands host words m → IsMapping n host words m
+mapping-of n commands host words m f p =
+    let is : IsSessionOf n p.session = run_keeps_world n commands p.out p.session f p.over p.run in
+    let made = does-made host p.depth p.tries words p.prints.asks p.prints.packets m refl p.prints.does in
+    record {
+      before = p.session.world;
+      after = p.next.world;
+      depth = p.depth;
+      tries = p.tries;
+      journal = made.journal;
+      can = can-map-now n p.session host p.depth p.tries f p.of_fabric is made.none;
+      fabric = is.fabric;
+      mapped = made.mapped;
+    }
+
+-- marks change no cable
+marked-stands : (n : Network) (host : ℕ) (m k : NetMap) → m ≡ record k { core = core_of k } → StandsOver n host k → StandsOver n host m
+marked-stands n host m k e s =
+    subst (StandsOver n host) (sym e) (record {
+      image = s.image;
+      offset = s.offset;
+      image_in = s.image_in;
+      addresses = s.addresses;
+      host_offsets = s.host_offsets;
+      cables = λ d t c. s.cables d t (cabled-there (record k { core = core_of k }) k d t refl c);
+    })
+
+pub printed_maps_stand : PrintedMapsStand
+printed_maps_stand n commands host words m f p =
+    let a = mapping-of n commands host words m f p in
+    let found : IsTrueWhereFound n host a.journal =
+    subst (λ k. IsTrueWhereFound k host a.journal) a.fabric (found_is_there host a.depth a.tries a.before a.after a.journal m words a.can a.mapped) in
+    marked-stands n host m a.mapped.unmarked a.mapped.marked (quotient-stands n host a.journal a.mapped.unmarked f found a.mapped.quotient)
+
+-- a map that is called complete
+record IsWhole (host : ℕ) (j : List Entry) (drowned : ℕ) : Type 0 where
+  none : drowned ≡ 0
+  closed : IsClosed host j
+  within : ¬ IsEndedAtLimit j
+
+called-whole : (host : ℕ) (j : List Entry) (drowned : ℕ) → IsCalled host j drowned Complete → IsWhole host j drowned
+called-whole host j drowned (right l c d) = record { none = d; closed = c; within = l }
+
+-- growth to a depth that has closed is growth to a greater one
+ask-deeper : (host depth deeper : ℕ) (j : List Entry) (x : List ℤ) → depth ≤ deeper → NextAsk host depth j x → NextAsk host deeper j x
+ask-deeper host depth deeper j x l (first a b) = first a b
+ask-deeper host depth deeper j x l (goes_on w t b least all is) = goes_on w t b least all is
+ask-deeper host depth deeper j x l (begins w rest c is) = begins w rest (record { switch = c.switch; near = (let k = c.near in omega (arith, k, l)); fresh = c.fresh; lesser = c.lesser }) is
+
+growing-deeper : (host depth deeper : ℕ) (j : List Entry) → depth ≤ deeper → IsGrowing host depth j → IsGrowing host deeper j
+growing-deeper host depth deeper j l nothing = nothing
+growing-deeper host depth deeper j l (more before e g ask is) = more before e (growing-deeper host depth deeper before l g) (ask-deeper host depth deeper before e.walk l ask) is
+
+closed-deeper : (host depth deeper drowned : ℕ) (j : List Entry) → depth ≤ deeper → IsWhole host j drowned → IsGrown host depth j → IsGrown host deeper j
+closed-deeper host depth deeper drowned j l w g = record { growing = growing-deeper host depth deeper j l g.growing; ended = inl (by g.ended) }
+  where
+    by : IsEndedByDepth host depth j ⊎ IsEndedAtLimit j → IsEndedByDepth host deeper j
+    by (inl e) = record { started = e.started; at_rest = e.at_rest; expanded = λ x s k. w.closed.expanded x s; kept = e.kept }
+    by (inr e) = absurd (w.within e)
+
+-- two closed journals of true answers are one
+journals-one : (n : Network) (host depth deeper drowned sunk : ℕ) (j l : List Entry) → IsTrueJournal n host j → IsTrueJournal n host l → IsWhole host j drowned → IsWhole host l sunk → IsGrown host depth j → IsGrown host deeper l → j ≡ l
+journals-one n host depth deeper drowned sunk j l a b v w g h =
+    ⊎_elim
+    (λ low. grown_journal_is_one n host deeper j l a b (closed-deeper host depth deeper drowned j (omega (arith, low)) v g) h)
+    (λ high. grown_journal_is_one n host depth j l a b g (closed-deeper host deeper depth sunk l high w h))
+    (cases_lt depth deeper)
+
+-- and so are their maps
+maps-one : (host : ℕ) (j : List Entry) (p q m k : NetMap) → IsQuotient host j p → IsQuotient host j q → m ≡ record p { core = core_of p } → k ≡ record q { core = core_of q } → m ≡ k
+maps-one host j p q m k of_p of_q e f = e ∙ ap (λ (z : NetMap). record z { core = core_of z }) (quotient_is_one host j p q of_p of_q) ∙ sym f
+
+true-of : (n : Network) (host : ℕ) (m : NetMap) (a : IsMapping n host Complete m) → IsTrueJournal n host a.journal
+true-of n host m a =
+    subst (λ k. IsTrueJournal k host a.journal) a.fabric
+    (undrowned_is_true host a.depth a.tries a.before a.after a.journal m Complete a.can a.mapped (called-whole host a.journal a.mapped.drowned a.mapped.called).none)
+
+pub complete_maps_are_one : CompleteMapsAreOne
+complete_maps_are_one n commands others host m k f p q =
+    let a = mapping-of n commands host Complete m f p in
+    let b = mapping-of n others host Complete k f q in
+    let one : a.journal ≡ b.journal =
+    journals-one n host a.depth b.depth a.mapped.drowned b.mapped.drowned a.journal b.journal (true-of n host m a) (true-of n host k b)
+    (called-whole host a.journal a.mapped.drowned a.mapped.called) (called-whole host b.journal b.mapped.drowned b.mapped.called) a.mapped.grown b.mapped.grown in
+    maps-one host b.journal a.mapped.unmarked b.mapped.unmarked m k (subst (λ j. IsQuotient host j a.mapped.unmarked) one a.mapped.quotient) b.mapped.quotient a.mapped.marked b.mapped.marked
