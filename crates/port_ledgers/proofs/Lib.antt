@@ -1,2 +1,5 @@
 pub mod Counting
 pub mod Order
+pub mod Holding
+pub mod Placing
+pub mod Lists

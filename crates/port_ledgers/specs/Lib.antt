@@ -1,3 +1,5 @@
 pub mod Told
 pub mod Bytes
 pub mod Waiting
+pub mod Held
+pub mod Examples

@@ -4,16 +4,17 @@ use Rattle.gm_defs.specs.declared.message.Message.{Message}
 use Rattle.world_defs.specs.Client.{client_bytes}
 use Rattle.world_defs.specs.Sound.{IsPrefix}
 use Rattle.port_ledgers.specs.declared.lane.Lane.{Lane}
+use Rattle.port_ledgers.specs.declared.lane.PortName.{PortName}
 use Rattle.port_ledgers.specs.declared.lane.SentMessage.{SentMessage}
 
 -- One line: a port was opened with so many tokens, or closed with so many that came back; a receive token was provided;
 -- a message was accepted with a send token; a send token came back; a message was received with a receive token.
 pub data Told : Type 0 where
-  Opened : (host port sends recvs : ℕ) → Told
-  Closed : (host port count : ℕ) → Told
-  Provided : (host port token : ℕ) → Told
+  Opened : (port : PortName) (sends recvs : ℕ) → Told
+  Closed : (port : PortName) (count : ℕ) → Told
+  Provided : (port : PortName) (token : ℕ) → Told
   Accepted : (lane : Lane) (m : SentMessage) (token : ℕ) → Told
-  Returned : (host port token : ℕ) → Told
+  Returned : (port : PortName) (token : ℕ) → Told
   Received : (lane : Lane) (sport : ℕ) (body : List ℕ) (token : ℕ) → Told
 
 -- the same lane

@@ -23,3 +23,21 @@ pub struct SentMessage {
     /// Its first byte.
     pub seed: u8,
 }
+
+/// A port of a host.
+#[derive(Clone, Copy, Debug, PartialEq, Eq, Hash)]
+pub struct PortName {
+    /// The host.
+    pub host: u16,
+    /// The port.
+    pub port: u8,
+}
+
+/// Where a line tells that a token is.
+#[derive(Clone, Copy, Debug)]
+pub struct ToldPlace {
+    /// The token's number.
+    pub number: u64,
+    /// Whether the client has it, and not the port.
+    pub with_client: bool,
+}

@@ -40,7 +40,8 @@ impl MessageLedger {
         }
     }
 
-    /// A line tells that a send was accepted: its message waits to be received on its lane. On an error nothing is told.
+    /// A line tells that a send was accepted: its message waits to be received on its lane. On an error nothing is
+    /// told.
     #[tactic(auto, using(crate::proofs::Order::sent_waits, crate::proofs::Order::still_waiting))]
     pub fn send(&mut self, lane: Lane, m: SentMessage) -> Result<(), AllocError>
         ensures told { OnOk result ((past : List Told) (token : ℕ) → AreWaiting past self.old

@@ -1,6 +1,6 @@
 //! A ledger finds memory for what it is told.
 
-use crate::{Lane, MessageLedger, SentMessage};
+use crate::{Lane, MessageLedger, PortName, SentMessage, TokenLedger};
 use std::test::Fail;
 
 #[test]
@@ -25,5 +25,30 @@ fn two_messages_of_a_lane_are_received(rt: HostRuntime) -> Result<(), Fail> {
     ledger.send(lane, one)?;
     ledger.send(lane, two)?;
     assert!(rt; ledger.receive(lane, 0, &[9]) && ledger.receive(lane, 0, &[255, 0]));
+    Ok(())
+}
+
+#[test]
+fn used_tokens_come_back(rt: HostRuntime) -> Result<(), Fail> {
+    let mut ledger = TokenLedger::new(rt.alloc());
+    let lane = Lane {
+        from: 0,
+        to: 1,
+        port: 1,
+        prio: 0,
+    };
+    let message = SentMessage {
+        sport: 0,
+        len: 1,
+        seed: 9,
+    };
+    let sender = PortName { host: 0, port: 0 };
+    let receiver = PortName { host: 1, port: 1 };
+    ledger.open(sender, 1, 0)?;
+    ledger.open(receiver, 0, 1)?;
+    assert!(rt; ledger.send(lane, message, 0) && ledger.provide(receiver, 0));
+    let received = ledger.receive(lane, 0)?;
+    let is_back = ledger.give_back(sender, 0)?;
+    assert!(rt; received && is_back && ledger.close(sender, 0));
     Ok(())
 }
