@@ -14,7 +14,7 @@ ghost use Rattle.link_model.specs.Full.{IsNextFull};
 ghost use Rattle.port_graph.specs.Routes.{HandsBack};
 ghost use Rattle.gm_defs.specs.Body.{is_prio};
 ghost use Rattle.gm_defs.specs.Connection.{connection};
-ghost use Rattle.world_defs.specs.Node.{to_send, port_at};
+ghost use Rattle.world_defs.specs.Node.{has_staged, to_send, port_at};
 ghost use Rattle.world_defs.specs.Traffic.{sent_on, got_on, IsHonestTraffic};
 ghost use Rattle.world_defs.specs.Table.{active_epoch};
 ghost use Rattle.world_defs.specs.World.{fabric_of, host_count, new_world, node_at, planned, adopted_by};
@@ -396,6 +396,14 @@ impl World {
         ensures { result ≡ is_some (to_send host (node_at self.now host)) }
     {
         self.machine.at(host).has_to_send()
+    }
+
+    /// Whether a host has staged anything: a probe, a part, a reply or the acknowledgement of a part.
+    pub fn has_staged(&self, host: u16) -> bool
+        requires { IsHostOf self.now host }
+        ensures { result ≡ has_staged (node_at self.now host) }
+    {
+        self.machine.at(host).has_staged()
     }
 
     /// Whether a host has staged the acknowledgement of a part.

@@ -29,7 +29,7 @@ pub fn give_up_all(alloc: Global, w: &mut World) -> Result<(), AllocError>
     Ok(())
 }
 
-// A host gives up what it staged. Where it is silent or at rest then, it is passed by from now on.
+// A host gives up what it staged, and is passed by from now on where it is silent or at rest then.
 fn give_up(alloc: Global, w: &mut World, host: u16) -> Result<(), AllocError>
     requires { IsHostOf w.old host }
     ensures after { OnOk result (w.new ≡ (step w.old (GiveUp host)).1) }
@@ -37,7 +37,22 @@ fn give_up(alloc: Global, w: &mut World, host: u16) -> Result<(), AllocError>
     ensures fabric { fabric_of w.new ≡ fabric_of w.old }
     ensures hosts { host_count w.new ≡ host_count w.old }
 {
-    happen(alloc, w, Event::GiveUp(host))?;
+    give_up_staged(alloc, w, host)?;
     w.rest(host);
     Ok(())
+}
+
+// A host gives up what it staged. Where that is nothing, the event would change nothing.
+fn give_up_staged(alloc: Global, w: &mut World, host: u16) -> Result<(), AllocError>
+    requires { IsHostOf w.old host }
+    ensures after { OnOk result (w.new ≡ (step w.old (GiveUp host)).1) }
+    ensures err { OnErr result (w.new ≡ w.old) }
+    ensures fabric { fabric_of w.new ≡ fabric_of w.old }
+    ensures hosts { host_count w.new ≡ host_count w.old }
+{
+    if w.has_staged(host) {
+        happen(alloc, w, Event::GiveUp(host))
+    } else {
+        Ok(())
+    }
 }
