@@ -1,3 +1,4 @@
+pub mod Beginning
 pub mod Bytes
 pub mod Filling
 pub mod Heads

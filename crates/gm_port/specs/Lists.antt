@@ -1,5 +1,5 @@
 -- What the lists of provided tokens and of events hold besides what contracts see.
-use Rattle.std.specs.Prelude.{◌≡◌, ℕ, ◌≤◌, Bool, false, List, [], length, map, find, nat_eq, Option, Some, None}
+use Rattle.std.specs.Prelude.{◌≡◌, ℕ, ◌≤◌, Bool, false, List, [], length, map, find, nat_eq, is_some, Option, Some, None}
 use Rattle.std.specs.List.{AllByRecursion, list_any}
 use Rattle.gm_tokens.specs.Token.{Token}
 use Rattle.gm_defs.specs.declared.frame.FrameHead.{FrameHead}
@@ -36,6 +36,10 @@ pub record AreBuffers (host port limit : ℕ) (provided : List ProvidedToken) (r
   pub roomy : limit ≤ room
   pub none_listed : listed ≡ []
   pub list_roomy : limit ≤ list_room
+
+-- no token is filling, unless that may be
+abbrev pub IsFillingOnlyIf : Bool → List ProvidedToken → Type 0
+IsFillingOnlyIf may_fill rs = may_fill ≡ false → AllByRecursion (λ r. is_some r.filling ≡ false) rs
 
 -- a provided token of a list takes a fragment
 abbrev pub taking : FrameHead → List Provided → Provided → Bool

@@ -1,12 +1,12 @@
 //! The provided tokens of a port, with their buffers.
 
 ghost use Rattle.std.specs.Prelude.{◌≡◌, ◌<◌, ◌≤◌, ◌+◌, ◌++◌, ◌∷◌, [], length, map, find, position, nat_eq, is_some};
-ghost use Rattle.std.specs.Prelude.{Some, IsSome, IfSome, IfOk, option_map, vec_capacity};
+ghost use Rattle.std.specs.Prelude.{◌&&◌, Some, IsSome, IfSome, IfOk, option_map, vec_capacity};
 ghost use Rattle.std.specs.List.{list_any, filter, count_by};
 ghost use Rattle.gm_defs.specs.Token.{has_number, is_from, is_filling_for, is_free_for, takes, holds_before};
 ghost use Rattle.gm_defs.specs.Port.{without_first, filling_with};
 ghost use Rattle.gm_port.specs.Held.{provided_at, provided_at_token, provided_of, receive_at};
-ghost use Rattle.gm_port.specs.Lists.{taking, taking_here, filled_in};
+ghost use Rattle.gm_port.specs.Lists.{IsFillingOnlyIf, taking, taking_here, filled_in};
 
 use crate::event::ProvidedToken;
 use crate::tally::Tally;
@@ -25,6 +25,8 @@ pub(crate) struct BufferList {
     provided: VecDeque<ProvidedToken>,
     // How many of them have each number.
     tally: Tally,
+    // Whether one of them may be filling.
+    may_fill: bool,
     // Empty: the list in which the tokens are handed back.
     listed: Vec<(RecvToken, Reg)>,
 }
@@ -37,6 +39,7 @@ impl Model for BufferList {
     ghost Value = { Buffers };
 
     ghost use Rattle.gm_port.specs.Lists.{AreBuffers};
+    ghost use Rattle.gm_port.specs.Lists.{IsFillingOnlyIf};
     ghost use Rattle.gm_port.specs.Tallies.{AreTallied, numbers_of};
 
     ghost view = { λ b. record {
@@ -48,7 +51,8 @@ impl Model for BufferList {
 
     ghost invariant = { λ b. AreBuffers b.host b.port b.limit b.provided.items
         (deque_capacity b.provided) b.listed.items (vec_capacity b.listed)
-        × AreTallied b.tally (numbers_of b.provided.items) };
+        × AreTallied b.tally (numbers_of b.provided.items)
+        × IsFillingOnlyIf b.may_fill b.provided.items };
 }
 
 impl BufferList {
@@ -71,6 +75,7 @@ impl BufferList {
                 limit,
                 provided,
                 tally,
+                may_fill: false,
                 listed,
             }),
             Err(error) => {
@@ -94,7 +99,7 @@ impl BufferList {
     pub(crate) fn can_take(&self, h: &FrameHead) -> bool
         ensures { result ≡ is_some (find (taking h.now self.now.provided) self.now.provided) }
     {
-        first_taking(&self.provided, h).is_some()
+        first_taking(&self.provided, self.may_fill, h).is_some()
     }
 
     /// How many tokens are filling.
@@ -115,6 +120,7 @@ impl BufferList {
         // No more tokens are provided than a port has, which 16 bits count.
         let _limit = self.limit;
         self.tally.add(r.token.number());
+        self.may_fill |= r.filling.is_some();
         self.provided.push_back_reserved(r);
     }
 
@@ -127,7 +133,7 @@ impl BufferList {
           provided = without_first (taking h.now self.old.provided) self.old.provided;
         } }
     {
-        let Some(at) = first_taking(&self.provided, h) else {
+        let Some(at) = first_taking(&self.provided, self.may_fill, h) else {
             unreachable!();
         };
         match self.provided.remove(at) {
@@ -148,10 +154,11 @@ impl BufferList {
         requires within { h.now.offset + length part.now ≤ h.now.total }
         ensures { self.new ≡ record self.old { provided = filled_in h.now part.now self.old.provided } }
     {
-        let Some(at) = first_taking(&self.provided, h) else {
+        let Some(at) = first_taking(&self.provided, self.may_fill, h) else {
             unreachable!();
         };
         fill_token(&mut self.provided[at], h, part);
+        self.may_fill = true;
     }
 
     /// All tokens with their buffers, first provided first. Takes no memory.
@@ -164,6 +171,7 @@ impl BufferList {
             limit: _,
             provided,
             tally: _,
+            may_fill: _,
             listed,
         } = self;
         list_provided(provided, listed)
@@ -178,11 +186,27 @@ fn has_token(provided: &VecDeque<ProvidedToken>, number: u16) -> bool
 }
 
 // The place of the token that takes a fragment: of several the one provided first.
-fn first_taking(provided: &VecDeque<ProvidedToken>, h: &FrameHead) -> Option<usize>
+fn first_taking(provided: &VecDeque<ProvidedToken>, may_fill: bool, h: &FrameHead) -> Option<usize>
+    requires { IsFillingOnlyIf may_fill provided.now.items }
     ensures { result ≡ position (taking_here h.now provided.now.items) provided.now.items }
 {
-    let begun = has_begun(provided, h.src, h.prio);
+    let begun = is_begun(provided, may_fill, h);
+    first_by(provided, h, begun)
+}
+
+// The same, where a message of the fragment's host and priority has begun or not.
+fn first_by(provided: &VecDeque<ProvidedToken>, h: &FrameHead, begun: bool) -> Option<usize>
+    ensures { result ≡ position (λ r. takes h.now begun (provided_of r)) provided.now.items }
+{
     provided.iter().position(|r| takes(r, h, begun))
+}
+
+// Whether this is a first fragment, and a message of its host and priority has begun. No later one is asked for that.
+fn is_begun(provided: &VecDeque<ProvidedToken>, may_fill: bool, h: &FrameHead) -> bool
+    ensures { result ≡ (may_fill && (nat_eq h.now.offset 0
+        && list_any (λ r. is_filling_for h.now.src h.now.prio (provided_of r)) provided.now.items)) }
+{
+    may_fill && h.offset == 0 && has_begun(provided, h.src, h.prio)
 }
 
 // Whether a token is filling for a host and a priority.

@@ -1,4 +1,4 @@
-use Rattle.std.proofs.Common.{◌≡◌, ◌+◌, ◌≤◌, length, map, IsSome, IfSome, refl, sym, ap, subst, ◌∙◌, arith}
+use Rattle.std.proofs.Common.{◌≡◌, ◌+◌, ◌≤◌, length, map, IsSome, IfSome, true≢false, refl, sym, ap, subst, ◌∙◌, arith}
 use Rattle.std.specs.Prelude.{find, slice_set}
 use Rattle.std.proofs.lemmas.List.{length-set}
 use Rattle.std.proofs.lemmas.Option.{slice_get_read}
@@ -29,18 +29,20 @@ index_mut-requires c =
 -- the token is of this port as before, and the list as long
 pub invariant_of-self : goal.invariant_of-self
 invariant_of-self c =
-    let is = taken-found c.self.inside.host c.self.inside.port c.args.h.now c.self.inside.provided.items c.in-Some.at c.index_mut.result.now c.self.invariant.0.own (sym c.first_taking.ensures ∙ c.in-Some.is) c.index_mut.ensures.value in
-    (record {
-      own = own-set c.self.inside.host c.self.inside.port c.self.inside.provided.items c.in-Some.at c.fill_token.new.r c.self.invariant.0.own
-          (own-filled c.self.inside.host c.self.inside.port c.args.h.now c.args.part.now c.index_mut.result.now c.fill_token.new.r is.1 c.fill_token.ensures);
-      few = subst (λ k. k ≤ c.self.inside.limit) (sym (length-set c.self.inside.provided.items c.in-Some.at c.fill_token.new.r)) c.self.invariant.0.few;
-      roomy = c.self.invariant.0.roomy;
-      none_listed = c.self.invariant.0.none_listed;
-      list_roomy = c.self.invariant.0.list_roomy;
-    },
-    subst (AreTallied c.self.inside.tally) (sym (numbers-set c.self.inside.provided.items c.in-Some.at c.index_mut.result.now c.fill_token.new.r
-    (slice_get_read c.self.inside.provided.items (length c.self.inside.provided.items) c.in-Some.at c.index_mut.result.now refl (taken-within c.args.h.now c.self.inside.provided.items c.in-Some.at (sym c.first_taking.ensures ∙ c.in-Some.is)) c.index_mut.ensures.value)
-    (ap (λ (x : ProvidedToken). x.token) c.fill_token.ensures))) c.self.invariant.1)
+    let is = taken-found c.self.inside.host c.self.inside.port c.args.h.now c.self.inside.provided.items c.in-Some.at c.index_mut.result.now c.self.invariant.0.own (sym c.first_taking.ensures ∙ c.in-Some.is) c.index_mut.ensures.value in (
+      record {
+        own = own-set c.self.inside.host c.self.inside.port c.self.inside.provided.items c.in-Some.at c.fill_token.new.r c.self.invariant.0.own
+            (own-filled c.self.inside.host c.self.inside.port c.args.h.now c.args.part.now c.index_mut.result.now c.fill_token.new.r is.1 c.fill_token.ensures);
+        few = subst (λ k. k ≤ c.self.inside.limit) (sym (length-set c.self.inside.provided.items c.in-Some.at c.fill_token.new.r)) c.self.invariant.0.few;
+        roomy = c.self.invariant.0.roomy;
+        none_listed = c.self.invariant.0.none_listed;
+        list_roomy = c.self.invariant.0.list_roomy;
+      },
+      subst (AreTallied c.self.inside.tally) (sym (numbers-set c.self.inside.provided.items c.in-Some.at c.index_mut.result.now c.fill_token.new.r
+          (slice_get_read c.self.inside.provided.items (length c.self.inside.provided.items) c.in-Some.at c.index_mut.result.now refl (taken-within c.args.h.now c.self.inside.provided.items c.in-Some.at (sym c.first_taking.ensures ∙ c.in-Some.is)) c.index_mut.ensures.value)
+          (ap (λ (x : ProvidedToken). x.token) c.fill_token.ensures))) c.self.invariant.1,
+      λ e. absurd (true≢false e),
+    )
 
 pub returns : goal.returns
 returns c =

@@ -1,8 +1,9 @@
-use Rattle.std.proofs.Common.{◌≡◌, ◌<◌, ◌++◌, [], ◌∷◌, length, map, sym, ap, subst, ◌∙◌, arith}
+use Rattle.std.proofs.Common.{◌≡◌, ◌<◌, ◌++◌, [], ◌∷◌, length, map, ◌||◌, is_some, sym, ap, subst, ◌∙◌, arith}
 use Rattle.std.proofs.lemmas.List.{length-append, length-map}
 use Rattle.gm_port.specs.Held.{Buffers, provided_at, provided_of}
-use Rattle.gm_port.specs.Lists.{AreOwnTokens}
+use Rattle.gm_port.specs.Lists.{AreOwnTokens, IsFillingOnlyIf}
 use Rattle.gm_port.specs.Tallies.{AreTallied, numbers_of}
+use Rattle.gm_port.proofs.Beginning.{fills-more}
 use Rattle.gm_port.proofs.Tallies.{counts_few, tallied_more, numbers-more, numbers-long, own-more}
 use Rattle.gm_port.proofs.buffers.BufferList.push.Goals as goal
 
@@ -28,13 +29,16 @@ invariant_of-self c =
     let capacity = c.push_back_reserved.ensures.capacity in
     let roomy = k.roomy in
     let numbers : numbers_of c.push_back_reserved.new.self.items ≡ numbers_of b.provided.items ++ c.number.result ∷ [] =
-    ap numbers_of items ∙ numbers-more b.provided.items r ∙ ap (λ n. numbers_of b.provided.items ++ n ∷ []) (sym c.number.ensures) in
-    (record {
-      own = subst (AreOwnTokens b.host b.port) (sym items) (own-more b.host b.port b.provided.items r k.own own);
-      few = omega (arith, room, long, more, last);
-      roomy = omega (arith, capacity, roomy);
-      none_listed = k.none_listed;
-      list_roomy = k.list_roomy;
-    },
-    subst (AreTallied c.add.new.self) (sym numbers)
-    (subst (λ t. AreTallied t (numbers_of b.provided.items ++ c.number.result ∷ [])) (sym c.add.ensures) (tallied_more b.tally (numbers_of b.provided.items) c.number.result c.self.invariant.1)))
+    ap numbers_of items ∙ numbers-more b.provided.items r ∙ ap (λ n. numbers_of b.provided.items ++ n ∷ []) (sym c.number.ensures) in (
+      record {
+        own = subst (AreOwnTokens b.host b.port) (sym items) (own-more b.host b.port b.provided.items r k.own own);
+        few = omega (arith, room, long, more, last);
+        roomy = omega (arith, capacity, roomy);
+        none_listed = k.none_listed;
+        list_roomy = k.list_roomy;
+      },
+      subst (AreTallied c.add.new.self) (sym numbers)
+          (subst (λ t. AreTallied t (numbers_of b.provided.items ++ c.number.result ∷ [])) (sym c.add.ensures) (tallied_more b.tally (numbers_of b.provided.items) c.number.result c.self.invariant.1)),
+      subst (λ s. IsFillingOnlyIf (b.may_fill || s) c.push_back_reserved.new.self.items) (sym c.is_some.ensures)
+          (subst (IsFillingOnlyIf (b.may_fill || is_some r.filling)) (sym items) (fills-more b.provided.items r b.may_fill c.self.invariant.2)),
+    )

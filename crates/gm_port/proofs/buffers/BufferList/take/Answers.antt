@@ -4,9 +4,10 @@ use Rattle.std.specs.List.{remove}
 use Rattle.std.proofs.lemmas.Option.{slice_get_read}
 use Rattle.gm_defs.specs.Port.{without_first}
 use Rattle.gm_port.specs.Held.{Buffers, provided_at, provided_of}
-use Rattle.gm_port.specs.Lists.{AreOwnTokens, taking}
+use Rattle.gm_port.specs.Lists.{AreOwnTokens, IsFillingOnlyIf, taking}
 use Rattle.gm_port.specs.Tallies.{AreTallied, numbers_of}
 use Rattle.gm_port.proofs.Listed.{none-takes, taken-first, taken-rest, taken-within, listed}
+use Rattle.gm_port.proofs.Beginning.{fills-less}
 use Rattle.gm_port.proofs.Tallies.{tallied_less, numbers-less, own-less, fewer}
 use Rattle.gm_port.proofs.buffers.BufferList.take.Goals as goal
 
@@ -42,14 +43,16 @@ invariant_of-self c =
     let less = fewer rs j r at in
     let last = ap length items in
     let counted : AreTallied (slice_set b.tally r.token.number (slice_index_or b.tally r.token.number 0 - 1)) (numbers_of (remove rs j)) =
-    tallied_less b.tally (numbers_of rs) (numbers_of (remove rs j)) r.token.number c.self.invariant.1 (λ n. numbers-less n rs j r at) in
-    (record {
-      own = subst (AreOwnTokens b.host b.port) (sym items) (own-less b.host b.port rs j r at k.own);
-      few = omega (arith, few, less, last);
-      roomy = omega (arith, capacity, roomy);
-      none_listed = k.none_listed;
-      list_roomy = k.list_roomy;
-    },
-    subst (AreTallied c.remove-in-Some-remove.new.self) (sym (ap numbers_of items))
-    (subst (λ t. AreTallied t (numbers_of (remove rs j)))
-    (ap (λ n. slice_set b.tally n (slice_index_or b.tally n 0 - 1)) (sym c.number.ensures) ∙ sym c.remove-in-Some-remove.ensures) counted))
+    tallied_less b.tally (numbers_of rs) (numbers_of (remove rs j)) r.token.number c.self.invariant.1 (λ n. numbers-less n rs j r at) in (
+      record {
+        own = subst (AreOwnTokens b.host b.port) (sym items) (own-less b.host b.port rs j r at k.own);
+        few = omega (arith, few, less, last);
+        roomy = omega (arith, capacity, roomy);
+        none_listed = k.none_listed;
+        list_roomy = k.list_roomy;
+      },
+      subst (AreTallied c.remove-in-Some-remove.new.self) (sym (ap numbers_of items))
+          (subst (λ t. AreTallied t (numbers_of (remove rs j)))
+          (ap (λ n. slice_set b.tally n (slice_index_or b.tally n 0 - 1)) (sym c.number.ensures) ∙ sym c.remove-in-Some-remove.ensures) counted),
+      subst (IsFillingOnlyIf b.may_fill) (sym items) (fills-less rs j r b.may_fill at c.self.invariant.2),
+    )
