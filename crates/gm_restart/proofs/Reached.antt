@@ -11,7 +11,7 @@ use Rattle.duo_defs.specs.Theorem.{IsReached, IsSentRight, IsUnsureRight}
 use Rattle.duo_laws.proofs.Reaching.{reached-step}
 use Rattle.duo_laws.proofs.Polls.{polls-right}
 
--- one event more, or none for want of memory
+-- one event more, or none where memory ran out
 pub reached-after : {X : Type 0} (d later : DuoState) (e : DuoEvent) (r : Result DuoEffect X) → IsReached d → IsFair e → IfOk r (λ k. step d e ≡ (k, later)) → OnErr r (later ≡ d) → IsReached later
 reached-after d later e (Ok k) is fair ok err = subst IsReached (ap (λ o. o.1) ok) (reached-step d e is fair)
 reached-after d later e (Err w) is fair ok err = subst IsReached (sym err) is

@@ -51,8 +51,8 @@ impl Duo {
         Ok(Duo { ends })
     }
 
-    /// One event, and what it did. Want of memory changes nothing, and hides no refusal and no event that changes
-    /// nothing; a poll and a timer that runs out take none. A poll answers sent only for a message that the peer has
+    /// One event, and what it did. Running out of memory changes nothing, and hides no refusal and no idle event; a
+    /// poll and a timer that runs out take none. A poll answers sent only for a message that the peer has
     /// got, and unsure only where the peer's incarnation is above the one to which the message is counted.
     pub fn step(&mut self, alloc: Global, e: DuoEvent) -> Result<DuoEffect, NoMemory>
         requires { IsFair e }

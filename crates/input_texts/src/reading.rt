@@ -35,7 +35,7 @@ impl Model for Accepted {
 pub fn read_text(alloc: Global, text: &[u8]) -> Result<Accepted, TextFault>
     requires { length text.now ≤ input_limit }
     ensures reading { TextGives (reading text.now) result }
-    // Memory may be wanting only where a line stands before the first fault: a text whose first line has one is refused.
+    // Memory may run out only where a line stands before the first fault: a text whose first line has one is refused.
     ensures memory { IsErrOf result TextFault.NoMemory → 0 < length (sound_lines text.now) }
     ensures over { IfOk result (λ a. AllByRecursion (IsCommandOf a.network) a.commands) }
 {
