@@ -1,5 +1,5 @@
-//! Tests of calls of connections, ports, installations and streams that no worked text reaches, and worked examples of
-//! the bytes of packets. Nothing stands on it.
+//! Tests of calls of connections, ports, installations, streams and hosts that restart, which no worked text reaches,
+//! and worked examples of the bytes of packets. Nothing stands on it.
 //!
 //! | module | has |
 //! |---|---|
@@ -9,6 +9,7 @@
 //! | `ports` | a port that is filling, and a buffer that parts from its message |
 //! | `numbers` | offsets of ports, texts of faults |
 //! | `packets` | a byte's share in a CRC, a packet that is stripped, and bodies written as they were read |
+//! | `restarts` | two hosts that restart |
 //! | `streams` | std's readers and writers as a source and a sink |
 //! | `pieces` | the same, of readers and writers that move a byte a call, and then none, or fail |
 #![tactic(auto)]
@@ -26,6 +27,8 @@ mod packets;
 mod pieces;
 #[cfg(test)]
 mod ports;
+#[cfg(test)]
+mod restarts;
 #[cfg(test)]
 mod streams;
 
