@@ -1,0 +1,5 @@
+pub mod Forced
+pub mod Pairs
+pub mod Meeting
+pub mod Whole
+pub mod Loops
