@@ -1,11 +1,11 @@
 -- How a run ends, from how its parts end.
-use Rattle.std.proofs.Common.{◌≡◌, ◌⊎◌, inl, inr, ℕ, List, Option, Some, None, Ok, Err, refl, subst, ap, sym, ◌∙◌}
+use Rattle.std.proofs.Common.{◌≡◌, ◌<◌, ◌⊎◌, inl, inr, ℕ, List, length, Option, Some, None, Ok, Err, refl, subst, ap, sym, ◌∙◌}
 use Rattle.std.specs.Io.KnownBytes.{Appends, Keeps}
 use Rattle.fab_text.specs.Fault.{FirstFault}
 use Rattle.run_defs.specs.Session.{SessionState}
 use Rattle.fabric_run.specs.declared.status.Status.{Status}
 use Rattle.fabric_run.specs.declared.status.Status.TheVariants.{Done, Usage, Refused, ReadFault, WriteFault, NoMemory, TooLong}
-use Rattle.input_texts.specs.Reading.{AcceptedText, reading, refusal_text}
+use Rattle.input_texts.specs.Reading.{AcceptedText, reading, sound_lines, refusal_text}
 use Rattle.fabric_run.proofs.Promises.{text-has_run}
 use Rattle.fabric_run.proofs.Writing.{cut-part, interrupted-part}
 use Rattle.fabric_run.specs.Ends.{Came, IsWriteCut, IsMemoryCut, Moment, RefusalEnds, ReportEnds, TextEnds, InputEnds}
@@ -18,6 +18,11 @@ keeps-same (Some bytes) = refl
 -- where memory ran out before a refusal was written, and before the first command
 pub refusal-nothing : (f : FirstFault) (taken : Option (List ℕ)) (faults risen : ℕ) (s : Status) (held : Option SessionState) → s ≡ NoMemory → held ≡ None → RefusalEnds f taken taken faults risen s held
 refusal-nothing f taken faults risen s held e h = subst (λ t. RefusalEnds f taken taken faults risen t held) (sym e) (keeps-same taken, h)
+
+-- where memory was wanting while a text was read
+pub read-short : (text : List ℕ) (taken : Option (List ℕ)) (faults risen : ℕ) (s : Status) (held : Option SessionState) → s ≡ NoMemory → held ≡ None → 0 < length (sound_lines text)
+    → TextEnds text taken taken faults risen s held
+read-short text taken faults risen s held e h some = subst (λ t. TextEnds text taken taken faults risen t held) (sym e) (inl (some, keeps-same taken, h))
 
 -- the commands ended so, by the answer's two parts
 pub report-so : (a : AcceptedText) (taken now : Option (List ℕ)) (faults risen : ℕ) (s t : Status) (held back : Option SessionState) → t ≡ s → back ≡ held
@@ -57,8 +62,7 @@ pub text-input-ends : (before now : Moment) (text : List ℕ) (s : Status) (held
 text-input-ends before now text Done held c h = (text, c, h)
 text-input-ends before now text (Refused line kind) held c h = (text, c, h)
 text-input-ends before now text WriteFault held c h = (text, c, h)
-text-input-ends before now text NoMemory held c h =
-    elim h as (λ x. (Keeps before.taken now.taken × (held ≡ None)) ⊎ ((t : List ℕ) × Came before.left now.left t × IsMemoryCut (reading t) before.taken now.taken held)) [ inl k ↦ inl k | inr k ↦ inr (text, c, k) ]
+text-input-ends before now text NoMemory held c h = inr (text, c, h)
 text-input-ends before now text Usage held c h = absurd h
 text-input-ends before now text ReadFault held c h = absurd h
 text-input-ends before now text TooLong held c h = absurd h

@@ -1,14 +1,18 @@
 -- What every accepted text promises, from the laws of runs: its commands are over its fabric, and so are its first commands.
-use Rattle.std.proofs.Common.{◌≡◌, ◌≤◌, ◌-◌, ℕ, zero, suc, true, List, [], ◌∷◌, length, take, drop, Some, None, Result, Ok, Err, refl, sym, ap, subst, ◌∙◌, arith, if◌then◌else◌}
+use Rattle.std.proofs.Common.{◌≡◌, ◌<◌, ◌≤◌, ◌-◌, ℕ, zero, suc, Bool, true, false, List, [], ◌∷◌, length, take, drop, Option, Some, None, Result, Ok, Err, refl, sym, ap, subst, ◌∙◌, arith, if◌then◌else◌}
 use Rattle.std.specs.List.{AllByRecursion}
 use Rattle.net_defs.specs.Network.{Network, IsFabric}
 use Rattle.net_defs.proofs.Distinct.{all-weaker}
 use Rattle.map_defs.specs.NetMap.{NetMap}
 use Rattle.link_defs.specs.Links.{is_idle}
+use Rattle.world_defs.specs.World.{WorldState, fabric_of, last_count}
+use Rattle.world_defs.specs.Settle.{unacknowledged_in, settle}
+use Rattle.world_laws.proofs.Rounds.{settle-settles}
+use Rattle.settle_laws.specs.Premises.{CanSettle}
 use Rattle.fab_text.specs.Fault.{FirstFault, and_then}
 use Rattle.journal_defs.specs.declared.entry.Entry.{Entry}
 use Rattle.run_defs.specs.declared.line.MapWords.{MapWords}
-use Rattle.run_defs.specs.declared.line.MapWords.TheVariants.{Complete}
+use Rattle.run_defs.specs.declared.line.MapWords.TheVariants.{Complete, Doubtful}
 use Rattle.run_defs.specs.declared.line.Line.TheVariants.{Map as MapLine, MapBusy}
 use Rattle.run_defs.specs.Mapped.{IsMapped}
 use Rattle.run_defs.specs.Outcome.{Outcome, outcome, says_only}
@@ -28,11 +32,25 @@ use Rattle.fab_script.specs.Ranges.{IsCommandOf as IsSaid}
 use Rattle.fab_script.proofs.Ranged.{reading_ranged}
 use Rattle.run_laws.specs.Acts.{IsActOf}
 use Rattle.run_laws.proofs.Reaching.{run_is_reached, run_has_no_cycle}
+use Rattle.print_laws.specs.Shown.{IsPrintedAfter}
+use Rattle.print_laws.proofs.Shown.{printed_maps_stand, complete_maps_are_one}
+use Rattle.print_laws.proofs.Marks.{marks_are_right}
+use Rattle.print_laws.proofs.Routes.{printed_routes_are_right}
 use Rattle.install_line_laws.proofs.Lines.{line-true}
-use Rattle.settle_line_laws.proofs.Lines.{line-true as settled-true}
+use Rattle.settle_line_laws.specs.Lines.{IsSettledLine}
+use Rattle.settle_line_laws.proofs.Lines.{run-can_settle, line-true as settled-true}
+use Rattle.mapping_laws.specs.Runs.{IsSessionOf}
+use Rattle.mapping_laws.proofs.Made.{doubtful_was_harmed}
+use Rattle.mapping_laws.proofs.Sessions.{can-map-now, run_keeps_world}
 use Rattle.mapping_laws.proofs.Printed.{circuit_maps_are_true, deep_circuit_maps_are_cores}
 use Rattle.print_laws.proofs.Pieces.{complete_maps_read_back, circuit_maps_read_back}
+use Rattle.message_laws.specs.Got.{IsAllGot}
 use Rattle.message_laws.proofs.Fillings.{coming-tied}
+use Rattle.message_laws.proofs.Windows.{reached-windowed}
+use Rattle.seen_laws.proofs.Fronts.{polled-front}
+use Rattle.return_laws.proofs.Returned.{polls-of_tokens}
+use Rattle.delivery_laws.specs.Delivery.{HasEnough}
+use Rattle.delivery_laws.proofs.Delivered.{settle-delivers}
 use Rattle.promise_laws.proofs.Said.{said-command, said-act}
 use Rattle.promise_laws.proofs.Sound.{always_promised}
 use Rattle.promise_laws.specs.Existence.{HasRun}
@@ -40,7 +58,7 @@ use Rattle.promise_laws.proofs.Acting.{commands_have_sound_acts, runs_end_sound}
 use Rattle.promise_laws.proofs.CutShort.{cut_commands_leave_sound}
 use Rattle.promise_laws.proofs.Running.{each_command_is_done, run_exists}
 use Rattle.input_texts.specs.Reading.{AcceptedText, reading_from, reading}
-use Rattle.fabric_run.specs.Promise.{IsPromised, DeepMapsAreComplete, InstalledLinesAreTrue}
+use Rattle.fabric_run.specs.Promise.{IsPromised, IsPrintedMap, DeepMapsAreComplete, InstalledLinesAreTrue}
 
 -- An accepted text has a fabric, with names of the text's form, and its commands are over that fabric.
 record IsOver (a : AcceptedText) : Type 0 where
@@ -105,6 +123,49 @@ does-print {s = s} {next = next} {out = out} host depth tries same idle says (ma
 does-print {s = s} host depth tries same idle says (circuits told left) = cc
 does-print {s = s} host depth tries same idle says (routes l found complete are printed left) = cc
 
+-- what a determined command prints
+abbrev output-of : Option Outcome → List Piece
+output-of None = []
+output-of (Some o) = o.output
+
+-- a map that prints doubtful met a planned fault
+does-doubt : {s next : SessionState} {c : Command} {out : List Piece} → (n : Network) (host depth tries drowned asks packets : ℕ) (rest : List Piece) → IsFabric n → IsCommandOf n c → IsSessionOf n s → c ≡ Map host depth tries → 1 ≤ tries
+    → out ≡ OneLine (MapLine host (Doubtful drowned) asks packets) ∷ rest → next.world.injected < last_count → Does s c out next → s.world.harmed < next.world.harmed
+does-doubt {s = s} {next = next} {out = out} n host depth tries drowned asks packets rest f of_n session same some says left (determined e) = by (is_idle s.world.links) refl
+  where
+    got : Outcome
+    got = record { output = out; after = next }
+
+    now : outcome s (Map host depth tries) ≡ Some got
+    now = sym (ap (outcome s) same) ∙ e
+
+    by : (idle : Bool) → is_idle s.world.links ≡ idle → s.world.harmed < next.world.harmed
+    by true i =
+        let none : outcome s (Map host depth tries) ≡ None = ap (λ b. if b then None else Some (says_only s (MapBusy host ∷ []))) i in
+        let bad : None ≡ Some got = sym none ∙ now in
+        cc
+    by false i =
+        let busy : outcome s (Map host depth tries) ≡ Some (says_only s (MapBusy host ∷ [])) = ap (λ b. if b then None else Some (says_only s (MapBusy host ∷ []))) i in
+        let bad : OneLine (MapBusy host) ∷ [] ≡ OneLine (MapLine host (Doubtful drowned) asks packets) ∷ rest = ap output-of (sym busy ∙ now) ∙ says in
+        cc
+does-doubt {s = s} {next = next} n host depth tries drowned asks packets rest f of_n session same some says left (maps {host = h} {depth = d} {tries = t} after j m words none made printed last) =
+    let tried : t ≡ tries = cc in
+    let world : after ≡ next.world = sym (ap (λ (x : SessionState). x.world) last) in
+    let both : OneLine (MapLine h words (length j) (after.injected - s.world.injected)) ∷ map_pieces words m ≡ OneLine (MapLine host (Doubtful drowned) asks packets) ∷ rest = sym printed ∙ says in
+    let called : words ≡ Doubtful drowned = cc in
+    let here : IsMapped h d t s.world next.world j m (Doubtful drowned) = subst (λ w. IsMapped h d t s.world w j m (Doubtful drowned)) world (subst (λ x. IsMapped h d t s.world after j m x) called made) in
+    doubtful_was_harmed h d t drowned s.world next.world j m (can-map-now n s h d t f of_n session none) here (omega (arith, some, tried)) left
+does-doubt n host depth tries drowned asks packets rest f of_n session same some says left (circuits told last) = cc
+does-doubt n host depth tries drowned asks packets rest f of_n session same some says left (routes l found complete are printed last) = cc
+
+-- a settle with tokens enough before it
+settle-got-all : (s next : SessionState) (rounds resets unacked : ℕ) → CanSettle s.world → IsSettledLine s next rounds resets unacked → next.world.injected < last_count → HasEnough s.world → (unacked ≡ 0) × IsAllGot next.world
+settle-got-all s next rounds resets unacked can line left enough =
+    let w : WorldState = s.world in
+    let low : (settle w).world.injected < last_count = subst (λ (v : WorldState). v.injected < last_count) line.after left in
+    let all = settle-delivers w (settle w) can (settle-settles w (reached-windowed (fabric_of w) w can.reached).senders) low enough in
+    (line.left ∙ ap unacknowledged_in line.after ∙ all.0, subst IsAllGot (sym line.after) all.1)
+
 -- every accepted text has its report
 pub text-has_run : (text : List ℕ) (a : AcceptedText) → reading text ≡ Ok a → HasRun a.network a.commands
 text-has_run text a e =
@@ -120,6 +181,18 @@ text_promised text a e =
     let promised : (k : ℕ) → IsPromisedOf n (take k cs) = λ k. always_promised n (take k cs) o.fabric in
     let commands : (k : ℕ) → AllByRecursion (IsCommandOf n) (take k cs) = λ k. all-take (IsCommandOf n) k cs (all-weaker (IsSaid n) (IsCommandOf n) cs (said-command n) o.said) in
     let acts : (k : ℕ) → AllByRecursion (IsActOf n) (take k cs) = λ k. all-take (IsActOf n) k cs (all-weaker (IsSaid n) (IsActOf n) cs (said-act n) o.said) in
+    let printed-after : (host : ℕ) (words : MapWords) (m : NetMap) (p : IsPrintedMap a host words m) → IsPrintedAfter n (take p.count cs) host words m =
+    λ host words m p. record {
+      over = commands p.count;
+      out = p.out;
+      session = p.session;
+      run = p.run;
+      depth = p.depth;
+      tries = p.tries;
+      of_fabric = said-command n (Map host p.depth p.tries) (all-nth (IsSaid n) cs p.count (Map host p.depth p.tries) o.said p.next_command);
+      next = p.next;
+      prints = p.prints;
+    } in
     let deep : DeepMapsAreComplete a =
     λ k out s host depth tries after j m words r there low made quiet some few enough. (promised k).deep out s host depth tries after j m words o.fabric (commands k) r (there, (let l = low in omega arith)) made quiet some few enough in
     let installed : InstalledLinesAreTrue a =
@@ -136,6 +209,13 @@ text_promised text a e =
           let is : IsSaid n (Map host depth tries) = all-nth (IsSaid n) cs k (Map host depth tries) o.said at in
           let of_n : IsCommandOf n (Map host depth tries) = said-command n (Map host depth tries) is in
           does-print host depth tries refl quiet.idle (λ j m words made. deep k out s host depth tries next.world j m words r of_n.0 is.1.1 made quiet is.2.0 is.2.1 enough) does;
+      doubtful = λ k out rest s next host depth tries drowned asks packets r at does left.
+          let is : IsSaid n (Map host depth tries) = all-nth (IsSaid n) cs k (Map host depth tries) o.said at in
+          does-doubt n host depth tries drowned asks packets rest o.fabric (said-command n (Map host depth tries) is) (run_keeps_world n (take k cs) out s o.fabric (commands k) r) refl is.2.0 refl left does;
+      stands = λ host words m p. printed_maps_stand n (take p.count cs) host words m o.fabric (printed-after host words m p);
+      one_map = λ host m x p q. complete_maps_are_one n (take p.count cs) (take q.count cs) host m x o.fabric (printed-after host Complete m p) (printed-after host Complete x q);
+      marks = λ host m p same v low. marks_are_right n (take p.count cs) host m o.fabric (printed-after host Complete m p) same v low;
+      routes = λ k out printed s next r at does. printed_routes_are_right n (take k cs) out printed s next o.fabric (commands k) r does;
       circuits = λ k out last host depth asks m r p. record {
         told = circuit_maps_are_true n (take k cs) out last host depth asks m o.fabric (commands k) r p;
         core = λ es paths enough. deep_circuit_maps_are_cores n (take k cs) out last host depth asks m es o.fabric (commands k) r p paths enough;
@@ -147,6 +227,9 @@ text_promised text a e =
           let some : 1 ≤ tries = is.0 in
           (installed k out rest s next tries acked total r at does).unharmed (omega (arith, some)) left same;
       settled = λ k out rest s next rounds resets unacked r at does. settled-true n (take k cs) out rest s next rounds resets unacked o.fabric (acts k) r does;
+      delivered = λ k out rest s next rounds resets unacked r at does left enough.
+          settle-got-all s next rounds resets unacked (run-can_settle n (take k cs) out s o.fabric (acts k) r).1
+          (settled-true n (take k cs) out rest s next rounds resets unacked o.fabric (acts k) r does) left enough;
       behind = λ k out last r. runs_end_sound n (take k cs) out last o.fabric (acts k) r;
       reached = λ k out last r. run_is_reached n (take k cs) out last o.fabric (acts k) r;
       acts = λ k out printed s next c r at does.
@@ -155,5 +238,7 @@ text_promised text a e =
           cut_commands_leave_sound n (take k cs) out s c v o.fabric (acts k) (said-act n c (all-nth (IsSaid n) cs k c o.said at)) r is;
       sound = (promised 0).sound;
       parts = coming-tied n;
+      polled = polled-front;
+      tokens = polls-of_tokens;
       no_cycle = λ k out last r. run_has_no_cycle n (take k cs) out last o.fabric (acts k) r;
     }

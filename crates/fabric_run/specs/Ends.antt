@@ -16,7 +16,7 @@ use Rattle.promise_laws.specs.Existence.{HasRun}
 use Rattle.fabric_run.specs.declared.status.Status.{Status}
 use Rattle.fabric_run.specs.declared.status.Status.TheVariants.{Done, Usage, Refused, ReadFault, WriteFault, NoMemory}
 use Rattle.fabric_run.specs.declared.status.Status.TheVariants.{TooLong}
-use Rattle.input_texts.specs.Reading.{AcceptedText, reading, input_limit, IsAccepted, IsRefused, refusal_text}
+use Rattle.input_texts.specs.Reading.{AcceptedText, reading, sound_lines, input_limit, IsAccepted, IsRefused, refusal_text}
 
 -- A text came whole: nothing of it is left, and it is within the limit.
 abbrev pub Came : Option (List ℕ) → Option (List ℕ) → List ℕ → Type 0
@@ -116,6 +116,11 @@ abbrev pub IsMemoryCut : Result AcceptedText FirstFault → Option (List ℕ) �
 IsMemoryCut (Ok a) taken now held = IsInterrupted a taken now held × IsPartOfReport a taken now
 IsMemoryCut (Err f) taken now held = Keeps taken now × (held ≡ None)
 
+-- Memory ran out while a text was read, so a sound line stands before its first fault: nothing was taken, and no
+-- session was made.
+abbrev pub IsReadShort : List ℕ → Option (List ℕ) → Option (List ℕ) → Option SessionState → Type 0
+IsReadShort text taken now held = (0 < length (sound_lines text)) × Keeps taken now × (held ≡ None)
+
 -- How the work on a text that came may end.
 abbrev pub TextEnds : List ℕ → Option (List ℕ) → Option (List ℕ) → ℕ → ℕ → Status → Option SessionState → Type 0
 TextEnds text taken now faults risen Done held = (a : AcceptedText) × IsAccepted text a × IsReported a taken now held
@@ -123,7 +128,7 @@ TextEnds text taken now faults risen (Refused line kind) held =
     IsRefused text line kind × Appends taken now (refusal_text (record { line = line; kind = kind })) × (held ≡ None)
 TextEnds text taken now faults risen WriteFault held = Rose faults risen × IsWriteCut (reading text) taken now held
 TextEnds text taken now faults risen NoMemory held =
-    (Keeps taken now × (held ≡ None)) ⊎ IsMemoryCut (reading text) taken now held
+    IsReadShort text taken now held ⊎ IsMemoryCut (reading text) taken now held
 TextEnds text taken now faults risen _ held = ⊥
 
 -- what is known of the source and the sink at a moment
@@ -145,8 +150,8 @@ abbrev pub InputEnds : Moment → Moment → Status → Option SessionState → 
 InputEnds before now Done held = SomeTextEnds before now Done held
 InputEnds before now (Refused line kind) held = SomeTextEnds before now (Refused line kind) held
 InputEnds before now WriteFault held = SomeTextEnds before now WriteFault held
-InputEnds before now NoMemory held = (Keeps before.taken now.taken × (held ≡ None))
-    ⊎ ((text : List ℕ) × Came before.left now.left text × IsMemoryCut (reading text) before.taken now.taken held)
+InputEnds before now NoMemory held =
+    (Keeps before.taken now.taken × (held ≡ None)) ⊎ SomeTextEnds before now NoMemory held
 InputEnds before now ReadFault held = Rose before.read_faults now.read_faults × (held ≡ None)
 InputEnds before now TooLong held = IsLonger before.left input_limit × (held ≡ None)
 InputEnds before now Usage held = ⊥

@@ -1,5 +1,5 @@
 -- What every accepted text promises, after each of its commands.
-use Rattle.std.specs.Prelude.{◌≡◌, ℕ, ◌<◌, ◌≤◌, List, [], ◌∷◌, length, take, Some, Ok, slice_get}
+use Rattle.std.specs.Prelude.{◌≡◌, ◌↔◌, ℕ, ◌<◌, ◌≤◌, false, List, [], ◌∷◌, length, take, Some, Ok, slice_get}
 use Rattle.net_defs.specs.Network.{Network}
 use Rattle.journal_defs.specs.declared.entry.Entry.{Entry}
 use Rattle.journal_defs.specs.Depth.{enough_depth}
@@ -9,13 +9,14 @@ use Rattle.net_defs.specs.Dependencies.{IsBefore, HasNoCycle}
 use Rattle.world_defs.specs.World.{WorldState, last_count}
 use Rattle.world_defs.specs.Sound.{IsSound, installed_channels}
 use Rattle.circ_defs.specs.PathList.{Ear, most_back}
-use Rattle.circ_defs.specs.Cores.{ArePathsOfCore}
+use Rattle.circ_defs.specs.Cores.{ArePathsOfCore, IsCutOff}
 use Rattle.circ_defs.specs.CircuitMap.{IsMapOfCore}
 use Rattle.run_defs.specs.declared.command.Command.{Command}
-use Rattle.run_defs.specs.declared.command.Command.TheVariants.{Map, Install, Settle}
-use Rattle.run_defs.specs.declared.line.Line.TheVariants.{Circuit as CircuitLine, Installed, Settle as SettleLine}
+use Rattle.run_defs.specs.declared.command.Command.TheVariants.{Map, Routes, Install, Settle}
+use Rattle.run_defs.specs.declared.line.Line.TheVariants.{Map as MapLine, Circuit as CircuitLine, Installed}
+use Rattle.run_defs.specs.declared.line.Line.TheVariants.{Settle as SettleLine}
 use Rattle.run_defs.specs.declared.line.MapWords.{MapWords}
-use Rattle.run_defs.specs.declared.line.MapWords.TheVariants.{Complete}
+use Rattle.run_defs.specs.declared.line.MapWords.TheVariants.{Complete, Doubtful}
 use Rattle.run_defs.specs.Mapped.{IsMapped}
 use Rattle.run_defs.specs.Circuit.{IsCircuitTold}
 use Rattle.run_defs.specs.LineText.{map_text}
@@ -26,9 +27,16 @@ use Rattle.run_defs.specs.Headline.{HasPrinted, IsQuiet}
 use Rattle.act_defs.specs.Acts.{AlwaysSound, IsReached}
 use Rattle.map_canon.specs.Reading.{map_reading}
 use Rattle.mapping_laws.specs.Circuits.{HasPrintedCircuit}
+use Rattle.print_laws.specs.Standing.{StandsOver}
+use Rattle.print_laws.specs.Shown.{PrintsMap}
+use Rattle.print_laws.specs.Routes.{AreRoutesTold}
 use Rattle.install_line_laws.specs.Runs.{IsInstalledLine}
 use Rattle.settle_line_laws.specs.Lines.{IsSettledLine}
 use Rattle.message_laws.specs.Filling.{HasTiedParts}
+use Rattle.message_laws.specs.Got.{IsAllGot}
+use Rattle.seen_laws.specs.Seen.{PolledIsFrontOfAccepted}
+use Rattle.return_laws.specs.Noted.{PolledTokensAreOfMessages}
+use Rattle.delivery_laws.specs.Delivery.{HasEnough}
 use Rattle.promise_laws.specs.CommandActs.{HasSoundActs}
 use Rattle.promise_laws.specs.CutShort.{IsCutShort}
 use Rattle.promise_laws.specs.Existence.{HasDone, HasRun}
@@ -70,6 +78,52 @@ DeepMapsArePrinted a =
     → Does s (Map host depth tries) printed next → IsQuiet host s.world next.world
     → enough_depth a.network host ≤ depth → (m : NetMap) × HasPrinted printed host m
 
+-- after the first commands of a text, where the next one is a map that prints `doubtful`, a planned fault lost, held or
+-- flipped a packet of it, if injections are left after it
+abbrev pub DoubtfulMapsWereHarmed : AcceptedText → Type 0
+DoubtfulMapsWereHarmed a =
+    (count : ℕ) (out rest : List Piece) (s next : SessionState) (host depth tries drowned asks packets : ℕ)
+    → IsRun a.network (take count a.commands) out s → slice_get a.commands count ≡ Some (Map host depth tries)
+    → Does s (Map host depth tries) (OneLine (MapLine host (Doubtful drowned) asks packets) ∷ rest) next
+    → next.world.injected < last_count → s.world.harmed < next.world.harmed
+
+-- After so many first commands of a text the next one is a map of a host, and prints so.
+pub record IsPrintedMap (a : AcceptedText) (host : ℕ) (words : MapWords) (m : NetMap) : Type 0 where
+  pub count : ℕ
+  pub out : List Piece
+  pub session : SessionState
+  pub run : IsRun a.network (take count a.commands) out session
+  pub depth : ℕ
+  pub tries : ℕ
+  pub next_command : slice_get a.commands count ≡ Some (Map host depth tries)
+  pub next : SessionState
+  pub prints : PrintsMap session next host depth tries words m
+
+-- each map that is printed so, under whatever words, stands over the fabric: whatever it shows is there
+abbrev pub PrintedMapsStand : AcceptedText → Type 0
+PrintedMapsStand a =
+    (host : ℕ) (words : MapWords) (m : NetMap) → IsPrintedMap a host words m → StandsOver a.network host m
+
+-- and two complete ones of one host are one map
+abbrev pub CompleteMapsAreOne : AcceptedText → Type 0
+CompleteMapsAreOne a =
+    (host : ℕ) (m k : NetMap) → IsPrintedMap a host Complete m → IsPrintedMap a host Complete k → m ≡ k
+
+-- and a complete one marks a vertex as outside exactly where a cable between two switches of the fabric cuts the vertex
+-- that it stands for off from all hosts
+abbrev pub MarksAreRight : AcceptedText → Type 0
+MarksAreRight a =
+    (host : ℕ) (m : NetMap) → IsPrintedMap a host Complete m → (same : IsMapOfPart a.network host m) → (v : ℕ)
+    → v < length m.vertices → (slice_get m.core v ≡ Some false) ↔ IsCutOff a.network (same.image v)
+
+-- after the first commands of a text, where the next one is `routes`, its lines are the routes of the last map, where
+-- that is complete: one for each two hosts, which leads there, and the ranks of the lines rise along each
+abbrev pub RoutesAreRight : AcceptedText → Type 0
+RoutesAreRight a =
+    (count : ℕ) (out printed : List Piece) (s next : SessionState)
+    → IsRun a.network (take count a.commands) out s → slice_get a.commands count ≡ Some Routes
+    → Does s Routes printed next → AreRoutesTold a.network s printed
+
 -- after the first commands of a text no channel waits for itself along the installed routes
 abbrev pub RoutesHaveNoCycle : AcceptedText → Type 0
 RoutesHaveNoCycle a = (count : ℕ) (out : List Piece) (last : SessionState)
@@ -99,6 +153,15 @@ SettledLinesAreTrue a =
     → IsRun a.network (take count a.commands) out s → slice_get a.commands count ≡ Some Settle
     → Does s Settle (OneLine (SettleLine rounds resets unacked) ∷ rest) next
     → IsSettledLine s next rounds resets unacked
+
+-- so where there are tokens enough before the settle, and injections are left after it, its line says `unacked 0`, and
+-- all that was sent is got
+abbrev pub SettlesDeliver : AcceptedText → Type 0
+SettlesDeliver a =
+    (count : ℕ) (out rest : List Piece) (s next : SessionState) (rounds resets unacked : ℕ)
+    → IsRun a.network (take count a.commands) out s → slice_get a.commands count ≡ Some Settle
+    → Does s Settle (OneLine (SettleLine rounds resets unacked) ∷ rest) next
+    → next.world.injected < last_count → HasEnough s.world → (unacked ≡ 0) × IsAllGot next.world
 
 -- after the first commands of a text the world is sound
 abbrev pub WorldsAreSound : AcceptedText → Type 0
@@ -146,27 +209,38 @@ CircuitMapsAreTrue a =
     → IsCircuitRight a.network host depth asks m
 
 -- The promise of an accepted text: its commands have a run, and one, whose text is the report. Its maps under the word
--- complete are true, deep maps of a quiet fabric say so, its maps of circuit links are true, each count of installed
--- hosts has its cause, and each settle ends settled while injections are left. Each command is acts that may happen,
--- each of them one action of one host or of one channel. The world is sound after its first commands, and after each
--- prefix of the acts of the next one, where that is done and where it is cut short: the installed routes have no
--- cycle, what was got is a prefix of what was sent, for each sender, receiver and priority, and each token has one
--- owner; and of a message that came in part one provided buffer holds what came. So it is at every moment, whatever
--- happens before it.
+-- complete are true, one for each host, with the fabric's marks; deep maps of a quiet fabric say so; a doubtful map
+-- has its cause; whatever a map shows is there; its maps of circuit links are true; printed routes lead where they
+-- say, with ranks that rise. Each count of installed hosts has its cause, and counts hosts that have their tables; and
+-- each settle ends settled while injections are left, with all got where there were tokens enough. Each command is
+-- acts that may happen, each of them one action of one host or of one channel. The world is sound after its first
+-- commands, and after each prefix of the acts of the next one, where that is done and where it is cut short: the
+-- installed routes have no cycle, what was got is a prefix of what was sent, for each sender, receiver and priority,
+-- and each token has one owner; and of a message that came in part one provided buffer holds what came. What polls
+-- handed out is a prefix of what sends were accepted with, and a send token that a poll answers is of the message that
+-- was last sent with it. So it is at every moment, whatever happens before it.
 pub record IsPromised (a : AcceptedText) : Type 0 where
   pub report : HasRun a.network a.commands
   pub done : EachCommandIsDone a
   pub complete : CompleteMapsAreTrue a
   pub deep : DeepMapsAreComplete a
   pub printed : DeepMapsArePrinted a
+  pub doubtful : DoubtfulMapsWereHarmed a
+  pub stands : PrintedMapsStand a
+  pub one_map : CompleteMapsAreOne a
+  pub marks : MarksAreRight a
+  pub routes : RoutesAreRight a
   pub circuits : CircuitMapsAreTrue a
   pub installed : InstalledLinesAreTrue a
   pub unharmed : UnharmedInstallationsCountAll a
   pub settled : SettledLinesAreTrue a
+  pub delivered : SettlesDeliver a
   pub behind : WorldsAreSound a
   pub reached : WorldsAreReached a
   pub acts : CommandsHaveSoundActs a
   pub cut : CutCommandsLeaveSound a
   pub sound : AlwaysSound a.network
   pub parts : PartsAreTied a
+  pub polled : PolledIsFrontOfAccepted
+  pub tokens : PolledTokensAreOfMessages
   pub no_cycle : RoutesHaveNoCycle a
