@@ -31,7 +31,7 @@ MAP_WORDS = {
     ),
     "doubtful {count}": (
         "{count} asks drowned: a planned fault met every try of one of their two probes",
-        "{count} asks met a planned fault in every try: what they found to be nothing may be something",
+        "{count} asks drowned: a planned fault met every try of one of their two probes, so what they found to be nothing may be something",
         "map again, since faults strike once; or give more TRIES than you planned faults",
     ),
     "complete": (
@@ -41,7 +41,7 @@ MAP_WORDS = {
     ),
     "circuit {host} nodes": (
         "",
-        "the tree of circuit answers got too large (65,536 nodes), so no map follows",
+        "the tree of circuit answers got more than 65,536 nodes, so no map follows",
         "a lesser DEPTH, or a host that is nearer to many others",
     ),
 }

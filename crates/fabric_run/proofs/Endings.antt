@@ -19,7 +19,7 @@ keeps-same (Some bytes) = refl
 pub refusal-nothing : (f : FirstFault) (taken : Option (List ℕ)) (faults risen : ℕ) (s : Status) (held : Option SessionState) → s ≡ NoMemory → held ≡ None → RefusalEnds f taken taken faults risen s held
 refusal-nothing f taken faults risen s held e h = subst (λ t. RefusalEnds f taken taken faults risen t held) (sym e) (keeps-same taken, h)
 
--- where memory was wanting while a text was read
+-- where memory ran out while a text was read
 pub read-short : (text : List ℕ) (taken : Option (List ℕ)) (faults risen : ℕ) (s : Status) (held : Option SessionState) → s ≡ NoMemory → held ≡ None → 0 < length (sound_lines text)
     → TextEnds text taken taken faults risen s held
 read-short text taken faults risen s held e h some = subst (λ t. TextEnds text taken taken faults risen t held) (sym e) (inl (some, keeps-same taken, h))
@@ -62,7 +62,8 @@ pub text-input-ends : (before now : Moment) (text : List ℕ) (s : Status) (held
 text-input-ends before now text Done held c h = (text, c, h)
 text-input-ends before now text (Refused line kind) held c h = (text, c, h)
 text-input-ends before now text WriteFault held c h = (text, c, h)
-text-input-ends before now text NoMemory held c h = inr (text, c, h)
+text-input-ends before now text NoMemory held c h =
+    elim h as (λ x. (Keeps before.taken now.taken × (held ≡ None)) ⊎ ((t : List ℕ) × Came before.left now.left t × IsMemoryCut (reading t) before.taken now.taken held)) [ inl k ↦ inl (k.1, k.2) | inr k ↦ inr (text, c, k) ]
 text-input-ends before now text Usage held c h = absurd h
 text-input-ends before now text ReadFault held c h = absurd h
 text-input-ends before now text TooLong held c h = absurd h

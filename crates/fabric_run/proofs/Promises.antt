@@ -48,7 +48,7 @@ use Rattle.message_laws.specs.Got.{IsAllGot}
 use Rattle.message_laws.proofs.Fillings.{coming-tied}
 use Rattle.message_laws.proofs.Windows.{reached-windowed}
 use Rattle.seen_laws.proofs.Fronts.{polled-front}
-use Rattle.return_laws.proofs.Returned.{polls-of_tokens}
+use Rattle.return_laws.proofs.Returned.{events-of_tokens, polls-of_tokens}
 use Rattle.delivery_laws.specs.Delivery.{HasEnough}
 use Rattle.delivery_laws.proofs.Delivered.{settle-delivers}
 use Rattle.promise_laws.proofs.Said.{said-command, said-act}
@@ -239,6 +239,7 @@ text_promised text a e =
       sound = (promised 0).sound;
       parts = coming-tied n;
       polled = polled-front;
+      returned = events-of_tokens;
       tokens = polls-of_tokens;
       no_cycle = λ k out last r. run_has_no_cycle n (take k cs) out last o.fabric (acts k) r;
     }

@@ -116,7 +116,7 @@ abbrev pub IsMemoryCut : Result AcceptedText FirstFault → Option (List ℕ) �
 IsMemoryCut (Ok a) taken now held = IsInterrupted a taken now held × IsPartOfReport a taken now
 IsMemoryCut (Err f) taken now held = Keeps taken now × (held ≡ None)
 
--- Memory ran out while a text was read, so a sound line stands before its first fault: nothing was taken, and no
+-- Memory ran out while a text was read, and a sound line stands before its first fault: nothing was taken, and no
 -- session was made.
 abbrev pub IsReadShort : List ℕ → Option (List ℕ) → Option (List ℕ) → Option SessionState → Type 0
 IsReadShort text taken now held = (0 < length (sound_lines text)) × Keeps taken now × (held ≡ None)
@@ -150,8 +150,8 @@ abbrev pub InputEnds : Moment → Moment → Status → Option SessionState → 
 InputEnds before now Done held = SomeTextEnds before now Done held
 InputEnds before now (Refused line kind) held = SomeTextEnds before now (Refused line kind) held
 InputEnds before now WriteFault held = SomeTextEnds before now WriteFault held
-InputEnds before now NoMemory held =
-    (Keeps before.taken now.taken × (held ≡ None)) ⊎ SomeTextEnds before now NoMemory held
+InputEnds before now NoMemory held = (Keeps before.taken now.taken × (held ≡ None))
+    ⊎ ((text : List ℕ) × Came before.left now.left text × IsMemoryCut (reading text) before.taken now.taken held)
 InputEnds before now ReadFault held = Rose before.read_faults now.read_faults × (held ≡ None)
 InputEnds before now TooLong held = IsLonger before.left input_limit × (held ≡ None)
 InputEnds before now Usage held = ⊥

@@ -35,7 +35,7 @@ use Rattle.settle_line_laws.specs.Lines.{IsSettledLine}
 use Rattle.message_laws.specs.Filling.{HasTiedParts}
 use Rattle.message_laws.specs.Got.{IsAllGot}
 use Rattle.seen_laws.specs.Seen.{PolledIsFrontOfAccepted}
-use Rattle.return_laws.specs.Noted.{PolledTokensAreOfMessages}
+use Rattle.return_laws.specs.Noted.{SentEventsAreOfTokens, PolledTokensAreOfMessages}
 use Rattle.delivery_laws.specs.Delivery.{HasEnough}
 use Rattle.promise_laws.specs.CommandActs.{HasSoundActs}
 use Rattle.promise_laws.specs.CutShort.{IsCutShort}
@@ -209,16 +209,17 @@ CircuitMapsAreTrue a =
     → IsCircuitRight a.network host depth asks m
 
 -- The promise of an accepted text: its commands have a run, and one, whose text is the report. Its maps under the word
--- complete are true, one for each host, with the fabric's marks; deep maps of a quiet fabric say so; a doubtful map
--- has its cause; whatever a map shows is there; its maps of circuit links are true; printed routes lead where they
--- say, with ranks that rise. Each count of installed hosts has its cause, and counts hosts that have their tables; and
--- each settle ends settled while injections are left, with all got where there were tokens enough. Each command is
--- acts that may happen, each of them one action of one host or of one channel. The world is sound after its first
--- commands, and after each prefix of the acts of the next one, where that is done and where it is cut short: the
--- installed routes have no cycle, what was got is a prefix of what was sent, for each sender, receiver and priority,
--- and each token has one owner; and of a message that came in part one provided buffer holds what came. What polls
--- handed out is a prefix of what sends were accepted with, and a send token that a poll answers is of the message that
--- was last sent with it. So it is at every moment, whatever happens before it.
+-- complete are true, with the fabric's marks, and one host's are one map; deep maps of a quiet fabric say so; a
+-- doubtful map has its cause while injections are left; whatever vertex or cable a map shows is there; its maps of
+-- circuit links are true; printed routes lead where they say, with ranks that rise. Each count of installed hosts has
+-- its cause, and no more are counted than have their table; and each settle ends settled while injections are left,
+-- with all got where there were tokens enough. Each command is acts that may happen, each of them one action of one
+-- host or of one channel. The world is sound after its first commands, and after each prefix of the acts of the next
+-- one, where that is done and where it is cut short: the installed routes have no cycle, what was got is a prefix of
+-- what was sent, for each sender, receiver and priority, and each token has one owner; and of a message that came in
+-- part one provided buffer holds what came. What polls handed out is a prefix of what sends were accepted with; a sent
+-- event that waits has the bytes of the message that was last sent with its token, and a send token that a poll
+-- answers is of that message, which is acknowledged. So it is at every moment, whatever happens before it.
 pub record IsPromised (a : AcceptedText) : Type 0 where
   pub report : HasRun a.network a.commands
   pub done : EachCommandIsDone a
@@ -242,5 +243,6 @@ pub record IsPromised (a : AcceptedText) : Type 0 where
   pub sound : AlwaysSound a.network
   pub parts : PartsAreTied a
   pub polled : PolledIsFrontOfAccepted
+  pub returned : SentEventsAreOfTokens
   pub tokens : PolledTokensAreOfMessages
   pub no_cycle : RoutesHaveNoCycle a

@@ -12,7 +12,7 @@ ghost use Rattle.input_texts.specs.Reading.{AcceptedText, input_limit, reading, 
 ghost use Rattle.fabric_run.specs.Promise.{IsPromised};
 ghost use Rattle.input_texts.specs.Forms.{form_of, IsRunForm, IsGenForm};
 ghost use Rattle.fabric_run.specs.Generated.{GenEnds};
-ghost use Rattle.fabric_run.specs.Ends.{Came, IsReported, IsReadShort, IsWriteCut, IsMemoryCut, own_answer, may_hold};
+ghost use Rattle.fabric_run.specs.Ends.{Came, IsReported, IsWriteCut, IsMemoryCut, own_answer, may_hold};
 ghost use Rattle.fabric_run.specs.Ends.{ReportEnds, RefusalEnds, TextEnds, InputEnds};
 
 use crate::generated::run_generated;
@@ -77,15 +77,13 @@ pub fn run<S: Source, K: Sink>(alloc: Global, words: &[Word], input: &mut S, out
     ensures too_long { result.status ≡ Status.TooLong → IsLonger (S.left input.old) input_limit }
     ensures too_long_writes_nothing { result.status ≡ Status.TooLong → out.new ≡ out.old }
 
-    // Memory ran out under `run`: while the input came, or while its text was read, in which a sound line stands before
-    // the first fault, nothing was written, and no session is handed back; or exactly what the commands that ran
-    // printed was written, and the session is theirs with the next command cut short: a prefix of its acts leads to
-    // the world, and the last map and the last routes are theirs. Where a command had run it is handed back.
+    // Memory ran out under `run`: nothing was written, and no session is handed back; or exactly what the commands that
+    // ran printed was written, and the session is theirs with the next command cut short: a prefix of its acts leads
+    // to the world, and the last map and the last routes are theirs. Where a command had run it is handed back.
     ensures no_memory { IsRunForm words.now → result.status ≡ Status.NoMemory
         → (Keeps (K.taken out.old) (K.taken out.new) × (result.session ≡ None))
         ⊎ ((text : List ℕ) × Came (S.left input.old) (S.left input.new) text
-        × (IsReadShort text (K.taken out.old) (K.taken out.new) result.session
-        ⊎ IsMemoryCut (reading text) (K.taken out.old) (K.taken out.new) result.session)) }
+        × IsMemoryCut (reading text) (K.taken out.old) (K.taken out.new) result.session) }
 
     // Under `gen N SEED` nothing is read. The text of N and SEED is accepted and all its commands ran: the sink took
     // exactly the summary of what they printed, or a prefix before a failed write, and not all of it, and their
@@ -100,13 +98,14 @@ pub fn run<S: Source, K: Sink>(alloc: Global, words: &[Word], input: &mut S, out
     ensures no_session { may_hold result.status ≡ false → result.session ≡ None }
 
     // Every accepted text, and so every prefix of its script, keeps the promise: a map under the word complete is
-    // right, with its marks, and one for its host; a deep one of a quiet fabric says so; a doubtful one has its cause;
-    // whatever a map shows is there; printed routes lead where they say, with ranks that rise; a map of circuit links is
-    // the circuit map to its depth. Each count of installed hosts has its cause and counts hosts that have their tables;
-    // each settle ends settled, with all got where there were tokens enough; the installed routes have no cycle. What
-    // polls hand out is a prefix of what sends were accepted with, and each token comes back with its own message. Each
-    // command is acts, each one action of one host or of one channel. Every moment of the run is sound, and reached by
-    // acts that may happen: the world after its first commands, and after each prefix of the acts of the next one.
+    // right, with its marks, and one host's are one map; a deep one of a quiet fabric says so; a doubtful one has its
+    // cause while injections are left; whatever vertex or cable a map shows is there; printed routes lead where they
+    // say, with ranks that rise; a map of circuit links is the circuit map to its depth. Each count of installed hosts
+    // has its cause, and no more are counted than have their table; each settle ends settled, with all got where there
+    // were tokens enough; the installed routes have no cycle. What polls hand out is a prefix of what sends were
+    // accepted with, and each send token comes back with its own message. Each command is acts, each one action of one
+    // host or of one channel. Every moment of the run is sound, and reached by acts that may happen: the world after
+    // its first commands, and after each prefix of the acts of the next one.
     ensures promise { (text : List ℕ) (a : AcceptedText) → IsAccepted text a → IsPromised a }
 {
     promised_texts();
