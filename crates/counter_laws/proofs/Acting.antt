@@ -1,7 +1,6 @@
 -- What one act makes of the packets that the links hold, and of the counters, as its effect and its strike tell it.
-use Rattle.std.proofs.Common.{◌≡◌, ◌<◌, ◌≤◌, ◌+◌, ℕ, Bool, true, false, cond, min, List, [], ◌∷◌, length, nat_eq, nat_lt, count_by, option_to_list, Some, None, is_some, refl, sym, ap, ◌∙◌, subst, arith, if◌then◌else◌}
+use Rattle.std.proofs.Common.{◌≡◌, ◌<◌, ◌+◌, ℕ, Bool, true, false, cond, min, List, [], ◌∷◌, length, nat_eq, count_by, Option, Some, None, is_some, refl, sym, ap, ◌∙◌, subst, arith, if◌then◌else◌}
 use Rattle.std.specs.Map.{lookup}
-use Rattle.std.proofs.lemmas.Bool.Decides.{nat_tests}
 use Rattle.net_defs.specs.Route.{host_port, channel_from}
 use Rattle.link_defs.specs.Links.{LinkState, packet_in, put}
 use Rattle.link_defs.specs.Shape.{IsLinks}
@@ -10,20 +9,21 @@ use Rattle.link_defs.proofs.Ends.{channel_from-ends}
 use Rattle.link_defs.proofs.Shapes.{stepped-links}
 use Rattle.packet_defs.specs.Packet.{stripped}
 use Rattle.world_defs.specs.declared.event.Event.{Event}
+use Rattle.world_defs.specs.declared.event.Event.TheVariants.{Inject, Advance}
 use Rattle.world_defs.specs.declared.effect.Effect.{Effect}
 use Rattle.world_defs.specs.declared.effect.Effect.TheVariants.{Idle, Injected, Moved as MovedTo, Blocked, Arrived, Dropped, Lost, Reset as WasReset, Flipped, Expired, GaveUp, Repeated, Held as WasHeld, Replayed as ReplayedTo, Staged, Said as Says}
 use Rattle.world_defs.specs.declared.effect.Cause.TheVariants.{NotMine}
 use Rattle.world_defs.specs.declared.arrival.Arrival.{Arrival}
 use Rattle.world_defs.specs.declared.fault.Fault.{Fault}
 use Rattle.world_defs.specs.declared.fault.Fault.TheVariants.{Lose as LoseFault, Repeat as RepeatFault, Hold as HoldFault, Flip as FlipFault}
-use Rattle.world_defs.specs.Node.{NodeState, Outgoing, packet_for}
+use Rattle.world_defs.specs.Node.{NodeState, Outgoing, to_send, packet_for}
 use Rattle.world_defs.specs.Hearing.{hear}
 use Rattle.world_defs.specs.World.{WorldState, fabric_of, host_count, node_at, counted, last_count, with_node, with_links, with_drop, without_fault}
 use Rattle.world_defs.specs.Step.{fault_on, is_harm, planned_strikes, sent_out, cause_at_switch, cause_at_host, of_call}
 use Rattle.world_defs.proofs.Views.{LinksChange, HostChange, ArrivalChange, Change, view}
 use Rattle.world_defs.proofs.Strikes.{fault_step, Strike, strike_view}
 use Rattle.act_defs.specs.Acts.{Act, Happens, Plans, Adopts, acted}
-use Rattle.counter_laws.specs.Counts.{effect_of, next_fault, strike_between, injections, copies, arrivals, drops, losses, resets}
+use Rattle.counter_laws.specs.Counts.{effect_of, possible_on, strike_at, strike_by, strike_of, injections, copies, arrivals, drops, losses, resets}
 use Rattle.counter_laws.proofs.Present.{present, emptied-present, put-present, lose-present, repeat-present, hold-present, flip-present, replay-present, moved-present}
 
 -- the packets that came into being, and those that ended
@@ -58,36 +58,20 @@ stays-counted m last = omega arith
 one-dropped : (w v : WorldState) (es : List Effect) → drops es ≡ 1 → v.dropped ≡ counted w.dropped → (m : ℕ) → w.dropped ≡ min m last_count → v.dropped ≡ min (m + drops es) last_count
 one-dropped w v es once more m e = let k : m + 1 ≡ m + drops es = omega (arith, once) in more ∙ ap counted e ∙ stays-counted m last_count ∙ ap (λ x. min x last_count) k
 
--- no fault struck
-unstruck : (w v : WorldState) → v.struck ≡ w.struck → strike_between w v ≡ []
-unstruck w v e = by (nat_lt w.struck v.struck) refl
-  where
-    by : (b : Bool) → nat_lt w.struck v.struck ≡ b → (if b then option_to_list (next_fault w) else []) ≡ []
-    by true f = let more : w.struck < v.struck = grind (arith, nat_tests) in absurd (omega (arith, more, e))
-    by false f = refl
-
--- one fault struck
-one-struck : (w v : WorldState) (f : Fault) → next_fault w ≡ Some f → v.struck ≡ w.struck + 1 → strike_between w v ≡ f ∷ []
-one-struck w v f e d = by (nat_lt w.struck v.struck) refl
-  where
-    by : (b : Bool) → nat_lt w.struck v.struck ≡ b → (if b then option_to_list (next_fault w) else []) ≡ f ∷ []
-    by true g = ap (λ o. option_to_list o) e
-    by false g = let most : v.struck ≤ w.struck = grind (arith, nat_tests) in absurd (omega (arith, d, most))
-
 -- an act without a strike, by the numbers of packets that came and went
 quiet-tells : (w v : WorldState) (es : List Effect) (a b : ℕ) → came es [] ≡ a → went es [] ≡ b → injections es ≡ 0 → (IsLinks w.links → IsLinks v.links) → (IsLinks w.links → present w.links + a ≡ present v.links + b)
-    → ((m : ℕ) → w.dropped ≡ min m last_count → v.dropped ≡ min (m + drops es) last_count) → Rests w v → Tells w v es (strike_between w v)
-quiet-tells w v es a b x y none links balance dropped rests = subst (Tells w v es) (sym (unstruck w v rests.struck)) (record {
+    → ((m : ℕ) → w.dropped ≡ min m last_count → v.dropped ≡ min (m + drops es) last_count) → Rests w v → Tells w v es []
+quiet-tells w v es a b x y none links balance dropped rests = record {
   links = links;
   balance = λ is. ap (λ k. present w.links + k) x ∙ balance is ∙ ap (λ k. present v.links + k) (sym y);
   injected = let same = rests.injected in omega (arith, none, same);
   dropped = dropped;
   struck = let same = rests.struck in omega (arith, same);
   harmed = let same = rests.harmed in omega (arith, same);
-})
+}
 
 -- nothing happens to packets
-still-tells : (w v : WorldState) (es : List Effect) → came es [] ≡ 0 → went es [] ≡ 0 → injections es ≡ 0 → drops es ≡ 0 → v.links ≡ w.links → v.dropped ≡ w.dropped → Rests w v → Tells w v es (strike_between w v)
+still-tells : (w v : WorldState) (es : List Effect) → came es [] ≡ 0 → went es [] ≡ 0 → injections es ≡ 0 → drops es ≡ 0 → v.links ≡ w.links → v.dropped ≡ w.dropped → Rests w v → Tells w v es []
 still-tells w v es x y none whole same drop rests =
     quiet-tells w v es 0 0 x y none (λ is. subst IsLinks (sym same) is) (λ is. ap (λ l. present l + 0) (sym same)) (none-dropped w v es whole drop) rests
 
@@ -96,12 +80,12 @@ rests w v i s h = record { injected = i; struck = s; harmed = h }
 
 -- the links alone
 of_links-tells : (w : WorldState) (s : Step) (x : Effect) (a b : ℕ) → came (x ∷ []) [] ≡ a → went (x ∷ []) [] ≡ b → injections (x ∷ []) ≡ 0 → drops (x ∷ []) ≡ 0 → (IsLinks w.links → present w.links + a ≡ present (stepped w.links s) + b)
-    → Tells w (with_links w (stepped w.links s)) (x ∷ []) (strike_between w (with_links w (stepped w.links s)))
+    → Tells w (with_links w (stepped w.links s)) (x ∷ []) []
 of_links-tells w s x a b d e none whole balance =
     let v : WorldState = with_links w (stepped w.links s) in
     quiet-tells w v (x ∷ []) a b d e none (stepped-links w.links s) balance (none-dropped w v (x ∷ []) whole refl) (rests w v refl refl refl)
 
-links-tells : {w : WorldState} {e : Event} {x : Effect} {s : Step} → LinksChange w e x s → Tells w (with_links w (stepped w.links s)) (x ∷ []) (strike_between w (with_links w (stepped w.links s)))
+links-tells : {w : WorldState} {e : Event} {x : Effect} {s : Step} → LinksChange w e x s → Tells w (with_links w (stepped w.links s)) (x ∷ []) (strike_by w x e)
 links-tells {w = w} (LinksChange.moves {c = c} packet next d e f g) =
     of_links-tells w (AdvanceLinks c) (MovedTo next) 0 0 refl refl refl refl
     (λ is. let h : present (stepped w.links (AdvanceLinks c)) ≡ present w.links = ap present g ∙ moved-present w.links c next packet (record packet { wire = stripped packet.wire }) is d e f in omega (arith, h))
@@ -114,19 +98,19 @@ links-tells {w = w} (LinksChange.replays {serial = serial} {c = c} k) = of_links
 
 -- a packet that leaves its channel for a host, or for nowhere
 module _ (w v : WorldState) (c : ℕ) (same : v.links ≡ stepped w.links (AdvanceLinks c)) (less : present v.links + 1 ≡ present w.links) (still : Rests w v) where
-  gone-tells : (x : Effect) → came (x ∷ []) [] ≡ 0 → went (x ∷ []) [] ≡ 1 → injections (x ∷ []) ≡ 0 → ((m : ℕ) → w.dropped ≡ min m last_count → v.dropped ≡ min (m + drops (x ∷ [])) last_count) → Tells w v (x ∷ []) (strike_between w v)
+  gone-tells : (x : Effect) → came (x ∷ []) [] ≡ 0 → went (x ∷ []) [] ≡ 1 → injections (x ∷ []) ≡ 0 → ((m : ℕ) → w.dropped ≡ min m last_count → v.dropped ≡ min (m + drops (x ∷ [])) last_count) → Tells w v (x ∷ []) []
   gone-tells x a b none dropped = quiet-tells w v (x ∷ []) 0 1 a b none (λ is. subst IsLinks (sym same) (stepped-links w.links (AdvanceLinks c) is)) (λ is. omega (arith, less)) dropped still
 
-  arrives-tells : {h : ℕ} {a : Arrival} {x : Effect} {count : ℕ} → v.dropped ≡ count → ArrivalChange w h a x count → Tells w v (x ∷ []) (strike_between w v)
+  arrives-tells : {h : ℕ} {a : Arrival} {x : Effect} {count : ℕ} → v.dropped ≡ count → ArrivalChange w h a x count → Tells w v (x ∷ []) (strike_by w x (Advance c))
   arrives-tells {h = h} d (ArrivalChange.heard {x = x}) = gone-tells (Arrived h x) refl refl refl (none-dropped w v (Arrived h x ∷ []) refl d)
   arrives-tells d (ArrivalChange.dropped {x = x}) = gone-tells (Dropped (cause_at_host x)) refl refl refl (one-dropped w v (Dropped (cause_at_host x) ∷ []) refl d)
   arrives-tells d ArrivalChange.not_mine = gone-tells (Dropped NotMine) refl refl refl (one-dropped w v (Dropped NotMine ∷ []) refl d)
 
 -- a host by itself
-host-still : (w : WorldState) (h : ℕ) (m : NodeState) (x : Effect) → came (x ∷ []) [] ≡ 0 → went (x ∷ []) [] ≡ 0 → injections (x ∷ []) ≡ 0 → drops (x ∷ []) ≡ 0 → Tells w (with_node w h m) (x ∷ []) (strike_between w (with_node w h m))
+host-still : (w : WorldState) (h : ℕ) (m : NodeState) (x : Effect) → came (x ∷ []) [] ≡ 0 → went (x ∷ []) [] ≡ 0 → injections (x ∷ []) ≡ 0 → drops (x ∷ []) ≡ 0 → Tells w (with_node w h m) (x ∷ []) []
 host-still w h m x a b c d = still-tells w (with_node w h m) (x ∷ []) a b c d refl refl (rests w (with_node w h m) refl refl refl)
 
-host-tells : {w : WorldState} {e : Event} {x : Effect} {h : ℕ} {m : NodeState} → HostChange w e x h m → Tells w (with_node w h m) (x ∷ []) (strike_between w (with_node w h m))
+host-tells : {w : WorldState} {e : Event} {x : Effect} {h : ℕ} {m : NodeState} → HostChange w e x h m → Tells w (with_node w h m) (x ∷ []) (strike_by w x e)
 host-tells {w = w} {h = h} {m = m} HostChange.asks = host-still w h m Staged refl refl refl refl
 host-tells {w = w} {h = h} {m = m} (HostChange.stages a p by d e f) = host-still w h m Staged refl refl refl refl
 host-tells {w = w} {h = h} {m = m} (HostChange.expires d) = host-still w h m Expired refl refl refl refl
@@ -179,8 +163,16 @@ module _ (w : WorldState) (h c : ℕ) (wire : List ℕ) (u : WorldState) (cable 
   abbrev effects : List Effect
   effects = Injected (w.injected + 1) ∷ []
 
-  spared-tells : (v : WorldState) → v.links ≡ u.links → v.injected ≡ u.injected → v.dropped ≡ u.dropped → v.struck ≡ u.struck → v.harmed ≡ u.harmed → Tells w v effects (strike_between w v)
-  spared-tells v l i d s m = subst (Tells w v effects) (sym (unstruck w v (s ∙ o.struck))) (record {
+  abbrev strike : List Fault
+  strike = possible_on u.links c (lookup (nat_eq (w.injected + 1)) w.plan)
+
+  strike-planned : (p : Option Fault) → lookup (nat_eq u.injected) u.plan ≡ p → strike ≡ possible_on u.links c p
+  strike-planned p e =
+      let same : lookup (nat_eq u.injected) u.plan ≡ lookup (nat_eq (w.injected + 1)) w.plan = ap (λ n. lookup (nat_eq n) u.plan) o.injected ∙ ap (λ fs. lookup (nat_eq (w.injected + 1)) fs) o.plan in
+      ap (λ q. possible_on u.links c q) (sym same ∙ e)
+
+  spared-tells : (v : WorldState) → strike ≡ [] → v.links ≡ u.links → v.injected ≡ u.injected → v.dropped ≡ u.dropped → v.struck ≡ u.struck → v.harmed ≡ u.harmed → Tells w v effects strike
+  spared-tells v none l i d s m = subst (Tells w v effects) (sym none) (record {
     links = λ is. subst IsLinks (sym l) (entered-links is);
     balance = λ is. let k : present v.links ≡ present w.links + 1 = ap present l ∙ entered-present is in let n : present w.links + 1 ≡ present v.links + 0 = omega (arith, k) in n;
     injected = i ∙ o.injected;
@@ -189,30 +181,33 @@ module _ (w : WorldState) (h c : ℕ) (wire : List ℕ) (u : WorldState) (cable 
     harmed = let e : v.harmed ≡ w.harmed = m ∙ o.harmed in omega (arith, e);
   })
 
-  strike-tells : (v : WorldState) → Strike u c v → Tells w v effects (strike_between w v)
-  strike-tells v (Strike.spares e) = spared-tells u refl refl refl refl refl
-  strike-tells v (Strike.misses f e k) = spared-tells (record u { plan = without_fault u.injected u.plan }) refl refl refl refl refl
+  strike-tells : (v : WorldState) → Strike u c v → Tells w v effects strike
+  strike-tells v (Strike.spares e) = spared-tells u (strike-planned None e) refl refl refl refl refl
+  strike-tells v (Strike.misses f e k) =
+      let none : strike ≡ [] = strike-planned (Some f) e ∙ ap (λ b. if b then f ∷ [] else []) k in
+      spared-tells (record u { plan = without_fault u.injected u.plan }) none refl refl refl refl refl
   strike-tells v (Strike.strikes f e k) =
       let t : WorldState = struck_world u c f in
-      let due : next_fault w ≡ Some f = sym (ap (λ n. lookup (nat_eq n) w.plan) o.injected) ∙ sym (ap (λ fs. lookup (nat_eq u.injected) fs) o.plan) ∙ e in
-      let once : t.struck ≡ w.struck + 1 = ap (λ n. n + 1) o.struck in
-      subst (Tells w t effects) (sym (one-struck w t f due once)) (record {
+      let once : strike ≡ f ∷ [] = strike-planned (Some f) e ∙ ap (λ b. if b then f ∷ [] else []) k in
+      subst (Tells w t effects) (sym once) (record {
         links = λ is. stepped-links u.links (fault_step c f) (entered-links is);
         balance = λ is. let more = entered-present is in let m = fault-balance u.links c f (w.injected + 1) k in omega (arith, more, m);
         injected = o.injected;
         dropped = none-dropped w t effects refl o.dropped;
-        struck = once;
+        struck = ap (λ n. n + 1) o.struck;
         harmed = harm-once f u.harmed ∙ ap (λ n. n + count_by is_harm (f ∷ [])) o.harmed;
       })
 
-injects-tells : (w : WorldState) (h c : ℕ) (out : Outgoing) → channel_from (fabric_of w) (host_port h) ≡ Some c → packet_in w.links c ≡ None
-    → Tells w (planned_strikes (sent_out w h c out) c) (Injected (w.injected + 1) ∷ []) (strike_between w (planned_strikes (sent_out w h c out) c))
-injects-tells w h c out cable room =
+injects-tells : (w : WorldState) (h c : ℕ) (out : Outgoing) → channel_from (fabric_of w) (host_port h) ≡ Some c → to_send h (node_at w h) ≡ Some out → packet_in w.links c ≡ None
+    → Tells w (planned_strikes (sent_out w h c out) c) (Injected (w.injected + 1) ∷ []) (strike_by w (Injected (w.injected + 1)) (Inject h))
+injects-tells w h c out cable item room =
     let u : WorldState = sent_out w h c out in
-    strike-tells w h c (packet_for h (w.injected + 1) out) u cable room (is-out w h c out) (planned_strikes u c) (strike_view u c)
+    let there : strike_by w (Injected (w.injected + 1)) (Inject h) ≡ possible_on u.links c (lookup (nat_eq (w.injected + 1)) w.plan) =
+    ap (λ k. strike_at w h (w.injected + 1) k (to_send h (node_at w h))) cable ∙ ap (λ k. strike_at w h (w.injected + 1) (Some c) k) item in
+    subst (Tells w (planned_strikes u c) (Injected (w.injected + 1) ∷ [])) (sym there) (strike-tells w h c (packet_for h (w.injected + 1) out) u cable room (is-out w h c out) (planned_strikes u c) (strike_view u c))
 
 -- each event
-change-tells : {w : WorldState} {e : Event} {r : Effect × WorldState} → Change w e r → Tells w r.1 (r.0 ∷ []) (strike_between w r.1)
+change-tells : {w : WorldState} {e : Event} {r : Effect × WorldState} → Change w e r → Tells w r.1 (r.0 ∷ []) (strike_by w r.0 e)
 change-tells {w = w} Change.idle = still-tells w w (Idle ∷ []) refl refl refl refl refl refl (rests w w refl refl refl)
 change-tells {w = w} (Change.blocked packet next d e) = still-tells w w (Blocked next ∷ []) refl refl refl refl refl refl (rests w w refl refl refl)
 change-tells (Change.links k) = links-tells k
@@ -225,12 +220,12 @@ change-tells {w = w} (Change.arrives {c = c} {count = count} packet h d e f g) =
     let v : WorldState = record (with_node (with_links w (stepped w.links (AdvanceLinks c))) h m) { dropped = count } in
     arrives-tells w v c refl (ap (λ l. present l + 1) f ∙ emptied-present w.links c packet d) (rests w v refl refl refl) refl g
 change-tells (Change.host k) = host-tells k
-change-tells {w = w} (Change.injects {h = h} c out d e f g) = injects-tells w h c out d f
+change-tells {w = w} (Change.injects {h = h} c out d e f g) = injects-tells w h c out d e f
 change-tells {w = w} (Change.calls {h = h} {port = port} {call = call} k) =
     let v : WorldState = (of_call w h port call).1 in
     still-tells w v (Says call.said ∷ []) refl refl refl refl refl refl (rests w v refl refl refl)
 
-pub acted-tells : (w : WorldState) (a : Act) → Tells w (acted w a) (effect_of w a) (strike_between w (acted w a))
+pub acted-tells : (w : WorldState) (a : Act) → Tells w (acted w a) (effect_of w a) (strike_of w a)
 acted-tells w (Happens e) = change-tells (view w e)
 acted-tells w (Plans ahead fault) = still-tells w (acted w (Plans ahead fault)) [] refl refl refl refl refl refl (rests w (acted w (Plans ahead fault)) refl refl refl)
 acted-tells w (Adopts mapper routes) = still-tells w (acted w (Adopts mapper routes)) [] refl refl refl refl refl refl (rests w (acted w (Adopts mapper routes)) refl refl refl)

@@ -9,7 +9,7 @@ use Rattle.world_defs.specs.declared.fault.Fault.{Fault}
 use Rattle.world_defs.specs.World.{WorldState, new_world, last_count}
 use Rattle.world_defs.specs.Step.{is_harm}
 use Rattle.act_defs.specs.Acts.{Act, acted, acted_all}
-use Rattle.counter_laws.specs.Counts.{effect_of, effects_of, strike_between, strikes_of, is_injection, is_copy, is_arrival, is_drop, is_loss, is_reset, is_copying, is_losing, drops}
+use Rattle.counter_laws.specs.Counts.{effect_of, effects_of, strike_of, strikes_of, is_injection, is_copy, is_arrival, is_drop, is_loss, is_reset, is_copying, is_losing, drops}
 use Rattle.counter_laws.specs.Conserved.{PacketsAreConserved, CountersAreTrue}
 use Rattle.counter_laws.proofs.Acting.{came, went, Tells, acted-tells}
 
@@ -53,7 +53,7 @@ none-tells w = record { links = λ is. is; balance = λ is. refl; injected = ome
 
 all-tell : (w : WorldState) (acts : List Act) → Tells w (acted_all w acts) (effects_of w acts) (strikes_of w acts)
 all-tell w [] = none-tells w
-all-tell w (a ∷ acts) = then-tells w (acted w a) (acted_all (acted w a) acts) (effect_of w a) (effects_of (acted w a) acts) (strike_between w (acted w a)) (strikes_of (acted w a) acts) (acted-tells w a) (all-tell (acted w a) acts)
+all-tell w (a ∷ acts) = then-tells w (acted w a) (acted_all (acted w a) acts) (effect_of w a) (effects_of (acted w a) acts) (strike_of w a) (strikes_of (acted w a) acts) (acted-tells w a) (all-tell (acted w a) acts)
 
 -- a new world has no packets
 no_packets : (k : ℕ) → count_by is_some (replicate {A = Option Held} k None) ≡ 0

@@ -1,14 +1,18 @@
 -- What acts did to packets: the effects of their events, the planned faults that struck, and how many of each kind.
-use Rattle.std.specs.Prelude.{ℕ, ◌+◌, Bool, true, false, List, [], ◌∷◌, ◌++◌, length, nat_eq, nat_lt, is_some, count_by}
-use Rattle.std.specs.Prelude.{option_to_list, if◌then◌else◌, Option}
+use Rattle.std.specs.Prelude.{ℕ, ◌+◌, Bool, true, false, List, [], ◌∷◌, ◌++◌, length, nat_eq, is_some, count_by}
+use Rattle.std.specs.Prelude.{if◌then◌else◌, Option, Some, None}
 use Rattle.std.specs.Map.{lookup}
+use Rattle.net_defs.specs.Route.{host_port, channel_from}
 use Rattle.link_defs.specs.Links.{LinkState}
+use Rattle.world_defs.specs.declared.event.Event.{Event}
+use Rattle.world_defs.specs.declared.event.Event.TheVariants.{Inject}
 use Rattle.world_defs.specs.declared.effect.Effect.{Effect}
 use Rattle.world_defs.specs.declared.effect.Effect.TheVariants.{Injected, Arrived, Dropped, Lost, Reset, Repeated}
 use Rattle.world_defs.specs.declared.fault.Fault.{Fault}
 use Rattle.world_defs.specs.declared.fault.Fault.TheVariants.{Lose as LoseFault, Repeat as RepeatFault}
-use Rattle.world_defs.specs.World.{WorldState}
-use Rattle.world_defs.specs.Step.{step}
+use Rattle.world_defs.specs.Node.{Outgoing, to_send}
+use Rattle.world_defs.specs.World.{WorldState, fabric_of, node_at}
+use Rattle.world_defs.specs.Step.{fault_on, sent_out, step}
 use Rattle.act_defs.specs.Acts.{Act, Happens, Plans, Adopts, acted}
 
 -- the effect of an act that is an event
@@ -22,19 +26,33 @@ abbrev pub effects_of : WorldState → List Act → List Effect
 effects_of w [] = []
 effects_of w (a ∷ acts) = effect_of w a ++ effects_of (acted w a) acts
 
--- the fault that is planned for the next injection
-abbrev pub next_fault : WorldState → Option Fault
-next_fault w = lookup (nat_eq (w.injected + 1)) w.plan
+-- the fault that is planned for a channel's packet, where it is possible there
+abbrev pub possible_on : LinkState → ℕ → Option Fault → List Fault
+possible_on l c None = []
+possible_on l c (Some f) = if (fault_on l c f).0 then f ∷ [] else []
 
--- the planned fault that struck between two worlds: that of the next injection, where the second world counts more
--- faults that struck
-abbrev pub strike_between : WorldState → WorldState → List Fault
-strike_between before after = if nat_lt before.struck after.struck then option_to_list (next_fault before) else []
+-- the planned fault that struck a host's injection of this number, by its channel and what was sent: one that was
+-- possible once the packet was in the channel
+abbrev pub strike_at : WorldState → ℕ → ℕ → Option ℕ → Option Outgoing → List Fault
+strike_at w h number (Some c) (Some out) = possible_on (sent_out w h c out).links c (lookup (nat_eq number) w.plan)
+strike_at w h number _ _ = []
+
+-- the planned fault that struck at an event of this effect: that of a host's injection into its channel, and else none
+abbrev pub strike_by : WorldState → Effect → Event → List Fault
+strike_by w (Injected number) (Inject h) =
+    strike_at w h number (channel_from (fabric_of w) (host_port h)) (to_send h (node_at w h))
+strike_by w _ _ = []
+
+-- the planned fault that struck at an act
+abbrev pub strike_of : WorldState → Act → List Fault
+strike_of w (Happens e) = strike_by w (step w e).0 e
+strike_of w (Plans ahead fault) = []
+strike_of w (Adopts mapper routes) = []
 
 -- the planned faults that struck within acts, in order
 abbrev pub strikes_of : WorldState → List Act → List Fault
 strikes_of w [] = []
-strikes_of w (a ∷ acts) = strike_between w (acted w a) ++ strikes_of (acted w a) acts
+strikes_of w (a ∷ acts) = strike_of w a ++ strikes_of (acted w a) acts
 
 -- a host injected a packet
 abbrev pub is_injection : Effect → Bool

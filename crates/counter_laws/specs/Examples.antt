@@ -5,6 +5,7 @@ use Rattle.world_defs.specs.declared.event.Event.TheVariants.{Ask, Inject, Advan
 use Rattle.world_defs.specs.declared.effect.Effect.{Effect}
 use Rattle.world_defs.specs.declared.fault.Fault.{Fault}
 use Rattle.world_defs.specs.declared.fault.Fault.TheVariants.{Lose as LoseFault, Repeat as RepeatFault}
+use Rattle.world_defs.specs.declared.fault.Fault.TheVariants.{Flip as FlipFault}
 use Rattle.world_defs.specs.World.{WorldState, new_world}
 use Rattle.act_defs.specs.Acts.{Act, Happens, Plans, acted_all}
 use Rattle.counter_laws.specs.Counts.{effects_of, strikes_of, injections, copies, arrivals, drops, losses, resets}
@@ -16,10 +17,10 @@ probe walk = Happens (Ask 0 walk false) ∷ Happens (Inject 0) ∷ []
 
 -- The first probe is copied by plan, and dropped at the switch, where its walk ends; the second is lost by plan, the
 -- third by an event; the fourth is taken by a reset; the fifth is copied, and host 1 hears it; the sixth stays in its
--- channel.
+-- channel, and the flip of no bits that is planned for it isn't possible.
 abbrev pub six_probes : List Act
 six_probes =
-    Plans 1 RepeatFault ∷ Plans 2 LoseFault
+    Plans 1 RepeatFault ∷ Plans 2 LoseFault ∷ Plans 6 (FlipFault 0 0)
     ∷ probe [] ++ Happens (Advance 0) ∷ probe [] ++ probe [] ++ Happens (Lose 0) ∷ probe [] ++ Happens (Reset 0)
     ∷ probe (pos 3 ∷ []) ++ Happens (Repeat 0) ∷ Happens (Advance 0) ∷ Happens (Advance 3) ∷ probe []
 
@@ -41,10 +42,11 @@ abbrev pub SixProbesAreCounted : Type 0
 SixProbesAreCounted =
     (injections six_effects ≡ 6) × (copies six_effects six_strikes ≡ 2)
     × (in_channels six_world.links ≡ 1) × (in_limbo six_world.links ≡ 2)
-    × (arrivals six_effects ≡ 1) × (drops six_effects ≡ 1) × (losses six_effects six_strikes ≡ 2) × (resets six_effects ≡ 1)
+    × (arrivals six_effects ≡ 1) × (drops six_effects ≡ 1) × (losses six_effects six_strikes ≡ 2)
+    × (resets six_effects ≡ 1)
 
--- the faults that struck are the two that were planned, of which one harmed its packet; six injections and one drop
--- are counted
+-- the faults that struck are two of the three that were planned, of which one harmed its packet; six injections and one
+-- drop are counted
 abbrev pub SixProbesAreInCounters : Type 0
 SixProbesAreInCounters =
     (six_strikes ≡ RepeatFault ∷ LoseFault ∷ [])
