@@ -1,5 +1,5 @@
 -- What is read or written in turns, as a whole.
-use Rattle.std.proofs.Common.{◌≡◌, ◌≤◌, ◌+◌, ℕ, List, ◌++◌, length, take, drop, Option, Result, Ok, Err, OnErr, IfErr, append_assoc, length-append, arith, ◌∙◌, sym}
+use Rattle.std.proofs.Common.{◌≡◌, ◌≢◌, ◌≤◌, ◌+◌, ℕ, List, ◌++◌, length, take, drop, Option, Result, Ok, Err, OnErr, IfErr, append_assoc, length-append, arith, ◌∙◌, sym}
 use Rattle.std.proofs.lemmas.List.{take-append-drop}
 use Rattle.std.specs.Io.KnownBytes.{Appends, Consumes, Keeps}
 use Rattle.std.proofs.KnownBytes.{Appends-kept, Appends-trans, Consumes-trans}
@@ -33,6 +33,11 @@ pub on-err : {T E : Type 0} (r : Result T E) (P : Type 0) → P → OnErr r P
 on-err (Ok x) P p = tt
 on-err (Err e) P p = p
 
-pub if-err : {T E : Type 0} (P : E → Type 0) (r : Result T E) → ((e : E) → P e) → IfErr r P
-if-err P (Ok x) each = tt
-if-err P (Err e) each = each e
+-- where no more bytes came, no more than before went, but at one error
+pub none-more : {T E : Type 0} (r : Result T E) (x : E) (a b c : Option (List ℕ)) (went : List ℕ) (most : ℕ) → Consumes a b went → length went ≤ most
+    → IfErr r (λ e. e ≢ x → HasGone b c 0) → IfErr r (λ e. e ≢ x → GoesOn a c most)
+none-more (Ok v) x a b c went most first few then = tt
+none-more (Err e) x a b c went most first few then = λ other.
+    let gone : HasGone b c 0 = then other in
+    let none : length gone.0 ≡ 0 = gone.2 in
+    goes_on-trans a b c went 0 most first (gone.0, gone.1, omega (arith, none)) (omega (arith, few))

@@ -1,4 +1,4 @@
-use Rattle.std.proofs.Common.{◌≡◌, ◌≤◌, ◌-◌, vec_len}
+use Rattle.std.proofs.Common.{◌≡◌, ◌≤◌, ◌-◌, vec_len, vec_capacity}
 use Rattle.std.specs.Io.KnownBytes.{Consumes}
 use Rattle.fab_outer.proofs.whole.read_all.Given as goal
 
@@ -8,6 +8,7 @@ invariant-reading g l = record {
   later : g.S.Source.faults l.initial.source ≤ g.S.Source.faults l.source;
   piece_len : vec_len l.piece ≡ 65536;
   within : vec_len l.content ≤ l.limit;
+  room : l.limit ≤ vec_capacity l.content;
 }
 
 abbrev pub decreases-reading : goal.decreases-reading
