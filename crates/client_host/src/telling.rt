@@ -31,7 +31,7 @@ pub(crate) fn close_cause(refusal: NodeClose) -> ClientCause
     }
 }
 
-/// A call that was refused for a cause, or out of memory where there is none.
+/// A call was refused for a cause, or ran out of memory where there is none.
 pub(crate) fn refused(cause: Option<ClientCause>) -> Result<Said, AllocError>
     ensures told { IfOk result (λ said. option_map (λ c. Said.Refused c) cause ≡ Some said) }
     ensures wanting { OnErr result (cause ≡ None) }

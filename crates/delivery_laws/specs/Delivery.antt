@@ -58,8 +58,8 @@ SettleDelivers =
     (w : WorldState) (r : Rounds) → CanSettle w → Settles w r → r.world.injected < last_count → HasEnough w
     → (unacknowledged_in r.world ≡ 0) × IsAllGot r.world
 
--- And after it what polls handed to the client of a port, and what waits there, are all messages that sends to this port
--- were accepted with.
+-- And after it what polls handed to the client of a port, and what waits there, are all messages that sends to this
+-- port were accepted with.
 abbrev pub SettledIsSeen : Type 0
 SettledIsSeen =
     (w : WorldState) (r : Rounds) → CanSettle w → Settles w r → r.world.injected < last_count → HasEnough w

@@ -83,8 +83,8 @@ impl World {
 
     /// One event: its effect, and the world after it. A close that says how many buffers it hands back hands back each
     /// provided token with its buffer as it was provided, and each other token is with the client. Running out of
-    /// memory changes nothing, and hides no refusal: a client's call that runs out isn't refused. A loss, a reset, a
-    /// replay, an expiry, a close and a poll take no memory, nor does a host that gives up.
+    /// memory changes nothing, and hides no refusal: a client's call that runs out of memory isn't refused. A loss, a
+    /// reset, a replay, an expiry, a close and a poll take no memory, nor does a host that gives up.
     pub fn step(&mut self, alloc: Global, e: Event) -> Result<Effect, AllocError>
         requires { IsGiven self.old e }
         ensures ok { IfOk result (λ x. step self.old e ≡ (x, self.new)) }

@@ -111,7 +111,7 @@ impl BufferList {
         count_filling(&self.provided) as u32
     }
 
-    /// Takes a token in, behind the others.
+    /// Takes a token in, after the others.
     pub(crate) fn push(&mut self, r: ProvidedToken)
         requires own { provided_at self.old.host self.old.port (provided_of r) ≡ r }
         requires room { length self.old.provided < self.old.limit }

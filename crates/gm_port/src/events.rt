@@ -95,7 +95,7 @@ impl EventQueue {
         }
     }
 
-    /// Puts an event in, behind the others.
+    /// Puts an event in, after the others.
     pub(crate) fn push(&mut self, e: PortEvent)
         requires own { event_at self.old.host self.old.port (event_of e) ≡ e }
         requires room { length self.old.events < self.old.limit }
@@ -133,7 +133,7 @@ impl EventQueue {
     }
 }
 
-// The token of an event that comes behind the others is counted.
+// The token of an event that comes after the others is counted.
 fn count(sent: &mut Tally, received: &mut Tally, e: &PortEvent)
     requires few_sends { (n : ℕ) → slice_index_or sent.old n 0 < 2 ^ 32 - 1 }
     requires few_receives { (n : ℕ) → slice_index_or received.old n 0 < 2 ^ 32 - 1 }

@@ -58,9 +58,9 @@ RunCanInstall =
     → CanInstall (adoption_of l) l.hosts (adopted_by s.world l.mapper l.routes)
 
 -- What the line `installed K of N` says: K hosts of the N of the last routes have all parts acknowledged, and at least
--- so many have an active table, which is the set's routes from its host. Where injections are left then, each other host
--- has a part each of whose tries met a planned loss, hold or flip, on the part or on its acknowledgement; so K is N where
--- none did.
+-- so many have an active table, which is the set's routes from its host. Where injections are left then, each other
+-- host has a part each of whose tries met a planned loss, hold or flip, on the part or on its acknowledgement; so K is
+-- N where none did.
 pub record IsInstalledLine (s next : SessionState) (tries acked total : ℕ) : Type 0 where
   pub last : LastRoutes
   pub are : s.last_routes ≡ Some last

@@ -75,8 +75,8 @@ DeepMapIsComplete =
     → CanMap host depth before → IsMapped host depth tries before after j m words → IsQuiet host before after
     → 1 ≤ tries → tries ≤ 8 → enough_depth (fabric_of before) host ≤ depth → words ≡ Complete
 
--- A map that is called doubtful has its cause: where injections are left after it, a planned fault lost, held or flipped
--- a packet of it.
+-- A map that is called doubtful has its cause: where injections are left after it, a planned fault lost, held or
+-- flipped a packet of it.
 abbrev pub DoubtfulWasHarmed : Type 0
 DoubtfulWasHarmed =
     (host depth tries drowned : ℕ) (before after : WorldState) (j : List Entry) (m : NetMap)

@@ -21,7 +21,7 @@ use std::alloc::Global;
 
 /// Accepts a message of a port for a peer; `route` says whether a route leads there. The port has token and buffer
 /// until the message is acknowledged. A refusal hands both back and changes nothing: NotOpen, TooLong, BufferShort,
-/// NoRoute, Spent, in this order, and only then out of memory.
+/// NoRoute, Spent, in this order; only then may memory run out.
 pub(crate) fn send(
     alloc: Global,
     lanes: &mut Lanes,

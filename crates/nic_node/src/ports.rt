@@ -93,8 +93,8 @@ impl NicNode {
     }
 
     /// Accepts a message of a port for a peer. The port has token and buffer until the message is acknowledged. A
-    /// refusal hands both back and changes nothing: NotOpen, TooLong, BufferShort, NoRoute, Spent, in this order, and
-    /// only then out of memory.
+    /// refusal hands both back and changes nothing: NotOpen, TooLong, BufferShort, NoRoute, Spent, in this order; only
+    /// then may memory run out.
     pub fn send(
         &mut self,
         alloc: Global,

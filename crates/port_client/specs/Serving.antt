@@ -47,7 +47,7 @@ send_used c = record c { sends = drop 1 c.sends }
 abbrev pub recv_used : ClientState → ClientState
 recv_used c = record c { recvs = drop 1 c.recvs }
 
--- the client has the token of an event back, behind the others
+-- the client has the token of an event back, after the others
 abbrev pub handed_back : ClientState → Option PortEvent → ClientState
 handed_back c None = c
 handed_back c (Some (Sent t b)) = record c { sends = c.sends ++ t ∷ [] }

@@ -2,7 +2,7 @@
 //! back come to it; and a port with its client.
 //!
 //! It moves no packet and knows no message. A client uses the token that it has held longest, takes one that comes
-//! back behind the others, and one of a refused call in front of them, so that such a call leaves the order as it
+//! back after the others, and one of a refused call in front of them, so that such a call leaves the order as it
 //! was. `specs/Held.antt` says what a contract sees of it, over the client of `world_defs`, `specs/Back.antt` what
 //! comes back, and `specs/Serving.antt` what ties a port to its client.
 //!

@@ -1,4 +1,5 @@
--- A map that stands over a fabric: whatever it shows is there, though it may show it twice, or lack something.
+-- A map that stands over a fabric: each vertex and cable that it shows is there, though it may show it twice, or lack
+-- something.
 use Rattle.std.specs.Prelude.{◌≡◌, ℕ, ◌<◌, ℤ, pos, ◌+ℤ◌, length, Some}
 use Rattle.net_defs.specs.declared.vertex.Vertex.{Vertex}
 use Rattle.net_defs.specs.Network.{Network}

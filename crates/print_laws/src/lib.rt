@@ -1,12 +1,12 @@
-//! What is proved of printed maps and routes: every map that a run prints is read back from its lines as the map that was
-//! printed, whatever it shows is there, and the printed routes lead where they say.
+//! What is proved of printed maps and routes: every map that a run prints is read back from its lines as the map that
+//! was printed, each vertex and cable that it shows is there, and the printed routes lead where they say.
 //!
 //! It reads and prints nothing: that is `map_canon`; that a complete map is right is a law of `mapping_laws`.
 //!
 //! | file of `specs/` | says |
 //! |---|---|
 //! | `Printed` | that printed maps are read back |
-//! | `Standing` | what it means that whatever a map shows is there |
+//! | `Standing` | what it means that each vertex and cable that a map shows is there |
 //! | `Shown` | that it is so of every printed map, and that complete ones of one host are one map |
 //! | `Marks` | that a complete map's marks are those of the fabric |
 //! | `Routes` | that printed routes are those of a right map, lead there, and that ranks rise along them |
@@ -39,15 +39,15 @@ pub fn shown_maps()
     ensures one { CompleteMapsAreOne }
 {}
 
-/// A complete map marks a vertex as outside exactly where a cable between two switches of the fabric cuts the vertex that
-/// it stands for off from all hosts.
+/// A complete map marks a vertex as outside exactly where a cable between two switches of the fabric cuts the vertex
+/// that it stands for off from all hosts.
 pub fn marks_of_maps()
     ensures outside { OutsideIsCutOff }
     ensures printed { MarksAreRight }
 {}
 
-/// The routes that a run prints are those of a right map, one for each two hosts; they lead there in the fabric, and the
-/// ranks that are printed with them rise along each.
+/// The routes that a run prints are those of a right map, one for each two hosts; they lead there in the fabric, and
+/// the ranks that are printed with them rise along each.
 pub fn printed_routes()
     ensures { PrintedRoutesAreRight }
 {}

@@ -111,8 +111,8 @@ fn fault_unless(leads: bool, r: &Route, along: Option<CheckFault>) -> Option<Che
     }
 }
 
-/// Whether a route leads to its host: its turns, walked over the map from the host that sends, end at the one port of the
-/// host that is to receive. A route of a host that the map lacks leads nowhere.
+/// Whether a route leads to its host: its turns, walked over the map from the host that sends, end at the one port of
+/// the host that is to receive. A route of a host that the map lacks leads nowhere.
 pub fn leads(m: &FabricMap, r: &Route) -> bool
     ensures { result ≡ leads m.now r.now }
 {

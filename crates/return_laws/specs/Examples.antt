@@ -9,8 +9,8 @@ use Rattle.world_defs.specs.Step.{step}
 use Rattle.message_laws.specs.Examples.{answered_acts, answered_world, ten}
 use Rattle.return_laws.specs.Noted.{noted_in}
 
--- host 0 sent a byte with the token 0, by the lane of host 1 and priority 0, and it is acknowledged; a poll there answers
--- that token
+-- host 0 sent a byte with the token 0, by the lane of host 1 and priority 0, and it is acknowledged; a poll there
+-- answers that token
 abbrev pub TokenIsNoted : Type 0
 TokenIsNoted =
     (noted_in 0 0 0 (new_world two_hosts) answered_acts None ≡ Some (record { lane = 2; place = 0; message = ten }))

@@ -16,7 +16,7 @@ use Rattle.world_defs.specs.Step.{wanted, step}
 use Rattle.world_defs.specs.Traffic.{sender_on, sent_on}
 use Rattle.act_defs.specs.Acts.{Act, Happens, acted, IsReached}
 
--- A message that was sent with a token: the lane of its connection, its place among what was sent there, and what it is.
+-- A message that was sent with a token: the lane of its connection, its place among what was sent there, and itself.
 pub record Note : Type 0 where
   pub lane : ℕ
   pub place : ℕ

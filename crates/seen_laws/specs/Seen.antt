@@ -32,9 +32,9 @@ abbrev pub AcceptedIsSent : Type 0
 AcceptedIsSent = (n : Network) (w : WorldState) (is : IsReached n w) (c : ConnectionKey)
     → accepted_in c (new_world n) is.acts ≡ sent_on w c
 
--- So, from one host and of one priority, the messages that polls handed to the client of a port are, in order, the first
--- of those that sends to this port were accepted with: none twice, none left out before another, each with its sending
--- port and its bytes. Both sides are read off acts and their effects alone.
+-- So, from one host and of one priority, the messages that polls handed to the client of a port are, in order, the
+-- first of those that sends to this port were accepted with: none twice, none left out before another, each with its
+-- sending port and its bytes. Both sides are read off acts and their effects alone.
 abbrev pub PolledIsFrontOfAccepted : Type 0
 PolledIsFrontOfAccepted =
     (n : Network) (w : WorldState) (is : IsReached n w) (c : ConnectionKey) (port : ℕ) → c.prio < prio_limit
