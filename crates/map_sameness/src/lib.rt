@@ -15,7 +15,5 @@
 
 mod comparing;
 mod pairing;
-#[cfg(test)]
-mod tests;
 
 pub use comparing::is_same_as_part;

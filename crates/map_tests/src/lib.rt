@@ -7,6 +7,7 @@
 //! | `ring` | the certificate over the map of the ring of four |
 //! | `numbering` | the numbering of a map |
 //! | `certificates` | what the check of a certificate answers |
+//! | `sameness` | a map, compared with the mapper's part of a fabric |
 //! | `circuits` | a walk over circuit links, and the paths of a core |
 //! | `texts` | a fabric and a map, read and printed; the bridges of a map |
 //! | `fabrics` | the fabrics that these speak of |
@@ -26,5 +27,7 @@ mod mapping;
 mod numbering;
 #[cfg(test)]
 mod ring;
+#[cfg(test)]
+mod sameness;
 #[cfg(test)]
 mod texts;

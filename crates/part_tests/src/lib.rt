@@ -1,5 +1,5 @@
-//! Tests of calls of connections, ports, installations, streams and hosts that restart, which no worked text reaches,
-//! and worked examples of the bytes of packets. Nothing stands on it.
+//! Tests of calls of connections, ports, installations, streams, ledgers and hosts that restart, which no worked text
+//! reaches, and worked examples of the bytes of packets. Nothing stands on it.
 //!
 //! | module | has |
 //! |---|---|
@@ -7,6 +7,7 @@
 //! | `connections` | a connection at its last number, and a message in two fragments |
 //! | `installing` | what an installation awaits first |
 //! | `ports` | a port that is filling, and a buffer that parts from its message |
+//! | `ledgers` | what the lines of a report tell of messages and tokens |
 //! | `numbers` | offsets of ports, texts of faults |
 //! | `packets` | a byte's share in a CRC, a packet that is stripped, and bodies written as they were read |
 //! | `restarts` | two hosts that restart |
@@ -19,6 +20,8 @@ mod connections;
 mod examples;
 #[cfg(test)]
 mod installing;
+#[cfg(test)]
+mod ledgers;
 #[cfg(test)]
 mod numbers;
 #[cfg(test)]

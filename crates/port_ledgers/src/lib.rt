@@ -19,8 +19,6 @@ mod lane;
 mod messages;
 mod port;
 mod queue;
-#[cfg(test)]
-mod tests;
 mod tokens;
 
 pub use examples::one_message_of_two;

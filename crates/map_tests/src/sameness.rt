@@ -1,7 +1,7 @@
-//! The comparison finds memory.
+//! A map, compared with the mapper's part of a fabric.
 
-use crate::is_same_as_part;
 use fabric_map::FabricMap;
+use map_sameness::is_same_as_part;
 use port_graph::Fabric;
 use std::test::Fail;
 
