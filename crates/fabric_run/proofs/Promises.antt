@@ -8,6 +8,7 @@ use Rattle.link_defs.specs.Links.{is_idle}
 use Rattle.world_defs.specs.World.{WorldState, fabric_of, last_count}
 use Rattle.world_defs.specs.Settle.{unacknowledged_in, settle}
 use Rattle.world_laws.proofs.Rounds.{settle-settles}
+use Rattle.log_defs.proofs.Worlds.{settle-log}
 use Rattle.settle_laws.specs.Premises.{CanSettle}
 use Rattle.fab_text.specs.Fault.{FirstFault, and_then}
 use Rattle.journal_defs.specs.declared.entry.Entry.{Entry}
@@ -162,9 +163,10 @@ does-doubt n host depth tries drowned asks packets rest f of_n session same some
 settle-got-all : (s next : SessionState) (rounds resets unacked : ℕ) → CanSettle s.world → IsSettledLine s next rounds resets unacked → next.world.injected < last_count → HasEnough s.world → (unacked ≡ 0) × IsAllGot next.world
 settle-got-all s next rounds resets unacked can line left enough =
     let w : WorldState = s.world in
-    let low : (settle w).world.injected < last_count = subst (λ (v : WorldState). v.injected < last_count) line.after left in
+    let after : next.world ≡ (settle w).world = line.after ∙ sym (ap (λ r. r.world) (settle-log w)) in
+    let low : (settle w).world.injected < last_count = subst (λ (v : WorldState). v.injected < last_count) after left in
     let all = settle-delivers w (settle w) can (settle-settles w (reached-windowed (fabric_of w) w can.reached).senders) low enough in
-    (line.left ∙ ap unacknowledged_in line.after ∙ all.0, subst IsAllGot (sym line.after) all.1)
+    (line.left ∙ ap unacknowledged_in after ∙ all.0, subst IsAllGot (sym after) all.1)
 
 -- every accepted text has its report
 pub text-has_run : (text : List ℕ) (a : AcceptedText) → reading text ≡ Ok a → HasRun a.network a.commands

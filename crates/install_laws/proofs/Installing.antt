@@ -24,6 +24,7 @@ use Rattle.install_laws.proofs.Epochs.{reached-low}
 use Rattle.install_laws.proofs.Between.{Between, kept-ask, kept-both, between-start}
 use Rattle.install_laws.proofs.Parts.{are-ways}
 use Rattle.install_laws.proofs.Walking.{IsInstallable, AreInstalled, hosts-so}
+use Rattle.log_defs.proofs.Asks.{install-log}
 
 -- acts lead to worlds of the fabric
 acts-world : (w : WorldState) (acts : List Act) → IsWorld w → IsWorld (acted_all w acts)
@@ -85,7 +86,7 @@ pub install-again : CanInstallAgain
 install-again a hosts tries w can =
     let v : WorldState = (installed a hosts tries w).1 in
     let k = installing-keeps a hosts tries w can in
-    let on = reached-further (fabric_of w) w v can.reached (installed-of Leads along-leads a hosts tries w) in
+    let on = reached-further (fabric_of w) w v can.reached (subst (λ r. Leads w r.1) (sym (install-log a hosts tries w)) (installed-of Leads along-leads a hosts tries w)) in
     record {
       reached = subst (λ n. IsReached n v) (sym k.fabric) on;
       idle = installing-idle a hosts tries w can;

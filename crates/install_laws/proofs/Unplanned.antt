@@ -1,5 +1,5 @@
 -- Where no fault is planned for an injection of an installation, none harms.
-use Rattle.std.proofs.Common.{◌≡◌, ◌<◌, ◌≤◌, ◌+◌, ℕ, Bool, true, false, nat_eq, List, [], ◌∷◌, Some, None, cond, refl, sym, ap, ◌∙◌, arith}
+use Rattle.std.proofs.Common.{◌≡◌, ◌<◌, ◌≤◌, ◌+◌, ℕ, Bool, true, false, nat_eq, List, [], ◌∷◌, Some, None, cond, refl, sym, ap, ◌∙◌, subst, arith}
 use Rattle.std.specs.Map.{lookup, remove_entry}
 use Rattle.world_defs.specs.declared.fault.Fault.{Fault}
 use Rattle.world_defs.specs.Node.{Outgoing}
@@ -12,6 +12,7 @@ use Rattle.world_defs.proofs.Strikes.{Strike, strike_view}
 use Rattle.install_laws.proofs.Worlds.{installed-of}
 use Rattle.install_laws.specs.Counts.{UnplannedCountsAll}
 use Rattle.install_laws.proofs.Counting.{unharmed-all}
+use Rattle.log_defs.proofs.Asks.{install-log}
 
 -- no fault is planned for an injection between two worlds
 abbrev IsUnplanned : WorldState → WorldState → Type 0
@@ -81,4 +82,4 @@ along-so : Along Unharmed IsByteEvent
 along-so = record { same = λ w. unharmed-same w w refl refl refl; both = unharmed-both; event = λ w e q. step-leaves Unharmed follows-so calls-so w e }
 
 pub unplanned-all : UnplannedCountsAll
-unplanned-all a hosts tries w can some left none = unharmed-all a hosts tries w can some left ((installed-of Unharmed along-so a hosts tries w).harmed none)
+unplanned-all a hosts tries w can some left none = unharmed-all a hosts tries w can some left ((subst (λ r. Unharmed w r.1) (sym (install-log a hosts tries w)) (installed-of Unharmed along-so a hosts tries w)).harmed none)

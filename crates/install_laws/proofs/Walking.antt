@@ -8,9 +8,12 @@ use Rattle.world_defs.specs.Table.{Adoption, part_count, entries_from}
 use Rattle.world_defs.specs.World.{WorldState, last_count, node_at}
 use Rattle.world_defs.specs.Asking.{Tried, also_harmed}
 use Rattle.world_defs.specs.Install.{part_try, part_tries, parts_installed, parts_of, host_counted, hosts_installed}
+use Rattle.log_defs.specs.Logs as log
+use Rattle.log_defs.specs.Laws.{came_to}
+use Rattle.log_defs.proofs.Asks.{tried_to, part_try-log, part_tries-log, parts-log}
 use Rattle.install_laws.specs.Premises.{IsJoined}
 use Rattle.install_laws.specs.Kept.{IsInstallKept}
-use Rattle.install_laws.specs.Cause.{EachTryWasHarmed, HasHarmedPart, host_installed, EachMissedWasHarmed}
+use Rattle.install_laws.specs.Cause.{EachTryWasHarmed, part_tries as tried_part, HasHarmedPart, host_installed, EachMissedWasHarmed}
 use Rattle.install_laws.specs.Tables.{has_table, EachCountedHasTable}
 use Rattle.install_laws.proofs.Between.{Between, kept-same, kept-both}
 use Rattle.install_laws.proofs.Parts.{IsWay, IsSent, sent-part}
@@ -38,7 +41,7 @@ harmed-so : (w v : WorldState) → IsMissed w v → HasLeft v → w.harmed < v.h
 harmed-so w v (inl more) left = more
 harmed-so w v (inr most) left = absurd (omega (arith, most, left))
 
-further-so : (n : Network) (a : Adoption) (dst part tries : ℕ) (w : WorldState) (t u : Tried Bool) → t ≡ part_try a.mapper dst part w → IsPartTry n a dst part w t → ArePartTries n a dst part tries t.world u → ArePartTries n a dst part (suc tries) w (if t.found then t else also_harmed t.harmed u)
+further-so : (n : Network) (a : Adoption) (dst part tries : ℕ) (w : WorldState) (t u : Tried Bool) → t ≡ tried_to (log.part_try a.mapper dst part w) → IsPartTry n a dst part w t → ArePartTries n a dst part tries t.world u → ArePartTries n a dst part (suc tries) w (if t.found then t else also_harmed t.harmed u)
 further-so n a dst part tries w t u is one others = by t.found refl
   where
     by : (b : Bool) → t.found ≡ b → ArePartTries n a dst part (suc tries) w (if b then t else also_harmed t.harmed u)
@@ -76,7 +79,7 @@ tries-so n a dst part zero w f other x b = record {
 tries-so n a dst part (suc tries) w f other x b =
     let t : Tried Bool = part_try a.mapper dst part w in
     let one = part-tried n a dst part w f other x b in
-    further-so n a dst part tries w t (part_tries a.mapper dst tries part t.world) refl one (tries-so n a dst part tries t.world f other x one.between)
+    further-so n a dst part tries w t (part_tries a.mapper dst tries part t.world) (part_try-log a.mapper dst part w) one (tries-so n a dst part tries t.world f other x one.between)
 
 -- The parts of a host.
 record AreParts (n : Network) (a : Adoption) (dst tries : ℕ) (ps : List ℕ) (w : WorldState) (r : Bool × WorldState) : Type 0 where
@@ -91,7 +94,7 @@ record AreParts (n : Network) (a : Adoption) (dst tries : ℕ) (ps : List ℕ) (
 abbrev IsToSend : Network → Adoption → ℕ → ℕ → Type 0
 IsToSend n a dst part = (dst ≢ a.mapper) × IsSent n a dst part
 
-on-so : (n : Network) (a : Adoption) (dst tries p : ℕ) (ps : List ℕ) (w : WorldState) (t : Tried Bool) (r : Bool × WorldState) → t ≡ part_tries a.mapper dst tries p w → ArePartTries n a dst p tries w t → AreParts n a dst tries ps t.world r → AreParts n a dst tries (p ∷ ps) w (if t.found then r else (false, t.world))
+on-so : (n : Network) (a : Adoption) (dst tries p : ℕ) (ps : List ℕ) (w : WorldState) (t : Tried Bool) (r : Bool × WorldState) → t ≡ tried_to (tried_part a.mapper dst tries p w) → ArePartTries n a dst p tries w t → AreParts n a dst tries ps t.world r → AreParts n a dst tries (p ∷ ps) w (if t.found then r else (false, t.world))
 on-so n a dst tries p ps w t r is one others = by t.found refl
   where
     by : (b : Bool) → t.found ≡ b → AreParts n a dst tries (p ∷ ps) w (if b then r else (false, t.world))
@@ -110,7 +113,7 @@ parts-so n a dst tries [] w f all b = record { between = b; kept = kept-same w; 
 parts-so n a dst tries (p ∷ ps) w f all b =
     let t : Tried Bool = part_tries a.mapper dst tries p w in
     let one = tries-so n a dst p tries w f all.0.0 all.0.1 b in
-    on-so n a dst tries p ps w t (parts_installed a.mapper dst tries ps t.world) refl one (parts-so n a dst tries ps t.world f all.1 one.between)
+    on-so n a dst tries p ps w t (parts_installed a.mapper dst tries ps t.world) (part_tries-log a.mapper dst tries p w) one (parts-so n a dst tries ps t.world f all.1 one.between)
 
 -- What is known of a set.
 pub record IsInstallable (n : Network) (a : Adoption) : Type 0 where
@@ -154,7 +157,7 @@ parts-active n a tries h w r joined one adopter all = by (nat_eq h a.mapper) ref
         let other : h ≢ a.mapper = λ same. true≢false (sym ((Decides-eqb h a.mapper).1 same) ∙ e) in
         whole-active (parts_for a h) (node_at r.1 h).table (parts-some a h a.mapper (joined other).back) each
 
-counted-so : (n : Network) (a : Adoption) (tries h : ℕ) (hs : List ℕ) (w : WorldState) (r : Bool × WorldState) (rest : WorldState → ℕ × WorldState) → r ≡ host_installed a tries h w → (h ≢ a.mapper → IsJoined a h) → AreParts n a h tries (parts_of a h) w r → AreInstalled n a tries hs r.1 (rest r.1) → AreInstalled n a tries (h ∷ hs) w (host_counted r rest)
+counted-so : (n : Network) (a : Adoption) (tries h : ℕ) (hs : List ℕ) (w : WorldState) (r : Bool × WorldState) (rest : WorldState → ℕ × WorldState) → r ≡ came_to (host_installed a tries h w) → (h ≢ a.mapper → IsJoined a h) → AreParts n a h tries (parts_of a h) w r → AreInstalled n a tries hs r.1 (rest r.1) → AreInstalled n a tries (h ∷ hs) w (host_counted r rest)
 counted-so n a tries h hs w (true, v) rest is joined one others = record {
   between = others.between;
   kept = kept-both w v (rest v).1 one.kept others.kept;
@@ -195,6 +198,6 @@ counted-so n a tries h hs w (false, v) rest is joined one others =
 pub hosts-so : (n : Network) (a : Adoption) (tries : ℕ) (hs : List ℕ) (w : WorldState) → IsInstallable n a → AllByRecursion (λ h. h ≢ a.mapper → IsJoined a h) hs → Between n a w → AreInstalled n a tries hs w (hosts_installed a tries hs w)
 hosts-so n a tries [] w s all b = record { between = b; kept = kept-same w; missed = λ left. tt; cost = λ left. omega arith; grows = grows-same a w; tables = λ adopter. tt }
 hosts-so n a tries (h ∷ hs) w s all b =
-    let r : Bool × WorldState = host_installed a tries h w in
+    let r : Bool × WorldState = parts_installed a.mapper h tries (parts_of a h) w in
     let one = parts-so n a h tries (parts_of a h) w s.fabric (all-to_send n a h s all.0) b in
-    counted-so n a tries h hs w r (hosts_installed a tries hs) refl all.0 one (hosts-so n a tries hs r.1 s all.1 one.between)
+    counted-so n a tries h hs w r (hosts_installed a tries hs) (parts-log a.mapper h tries (parts_of a h) w) all.0 one (hosts-so n a tries hs r.1 s all.1 one.between)

@@ -2,37 +2,43 @@
 use Rattle.std.specs.Prelude.{◌≡◌, ◌⊎◌, ℕ, zero, suc, ◌<◌, Bool, true, false, List, [], ◌∷◌}
 use Rattle.world_defs.specs.Table.{Adoption}
 use Rattle.world_defs.specs.World.{WorldState, last_count}
-use Rattle.world_defs.specs.Install.{part_try, part_tries, parts_installed, parts_of, installed}
+use Rattle.world_defs.specs.Install.{parts_of, installed}
 use Rattle.world_defs.specs.Asking.{all_given_up}
+use Rattle.log_defs.specs.Log.{Log}
+use Rattle.log_defs.specs.Logs.{Tried, part_try, tries, parts}
 use Rattle.install_laws.specs.Premises.{CanInstall}
 
 -- A part is sent in vain so many times, and each time a planned fault loses, holds or flips a packet of that try: the
 -- part, or its acknowledgement.
 abbrev pub EachTryWasHarmed : ℕ → ℕ → ℕ → ℕ → WorldState → Type 0
 EachTryWasHarmed mapper dst part zero w = Unit {0}
-EachTryWasHarmed mapper dst part (suc tries) w =
-    ((part_try mapper dst part w).found ≡ false)
+EachTryWasHarmed mapper dst part (suc k) w =
+    ((part_try mapper dst part w).value.found ≡ false)
     × (w.harmed < (part_try mapper dst part w).world.harmed)
-    × EachTryWasHarmed mapper dst part tries (part_try mapper dst part w).world
+    × EachTryWasHarmed mapper dst part k (part_try mapper dst part w).world
+
+-- a part is sent up to so many times
+abbrev pub part_tries : ℕ → ℕ → ℕ → ℕ → WorldState → Log (Tried Bool)
+part_tries mapper dst k part = tries (λ b. b) false (part_try mapper dst part) k
 
 -- of a host's parts, sent one after another, one met this in each of its tries, and those before it were acknowledged
 abbrev pub HasHarmedPart : ℕ → ℕ → ℕ → List ℕ → WorldState → Type 0
-HasHarmedPart mapper dst tries [] w = ⊥
-HasHarmedPart mapper dst tries (p ∷ ps) w =
-    EachTryWasHarmed mapper dst p tries w
-    ⊎ (((part_tries mapper dst tries p w).found ≡ true)
-    × HasHarmedPart mapper dst tries ps (part_tries mapper dst tries p w).world)
+HasHarmedPart mapper dst k [] w = ⊥
+HasHarmedPart mapper dst k (p ∷ ps) w =
+    EachTryWasHarmed mapper dst p k w
+    ⊎ (((part_tries mapper dst k p w).value.found ≡ true)
+    × HasHarmedPart mapper dst k ps (part_tries mapper dst k p w).world)
 
--- what becomes of one host: whether all its parts are acknowledged, and the world then
-abbrev pub host_installed : Adoption → ℕ → ℕ → WorldState → Bool × WorldState
-host_installed a tries h w = parts_installed a.mapper h tries (parts_of a h) w
+-- what becomes of one host: whether all its parts are acknowledged
+abbrev pub host_installed : Adoption → ℕ → ℕ → WorldState → Log Bool
+host_installed a k h w = parts a.mapper h k (parts_of a h) w
 
 -- of these hosts, one after another, each that isn't counted has such a part
 abbrev pub EachMissedWasHarmed : Adoption → ℕ → List ℕ → WorldState → Type 0
 EachMissedWasHarmed a tries [] w = Unit {0}
 EachMissedWasHarmed a tries (h ∷ hs) w =
-    ((host_installed a tries h w).0 ≡ false → HasHarmedPart a.mapper h tries (parts_of a h) w)
-    × EachMissedWasHarmed a tries hs (host_installed a tries h w).1
+    ((host_installed a tries h w).value ≡ false → HasHarmedPart a.mapper h tries (parts_of a h) w)
+    × EachMissedWasHarmed a tries hs (host_installed a tries h w).world
 
 -- Where injections are left after an installation, each host that it doesn't count has a part each of whose tries
 -- met a planned loss, hold or flip, on the part or on its acknowledgement.

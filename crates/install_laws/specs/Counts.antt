@@ -11,8 +11,8 @@ use Rattle.install_laws.specs.Cause.{host_installed, EachMissedWasHarmed}
 -- of these hosts, one after another, each has all its parts acknowledged
 abbrev pub EachIsAcknowledged : Adoption → ℕ → List ℕ → WorldState → Type 0
 EachIsAcknowledged a tries [] w = Unit {0}
-EachIsAcknowledged a tries (h ∷ hs) w = ((host_installed a tries h w).0 ≡ true)
-    × EachIsAcknowledged a tries hs (host_installed a tries h w).1
+EachIsAcknowledged a tries (h ∷ hs) w = ((host_installed a tries h w).value ≡ true)
+    × EachIsAcknowledged a tries hs (host_installed a tries h w).world
 
 -- no more hosts are counted than there are
 abbrev pub CountsAtMostAll : Type 0

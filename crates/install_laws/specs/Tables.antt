@@ -16,8 +16,8 @@ has_table w h = is_some (node_at w h).table.active
 abbrev pub EachCountedHasTable : Adoption → ℕ → List ℕ → WorldState → WorldState → Type 0
 EachCountedHasTable a tries [] w v = Unit {0}
 EachCountedHasTable a tries (h ∷ hs) w v =
-    ((host_installed a tries h w).0 ≡ true → has_table v h ≡ true)
-    × EachCountedHasTable a tries hs (host_installed a tries h w).1 v
+    ((host_installed a tries h w).value ≡ true → has_table v h ≡ true)
+    × EachCountedHasTable a tries hs (host_installed a tries h w).world v
 
 -- Each host that an installation counts has an active table after it, where the adopter had one before.
 abbrev pub CountedHostsHaveTables : Type 0

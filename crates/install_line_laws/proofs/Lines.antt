@@ -18,6 +18,10 @@ use Rattle.world_defs.specs.Node.{NodeState, new_node}
 use Rattle.world_defs.specs.World.{WorldState, fabric_of, host_count, last_count, node_at, addresses, adopted_by}
 use Rattle.world_defs.specs.Step.{step}
 use Rattle.world_defs.specs.Install.{installed}
+use Rattle.log_defs.specs.Logs as log
+use Rattle.log_defs.specs.Log.{Log}
+use Rattle.log_defs.specs.Laws.{came_to}
+use Rattle.log_defs.proofs.Asks.{install-log}
 use Rattle.run_defs.specs.declared.command.Command.{Command}
 use Rattle.run_defs.specs.declared.command.Command.TheVariants.{Walk, Map, Circuit, Routes, Install, Begin as BeginCommand, Close as CloseCommand, Poll as PollCommand, Tokens, Provide as ProvideCommand, Send as SendCommand, Plan, Step, Settle, Finish}
 use Rattle.run_defs.specs.declared.line.Line.TheVariants.{MapBusy, Installed, InstallRefused}
@@ -68,8 +72,8 @@ step-last : (s : SessionState) (o : Option Event) → LastIn s (Some (step_or_id
 step-last s None = (refl, refl)
 step-last s (Some e) = stepped-last s (step s.world e)
 
-done-last : (s : SessionState) (hosts : List ℕ) (r : ℕ × WorldState) → LastIn s (Some (install_done s hosts r))
-done-last s hosts (acked, w) = (refl, refl)
+done-last : (s : SessionState) (hosts : List ℕ) (r : Log ℕ) → LastIn s (Some (install_done s hosts r))
+done-last s hosts r = (refl, refl)
 
 install-last : (s : SessionState) (tries : ℕ) (o : Option LastRoutes) → LastIn s (Some (install s tries o))
 install-last s tries None = (refl, refl)
@@ -78,7 +82,7 @@ install-last s tries (Some l) = by (not (is_idle s.world.links)) (is_other l.rou
     by : (busy other : Bool) → LastIn s (Some (if busy then says_only s (InstallRefused Busy ∷ []) else if other then says_only s (InstallRefused OtherInstalled ∷ []) else install_now s l tries))
     by true other = (refl, refl)
     by false true = (refl, refl)
-    by false false = done-last s l.hosts (installed (adoption_of l) l.hosts tries (adopted_by s.world l.mapper l.routes))
+    by false false = done-last s l.hosts (log.install (adoption_of l) l.hosts tries (adopted_by s.world l.mapper l.routes))
 
 refused-last : (s : SessionState) (o : Option LastMap) → LastIn s (routes_refused s o)
 refused-last s None = (refl, refl)
@@ -240,10 +244,12 @@ record Prints (s next : SessionState) (tries acked total : ℕ) : Type 0 where
 abbrev PrintsIn : SessionState → ℕ → ℕ → ℕ → List Piece → Option Outcome → SessionState → Type 0
 PrintsIn s tries acked total rest o next = o ≡ Some (record { output = OneLine (Installed acked total) ∷ rest; after = next }) → Prints s next tries acked total
 
-done-prints : (s next : SessionState) (tries acked total : ℕ) (rest : List Piece) (l : LastRoutes) (r : ℕ × WorldState) → s.last_routes ≡ Some l → is_idle s.world.links ≡ true → is_other l.routes s.world.adopted ≡ false → installed (adoption_of l) l.hosts tries (adopted_by s.world l.mapper l.routes) ≡ r → PrintsIn s tries acked total rest (Some (install_done s l.hosts r)) next
-done-prints s next tries acked total rest l (k, w) are idle same is e =
+done-prints : (s next : SessionState) (tries acked total : ℕ) (rest : List Piece) (l : LastRoutes) (r : Log ℕ) → s.last_routes ≡ Some l → is_idle s.world.links ≡ true → is_other l.routes s.world.adopted ≡ false → installed (adoption_of l) l.hosts tries (adopted_by s.world l.mapper l.routes) ≡ came_to r → PrintsIn s tries acked total rest (Some (install_done s l.hosts r)) next
+done-prints s next tries acked total rest l r are idle same is e =
+    let k : ℕ = r.value in
+    let w : WorldState = r.world in
     let said : Outcome = record { output = OneLine (Installed acked total) ∷ rest; after = next } in
-    let o : install_done s l.hosts (k, w) ≡ said = same_Some (install_done s l.hosts (k, w)) said e in
+    let o : install_done s l.hosts r ≡ said = same_Some (install_done s l.hosts r) said e in
     let printed : OneLine (Installed k (length l.hosts)) ∷ lines (map (table_line w) l.hosts) ≡ OneLine (Installed acked total) ∷ rest = ap (λ (x : Outcome). x.output) o in
     let one : k ≡ acked = cc in
     let all : length l.hosts ≡ total = cc in
@@ -268,7 +274,9 @@ install-prints s next tries acked total rest (Some l) are e = by (is_idle s.worl
     by : (idle other : Bool) → is_idle s.world.links ≡ idle → is_other l.routes s.world.adopted ≡ other → PrintsIn s tries acked total rest (Some (if not idle then says_only s (InstallRefused Busy ∷ []) else if other then says_only s (InstallRefused OtherInstalled ∷ []) else install_now s l tries)) next
     by false other p q d = refusal-prints s next tries acked total rest Busy d
     by true true p q d = refusal-prints s next tries acked total rest OtherInstalled d
-    by true false p q d = done-prints s next tries acked total rest l (installed (adoption_of l) l.hosts tries (adopted_by s.world l.mapper l.routes)) are p q refl d
+    by true false p q d =
+        let w : WorldState = adopted_by s.world l.mapper l.routes in
+        done-prints s next tries acked total rest l (log.install (adoption_of l) l.hosts tries w) are p q (install-log (adoption_of l) l.hosts tries w) d
 
 -- a list that a test leaves as long as it is passes it
 filter-most : {X : Type 0} (p : X → Bool) (xs : List X) → length (filter p xs) ≤ length xs
@@ -312,11 +320,13 @@ line-so n commands out s next tries acked total f all r p =
     let behind : (installed (adoption_of p.last) p.last.hosts tries w).1 ≡ next.world = ap (λ x. x.1) p.counted in
     let has : (installed (adoption_of p.last) p.last.hosts tries w).0 ≤ length (filter (has_table (installed (adoption_of p.last) p.last.hosts tries w).1) p.last.hosts) = counts-tables (adoption_of p.last) p.last.hosts tries w can adopter in
     let now : (installed (adoption_of p.last) p.last.hosts tries w).0 ≤ length (filter (has_table next.world) p.last.hosts) = subst (λ v. (installed (adoption_of p.last) p.last.hosts tries w).0 ≤ length (filter (has_table v) p.last.hosts)) behind has in
+    let counted : came_to (log.install (adoption_of p.last) p.last.hosts tries w) ≡ (acked, next.world) = sym (install-log (adoption_of p.last) p.last.hosts tries w) ∙ p.counted in
     let again = subst (CanInstall (adoption_of p.last) p.last.hosts) behind (install-again (adoption_of p.last) p.last.hosts tries w can) in
     record {
       last = p.last;
       are = p.are;
-      counted = p.counted;
+      counted = sym (ap (λ x. x.0) counted);
+      after = sym (ap (λ x. x.1) counted);
       all = p.all;
       at_most = omega (arith, most, count, total_is);
       tables = omega (arith, now, count);

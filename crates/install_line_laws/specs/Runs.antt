@@ -10,13 +10,12 @@ use Rattle.map_defs.specs.Routing.{AreRoutesOf}
 use Rattle.map_defs.specs.Sameness.{IsMapOfPart}
 use Rattle.world_defs.specs.World.{last_count, node_at, adopted_by}
 use Rattle.world_defs.specs.Asking.{all_given_up}
-use Rattle.world_defs.specs.Install.{installed}
 use Rattle.run_defs.specs.declared.command.Command.{Command}
 use Rattle.run_defs.specs.declared.command.Command.TheVariants.{Install}
 use Rattle.run_defs.specs.declared.line.Line.TheVariants.{Installed}
 use Rattle.run_defs.specs.Output.{Piece, OneLine}
 use Rattle.run_defs.specs.Session.{SessionState, LastRoutes}
-use Rattle.run_defs.specs.Outcome.{adoption_of}
+use Rattle.run_defs.specs.Outcome.{adoption_of, installation}
 use Rattle.world_defs.specs.Table.{ActiveTable, is_other}
 use Rattle.table_laws.specs.Set.{IsActiveOfSet}
 use Rattle.run_defs.specs.Run.{Does, IsRun}
@@ -64,8 +63,8 @@ RunCanInstall =
 pub record IsInstalledLine (s next : SessionState) (tries acked total : ℕ) : Type 0 where
   pub last : LastRoutes
   pub are : s.last_routes ≡ Some last
-  pub counted : installed (adoption_of last) last.hosts tries (adopted_by s.world last.mapper last.routes)
-      ≡ (acked, next.world)
+  pub counted : acked ≡ (installation s last tries).value
+  pub after : next.world ≡ (installation s last tries).world
   pub all : total ≡ length last.hosts
   pub at_most : acked ≤ total
   pub tables : acked ≤ length (filter (has_table next.world) last.hosts)

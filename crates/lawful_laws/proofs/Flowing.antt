@@ -1,5 +1,5 @@
 -- Lawful traffic stays lawful while packets go on, and runs out.
-use Rattle.std.proofs.Common.{◌≡◌, ◌<◌, ℕ, zero, suc, false, List, [], ◌∷◌, ◌++◌, get_or, set, ⊎_elim, Option, Some, None, IfSome, refl, sym, ap, ◌∙◌, subst, true≢false}
+use Rattle.std.proofs.Common.{◌≡◌, ◌<◌, ℕ, zero, suc, Bool, true, false, List, [], ◌∷◌, ◌++◌, get_or, set, ⊎_elim, Option, Some, None, IfSome, refl, sym, ap, ◌∙◌, subst, true≢false}
 use Rattle.net_defs.specs.declared.route.Route.{Route}
 use Rattle.net_defs.specs.Network.{Network, IsFabric}
 use Rattle.packet_defs.specs.Packet.{stripped}
@@ -10,10 +10,12 @@ use Rattle.link_defs.specs.declared.moved.Course.{Course}
 use Rattle.link_defs.specs.declared.moved.Course.TheVariants.{Arrives, Enters, Drops}
 use Rattle.link_defs.specs.Links.{Held, LinkState, packet_in, with_packet, emptied}
 use Rattle.link_defs.specs.Advance.{course, entered, gone_on, advance_of, advance}
+use Rattle.link_defs.specs.Fault.{reset}
 use Rattle.link_defs.specs.Step.{Advance as AdvanceLinks}
 use Rattle.link_defs.proofs.Shapes.{stepped-net}
 use Rattle.world_defs.specs.declared.event.Event.{Event}
-use Rattle.world_defs.specs.declared.event.Event.TheVariants.{Advance}
+use Rattle.world_defs.specs.declared.event.Event.TheVariants.{Advance, Reset}
+use Rattle.world_defs.specs.declared.effect.Effect.TheVariants.{Reset as WasReset}
 use Rattle.world_defs.specs.declared.arrival.Arrival.{Arrival}
 use Rattle.world_defs.specs.declared.arrival.Arrival.TheVariants.{Heard as Hears, Dropped as HostDropped, NotMine as ArrivalNotMine}
 use Rattle.world_defs.specs.EightBits.{IsByteEvent}
@@ -21,7 +23,7 @@ use Rattle.world_defs.specs.Table.{Adoption}
 use Rattle.world_defs.specs.Node.{NodeState}
 use Rattle.world_defs.specs.Hearing.{hear}
 use Rattle.world_defs.specs.World.{WorldState, fabric_of, host_count, new_world, node_at, with_links}
-use Rattle.world_defs.specs.Step.{arrived, advanced_by, advanced, step}
+use Rattle.world_defs.specs.Step.{of_links, was_reset, arrived, advanced_by, advanced, step}
 use Rattle.world_defs.specs.Drain.{drain}
 use Rattle.world_defs.specs.Traffic.{routes_in, adopted_routes, IsLawful, IsLawfulTraffic}
 use Rattle.world_laws.specs.Reached.{IsOfDrain}
@@ -104,18 +106,35 @@ advance-fabric w c = ap (λ l. l.net) (advance-links w c) ∙ stepped-net w.link
 reached-fabric : (n : Network) (w : WorldState) → IsReached n w → IsFabric (fabric_of w)
 reached-fabric n w r = let of = reached-of n w r in subst IsFabric (sym of.net) r.fabric
 
+plain-now : (w : WorldState) → IsLawfulTraffic w → IsInEach (IsPlain (fabric_of w) (adopted_routes w)) w.links
+plain-now w t j = if-each (packet_in w.links j) (IsPlain (fabric_of w) (adopted_routes w) j) (λ held e. lawful-plain w j held (t.packets j held e))
+
+-- what leaves fabric and set alone leaves lawful traffic, where each packet is led by the set
+plain-then : (w v : WorldState) → fabric_of v ≡ fabric_of w → v.adopted ≡ w.adopted → IsInEach (IsPlain (fabric_of w) (adopted_routes w)) v.links → IsLawfulTraffic v
+plain-then w v fabric adopted then =
+    let same : IsInEach (IsPlain (fabric_of v) (adopted_routes v)) v.links =
+    subst (λ k. IsInEach (IsPlain k (adopted_routes v)) v.links) (sym fabric) (subst (λ o. IsInEach (IsPlain (fabric_of w) (routes_in o)) v.links) (sym adopted) then) in
+    record { packets = λ j held e. let p : IsPlain (fabric_of v) (adopted_routes v) j held = subst (λ o. IfSome o (IsPlain (fabric_of v) (adopted_routes v) j)) e (same j) in led-lawful v j held p.unmarked p.led }
+
 pub advance-lawful : AdvanceKeepsLawful
 advance-lawful n w c r t =
     let v : WorldState = (step w (Advance c)).1 in
     let m : Network = fabric_of w in
     let F : ℕ → Held → Type 0 = IsPlain m (adopted_routes w) in
     let f = reached-fabric n w r in
-    let now : IsInEach F w.links = λ j. if-each (packet_in w.links j) (F j) (λ held e. lawful-plain w j held (t.packets j held e)) in
+    let now : IsInEach F w.links = plain-now w t in
     let carried : IsCarried m F = λ d next held e is. record { unmarked = is.unmarked; led = led-next m (adopted_routes w) d held.wire next f e is.led } in
     let then : IsInEach F v.links = subst (IsInEach F) (sym (advance-links w c)) (advance_of-in_each F w.links c (packet_in w.links c) carried now (now c)) in
-    let same : IsInEach (IsPlain (fabric_of v) (adopted_routes v)) v.links =
-    subst (λ k. IsInEach (IsPlain k (adopted_routes v)) v.links) (sym (advance-fabric w c)) (subst (λ o. IsInEach (IsPlain m (routes_in o)) v.links) (sym (advance-adopted w c)) then) in
-    record { packets = λ j held e. let p : IsPlain (fabric_of v) (adopted_routes v) j held = subst (λ o. IfSome o (IsPlain (fabric_of v) (adopted_routes v) j)) e (same j) in led-lawful v j held p.unmarked p.led }
+    plain-then w v (advance-fabric w c) (advance-adopted w c) then
+
+-- a reset takes a packet away at most
+reset_by-lawful : (w : WorldState) (o : Bool × LinkState) → o.1.net ≡ fabric_of w → IsInEach (IsPlain (fabric_of w) (adopted_routes w)) o.1 → IsLawfulTraffic w → IsLawfulTraffic (of_links w WasReset o).1
+reset_by-lawful w (true, l) net is t = plain-then w (with_links w l) net refl is
+reset_by-lawful w (false, l) net is t = t
+
+pub reset-lawful : (w : WorldState) (c : ℕ) → IsLawfulTraffic w → IsLawfulTraffic (step w (Reset c)).1
+unfolding was_reset
+reset-lawful w c t = reset_by-lawful w (reset w.links c) refl (with_packet-in_each (IsPlain (fabric_of w) (adopted_routes w)) w.links c None (plain-now w t) tt) t
 
 -- numbers that rise along the adopted routes
 record HasNumbers (n : Network) (routes : List Route) : Type 0 where

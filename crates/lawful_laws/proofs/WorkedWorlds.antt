@@ -14,7 +14,7 @@ use Rattle.act_defs.specs.Acts.{AreAdoptable}
 use Rattle.table_laws.specs.Examples.{adopted_world}
 use Rattle.table_laws.proofs.Dependencies.{adopted-adoptable}
 use Rattle.table_laws.proofs.TwoHosts.{adopted-reached}
-use Rattle.lawful_laws.specs.Examples.{frame_acts, frame_world, FrameWorldIsReached, FrameIsAhead, FrameIsLawful, stuck_acts, StuckWorldIsReached, ProbesAreStuck, strange_acts, StrangeWorldIsReached, StrangeIsUnread}
+use Rattle.lawful_laws.specs.Examples.{frame_acts, frame_world, FrameWorldIsReached, FrameIsAhead, FrameIsLawful, stuck_acts, StuckWorldIsReached, ProbesAreStuck, strange_acts, StrangeWorldIsReached, StrangeIsUnread, TwoClearsBegin}
 
 setup-adoptable : AreAdoptable two_hosts setup_routes
 setup-adoptable = (adopted-adoptable two_hosts adopted_world (record { mapper = 0; epoch = 1; routes = setup_routes }) adopted-reached refl).1
@@ -53,3 +53,9 @@ strange-reached = record { fabric = two_hosts_fabric; acts = strange_acts; may =
 pub strange-unread : StrangeIsUnread
 unfolding to_send packet_for after_sending asked planned_strikes sent_out injected
 strange-unread = refl
+
+pub clears-begin : TwoClearsBegin
+clears-begin w = (
+  (λ all. (all.0 tt (λ no. no), all.1.1.1.0 tt (λ no. no))),
+  (λ p. ((λ is no. p.0), ((λ is no. absurd (no tt)), ((λ is no. absurd is), ((λ is no. p.1), tt))))),
+)

@@ -1,16 +1,19 @@
 -- Worked examples: a frame on its way is lawful; probes may be stuck, and of a walk with a turn out of range no host
--- reads the probe.
-use Rattle.std.specs.Prelude.{◌≡◌, pos, true, false, List, [], ◌∷◌, Some, option_map, Err}
+-- reads the probe; and where clears begin among events.
+use Rattle.std.specs.Prelude.{◌≡◌, ◌↔◌, pos, true, false, List, [], ◌∷◌, Some, option_map, Err}
 use Rattle.net_defs.specs.Examples.{two_hosts, self_cabled}
 use Rattle.packet_defs.specs.declared.host_drop.HostDrop.TheVariants.{UnknownType}
 use Rattle.packet_defs.specs.Host.{body_of}
 use Rattle.link_defs.specs.Links.{packet_in}
 use Rattle.link_defs.specs.Hops.{is_stuck}
-use Rattle.world_defs.specs.declared.event.Event.TheVariants.{Ask, Inject, Advance, Begin, Send}
+use Rattle.world_defs.specs.declared.event.Event.{Event}
+use Rattle.world_defs.specs.declared.event.Event.TheVariants.{Ask, Inject, Advance, Reset, Begin, Send}
 use Rattle.world_defs.specs.World.{WorldState, new_world}
+use Rattle.world_defs.specs.Step.{after_all}
 use Rattle.world_defs.specs.Traffic.{IsLawfulTraffic, channels_ahead, unrouted}
 use Rattle.world_defs.specs.Examples.{setup_routes}
 use Rattle.act_defs.specs.Acts.{Act, Happens, Adopts, acted_all, IsReached}
+use Rattle.lawful_laws.specs.Resets.{ClearsBeginLawful}
 
 -- host 0 of the two at one switch adopts the routes, and injects a frame for host 1
 abbrev pub frame_acts : List Act
@@ -68,3 +71,12 @@ StrangeWorldIsReached = IsReached two_hosts strange_world
 abbrev pub StrangeIsUnread : Type 0
 StrangeIsUnread = option_map (λ held. body_of (unrouted held.wire)) (packet_in strange_world.links 0)
     ≡ Some (Err UnknownType)
+
+-- among these events a clear begins with the first, and another with the last
+abbrev pub two_clears : List Event
+two_clears = Advance 0 ∷ Reset 1 ∷ Inject 0 ∷ Advance 0 ∷ []
+
+-- so what is asked for is lawful traffic before these two
+abbrev pub TwoClearsBegin : Type 0
+TwoClearsBegin = (w : WorldState) → ClearsBeginLawful w two_clears
+    ↔ IsLawfulTraffic w × IsLawfulTraffic (after_all w (Advance 0 ∷ Reset 1 ∷ Inject 0 ∷ []))

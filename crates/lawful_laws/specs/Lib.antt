@@ -1,5 +1,5 @@
 pub mod Probes
 pub mod Lawful
 pub mod Stuck
-pub mod Moments
+pub mod Resets
 pub mod Examples

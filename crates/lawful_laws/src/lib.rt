@@ -9,18 +9,18 @@
 //! | `Probes` | what the packet of a probe or of a reply is |
 //! | `Lawful` | which packets are lawful, in every reached world |
 //! | `Stuck` | lawful traffic isn't stuck, and runs out in a drain |
-//! | `Moments` | when a settle clears, and when it resets a channel |
-//! | `Examples` | a lawful frame, stuck probes, and a probe that no host reads |
+//! | `Resets` | when a settle resets a channel |
+//! | `Examples` | a lawful frame, stuck probes, a probe that no host reads, and where clears begin |
 #![tactic(auto)]
 
 mod flow;
-mod moment;
 mod packet;
 mod probe;
+mod resets;
 mod worked;
 
 pub use flow::lawful_traffic;
-pub use moment::resets_of_unlawful_traffic;
 pub use packet::{lawful_limbo, lawful_packets};
 pub use probe::packets_of_probes;
-pub use worked::{one_frame, strange_probe, two_probes};
+pub use resets::resets_of_unlawful_traffic;
+pub use worked::{clears_among_events, one_frame, strange_probe, two_probes};

@@ -15,9 +15,21 @@ use Rattle.log_defs.specs.Row.{IsRow}
 abbrev pub Leads : {A : Type 0} → WorldState → Log A → Type 0
 Leads w l = IsRow IsByteEvent w l.events l.world
 
+-- those of a drain do
+abbrev pub DrainLeads : Type 0
+DrainLeads = (w : WorldState) → Leads w (log.drain w)
+
+-- those of a clear do
+abbrev pub ClearLeads : Type 0
+ClearLeads = (w : WorldState) → Leads w (log.clear w)
+
 -- those of a settle do
 abbrev pub SettleLeads : Type 0
 SettleLeads = (w : WorldState) → Leads w (log.settle w)
+
+-- those of one ask do
+abbrev pub AskLeads : Type 0
+AskLeads = (mapper k : ℕ) (walk : List ℤ) (w : WorldState) → Leads w (log.ask mapper k walk w)
 
 -- those of asks in a row do
 abbrev pub AsksLead : Type 0

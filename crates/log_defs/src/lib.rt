@@ -19,13 +19,17 @@
 //! | `Examples` | an ask, worked out |
 #![tactic(auto)]
 
-ghost use Rattle.log_defs.specs.Laws.{SettleLeads, AsksLead, InstallLeads};
+ghost use Rattle.log_defs.specs.Laws.{DrainLeads, ClearLeads, SettleLeads, AskLeads, AsksLead, InstallLeads};
 ghost use Rattle.log_defs.specs.Laws.{DrainIsDrain, ClearIsClear, SettleIsSettle, AskIsAsk, InstallIsInstalled};
 ghost use Rattle.log_defs.specs.Examples.{AskFindsHost, AskIsItsEvents};
 
-/// The events of a settle, of asks and of an installation flip eight bits at most, and lead to the world after these.
+/// The events of each log, of a drain, a clear, a settle, an ask, asks in a row and an installation, flip eight bits at
+/// most, and lead to its world.
 pub fn logs_lead()
+    ensures drain { DrainLeads }
+    ensures clear { ClearLeads }
     ensures settle { SettleLeads }
+    ensures ask { AskLeads }
     ensures asks { AsksLead }
     ensures install { InstallLeads }
 {}

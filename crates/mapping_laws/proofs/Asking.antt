@@ -12,9 +12,10 @@ use Rattle.journal_defs.specs.declared.entry.Entry.{Entry}
 use Rattle.growth_laws.specs.Laws.{IsTold, TellsTruth}
 use Rattle.growth_laws.proofs.Existence.{told_journal_exists}
 use Rattle.world_defs.specs.World.{WorldState, fabric_of}
-use Rattle.world_defs.specs.Asking.{Asked, ask}
+use Rattle.log_defs.specs.Log.{Log}
+use Rattle.log_defs.specs.Logs as log
+use Rattle.log_defs.proofs.Asks.{ask-log}
 use Rattle.ask_laws.proofs.Answering.{ask-true}
-use Rattle.run_defs.specs.Mapped.{AskedAll, asked_all}
 use Rattle.mapping_laws.specs.Laws.{CanMap}
 use Rattle.mapping_laws.specs.Asked.{AskedJournalExists}
 use Rattle.mapping_laws.proofs.Asks.{IsCarried, AreAsked, ask-by, asks-so}
@@ -56,21 +57,21 @@ walks_of j = map (λ (e : Entry). e.walk) j
 
 -- what is answered to a walk after a journal: the answer of an ask in the world after the asks of that journal
 abbrev tell : ℕ → ℕ → WorldState → List Entry → List ℤ → Answer
-tell host tries w j x = if list_all fits (walks_of j) && fits x then (ask host tries x (asked_all host tries (walks_of j) w).world).answer else Nothing
+tell host tries w j x = if list_all fits (walks_of j) && fits x then (log.ask host tries x (log.asks host tries (walks_of j) w).world).value.answer else Nothing
 
 tells-truth : (host depth tries : ℕ) (w : WorldState) → CanMap host depth w → TellsTruth (fabric_of w) host (tell host tries w)
 tells-truth host depth tries w can j x = by (list_all fits (walks_of j) && fits x) refl
   where
     v : WorldState
-    v = (asked_all host tries (walks_of j) w).world
+    v = (log.asks host tries (walks_of j) w).world
 
     a : Answer
-    a = (ask host tries x v).answer
+    a = (log.ask host tries x v).value.answer
 
-    there : AreAsked host tries w (walks_of j) (asked_all host tries (walks_of j) w) → IsCarried x → a ≢ Nothing → a ≡ answer (fabric_of w) host x
-    there so is some = of (ask-true v host tries x (ask-by v host x so.can is))
+    there : AreAsked host tries w (walks_of j) (log.asks host tries (walks_of j) w) → IsCarried x → a ≢ Nothing → a ≡ answer (fabric_of w) host x
+    there so is some = of (subst (λ y. (y.answer ≡ answer (fabric_of v) host x) ⊎ ((y.answer ≡ Nothing) × (y.drowned ≡ true))) (ask-log host tries x v) (ask-true v host tries x (ask-by v host x so.can is)))
       where
-        of : (a ≡ answer (fabric_of v) host x) ⊎ ((a ≡ Nothing) × ((ask host tries x v).drowned ≡ true)) → a ≡ answer (fabric_of w) host x
+        of : (a ≡ answer (fabric_of v) host x) ⊎ ((a ≡ Nothing) × ((log.ask host tries x v).value.drowned ≡ true)) → a ≡ answer (fabric_of w) host x
         of (inl e) = e ∙ ap (λ n. answer n host x) so.kept.fabric
         of (inr p) = absurd (some p.0)
 
@@ -86,9 +87,9 @@ all-fit [] e ys all = carried-fits e.walk all.0
 all-fit (x ∷ xs) e ys all = ap (λ b. (b && list_all fits (walks_of xs)) && fits e.walk) (carried-fits x.walk all.0) ∙ all-fit xs e ys all.1
 
 -- one ask more
-asked-last : (host tries : ℕ) (xs : List Entry) (e : Entry) (w : WorldState) → (asked_all host tries (walks_of (xs ++ e ∷ [])) w).world ≡ (ask host tries e.walk (asked_all host tries (walks_of xs) w).world).world
+asked-last : (host tries : ℕ) (xs : List Entry) (e : Entry) (w : WorldState) → (log.asks host tries (walks_of (xs ++ e ∷ [])) w).world ≡ (log.ask host tries e.walk (log.asks host tries (walks_of xs) w).world).world
 asked-last host tries [] e w = refl
-asked-last host tries (x ∷ xs) e w = asked-last host tries xs e (ask host tries x.walk w).world
+asked-last host tries (x ∷ xs) e w = asked-last host tries xs e (log.ask host tries x.walk w).world
 
 append-assoc : (xs : List Entry) (e : Entry) (ys : List Entry) → (xs ++ e ∷ []) ++ ys ≡ xs ++ e ∷ ys
 append-assoc [] e ys = refl
@@ -96,35 +97,36 @@ append-assoc (x ∷ xs) e ys = ap (λ l. x ∷ l) (append-assoc xs e ys)
 
 -- asks of a journal that is answered so have its entries
 entries-are : (host tries : ℕ) (w : WorldState) (before rest : List Entry)
-    → ((xs : List Entry) (e : Entry) (ys : List Entry) → before ++ rest ≡ xs ++ e ∷ ys → e.answer ≡ (ask host tries e.walk (asked_all host tries (walks_of xs) w).world).answer)
-    → (asked_all host tries (walks_of rest) (asked_all host tries (walks_of before) w).world).entries ≡ rest
+    → ((xs : List Entry) (e : Entry) (ys : List Entry) → before ++ rest ≡ xs ++ e ∷ ys → e.answer ≡ (log.ask host tries e.walk (log.asks host tries (walks_of xs) w).world).value.answer)
+    → (log.asks host tries (walks_of rest) (log.asks host tries (walks_of before) w).world).value.entries ≡ rest
 entries-are host tries w before [] told = refl
 entries-are host tries w before (e ∷ rest) told =
-    let v : WorldState = (asked_all host tries (walks_of before) w).world in
-    let a : Asked = ask host tries e.walk v in
-    let here : e.answer ≡ a.answer = told before e rest refl in
-    let next : (asked_all host tries (walks_of (before ++ e ∷ [])) w).world ≡ a.world = asked-last host tries before e w in
+    let v : WorldState = (log.asks host tries (walks_of before) w).world in
+    let l : Log log.Asked = log.ask host tries e.walk v in
+    let here : e.answer ≡ l.value.answer = told before e rest refl in
+    let next : (log.asks host tries (walks_of (before ++ e ∷ [])) w).world ≡ l.world = asked-last host tries before e w in
     let later = entries-are host tries w (before ++ e ∷ []) rest (λ xs d ys p. told xs d ys (sym (append-assoc before e rest) ∙ p)) in
-    let behind : (asked_all host tries (walks_of rest) a.world).entries ≡ rest = subst (λ u. (asked_all host tries (walks_of rest) u).entries ≡ rest) next later in
-    let one : (let d : Entry = record { walk = e.walk; answer = a.answer } in d) ≡ e = ap (λ x. (let d : Entry = record { walk = e.walk; answer = x } in d)) (sym here) in
-    ap (λ d. d ∷ (asked_all host tries (walks_of rest) a.world).entries) one ∙ ap (λ l. e ∷ l) behind
+    let behind : (log.asks host tries (walks_of rest) l.world).value.entries ≡ rest = subst (λ u. (log.asks host tries (walks_of rest) u).value.entries ≡ rest) next later in
+    let one : (let d : Entry = record { walk = e.walk; answer = l.value.answer } in d) ≡ e = ap (λ x. (let d : Entry = record { walk = e.walk; answer = x } in d)) (sym here) in
+    ap (λ d. d ∷ (log.asks host tries (walks_of rest) l.world).value.entries) one ∙ ap (λ es. e ∷ es) behind
 
 pub asked_journal_exists : AskedJournalExists
 asked_journal_exists host depth tries w can =
     let h = told_journal_exists (fabric_of w) host depth (tell host tries w) can.fabric (tells-truth host depth tries w can) in
     let j : List Entry = h.0 in
     let all : AllByRecursion IsCarried (walks_of j) = carried host depth j can.shallow h.3.growing in
-    let came : AskedAll = asked_all host tries (walks_of j) w in
-    let same : came.entries ≡ j = entries-are host tries w [] j (λ xs e ys p. answered j xs e ys h.1 p (subst (λ l. AllByRecursion IsCarried (walks_of l)) p all)) in
+    let came : Log log.AskedAll = log.asks host tries (walks_of j) w in
+    let same : came.value.entries ≡ j = entries-are host tries w [] j (λ xs e ys p. answered j xs e ys h.1 p (subst (λ l. AllByRecursion IsCarried (walks_of l)) p all)) in
     record {
       journal = j;
-      drowned = came.drowned;
+      drowned = came.value.drowned;
       after = came.world;
-      asked = ap (λ es. (let r : AskedAll = record { entries = es; drowned = came.drowned; world = came.world } in r)) same;
+      asked = ap (λ es. (let r : log.AskedAll = record { entries = es; drowned = came.value.drowned } in r)) same;
+      led = refl;
       grown = h.3;
       found = h.2;
     }
   where
-    answered : (j xs : List Entry) (e : Entry) (ys : List Entry) → IsTold (tell host tries w) j → j ≡ xs ++ e ∷ ys → AllByRecursion IsCarried (walks_of (xs ++ e ∷ ys)) → e.answer ≡ (ask host tries e.walk (asked_all host tries (walks_of xs) w).world).answer
+    answered : (j xs : List Entry) (e : Entry) (ys : List Entry) → IsTold (tell host tries w) j → j ≡ xs ++ e ∷ ys → AllByRecursion IsCarried (walks_of (xs ++ e ∷ ys)) → e.answer ≡ (log.ask host tries e.walk (log.asks host tries (walks_of xs) w).world).value.answer
     answered j xs e ys told p all =
-        told.told xs e ys p ∙ ap (λ b. if b then (ask host tries e.walk (asked_all host tries (walks_of xs) w).world).answer else Nothing) (all-fit xs e ys all)
+        told.told xs e ys p ∙ ap (λ b. if b then (log.ask host tries e.walk (log.asks host tries (walks_of xs) w).world).value.answer else Nothing) (all-fit xs e ys all)

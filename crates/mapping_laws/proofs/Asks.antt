@@ -1,5 +1,5 @@
 -- What asks in a row come to, by the walks.
-use Rattle.std.proofs.Common.{◌≡◌, ◌≢◌, ◌<◌, ◌≤◌, ◌+◌, ◌*◌, ℕ, Bool, true, false, List, [], ◌∷◌, length, nat_eq, ◌⊎◌, inl, inr, None, refl, ap, subst, arith}
+use Rattle.std.proofs.Common.{◌≡◌, ◌≢◌, ◌<◌, ◌≤◌, ◌+◌, ◌*◌, ℕ, Bool, true, false, List, [], ◌∷◌, length, nat_eq, ◌⊎◌, inl, inr, None, refl, ap, subst, arith, if◌then◌else◌, sym, ◌∙◌}
 use Rattle.std.specs.Prelude.{ℤ}
 use Rattle.std.specs.List.{AllByRecursion}
 use Rattle.std.specs.Map.{lookup}
@@ -16,7 +16,14 @@ use Rattle.ask_laws.specs.Kept.{IsAskKept}
 use Rattle.ask_laws.proofs.Answering.{ask-keeps, ask-again, ask-true, ask-heard, ask-harmed}
 use Rattle.ask_laws.proofs.Few.{ask-few}
 use Rattle.ask_laws.proofs.Ready.{kept-same, kept-both}
-use Rattle.run_defs.specs.Mapped.{AskedAll, one_if, asked_all}
+use Rattle.log_defs.specs.Log.{Log}
+use Rattle.log_defs.specs.Logs as log
+use Rattle.log_defs.specs.Laws.{asked_to}
+use Rattle.log_defs.proofs.Asks.{ask-log}
+
+-- a test as a count of one or none
+abbrev one_if : Bool → ℕ
+one_if b = if b then 1 else 0
 
 -- a walk that a probe can carry
 pub record IsCarried (walk : List ℤ) : Type 0 where
@@ -41,14 +48,14 @@ pub record IsQuietFor (w v : WorldState) : Type 0 where
   pub left : v.injected < last_count
 
 -- what asks in a row came to
-pub record AreAsked (host tries : ℕ) (w : WorldState) (walks : List (List ℤ)) (a : AskedAll) : Type 0 where
-  pub kept : IsAskKept w a.world
-  pub can : CanAsk a.world host []
-  pub found : IsTrueWhereFound (fabric_of w) host a.entries
-  pub truth : a.drowned ≡ 0 → IsTrueJournal (fabric_of w) host a.entries
-  pub heard : 0 < tries → IsQuietFor w a.world → a.drowned ≡ 0
-  pub harmed : 0 < tries → a.world.injected < last_count → 0 < a.drowned → w.harmed < a.world.harmed
-  pub few : tries ≤ 8 → a.world.injected ≤ w.injected + 24 * length walks
+pub record AreAsked (host tries : ℕ) (w : WorldState) (walks : List (List ℤ)) (l : Log log.AskedAll) : Type 0 where
+  pub kept : IsAskKept w l.world
+  pub can : CanAsk l.world host []
+  pub found : IsTrueWhereFound (fabric_of w) host l.value.entries
+  pub truth : l.value.drowned ≡ 0 → IsTrueJournal (fabric_of w) host l.value.entries
+  pub heard : 0 < tries → IsQuietFor w l.world → l.value.drowned ≡ 0
+  pub harmed : 0 < tries → l.world.injected < last_count → 0 < l.value.drowned → w.harmed < l.world.harmed
+  pub few : tries ≤ 8 → l.world.injected ≤ w.injected + 24 * length walks
 
 answer-there : (n : Network) (host : ℕ) (walk : List ℤ) (x : Answer) (drowned : Bool) → (x ≡ answer n host walk) ⊎ ((x ≡ Nothing) × (drowned ≡ true)) → x ≢ Nothing → x ≡ answer n host walk
 answer-there n host walk x drowned (inl e) some = e
@@ -65,47 +72,51 @@ none-both : (drowned : Bool) (k : ℕ) → drowned ≡ false → k ≡ 0 → one
 none-both drowned k a b = let one : one_if drowned ≡ 0 = ap one_if a in omega (arith, one, b)
 
 -- an ask, and those after it
-ask-push : (host tries : ℕ) (walk : List ℤ) (walks : List (List ℤ)) (w : WorldState) → CanAsk w host [] → IsCarried walk → ((u : WorldState) → CanAsk u host [] → AreAsked host tries u walks (asked_all host tries walks u)) → AreAsked host tries w (walk ∷ walks) (asked_all host tries (walk ∷ walks) w)
+ask-push : (host tries : ℕ) (walk : List ℤ) (walks : List (List ℤ)) (w : WorldState) → CanAsk w host [] → IsCarried walk → ((u : WorldState) → CanAsk u host [] → AreAsked host tries u walks (log.asks host tries walks u)) → AreAsked host tries w (walk ∷ walks) (log.asks host tries (walk ∷ walks) w)
 ask-push host tries walk walks w can is others = record {
   kept = kept-both w a.world rest.world kept r.kept;
   can = r.can;
-  found = (answer-there n host walk a.answer a.drowned answers, subst (λ k. IsTrueWhereFound k host rest.entries) kept.fabric r.found);
-  truth = λ none. (answer-true n host walk a.answer a.drowned rest.drowned answers none, subst (λ k. IsTrueJournal k host rest.entries) kept.fabric (r.truth (rest-none a.drowned rest.drowned none)));
-  heard = λ some quiet. none-both a.drowned rest.drowned (first some quiet) (r.heard some (later quiet));
+  found = (answer-there n host walk a.answer a.drowned answers, subst (λ k. IsTrueWhereFound k host rest.value.entries) kept.fabric r.found);
+  truth = λ none. (answer-true n host walk a.answer a.drowned rest.value.drowned answers none, subst (λ k. IsTrueJournal k host rest.value.entries) kept.fabric (r.truth (rest-none a.drowned rest.value.drowned none)));
+  heard = λ some quiet. none-both a.drowned rest.value.drowned (first some quiet) (r.heard some (later quiet));
   harmed = λ some left more. by some left a.drowned refl more;
-  few = λ low. (let one = ask-few w host tries walk in let more = r.few low in omega (arith, one, more, low));
+  few = λ low. (let one = ask-few w host tries walk in let more = r.few low in let same = ap (λ x. x.world.injected) is_log in omega (arith, one, more, low, same));
 }
   where
     n : Network
     n = fabric_of w
 
     a : Asked
-    a = ask host tries walk w
+    a = asked_to (log.ask host tries walk w)
 
-    rest : AskedAll
-    rest = asked_all host tries walks a.world
+    is_log : ask host tries walk w ≡ a
+    is_log = ask-log host tries walk w
+
+    rest : Log log.AskedAll
+    rest = log.asks host tries walks a.world
 
     here : CanAsk w host walk
     here = ask-by w host walk can is
 
     kept : IsAskKept w a.world
-    kept = ask-keeps w host tries walk here
+    kept = subst (λ x. IsAskKept w x.world) is_log (ask-keeps w host tries walk here)
 
     r : AreAsked host tries a.world walks rest
-    r = others a.world (ask-again w host tries walk [] here can)
+    r = others a.world (subst (λ x. CanAsk x.world host []) is_log (ask-again w host tries walk [] here can))
 
     answers : (a.answer ≡ answer n host walk) ⊎ ((a.answer ≡ Nothing) × (a.drowned ≡ true))
-    answers = ask-true w host tries walk here
+    answers = subst (λ x. (x.answer ≡ answer n host walk) ⊎ ((x.answer ≡ Nothing) × (x.drowned ≡ true))) is_log (ask-true w host tries walk here)
 
     first : 0 < tries → IsQuietFor w rest.world → a.drowned ≡ false
     first some quiet =
         let up = r.kept.injected in
         let left = quiet.left in
-        ask-heard w host tries walk here some (λ number low high. quiet.unplanned number low (omega (arith, high, up))) (omega (arith, up, left))
+        let same = ap (λ x. x.world.injected) is_log in
+        ap (λ x. x.drowned) (sym is_log) ∙ ask-heard w host tries walk here some (λ number low high. quiet.unplanned number low (omega (arith, high, up, same))) (omega (arith, up, left, same))
 
-    by : 0 < tries → rest.world.injected < last_count → (drowned : Bool) → a.drowned ≡ drowned → 0 < one_if drowned + rest.drowned → w.harmed < rest.world.harmed
+    by : 0 < tries → rest.world.injected < last_count → (drowned : Bool) → a.drowned ≡ drowned → 0 < one_if drowned + rest.value.drowned → w.harmed < rest.world.harmed
     by some left true e more =
-        struck (ask-harmed w host tries walk here some e)
+        struck (subst (λ x. (w.harmed < x.world.harmed) ⊎ (last_count ≤ x.world.injected)) is_log (ask-harmed w host tries walk here some (ap (λ x. x.drowned) is_log ∙ e)))
       where
         struck : (w.harmed < a.world.harmed) ⊎ (last_count ≤ a.world.injected) → w.harmed < rest.world.harmed
         struck (inl low) = let up = r.kept.harmed in omega (arith, low, up)
@@ -113,13 +124,13 @@ ask-push host tries walk walks w can is others = record {
     by some left false e more =
         let none : one_if false ≡ 0 = refl in
         let up = kept.harmed in
-        let then = r.harmed some left (omega (arith, none, more)) in
-        omega (arith, up, then)
+        let more_harmed = r.harmed some left (omega (arith, none, more)) in
+        omega (arith, up, more_harmed)
 
     later : IsQuietFor w rest.world → IsQuietFor a.world rest.world
     later quiet = let up = kept.injected in record { unplanned = λ number low high. kept.unplanned number (quiet.unplanned number (omega (arith, low, up)) high); left = quiet.left }
 
-pub asks-so : (host tries : ℕ) (walks : List (List ℤ)) (w : WorldState) → CanAsk w host [] → AllByRecursion IsCarried walks → AreAsked host tries w walks (asked_all host tries walks w)
+pub asks-so : (host tries : ℕ) (walks : List (List ℤ)) (w : WorldState) → CanAsk w host [] → AllByRecursion IsCarried walks → AreAsked host tries w walks (log.asks host tries walks w)
 asks-so host tries [] w can all = record {
   kept = kept-same w;
   can = can;

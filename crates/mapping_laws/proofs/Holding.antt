@@ -14,8 +14,8 @@ use Rattle.world_defs.specs.declared.effect.Effect.{Effect}
 use Rattle.world_defs.specs.Table.{Adoption, is_other}
 use Rattle.world_defs.specs.World.{WorldState, adopted_by}
 use Rattle.world_defs.specs.Step.{step}
-use Rattle.world_defs.specs.Install.{installed}
-use Rattle.world_defs.specs.Settle.{settle}
+use Rattle.log_defs.specs.Logs as log
+use Rattle.log_defs.specs.Log.{Log}
 use Rattle.run_defs.specs.declared.command.Command.{Command}
 use Rattle.run_defs.specs.declared.command.Command.TheVariants.{Walk, Map, Circuit, Routes, Install, Begin as BeginCommand, Close as CloseCommand, Poll as PollCommand, Tokens, Provide as ProvideCommand, Send as SendCommand, Plan, Step, Settle, Finish}
 use Rattle.run_defs.specs.declared.line.Line.TheVariants.{MapBusy, InstallRefused}
@@ -62,8 +62,8 @@ step-held : (s : SessionState) (o : Option Event) → HeldIn s (Some (step_or_id
 step-held s None = held-world s s.world refl
 step-held s (Some e) = stepped-held s (step s.world e) (event-set s.world e)
 
-done-held : (s : SessionState) (l : LastRoutes) (hosts : List ℕ) (r : ℕ × WorldState) → s.last_routes ≡ Some l → r.1.adopted ≡ Some (adoption_of l) → HeldIn s (Some (install_done s hosts r))
-done-held s l hosts (acked, w) are e = record { last_map = refl; last_routes = refl; adopted = inr (record { last = l; are = are; is = e }) }
+done-held : (s : SessionState) (l : LastRoutes) (hosts : List ℕ) (r : Log ℕ) → s.last_routes ≡ Some l → r.world.adopted ≡ Some (adoption_of l) → HeldIn s (Some (install_done s hosts r))
+done-held s l hosts r are e = record { last_map = refl; last_routes = refl; adopted = inr (record { last = l; are = are; is = e }) }
 
 install-held : (s : SessionState) (tries : ℕ) (o : Option LastRoutes) → s.last_routes ≡ o → HeldIn s (Some (install s tries o))
 install-held s tries None are = held-world s s.world refl
@@ -74,7 +74,7 @@ install-held s tries (Some l) are = by (not (is_idle s.world.links)) (is_other l
     by false true = held-world s s.world refl
     by false false =
         let w : WorldState = adopted_by s.world l.mapper l.routes in
-        done-held s l l.hosts (installed (adoption_of l) l.hosts tries w) are (installed-set (adoption_of l) l.hosts tries w)
+        done-held s l l.hosts (log.install (adoption_of l) l.hosts tries w) are (installed-set (adoption_of l) l.hosts tries w)
 
 refused-held : (s : SessionState) (o : Option LastMap) → HeldIn s (routes_refused s o)
 refused-held s None = held-world s s.world refl
@@ -102,7 +102,7 @@ outcome-held s (SendCommand h port dest dport prio len seed) =
     held-world s (step s.world (Send h port dest dport prio len seed)).1 (event-set s.world (Send h port dest dport prio len seed))
 outcome-held s (Plan ahead kind) = record { last_map = refl; last_routes = refl; adopted = inl refl }
 outcome-held s (Step line) = step-held s (event_of s.world line)
-outcome-held s Settle = held-world s (settle s.world).world (settle-set s.world)
+outcome-held s Settle = held-world s (log.settle s.world).world (settle-set s.world)
 outcome-held s Finish = held-world s s.world refl
 
 -- the adopted set is right

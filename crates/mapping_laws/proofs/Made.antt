@@ -30,7 +30,9 @@ use Rattle.map_laws.proofs.Ruled.{quotient_is_map}
 use Rattle.world_defs.specs.declared.fault.Fault.{Fault}
 use Rattle.world_defs.specs.World.{WorldState, fabric_of}
 use Rattle.ask_laws.specs.Premises.{CanAsk}
-use Rattle.run_defs.specs.Mapped.{AskedAll, IsMapped, IsCalled}
+use Rattle.log_defs.specs.Log.{Log}
+use Rattle.log_defs.specs.Logs as log
+use Rattle.run_defs.specs.Mapped.{IsMapped, IsCalled}
 use Rattle.run_defs.specs.Mapped.IsCalled.{too_many_nodes, too_shallow, doubted, right}
 use Rattle.run_defs.specs.declared.line.MapWords.{MapWords}
 use Rattle.run_defs.specs.declared.line.MapWords.TheVariants.{Complete, Doubtful}
@@ -60,13 +62,13 @@ start host depth w can = record {
 }
 
 module _ (host depth tries : ℕ) (before after : WorldState) (j : List Entry) (m : NetMap) (words : MapWords) (can : CanMap host depth before) (made : IsMapped host depth tries before after j m words) where
-  abbrev came : AskedAll
-  came = record { entries = j; drowned = made.drowned; world = after }
+  abbrev came : Log log.AskedAll
+  came = record { value = record { entries = j; drowned = made.drowned }; events = (log.asks host tries (map (λ e. e.walk) j) before).events; world = after }
 
   -- what the mapping's asks came to
   asked-so : AreAsked host tries before (map (λ e. e.walk) j) came
   asked-so =
-      subst (AreAsked host tries before (map (λ e. e.walk) j)) made.asked
+      subst (AreAsked host tries before (map (λ e. e.walk) j)) (λ i. record { value = made.asked i; events = (log.asks host tries (map (λ e. e.walk) j) before).events; world = sym made.led i })
       (asks-so host tries (map (λ e. e.walk) j) before (start host depth before can) (carried host depth j can.shallow made.grown.growing))
 
 pub found_is_there : FoundIsThere

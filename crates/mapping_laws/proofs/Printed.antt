@@ -18,7 +18,8 @@ use Rattle.world_defs.specs.declared.effect.Effect.{Effect}
 use Rattle.world_defs.specs.Node.{port_at}
 use Rattle.world_defs.specs.World.{WorldState, node_at, adopted_by}
 use Rattle.world_defs.specs.Step.{step}
-use Rattle.world_defs.specs.Install.{installed}
+use Rattle.log_defs.specs.Logs as log
+use Rattle.log_defs.specs.Log.{Log}
 use Rattle.run_defs.specs.declared.command.Command.{Command}
 use Rattle.run_defs.specs.declared.command.Command.TheVariants.{Walk, Map, Circuit, Routes, Install, Begin as BeginCommand, Close as CloseCommand, Poll as PollCommand, Tokens, Provide as ProvideCommand, Send as SendCommand, Plan, Step, Settle, Finish}
 use Rattle.run_defs.specs.declared.line.Line.{Line}
@@ -122,8 +123,8 @@ step-right : (n : Network) (s : SessionState) (o : Option Event) → RightIn n (
 step-right n s None = (tt, tt)
 step-right n s (Some e) = stepped-right n s (step s.world e)
 
-done-right : (n : Network) (s : SessionState) (hosts : List ℕ) (r : ℕ × WorldState) → RightIn n (Some (install_done s hosts r))
-done-right n s hosts (acked, w) = (tt, lines-right n (map (table_line w) hosts) (each-other (table_line w) hosts (λ h. refl)))
+done-right : (n : Network) (s : SessionState) (hosts : List ℕ) (r : Log ℕ) → RightIn n (Some (install_done s hosts r))
+done-right n s hosts r = (tt, lines-right n (map (table_line r.world) hosts) (each-other (table_line r.world) hosts (λ h. refl)))
 
 install-right : (n : Network) (s : SessionState) (tries : ℕ) (o : Option LastRoutes) → RightIn n (Some (install s tries o))
 install-right n s tries None = (tt, tt)
@@ -132,7 +133,7 @@ install-right n s tries (Some l) = by (not (is_idle s.world.links)) (is_other l.
     by : (busy other : Bool) → RightIn n (Some (if busy then says_only s (InstallRefused Busy ∷ []) else if other then says_only s (InstallRefused OtherInstalled ∷ []) else install_now s l tries))
     by true other = (tt, tt)
     by false true = (tt, tt)
-    by false false = done-right n s l.hosts (installed (adoption_of l) l.hosts tries (adopted_by s.world l.mapper l.routes))
+    by false false = done-right n s l.hosts (log.install (adoption_of l) l.hosts tries (adopted_by s.world l.mapper l.routes))
 
 refused-right : (n : Network) (s : SessionState) (o : Option LastMap) → RightIn n (routes_refused s o)
 refused-right n s None = (tt, tt)

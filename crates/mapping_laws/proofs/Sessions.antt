@@ -8,7 +8,8 @@ use Rattle.world_defs.specs.declared.event.Event.TheVariants.{Begin, Close, Prov
 use Rattle.world_defs.specs.declared.effect.Effect.{Effect}
 use Rattle.world_defs.specs.World.{WorldState, adopted_by}
 use Rattle.world_defs.specs.Step.{step}
-use Rattle.world_defs.specs.Install.{installed}
+use Rattle.log_defs.specs.Logs as log
+use Rattle.log_defs.specs.Log.{Log}
 use Rattle.world_laws.proofs.Shapes.{new-world}
 use Rattle.run_defs.specs.declared.command.Command.{Command}
 use Rattle.run_defs.specs.declared.command.Command.TheVariants.{Walk, Map, Circuit, Routes, Install, Begin as BeginCommand, Close as CloseCommand, Poll as PollCommand, Tokens, Provide as ProvideCommand, Send as SendCommand, Plan, Step, Settle, Finish}
@@ -43,14 +44,14 @@ step-stays : (s : SessionState) (o : Option Event) → StaysIn s (Some (step_or_
 step-stays s None = stays-same s.world
 step-stays s (Some e) = stepped-stays s (step s.world e) (stays-event s.world e)
 
-done-stays : (s : SessionState) (hosts : List ℕ) (r : ℕ × WorldState) → Stays s.world r.1 → StaysIn s (Some (install_done s hosts r))
-done-stays s hosts (acked, w) k = k
+done-stays : (s : SessionState) (hosts : List ℕ) (r : Log ℕ) → Stays s.world r.world → StaysIn s (Some (install_done s hosts r))
+done-stays s hosts r k = k
 
 install_now-stays : (s : SessionState) (l : LastRoutes) (tries : ℕ) → StaysIn s (Some (install_now s l tries))
 install_now-stays s l tries =
     let w : WorldState = adopted_by s.world l.mapper l.routes in
-    let r : ℕ × WorldState = installed (adoption_of l) l.hosts tries w in
-    done-stays s l.hosts r (stays-both s.world w r.1 (stays-adopted s.world l.mapper l.routes) (stays-installed (adoption_of l) l.hosts tries w))
+    let r : Log ℕ = log.install (adoption_of l) l.hosts tries w in
+    done-stays s l.hosts r (stays-both s.world w r.world (stays-adopted s.world l.mapper l.routes) (stays-installed (adoption_of l) l.hosts tries w))
 
 install-stays : (s : SessionState) (tries : ℕ) (o : Option LastRoutes) → StaysIn s (Some (install s tries o))
 install-stays s tries None = stays-same s.world

@@ -34,5 +34,5 @@ mapping_exists host depth tries w can =
       journal = a.journal;
       made = record q.0 { core = core_of q.0 };
       words = word.0;
-      is = record { drowned = a.drowned; asked = a.asked; grown = a.grown; unmarked = q.0; quotient = q.1; marked = refl; called = word.1 };
+      is = record { drowned = a.drowned; asked = a.asked; led = a.led; grown = a.grown; unmarked = q.0; quotient = q.1; marked = refl; called = word.1 };
     }

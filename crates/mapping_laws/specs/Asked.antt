@@ -5,8 +5,9 @@ use Rattle.journal_defs.specs.Growth.{IsGrown}
 use Rattle.journal_defs.specs.Truth.{IsTrueWhereFound}
 use Rattle.map_defs.specs.NetMap.{NetMap}
 use Rattle.world_defs.specs.World.{WorldState, fabric_of}
+use Rattle.log_defs.specs.Logs as log
 use Rattle.run_defs.specs.declared.line.MapWords.{MapWords}
-use Rattle.run_defs.specs.Mapped.{asked_all, IsMapped}
+use Rattle.run_defs.specs.Mapped.{IsMapped}
 use Rattle.mapping_laws.specs.Laws.{CanMap}
 
 -- A journal that has grown to a depth, by asks of a host in a world; how many of them drowned, and the world then.
@@ -14,8 +15,9 @@ pub record HasAskedJournal (host depth tries : ℕ) (w : WorldState) : Type 0 wh
   pub journal : List Entry
   pub drowned : ℕ
   pub after : WorldState
-  pub asked : asked_all host tries (map (λ e. e.walk) journal) w
-      ≡ record { entries = journal; drowned = drowned; world = after }
+  pub asked : (log.asks host tries (map (λ e. e.walk) journal) w).value
+      ≡ record { entries = journal; drowned = drowned }
+  pub led : after ≡ (log.asks host tries (map (λ e. e.walk) journal) w).world
   pub grown : IsGrown host depth journal
   pub found : IsTrueWhereFound (fabric_of w) host journal
 

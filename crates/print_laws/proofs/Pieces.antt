@@ -13,7 +13,8 @@ use Rattle.world_defs.specs.declared.effect.Effect.{Effect}
 use Rattle.world_defs.specs.Node.{port_at}
 use Rattle.world_defs.specs.World.{WorldState, node_at, planned, adopted_by}
 use Rattle.world_defs.specs.Step.{step}
-use Rattle.world_defs.specs.Install.{installed}
+use Rattle.log_defs.specs.Logs as log
+use Rattle.log_defs.specs.Log.{Log}
 use Rattle.run_defs.specs.declared.command.Command.{Command}
 use Rattle.run_defs.specs.declared.command.Command.TheVariants.{Walk, Map, Circuit, Routes, Install, Begin as BeginCommand, Close as CloseCommand, Poll as PollCommand, Tokens, Provide as ProvideCommand, Send as SendCommand, Plan, Step, Settle, Finish}
 use Rattle.run_defs.specs.declared.line.ClientCall.{ClientCall}
@@ -68,8 +69,8 @@ step-read n s (Some e) = stepped-read n s (step s.world e)
 plan-read : (n : Network) (s : SessionState) (r : ℕ × WorldState) → ReadIn n (Some (plan_made s r))
 plan-read n s (number, w) = (tt, tt)
 
-done-read : (n : Network) (s : SessionState) (hosts : List ℕ) (r : ℕ × WorldState) → ReadIn n (Some (install_done s hosts r))
-done-read n s hosts (acked, w) = (tt, lines-read n (map (table_line w) hosts))
+done-read : (n : Network) (s : SessionState) (hosts : List ℕ) (r : Log ℕ) → ReadIn n (Some (install_done s hosts r))
+done-read n s hosts r = (tt, lines-read n (map (table_line r.world) hosts))
 
 install-read : (n : Network) (s : SessionState) (tries : ℕ) (o : Option LastRoutes) → ReadIn n (Some (install s tries o))
 install-read n s tries None = (tt, tt)
@@ -78,7 +79,7 @@ install-read n s tries (Some l) = by (not (is_idle s.world.links)) (is_other l.r
     by : (busy other : Bool) → ReadIn n (Some (if busy then says_only s (InstallRefused Busy ∷ []) else if other then says_only s (InstallRefused OtherInstalled ∷ []) else install_now s l tries))
     by true other = (tt, tt)
     by false true = (tt, tt)
-    by false false = done-read n s l.hosts (installed (adoption_of l) l.hosts tries (adopted_by s.world l.mapper l.routes))
+    by false false = done-read n s l.hosts (log.install (adoption_of l) l.hosts tries (adopted_by s.world l.mapper l.routes))
 
 routes-refused-read : (n : Network) (s : SessionState) (o : Option LastMap) → ReadIn n (routes_refused s o)
 routes-refused-read n s None = (tt, tt)

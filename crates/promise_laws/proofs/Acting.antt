@@ -10,7 +10,6 @@ use Rattle.world_defs.specs.EightBits.{IsByteEvent}
 use Rattle.world_defs.specs.Table.{is_other}
 use Rattle.world_defs.specs.World.{WorldState, fabric_of, new_world, adopted_by}
 use Rattle.world_defs.specs.Step.{step, after_all}
-use Rattle.world_defs.specs.Install.{installed}
 use Rattle.world_defs.specs.Sound.{IsSound}
 use Rattle.act_defs.specs.Acts.{Act, Happens, acted, acted_all, AreAdoptable, MayActAll, IsReached}
 use Rattle.act_defs.proofs.Routes.{not-other}
@@ -19,7 +18,7 @@ use Rattle.run_defs.specs.declared.command.Command.TheVariants.{Walk, Map, Circu
 use Rattle.run_defs.specs.declared.line.MapWords.{MapWords}
 use Rattle.run_defs.specs.declared.line.Line.TheVariants.{MapBusy, InstallRefused}
 use Rattle.run_defs.specs.declared.line.InstallCause.TheVariants.{Busy, Installed as OtherInstalled}
-use Rattle.run_defs.specs.Mapped.{AskedAll, IsMapped, asked_all}
+use Rattle.run_defs.specs.Mapped.{IsMapped}
 use Rattle.run_defs.specs.Output.{Piece}
 use Rattle.run_defs.specs.Session.{SessionState, LastMap, LastRoutes, complete_map}
 use Rattle.run_defs.specs.Outcome.{Outcome, says_only, event_of, step_or_idle, adoption_of, install_now, install, map_refused, routes_refused, outcome}
@@ -28,15 +27,14 @@ use Rattle.run_defs.specs.Run.Does.{determined, maps, circuits, routes}
 use Rattle.run_laws.specs.Acts.{IsActOf}
 use Rattle.run_laws.proofs.OneMapping.{mapping_is_one}
 use Rattle.run_laws.proofs.Reaching.{LastAdoptable, IsLed, run-led, event-bytes}
+use Rattle.log_defs.specs.Log.{Log}
 use Rattle.log_defs.specs.Logs as log
 use Rattle.promise_laws.specs.CommandActs.{step_acts, install_now_acts, install_acts, acts_of, StandsFor, HasSoundActs, CommandsHaveSoundActs, RunsEndSound}
 use Rattle.promise_laws.specs.CommandActs.StandsFor.{determined as told, asks}
 use Rattle.message_laws.proofs.Fillings.{coming-tied}
 use Rattle.message_laws.proofs.Sound.{reached-sound}
 use Rattle.log_defs.specs.Row.{IsRow}
-use Rattle.log_defs.proofs.Worlds.{settle-done}
-use Rattle.log_defs.proofs.Asks.{installed-done}
-use Rattle.promise_laws.proofs.Events.{asks-done}
+use Rattle.log_defs.proofs.Rows.{settle-row, asks-row, install-row, byte_settles, byte_asks}
 use Rattle.promise_laws.proofs.OneAction.{acts_are_one_action}
 use Rattle.promise_laws.proofs.Sound.{always_sound}
 
@@ -74,7 +72,7 @@ install-leads n s tries (Some l) net may = by (not (is_idle s.world.links)) (is_
     by false false e =
         let w : WorldState = adopted_by s.world l.mapper l.routes in
         let es : List Event = (log.install (adoption_of l) l.hosts tries w).events in
-        let d = by-events w (installed (adoption_of l) l.hosts tries w).1 es (installed-done (adoption_of l) l.hosts tries w) in
+        let d = by-events w (log.install (adoption_of l) l.hosts tries w).world es (install-row byte_asks (λ dst part. tt) (adoption_of l) l.hosts tries w) in
         record { may = ((subst (λ k. AreAdoptable k l.routes) (sym net) (may l refl), not-other l.routes s.world.adopted e), d.may); there = d.there }
 
 -- a step
@@ -113,7 +111,7 @@ outcome-acts n s (ProvideCommand h port size prio) of_n net may = by-event s.wor
 outcome-acts n s (SendCommand h port dest dport prio len seed) of_n net may = by-event s.world (Event.Send h port dest dport prio len seed) tt
 outcome-acts n s (Plan ahead kind) of_n net may = record { may = (of_n, tt); there = refl }
 outcome-acts n s (Step line) of_n net may = step-leads s (event_of s.world line) (event-bytes s.world line of_n)
-outcome-acts n s Settle of_n net may = by-events s.world _ (log.settle s.world).events (settle-done s.world)
+outcome-acts n s Settle of_n net may = by-events s.world _ (log.settle s.world).events (settle-row byte_settles s.world)
 outcome-acts n s Finish of_n net may = by-none s.world
 
 -- what a command that is done stands for
@@ -145,10 +143,11 @@ does-stand : {s next : SessionState} {c : Command} {out : List Piece} → (n : N
 does-stand {s = s} {next = next} {c = c} {out = out} n of_n led (determined e) = determined-stands s next c out e (outcome-acts n s c of_n led.session.fabric led.adoptable)
 does-stand {s = s} {next = next} n of_n led (maps {host = host} {depth = depth} {tries = tries} after j m words none made printed left) =
     let walks = map (λ (e : Entry). e.walk) j in
-    let d = by-events s.world (asked_all host tries walks s.world).world (log.asks host tries walks s.world).events (asks-done host tries walks s.world) in
-    let there : next.world ≡ (asked_all host tries walks s.world).world = ap (λ (x : SessionState). x.world) left ∙ sym (ap (λ (a : AskedAll). a.world) made.asked) in
+    let l : Log log.AskedAll = log.asks host tries walks s.world in
+    let d = by-events s.world l.world l.events (asks-row byte_asks (λ h walk looped. tt) host tries walks s.world) in
+    let there : next.world ≡ l.world = ap (λ (x : SessionState). x.world) left ∙ made.led in
     record {
-      acts = map Happens (log.asks host tries walks s.world).events;
+      acts = map Happens l.events;
       are = asks after j m words (idle-there s host none) made refl;
       leads = record { may = d.may; there = there ∙ d.there };
     }

@@ -14,16 +14,13 @@ use Rattle.world_defs.specs.declared.event.Event.{Event}
 use Rattle.world_defs.specs.EightBits.{IsByteEvent}
 use Rattle.world_defs.specs.World.{WorldState}
 use Rattle.world_defs.specs.Sound.{IsPrefix}
-use Rattle.world_defs.specs.Asking.{ask}
 use Rattle.log_defs.specs.Log.{Log}
 use Rattle.log_defs.specs.Logs as log
 use Rattle.log_defs.specs.Row.{IsPartWay}
 use Rattle.log_defs.proofs.Rows.{asks-row, byte_asks}
 use Rattle.log_laws.proofs.PartWay.{way-start, way-front, way-behind, way-as}
-use Rattle.run_defs.specs.Mapped.{AskedAll, asked_all}
 use Rattle.promise_laws.specs.CutShort.{IsBegunMap}
 use Rattle.promise_laws.specs.CutShort.IsBegunMap.{stopped_between, stopped_within}
-use Rattle.promise_laws.proofs.Events.{asks-log}
 
 -- the walks of a journal
 abbrev walks_of : List Entry → List (List ℤ)
@@ -86,17 +83,17 @@ same-rest d e xs ys same = cc
 
 -- the entry that an ask in a world makes
 abbrev entry_of : ℕ → ℕ → WorldState → List ℤ → Entry
-entry_of host tries u x = record { walk = x; answer = (ask host tries x u).answer }
+entry_of host tries u x = record { walk = x; answer = (log.ask host tries x u).value.answer }
 
 -- asks in a row from a world answer their own journal
 abbrev Answers : ℕ → ℕ → WorldState → List Entry → Type 0
-Answers host tries u j = (asked_all host tries (walks_of j) u).entries ≡ j
+Answers host tries u j = (log.asks host tries (walks_of j) u).value.entries ≡ j
 
 answers-first : (host tries : ℕ) (u : WorldState) (e : Entry) (j : List Entry) → Answers host tries u (e ∷ j) → entry_of host tries u e.walk ≡ e
-answers-first host tries u e j is = same-entry (entry_of host tries u e.walk) e (asked_all host tries (walks_of j) (ask host tries e.walk u).world).entries j is
+answers-first host tries u e j is = same-entry (entry_of host tries u e.walk) e (log.asks host tries (walks_of j) (log.ask host tries e.walk u).world).value.entries j is
 
-answers-rest : (host tries : ℕ) (u : WorldState) (e : Entry) (j : List Entry) → Answers host tries u (e ∷ j) → Answers host tries (ask host tries e.walk u).world j
-answers-rest host tries u e j is = same-rest (entry_of host tries u e.walk) e (asked_all host tries (walks_of j) (ask host tries e.walk u).world).entries j is
+answers-rest : (host tries : ℕ) (u : WorldState) (e : Entry) (j : List Entry) → Answers host tries u (e ∷ j) → Answers host tries (log.ask host tries e.walk u).world j
+answers-rest host tries u e j is = same-rest (entry_of host tries u e.walk) e (log.asks host tries (walks_of j) (log.ask host tries e.walk u).world).value.entries j is
 
 -- of asks in a row from a world, which grow after a journal, those that have grown begin with the others
 asked-front : (host depth tries : ℕ) (before i j : List Entry) (u : WorldState) → Answers host tries u i → Answers host tries u j → IsGrowing host depth (before ++ i) → IsKept (before ++ i) → IsGrown host depth (before ++ j) → IsPrefix i j
@@ -106,7 +103,7 @@ asked-front host depth tries before (e ∷ i) j u a b g k h =
     (λ tail b2 h2. asked-front host depth tries (before ++ e ∷ []) i tail v (answers-rest host tries u e i a) b2 (subst (IsGrowing host depth) one g) (subst IsKept one k) h2)
   where
     v : WorldState
-    v = (ask host tries e.walk u).world
+    v = (log.ask host tries e.walk u).world
 
     one : before ++ e ∷ i ≡ (before ++ e ∷ []) ++ i
     one = sym (append_assoc before (e ∷ []) i)
@@ -117,7 +114,7 @@ asked-front host depth tries before (e ∷ i) j u a b g k h =
         let same : f ≡ e = sym (answers-first host tries u f tail b1) ∙ ap (entry_of host tries u) walk ∙ answers-first host tries u e i a in
         let there : j ≡ e ∷ tail = is ∙ ap (λ x. x ∷ tail) same in
         let h2 : IsGrown host depth ((before ++ e ∷ []) ++ tail) = subst (IsGrown host depth) (ap (λ l. before ++ l) there ∙ sym (append_assoc before (e ∷ []) tail)) h in
-        let p = again tail (subst (λ x. Answers host tries (ask host tries x u).world tail) walk (answers-rest host tries u f tail b1)) h2 in
+        let p = again tail (subst (λ x. Answers host tries (log.ask host tries x u).world tail) walk (answers-rest host tries u f tail b1)) h2 in
         record { rest = p.rest; both = there ∙ ap (λ l. e ∷ l) p.both }
 
 -- the events of asks in a row, and of those after them
@@ -129,7 +126,7 @@ asks-append host tries (x ∷ xs) ys w =
     ap (λ l. one.events ++ l) (asks-append host tries xs ys one.world) ∙ sym (append_assoc one.events more.events (log.asks host tries ys more.world).events)
 
 -- part of the way along asks after others
-way-asks : (host tries : ℕ) (w u v : WorldState) (i rest : List Entry) → u ≡ (asked_all host tries (walks_of i) w).world → IsPartWay u (log.asks host tries (walks_of rest) u).events v
+way-asks : (host tries : ℕ) (w u v : WorldState) (i rest : List Entry) → u ≡ (log.asks host tries (walks_of i) w).world → IsPartWay u (log.asks host tries (walks_of rest) u).events v
     → IsPartWay w (log.asks host tries (walks_of (i ++ rest)) w).events v
 way-asks host tries w u v i rest is p =
     let first : List Event = (log.asks host tries (walks_of i) w).events in
@@ -138,10 +135,10 @@ way-asks host tries w u v i rest is p =
     way-as w v (log.asks host tries (walks_of (i ++ rest)) w).events (first ++ behind)
     (ap (λ l. (log.asks host tries l w).events) (map-append (λ (e : Entry). e.walk) i rest) ∙ asks-append host tries (walks_of i) (walks_of rest) w)
     (way-behind w mid v first behind (asks-row {Q = IsByteEvent} byte_asks (λ h walk looped. tt) host tries (walks_of i) w).there
-    (subst (λ x. IsPartWay x (log.asks host tries (walks_of rest) x).events v) (is ∙ ap (λ r. r.world) (asks-log host tries (walks_of i) w)) p))
+    (subst (λ x. IsPartWay x (log.asks host tries (walks_of rest) x).events v) is p))
 
 -- within the next ask after them
-way-within : (host tries : ℕ) (w u v : WorldState) (i rest : List Entry) (x : List ℤ) → u ≡ (asked_all host tries (walks_of i) w).world → IsPartWay u (log.ask host tries x u).events v → StartsWith x rest
+way-within : (host tries : ℕ) (w u v : WorldState) (i rest : List Entry) (x : List ℤ) → u ≡ (log.asks host tries (walks_of i) w).world → IsPartWay u (log.ask host tries x u).events v → StartsWith x rest
     → IsPartWay w (log.asks host tries (walks_of (i ++ rest)) w).events v
 way-within host tries w u v i rest x is way (starts e tail same walk) =
     let first : IsPartWay u (log.ask host tries e.walk u).events v = subst (λ y. IsPartWay u (log.ask host tries y u).events v) (sym walk) way in
@@ -149,13 +146,13 @@ way-within host tries w u v i rest x is way (starts e tail same walk) =
     way-front u v (log.ask host tries e.walk u).events (log.asks host tries (walks_of tail) (log.ask host tries e.walk u).world).events first in
     way-asks host tries w u v i rest is (subst (λ r. IsPartWay u (log.asks host tries (walks_of r) u).events v) (sym same) here)
 
-pub begun-way : (host depth tries : ℕ) (w v last : WorldState) (j : List Entry) (d : ℕ) → IsGrown host depth j → asked_all host tries (walks_of j) w ≡ record { entries = j; drowned = d; world = last }
+pub begun-way : (host depth tries : ℕ) (w v : WorldState) (j : List Entry) → IsGrown host depth j → Answers host tries w j
     → IsBegunMap host depth tries w v → IsPartWay w (log.asks host tries (walks_of j) w).events v
-begun-way host depth tries w v last j d grown asked (stopped_between i drowned g kept is) =
-    let p : IsPrefix i j = asked-front host depth tries [] i j w (ap (λ (a : AskedAll). a.entries) is) (ap (λ (a : AskedAll). a.entries) asked) g kept grown in
+begun-way host depth tries w v j grown asked (stopped_between i g kept is led) =
+    let p : IsPrefix i j = asked-front host depth tries [] i j w is asked g kept grown in
     subst (λ l. IsPartWay w (log.asks host tries (walks_of l) w).events v) (sym p.both)
-    (way-asks host tries w v v i p.rest (sym (ap (λ (a : AskedAll). a.world) is)) (way-start v (log.asks host tries (walks_of p.rest) v).events))
-begun-way host depth tries w v last j d grown asked (stopped_within i drowned x u g kept is ask way) =
-    let p : IsPrefix i j = asked-front host depth tries [] i j w (ap (λ (a : AskedAll). a.entries) is) (ap (λ (a : AskedAll). a.entries) asked) g (inl kept) grown in
+    (way-asks host tries w v v i p.rest led (way-start v (log.asks host tries (walks_of p.rest) v).events))
+begun-way host depth tries w v j grown asked (stopped_within i x u g kept is led ask way) =
+    let p : IsPrefix i j = asked-front host depth tries [] i j w is asked g (inl kept) grown in
     subst (λ l. IsPartWay w (log.asks host tries (walks_of l) w).events v) (sym p.both)
-    (way-within host tries w u v i p.rest x (sym (ap (λ (a : AskedAll). a.world) is)) way (grown-next host depth i p.rest x (subst (IsGrown host depth) p.both grown) kept ask))
+    (way-within host tries w u v i p.rest x led way (grown-next host depth i p.rest x (subst (IsGrown host depth) p.both grown) kept ask))

@@ -12,14 +12,14 @@ use Rattle.world_defs.specs.Sound.{IsSound}
 use Rattle.act_defs.specs.Acts.{Act, Happens, Plans, acted_all}
 use Rattle.log_defs.specs.Logs as log
 use Rattle.log_defs.specs.Row.{IsPartWay}
-use Rattle.log_defs.proofs.Worlds.{settle-done}
-use Rattle.log_defs.proofs.Asks.{installed-done}
+use Rattle.world_defs.specs.EightBits.{IsByteEvent}
+use Rattle.log_defs.proofs.Rows.{settle-row, asks-row, install-row, byte_settles, byte_asks}
 use Rattle.run_defs.specs.declared.command.Command.{Command}
 use Rattle.run_defs.specs.declared.command.Command.TheVariants.{Walk, Map, Circuit, Routes, Install, Begin as BeginCommand, Close as CloseCommand, Poll as PollCommand, Tokens, Provide as ProvideCommand, Send as SendCommand, Plan, Step, Settle, Finish}
 use Rattle.run_defs.specs.declared.line.MapWords.{MapWords}
 use Rattle.run_defs.specs.declared.line.Line.TheVariants.{MapBusy, InstallRefused}
 use Rattle.run_defs.specs.declared.line.InstallCause.TheVariants.{Busy, Installed as OtherInstalled}
-use Rattle.run_defs.specs.Mapped.{AskedAll, IsMapped}
+use Rattle.run_defs.specs.Mapped.{IsMapped}
 use Rattle.run_defs.specs.Session.{SessionState, LastMap, LastRoutes, complete_map}
 use Rattle.run_defs.specs.Outcome.{Outcome, says_only, event_of, step_or_idle, fault_of, adoption_of, install_now, install, map_refused, routes_refused, outcome}
 use Rattle.mapping_laws.proofs.Words.{mapping_exists}
@@ -28,7 +28,6 @@ use Rattle.promise_laws.specs.CommandActs.StandsFor.{determined, asks}
 use Rattle.promise_laws.specs.CutShort.{IsPartActed, IsCutShort, BegunMapsAreCutShort, CutCommandsLeaveSound}
 use Rattle.promise_laws.proofs.Acting.{acted-events, commands_have_sound_acts}
 use Rattle.promise_laws.proofs.Begun.{begun-way}
-use Rattle.promise_laws.proofs.Events.{asks-done}
 use Rattle.promise_laws.proofs.Running.{each_command_is_done}
 
 -- nothing was done yet
@@ -110,7 +109,7 @@ led-install s tries (Some l) = by (not (is_idle s.world.links)) (is_other l.rout
     by false false =
         let w : WorldState = adopted_by s.world l.mapper l.routes in
         let es : List Event = (log.install (adoption_of l) l.hosts tries w).events in
-        (installed-done (adoption_of l) l.hosts tries w).there ∙ sym (acted-events w es)
+        (install-row {Q = IsByteEvent} byte_asks (λ dst part. tt) (adoption_of l) l.hosts tries w).there ∙ sym (acted-events w es)
 
 led-in : (s : SessionState) (c : Command) → LedIn s (outcome s c) (acts_of s c)
 led-in s (Walk host walk) = refl
@@ -126,7 +125,7 @@ led-in s (ProvideCommand h port size prio) = refl
 led-in s (SendCommand h port dest dport prio len seed) = refl
 led-in s (Plan ahead kind) = refl
 led-in s (Step line) = led-step s (event_of s.world line)
-led-in s Settle = (settle-done s.world).there ∙ sym (acted-events s.world (log.settle s.world).events)
+led-in s Settle = (settle-row {Q = IsByteEvent} byte_settles s.world).there ∙ sym (acted-events s.world (log.settle s.world).events)
 led-in s Finish = refl
 
 -- a command that was done, but for its text
@@ -164,7 +163,7 @@ part-installed w u v l tries idle other led p =
 pub cut_mapped : (s : SessionState) (host depth tries : ℕ) (v : WorldState) (j : List Entry) (m : NetMap) (words : MapWords) → is_idle s.world.links ≡ true → IsMapped host depth tries s.world v j m words → IsCutShort s (Map host depth tries) v
 cut_mapped s host depth tries v j m words idle made =
     let es : List Event = (log.asks host tries (map (λ (e : Entry). e.walk) j) s.world).events in
-    let led : v ≡ after_all s.world es = sym (ap (λ (a : AskedAll). a.world) made.asked) ∙ (asks-done host tries (map (λ (e : Entry). e.walk) j) s.world).there in
+    let led : v ≡ after_all s.world es = made.led ∙ (asks-row {Q = IsByteEvent} byte_asks (λ h walk looped. tt) host tries (map (λ (e : Entry). e.walk) j) s.world).there in
     record { acts = map Happens es; are = asks v j m words idle made refl; way = part-events s.world v es (way-whole s.world v es led) }
 
 -- and one that was begun
@@ -176,7 +175,7 @@ begun_maps_are_cut_short s host depth tries v can begun =
     record {
       acts = map Happens es;
       are = asks h.after h.journal h.made h.words can.idle k refl;
-      way = part-events s.world v es (begun-way host depth tries s.world v h.after h.journal k.drowned k.grown k.asked begun);
+      way = part-events s.world v es (begun-way host depth tries s.world v h.journal k.grown (ap (λ (a : log.AskedAll). a.entries) k.asked) begun);
     }
 
 -- what is done after a run is one list of acts, and after each prefix of them the world is sound

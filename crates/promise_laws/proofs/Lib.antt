@@ -1,7 +1,6 @@
 pub mod Acting
 pub mod Begun
 pub mod CutShort
-pub mod Events
 pub mod OneAction
 pub mod OneChannel
 pub mod Running

@@ -12,7 +12,6 @@ use Rattle.log_defs.specs.Logs as log
 use Rattle.log_defs.specs.Row.{IsPartWay}
 use Rattle.run_defs.specs.declared.command.Command.{Command}
 use Rattle.run_defs.specs.declared.command.Command.TheVariants.{Map}
-use Rattle.run_defs.specs.Mapped.{asked_all}
 use Rattle.run_defs.specs.Output.{Piece}
 use Rattle.run_defs.specs.Session.{SessionState}
 use Rattle.run_defs.specs.Run.{IsRun}
@@ -35,15 +34,13 @@ pub record IsCutShort (s : SessionState) (c : Command) (v : WorldState) : Type 0
 -- A map from a host, to a depth, with so many tries an ask, was begun over a world and stopped in another: between two
 -- asks of a journal that grows to its depth, or within the next one.
 pub data IsBegunMap (host depth tries : ℕ) (w v : WorldState) : Type 0 where
-  stopped_between : (j : List Entry) (drowned : ℕ) → IsGrowing host depth j
-      → (length (nodes j) ≤ node_limit) ⊎ IsEndedAtLimit j
-      → asked_all host tries (map (λ e. e.walk) j) w ≡ record { entries = j; drowned = drowned; world = v }
-      → IsBegunMap host depth tries w v
-  stopped_within : (j : List Entry) (drowned : ℕ) (x : List ℤ) (between : WorldState) → IsGrowing host depth j
-      → length (nodes j) ≤ node_limit
-      → asked_all host tries (map (λ e. e.walk) j) w ≡ record { entries = j; drowned = drowned; world = between }
-      → NextAsk host depth j x → IsPartWay between (log.ask host tries x between).events v
-      → IsBegunMap host depth tries w v
+  stopped_between : (j : List Entry) → IsGrowing host depth j → (length (nodes j) ≤ node_limit) ⊎ IsEndedAtLimit j
+      → (log.asks host tries (map (λ e. e.walk) j) w).value.entries ≡ j
+      → v ≡ (log.asks host tries (map (λ e. e.walk) j) w).world → IsBegunMap host depth tries w v
+  stopped_within : (j : List Entry) (x : List ℤ) (between : WorldState) → IsGrowing host depth j
+      → length (nodes j) ≤ node_limit → (log.asks host tries (map (λ e. e.walk) j) w).value.entries ≡ j
+      → between ≡ (log.asks host tries (map (λ e. e.walk) j) w).world → NextAsk host depth j x
+      → IsPartWay between (log.ask host tries x between).events v → IsBegunMap host depth tries w v
 
 -- Where a map can be made, one that was begun and stopped is the command cut short: its asks are the first ones of the
 -- one map that there is.

@@ -1,6 +1,5 @@
 pub mod CommandActs
 pub mod CutShort
-pub mod Events
 pub mod Examples
 pub mod Existence
 pub mod OneAction

@@ -5,7 +5,6 @@
 //!
 //! | file of `specs/` | says |
 //! |---|---|
-//! | `Events` | that asks in a row are one list of events |
 //! | `CommandActs` | which acts a command stands for, and that after each prefix of them the world is sound |
 //! | `CutShort` | that a command is cut short, and a map that was begun |
 //! | `OneAction` | whose an act is, and that it is one action, of one host or of one channel |
@@ -15,14 +14,12 @@
 //! | `Examples` | whose acts of a message's way are |
 #![tactic(auto)]
 
-mod asks;
 mod command_acts;
 mod existence;
 mod promises;
 mod scripts;
 mod worked;
 
-pub use asks::asks_in_order;
 pub use command_acts::{acts_of_commands, acts_of_cut_commands, acts_of_one_host_or_channel};
 pub use existence::runs_exist;
 pub use promises::{promises_of_runs, sound_moments};

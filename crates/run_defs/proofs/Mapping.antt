@@ -21,7 +21,7 @@ use Rattle.run_defs.specs.declared.line.MapWords.TheVariants.{Complete, Incomple
 use Rattle.run_defs.specs.declared.command.Command.TheVariants.{Map, Finish}
 use Rattle.run_defs.specs.declared.line.Line.TheVariants.{Map as MapLine, Finish as FinishLine}
 use Rattle.run_defs.specs.Output.{OneLine, MapLines}
-use Rattle.run_defs.specs.Mapped.{IsMapped, IsCalled, asked_all}
+use Rattle.run_defs.specs.Mapped.{IsMapped, IsCalled}
 use Rattle.run_defs.specs.Mapped.IsCalled.{too_many_nodes, too_shallow, doubted, right}
 use Rattle.run_defs.specs.Run.{IsRun, Does}
 use Rattle.run_defs.specs.Run.Does.{determined, maps}
@@ -29,9 +29,10 @@ use Rattle.run_defs.specs.Run.Runs.{ended, goes_on}
 use Rattle.run_defs.specs.Session.{new_session}
 use Rattle.run_defs.specs.Headline.{HasPrinted, IsQuiet}
 use Rattle.run_defs.specs.Examples.{setup_map, mapped_world, mapping, mapping_output, mapped_session, doubtful_world}
+use Rattle.log_defs.specs.Logs as log
 
-asks : asked_all 0 1 (map (λ e. e.walk) two_hosts_journal) (new_world two_hosts) ≡ record { entries = two_hosts_journal; drowned = 0; world = mapped_world }
-unfolding sends host_try loop_try ask begun closed provided_by sent_by polled_by pass drain clear hear part_try installed to_send packet_for after_sending round_pass round settle lost was_reset repeated held flipped replayed asked part_staged planned_strikes sent_out injected advanced expired gave_up applied
+asks : (log.asks 0 1 (map (λ e. e.walk) two_hosts_journal) (new_world two_hosts)).value ≡ record { entries = two_hosts_journal; drowned = 0 }
+unfolding sends host_try loop_try ask begun closed provided_by sent_by polled_by pass drain clear hear part_try installed log.drain log.clear log.round_pass log.round log.settle log.sends log.host_try log.loop_try log.ask log.part_try log.install to_send packet_for after_sending round_pass round settle lost was_reset repeated held flipped replayed asked part_staged planned_strikes sent_out injected advanced expired gave_up applied
 asks = refl
 
 -- three nodes are far from the limit
@@ -45,6 +46,7 @@ pub two_hosts_mapped : IsMapped 0 4 1 (new_world two_hosts) mapped_world two_hos
 two_hosts_mapped = record {
   drowned = 0;
   asked = asks;
+  led = refl;
   grown = two_hosts_grown;
   unmarked = two_hosts_map;
   quotient = two_hosts_quotient;
@@ -62,19 +64,19 @@ pub not_called_shallow : ¬ IsMapped 0 4 1 (new_world two_hosts) mapped_world tw
 not_called_shallow m = not_shallow m.drowned IncompleteDepth refl m.called
 
 injections : mapped_world.injected ≡ 62
-unfolding sends host_try loop_try ask begun closed provided_by sent_by polled_by pass drain clear hear part_try installed to_send packet_for after_sending round_pass round settle lost was_reset repeated held flipped replayed asked part_staged planned_strikes sent_out injected advanced expired gave_up applied
+unfolding sends host_try loop_try ask begun closed provided_by sent_by polled_by pass drain clear hear part_try installed log.drain log.clear log.round_pass log.round log.settle log.sends log.host_try log.loop_try log.ask log.part_try log.install to_send packet_for after_sending round_pass round settle lost was_reset repeated held flipped replayed asked part_staged planned_strikes sent_out injected advanced expired gave_up applied
 injections = refl
 
 drops : mapped_world.dropped ≡ 59
-unfolding sends host_try loop_try ask begun closed provided_by sent_by polled_by pass drain clear hear part_try installed to_send packet_for after_sending round_pass round settle lost was_reset repeated held flipped replayed asked part_staged planned_strikes sent_out injected advanced expired gave_up applied
+unfolding sends host_try loop_try ask begun closed provided_by sent_by polled_by pass drain clear hear part_try installed log.drain log.clear log.round_pass log.round log.settle log.sends log.host_try log.loop_try log.ask log.part_try log.install to_send packet_for after_sending round_pass round settle lost was_reset repeated held flipped replayed asked part_staged planned_strikes sent_out injected advanced expired gave_up applied
 drops = refl
 
 first_does : Does (new_session two_hosts) (Map 0 4 1) (OneLine (MapLine 0 Complete 31 62) ∷ MapLines setup_map ∷ []) mapped_session
-unfolding sends host_try loop_try ask begun closed provided_by sent_by polled_by pass drain clear hear part_try installed to_send packet_for after_sending round_pass round settle lost was_reset repeated held flipped replayed asked part_staged planned_strikes sent_out injected advanced expired gave_up applied
+unfolding sends host_try loop_try ask begun closed provided_by sent_by polled_by pass drain clear hear part_try installed log.drain log.clear log.round_pass log.round log.settle log.sends log.host_try log.loop_try log.ask log.part_try log.install to_send packet_for after_sending round_pass round settle lost was_reset repeated held flipped replayed asked part_staged planned_strikes sent_out injected advanced expired gave_up applied
 first_does = maps mapped_world two_hosts_journal setup_map Complete refl two_hosts_mapped refl refl
 
 last_does : Does mapped_session Finish (OneLine (FinishLine 62 59) ∷ []) mapped_session
-unfolding sends host_try loop_try ask begun closed provided_by sent_by polled_by pass drain clear hear part_try installed to_send packet_for after_sending round_pass round settle lost was_reset repeated held flipped replayed asked part_staged planned_strikes sent_out injected advanced expired gave_up applied
+unfolding sends host_try loop_try ask begun closed provided_by sent_by polled_by pass drain clear hear part_try installed log.drain log.clear log.round_pass log.round log.settle log.sends log.host_try log.loop_try log.ask log.part_try log.install to_send packet_for after_sending round_pass round settle lost was_reset repeated held flipped replayed asked part_staged planned_strikes sent_out injected advanced expired gave_up applied
 last_does = determined refl
 
 pub mapping_runs : IsRun two_hosts mapping mapping_output mapped_session

@@ -8,6 +8,7 @@ use Rattle.world_defs.specs.declared.effect.Said.{Said}
 use Rattle.world_defs.specs.declared.fault.Fault.TheVariants.{Lose as LoseFault}
 use Rattle.world_defs.specs.World.{WorldState, fabric_of, new_world, planned}
 use Rattle.world_defs.specs.Examples.{setup, setup_routes}
+use Rattle.log_defs.specs.Logs as log
 use Rattle.run_defs.specs.declared.command.Command.{Command}
 use Rattle.run_defs.specs.declared.command.Command.TheVariants.{Map, Routes, Install, Begin, Close, Poll, Tokens}
 use Rattle.run_defs.specs.declared.command.Command.TheVariants.{Provide, Send, Step, Settle, Finish}
@@ -20,7 +21,6 @@ use Rattle.run_defs.specs.Output.{Piece, OneLine, MapLines}
 use Rattle.run_defs.specs.LineText.{output_text}
 use Rattle.run_defs.specs.Session.{SessionState, new_session}
 use Rattle.run_defs.specs.Outcome.{Outcome, outcome}
-use Rattle.run_defs.specs.Mapped.{asked_all}
 
 -- a text of these lines
 abbrev pub text_of : List (List ℕ) → List ℕ
@@ -83,7 +83,7 @@ single_events =
 
 -- the world after the asks of a map, from the first host on
 abbrev pub mapped_world : WorldState
-mapped_world = (asked_all 0 1 (map (λ e. e.walk) two_hosts_journal) (new_world two_hosts)).world
+mapped_world = (log.asks 0 1 (map (λ e. e.walk) two_hosts_journal) (new_world two_hosts)).world
 
 -- a script of one map
 abbrev pub mapping : List Command

@@ -26,8 +26,9 @@ use Rattle.world_defs.specs.Table.{Adoption, is_other, active_epoch}
 use Rattle.world_defs.specs.Node.{port_at}
 use Rattle.world_defs.specs.World.{WorldState, fabric_of, node_at, planned, adopted_by, last_count}
 use Rattle.world_defs.specs.Step.{step}
-use Rattle.world_defs.specs.Settle.{Rounds, settle, unacknowledged_in}
-use Rattle.world_defs.specs.Install.{installed}
+use Rattle.world_defs.specs.Settle.{unacknowledged_in}
+use Rattle.log_defs.specs.Log.{Log}
+use Rattle.log_defs.specs.Logs as log
 use Rattle.run_defs.specs.declared.command.Command.{Command}
 use Rattle.run_defs.specs.declared.command.Command.TheVariants.{Walk, Map, Circuit, Routes, Install}
 use Rattle.run_defs.specs.declared.command.Command.TheVariants.{Begin as BeginCommand}
@@ -164,25 +165,29 @@ token_lines host port (Some p) = TokensLine host port (places p.sends (place_of_
 
 -- a settle prints its rounds, its resets and what isn't acknowledged after it; a count of resets stays at its last
 -- value
-abbrev pub settled : SessionState → Rounds → Outcome
-settled s r = says s (SettleLine r.rounds (min r.resets last_count) (unacknowledged_in r.world) ∷ []) r.world
+abbrev pub settled : SessionState → Log log.Rounds → Outcome
+settled s l =
+    says s (SettleLine l.value.rounds (min l.value.resets last_count) (unacknowledged_in l.world) ∷ []) l.world
 
 -- a host's table is active
 abbrev pub table_line : WorldState → ℕ → Line
 table_line w h = Table h (is_some (active_epoch (node_at w h).table))
 
 -- an installation prints how many hosts have all parts acknowledged, of how many, and then each host's table
-abbrev pub install_done : SessionState → List ℕ → ℕ × WorldState → Outcome
-install_done s hosts (acked, w) = says s (Installed acked (length hosts) ∷ map (table_line w) hosts) w
+abbrev pub install_done : SessionState → List ℕ → Log ℕ → Outcome
+install_done s hosts l = says s (Installed l.value (length hosts) ∷ map (table_line l.world) hosts) l.world
 
 -- the last routes as a set that their mapper adopts, of epoch 1
 abbrev pub adoption_of : LastRoutes → Adoption
 adoption_of l = record { mapper = l.mapper; epoch = 1; routes = l.routes }
 
 -- the last routes are adopted, and then installed on the hosts of their map
+abbrev pub installation : SessionState → LastRoutes → ℕ → Log ℕ
+installation s l tries = log.install (adoption_of l) l.hosts tries (adopted_by s.world l.mapper l.routes)
+
+-- and what came of it is printed
 abbrev pub install_now : SessionState → LastRoutes → ℕ → Outcome
-install_now s l tries = install_done s l.hosts
-    (installed (adoption_of l) l.hosts tries (adopted_by s.world l.mapper l.routes))
+install_now s l tries = install_done s l.hosts (installation s l tries)
 
 -- routes are installed where some were computed, the links are idle, and no other set is adopted
 abbrev pub install : SessionState → ℕ → Option LastRoutes → Outcome
@@ -219,5 +224,5 @@ outcome s (SendCommand h port dest dport prio len seed) =
     Some (called s SendCall h port (step s.world (Send h port dest dport prio len seed)))
 outcome s (Plan ahead kind) = Some (plan_made s (planned s.world ahead (fault_of kind)))
 outcome s (Step line) = Some (step_or_idle s (event_of s.world line))
-outcome s Settle = Some (settled s (settle s.world))
+outcome s Settle = Some (settled s (log.settle s.world))
 outcome s Finish = Some (says_only s (FinishLine s.world.injected s.world.dropped ∷ []))

@@ -15,10 +15,10 @@ use Rattle.growth_laws.specs.Laws.{IsTold}
 use Rattle.growth_laws.proofs.OneJournal.{told_journal_is_one}
 use Rattle.map_laws.proofs.OneMap.{quotient_is_one}
 use Rattle.world_defs.specs.World.{WorldState, new_world}
-use Rattle.world_defs.specs.Asking.{ask}
+use Rattle.log_defs.specs.Logs as log
 use Rattle.run_defs.specs.declared.line.MapWords.{MapWords}
 use Rattle.run_defs.specs.declared.line.MapWords.TheVariants.{Complete}
-use Rattle.run_defs.specs.Mapped.{AskedAll, IsMapped, IsCalled, asked_all}
+use Rattle.run_defs.specs.Mapped.{IsMapped, IsCalled}
 use Rattle.run_defs.specs.Mapped.IsCalled.{too_many_nodes, too_shallow, doubted, right}
 use Rattle.run_defs.specs.Examples.{mapped_world, setup_map}
 use Rattle.run_defs.proofs.Mapping.{two_hosts_mapped}
@@ -31,7 +31,7 @@ walks_of j = map (λ e. e.walk) j
 
 -- the world after a journal's asks
 abbrev behind : ℕ → ℕ → WorldState → List Entry → WorldState
-behind host tries w j = (asked_all host tries (walks_of j) w).world
+behind host tries w j = (log.asks host tries (walks_of j) w).world
 
 same_entry : (d e : Entry) (xs ys : List Entry) → d ∷ xs ≡ e ∷ ys → d ≡ e
 same_entry d e xs ys same = cc
@@ -40,24 +40,24 @@ same_rest : (d e : Entry) (xs ys : List Entry) → d ∷ xs ≡ e ∷ ys → xs 
 same_rest d e xs ys same = cc
 
 -- an entry's answer is the ask's in the world after those before it
-answer-told : (host tries : ℕ) (w : WorldState) (before : List Entry) (e : Entry) (rest : List Entry) → (asked_all host tries (walks_of (before ++ e ∷ rest)) w).entries ≡ before ++ e ∷ rest
-    → e.answer ≡ (ask host tries e.walk (behind host tries w before)).answer
+answer-told : (host tries : ℕ) (w : WorldState) (before : List Entry) (e : Entry) (rest : List Entry) → (log.asks host tries (walks_of (before ++ e ∷ rest)) w).value.entries ≡ before ++ e ∷ rest
+    → e.answer ≡ (log.ask host tries e.walk (behind host tries w before)).value.answer
 answer-told host tries w [] e rest same =
-    let a = ask host tries e.walk w in
-    let one = same_entry (record { walk = e.walk; answer = a.answer }) e (asked_all host tries (walks_of rest) a.world).entries rest same in
+    let a = log.ask host tries e.walk w in
+    let one = same_entry (record { walk = e.walk; answer = a.value.answer }) e (log.asks host tries (walks_of rest) a.world).value.entries rest same in
     sym (ap (λ (x : Entry). x.answer) one)
 answer-told host tries w (b ∷ before) e rest same =
-    let a = ask host tries b.walk w in
+    let a = log.ask host tries b.walk w in
     answer-told host tries a.world before e rest
-    (same_rest (record { walk = b.walk; answer = a.answer }) b (asked_all host tries (walks_of (before ++ e ∷ rest)) a.world).entries (before ++ e ∷ rest) same)
+    (same_rest (record { walk = b.walk; answer = a.value.answer }) b (log.asks host tries (walks_of (before ++ e ∷ rest)) a.world).value.entries (before ++ e ∷ rest) same)
 
 -- what a world answers a host that asks with so many tries
 abbrev tell : ℕ → ℕ → WorldState → List Entry → List ℤ → Answer
-tell host tries w before walk = (ask host tries walk (behind host tries w before)).answer
+tell host tries w before walk = (log.ask host tries walk (behind host tries w before)).value.answer
 
-journal-told : (host tries : ℕ) (w : WorldState) (j : List Entry) → (asked_all host tries (walks_of j) w).entries ≡ j → IsTold (tell host tries w) j
+journal-told : (host tries : ℕ) (w : WorldState) (j : List Entry) → (log.asks host tries (walks_of j) w).value.entries ≡ j → IsTold (tell host tries w) j
 journal-told host tries w j same = record {
-  told = λ before e rest is. answer-told host tries w before e rest (subst (λ l. (asked_all host tries (walks_of l) w).entries ≡ l) is same);
+  told = λ before e rest is. answer-told host tries w before e rest (subst (λ l. (log.asks host tries (walks_of l) w).value.entries ≡ l) is same);
 }
 
 -- the words of a map are one
@@ -85,13 +85,12 @@ maps-one host j p q m k of_p of_q e f = e ∙ ap (λ (z : NetMap). record z { co
 
 pub mapping_is_one : MappingIsOne
 mapping_is_one host depth tries before v w j l m k x y first second =
-    let here : IsTold (tell host tries before) j = journal-told host tries before j (ap (λ (a : AskedAll). a.entries) first.asked) in
-    let there : IsTold (tell host tries before) l = journal-told host tries before l (ap (λ (a : AskedAll). a.entries) second.asked) in
+    let here : IsTold (tell host tries before) j = journal-told host tries before j (ap (λ (a : log.AskedAll). a.entries) first.asked) in
+    let there : IsTold (tell host tries before) l = journal-told host tries before l (ap (λ (a : log.AskedAll). a.entries) second.asked) in
     let one : j ≡ l = told_journal_is_one (tell host tries before) host depth j l here there first.grown second.grown in
-    let asks : asked_all host tries (walks_of j) before ≡ asked_all host tries (walks_of l) before = ap (λ i. asked_all host tries (walks_of i) before) one in
-    let both = sym first.asked ∙ asks ∙ second.asked in
-    let drowned : first.drowned ≡ second.drowned = ap (λ (a : AskedAll). a.drowned) both in (
-      ap (λ (a : AskedAll). a.world) both,
+    let both = sym first.asked ∙ ap (λ i. (log.asks host tries (walks_of i) before).value) one ∙ second.asked in
+    let drowned : first.drowned ≡ second.drowned = ap (λ (a : log.AskedAll). a.drowned) both in (
+      first.led ∙ ap (λ i. (log.asks host tries (walks_of i) before).world) one ∙ sym second.led,
       one,
       maps-one host l first.unmarked second.unmarked m k (subst (λ i. IsQuotient host i first.unmarked) one first.quotient) second.quotient first.marked second.marked,
       words-one host l second.drowned x y (subst (λ n. IsCalled host l n x) drowned (subst (λ i. IsCalled host i first.drowned x) one first.called)) second.called,
@@ -108,6 +107,7 @@ known : (depth : ℕ) → 2 ≤ depth → IsMapped 0 depth 1 (new_world two_host
 known depth deep = record {
   drowned = two_hosts_mapped.drowned;
   asked = two_hosts_mapped.asked;
+  led = two_hosts_mapped.led;
   grown = grown-to depth deep;
   unmarked = two_hosts_mapped.unmarked;
   quotient = two_hosts_mapped.quotient;

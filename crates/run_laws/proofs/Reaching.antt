@@ -1,5 +1,5 @@
 -- Acts that may happen lead from each session's world to the next.
-use Rattle.std.proofs.Common.{◌≡◌, ℕ, Bool, true, false, not, List, [], ◌∷◌, map, Option, Some, None, option_map, refl, sym, ◌∙◌, ap, subst, if◌then◌else◌}
+use Rattle.std.proofs.Common.{◌≡◌, ℕ, Bool, true, false, not, List, [], ◌∷◌, map, Option, Some, None, option_map, refl, sym, ◌∙◌, subst, if◌then◌else◌}
 use Rattle.std.specs.Prelude.{ℤ}
 use Rattle.std.specs.List.{AllByRecursion}
 use Rattle.net_defs.specs.declared.vertex.End.{End}
@@ -11,17 +11,15 @@ use Rattle.world_defs.specs.declared.event.Event.TheVariants.{Begin, Close, Prov
 use Rattle.world_defs.specs.declared.effect.Effect.{Effect}
 use Rattle.world_defs.specs.World.{WorldState, fabric_of, new_world, adopted_by}
 use Rattle.world_defs.specs.Step.{step}
-use Rattle.world_defs.specs.Asking.{ask}
-use Rattle.world_defs.specs.Install.{installed}
+use Rattle.log_defs.specs.Logs as log
+use Rattle.log_defs.specs.Log.{Log}
 use Rattle.world_defs.specs.EightBits.{IsByteEvent}
-use Rattle.ask_laws.proofs.Along.{ask-of}
 use Rattle.run_defs.specs.declared.command.Command.{Command}
 use Rattle.run_defs.specs.declared.command.Command.TheVariants.{Walk, Map, Circuit, Routes, Install, Begin as BeginCommand, Close as CloseCommand, Poll as PollCommand, Tokens, Provide as ProvideCommand, Send as SendCommand, Plan, Step, Settle, Finish}
 use Rattle.run_defs.specs.declared.command.StepLine.{StepLine}
 use Rattle.run_defs.specs.declared.command.StepLine.TheVariants.{Inject, GiveUp, Advance, Lose, Repeat, Hold, Reset, Flip, Expire, Replay}
 use Rattle.run_defs.specs.declared.line.Line.TheVariants.{MapBusy, InstallRefused}
 use Rattle.run_defs.specs.declared.line.InstallCause.TheVariants.{Busy, Installed as OtherInstalled}
-use Rattle.run_defs.specs.Mapped.{AskedAll, asked_all}
 use Rattle.run_defs.specs.Output.{Piece}
 use Rattle.run_defs.specs.Session.{SessionState, LastMap, LastRoutes, new_session, complete_map}
 use Rattle.run_defs.specs.Outcome.{Outcome, says_only, on_channel, event_of, stepped, step_or_idle, fault_of, adoption_of, install_done, install_now, install, map_refused, routes_refused, outcome}
@@ -50,11 +48,8 @@ command-of n (Plan ahead kind) is = is.1
 command-of n c is = tt
 
 -- asks in a row
-leads-asks : (host tries : ℕ) (walks : List (List ℤ)) (w : WorldState) → Leads w (asked_all host tries walks w).world
-leads-asks host tries [] w = leads-same w
-leads-asks host tries (walk ∷ walks) w =
-    let v : WorldState = (ask host tries walk w).world in
-    leads-both w v (asked_all host tries walks v).world (ask-of Leads (asks-of Leads along-leads) w host tries walk) (leads-asks host tries walks v)
+leads-asks : (host tries : ℕ) (walks : List (List ℤ)) (w : WorldState) → Leads w (log.asks host tries walks w).world
+leads-asks host tries walks w = asks-of Leads along-leads host tries walks w
 
 -- a session whose last routes may be adopted
 abbrev pub LastAdoptable : Network → SessionState → Type 0
@@ -94,8 +89,8 @@ event-bytes w (Flip at bit pattern) low e is = channel-bytes w at (λ c. Event.F
 event-bytes w (Expire h peer) low e is = some-bytes (Event.Expire h peer) e is tt
 event-bytes w (Replay serial) low e is = some-bytes (Event.Replay serial) e is tt
 
-done-leads : (s : SessionState) (hosts : List ℕ) (r : ℕ × WorldState) → Leads s.world r.1 → LeadsIn s (Some (install_done s hosts r))
-done-leads s hosts (acked, w) k = (k, refl)
+done-leads : (s : SessionState) (hosts : List ℕ) (r : Log ℕ) → Leads s.world r.world → LeadsIn s (Some (install_done s hosts r))
+done-leads s hosts r k = (k, refl)
 
 install-leads : (n : Network) (s : SessionState) (tries : ℕ) (o : Option LastRoutes) → fabric_of s.world ≡ n → ((l : LastRoutes) → o ≡ Some l → AreAdoptable n l.routes) → LeadsIn s (Some (install s tries o))
 install-leads n s tries None net may = (leads-same s.world, refl)
@@ -107,7 +102,7 @@ install-leads n s tries (Some l) net may = by (not (is_idle s.world.links)) (is_
     by false false e =
         let w : WorldState = adopted_by s.world l.mapper l.routes in
         let adopts = leads-adoption s.world l.mapper l.routes (subst (λ k. AreAdoptable k l.routes) (sym net) (may l refl)) (not-other l.routes s.world.adopted e) in
-        done-leads s l.hosts (installed (adoption_of l) l.hosts tries w) (leads-both s.world w (installed (adoption_of l) l.hosts tries w).1 adopts (installed-of Leads along-leads (adoption_of l) l.hosts tries w))
+        done-leads s l.hosts (log.install (adoption_of l) l.hosts tries w) (leads-both s.world w (log.install (adoption_of l) l.hosts tries w).world adopts (installed-of Leads along-leads (adoption_of l) l.hosts tries w))
 
 refused-leads : (s : SessionState) (o : Option LastMap) → LeadsIn s (routes_refused s o)
 refused-leads s None = (leads-same s.world, refl)
@@ -156,7 +151,7 @@ does-lead {s = s} {next = next} {c = c} n f of_n led (determined e) =
     (k.0, λ l is. led.adoptable l (sym k.1 ∙ is))
 does-lead {s = s} {next = next} n f of_n led (maps {host = host} {depth = depth} {tries = tries} after j m words none made printed left) =
     let asks = leads-asks host tries (map (λ e. e.walk) j) s.world in
-    let there : Leads s.world after = subst (Leads s.world) (ap (λ (a : AskedAll). a.world) made.asked) asks in
+    let there : Leads s.world after = subst (Leads s.world) (sym made.led) asks in
     (subst (λ (x : SessionState). Leads s.world x.world) (sym left) there, subst (LastAdoptable n) (sym left) led.adoptable)
 does-lead {s = s} {next = next} n f of_n led (circuits told left) =
     (subst (λ (x : SessionState). Leads s.world x.world) (sym left) (leads-same s.world), subst (LastAdoptable n) (sym left) led.adoptable)

@@ -11,14 +11,13 @@ use Rattle.map_making.specs.declared.making.MadeMap.{MadeMap}
 use Rattle.map_making.specs.Made.{IsMade}
 use Rattle.run_session.specs.declared.mapping.MapOrder.{MapOrder}
 use Rattle.run_session.specs.Told.{IsMadeOver}
-use Rattle.run_defs.specs.Mapped.{AskedAll, one_if, with_ask, asked_all, IsCalled}
+use Rattle.run_defs.specs.Mapped.{IsCalled}
 use Rattle.mapper.specs.Asks.{AreAsked}
 use Rattle.mapper.specs.Growths.{StopsShort}
 use Rattle.mapper.specs.Growths.StopsShort.{between_asks, within_ask}
 use Rattle.log_defs.specs.Log.{Log}
 use Rattle.log_defs.specs.Logs as log
 use Rattle.log_defs.proofs.Rows.{ask-row, byte_asks}
-use Rattle.log_defs.proofs.Asks.{ask-log}
 use Rattle.log_defs.specs.Row.{IsPartWay}
 use Rattle.promise_laws.specs.CutShort.{IsBegunMap}
 use Rattle.promise_laws.specs.CutShort.IsBegunMap.{stopped_between, stopped_within}
@@ -27,7 +26,8 @@ use Rattle.world_asking.specs.Prober.{WorldAsking, IsAsked, IsCutAsk, next_ask, 
 -- What asks in a row came to: their answers, how many drowned, and the world then.
 pub record Came (s : WorldAsking) (j : List Entry) (t : WorldAsking) : Type 0 where
   pub drowned : ℕ
-  pub asked : asked_all s.host s.tries (map (λ e. e.walk) j) s.world ≡ record { entries = j; drowned = drowned; world = t.world }
+  pub asked : (log.asks s.host s.tries (map (λ e. e.walk) j) s.world).value ≡ record { entries = j; drowned = drowned }
+  pub led : t.world ≡ (log.asks s.host s.tries (map (λ e. e.walk) j) s.world).world
   pub few : drowned ≤ length j
   pub counted : t.drowned ≡ min (s.drowned + drowned) (2 ^ 64 - 1)
   pub host : t.host ≡ s.host
@@ -46,6 +46,10 @@ ask-rises w mapper tries walk =
     let k = events-rise w l.events in
     omega (arith, e, k)
 
+-- a test as a count of one or none
+abbrev one_if : Bool → ℕ
+one_if b = if b then 1 else 0
+
 counted-on : (b : Bool) (before between after more : ℕ) → between ≡ (if b then one_more before else before) → after ≡ min (between + more) (2 ^ 64 - 1) → after ≡ min (before + (one_if b + more)) (2 ^ 64 - 1)
 counted-on true before between after more e f = omega (arith, e, f)
 counted-on false before between after more e f = omega (arith, e, f)
@@ -57,7 +61,8 @@ one_if-few false = omega arith
 pub came-from : (s : WorldAsking) (j : List Entry) (t : WorldAsking) → s.drowned < 2 ^ 64 → AreAsked WorldAsking IsAsked s j t → Came s j t
 came-from s [] t low same = record {
   drowned = 0;
-  asked = ap (λ (u : WorldAsking). record { entries = []; drowned = 0; world = u.world }) same;
+  asked = refl;
+  led = sym (ap (λ u. u.world) same);
   few = omega arith;
   counted = let e : t.drowned ≡ s.drowned = sym (ap (λ u. u.drowned) same) in omega (arith, low, e);
   host = sym (ap (λ u. u.host) same);
@@ -76,13 +81,13 @@ came-from s (e ∷ rest) t low (between, is, more) =
     let first = ask-rises s.world s.host s.tries e.walk in
     let here : between.world.injected ≡ l.world.injected = ap (λ u. u.world.injected) at in
     let later = r.rises in
-    let rest_is : asked_all s.host s.tries (map (λ x. x.walk) rest) l.world ≡ record { entries = rest; drowned = r.drowned; world = t.world } =
-    ap (λ (u : WorldAsking). asked_all u.host u.tries (map (λ x. x.walk) rest) u.world) (sym at) ∙ r.asked in
+    let rest_is : (log.asks s.host s.tries (map (λ x. x.walk) rest) l.world).value ≡ record { entries = rest; drowned = r.drowned } =
+    ap (λ (u : WorldAsking). (log.asks u.host u.tries (map (λ x. x.walk) rest) u.world).value) (sym at) ∙ r.asked in
     record {
       drowned = one_if a.drowned + r.drowned;
-      asked = ap (λ x. with_ask e.walk x (asked_all s.host s.tries (map (λ y. y.walk) rest))) (ask-log s.host s.tries e.walk s.world)
-          ∙ ap (λ (x : AskedAll). record { entries = record { walk = e.walk; answer = a.answer } ∷ x.entries; drowned = one_if a.drowned + x.drowned; world = x.world }) rest_is
-          ∙ ap (λ y. record { entries = record { walk = e.walk; answer = y } ∷ rest; drowned = one_if a.drowned + r.drowned; world = t.world }) (sym is.told);
+      asked = ap (λ (x : log.AskedAll). record { entries = record { walk = e.walk; answer = a.answer } ∷ x.entries; drowned = one_if a.drowned + x.drowned }) rest_is
+          ∙ ap (λ y. record { entries = record { walk = e.walk; answer = y } ∷ rest; drowned = one_if a.drowned + r.drowned }) (sym is.told);
+      led = r.led ∙ ap (λ (u : WorldAsking). (log.asks u.host u.tries (map (λ x. x.walk) rest) u.world).world) at;
       few = omega (arith, few, one);
       counted = counted-on a.drowned s.drowned between.drowned t.drowned r.drowned count r.counted;
       host = r.host ∙ ap (λ u. u.host) at;
@@ -108,6 +113,7 @@ made-over s depth m t packets none few k p =
       mapped = record {
         drowned = r.drowned;
         asked = r.asked;
+        led = r.led;
         grown = k.grown;
         unmarked = k.unmarked;
         quotient = k.quotient;
@@ -144,13 +150,13 @@ rises-from w order s t m after b a e f g h k =
 begun-over : (s t : WorldAsking) (depth : ℕ) → s.drowned ≡ 0 → StopsShort WorldAsking IsAsked IsCutAsk s.host depth [] s t → IsBegunMap s.host depth s.tries s.world t.world
 begun-over s t depth none (between_asks more growing kept led) =
     let r = came-from s more t (omega (arith, none)) led in
-    stopped_between more r.drowned growing kept r.asked
+    stopped_between more growing kept (ap (λ (x : log.AskedAll). x.entries) r.asked) r.led
 begun-over s t depth none (within_ask more x between growing kept led ask cut) =
     let r = came-from s more between (omega (arith, none)) led in
     let way : IsPartWay between.world (log.ask s.host s.tries x between.world).events t.world =
     subst (λ h. IsPartWay between.world (log.ask h s.tries x between.world).events t.world) r.host
     (subst (λ k. IsPartWay between.world (log.ask between.host k x between.world).events t.world) r.tries cut.way) in
-    stopped_within more r.drowned x between.world growing kept r.asked ask way
+    stopped_within more x between.world growing kept (ap (λ (y : log.AskedAll). y.entries) r.asked) r.led ask way
 
 pub begun-from : (w : WorldState) (order : MapOrder) (s t : WorldAsking) (after : WorldState) → s ≡ record { world = w; host = order.host; tries = order.tries; drowned = 0 } → after ≡ t.world
     → StopsShort WorldAsking IsAsked IsCutAsk s.host order.depth [] s t → IsBegunMap order.host order.depth order.tries w after

@@ -1,19 +1,20 @@
 -- That an installation of the last routes is p, and so obeyed.
-use Rattle.std.proofs.Common.{◌≡◌, ℕ, ◌∷◌, [], List, length, map, Bool, true, false, not, Option, Some, None, refl, sym, ◌∙◌, ap, subst, if◌then◌else◌}
-use Rattle.std.specs.Prelude.{IfSome}
+use Rattle.std.proofs.Common.{◌≡◌, ℕ, ◌∷◌, [], List, length, map, Bool, true, false, not, Option, Some, None, Result, Ok, Err, refl, sym, ◌∙◌, ap, subst, if◌then◌else◌}
+use Rattle.std.specs.Prelude.{IfSome, IfOk}
 use Rattle.link_defs.specs.Links.{is_idle}
 use Rattle.world_defs.specs.World.{WorldState, fabric_of, adopted_by}
 use Rattle.world_defs.specs.Table.{Adoption, is_other}
 use Rattle.world_defs.specs.Install.{installed}
 use Rattle.log_defs.specs.Logs as log
 use Rattle.log_defs.specs.Row.{IsPartWay}
-use Rattle.log_defs.proofs.Asks.{installed-done}
+use Rattle.log_defs.specs.Laws.{came_to}
+use Rattle.log_defs.proofs.Asks.{install-log, installed-done}
 use Rattle.run_defs.specs.declared.command.Command.TheVariants.{Install}
 use Rattle.run_defs.specs.declared.line.Line.TheVariants.{Installed, InstallRefused}
 use Rattle.run_defs.specs.declared.line.InstallCause.{InstallCause}
 use Rattle.run_defs.specs.declared.line.InstallCause.TheVariants.{NoRoutes, Busy, Installed as OtherInstalled}
 use Rattle.run_defs.specs.Output.{OneLine, lines}
-use Rattle.run_defs.specs.Outcome.{Outcome, adoption_of, install, install_done, install_now, says_only, table_line}
+use Rattle.run_defs.specs.Outcome.{Outcome, says, adoption_of, install, install_now, says_only, table_line}
 use Rattle.run_defs.specs.Run.{Does}
 use Rattle.run_defs.specs.Session.{SessionState, LastMap, LastRoutes}
 use Rattle.fab_report.specs.Printed.{PrintedState, printed_of}
@@ -33,6 +34,10 @@ refused w last tries cause p is e = record {
 
 pub none_told : (w : WorldState) (tries : ℕ) (p : PrintedState) → p ≡ printed_of (fabric_of w) (OneLine (InstallRefused NoRoutes) ∷ []) → IsInstallTold w None tries w p
 none_told w tries p e = refused w None tries NoRoutes p (λ made. refl) e
+
+-- what is printed of a count, and the session then
+abbrev of_count : SessionState → List ℕ → ℕ × WorldState → Outcome
+of_count s hosts (acked, w) = says s (Installed acked (length hosts) ∷ map (table_line w) hosts) w
 
 -- what comes of last routes, by whether a channel holds a packet and another set is adopted
 abbrev choice : SessionState → LastRoutes → ℕ → Bool → Bool → Outcome
@@ -58,16 +63,23 @@ installed_told w mid after l tries p idle other is told = record {
 }
   where
     done : Option LastMap → Outcome
-    done made = install_done (session_of w made (Some l)) l.hosts (told.acked, after)
+    done made = of_count (session_of w made (Some l)) l.hosts (told.acked, after)
 
-    counted : installed (adoption_of l) l.hosts tries (adopted_by w l.mapper l.routes) ≡ (told.acked, after)
-    counted = ap (installed (adoption_of l) l.hosts tries) (sym is) ∙ told.counted
+    counted : came_to (log.install (adoption_of l) l.hosts tries (adopted_by w l.mapper l.routes)) ≡ (told.acked, after)
+    counted = sym (install-log (adoption_of l) l.hosts tries (adopted_by w l.mapper l.routes)) ∙ ap (installed (adoption_of l) l.hosts tries) (sym is) ∙ told.counted
 
     all : (made : Option LastMap) → install (session_of w made (Some l)) tries (Some l) ≡ done made
     all made =
         ap (λ b. choice (session_of w made (Some l)) l tries b (is_other l.routes w.adopted)) idle
         ∙ ap (choice (session_of w made (Some l)) l tries true) other
-        ∙ ap (install_done (session_of w made (Some l)) l.hosts) counted
+        ∙ ap (of_count (session_of w made (Some l)) l.hosts) counted
+
+-- so it is of what ran out of memory or was made, where the last routes were adopted
+pub adopted-told : {E : Type 0} → (w mid after : WorldState) (l : LastRoutes) (tries : ℕ) (adopted : Bool) (r : Result PrintedState E) → adopted ≡ true → is_idle w.links ≡ true → is_other l.routes w.adopted ≡ not adopted → mid ≡ (if adopted then adopted_by w l.mapper l.routes else w)
+    → IfOk r (AreInstalledTold mid l tries after) → IfOk r (IsInstallTold w (Some l) tries after)
+adopted-told w mid after l tries true (Ok p) is idle other led told = installed_told w mid after l tries p idle other led told
+adopted-told w mid after l tries true (Err e) is idle other led told = tt
+adopted-told w mid after l tries false r is idle other led told = cc
 
 -- an installation that was counted is reported
 pub counted-told : (w after : WorldState) (l : LastRoutes) (tries acked total : ℕ) (hosts : List ℕ) (p : PrintedState) → w.adopted ≡ Some (adoption_of l) → IfSome w.adopted (λ a. installed a hosts tries w ≡ (acked, after)) → total ≡ length hosts → hosts ≡ l.hosts → fabric_of after ≡ fabric_of w → p ≡ printed_of (fabric_of after) (lines (Installed acked total ∷ map (table_line after) hosts)) → AreInstalledTold w l tries after p

@@ -1,5 +1,5 @@
 -- Along every run the last routes are those of a map, and so are the adopted ones: only an installation adopts, and it adopts the last routes.
-use Rattle.std.proofs.Common.{◌≡◌, ℕ, Bool, true, false, not, List, [], ◌∷◌, map, Option, Some, None, refl, sym, ◌∙◌, ap, subst, if◌then◌else◌}
+use Rattle.std.proofs.Common.{◌≡◌, ℕ, Bool, true, false, not, List, [], ◌∷◌, map, Option, Some, None, refl, sym, ◌∙◌, subst, if◌then◌else◌}
 use Rattle.std.specs.Prelude.{ℤ}
 use Rattle.std.proofs.lemmas.Option.{same_Some}
 use Rattle.net_defs.specs.declared.route.Route.{Route}
@@ -14,17 +14,14 @@ use Rattle.world_defs.specs.declared.effect.Effect.{Effect}
 use Rattle.world_defs.specs.Table.{Adoption, is_other}
 use Rattle.world_defs.specs.World.{WorldState, adopted_by}
 use Rattle.world_defs.specs.Step.{step}
-use Rattle.world_defs.specs.Asking.{ask}
-use Rattle.world_defs.specs.Install.{installed}
-use Rattle.world_defs.specs.Settle.{settle}
+use Rattle.log_defs.specs.Logs as log
+use Rattle.log_defs.specs.Log.{Log}
 use Rattle.world_defs.specs.EightBits.{IsByteEvent}
 use Rattle.world_laws.proofs.Along.{Along}
-use Rattle.ask_laws.proofs.Along.{ask-of}
 use Rattle.run_defs.specs.declared.command.Command.{Command}
 use Rattle.run_defs.specs.declared.command.Command.TheVariants.{Walk, Map, Circuit, Routes, Install, Begin as BeginCommand, Close as CloseCommand, Poll as PollCommand, Tokens, Provide as ProvideCommand, Send as SendCommand, Plan, Step, Settle, Finish}
 use Rattle.run_defs.specs.declared.line.Line.TheVariants.{MapBusy, InstallRefused}
 use Rattle.run_defs.specs.declared.line.InstallCause.TheVariants.{Busy, Installed as OtherInstalled}
-use Rattle.run_defs.specs.Mapped.{AskedAll, asked_all}
 use Rattle.run_defs.specs.Output.{Piece}
 use Rattle.run_defs.specs.Session.{SessionState, LastMap, LastRoutes, new_session, complete_map}
 use Rattle.run_defs.specs.Outcome.{Outcome, says_only, event_of, stepped, step_or_idle, adoption_of, install_done, install_now, install, map_refused, routes_refused, outcome}
@@ -59,8 +56,8 @@ step-of s None is = is
 step-of s (Some e) is = stepped-of s (step s.world e) is (event-set s.world e)
 
 -- an installation
-done-of : (s : SessionState) (l : LastRoutes) (hosts : List ℕ) (r : ℕ × WorldState) → IsOfMaps s → s.last_routes ≡ Some l → r.1.adopted ≡ Some (adoption_of l) → IsOfMaps (install_done s hosts r).after
-done-of s l hosts (acked, w) is are set = record {
+done-of : (s : SessionState) (l : LastRoutes) (hosts : List ℕ) (r : Log ℕ) → IsOfMaps s → s.last_routes ≡ Some l → r.world.adopted ≡ Some (adoption_of l) → IsOfMaps (install_done s hosts r).after
+done-of s l hosts r is are set = record {
   last = is.last;
   adopted = λ a e.
       let one : adoption_of l ≡ a = same_Some (adoption_of l) a (sym set ∙ e) in
@@ -76,7 +73,7 @@ install-of s tries (Some l) is are = by (not (is_idle s.world.links)) (is_other 
     by false true = is
     by false false =
         let w : WorldState = adopted_by s.world l.mapper l.routes in
-        done-of s l l.hosts (installed (adoption_of l) l.hosts tries w) is are (installed-set (adoption_of l) l.hosts tries w)
+        done-of s l l.hosts (log.install (adoption_of l) l.hosts tries w) is are (installed-set (adoption_of l) l.hosts tries w)
 
 -- refusals
 refused-of : (s : SessionState) (o : Option LastMap) → IsOfMaps s → OfMapsIn (routes_refused s o)
@@ -107,16 +104,15 @@ outcome-of s (ProvideCommand h port size prio) is = event-of s (Provide h port s
 outcome-of s (SendCommand h port dest dport prio len seed) is = event-of s (Send h port dest dport prio len seed) is
 outcome-of s (Plan ahead kind) is = record { last = is.last; adopted = is.adopted }
 outcome-of s (Step line) is = step-of s (event_of s.world line) is
-outcome-of s Settle is = world-of s (settle s.world).world is (settle-set s.world)
+outcome-of s Settle is = world-of s (log.settle s.world).world is (settle-set s.world)
 outcome-of s Finish is = is
 
 -- asks in a row adopt nothing
 along-set : Along SameSet IsByteEvent
 along-set = record { same = λ w. refl; both = λ u v w f g. g ∙ f; event = λ w e q. event-set w e }
 
-asks-set : (host tries : ℕ) (walks : List (List ℤ)) (w : WorldState) → SameSet w (asked_all host tries walks w).world
-asks-set host tries [] w = refl
-asks-set host tries (walk ∷ walks) w = asks-set host tries walks (ask host tries walk w).world ∙ ask-of SameSet (asks-of SameSet along-set) w host tries walk
+asks-set : (host tries : ℕ) (walks : List (List ℤ)) (w : WorldState) → SameSet w (log.asks host tries walks w).world
+asks-set host tries walks w = asks-of SameSet along-set host tries walks w
 
 -- the last routes that were just computed
 found-of : (r l : LastRoutes) → AreOfMap r.routes → Some r ≡ Some l → AreOfMap l.routes
@@ -125,7 +121,7 @@ found-of r l of_map e = subst (λ (x : LastRoutes). AreOfMap x.routes) (same_Som
 does-of : {s next : SessionState} {c : Command} {out : List Piece} → IsOfMaps s → Does s c out next → IsOfMaps next
 does-of {s = s} {next = next} {c = c} is (determined e) = subst OfMapsIn e (outcome-of s c is)
 does-of {s = s} {next = next} is (maps {host = host} {depth = depth} {tries = tries} after j m words none made printed left) =
-    let same : SameSet s.world after = subst (SameSet s.world) (ap (λ (a : AskedAll). a.world) made.asked) (asks-set host tries (map (λ e. e.walk) j) s.world) in
+    let same : SameSet s.world after = subst (SameSet s.world) (sym made.led) (asks-set host tries (map (λ e. e.walk) j) s.world) in
     subst IsOfMaps (sym left) (record { last = is.last; adopted = λ a e. is.adopted a (sym same ∙ e) })
 does-of {s = s} {next = next} is (circuits told left) = subst IsOfMaps (sym left) is
 does-of {s = s} {next = next} is (routes l found complete are printed left) =

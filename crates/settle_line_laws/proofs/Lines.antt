@@ -30,6 +30,9 @@ use Rattle.run_defs.specs.Headline.{IsCommandOf}
 use Rattle.mapping_laws.proofs.Sessions.{run_keeps_world}
 use Rattle.run_laws.specs.Acts.{IsActOf}
 use Rattle.run_laws.proofs.Reaching.{run_is_reached}
+use Rattle.log_defs.specs.Log.{Log}
+use Rattle.log_defs.specs.Logs as log
+use Rattle.log_defs.proofs.Worlds.{settle-log}
 use Rattle.lawful_laws.proofs.Settling.{settle-flows}
 use Rattle.settle_laws.specs.Premises.{CanSettle}
 use Rattle.settle_laws.proofs.Flowing.{settle-ends_settled}
@@ -64,11 +67,19 @@ record Prints (s next : SessionState) (rounds resets unacked : ℕ) : Type 0 whe
 
 settle-prints : (s next : SessionState) (rounds resets unacked : ℕ) (rest : List Piece) → outcome s Settle ≡ Some (record { output = OneLine (SettleLine rounds resets unacked) ∷ rest; after = next }) → Prints s next rounds resets unacked
 settle-prints s next rounds resets unacked rest e =
-    let r : Rounds = settle s.world in
+    let l : Log log.Rounds = log.settle s.world in
     let said : Outcome = record { output = OneLine (SettleLine rounds resets unacked) ∷ rest; after = next } in
-    let o : settled s r ≡ said = same_Some (settled s r) said e in
-    let printed : OneLine (SettleLine r.rounds (min r.resets last_count) (unacknowledged_in r.world)) ∷ [] ≡ OneLine (SettleLine rounds resets unacked) ∷ rest = ap (λ (x : Outcome). x.output) o in
-    record { after = ap (λ (x : Outcome). x.after.world) o; round_count = cc; reset_count = cc; left = cc }
+    let o : settled s l ≡ said = same_Some (settled s l) said e in
+    let printed : OneLine (SettleLine l.value.rounds (min l.value.resets last_count) (unacknowledged_in l.world)) ∷ [] ≡ OneLine (SettleLine rounds resets unacked) ∷ rest = ap (λ (x : Outcome). x.output) o in
+    let number : l.value.rounds ≡ rounds = cc in
+    let counted : min l.value.resets last_count ≡ resets = cc in
+    let unacked_is : unacknowledged_in l.world ≡ unacked = cc in
+    record {
+      after = ap (λ r. r.world) (settle-log s.world) ∙ ap (λ (x : Outcome). x.after.world) o;
+      round_count = ap (λ r. r.rounds) (settle-log s.world) ∙ number;
+      reset_count = ap (λ r. min r.resets last_count) (settle-log s.world) ∙ counted;
+      left = ap (λ r. unacknowledged_in r.world) (settle-log s.world) ∙ unacked_is;
+    }
 
 -- a reached world has its connections in order
 reached-senders : (n : Network) (w : WorldState) → IsReached n w → HasSenders w
@@ -90,10 +101,10 @@ line-so s next rounds resets unacked can p =
     let count = p.round_count in
     let after = p.after in
     record {
-      after = sym after;
+      after = sym after ∙ ap (λ x. x.world) (settle-log w);
       at_least = omega (arith, least, count);
       at_most = omega (arith, most, count);
-      lawful = λ clears. sym p.reset_count ∙ none-printed r.resets last_count (settle-flows (fabric_of w) w can.reached clears);
+      lawful = λ clears. sym p.reset_count ∙ none-printed r.resets last_count (ap (λ x. x.resets) (settle-log w) ∙ settle-flows (fabric_of w) w can.reached clears);
       left = sym p.left ∙ ap unacknowledged_in after;
       settled = λ left. subst IsSettled after (settle-ends_settled w r can is (subst (λ (v : WorldState). v.injected < last_count) (sym after) left));
       got = λ none. subst IsAllGot after (settle-got (fabric_of w) w can.reached (p.left ∙ none));

@@ -2,17 +2,15 @@
 
 ghost use Rattle.std.specs.Prelude.{◌≡◌, ◌≤◌, ◌<◌, ◌+◌, ◌||◌, true, not, nat_eq, nat_lt, min, length};
 ghost use Rattle.std.specs.Prelude.{IfOk, OnOk, OnErr};
-ghost use Rattle.std.specs.List.{AllByRecursion};
 ghost use Rattle.link_defs.specs.Links.{is_idle};
 ghost use Rattle.world_defs.specs.World.{fabric_of, host_count, last_count};
 ghost use Rattle.world_defs.specs.declared.event.Event.TheVariants.{Expire};
 ghost use Rattle.world_defs.specs.Step.{step, after_all};
-ghost use Rattle.world_defs.specs.Traffic.{IsLawfulTraffic};
 ghost use Rattle.world_defs.specs.Settle.{unacknowledged_in, expiries_of, expiries, round, round_bound, settle};
 ghost use Rattle.world_defs.specs.Settled.{IsSettled};
 ghost use Rattle.log_defs.specs.Logs as log;
 ghost use Rattle.log_defs.specs.Row.{IsPartWay};
-ghost use Rattle.lawful_laws.specs.Moments.{settle_clears};
+ghost use Rattle.lawful_laws.specs.Resets.{ClearsBeginLawful};
 ghost use Rattle.message_laws.specs.Got.{IsAllGot};
 ghost use Rattle.fab_world.specs.Events.{IsHostOf};
 ghost use Rattle.world_drain.specs.Rounds.{AreRounds};
@@ -46,7 +44,7 @@ pub fn settle(alloc: Global, w: &mut World) -> Result<Settled, AllocError>
     ensures few_rounds { IfOk result (λ s. (1 ≤ s.rounds)
         × (s.rounds ≤ unacknowledged_in w.old + length w.old.plan + 1)) }
     ensures resets { IfOk result (λ s. s.resets ≡ min (settle w.old).resets last_count) }
-    ensures lawful { IfOk result (λ s. AllByRecursion IsLawfulTraffic (settle_clears w.old) → s.resets ≡ 0) }
+    ensures lawful { IfOk result (λ s. ClearsBeginLawful w.old (log.settle w.old).events → s.resets ≡ 0) }
     ensures unacked { IfOk result (λ s. s.unacked ≡ unacknowledged_in w.new) }
     ensures settled { OnOk result (w.new.injected < last_count → IsSettled w.new) }
     ensures got { IfOk result (λ s. s.unacked ≡ 0 → IsAllGot w.new) }

@@ -2,6 +2,7 @@ use Rattle.std.proofs.Common.{◌≡◌, ◌≤◌, ◌+◌, ℕ, length, min, a
 use Rattle.world_defs.specs.World.{WorldState, fabric_of, last_count}
 use Rattle.world_defs.specs.Settle.{unacknowledged_in, settle}
 use Rattle.world_laws.proofs.Rounds.{settle-settles, settles-bounded}
+use Rattle.log_defs.proofs.Worlds.{settle-log}
 use Rattle.lawful_laws.proofs.Settling.{settle-flows}
 use Rattle.message_laws.specs.Got.{IsAllGot}
 use Rattle.message_laws.proofs.Reaching.{settle-got}
@@ -73,7 +74,7 @@ none-counted k most e = omega (arith, e)
 pub returns-clause-lawful : goal.returns-clause-lawful
 returns-clause-lawful c clears =
     let w : WorldState = c.args.w.now in
-    (settled c).counted ∙ none-counted (settle w).resets last_count (settle-flows (fabric_of w) w c.reached.ensures clears)
+    (settled c).counted ∙ none-counted (settle w).resets last_count (ap (λ r. r.resets) (settle-log w) ∙ settle-flows (fabric_of w) w c.reached.ensures clears)
 
 -- so it ends settled, and where nothing is unacknowledged all is got
 pub returns-clause-settled : goal.returns-clause-settled

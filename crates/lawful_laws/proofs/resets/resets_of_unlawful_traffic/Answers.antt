@@ -1,5 +1,5 @@
 use Rattle.lawful_laws.proofs.Settling.{settle-flows}
-use Rattle.lawful_laws.proofs.moment.resets_of_unlawful_traffic.Goals as goal
+use Rattle.lawful_laws.proofs.resets.resets_of_unlawful_traffic.Goals as goal
 
 pub returns : goal.returns
 returns c = record { lawful = settle-flows }
