@@ -1,0 +1,11 @@
+pub mod Sums
+pub mod Packets
+pub mod Lanes
+pub mod Hosts
+pub mod Offers
+pub mod Calls
+pub mod Links
+pub mod Acting
+pub mod Settling
+pub mod Asking
+pub mod Events

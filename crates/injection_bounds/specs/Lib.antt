@@ -1,0 +1,4 @@
+pub mod Commands
+pub mod Credit
+pub mod Paid
+pub mod Settled
