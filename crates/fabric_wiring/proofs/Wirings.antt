@@ -17,6 +17,7 @@ use Rattle.port_graph.specs.Table.{is_possible, place_of_end}
 use Rattle.port_graph.proofs.Tables.{place_of_end-same, place_of_end-lt}
 use Rattle.port_graph.proofs.Possible.{has_port-possible}
 use Rattle.fabric_wiring.specs.declared.wiring.Entry.{Entry}
+use Rattle.fabric_wiring.specs.Hops.{hops_from}
 use Rattle.fabric_wiring.specs.Tables.{IsOutTable, with_cable, place_if_possible, entry_by, entries_of}
 
 -- what holds of all ends holds of the two of each cable
@@ -65,9 +66,11 @@ entries-next n cs k c is =
     ∙ ap (entries_of n) (take-got cs k c is ∙ ap (λ i. take i cs) (sym (add-one k)))
 
 -- the entry of a channel
-entry-of : (n : Network) (o : Option End) (e : Entry) → option_map (entry_by n) o ≡ Some e → (o ≡ Some e.end) × (e.ports ≡ ports_of n e.end.v)
+entry-of : (n : Network) (o : Option End) (e : Entry) → option_map (entry_by n) o ≡ Some e → (o ≡ Some e.end) × (e.ports ≡ ports_of n e.end.v) × (e.hops ≡ hops_from (length n.switches) e.end.v e.end.p)
 entry-of n None e is = cc
-entry-of n (Some d) e is = let same : entry_by n d ≡ e = cc in (ap (λ x. Some x.end) same, subst (λ x. x.ports ≡ ports_of n x.end.v) same refl)
+entry-of n (Some d) e is =
+    let same : entry_by n d ≡ e = cc in
+    (ap (λ x. Some x.end) same, subst (λ x. x.ports ≡ ports_of n x.end.v) same refl, subst (λ x. x.hops ≡ hops_from (length n.switches) x.end.v x.end.p) same refl)
 
 head-port : (n : Network) (c : ℕ) (d : End) → IsFabric n → channel_head n c ≡ Some d → has_port n d ≡ true
 head-port n c d f is = by (slice_get n.cables (c / 2)) refl is
@@ -95,6 +98,7 @@ counted-there n e s f there is =
 pub record IsEntry (n : Network) (c : ℕ) (e : Entry) : Type 0 where
   pub end : channel_head n c ≡ Some e.end
   pub ports : e.ports ≡ ports_of n e.end.v
+  pub hops : e.hops ≡ hops_from (length n.switches) e.end.v e.end.p
   pub there : has_port n e.end ≡ true
   pub switch : (s : ℕ) → e.end.v ≡ Switch s → is_port_count e.ports ≡ true
 
@@ -103,7 +107,7 @@ entry-there n m entries there c at e f same view whole place is =
     let got : slice_get (entries_of n n.cables) c ≡ Some e = ap (slice_get (entries_of n n.cables)) (sym place) ∙ ap (λ l. slice_get l at) (sym (whole ∙ same)) ∙ is in
     let parts = entry-of n (channel_head n c) e (sym (entries-get n n.cables c) ∙ got) in
     let there = head-port n c e.end f parts.0 in
-    subst (λ x. IsEntry x c e) view (record { end = parts.0; ports = parts.1; there = there; switch = λ s is. ap is_port_count parts.1 ∙ counted-there n e.end s f there is })
+    subst (λ x. IsEntry x c e) view (record { end = parts.0; ports = parts.1; hops = parts.2; there = there; switch = λ s is. ap is_port_count parts.1 ∙ counted-there n e.end s f there is })
 
 drop-got : {X : Type 0} (xs : List X) (k : ℕ) (x : X) → slice_get xs k ≡ Some x → drop k xs ≡ x ∷ drop (suc k) xs
 drop-got [] k x is = cc
@@ -111,7 +115,7 @@ drop-got (y ∷ xs) zero x is = let same : y ≡ x = cc in ap (λ z. z ∷ xs) s
 drop-got (y ∷ xs) (suc k) x is = drop-got xs k x is
 
 -- an end of no cable has no channel
-channel_out-none : (k : ℕ) (cs : List Cable) (e : End) → AllByRecursion (λ d. e ≢ d) (ends_of cs) → channel_out k cs e ≡ None
+pub channel_out-none : (k : ℕ) (cs : List Cable) (e : End) → AllByRecursion (λ d. e ≢ d) (ends_of cs) → channel_out k cs e ≡ None
 channel_out-none k [] e new = refl
 channel_out-none k (c ∷ cs) e new =
     rw (same_end-false c.a e (λ p. new.0 (sym p)), same_end-false c.b e (λ p. new.1.0 (sym p))) (channel_out-none (k + 1) cs e new.1.1)

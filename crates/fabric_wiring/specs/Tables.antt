@@ -6,6 +6,7 @@ use Rattle.net_defs.specs.declared.vertex.Cable.{Cable}
 use Rattle.net_defs.specs.Network.{Network, ports_of, IsFabric}
 use Rattle.net_defs.specs.Route.{channel_out}
 use Rattle.port_graph.specs.Table.{is_possible, place_of_end}
+use Rattle.fabric_wiring.specs.Hops.{hop_table, hops_from}
 use Rattle.fabric_wiring.specs.declared.wiring.Entry.{Entry}
 
 -- the place of an end that some fabric may have
@@ -24,7 +25,7 @@ with_cable k cable out = slice_set (slice_set out (place_of_end cable.b) (Some (
 
 -- the entry by an end
 abbrev pub entry_by : Network → End → Entry
-entry_by n e = record { end = e; ports = ports_of n e.v }
+entry_by n e = record { end = e; ports = ports_of n e.v; hops = hops_from (length n.switches) e.v e.p }
 
 -- the entries of the two channels of each cable: one enters by its second end, the one back by its first
 abbrev pub entries_of : Network → List Cable → List Entry
@@ -32,8 +33,10 @@ entries_of n [] = []
 entries_of n (c ∷ cs) = entry_by n c.b ∷ entry_by n c.a ∷ entries_of n cs
 
 -- The tables are those of a fabric.
-pub record IsWiring (n : Network) (cables : List Cable) (entries : List Entry) (out : List (Option ℕ)) : Type 0 where
+pub record IsWiring (n : Network) (cables : List Cable) (entries : List Entry)
+    (out hops : List (Option ℕ)) : Type 0 where
   pub fabric : IsFabric n
   pub same_cables : cables ≡ n.cables
   pub entered : entries ≡ entries_of n n.cables
   pub leaving : IsOutTable 0 n.cables out
+  pub hopping : hops ≡ hop_table out (length n.switches)

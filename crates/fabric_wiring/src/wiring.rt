@@ -8,7 +8,9 @@ ghost use Rattle.net_defs.specs.Route.{channel_from};
 ghost use Rattle.link_defs.specs.Channel.{channel_count, channel_tail, channel_head};
 ghost use Rattle.port_graph.specs.Table.{is_possible, place_of_end};
 ghost use Rattle.fabric_wiring.specs.Tables.{IsOutTable, place_if_possible, with_cable, entry_by, entries_of};
+ghost use Rattle.fabric_wiring.specs.Hops.{next_channel};
 
+use crate::hops::{hop_table, hops_from, last_six};
 use net_defs::{Cable, End, Vertex};
 use port_graph::Fabric;
 use std::alloc::{AllocError, Global};
@@ -16,13 +18,13 @@ use std::marker::Model;
 use std::snapshot::Snapshot;
 
 // Where the switches' ports begin in the table of channels that leave by a port.
-const HOST_PLACES: usize = 128;
+pub(crate) const HOST_PLACES: usize = 128;
 
 // The places of one switch.
-const PORT_PLACES: usize = 16;
+pub(crate) const PORT_PLACES: usize = 16;
 
 // The places of the table.
-const PLACES: usize = HOST_PLACES + 64 * PORT_PLACES;
+pub(crate) const PLACES: usize = HOST_PLACES + 64 * PORT_PLACES;
 
 /// The end that a channel enters, with the number of its vertex's ports.
 #[derive(Clone, Copy, Debug)]
@@ -31,6 +33,8 @@ pub struct Entry {
     pub end: End,
     /// The ports of the host or the switch that is entered.
     pub ports: u8,
+    // Where turn 0 of what enters so stands in the table of hops.
+    pub(crate) hops: u32,
 }
 
 /// The cables of a fabric, the end that each channel enters, and the channel that leaves by each port. Contracts see
@@ -42,6 +46,8 @@ pub struct Wiring {
     cables: Vec<Cable>,
     entries: Vec<Entry>,
     out: Vec<Option<u16>>,
+    // Which channel is entered by a turn. A hop looks here alone.
+    hops: Vec<Option<u16>>,
 }
 
 impl Model for Wiring {
@@ -52,7 +58,7 @@ impl Model for Wiring {
 
     ghost view = { λ w. w.fabric.value };
 
-    ghost invariant = { λ w. IsWiring w.fabric.value w.cables.items w.entries.items w.out.items };
+    ghost invariant = { λ w. IsWiring w.fabric.value w.cables.items w.entries.items w.out.items w.hops.items };
 }
 
 impl Wiring {
@@ -64,11 +70,13 @@ impl Wiring {
         let cables = cables_of(alloc, f)?;
         let entries = entries_of(alloc, f)?;
         let out = out_table(alloc, &cables)?;
+        let hops = hop_table(alloc, &out, f.switches())?;
         Ok(Wiring {
             fabric: Snapshot::of(f),
             cables,
             entries,
             out,
+            hops,
         })
     }
 
@@ -127,6 +135,19 @@ impl Wiring {
     {
         channel_at(&self.out, switch_place(s, p))
     }
+
+    /// The channel that a packet enters which leaves a channel with this byte in front, if it enters one: a look into
+    /// one table, whatever the vertex ahead.
+    pub fn next(&self, c: u16, byte: u8) -> Option<u16>
+        requires { c < channel_count self.now }
+        ensures { result ≡ next_channel self.now c byte }
+    {
+        let entry = entry_at(&self.entries, usize::from(c));
+        match last_six(byte) {
+            Some(six) => channel_at(&self.hops, entry.hops as usize + six),
+            None => None,
+        }
+    }
 }
 
 // The cables of a fabric.
@@ -160,6 +181,7 @@ fn entry_by(f: &Fabric, end: End) -> Entry
     Entry {
         end,
         ports: f.ports(end.v),
+        hops: hops_from(f.switches(), end),
     }
 }
 

@@ -3,3 +3,4 @@ pub mod Limbos
 pub mod NextFull
 pub mod Runs
 pub mod Stepping
+pub mod Turning

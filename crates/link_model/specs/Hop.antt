@@ -1,8 +1,9 @@
 -- A hop: an advance of a packet that another channel takes, or that waits for one.
-use Rattle.std.specs.Prelude.{◌≡◌, ℕ, ◌+◌, Bool, true, false, List}
+use Rattle.std.specs.Prelude.{◌≡◌, ℕ, ◌+◌, Bool, true, false, List, Option, Some, None}
 use Rattle.net_defs.specs.Network.{Network}
 use Rattle.packet_defs.specs.Packet.{stripped}
-use Rattle.link_defs.specs.declared.moved.Course.TheVariants.{Enters}
+use Rattle.link_defs.specs.declared.moved.Course.{Course}
+use Rattle.link_defs.specs.declared.moved.Course.TheVariants.{Arrives, Enters, Drops}
 use Rattle.link_defs.specs.declared.moved.Moved.{Moved as WentTo}
 use Rattle.link_defs.specs.declared.moved.Moved.TheVariants.{To, Blocked as StaysFor}
 use Rattle.link_defs.specs.Links.{LinkState}
@@ -22,6 +23,12 @@ abbrev pub IsHop : LinkState → ℕ → Hop → LinkState → Type 0
 IsHop old c (Moved next) new = advance old c ≡ (To next, new)
 IsHop old c (Blocked next) new = advance old c ≡ (StaysFor next, new)
 IsHop old c Untried new = (new ≡ old) × (is_hop (advance old c).0 ≡ false)
+
+-- the channel that a course leads into, if it leads into one
+abbrev pub entered_by : Course → Option ℕ
+entered_by (Arrives h) = None
+entered_by (Enters next) = Some next
+entered_by (Drops why) = None
 
 -- a switch sends a channel's packet on into a channel
 abbrev pub IsSentOn : Network → ℕ → List ℕ → Type 0

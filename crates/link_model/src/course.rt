@@ -1,16 +1,16 @@
 //! Where a channel's packet goes, whatever the other channels hold.
 
-ghost use Rattle.std.specs.Prelude.{◌≡◌, ◌≢◌, ◌<◌, ◌≤◌, ℕ, true};
+ghost use Rattle.std.specs.Prelude.{◌≡◌, ◌≢◌, ◌<◌, ◌≤◌, ℕ, slice_get, true, IsSome};
 ghost use Rattle.net_defs.specs.Network.{has_port, is_port_count, ports_of};
-ghost use Rattle.packet_defs.specs.Packet.{stripped};
+ghost use Rattle.packet_defs.specs.Packet.{front_turn, head, stripped};
 ghost use Rattle.link_defs.specs.Switch.{aim, after_aim};
 ghost use Rattle.link_defs.specs.Channel.{channel_count};
 ghost use Rattle.link_defs.specs.Advance.{course, course_out};
-ghost use Rattle.link_model.specs.Hop.{IsSentOn, IsSentAlong};
+ghost use Rattle.link_model.specs.Hop.{IsSentOn, IsSentAlong, entered_by};
 
 use crate::hop::Run;
 use channel_slots::Slot;
-use crossbar::{aim, aim_by, turn};
+use crossbar::{aim_by, turn};
 use fabric_wiring::Wiring;
 use link_defs::{Course, Turned, Why};
 use myri_packet::Packet;
@@ -78,42 +78,37 @@ fn turn_at(ports: u8, entry: u8, packet: &mut Packet) -> Turned
     }
 }
 
-// Where the packet of a channel goes. Where that is into a channel, the switch ahead turns it. Aim and turn stand in
-// one function for each number of ports, so that compilers see that they look at the same byte.
-fn go_on(wiring: &Wiring, c: u16, packet: &mut Packet) -> Course
+/// The channel that the packet of a channel goes into, whatever the channels hold, if it goes into one: by one look
+/// into the table of hops, which asks for no number of ports.
+pub(crate) fn next_channel(wiring: &Wiring, c: u16, packet: &Packet) -> Option<u16>
     requires { c < channel_count wiring.now }
-    ensures course { result ≡ course wiring.now c packet.old }
-    ensures on { (next : ℕ) → result ≡ Course.Enters next → packet.new ≡ stripped packet.old }
-    ensures stays { ((next : ℕ) → result ≢ Course.Enters next) → packet.new ≡ packet.old }
+    ensures { result ≡ entered_by (course wiring.now c packet.now) }
 {
-    let entry = wiring.entry(c);
-    match entry.end.v {
-        Vertex::Host(h) => Course::Arrives(h),
-        Vertex::Switch(s) => match entry.ports {
-            4 => go_through::<4>(wiring, s, entry.end.p, packet),
-            8 => go_through::<8>(wiring, s, entry.end.p, packet),
-            _ => go_through::<16>(wiring, s, entry.end.p, packet),
-        },
+    match front_byte(packet) {
+        Some(byte) => wiring.next(c, byte),
+        None => None,
     }
 }
 
-// The same of a packet that enters a switch of P ports by one of them.
-fn go_through<const P: usize>(wiring: &Wiring, s: u16, entry: u8, packet: &mut Packet) -> Course
-    requires counted { ports_of wiring.now (Vertex.Switch s) ≡ P }
-    requires entered { entry < P }
-    requires few { P ≤ 16 }
-    ensures course { result ≡ course_out wiring.now s (aim P entry packet.old) }
-    ensures on { (next : ℕ) → result ≡ Course.Enters next → packet.new ≡ stripped packet.old }
-    ensures stays { ((next : ℕ) → result ≢ Course.Enters next) → packet.new ≡ packet.old }
+/// A packet that is known to have a turn in front, without it.
+pub(crate) fn without_turn(slot: Slot) -> Slot
+    requires { IsSome (front_turn slot.wire) }
+    ensures { result ≡ record slot { wire = stripped slot.wire } }
 {
-    let course = course_out(wiring, s, aim::<P>(entry, packet));
-    if let Course::Enters(_) = course {
-        turn::<P>(entry, packet);
-    }
-    course
+    let (mut packet, marked) = slot.into_parts();
+    packet.strip_turn();
+    Slot::from_parts(packet, marked)
 }
 
-/// The packet of a channel goes on, whatever the channels hold, until it leaves them: how far. Each switch turns it.
+// The first byte of a packet's head.
+fn front_byte(packet: &Packet) -> Option<u8>
+    ensures { result ≡ slice_get (head packet.now) 0 }
+{
+    packet.head().first().copied()
+}
+
+/// The packet of a channel goes on, whatever the channels hold, until it leaves them: how far. Each switch strips the
+/// turn that it takes.
 pub(crate) fn follow(wiring: &Wiring, c: u16, packet: &mut Packet) -> Run
     requires { c < channel_count wiring.now }
     ensures along { IsSentAlong wiring.now c packet.old result.hops result.at packet.new }
@@ -124,7 +119,8 @@ pub(crate) fn follow(wiring: &Wiring, c: u16, packet: &mut Packet) -> Run
     let _few = packet.size();
     let mut at = c;
     let mut hops = 0;
-    while let Course::Enters(next) = go_on(wiring, at, packet) {
+    while let Some(next) = next_channel(wiring, at, packet) {
+        packet.strip_turn();
         at = next;
         hops += 1;
     }

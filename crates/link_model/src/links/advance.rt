@@ -1,13 +1,14 @@
 //! One step of a channel.
 
-ghost use Rattle.std.specs.Prelude.{◌≡◌, ◌≢◌, ◌<◌, ◌≤◌, ℕ, length, Some, IsSome, option_map, if◌then◌else◌};
+ghost use Rattle.std.specs.Prelude.{◌≡◌, ◌≢◌, ◌<◌, ◌≤◌, ℕ, length, Some, IsSome, option_map, option_and_then};
+ghost use Rattle.std.specs.Prelude.{if◌then◌else◌};
 ghost use Rattle.link_defs.specs.Links.{packet_in, emptied};
 ghost use Rattle.link_defs.specs.Advance.{advance, course};
 ghost use Rattle.channel_slots.specs.Full.{IsLone};
-ghost use Rattle.link_model.specs.Hop.{IsHop, IsRun};
+ghost use Rattle.link_model.specs.Hop.{IsHop, IsRun, entered_by};
 
 use super::Links;
-use crate::course::{course, follow, turned};
+use crate::course::{course, follow, next_channel, turned, without_turn};
 use crate::hop::{Hop, Run};
 use channel_slots::Slot;
 use link_defs::{Course, Moved};
@@ -33,15 +34,15 @@ impl Links {
         requires { c < length self.old.channels }
         ensures { IsHop self.old c result self.new }
     {
-        match self.course_of(c) {
-            Some(Course::Enters(next)) => {
-                if self.enter(c, next) {
+        match self.next_of(c) {
+            Some(next) => {
+                if self.pass(c, next) {
                     Hop::Moved(next)
                 } else {
                     Hop::Blocked(next)
                 }
             }
-            Some(Course::Arrives(_) | Course::Drops(_)) | None => Hop::Untried,
+            None => Hop::Untried,
         }
     }
 
@@ -69,6 +70,18 @@ impl Links {
     {
         match self.slots.peek(usize::from(c)) {
             Some(slot) => Some(course(&self.wiring, c, slot.packet())),
+            None => None,
+        }
+    }
+
+    // The channel that a channel's packet goes into, if it goes into one.
+    fn next_of(&self, c: u16) -> Option<u16>
+        requires { c < length self.now.channels }
+        ensures { result
+            ≡ option_and_then (λ held. entered_by (course self.now.net c held.wire)) (packet_in self.now c) }
+    {
+        match self.slots.peek(usize::from(c)) {
+            Some(slot) => next_channel(&self.wiring, c, slot.packet()),
             None => None,
         }
     }
@@ -109,6 +122,22 @@ impl Links {
         }
         let slot = self.slots.take(usize::from(c)).unwrap();
         let slot = turned(&self.wiring, c, slot);
+        self.slots.put(usize::from(next), slot);
+        true
+    }
+
+    // The same of a packet whose next channel was found by its front turn, which is stripped without being aimed anew.
+    fn pass(&mut self, c: u16, next: u16) -> bool
+        requires there { c < length self.old.channels }
+        requires course { option_map (λ held. course self.old.net c held.wire) (packet_in self.old c)
+            ≡ Some (Course.Enters next) }
+        ensures { advance self.old c ≡ (if result then Moved.To next else Moved.Blocked next, self.new) }
+    {
+        if self.slots.is_full(usize::from(next)) && next != c {
+            return false;
+        }
+        let slot = self.slots.take(usize::from(c)).unwrap();
+        let slot = without_turn(slot);
         self.slots.put(usize::from(next), slot);
         true
     }

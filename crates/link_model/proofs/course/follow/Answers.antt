@@ -1,10 +1,17 @@
-use Rattle.std.proofs.Common.{◌+◌, sym, refl, subst, arith}
-use Rattle.link_model.specs.Hop.{IsSentAlong}
+use Rattle.std.proofs.Common.{◌+◌, sym, ap, ◌∙◌, refl, arith}
 use Rattle.link_model.proofs.Runs.{hops-most, following-none, following-on, hop-fewer}
+use Rattle.link_model.proofs.Turning.{entered-is, turn-there}
+use Rattle.link_defs.specs.Advance.{course}
+use Rattle.link_model.specs.Hop.{entered_by}
 use Rattle.link_model.proofs.course.follow.Goals as goal
 
 pub loop-next-init : goal.loop-next-init
 loop-next-init c = following-none c.args.wiring.now c.args.c c.args.packet.now c.requires
+
+pub strip_turn-requires : goal.strip_turn-requires
+strip_turn-requires c =
+    turn-there c.args.wiring.now c.loop-next.at c.in-Some.next c.loop-next.packet
+    (entered-is (course c.args.wiring.now c.loop-next.at c.loop-next.packet) c.in-Some.next (sym c.in-Some.ensures))
 
 pub overflow_add-hops : goal.overflow_add-hops
 overflow_add-hops c =
@@ -14,16 +21,18 @@ overflow_add-hops c =
 
 pub loop-next-smaller : goal.loop-next-smaller
 loop-next-smaller c =
-    let fewer = hop-fewer c.args.wiring.now c.loop-next.at c.in-Enters.next c.loop-next.packet c.go_on.new.packet (sym c.in-Enters.ensures.course) (c.in-Enters.ensures.on c.in-Enters.next refl) in
+    let to = entered-is (course c.args.wiring.now c.loop-next.at c.loop-next.packet) c.in-Some.next (sym c.in-Some.ensures) in
+    let fewer = hop-fewer c.args.wiring.now c.loop-next.at c.in-Some.next c.loop-next.packet c.strip_turn.new.self to c.strip_turn.ensures in
     omega (arith, fewer)
 
 pub loop-next-preserved : goal.loop-next-preserved
 loop-next-preserved c =
-    following-on c.args.wiring.now c.args.c c.args.packet.now c.loop-next.packet c.go_on.new.packet c.loop-next.hops c.loop-next.at c.in-Enters.next (c.loop-next.hops + 1)
-    c.loop-next.invariant (sym c.in-Enters.ensures.course) (c.in-Enters.ensures.on c.in-Enters.next refl) refl
+    let to = entered-is (course c.args.wiring.now c.loop-next.at c.loop-next.packet) c.in-Some.next (sym c.in-Some.ensures) in
+    following-on c.args.wiring.now c.args.c c.args.packet.now c.loop-next.packet c.strip_turn.new.self c.loop-next.hops c.loop-next.at c.in-Some.next (c.loop-next.hops + 1)
+    c.loop-next.invariant to c.strip_turn.ensures refl
 
-pub returns-clause-along : goal.returns-clause-along
-returns-clause-along c = subst (IsSentAlong c.args.wiring.now c.args.c c.args.packet.now c.loop-next.hops c.loop-next.at) (sym (c.go_on.ensures.stays c.in_default.not-Enters)) c.loop-next.invariant.along
+pub returns-clause-last : goal.returns-clause-last
+returns-clause-last c = λ next is. c.in_default.not-Some next (c.next_channel.ensures ∙ ap entered_by is)
 
 pub returns-clause-few : goal.returns-clause-few
 returns-clause-few c =
