@@ -7,7 +7,7 @@ ghost use Rattle.mapper.specs.Growths.{HasGrown, StopsShort, IsToldOf, IsUnderWa
 
 use crate::asking::ask;
 use crate::tree::{NODE_LIMIT, Tree};
-use crate::walks::{TURNS, onward, turn_at};
+use crate::walks::{TURNS, onward, onward_by, turn_at};
 use probe::Prober;
 use std::alloc::{AllocError, Global};
 
@@ -37,8 +37,9 @@ pub(crate) fn expand<P: Prober>(
     ensures same_mapper { P.mapper p.new ≡ P.mapper p.old }
     ensures stays_ready { OnOk result (P.ready p.new) }
 {
+    let mut next = onward(alloc, front, 0)?;
     for step in 0..TURNS {
-        let walk = onward(alloc, front, turn_at(step))?;
+        let walk = onward_by(alloc, &mut next, front, turn_at(step))?;
         ask(alloc, p, tree, walk)?;
         if tree.nodes > NODE_LIMIT {
             return Ok(());

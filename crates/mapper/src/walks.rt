@@ -2,7 +2,7 @@
 
 ghost use Rattle.std.specs.Prelude.{◌≡◌, ◌<◌, ◌+◌, ◌++◌, ◌∷◌, [], length, take, All, None, IfOk};
 ghost use Rattle.net_defs.specs.Turn.{IsTurn, walk_refusal};
-ghost use Rattle.mapper.specs.Turns.{turn_at};
+ghost use Rattle.mapper.specs.Turns.{IsOnward, turn_at};
 
 use net_defs::{Walk, WalkFault};
 use std::alloc::{AllocError, Global};
@@ -42,6 +42,24 @@ pub(crate) fn onward(alloc: Global, front: &[i8], turn: i8) -> Result<Walk, Allo
 {
     let turns = one_more(front, turn);
     walk_of(alloc, &turns[..=front.len()])
+}
+
+/// Another walk that goes on from this front, by this turn: the one at hand takes the turn, and is copied. So its turns
+/// are tested once for all turns of a node.
+pub(crate) fn onward_by(
+    alloc: Global,
+    next: &mut Walk,
+    _front: &[i8],
+    turn: i8,
+) -> Result<Walk, AllocError>
+    requires next { IsOnward _front.now next.old }
+    requires turn { IsTurn turn }
+    ensures next { IsOnward _front.now next.new }
+    ensures walk { IfOk result (λ walk. walk ≡ _front.now ++ turn ∷ []) }
+{
+    next.turn_last(turn);
+    let walk = next.copied(alloc)?;
+    Ok(walk)
 }
 
 // Turns with one more after them, and zeros after that.

@@ -6,7 +6,7 @@ use Rattle.growth_laws.proofs.Asks.{push-length}
 use Rattle.mapper.specs.Turns.{turn_at}
 use Rattle.mapper.specs.Growths.{IsAsk, IsLostAsk, IsToldOf}
 use Rattle.mapper.proofs.Midway.{midway-start}
-use Rattle.mapper.proofs.Adding.{walk-turn, grown-none, as-asked, on-err, as-next, IsMidst, midst-walk, midst-next, midst-grown, midst-full, midst-whole, midst-stops, midst-lost}
+use Rattle.mapper.proofs.Adding.{walk-turn, grown-none, as-asked, on-err, as-next, IsMidst, midst-walk, midst-next, midst-grown, midst-full, midst-whole, midst-stops, midst-lost, stops-still}
 use Rattle.mapper.proofs.expanding.expand.Goals as goal
 
 pub loop-step-init : goal.loop-step-init
@@ -19,6 +19,7 @@ loop-step-init g c =
         under_way = c.requires.under_way;
         grown = grown-none p.State p.asked (p.fabric c.args.p.now) t (p.state c.args.p.now) (p.lost c.args.p.now) c.requires.under_way;
       };
+      next = (_, c.in_ok-next.ensures);
       is_ready = c.requires.is_ready;
       same_fabric = refl;
       same_mapper = refl;
@@ -31,10 +32,13 @@ onward-requires-clause-short g c =
     let shallow = c.requires.shallow in
     omega arith
 
+pub onward_by-requires-clause-next : goal.onward_by-requires-clause-next
+onward_by-requires-clause-next g c = c.loop-step.invariant.next
+
 pub ask-requires-clause-short : goal.ask-requires-clause-short
 ask-requires-clause-short g c =
     let w : List ℤ = c.args.front.now ++ turn_at c.loop-step.step ∷ [] in
-    let walk : c.in_ok-walk.walk ≡ w = walk-turn c.args.front.now c.in_ok-walk.walk c.turn_at.result (turn_at c.loop-step.step) c.turn_at.ensures.in_range c.in_ok-walk.ensures c.turn_at.ensures.value in
+    let walk : c.in_ok-walk.walk ≡ w = walk-turn c.args.front.now c.in_ok-walk.walk c.turn_at.result (turn_at c.loop-step.step) c.turn_at.ensures.in_range c.in_ok-walk.ensures.walk c.turn_at.ensures.value in
     let e : length c.in_ok-walk.walk ≡ length w = ap length walk in
     let f : length w ≡ suc (length c.args.front.now) = push-length c.args.front.now (turn_at c.loop-step.step) in
     let near = c.requires.chosen.near in
@@ -48,7 +52,7 @@ ask-requires-clause-next g c =
     let i = c.loop-step.invariant in
     let n = p.fabric c.args.p.now in
     let w : List ℤ = c.args.front.now ++ turn_at c.loop-step.step ∷ [] in
-    let walk : c.in_ok-walk.walk ≡ w = walk-turn c.args.front.now c.in_ok-walk.walk c.turn_at.result (turn_at c.loop-step.step) c.turn_at.ensures.in_range c.in_ok-walk.ensures c.turn_at.ensures.value in
+    let walk : c.in_ok-walk.walk ≡ w = walk-turn c.args.front.now c.in_ok-walk.walk c.turn_at.result (turn_at c.loop-step.step) c.turn_at.ensures.in_range c.in_ok-walk.ensures.walk c.turn_at.ensures.value in
     let host : p.mapper c.loop-step.p ≡ c.loop-step.tree.journal.host = i.same_mapper ∙ sym c.requires.mapper ∙ sym i.midst.grown.host in
     let told : IsToldOf n t.journal.host t.journal.entries = subst (λ h. IsToldOf n h t.journal.entries) (sym c.requires.mapper) c.requires.told in
     as-next (p.fabric c.loop-step.p) n (p.mapper c.loop-step.p) c.loop-step.tree.journal.host c.loop-step.tree c.in_ok-walk.walk w i.same_fabric host walk
@@ -57,16 +61,21 @@ ask-requires-clause-next g c =
 pub ask-requires-clause-few : goal.ask-requires-clause-few
 ask-requires-clause-few g c = c.loop-step.invariant.midst.under_way.kept
 
+pub returns-in_err-next-clause-stopped : goal.returns-in_err-next-clause-stopped
+returns-in_err-next-clause-stopped g c =
+    let p = g.P.Prober in
+    on-err c.from_residual.result (stops-still p.State p.asked p.cut (p.fabric c.args.p.now) c.args.tree.now (p.state c.args.p.now) (p.lost c.args.p.now) c.requires.under_way)
+
 pub returns-in_err-walk-clause-stopped : goal.returns-in_err-walk-clause-stopped
 returns-in_err-walk-clause-stopped g c =
     let p = g.P.Prober in
-    on-err c.from_residual.result (midst-stops p.State p.asked (p.fabric c.args.p.now) c.args.tree.now (p.state c.args.p.now) (p.lost c.args.p.now) p.cut c.args.front.now c.loop-step.step c.loop-step.tree (p.state c.loop-step.p) (p.lost c.loop-step.p) c.loop-step.invariant.midst)
+    on-err c.from_residual-in_err-walk.result (midst-stops p.State p.asked (p.fabric c.args.p.now) c.args.tree.now (p.state c.args.p.now) (p.lost c.args.p.now) p.cut c.args.front.now c.loop-step.step c.loop-step.tree (p.state c.loop-step.p) (p.lost c.loop-step.p) c.loop-step.invariant.midst)
 
 pub returns-in_err-ask-clause-stopped : goal.returns-in_err-ask-clause-stopped
 returns-in_err-ask-clause-stopped g c =
     let p = g.P.Prober in
     let w : List ℤ = c.args.front.now ++ turn_at c.loop-step.step ∷ [] in
-    let walk : c.in_ok-walk.walk ≡ w = walk-turn c.args.front.now c.in_ok-walk.walk c.turn_at.result (turn_at c.loop-step.step) c.turn_at.ensures.in_range c.in_ok-walk.ensures c.turn_at.ensures.value in
+    let walk : c.in_ok-walk.walk ≡ w = walk-turn c.args.front.now c.in_ok-walk.walk c.turn_at.result (turn_at c.loop-step.step) c.turn_at.ensures.in_range c.in_ok-walk.ensures.walk c.turn_at.ensures.value in
     let lost : IsLostAsk p.State p.asked p.cut (p.state c.loop-step.p) w (p.state c.ask.new.p) = subst (λ v. IsLostAsk p.State p.asked p.cut (p.state c.loop-step.p) v (p.state c.ask.new.p)) walk c.in_err-ask.ensures.err in
     on-err c.from_residual-in_err-ask.result (midst-lost p.State p.asked (p.fabric c.args.p.now) c.args.tree.now (p.state c.args.p.now) (p.lost c.args.p.now) p.cut c.args.front.now c.loop-step.step c.loop-step.tree (p.state c.loop-step.p) (p.state c.ask.new.p) (p.lost c.loop-step.p) c.loop-step-test.true c.loop-step.invariant.midst lost)
 
@@ -76,7 +85,7 @@ returns-then-tree-gt-NODE_LIMIT-clause-grown g c =
     let n = p.fabric c.args.p.now in
     let m = c.loop-step.invariant.midst in
     let w : List ℤ = c.args.front.now ++ turn_at c.loop-step.step ∷ [] in
-    let walk : c.in_ok-walk.walk ≡ w = walk-turn c.args.front.now c.in_ok-walk.walk c.turn_at.result (turn_at c.loop-step.step) c.turn_at.ensures.in_range c.in_ok-walk.ensures c.turn_at.ensures.value in
+    let walk : c.in_ok-walk.walk ≡ w = walk-turn c.args.front.now c.in_ok-walk.walk c.turn_at.result (turn_at c.loop-step.step) c.turn_at.ensures.in_range c.in_ok-walk.ensures.walk c.turn_at.ensures.value in
     let host : p.mapper c.loop-step.p ≡ c.loop-step.tree.journal.host = c.loop-step.invariant.same_mapper ∙ sym c.requires.mapper ∙ sym m.grown.host in
     let ask : IsAsk p.State p.asked (answer n c.loop-step.tree.journal.host w) (p.state c.loop-step.p) (p.lost c.loop-step.p) w c.loop-step.tree c.ask.new.tree (p.state c.ask.new.p) (p.lost c.ask.new.p) = as-asked p.State p.asked (p.fabric c.loop-step.p) n (p.mapper c.loop-step.p) c.loop-step.tree.journal.host c.in_ok-walk.walk w c.loop-step.tree c.ask.new.tree (p.state c.loop-step.p) (p.state c.ask.new.p) (p.lost c.loop-step.p) (p.lost c.ask.new.p) c.loop-step.invariant.same_fabric host walk c.in_ok-ask.ensures.ok in
     midst-grown p.State p.asked n c.args.tree.now (p.state c.args.p.now) (p.lost c.args.p.now) c.args.front.now c.loop-step.step c.loop-step.tree c.ask.new.tree (p.state c.loop-step.p) (p.state c.ask.new.p) (p.lost c.loop-step.p) (p.lost c.ask.new.p) c.loop-step-test.true m ask c.in_ok-ask.ensures.later
@@ -87,7 +96,7 @@ returns-then-tree-gt-NODE_LIMIT-clause-expanded g c =
     let n = p.fabric c.args.p.now in
     let m = c.loop-step.invariant.midst in
     let w : List ℤ = c.args.front.now ++ turn_at c.loop-step.step ∷ [] in
-    let walk : c.in_ok-walk.walk ≡ w = walk-turn c.args.front.now c.in_ok-walk.walk c.turn_at.result (turn_at c.loop-step.step) c.turn_at.ensures.in_range c.in_ok-walk.ensures c.turn_at.ensures.value in
+    let walk : c.in_ok-walk.walk ≡ w = walk-turn c.args.front.now c.in_ok-walk.walk c.turn_at.result (turn_at c.loop-step.step) c.turn_at.ensures.in_range c.in_ok-walk.ensures.walk c.turn_at.ensures.value in
     let host : p.mapper c.loop-step.p ≡ c.loop-step.tree.journal.host = c.loop-step.invariant.same_mapper ∙ sym c.requires.mapper ∙ sym m.grown.host in
     let ask : IsAsk p.State p.asked (answer n c.loop-step.tree.journal.host w) (p.state c.loop-step.p) (p.lost c.loop-step.p) w c.loop-step.tree c.ask.new.tree (p.state c.ask.new.p) (p.lost c.ask.new.p) = as-asked p.State p.asked (p.fabric c.loop-step.p) n (p.mapper c.loop-step.p) c.loop-step.tree.journal.host c.in_ok-walk.walk w c.loop-step.tree c.ask.new.tree (p.state c.loop-step.p) (p.state c.ask.new.p) (p.lost c.loop-step.p) (p.lost c.ask.new.p) c.loop-step.invariant.same_fabric host walk c.in_ok-ask.ensures.ok in
     midst-full p.State p.asked n c.args.tree.now (p.state c.args.p.now) (p.lost c.args.p.now) c.args.front.now c.loop-step.step c.loop-step.tree c.ask.new.tree (p.state c.loop-step.p) (p.state c.ask.new.p) (p.lost c.loop-step.p) (p.lost c.ask.new.p) m ask c.if-tree-gt-NODE_LIMIT.true
@@ -98,7 +107,7 @@ loop-step-preserved g c =
     let n = p.fabric c.args.p.now in
     let m = c.loop-step.invariant.midst in
     let w : List ℤ = c.args.front.now ++ turn_at c.loop-step.step ∷ [] in
-    let walk : c.in_ok-walk.walk ≡ w = walk-turn c.args.front.now c.in_ok-walk.walk c.turn_at.result (turn_at c.loop-step.step) c.turn_at.ensures.in_range c.in_ok-walk.ensures c.turn_at.ensures.value in
+    let walk : c.in_ok-walk.walk ≡ w = walk-turn c.args.front.now c.in_ok-walk.walk c.turn_at.result (turn_at c.loop-step.step) c.turn_at.ensures.in_range c.in_ok-walk.ensures.walk c.turn_at.ensures.value in
     let host : p.mapper c.loop-step.p ≡ c.loop-step.tree.journal.host = c.loop-step.invariant.same_mapper ∙ sym c.requires.mapper ∙ sym m.grown.host in
     let ask : IsAsk p.State p.asked (answer n c.loop-step.tree.journal.host w) (p.state c.loop-step.p) (p.lost c.loop-step.p) w c.loop-step.tree c.ask.new.tree (p.state c.ask.new.p) (p.lost c.ask.new.p) = as-asked p.State p.asked (p.fabric c.loop-step.p) n (p.mapper c.loop-step.p) c.loop-step.tree.journal.host c.in_ok-walk.walk w c.loop-step.tree c.ask.new.tree (p.state c.loop-step.p) (p.state c.ask.new.p) (p.lost c.loop-step.p) (p.lost c.ask.new.p) c.loop-step.invariant.same_fabric host walk c.in_ok-ask.ensures.ok in
     let kept : c.ask.new.tree.nodes ≤ node_limit = c.if-tree-gt-NODE_LIMIT.false in
@@ -106,6 +115,7 @@ loop-step-preserved g c =
     let before = c.loop-step.invariant.later in
     record {
       midst = midst-next p.State p.asked n c.args.tree.now (p.state c.args.p.now) (p.lost c.args.p.now) c.args.front.now c.loop-step.step c.loop-step.tree c.ask.new.tree (p.state c.loop-step.p) (p.state c.ask.new.p) (p.lost c.loop-step.p) (p.lost c.ask.new.p) c.loop-step-test.true m ask later kept;
+      next = c.onward_by.ensures.next;
       is_ready = c.in_ok-ask.ensures.stays_ready;
       same_fabric = c.in_ok-ask.ensures.same_fabric ∙ c.loop-step.invariant.same_fabric;
       same_mapper = c.in_ok-ask.ensures.same_mapper ∙ c.loop-step.invariant.same_mapper;
