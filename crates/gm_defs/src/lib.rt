@@ -18,6 +18,7 @@
 #![tactic(auto)]
 
 mod blob;
+mod counting;
 mod examples;
 mod frame;
 mod laws;
@@ -25,6 +26,7 @@ mod message;
 mod token;
 
 pub use blob::Blob;
+pub use counting::counted_bytes;
 pub use examples::{
     bodies_of_frames, connections_of_bodies, message_in_two_fragments, numbers_of_a_connection,
     pieces_of_messages, ports_after_calls, sizes_of_tokens,

@@ -31,7 +31,7 @@ pub(crate) struct UsedLane {
     receiver: Receiver,
     got: Vec<Message>,
     // The bytes that came so far of the message that is taken in part.
-    coming: Vec<u8>,
+    coming: Blob,
     owes: bool,
 }
 
@@ -47,7 +47,7 @@ impl Model for UsedLane {
         sent = p.sent.items;
         pending = sends_of p.sender;
         got = p.got.items;
-        coming = p.coming.items;
+        coming = p.coming;
         taken = p.receiver.taken;
         owes = p.owes;
       };
@@ -66,7 +66,7 @@ impl UsedLane {
             sent: Vec::new(alloc),
             receiver: Receiver::new(peer, host, prio),
             got: Vec::new(alloc),
-            coming: Vec::new(alloc),
+            coming: Blob::empty(),
             owes: false,
         }
     }
@@ -302,44 +302,42 @@ fn message_in(alloc: Global, e: Envelope, b: &mut Reg, len: u32) -> Result<Messa
 fn keep(
     alloc: Global,
     got: &mut Vec<Message>,
-    coming: &mut Vec<u8>,
+    coming: &mut Blob,
     took: Took,
     h: &FrameHead,
     part: &[u8],
 ) -> Result<(), AllocError>
     ensures got { OnOk result (got.new.items ≡
-        got_after got.old.items coming.old.items took (message_of h.now part.now)) }
-    ensures coming { OnOk result (coming.new.items ≡ coming_after coming.old.items took (message_of h.now part.now)) }
+        got_after got.old.items coming.old took (message_of h.now part.now)) }
+    ensures coming { OnOk result (coming.new ≡ coming_after coming.old took (message_of h.now part.now)) }
     ensures err { OnErr result (got.new.items ≡ got.old.items) }
-    ensures none_came { OnErr result (coming.new.items ≡ coming.old.items) }
+    ensures none_came { OnErr result (coming.new ≡ coming.old) }
 {
     match took {
         Took::Whole => {
             make_message_room(got)?;
-            append(coming, h, part)?;
-            let mut body = Vec::new(alloc);
-            mem::swap(coming, &mut body);
+            append(alloc, coming, h, part)?;
             got.push_reserved(Message {
                 sport: h.sport,
                 dport: h.dport,
                 prio: h.prio,
-                body: Blob::new(body),
+                body: mem::replace(coming, Blob::empty()),
             });
             Ok(())
         }
-        Took::Part => append(coming, h, part),
+        Took::Part => append(alloc, coming, h, part),
         Took::NoToken => Ok(()),
         Took::NotNext => Ok(()),
     }
 }
 
 // Puts the bytes of a fragment after those that came of its message. A first one makes room for all of them.
-fn append(coming: &mut Vec<u8>, h: &FrameHead, part: &[u8]) -> Result<(), AllocError>
-    ensures ok { OnOk result (coming.new.items ≡ coming.old.items ++ part.now) }
-    ensures err { OnErr result (coming.new.items ≡ coming.old.items) }
+fn append(alloc: Global, coming: &mut Blob, h: &FrameHead, part: &[u8]) -> Result<(), AllocError>
+    ensures ok { OnOk result (coming.new ≡ coming.old ++ part.now) }
+    ensures err { OnErr result (coming.new ≡ coming.old) }
 {
-    coming.reserve(h.total.saturating_sub(h.offset) as usize)?;
-    coming.extend_from_slice(part)
+    let after = h.offset.saturating_add(u32::from(h.len));
+    coming.append(alloc, part, h.total.saturating_sub(after) as usize)
 }
 
 // Takes so many finished descriptors out of a sender, which has as many and keeps its numbers.

@@ -2,9 +2,9 @@
 
 ghost use Rattle.std.specs.Prelude.{◌≡◌, ◌+◌, ◌≤◌, [], length, replicate, take, true, IfOk, vec_capacity};
 ghost use Rattle.reg_mem.specs.Written.{written};
-ghost use Rattle.reg_mem.specs.Held.{held_bytes, HasRoom, is_own};
+ghost use Rattle.reg_mem.specs.Held.{held_bytes, HasRoom, IsRoomy, is_own};
 
-use gm_defs::Blob;
+use gm_defs::{Blob, counted_bytes};
 use std::alloc::{AllocError, Global};
 use std::mem;
 
@@ -13,15 +13,24 @@ pub(crate) const MOST_ZEROS: usize = 65_536;
 
 static ZEROS: [u8; MOST_ZEROS] = [0; MOST_ZEROS];
 
-/// The bytes of a buffer.
+/// The bytes of a buffer. Where they lie elsewhere there is room for them, in which nothing is, should one be written.
 #[derive(Drop)]
 pub(crate) enum Held {
     /// They are the buffer's own.
     Own(Vec<u8>),
-    /// So many zeros, of which none was written. There is room for them, in which nothing is, should one be.
-    Zeros(usize, Vec<u8>),
-    /// Messages share them. There is room for them, in which nothing is, should the buffer part from the messages.
-    Shared(Blob, Vec<u8>),
+    /// So many zeros, of which none was written.
+    Zeros(u32, Vec<u8>),
+    /// They count up from this one, are so many, and none was written.
+    Counted(u8, u32, Vec<u8>),
+    /// Messages share them.
+    Shared(Box<Sharing>),
+}
+
+/// Bytes that messages share, and room for them.
+#[derive(Drop)]
+pub(crate) struct Sharing {
+    whole: Blob,
+    room: Vec<u8>,
 }
 
 impl Held {
@@ -32,12 +41,13 @@ impl Held {
     {
         match self {
             Held::Own(bytes) => bytes,
-            Held::Zeros(len, _room) => zeros(*len),
-            Held::Shared(whole, _room) => whole.bytes(),
+            Held::Zeros(len, _room) => zeros(*len as usize),
+            Held::Counted(first, len, _room) => counted_bytes(*first, *len as usize),
+            Held::Shared(both) => both.whole.bytes(),
         }
     }
 
-    /// A blob of the first so many bytes, which shares them where messages do.
+    /// A blob of the first so many bytes, which shares them where messages do, and takes no memory where they count up.
     pub(crate) fn front(&self, alloc: Global, len: usize) -> Result<Blob, AllocError>
         requires room { HasRoom self.now }
         requires front { len ≤ length (held_bytes self.now) }
@@ -45,7 +55,10 @@ impl Held {
     {
         match self {
             Held::Own(_) | Held::Zeros(..) => Ok(Blob::new(self.bytes()[..len].to_vec(alloc)?)),
-            Held::Shared(whole, _room) => whole.front(alloc, len),
+            Held::Counted(first, all, _room) => {
+                Blob::counted(*first, *all as usize).front(alloc, len)
+            }
+            Held::Shared(both) => both.whole.front(alloc, len),
         }
     }
 }
@@ -58,8 +71,9 @@ pub(crate) fn into_shared(alloc: Global, held: Held) -> (Held, bool)
 {
     match held {
         Held::Own(bytes) => share(alloc, bytes),
-        Held::Zeros(len, mut room) => share(alloc, filled(&mut room, zeros(len))),
-        Held::Shared(whole, room) => (Held::Shared(whole, room), true),
+        Held::Zeros(len, mut room) => share(alloc, filled(&mut room, zeros(len as usize))),
+        Held::Counted(first, len, room) => (Held::Counted(first, len, room), true),
+        Held::Shared(both) => (Held::Shared(both), true),
     }
 }
 
@@ -70,11 +84,32 @@ fn share(alloc: Global, bytes: Vec<u8>) -> (Held, bool)
 {
     match Vec::with_capacity(alloc, bytes.len()) {
         Ok(room) => match Blob::shared(alloc, bytes) {
-            Ok(whole) => (Held::Shared(whole, room), true),
+            Ok(whole) => share_in(alloc, Sharing { whole, room }),
             Err(failed) => (Held::Own(failed.value), false),
         },
         Err(_) => (Held::Own(bytes), false),
     }
+}
+
+// Puts bytes with the room for them where a buffer finds both; or writes them there where there is no memory for that.
+fn share_in(alloc: Global, both: Sharing) -> (Held, bool)
+    requires { IsRoomy both }
+    ensures bytes { held_bytes result.0 ≡ both.whole }
+    ensures room { HasRoom result.0 }
+{
+    match Box::new(alloc, both) {
+        Ok(both) => (Held::Shared(both), true),
+        Err(failed) => (Held::Own(parted(failed.value)), false),
+    }
+}
+
+// Bytes that messages share, in the room that was taken for them.
+fn parted(both: Sharing) -> Vec<u8>
+    requires { IsRoomy both }
+    ensures { result.items ≡ both.whole }
+{
+    let Sharing { whole, mut room } = both;
+    filled(&mut room, whole.bytes())
 }
 
 /// The bytes, in the buffer's own memory. Takes no memory.
@@ -84,8 +119,11 @@ pub(crate) fn into_bytes(held: Held) -> Vec<u8>
 {
     match held {
         Held::Own(bytes) => bytes,
-        Held::Zeros(len, mut room) => filled(&mut room, zeros(len)),
-        Held::Shared(whole, mut room) => filled(&mut room, whole.bytes()),
+        Held::Zeros(len, mut room) => filled(&mut room, zeros(len as usize)),
+        Held::Counted(first, len, mut room) => {
+            filled(&mut room, counted_bytes(first, len as usize))
+        }
+        Held::Shared(both) => parted(Box::into_inner(both)),
     }
 }
 
@@ -99,11 +137,11 @@ pub(crate) fn write(held: &mut Held, at: usize, b: &[u8])
     part(held);
     match held {
         Held::Own(bytes) => bytes[at..at + b.len()].copy_from_slice(b),
-        Held::Zeros(..) | Held::Shared(..) => unreachable!(),
+        Held::Zeros(..) | Held::Counted(..) | Held::Shared(..) => unreachable!(),
     }
 }
 
-// Parts from the messages that share the bytes, and writes zeros out.
+// Parts from the messages that share the bytes, and writes out what wasn't written.
 fn part(held: &mut Held)
     requires { HasRoom held.old }
     ensures bytes { held_bytes held.new ≡ held_bytes held.old }
@@ -112,11 +150,16 @@ fn part(held: &mut Held)
     match held {
         Held::Own(_) => {}
         Held::Zeros(len, room) => {
-            let bytes = filled(room, zeros(*len));
+            let bytes = filled(room, zeros(*len as usize));
             *held = Held::Own(bytes);
         }
-        Held::Shared(whole, room) => {
-            let bytes = filled(room, whole.bytes());
+        Held::Counted(first, len, room) => {
+            let bytes = filled(room, counted_bytes(*first, *len as usize));
+            *held = Held::Own(bytes);
+        }
+        Held::Shared(both) => {
+            let both = &mut **both;
+            let bytes = filled(&mut both.room, both.whole.bytes());
             *held = Held::Own(bytes);
         }
     }

@@ -1,6 +1,7 @@
 //! A registered buffer.
 
 ghost use Rattle.std.specs.Prelude.{◌≡◌, ◌+◌, ◌≤◌, length, replicate, take, IfOk};
+ghost use Rattle.gm_defs.specs.Blob.{counted};
 ghost use Rattle.reg_mem.specs.Written.{written};
 
 use crate::held::{Held, MOST_ZEROS, into_bytes, into_shared, write};
@@ -46,9 +47,21 @@ pub fn zeroed(alloc: Global, len: usize) -> Result<Reg, AllocError>
     let held = if len > MOST_ZEROS {
         Held::Own(vec![in alloc; 0u8; len]?)
     } else {
-        Held::Zeros(len, Vec::with_capacity(alloc, len)?)
+        Held::Zeros(len as u32, Vec::with_capacity(alloc, len)?)
     };
     Ok(Reg { held })
+}
+
+/// A buffer of so many bytes that count up from one, modulo 256, as those of a client's message do. None of them is
+/// written before something else is: until then the buffer takes room, and no more.
+pub fn counted(alloc: Global, first: u8, len: usize) -> Result<Reg, AllocError>
+    requires { len ≤ 65536 }
+    ensures { IfOk result (λ r. r ≡ counted first len) }
+{
+    let room = Vec::with_capacity(alloc, len)?;
+    Ok(Reg {
+        held: Held::Counted(first, len as u32, room),
+    })
 }
 
 /// Gives the bytes of a buffer back. Takes no memory: where a message shares them, they are copied into the room that

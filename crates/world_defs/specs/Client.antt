@@ -1,8 +1,9 @@
 -- The client of a host's port has tokens, and makes calls.
-use Rattle.std.specs.Prelude.{ℕ, ◌+◌, ◌%◌, List, [], ◌∷◌, ◌++◌, map, length, take, replicate, is_none, nat_lt}
+use Rattle.std.specs.Prelude.{ℕ, List, [], ◌∷◌, ◌++◌, length, take, replicate, is_none, nat_lt}
 use Rattle.std.specs.Prelude.{if◌then◌else◌, Option, Some, None}
 use Rattle.std.specs.List.{range_with_len}
 use Rattle.gm_defs.specs.declared.message.Message.{Message}
+use Rattle.gm_defs.specs.Blob.{counted}
 use Rattle.gm_defs.specs.Fragment.{piece_count}
 use Rattle.gm_defs.specs.Connection.{is_spent}
 use Rattle.gm_defs.specs.Token.{PortState, PortEvent, Sent, Received, opened, room}
@@ -105,7 +106,7 @@ provided_by n port size prio c = provide_open n port size prio c (port_at n port
 
 -- the bytes of a client's message: byte i is the seed plus i, modulo 256
 abbrev pub client_bytes : ℕ → ℕ → List ℕ
-client_bytes len seed = map (λ i. (seed + i) % 256) (range_with_len 0 len)
+client_bytes len seed = counted seed len
 
 -- What a client wants to send: from which port, to which host and port there, with which priority, how many bytes,
 -- and the first of them.

@@ -32,7 +32,7 @@ returns c =
         sent = c.self.inside.sent.items;
         pending = sends_of v;
         got = c.self.inside.got.items;
-        coming = c.self.inside.coming.items;
+        coming = c.self.inside.coming;
         taken = c.self.inside.receiver.taken;
         owes = c.self.inside.owes;
       };
