@@ -43,7 +43,7 @@ is_short buffer wanted = nat_lt (length buffer) wanted
 abbrev pub sent_with : PortState → ℕ → List ℕ → PortState
 sent_with p token buffer = record p { queue = with_send (record { token = token; buffer = buffer }) p.queue }
 
--- a token was provided with its buffer, behind the others
+-- a token was provided with its buffer, after the others
 abbrev pub provided_with : PortState → Provided → PortState
 provided_with p r = record p { provided = p.provided ++ r ∷ [] }
 

@@ -13,7 +13,7 @@ pub record LastMap : Type 0 where
   pub words : MapWords
   pub made : NetMap
 
--- The last routes that were computed have the mapper and the hosts of their map, by address.
+-- The routes that were computed last stand with their map's mapper and hosts, by address.
 pub record LastRoutes : Type 0 where
   pub mapper : ℕ
   pub hosts : List ℕ

@@ -89,7 +89,8 @@ without_fault number fs = remove_entry (nat_eq number) fs
 abbrev pub with_fault : ℕ → Fault → List (ℕ × Fault) → List (ℕ × Fault)
 with_fault number fault fs = insert_entry nat_cmp fs number fault
 
--- a fault is planned for an injection so far ahead, in place of one planned for it before, and answers that number
+-- a fault is planned for an injection so far ahead, in place of one planned for it before; the answer is that
+-- injection's number
 abbrev pub planned : WorldState → ℕ → Fault → ℕ × WorldState
 planned w ahead fault = (w.injected + ahead, record w { plan = with_fault (w.injected + ahead) fault w.plan })
 
