@@ -13,14 +13,14 @@ use Rattle.class_joins.specs.Ways.{node_at}
 use Rattle.map_quotient.specs.Naming.{bare_map, with_vertex, vertices_of}
 
 -- the vertex of one node more, after these
-abbrev next_vertex : ℕ → List (Option ℕ) → Option ℕ → MapVertex
+abbrev pub next_vertex : ℕ → List (Option ℕ) → Option ℕ → MapVertex
 next_vertex s os (Some h) = Host h
 next_vertex s os None = Switch (s + length (switches_of (named s os)))
 
-same_switch : (a b : ℕ) → a ≡ b → Switch a ∷ [] ≡ Switch b ∷ []
+pub same_switch : (a b : ℕ) → a ≡ b → Switch a ∷ [] ≡ Switch b ∷ []
 same_switch a b e = ap (λ n. Switch n ∷ []) e
 
-named-push : (s : ℕ) (os : List (Option ℕ)) (o : Option ℕ) → named s (os ++ o ∷ []) ≡ named s os ++ next_vertex s os o ∷ []
+pub named-push : (s : ℕ) (os : List (Option ℕ)) (o : Option ℕ) → named s (os ++ o ∷ []) ≡ named s os ++ next_vertex s os o ∷ []
 named-push s [] (Some h) = refl
 named-push s [] None = same_switch s (s + 0) (omega arith)
 named-push s (Some g ∷ os) (Some h) = ap (λ l. Host g ∷ l) (named-push s os (Some h))

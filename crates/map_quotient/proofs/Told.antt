@@ -18,7 +18,7 @@ use Rattle.class_joins.specs.Table.{ClassTable}
 use Rattle.class_joins.specs.Ways.{node_at}
 use Rattle.class_joins.specs.Nodes.{nodes_of}
 use Rattle.class_joins.proofs.Nodes.{apart-once, nodes-apart}
-use Rattle.class_joins.proofs.Telling.{walk-node, no-walk, node-walk, IsWalked}
+use Rattle.class_joins.proofs.Telling.{last-turn, not-empty, walk-node, no-walk, node-walk, IsWalked}
 use Rattle.map_quotient.specs.Joining.{port_of, cable_between, TellsCable, joined, joined_by, JoinsBelow}
 use Rattle.map_quotient.specs.Joining.TellsCable.{from_mapper, from_node, from_none}
 use Rattle.map_quotient.specs.Joining.JoinsBelow.{start, next}
@@ -61,28 +61,6 @@ cabled-cases m c d e (back k {c = x} s) = by (push-cases m.cables c k x s)
     by : (slice_get m.cables k ≡ Some x) ⊎ ((k ≡ length m.cables) × (c ≡ x)) → IsCabled m (second_end x) (first_end x) ⊎ Joins c (second_end x) (first_end x)
     by (inl p) = inl (back k p)
     by (inr p) = inr (inr (ap second_end p.1, ap first_end p.1))
-
--- the last turn of a walk, and what is in front of it
-last-turn : (front other : List ℤ) (s t : ℤ) → front ++ s ∷ [] ≡ other ++ t ∷ [] → (front ≡ other) × (s ≡ t)
-last-turn [] [] s t e = (refl, (let one : s ≡ t = cc in one))
-last-turn [] (y ∷ ys) s t e = absurd (empty ys (let r : [] ≡ ys ++ t ∷ [] = cc in r))
-  where
-    empty : (ys : List ℤ) → [] ≡ ys ++ t ∷ [] → ⊥
-    empty [] r = cc
-    empty (z ∷ zs) r = cc
-last-turn (x ∷ xs) [] s t e = absurd (empty xs (let r : xs ++ s ∷ [] ≡ [] = cc in r))
-  where
-    empty : (xs : List ℤ) → xs ++ s ∷ [] ≡ [] → ⊥
-    empty [] r = cc
-    empty (z ∷ zs) r = cc
-last-turn (x ∷ xs) (y ∷ ys) s t e =
-    let rest = last-turn xs ys s t (let r : xs ++ s ∷ [] ≡ ys ++ t ∷ [] = cc in r) in
-    let one : x ≡ y = cc in
-    ((λ i. one i ∷ rest.0 i), rest.1)
-
-not-empty : (front : List ℤ) (t : ℤ) → front ++ t ∷ [] ≢ []
-not-empty [] t e = cc
-not-empty (x ∷ xs) t e = cc
 
 module _ (host : ℕ) (j : List Entry) (walks : List (List ℤ)) (c : ClassTable) (least : List ℕ) (vertices : List (Option ℕ)) (g : AreOf host j c least vertices) (walked : nodes_of walks ≡ c.nodes) where
   abbrev Led : MapPort → MapPort → Type 0

@@ -4,7 +4,6 @@ pub mod Images
 pub mod Levels
 pub mod Moved
 pub mod Named
-pub mod Nodes
 pub mod OneCanon
 pub mod Renumbered
 pub mod Steps

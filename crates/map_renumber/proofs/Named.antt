@@ -1,32 +1,12 @@
 -- A map whose vertices are named by their addresses, with one vertex more.
-use Rattle.std.proofs.Common.{◌≡◌, ◌<◌, ◌+◌, ℕ, suc, List, [], ◌∷◌, ◌++◌, length, map, take, get_or, Bool, true, Option, Some, None, refl, ap, sym, ◌∙◌, arith}
+use Rattle.std.proofs.Common.{◌≡◌, ◌<◌, ◌+◌, ℕ, List, [], ◌∷◌, ◌++◌, length, map, take, get_or, Bool, true, Option, Some, None, refl, ap, sym, ◌∙◌, arith}
 use Rattle.std.proofs.lemmas.List.{map-append, take_more}
 use Rattle.std.proofs.lemmas.Option.{get_or_from_slice_get}
-use Rattle.map_defs.specs.declared.vertex.MapVertex.{MapVertex}
-use Rattle.map_defs.specs.declared.vertex.MapVertex.TheVariants.{Host, Switch}
 use Rattle.map_defs.specs.NetMap.{NetMap, IsMap, switches_of, host_of_vertex}
 use Rattle.map_defs.specs.Quotient.{named}
+use Rattle.map_quotient.proofs.Named.{same_switch, named-push}
 use Rattle.map_renumber.specs.Canon.{is_of_core}
 use Rattle.map_renumber.specs.Naming.{bare_map, with_vertex}
-
--- the vertex of one address more, after these
-abbrev next_vertex : ℕ → List (Option ℕ) → Option ℕ → MapVertex
-next_vertex s os (Some h) = Host h
-next_vertex s os None = Switch (s + length (switches_of (named s os)))
-
-same_switch : (a b : ℕ) → a ≡ b → Switch a ∷ [] ≡ Switch b ∷ []
-same_switch a b e = ap (λ n. Switch n ∷ []) e
-
-named-push : (s : ℕ) (os : List (Option ℕ)) (o : Option ℕ) → named s (os ++ o ∷ []) ≡ named s os ++ next_vertex s os o ∷ []
-named-push s [] (Some h) = refl
-named-push s [] None = same_switch s (s + 0) (omega arith)
-named-push s (Some g ∷ os) (Some h) = ap (λ l. Host g ∷ l) (named-push s os (Some h))
-named-push s (Some g ∷ os) None = ap (λ l. Host g ∷ l) (named-push s os None)
-named-push s (None ∷ os) (Some h) = ap (λ l. Switch s ∷ l) (named-push (suc s) os (Some h))
-named-push s (None ∷ os) None =
-    let k = length (switches_of (named (suc s) os)) in
-    let rest = named-push (suc s) os None in
-    ap (λ l. Switch s ∷ l) (rest ∙ ap (λ l. named (suc s) os ++ l) (same_switch (suc s + k) (s + suc k) (omega arith)))
 
 -- the map of these addresses and marks, and one more: a host's mark is true
 pub with_vertex-named : (os : List (Option ℕ)) (marks : List Bool) (o : Option ℕ) (mark : Bool) → ((h : ℕ) → o ≡ Some h → mark ≡ true) → with_vertex (bare_map (named 0 os) marks) o mark ≡ bare_map (named 0 (os ++ o ∷ [])) (marks ++ mark ∷ [])
