@@ -2,3 +2,4 @@ pub mod Counting
 pub mod Endings
 pub mod Promises
 pub mod Writing
+pub mod Lefts

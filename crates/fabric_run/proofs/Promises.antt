@@ -62,12 +62,12 @@ use Rattle.input_texts.specs.Reading.{AcceptedText, reading_from, reading}
 use Rattle.fabric_run.specs.Promise.{IsPromised, IsPrintedMap, DeepMapsAreComplete, InstalledLinesAreTrue}
 
 -- An accepted text has a fabric, with names of the text's form, and its commands are over that fabric.
-record IsOver (a : AcceptedText) : Type 0 where
-  fabric : IsFabric a.network
-  named : AreNamed a.network
-  said : AllByRecursion (IsSaid a.network) a.commands
+pub record IsOver (a : AcceptedText) : Type 0 where
+  pub fabric : IsFabric a.network
+  pub named : AreNamed a.network
+  pub said : AllByRecursion (IsSaid a.network) a.commands
 
-is-over : (text : List ℕ) (a : AcceptedText) → reading text ≡ Ok a → IsOver a
+pub is-over : (text : List ℕ) (a : AcceptedText) → reading text ≡ Ok a → IsOver a
 is-over text a e = by (fabric_reading text) refl e
   where
     of : (t : FabricText) → fabric_reading text ≡ Ok t → (r : Result (List Command) FirstFault) → script_reading t.fabric t.line (drop t.next text) ≡ r
@@ -86,7 +86,7 @@ is-over text a e = by (fabric_reading text) refl e
     by (Err k) f e = cc
 
 -- what holds of each holds of each of the first
-all-take : {X : Type 0} (P : X → Type 0) (k : ℕ) (xs : List X) → AllByRecursion P xs → AllByRecursion P (take k xs)
+pub all-take : {X : Type 0} (P : X → Type 0) (k : ℕ) (xs : List X) → AllByRecursion P xs → AllByRecursion P (take k xs)
 all-take P zero xs all = tt
 all-take P (suc k) [] all = tt
 all-take P (suc k) (x ∷ xs) all = (all.0, all-take P k xs all.1)

@@ -10,13 +10,14 @@ ghost use Rattle.run_defs.specs.Session.{new_session};
 ghost use Rattle.fab_script.specs.Ranges.{IsCommandOf};
 ghost use Rattle.input_texts.specs.Reading.{AcceptedText, input_limit, reading, IsAccepted, IsRefused, refusal_text};
 ghost use Rattle.fabric_run.specs.Promise.{IsPromised};
+ghost use Rattle.fabric_run.specs.Left.{HasInjectionsLeft};
 ghost use Rattle.input_texts.specs.Forms.{form_of, IsRunForm, IsGenForm};
 ghost use Rattle.fabric_run.specs.Generated.{GenEnds};
 ghost use Rattle.fabric_run.specs.Ends.{Came, IsReported, IsWriteCut, IsMemoryCut, own_answer, may_hold};
 ghost use Rattle.fabric_run.specs.Ends.{ReportEnds, RefusalEnds, TextEnds, InputEnds};
 
 use crate::generated::run_generated;
-use crate::promise::promised_texts;
+use crate::promise::{left_injections, promised_texts};
 use crate::ran::Ran;
 use crate::status::Status;
 use fab_outer::{ReadEnd, Sink, Source, read_all, write_all};
@@ -107,8 +108,15 @@ pub fn run<S: Source, K: Sink>(alloc: Global, words: &[Word], input: &mut S, out
     // host or of one channel. Every moment of the run is sound, and reached by acts that may happen: the world after
     // its first commands, and after each prefix of the acts of the next one.
     ensures promise { (text : List ℕ) (a : AcceptedText) → IsAccepted text a → IsPromised a }
+
+    // Where the text is within the limit of an input, all its commands inject fewer than 2^63 packets. So its doubtful
+    // maps and the hosts that its installations don't count have met faults, each of its settles ends settled, and one
+    // with tokens enough delivers all: no injections need to be left for that.
+    ensures left { (text : List ℕ) (a : AcceptedText) → length text ≤ input_limit → IsAccepted text a
+        → HasInjectionsLeft a }
 {
     promised_texts();
+    left_injections();
     match form_of(words) {
         Some(Form::Run) => run_input(alloc, input, out),
         Some(Form::Gen { n, seed }) => run_generated(alloc, n, seed, out),
