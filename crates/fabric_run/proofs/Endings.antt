@@ -57,13 +57,12 @@ report-text-ends text a taken now faults risen ReadFault held e h = absurd h
 report-text-ends text a taken now faults risen TooLong held e h = absurd h
 
 -- the work on a text that came ends the run
-pub text-input-ends : (before now : Moment) (text : List ℕ) (s : Status) (held : Option SessionState) → Came before.left now.left text
-    → TextEnds text before.taken now.taken before.write_faults now.write_faults s held → InputEnds before now s held
-text-input-ends before now text Done held c h = (text, c, h)
-text-input-ends before now text (Refused line kind) held c h = (text, c, h)
-text-input-ends before now text WriteFault held c h = (text, c, h)
-text-input-ends before now text NoMemory held c h =
-    elim h as (λ x. (Keeps before.taken now.taken × (held ≡ None)) ⊎ ((t : List ℕ) × Came before.left now.left t × IsMemoryCut (reading t) before.taken now.taken held)) [ inl k ↦ inl (k.1, k.2) | inr k ↦ inr (text, c, k) ]
-text-input-ends before now text Usage held c h = absurd h
-text-input-ends before now text ReadFault held c h = absurd h
-text-input-ends before now text TooLong held c h = absurd h
+pub text-input-ends : (unread : Type 0) (before now : Moment) (text : List ℕ) (s : Status) (held : Option SessionState) → Came before.left now.left text
+    → TextEnds text before.taken now.taken before.write_faults now.write_faults s held → InputEnds unread before now s held
+text-input-ends unread before now text Done held c h = (text, c, h)
+text-input-ends unread before now text (Refused line kind) held c h = (text, c, h)
+text-input-ends unread before now text WriteFault held c h = (text, c, h)
+text-input-ends unread before now text NoMemory held c h = inr (text, c, h)
+text-input-ends unread before now text Usage held c h = absurd h
+text-input-ends unread before now text ReadFault held c h = absurd h
+text-input-ends unread before now text TooLong held c h = absurd h

@@ -121,14 +121,21 @@ IsMemoryCut (Err f) taken now held = Keeps taken now × (held ≡ None)
 abbrev pub IsReadShort : List ℕ → Option (List ℕ) → Option (List ℕ) → Option SessionState → Type 0
 IsReadShort text taken now held = (0 < length (sound_lines text)) × Keeps taken now × (held ≡ None)
 
+-- Memory ran out before a byte was read: the input is as it was, nothing was taken, and no session was made.
+abbrev pub IsUnread : Type 0 → Option (List ℕ) → Option (List ℕ) → Option SessionState → Type 0
+IsUnread unread taken now held = unread × Keeps taken now × (held ≡ None)
+
+-- Memory ran out for a text that came: while it was read, or for one of its commands or its one line.
+abbrev pub IsTextCut : List ℕ → Option (List ℕ) → Option (List ℕ) → Option SessionState → Type 0
+IsTextCut text taken now held = IsReadShort text taken now held ⊎ IsMemoryCut (reading text) taken now held
+
 -- How the work on a text that came may end.
 abbrev pub TextEnds : List ℕ → Option (List ℕ) → Option (List ℕ) → ℕ → ℕ → Status → Option SessionState → Type 0
 TextEnds text taken now faults risen Done held = (a : AcceptedText) × IsAccepted text a × IsReported a taken now held
 TextEnds text taken now faults risen (Refused line kind) held =
     IsRefused text line kind × Appends taken now (refusal_text (record { line = line; kind = kind })) × (held ≡ None)
 TextEnds text taken now faults risen WriteFault held = Rose faults risen × IsWriteCut (reading text) taken now held
-TextEnds text taken now faults risen NoMemory held =
-    IsReadShort text taken now held ⊎ IsMemoryCut (reading text) taken now held
+TextEnds text taken now faults risen NoMemory held = IsTextCut text taken now held
 TextEnds text taken now faults risen _ held = ⊥
 
 -- what is known of the source and the sink at a moment
@@ -145,16 +152,16 @@ SomeTextEnds before now status held =
     × TextEnds text before.taken now.taken before.write_faults now.write_faults status held
 
 -- A run of the form `run` may end so: each status says what was read and what the sink took, and which session is
--- handed back. It never ends with `Usage`.
-abbrev pub InputEnds : Moment → Moment → Status → Option SessionState → Type 0
-InputEnds before now Done held = SomeTextEnds before now Done held
-InputEnds before now (Refused line kind) held = SomeTextEnds before now (Refused line kind) held
-InputEnds before now WriteFault held = SomeTextEnds before now WriteFault held
-InputEnds before now NoMemory held = (Keeps before.taken now.taken × (held ≡ None))
-    ⊎ ((text : List ℕ) × Came before.left now.left text × IsMemoryCut (reading text) before.taken now.taken held)
-InputEnds before now ReadFault held = Rose before.read_faults now.read_faults × (held ≡ None)
-InputEnds before now TooLong held = IsLonger before.left input_limit × (held ≡ None)
-InputEnds before now Usage held = ⊥
+-- handed back. Where memory ran out, the input is as it was, or a text came whole. It never ends with `Usage`.
+abbrev pub InputEnds : Type 0 → Moment → Moment → Status → Option SessionState → Type 0
+InputEnds unread before now Done held = SomeTextEnds before now Done held
+InputEnds unread before now (Refused line kind) held = SomeTextEnds before now (Refused line kind) held
+InputEnds unread before now WriteFault held = SomeTextEnds before now WriteFault held
+InputEnds unread before now NoMemory held =
+    IsUnread unread before.taken now.taken held ⊎ SomeTextEnds before now NoMemory held
+InputEnds unread before now ReadFault held = Rose before.read_faults now.read_faults × (held ≡ None)
+InputEnds unread before now TooLong held = IsLonger before.left input_limit × (held ≡ None)
+InputEnds unread before now Usage held = ⊥
 
 -- a run that ends so may hand back a session
 abbrev pub may_hold : Status → Bool

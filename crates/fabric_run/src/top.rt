@@ -2,7 +2,7 @@
 
 ghost use Rattle.std.specs.Prelude.{◌≡◌, ◌≤◌, ◌↔◌, ◌⊎◌, ℕ, List, length, false, IfSome, None};
 ghost use Rattle.std.specs.List.{AllByRecursion};
-ghost use Rattle.std.specs.Io.KnownBytes.{Appends, Keeps};
+ghost use Rattle.std.specs.Io.KnownBytes.{Appends};
 ghost use Rattle.fab_outer.specs.Fault.{Rose};
 ghost use Rattle.fab_outer.specs.Whole.{IsLonger};
 ghost use Rattle.world_defs.specs.World.{fabric_of};
@@ -13,7 +13,7 @@ ghost use Rattle.fabric_run.specs.Promise.{IsPromised};
 ghost use Rattle.fabric_run.specs.Left.{HasInjectionsLeft};
 ghost use Rattle.input_texts.specs.Forms.{form_of, IsRunForm, IsGenForm};
 ghost use Rattle.fabric_run.specs.Generated.{GenEnds};
-ghost use Rattle.fabric_run.specs.Ends.{Came, IsReported, IsWriteCut, IsMemoryCut, own_answer, may_hold};
+ghost use Rattle.fabric_run.specs.Ends.{Came, IsReported, IsWriteCut, IsTextCut, IsUnread, own_answer, may_hold};
 ghost use Rattle.fabric_run.specs.Ends.{ReportEnds, RefusalEnds, TextEnds, InputEnds};
 
 use crate::generated::run_generated;
@@ -78,13 +78,15 @@ pub fn run<S: Source, K: Sink>(alloc: Global, words: &[Word], input: &mut S, out
     ensures too_long { result.status ≡ Status.TooLong → IsLonger (S.left input.old) input_limit }
     ensures too_long_writes_nothing { result.status ≡ Status.TooLong → out.new ≡ out.old }
 
-    // Memory ran out under `run`: nothing was written, and no session is handed back; or exactly what the commands that
-    // ran printed was written, and the session is theirs with the next command cut short: a prefix of its acts leads
-    // to the world, and the last map and the last routes are theirs. Where a command had run it is handed back.
+    // Memory ran out under `run`. The input is as it was, and nothing was written. Or the whole input was read. Then
+    // nothing was written, and a sound line stands before the text's first fault, or the text is refused and has no
+    // memory for its one line. Or exactly what the commands that ran printed was written, and the session is theirs
+    // with the next command cut short: a prefix of its acts leads to the world, and the last map and the last routes
+    // are theirs. Where a command had run it is handed back.
     ensures no_memory { IsRunForm words.now → result.status ≡ Status.NoMemory
-        → (Keeps (K.taken out.old) (K.taken out.new) × (result.session ≡ None))
+        → IsUnread (input.new ≡ input.old) (K.taken out.old) (K.taken out.new) result.session
         ⊎ ((text : List ℕ) × Came (S.left input.old) (S.left input.new) text
-        × IsMemoryCut (reading text) (K.taken out.old) (K.taken out.new) result.session) }
+        × IsTextCut text (K.taken out.old) (K.taken out.new) result.session) }
 
     // Under `gen N SEED` nothing is read. The text of N and SEED is accepted and all its commands ran: the sink took
     // exactly the summary of what they printed, or a prefix before a failed write, and not all of it, and their
@@ -127,6 +129,7 @@ pub fn run<S: Source, K: Sink>(alloc: Global, words: &[Word], input: &mut S, out
 // Reads the whole input and does what it says.
 fn run_input<S: Source, K: Sink>(alloc: Global, input: &mut S, out: &mut K) -> Ran
     ensures ends { InputEnds
+        (input.new ≡ input.old)
         record {
           left = S.left input.old;
           read_faults = S.faults input.old;
