@@ -38,6 +38,10 @@ step advance|lose|repeat|hold|reset V P
 step flip V P BIT PATTERN             the same
 step replay SERIAL                    a packet that was put aside comes back
 settle                                lets all go on until all is acknowledged
+duo provide X SIZE                    host 0 or 1 of two that restart: a buffer (SIZE 4 to 16)
+duo send X LEN SEED                   sends the other bytes SEED, SEED + 1, .. (LEN to 1016)
+duo emit|expire|poll|restart X        one event of one of the two
+duo deliver K                         packet K, from 0, of theirs comes, again if need be
 end                                   the script ends
 """
 RANGES = {
@@ -58,6 +62,8 @@ RANGES = {
     "BIT": (0, 10_000),
     "PATTERN": (1, 255),
     "SERIAL": (0, 2**32 - 1),
+    "X": (0, 1),
+    "K": (0, 2**32 - 1),
 }
 NAMES = {"NAME": "a new name", "H": "a host", "B": "a host", "V": "a host or switch", "W": "a host or switch"}
 # Of these a run takes fewer than the form allows.
@@ -65,7 +71,7 @@ SENSIBLE = {"SIZE": (4, 16)}
 # So many numbers and more aren't proposed one by one.
 MANY = 40
 # The words that a line begins with in two.
-IN_TWO = ("plan", "step")
+IN_TWO = ("plan", "step", "duo")
 
 
 class Fault(Exception):

@@ -1,6 +1,6 @@
 """What is asked of tools/explain, and the facts that answer it."""
 
-from fabtools import meanings, waiting
+from fabtools import meanings, restarts, waiting
 from fabtools.explained import LineFacts, MapFacts, RoutesFacts
 from fabtools.report import CircuitMap, Map, Routes, Shown
 from fabtools.routing import Routed, channel_text, end_text, load_facts, shortest_way, way_text
@@ -58,6 +58,7 @@ class Whole:
     def __init__(self, fabric, report, is_brief):
         self.items, self.is_brief = [], is_brief
         waits = waiting.behind_settles(fabric.script, report.items)
+        told = restarts.pairs(fabric.script, report.items)
         for item in routed(fabric, report.items):
             if isinstance(item, (Map, CircuitMap)):
                 self.items.append(MapFacts(fabric, item))
@@ -66,6 +67,8 @@ class Whole:
             elif meanings.of_line(item[1]):
                 line, words = item
                 self.items.append(LineFacts(line, words, waits.get(line) or [meanings.of_line(words)]))
+        if told:
+            self.items.append(restarts.Restarts(told))
 
     def facts(self):
         return {"items": [it.facts() for it in self.items]}

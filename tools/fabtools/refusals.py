@@ -21,6 +21,10 @@ REFUSALS = [
     ("close .. refused busy N", ("close",), "busy N", "so many sends of the port aren't acknowledged", "`settle`, then `poll` for them"),
     ("close .. refused unread N", ("close",), "unread N", "so many events wait", "`poll` for them"),
     ("close .. refused filling N", ("close",), "filling N", "so many provided tokens hold the beginning of a message", "`settle`, then `poll` for them"),
+    ("duo refused notoken", ("duo",), "notoken", "the client of that host holds no token of that kind", "`duo poll` for those that are due back"),
+    ("duo refused toolong", ("duo",), "toolong", "a message between two hosts that restart has at most 1,016 bytes", "send several"),
+    ("duo refused spent", ("duo",), "spent", "no number is left for the message, or no incarnation for the host", "nothing: a run is not that long"),
+    ("duo refused badsize", ("duo",), "badsize", "SIZE isn't 4 to 16", "give one of these"),
 ]
 # No refusal, but told in the same place: the line of an event that wasn't possible.
 IDLE = ("step idle", "that event wasn't possible just then", "nothing: it changed nothing")

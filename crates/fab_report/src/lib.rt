@@ -15,6 +15,7 @@
 //! | `circuit` | the lines of a map of circuit links |
 //! | `client` | what a client's call was answered |
 //! | `step` | what one event did |
+//! | `duo` | what one event of the two hosts that restart did |
 //! | `places` | where tokens are |
 //! | `generated` | the lines that a generated run alone has |
 //! | `printed` | what a command printed: a text, and its figure for a summary |
@@ -24,6 +25,7 @@
 
 mod circuit;
 mod client;
+mod duo;
 mod generated;
 mod line;
 mod mapping;

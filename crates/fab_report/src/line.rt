@@ -11,6 +11,7 @@ ghost use Rattle.fab_report.specs.Kinds.{IsPortLine};
 ghost use Rattle.fab_report.specs.There.{AreThere, IsHost};
 
 use crate::client::client_line;
+use crate::duo::duo_line;
 use crate::generated::append_generated_line;
 use crate::mapping::{append_map_line, route_line};
 use crate::places::tokens_line;
@@ -87,6 +88,7 @@ fn append_line(text: &mut Vec<u8>, l: &Line, f: &Fabric) -> Result<(), AllocErro
             unacked,
         } => settle_line(text, *rounds, *resets, *unacked),
         Line::Client { .. } | Line::Tokens { .. } => append_port_line(text, l, f),
+        Line::Duo(effect) => duo_line(text, effect),
         Line::GenHead { .. } | Line::GenMap { .. } | Line::GenCount { .. } => {
             append_generated_line(text, l)
         }

@@ -17,14 +17,17 @@ use Rattle.fab_text.specs.declared.fault.TextFault.TheVariants.{At, NoMemory}
 use Rattle.fab_text.specs.Word.{name_test, number_within}
 use Rattle.fab_text.specs.Line.{TextLine, lines_left, line_count, words_of}
 use Rattle.fab_text.specs.Fault.{FirstFault, TextGives, as_kind, at_line, and_then}
+use Rattle.duo_defs.specs.declared.event.DuoEvent.{DuoEvent}
+use Rattle.duo_defs.specs.declared.event.DuoEvent.TheVariants.{Send as DuoSend, Provide as DuoProvide, Emit, Deliver, Expire as DuoExpire, Poll as DuoPoll, Restart}
+use Rattle.duo_defs.specs.Step.{IsFair}
 use Rattle.run_defs.specs.declared.command.Command.{Command}
-use Rattle.run_defs.specs.declared.command.Command.TheVariants.{Walk, Map, Circuit, Routes, Install, Begin, Close, Poll, Tokens, Provide, Send, Plan, Step, Settle}
+use Rattle.run_defs.specs.declared.command.Command.TheVariants.{Walk, Map, Circuit, Routes, Install, Begin, Close, Poll, Tokens, Provide, Send, Plan, Step, Settle, Duo}
 use Rattle.run_defs.specs.declared.command.PlanKind.{PlanKind}
 use Rattle.run_defs.specs.declared.command.PlanKind.TheVariants.{Lose as PlanLose, Repeat as PlanRepeat, Hold as PlanHold, Flip as PlanFlip}
 use Rattle.run_defs.specs.declared.command.StepLine.{StepLine}
 use Rattle.run_defs.specs.declared.command.StepLine.TheVariants.{Inject, GiveUp, Advance, Lose, Repeat, Hold, Reset, Flip, Expire, Replay}
-use Rattle.run_defs.specs.Script.{Form, OfName, OfNumber, Value, Name, Number, value_of, values_of, said_by, from_least, LineKind, command_by, address_of, at_host, at_hosts, end_at, at_end, of_port, of_switch_port, of_count, of_prio, of_tries, of_ahead, of_bit, of_pattern, map_meant, circuit_meant, alone_meant, install_meant, open_meant, at_port_meant, provide_meant, send_meant, plan_meant, plan_flip_meant, host_step_meant, end_step_meant, flip_step_meant, expire_meant, replay_meant, line_kinds, plan_kinds, step_kinds, by_second, turns_of, walk_said, command_as, command_of, is_end, ended, script_from, script_reading}
-use Rattle.fab_script.specs.Ranges.{IsHost, IsEnd, IsWithin, IsPlanned, IsStepOf, IsCommandOf}
+use Rattle.run_defs.specs.Script.{Form, OfName, OfNumber, Value, Name, Number, value_of, values_of, said_by, from_least, LineKind, command_by, address_of, at_host, at_hosts, end_at, at_end, of_port, of_switch_port, of_count, of_prio, of_tries, of_ahead, of_bit, of_pattern, map_meant, circuit_meant, alone_meant, install_meant, open_meant, at_port_meant, provide_meant, send_meant, plan_meant, plan_flip_meant, host_step_meant, end_step_meant, flip_step_meant, expire_meant, replay_meant, of_end, duo_meant, duo_send_meant, duo_provide_meant, duo_kinds, line_kinds, plan_kinds, step_kinds, by_second, turns_of, walk_said, command_as, command_of, is_end, ended, script_from, script_reading}
+use Rattle.fab_script.specs.Ranges.{IsHost, IsEnd, IsWithin, IsPlanned, IsStepOf, IsDuoOf, IsCommandOf}
 use Rattle.fab_script.proofs.Scripts.{within, turns-walk}
 
 -- a value of a form, and values of forms
@@ -247,6 +250,25 @@ step_kinds-ranged n = (
   ),
 )
 
+-- an event of the two hosts that restart
+at-end : (n : Network) (happens : ℕ → DuoEvent) → ((x : ℕ) → IsWithin 0 1 x → IsDuoOf (happens x)) → (vs : List Value) → AreIn (of_end ∷ []) vs → (c : Command) → duo_meant happens n vs ≡ Ok c → IsCommandOf n c
+at-end n happens k = each-of (of_end ∷ []) (λ vs. (c : Command) → duo_meant happens n vs ≡ Ok c → IsCommandOf n c) (λ x ix c e. alone n (Duo (happens x)) c (k x ix) e)
+
+duo_kinds-ranged : (n : Network) → AllByRecursion (IsRanged n) duo_kinds
+duo_kinds-ranged n = (
+  each-of (of_end ∷ OfNumber 0 1000000 ∷ OfNumber 0 255 ∷ []) (λ vs. (c : Command) → duo_send_meant n vs ≡ Ok c → IsCommandOf n c) (λ x ix l il s is c e. alone n (Duo (DuoSend x l s)) c (ix, il, is) e),
+  (
+    each-of (of_end ∷ OfNumber 0 31 ∷ []) (λ vs. (c : Command) → duo_provide_meant n vs ≡ Ok c → IsCommandOf n c) (λ x ix s is c e. alone n (Duo (DuoProvide x s)) c (ix, is) e),
+    (
+      at-end n (λ x. Emit x) (λ x ix. ix),
+      (
+        each-of (OfNumber 0 4294967295 ∷ []) (λ vs. (c : Command) → duo_meant (λ k. Deliver k) n vs ≡ Ok c → IsCommandOf n c) (λ k ik c e. alone n (Duo (Deliver k)) c ik e),
+        (at-end n (λ x. DuoExpire x) (λ x ix. ix), (at-end n (λ x. DuoPoll x) (λ x ix. ix), (at-end n (λ x. Restart x) (λ x ix. ix), tt))),
+      ),
+    ),
+  ),
+)
+
 -- a line by the table
 by-kinds : (n : Network) (ks : List LineKind) (first : List ℕ) (args : List (List ℕ)) (c : Command) → AllByRecursion (IsRanged n) ks → command_by n ks first args ≡ Ok c → IsCommandOf n c
 by-kinds n [] first args c h e = cc
@@ -279,13 +301,14 @@ walk-ranged n (name ∷ words) c e = by (nat_lt 64 (length words)) (name_test na
     by false false f e = cc
 
 as-ranged : (n : Network) (first : List ℕ) (args : List (List ℕ)) (c : Command) → command_as n first args ≡ Ok c → IsCommandOf n c
-as-ranged n first args c e = by (bytes_eq first (codes "walk")) (bytes_eq first (codes "plan")) (bytes_eq first (codes "step")) e
+as-ranged n first args c e = by (bytes_eq first (codes "walk")) (bytes_eq first (codes "plan")) (bytes_eq first (codes "step")) (bytes_eq first (codes "duo")) e
   where
-    by : (w p s : Bool) → (if w then walk_said n args else if p then by_second n plan_kinds args else if s then by_second n step_kinds args else command_by n line_kinds first args) ≡ Ok c → IsCommandOf n c
-    by true p s e = walk-ranged n args c e
-    by false true s e = by-second n plan_kinds args c (plan_kinds-ranged n) e
-    by false false true e = by-second n step_kinds args c (step_kinds-ranged n) e
-    by false false false e = by-kinds n line_kinds first args c (line_kinds-ranged n) e
+    by : (w p s d : Bool) → (if w then walk_said n args else if p then by_second n plan_kinds args else if s then by_second n step_kinds args else if d then by_second n duo_kinds args else command_by n line_kinds first args) ≡ Ok c → IsCommandOf n c
+    by true p s d e = walk-ranged n args c e
+    by false true s d e = by-second n plan_kinds args c (plan_kinds-ranged n) e
+    by false false true d e = by-second n step_kinds args c (step_kinds-ranged n) e
+    by false false false true e = by-second n duo_kinds args c (duo_kinds-ranged n) e
+    by false false false false e = by-kinds n line_kinds first args c (line_kinds-ranged n) e
 
 command-ranged : (n : Network) (words : List (List ℕ)) (c : Command) → command_of n words ≡ Ok c → IsCommandOf n c
 command-ranged n [] c e = cc
@@ -316,3 +339,13 @@ pub reading_ranged : (n : Network) (line : ℕ) (text : List ℕ) (r : Result (L
 reading_ranged n line text (Ok cs) e = script-ranged (line + line_count text + 1) n (lines_left (record { number = line + 1; text = text })) cs e
 reading_ranged n line text (Err (At k kind)) e = tt
 reading_ranged n line text (Err NoMemory) e = tt
+
+-- events over a fabric are fair: they name one of the two hosts
+pub events_are_fair : (e : DuoEvent) → IsDuoOf e → IsFair e
+events_are_fair (DuoSend x len seed) is = let low = is.0.1 in omega (arith, low)
+events_are_fair (DuoProvide x size) is = let low = is.0.1 in omega (arith, low)
+events_are_fair (Emit x) is = let low = is.1 in omega (arith, low)
+events_are_fair (Deliver place) is = tt
+events_are_fair (DuoExpire x) is = let low = is.1 in omega (arith, low)
+events_are_fair (DuoPoll x) is = let low = is.1 in omega (arith, low)
+events_are_fair (Restart x) is = let low = is.1 in omega (arith, low)

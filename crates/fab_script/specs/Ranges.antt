@@ -4,9 +4,13 @@ use Rattle.net_defs.specs.declared.vertex.Vertex.TheVariants.{Host}
 use Rattle.net_defs.specs.declared.vertex.End.{End}
 use Rattle.net_defs.specs.Network.{Network, has_vertex, has_port}
 use Rattle.net_defs.specs.Turn.{walk_refusal}
+use Rattle.duo_defs.specs.declared.event.DuoEvent.{DuoEvent}
+use Rattle.duo_defs.specs.declared.event.DuoEvent.TheVariants.{Send as DuoSend, Provide as DuoProvide, Emit, Deliver}
+use Rattle.duo_defs.specs.declared.event.DuoEvent.TheVariants.{Expire as DuoExpire, Poll as DuoPoll, Restart}
 use Rattle.run_defs.specs.declared.command.Command.{Command}
 use Rattle.run_defs.specs.declared.command.Command.TheVariants.{Walk, Map, Circuit, Routes, Install, Begin, Close}
 use Rattle.run_defs.specs.declared.command.Command.TheVariants.{Poll, Tokens, Provide, Send, Plan, Step, Settle, Finish}
+use Rattle.run_defs.specs.declared.command.Command.TheVariants.{Duo}
 use Rattle.run_defs.specs.declared.command.PlanKind.{PlanKind}
 use Rattle.run_defs.specs.declared.command.PlanKind.TheVariants.{Lose as PlanLose, Repeat as PlanRepeat}
 use Rattle.run_defs.specs.declared.command.PlanKind.TheVariants.{Hold as PlanHold, Flip as PlanFlip}
@@ -50,6 +54,16 @@ IsStepOf n (Flip e bit pattern) = IsEnd n e × IsFlip bit pattern
 IsStepOf n (Expire h peer) = IsHost n h × IsHost n peer
 IsStepOf n (Replay serial) = IsWithin 0 4294967295 serial
 
+-- the numbers of an event of the two hosts that restart
+abbrev pub IsDuoOf : DuoEvent → Type 0
+IsDuoOf (DuoSend x len seed) = IsWithin 0 1 x × IsWithin 0 1000000 len × IsWithin 0 255 seed
+IsDuoOf (DuoProvide x size) = IsWithin 0 1 x × IsWithin 0 31 size
+IsDuoOf (Emit x) = IsWithin 0 1 x
+IsDuoOf (Deliver place) = IsWithin 0 4294967295 place
+IsDuoOf (DuoExpire x) = IsWithin 0 1 x
+IsDuoOf (DuoPoll x) = IsWithin 0 1 x
+IsDuoOf (Restart x) = IsWithin 0 1 x
+
 -- A command over a fabric: its hosts and ends are there, and its numbers are in their ranges.
 abbrev pub IsCommandOf : Network → Command → Type 0
 IsCommandOf n (Walk h turns) = IsHost n h × (walk_refusal turns ≡ None)
@@ -69,3 +83,4 @@ IsCommandOf n (Plan ahead kind) = IsWithin 1 1000000000 ahead × IsPlanned kind
 IsCommandOf n (Step line) = IsStepOf n line
 IsCommandOf n Settle = Unit {0}
 IsCommandOf n Finish = Unit {0}
+IsCommandOf n (Duo e) = IsDuoOf e

@@ -4,7 +4,8 @@ use Rattle.std.specs.Prelude.{ℕ, List, Result, Ok, Err, codes, bytes_eq, if◌
 use Rattle.net_defs.specs.Network.{Network}
 use Rattle.fab_text.specs.declared.fault.FaultKind.{FaultKind}
 use Rattle.run_defs.specs.declared.command.Command.{Command}
-use Rattle.run_defs.specs.Script.{Value, Name, Number, plan_kinds, step_kinds, line_kinds, by_second, command_by}
+use Rattle.run_defs.specs.Script.{Value, Name, Number, plan_kinds, step_kinds, duo_kinds, line_kinds}
+use Rattle.run_defs.specs.Script.{by_second, command_by}
 
 -- a word that is a name, as a value
 abbrev pub named : List ℕ → Result (Unit {0}) FaultKind → Result Value FaultKind
@@ -21,4 +22,5 @@ abbrev pub command_but_walk : Network → List ℕ → List (List ℕ) → Resul
 command_but_walk n first args =
     if bytes_eq first (codes "plan") then by_second n plan_kinds args
     else if bytes_eq first (codes "step") then by_second n step_kinds args
+    else if bytes_eq first (codes "duo") then by_second n duo_kinds args
     else command_by n line_kinds first args

@@ -6,6 +6,7 @@ ghost use Rattle.fab_text.specs.Fault.{LineGives};
 ghost use Rattle.run_defs.specs.Script.{command_as, command_by, command_of, line_kinds};
 ghost use Rattle.fab_script.specs.Values.{command_but_walk};
 
+use crate::duo_lines::duo;
 use crate::map_lines::{circuit, install, map, routes, settle};
 use crate::plan_lines::plan;
 use crate::port_lines::{PortCall, at_port, open, provide, send};
@@ -54,6 +55,8 @@ fn read_but_walk(fabric: &Fabric, first: &[u8], args: Words) -> Result<Command, 
         plan(fabric, args)
     } else if first == b"step".as_slice() {
         step(fabric, args)
+    } else if first == b"duo".as_slice() {
+        duo(fabric, args)
     } else {
         read_by_one_word(fabric, first, args)
     }

@@ -18,12 +18,13 @@
 //! | `walk_line` | `walk`, which alone takes memory |
 //! | `map_lines` | `map`, `circuit`, `routes`, `install`, `settle` |
 //! | `port_lines` | `open`, `close`, `poll`, `tokens`, `provide`, `send` |
-//! | `plan_lines`, `step_lines` | `plan` and `step`, by their second word |
+//! | `plan_lines`, `step_lines`, `duo_lines` | `plan`, `step` and `duo`, by their second word |
 //! | `counted`, `values` | exactly so many words; what one word says |
 #![tactic(auto)]
 
 mod command;
 mod counted;
+mod duo_lines;
 mod map_lines;
 mod plan_lines;
 mod port_lines;
@@ -32,5 +33,5 @@ mod step_lines;
 mod values;
 mod walk_line;
 
-pub use run_defs::{Command, PlanKind, StepLine};
+pub use run_defs::{Command, DuoEvent, PlanKind, StepLine};
 pub use script::{Script, read_script};

@@ -19,14 +19,14 @@ const MAX_PORT: u8 = 7;
 // The most tokens of a kind that a port opens with.
 const MAX_TOKENS: u8 = 64;
 
-// The greatest size that a line may name.
-const MAX_SIZE: u8 = 31;
+/// The greatest size that a line may name.
+pub(crate) const MAX_SIZE: u8 = 31;
 
 // The greatest priority.
 const MAX_PRIO: u8 = 1;
 
-// The most bytes that a line may ask to send.
-const MAX_LEN: u32 = 1_000_000;
+/// The most bytes that a line may ask to send.
+pub(crate) const MAX_LEN: u32 = 1_000_000;
 
 /// What a line asks of a port without further words.
 #[derive(Clone, Copy, Debug, PartialEq, Eq)]

@@ -1,4 +1,5 @@
 pub mod Counting
+pub mod Duos
 pub mod Endings
 pub mod Promises
 pub mod Writing

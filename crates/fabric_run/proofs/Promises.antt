@@ -59,6 +59,7 @@ use Rattle.promise_laws.proofs.Acting.{commands_have_sound_acts, runs_end_sound}
 use Rattle.promise_laws.proofs.CutShort.{cut_commands_leave_sound}
 use Rattle.promise_laws.proofs.Running.{each_command_is_done, run_exists}
 use Rattle.input_texts.specs.Reading.{AcceptedText, reading_from, reading}
+use Rattle.fabric_run.proofs.Duos.{duos_promised}
 use Rattle.fabric_run.specs.Promise.{IsPromised, IsPrintedMap, DeepMapsAreComplete, InstalledLinesAreTrue}
 
 -- An accepted text has a fabric, with names of the text's form, and its commands are over that fabric.
@@ -244,4 +245,5 @@ text_promised text a e =
       returned = events-of_tokens;
       tokens = polls-of_tokens;
       no_cycle = λ k out last r. run_has_no_cycle n (take k cs) out last o.fabric (acts k) r;
+      duo = duos_promised a (λ k. all-take (IsSaid n) k cs o.said) (λ k c at. all-nth (IsSaid n) cs k c o.said at);
     }

@@ -17,6 +17,7 @@ use Rattle.run_defs.specs.LineText.{output_text}
 use Rattle.fab_report.specs.Printed.{PrintedState}
 use Rattle.run_laws.proofs.RunsOnce.{runs-more, first_runs_are_part, text_of_both}
 use Rattle.promise_laws.specs.CutShort.{IsCutShort}
+use Rattle.promise_laws.specs.Duos.{IsDuoLeft}
 use Rattle.promise_laws.specs.Existence.{HasRun}
 use Rattle.run_session.specs.Obeyed.{IsObeyed}
 use Rattle.input_texts.specs.Reading.{AcceptedText}
@@ -99,12 +100,12 @@ some-at (y ∷ ys) (suc i) x h e = some-at ys i x (omega arith) e
 
 -- memory ran out for a command after the first ones
 pub interrupted : (n : Network) (cs : List Command) (i : ℕ) (taken now : Option (List ℕ)) (s t : SessionState) (c : Command) → i < length cs → c ≡ get_or cs i c → HaveRun n (take i cs) taken now s
-    → IsCutShort s c t.world → t.last_map ≡ s.last_map → t.last_routes ≡ s.last_routes → IsInterrupted (record { network = n; commands = cs }) taken now (Some t)
-interrupted n cs i taken now s t c low at ran cut made found = record {
+    → IsCutShort s c t.world → t.last_map ≡ s.last_map → t.last_routes ≡ s.last_routes → IsDuoLeft s c t.duo → IsInterrupted (record { network = n; commands = cs }) taken now (Some t)
+interrupted n cs i taken now s t c low at ran cut made found duo = record {
   count = i;
   last = s;
   ran = ran;
-  hands_back = record { command = c; next = some-at cs i c low at; cut = cut; map_stays = made; routes_stay = found };
+  hands_back = record { command = c; next = some-at cs i c low at; cut = cut; map_stays = made; routes_stay = found; duo_left = duo };
   none_ran = tt;
 }
 

@@ -12,6 +12,7 @@ use Rattle.run_defs.specs.Session.{SessionState}
 use Rattle.run_defs.specs.Run.{IsRun}
 use Rattle.run_defs.specs.LineText.{output_text}
 use Rattle.promise_laws.specs.CutShort.{IsCutShort}
+use Rattle.promise_laws.specs.Duos.{IsDuoLeft}
 use Rattle.promise_laws.specs.Existence.{HasRun}
 use Rattle.fabric_run.specs.declared.status.Status.{Status}
 use Rattle.fabric_run.specs.declared.status.Status.TheVariants.{Done, Usage, Refused, ReadFault, WriteFault, NoMemory}
@@ -68,13 +69,15 @@ pub record IsCutOff (a : AcceptedText) (taken now : Option (List ℕ)) (held : O
   pub hands_back : held ≡ Some last
 
 -- The command of a text after so many others was cut short in a session and left another: a prefix of its acts leads
--- from the one world to the other, and the last map and the last routes are as they were.
+-- from the one world to the other, and the last map and the last routes are as they were; the two hosts that restart are
+-- so too, or new, or as the command leaves them.
 pub record IsLeftShort (a : AcceptedText) (count : ℕ) (before left : SessionState) : Type 0 where
   pub command : Command
   pub next : slice_get a.commands count ≡ Some command
   pub cut : IsCutShort before command left.world
   pub map_stays : left.last_map ≡ before.last_map
   pub routes_stay : left.last_routes ≡ before.last_routes
+  pub duo_left : IsDuoLeft before command left.duo
 
 -- Memory ran out for a command, or for the first session: the sink took exactly what the commands before it
 -- printed, and the session that is handed back is theirs with this command cut short. None is handed back only where

@@ -1,3 +1,4 @@
+pub mod Duos
 pub mod Ends
 pub mod Generated
 pub mod Left

@@ -41,6 +41,7 @@ use Rattle.promise_laws.specs.CommandActs.{HasSoundActs}
 use Rattle.promise_laws.specs.CutShort.{IsCutShort}
 use Rattle.promise_laws.specs.Existence.{HasDone, HasRun}
 use Rattle.input_texts.specs.Reading.{AcceptedText}
+use Rattle.fabric_run.specs.Duos.{IsDuoPromised}
 
 -- A map is the mapper's part of the fabric, and its lines are read as that map.
 pub record IsRight (n : Network) (mapper : ℕ) (m : NetMap) : Type 0 where
@@ -219,7 +220,8 @@ CircuitMapsAreTrue a =
 -- what was sent, for each sender, receiver and priority, and each token has one owner; and of a message that came in
 -- part one provided buffer holds what came. What polls handed out is a prefix of what sends were accepted with; a sent
 -- event that waits has the bytes of the message that was last sent with its token, and a send token that a poll
--- answers is of that message, which is acknowledged. So it is at every moment, whatever happens before it.
+-- answers is of that message, which is acknowledged. So it is at every moment, whatever happens before it. The two hosts
+-- that restart keep their own promise.
 pub record IsPromised (a : AcceptedText) : Type 0 where
   pub report : HasRun a.network a.commands
   pub done : EachCommandIsDone a
@@ -246,3 +248,4 @@ pub record IsPromised (a : AcceptedText) : Type 0 where
   pub returned : SentEventsAreOfTokens
   pub tokens : PolledTokensAreOfMessages
   pub no_cycle : RoutesHaveNoCycle a
+  pub duo : IsDuoPromised a

@@ -23,7 +23,7 @@ use Rattle.log_defs.specs.Log.{Log}
 use Rattle.log_defs.specs.Laws.{came_to}
 use Rattle.log_defs.proofs.Asks.{install-log}
 use Rattle.run_defs.specs.declared.command.Command.{Command}
-use Rattle.run_defs.specs.declared.command.Command.TheVariants.{Walk, Map, Circuit, Routes, Install, Begin as BeginCommand, Close as CloseCommand, Poll as PollCommand, Tokens, Provide as ProvideCommand, Send as SendCommand, Plan, Step, Settle, Finish}
+use Rattle.run_defs.specs.declared.command.Command.TheVariants.{Walk, Map, Circuit, Routes, Install, Begin as BeginCommand, Close as CloseCommand, Poll as PollCommand, Tokens, Provide as ProvideCommand, Send as SendCommand, Plan, Step, Settle, Finish, Duo}
 use Rattle.run_defs.specs.declared.line.Line.TheVariants.{MapBusy, Installed, InstallRefused}
 use Rattle.run_defs.specs.declared.line.InstallCause.{InstallCause}
 use Rattle.run_defs.specs.declared.line.InstallCause.TheVariants.{NoRoutes, Busy, Installed as OtherInstalled}
@@ -111,6 +111,7 @@ outcome-last s (SendCommand h port dest dport prio len seed) = (refl, refl)
 outcome-last s (Plan ahead kind) = (refl, refl)
 outcome-last s Settle = (refl, refl)
 outcome-last s Finish = (refl, refl)
+outcome-last s (Duo e) = (refl, refl)
 
 -- A session that a run leads to.
 record IsLed (n : Network) (s : SessionState) : Type 0 where

@@ -17,7 +17,7 @@ use Rattle.world_defs.specs.Step.{step}
 use Rattle.log_defs.specs.Logs as log
 use Rattle.log_defs.specs.Log.{Log}
 use Rattle.run_defs.specs.declared.command.Command.{Command}
-use Rattle.run_defs.specs.declared.command.Command.TheVariants.{Walk, Map, Circuit, Routes, Install, Begin as BeginCommand, Close as CloseCommand, Poll as PollCommand, Tokens, Provide as ProvideCommand, Send as SendCommand, Plan, Step, Settle, Finish}
+use Rattle.run_defs.specs.declared.command.Command.TheVariants.{Walk, Map, Circuit, Routes, Install, Begin as BeginCommand, Close as CloseCommand, Poll as PollCommand, Tokens, Provide as ProvideCommand, Send as SendCommand, Plan, Step, Settle, Finish, Duo}
 use Rattle.run_defs.specs.declared.line.Line.TheVariants.{MapBusy, InstallRefused}
 use Rattle.run_defs.specs.declared.line.InstallCause.TheVariants.{Busy, Installed as OtherInstalled}
 use Rattle.run_defs.specs.declared.line.MapWords.{MapWords}
@@ -104,6 +104,7 @@ outcome-held s (Plan ahead kind) = record { last_map = refl; last_routes = refl;
 outcome-held s (Step line) = step-held s (event_of s.world line)
 outcome-held s Settle = held-world s (log.settle s.world).world (settle-set s.world)
 outcome-held s Finish = held-world s s.world refl
+outcome-held s (Duo e) = record { last_map = refl; last_routes = refl; adopted = inl refl }
 
 -- the adopted set is right
 adopted-right : (n : Network) (s : SessionState) (o : Option Adoption) → HoldsRight n s → (o ≡ s.world.adopted) ⊎ IsLastAdopted s o → (a : Adoption) → o ≡ Some a → AreRightRoutes n a.mapper a.routes

@@ -21,7 +21,7 @@ use Rattle.world_defs.specs.Step.{step}
 use Rattle.log_defs.specs.Logs as log
 use Rattle.log_defs.specs.Log.{Log}
 use Rattle.run_defs.specs.declared.command.Command.{Command}
-use Rattle.run_defs.specs.declared.command.Command.TheVariants.{Walk, Map, Circuit, Routes, Install, Begin as BeginCommand, Close as CloseCommand, Poll as PollCommand, Tokens, Provide as ProvideCommand, Send as SendCommand, Plan, Step, Settle, Finish}
+use Rattle.run_defs.specs.declared.command.Command.TheVariants.{Walk, Map, Circuit, Routes, Install, Begin as BeginCommand, Close as CloseCommand, Poll as PollCommand, Tokens, Provide as ProvideCommand, Send as SendCommand, Plan, Step, Settle, Finish, Duo}
 use Rattle.run_defs.specs.declared.line.Line.{Line}
 use Rattle.run_defs.specs.declared.line.Line.TheVariants.{Map as MapLine, MapBusy, Circuit as CircuitLine, EndRoutes, InstallRefused}
 use Rattle.run_defs.specs.declared.line.InstallCause.TheVariants.{Busy, Installed as OtherInstalled}
@@ -162,6 +162,7 @@ outcome-right n s (Plan ahead kind) = (tt, tt)
 outcome-right n s (Step line) = step-right n s (event_of s.world line)
 outcome-right n s Settle = (tt, tt)
 outcome-right n s Finish = (tt, tt)
+outcome-right n s (Duo e) = (tt, tt)
 
 map-right : (n : Network) (host asks packets : ℕ) (m : NetMap) (words : MapWords) → (words ≡ Complete → IsMapOfPart n host m) → AreRight n (OneLine (MapLine host words asks packets) ∷ map_pieces words m)
 map-right n host asks packets m Complete is = (is refl, (tt, tt))

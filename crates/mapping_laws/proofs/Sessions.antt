@@ -12,7 +12,7 @@ use Rattle.log_defs.specs.Logs as log
 use Rattle.log_defs.specs.Log.{Log}
 use Rattle.world_laws.proofs.Shapes.{new-world}
 use Rattle.run_defs.specs.declared.command.Command.{Command}
-use Rattle.run_defs.specs.declared.command.Command.TheVariants.{Walk, Map, Circuit, Routes, Install, Begin as BeginCommand, Close as CloseCommand, Poll as PollCommand, Tokens, Provide as ProvideCommand, Send as SendCommand, Plan, Step, Settle, Finish}
+use Rattle.run_defs.specs.declared.command.Command.TheVariants.{Walk, Map, Circuit, Routes, Install, Begin as BeginCommand, Close as CloseCommand, Poll as PollCommand, Tokens, Provide as ProvideCommand, Send as SendCommand, Plan, Step, Settle, Finish, Duo}
 use Rattle.run_defs.specs.declared.line.ClientCall.{ClientCall}
 use Rattle.run_defs.specs.declared.line.Line.TheVariants.{MapBusy, InstallRefused}
 use Rattle.run_defs.specs.declared.line.InstallCause.TheVariants.{Busy, Installed as OtherInstalled}
@@ -89,6 +89,7 @@ outcome-stays n s (Plan ahead kind) of_n = stays-plan s.world ahead (fault_of ki
 outcome-stays n s (Step line) of_n = step-stays s (event_of s.world line)
 outcome-stays n s Settle of_n = stays-settle s.world
 outcome-stays n s Finish of_n = stays-same s.world
+outcome-stays n s (Duo e) of_n = stays-same s.world
 
 session-stays : (n : Network) (s next : SessionState) → Stays s.world next.world → IsSessionOf n s → IsSessionOf n next
 session-stays n s next k is = record { fabric = k.fabric ∙ is.fabric; world = k.world is.world; byte_flips = k.bytes is.byte_flips }

@@ -16,7 +16,7 @@ use Rattle.world_defs.specs.Step.{step}
 use Rattle.log_defs.specs.Logs as log
 use Rattle.log_defs.specs.Log.{Log}
 use Rattle.run_defs.specs.declared.command.Command.{Command}
-use Rattle.run_defs.specs.declared.command.Command.TheVariants.{Walk, Map, Circuit, Routes, Install, Begin as BeginCommand, Close as CloseCommand, Poll as PollCommand, Tokens, Provide as ProvideCommand, Send as SendCommand, Plan, Step, Settle, Finish}
+use Rattle.run_defs.specs.declared.command.Command.TheVariants.{Walk, Map, Circuit, Routes, Install, Begin as BeginCommand, Close as CloseCommand, Poll as PollCommand, Tokens, Provide as ProvideCommand, Send as SendCommand, Plan, Step, Settle, Finish, Duo}
 use Rattle.run_defs.specs.declared.line.ClientCall.{ClientCall}
 use Rattle.run_defs.specs.declared.line.ClientCall.TheVariants.{Begin as BeginCall, Close as CloseCall, Provide as ProvideCall, Send as SendCall, Poll as PollCall}
 use Rattle.run_defs.specs.declared.line.Line.{Line}
@@ -108,6 +108,7 @@ outcome-read n s (Plan ahead kind) = plan-read n s (planned s.world ahead (fault
 outcome-read n s (Step line) = step-read n s (event_of s.world line)
 outcome-read n s Settle = (tt, tt)
 outcome-read n s Finish = (tt, tt)
+outcome-read n s (Duo e) = (tt, tt)
 
 map-read : (n : Network) (l : Line) (m : NetMap) (words : MapWords) → IsReadAgain n m → AreRead n (OneLine l ∷ map_pieces words m)
 map-read n l m Complete is = (tt, (is, tt))

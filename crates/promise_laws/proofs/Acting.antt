@@ -14,7 +14,7 @@ use Rattle.world_defs.specs.Sound.{IsSound}
 use Rattle.act_defs.specs.Acts.{Act, Happens, acted, acted_all, AreAdoptable, MayActAll, IsReached}
 use Rattle.act_defs.proofs.Routes.{not-other}
 use Rattle.run_defs.specs.declared.command.Command.{Command}
-use Rattle.run_defs.specs.declared.command.Command.TheVariants.{Walk, Map, Circuit, Routes, Install, Begin as BeginCommand, Close as CloseCommand, Poll as PollCommand, Tokens, Provide as ProvideCommand, Send as SendCommand, Plan, Step, Settle, Finish}
+use Rattle.run_defs.specs.declared.command.Command.TheVariants.{Walk, Map, Circuit, Routes, Install, Begin as BeginCommand, Close as CloseCommand, Poll as PollCommand, Tokens, Provide as ProvideCommand, Send as SendCommand, Plan, Step, Settle, Finish, Duo}
 use Rattle.run_defs.specs.declared.line.MapWords.{MapWords}
 use Rattle.run_defs.specs.declared.line.Line.TheVariants.{MapBusy, InstallRefused}
 use Rattle.run_defs.specs.declared.line.InstallCause.TheVariants.{Busy, Installed as OtherInstalled}
@@ -113,6 +113,7 @@ outcome-acts n s (Plan ahead kind) of_n net may = record { may = (of_n, tt); the
 outcome-acts n s (Step line) of_n net may = step-leads s (event_of s.world line) (event-bytes s.world line of_n)
 outcome-acts n s Settle of_n net may = by-events s.world _ (log.settle s.world).events (settle-row byte_settles s.world)
 outcome-acts n s Finish of_n net may = by-none s.world
+outcome-acts n s (Duo e) of_n net may = by-none s.world
 
 -- what a command that is done stands for
 record Standing (s : SessionState) (c : Command) (next : SessionState) : Type 0 where

@@ -15,7 +15,7 @@ use Rattle.log_defs.specs.Row.{IsPartWay}
 use Rattle.world_defs.specs.EightBits.{IsByteEvent}
 use Rattle.log_defs.proofs.Rows.{settle-row, asks-row, install-row, byte_settles, byte_asks}
 use Rattle.run_defs.specs.declared.command.Command.{Command}
-use Rattle.run_defs.specs.declared.command.Command.TheVariants.{Walk, Map, Circuit, Routes, Install, Begin as BeginCommand, Close as CloseCommand, Poll as PollCommand, Tokens, Provide as ProvideCommand, Send as SendCommand, Plan, Step, Settle, Finish}
+use Rattle.run_defs.specs.declared.command.Command.TheVariants.{Walk, Map, Circuit, Routes, Install, Begin as BeginCommand, Close as CloseCommand, Poll as PollCommand, Tokens, Provide as ProvideCommand, Send as SendCommand, Plan, Step, Settle, Finish, Duo}
 use Rattle.run_defs.specs.declared.line.MapWords.{MapWords}
 use Rattle.run_defs.specs.declared.line.Line.TheVariants.{MapBusy, InstallRefused}
 use Rattle.run_defs.specs.declared.line.InstallCause.TheVariants.{Busy, Installed as OtherInstalled}
@@ -74,6 +74,7 @@ acts-there s (Plan ahead kind) busy = (Plans ahead (fault_of kind) ∷ [], refl)
 acts-there s (Step line) busy = (step_acts (event_of s.world line), refl)
 acts-there s Settle busy = (map Happens (log.settle s.world).events, refl)
 acts-there s Finish busy = ([], refl)
+acts-there s (Duo e) busy = ([], refl)
 
 pub cut_unchanged : (s : SessionState) (c : Command) (v : WorldState) → ((host depth tries : ℕ) → c ≡ Map host depth tries → is_idle s.world.links ≡ false) → v ≡ s.world → IsCutShort s c v
 cut_unchanged s c v busy same = let a = acts-there s c busy in record { acts = a.0; are = determined a.1; way = part-none s.world v a.0 same }
@@ -127,6 +128,7 @@ led-in s (Plan ahead kind) = refl
 led-in s (Step line) = led-step s (event_of s.world line)
 led-in s Settle = (settle-row {Q = IsByteEvent} byte_settles s.world).there ∙ sym (acted-events s.world (log.settle s.world).events)
 led-in s Finish = refl
+led-in s (Duo e) = refl
 
 -- a command that was done, but for its text
 pub cut_done : (s : SessionState) (c : Command) (o : Outcome) (v : WorldState) → outcome s c ≡ Some o → v ≡ o.after.world → IsCutShort s c v

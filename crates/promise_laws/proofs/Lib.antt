@@ -1,6 +1,7 @@
 pub mod Acting
 pub mod Begun
 pub mod CutShort
+pub mod Duos
 pub mod OneAction
 pub mod OneChannel
 pub mod Running

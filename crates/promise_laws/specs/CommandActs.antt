@@ -16,7 +16,7 @@ use Rattle.run_defs.specs.declared.command.Command.{Command}
 use Rattle.run_defs.specs.declared.command.Command.TheVariants.{Walk, Map, Circuit, Routes, Install}
 use Rattle.run_defs.specs.declared.command.Command.TheVariants.{Begin as BeginCommand, Close as CloseCommand}
 use Rattle.run_defs.specs.declared.command.Command.TheVariants.{Poll as PollCommand, Tokens, Provide as ProvideCommand}
-use Rattle.run_defs.specs.declared.command.Command.TheVariants.{Send as SendCommand, Plan, Step, Settle, Finish}
+use Rattle.run_defs.specs.declared.command.Command.TheVariants.{Send as SendCommand, Plan, Step, Settle, Finish, Duo}
 use Rattle.run_defs.specs.declared.line.MapWords.{MapWords}
 use Rattle.run_defs.specs.Mapped.{IsMapped}
 use Rattle.run_defs.specs.Output.{Piece}
@@ -60,6 +60,7 @@ acts_of s (Plan ahead kind) = Some (Plans ahead (fault_of kind) ∷ [])
 acts_of s (Step line) = Some (step_acts (event_of s.world line))
 acts_of s Settle = Some (map Happens (log.settle s.world).events)
 acts_of s Finish = Some []
+acts_of s (Duo e) = Some []
 
 -- The acts that a command stands for in a session. Those of a map that is made are the events of its asks.
 pub data StandsFor (s : SessionState) : Command → List Act → Type 0 where

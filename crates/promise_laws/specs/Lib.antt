@@ -1,5 +1,6 @@
 pub mod CommandActs
 pub mod CutShort
+pub mod Duos
 pub mod Examples
 pub mod Existence
 pub mod OneAction

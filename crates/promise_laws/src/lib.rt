@@ -7,6 +7,7 @@
 //! |---|---|
 //! | `CommandActs` | which acts a command stands for, and that after each prefix of them the world is sound |
 //! | `CutShort` | that a command is cut short, and a map that was begun |
+//! | `Duos` | what a command depends on, of the two hosts that restart, and what they come to in a run |
 //! | `OneAction` | whose an act is, and that it is one action, of one host or of one channel |
 //! | `Existence` | each command does something after every run, and so there is a run |
 //! | `Promised` | every moment is sound, and every run keeps its promise |
@@ -15,12 +16,14 @@
 #![tactic(auto)]
 
 mod command_acts;
+mod duo_lines;
 mod existence;
 mod promises;
 mod scripts;
 mod worked;
 
 pub use command_acts::{acts_of_commands, acts_of_cut_commands, acts_of_one_host_or_channel};
+pub use duo_lines::{dependence_on_the_duo, duos_of_runs};
 pub use existence::runs_exist;
 pub use promises::{promises_of_runs, sound_moments};
 pub use scripts::{acts_of_scripts, maps_of_scripts};

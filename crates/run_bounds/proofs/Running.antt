@@ -8,6 +8,9 @@ use Rattle.net_defs.specs.Network.{Network, IsFabric}
 use Rattle.net_defs.proofs.Distinct.{all-weaker, all-push}
 use Rattle.link_defs.specs.Links.{is_idle}
 use Rattle.map_defs.specs.NetMap.{NetMap, hosts_of}
+use Rattle.duo_defs.specs.declared.effect.DuoEffect.{DuoEffect}
+use Rattle.duo_defs.specs.Duo.{DuoState}
+use Rattle.duo_defs.specs.Step.{step as duo_step}
 use Rattle.world_defs.specs.declared.event.Event.{Event}
 use Rattle.world_defs.specs.declared.event.Event.TheVariants.{Begin, Close, Provide, Send, Poll}
 use Rattle.world_defs.specs.declared.effect.Effect.{Effect}
@@ -23,12 +26,13 @@ use Rattle.log_defs.proofs.Asks.{install-log}
 use Rattle.message_laws.proofs.Known.{reached-count}
 use Rattle.act_defs.specs.Acts.{Happens, Plans, IsReached}
 use Rattle.run_defs.specs.declared.command.Command.{Command}
-use Rattle.run_defs.specs.declared.command.Command.TheVariants.{Walk, Map, Circuit, Routes, Install, Begin as BeginCommand, Close as CloseCommand, Poll as PollCommand, Tokens, Provide as ProvideCommand, Send as SendCommand, Plan, Step, Settle, Finish}
+use Rattle.run_defs.specs.declared.command.Command.TheVariants.{Walk, Map, Circuit, Routes, Install, Begin as BeginCommand, Close as CloseCommand, Poll as PollCommand, Tokens, Provide as ProvideCommand, Send as SendCommand, Plan, Step, Settle, Finish, Duo}
 use Rattle.run_defs.specs.declared.line.Line.TheVariants.{MapBusy, InstallRefused}
 use Rattle.run_defs.specs.declared.line.InstallCause.TheVariants.{Busy, Installed as OtherInstalled}
 use Rattle.run_defs.specs.Output.{Piece}
 use Rattle.run_defs.specs.Session.{SessionState, LastMap, LastRoutes, complete_map}
-use Rattle.run_defs.specs.Outcome.{Outcome, says_only, event_of, stepped, step_or_idle, fault_of, adoption_of, install_done, install_now, install, map_refused, routes_refused, outcome}
+use Rattle.run_defs.specs.Outcome.{Outcome, says_only, event_of, stepped, step_or_idle, fault_of, adoption_of, install_done, install_now, install, map_refused, routes_refused, duo_done, outcome}
+use Rattle.run_defs.specs.Duos.{begun}
 use Rattle.run_defs.specs.Run.{Does, Runs, IsRun, hosts_by_address}
 use Rattle.run_defs.specs.Run.Does.{determined, maps, circuits, routes}
 use Rattle.run_defs.specs.Run.Runs.{ended, goes_on}
@@ -108,6 +112,10 @@ busy-costs s host = by (is_idle s.world.links)
     by true = tt
     by false = nothing s
 
+-- a line of the two hosts that restart
+duo-costs : (s : SessionState) (r : DuoEffect × DuoState) → CostsIn s (Some (duo_done s r))
+duo-costs s (effect, d) = nothing s
+
 settle-cost : (n : Network) (s : SessionState) → IsReached n s.world → pledged (log.settle s.world).world ≤ pledged s.world + command_cost
 settle-cost n s r =
     let cost = settle-costs n s.world r in
@@ -130,6 +138,7 @@ outcome-costs n s (Plan ahead kind) said r small = (let h = act-costs n s.world 
 outcome-costs n s (Step line) said r small = step-costs n s (event_of s.world line) r
 outcome-costs n s Settle said r small = (settle-cost n s r, refl)
 outcome-costs n s Finish said r small = nothing s
+outcome-costs n s (Duo line) said r small = duo-costs s (duo_step (begun s.duo) line)
 
 -- every command
 does-costs : {s next : SessionState} {c : Command} {out : List Piece} → (n : Network) → IsCommandOf n c → IsReached n s.world → KeepsSmall s → Does s c out next → pledged next.world ≤ pledged s.world + command_cost

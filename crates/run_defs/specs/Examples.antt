@@ -4,6 +4,7 @@ use Rattle.net_defs.specs.Examples.{two_hosts, host_end, switch_end}
 use Rattle.journal_defs.specs.Examples.{two_hosts_journal}
 use Rattle.map_defs.specs.declared.vertex.MapVertex.TheVariants.{Host, Switch}
 use Rattle.map_defs.specs.NetMap.{NetMap}
+use Rattle.duo_defs.specs.declared.event.DuoEvent.{DuoEvent}
 use Rattle.world_defs.specs.declared.effect.Said.{Said}
 use Rattle.world_defs.specs.declared.fault.Fault.TheVariants.{Lose as LoseFault}
 use Rattle.world_defs.specs.World.{WorldState, fabric_of, new_world, planned}
@@ -11,7 +12,7 @@ use Rattle.world_defs.specs.Examples.{setup, setup_routes}
 use Rattle.log_defs.specs.Logs as log
 use Rattle.run_defs.specs.declared.command.Command.{Command}
 use Rattle.run_defs.specs.declared.command.Command.TheVariants.{Map, Routes, Install, Begin, Close, Poll, Tokens}
-use Rattle.run_defs.specs.declared.command.Command.TheVariants.{Provide, Send, Step, Settle, Finish}
+use Rattle.run_defs.specs.declared.command.Command.TheVariants.{Provide, Send, Step, Settle, Finish, Duo}
 use Rattle.run_defs.specs.declared.command.StepLine.TheVariants.{Inject, Advance, Lose}
 use Rattle.run_defs.specs.declared.line.MapWords.TheVariants.{Complete}
 use Rattle.run_defs.specs.declared.line.ClientCall.{ClientCall}
@@ -47,6 +48,7 @@ installed_session = record {
   world = setup;
   last_map = None;
   last_routes = Some (record { mapper = 0; hosts = 0 ∷ 1 ∷ []; routes = setup_routes });
+  duo = None;
 }
 
 -- the map of the two hosts: the switch's ports count from the first host's
@@ -81,6 +83,13 @@ single_events =
     ∷ Step (Lose (switch_end 0 7)) ∷ Settle
     ∷ Poll 1 1 ∷ Poll 1 1 ∷ Finish ∷ []
 
+-- the second of two hosts restarts before a frame comes, and the first hears of it
+abbrev pub restarting : List Command
+restarting = map Duo
+    (DuoEvent.Provide 1 4 ∷ DuoEvent.Send 0 1 65 ∷ DuoEvent.Emit 0 ∷ DuoEvent.Deliver 0 ∷ DuoEvent.Emit 1
+    ∷ DuoEvent.Deliver 1 ∷ DuoEvent.Emit 0 ∷ DuoEvent.Restart 1 ∷ DuoEvent.Deliver 2 ∷ DuoEvent.Emit 1
+    ∷ DuoEvent.Deliver 3 ∷ DuoEvent.Poll 0 ∷ [])
+
 -- the world after the asks of a map, from the first host on
 abbrev pub mapped_world : WorldState
 mapped_world = (log.asks 0 1 (map (λ e. e.walk) two_hosts_journal) (new_world two_hosts)).world
@@ -99,6 +108,7 @@ mapped_session = record {
   world = mapped_world;
   last_map = Some (record { mapper = 0; words = Complete; made = setup_map });
   last_routes = None;
+  duo = None;
 }
 
 -- the first world, with a fault planned for the first injection

@@ -1,4 +1,5 @@
 pub mod Circuit
+pub mod Duos
 pub mod Examples
 pub mod Headline
 pub mod LineText

@@ -13,6 +13,18 @@ use Rattle.map_defs.specs.declared.vertex.MapCable.{MapCable}
 use Rattle.map_defs.specs.NetMap.{NetMap}
 use Rattle.gm_defs.specs.declared.token.TokenPlace.{TokenPlace}
 use Rattle.gm_defs.specs.declared.token.TokenPlace.TheVariants.{Queue, Provided, Event}
+use Rattle.duo_defs.specs.declared.effect.DuoCause.{DuoCause}
+use Rattle.duo_defs.specs.declared.effect.DuoCause.TheVariants.{NoToken as DuoNoToken, TooLong as DuoTooLong}
+use Rattle.duo_defs.specs.declared.effect.DuoCause.TheVariants.{Spent as DuoSpent, BadSize as DuoBadSize}
+use Rattle.duo_defs.specs.declared.effect.DuoEffect.{DuoEffect}
+use Rattle.duo_defs.specs.declared.effect.DuoEffect.TheVariants.{Token as DuoToken, Refused as DuoRefused}
+use Rattle.duo_defs.specs.declared.effect.DuoEffect.TheVariants.{Idle as DuoIdle, Emitted as DuoEmitted}
+use Rattle.duo_defs.specs.declared.effect.DuoEffect.TheVariants.{Hello as DuoHello, Stale as DuoStale}
+use Rattle.duo_defs.specs.declared.effect.DuoEffect.TheVariants.{Message as DuoMessage, NotNext as DuoNotNext}
+use Rattle.duo_defs.specs.declared.effect.DuoEffect.TheVariants.{NoToken as NoneFits, Ack as DuoAck}
+use Rattle.duo_defs.specs.declared.effect.DuoEffect.TheVariants.{Expired as DuoExpired, Nothing as DuoNothing}
+use Rattle.duo_defs.specs.declared.effect.DuoEffect.TheVariants.{Sent as DuoSent, Unsure as DuoUnsure}
+use Rattle.duo_defs.specs.declared.effect.DuoEffect.TheVariants.{Received as DuoReceived, Restarted as DuoRestarted}
 use Rattle.fab_text.specs.Fault.{kind_word}
 use Rattle.fab_text.specs.Written.{line_text as line_of}
 use Rattle.world_defs.specs.declared.effect.Cause.{Cause}
@@ -43,7 +55,7 @@ use Rattle.run_defs.specs.declared.line.Line.{Line}
 use Rattle.run_defs.specs.declared.line.Line.TheVariants.{Refused, Walk, Map, MapBusy, Circuit, CircuitNodes, Routes}
 use Rattle.run_defs.specs.declared.line.Line.TheVariants.{Route, Rank, EndRoutes}
 use Rattle.run_defs.specs.declared.line.Line.TheVariants.{NoMap, Installed, Table, InstallRefused, Client, Tokens}
-use Rattle.run_defs.specs.declared.line.Line.TheVariants.{PlanAt, Step, Settle, Finish, GenHead, GenMap, GenCount}
+use Rattle.run_defs.specs.declared.line.Line.TheVariants.{PlanAt, Step, Settle, Finish, GenHead, GenMap, GenCount, Duo}
 use Rattle.run_defs.specs.Output.{Piece, OneLine, MapLines}
 
 -- a host's name
@@ -186,6 +198,32 @@ abbrev pub active_word : Bool → List ℕ
 active_word true = codes "active"
 active_word false = codes "none"
 
+-- why a call of a client, or a restart, was refused
+abbrev pub duo_cause : DuoCause → List ℕ
+duo_cause DuoNoToken = codes "notoken"
+duo_cause DuoTooLong = codes "toolong"
+duo_cause DuoSpent = codes "spent"
+duo_cause DuoBadSize = codes "badsize"
+
+-- what one event of the two hosts that restart did
+abbrev pub duo_words : DuoEffect → List (List ℕ)
+duo_words (DuoToken t) = codes "token" ∷ decimal t ∷ []
+duo_words (DuoRefused cause) = codes "refused" ∷ duo_cause cause ∷ []
+duo_words DuoIdle = codes "idle" ∷ []
+duo_words (DuoEmitted k) = codes "emitted" ∷ decimal k ∷ []
+duo_words DuoHello = codes "hello" ∷ []
+duo_words DuoStale = codes "stale" ∷ []
+duo_words DuoMessage = codes "message" ∷ []
+duo_words DuoNotNext = codes "notnext" ∷ []
+duo_words NoneFits = codes "notoken" ∷ []
+duo_words DuoAck = codes "ack" ∷ []
+duo_words DuoExpired = codes "expired" ∷ []
+duo_words DuoNothing = codes "nothing" ∷ []
+duo_words (DuoSent t) = codes "sent" ∷ decimal t ∷ []
+duo_words (DuoUnsure t) = codes "unsure" ∷ decimal t ∷ []
+duo_words (DuoReceived t body) = codes "received" ∷ decimal t ∷ hex_text body ∷ []
+duo_words (DuoRestarted inc) = codes "restarted" ∷ decimal inc ∷ []
+
 -- The words of a line.
 abbrev pub words_in : Network → Line → List (List ℕ)
 words_in n (Refused line kind) = codes "refused" ∷ decimal line ∷ kind_word kind ∷ []
@@ -223,6 +261,7 @@ words_in n (GenHead count seed hosts switches cables) =
 words_in n (GenMap words asks packets) = codes "map" ∷ map_words words
     ++ codes "asks" ∷ decimal asks ∷ codes "packets" ∷ decimal packets ∷ []
 words_in n (GenCount accepted received) = codes "messages" ∷ decimal accepted ∷ codes "received" ∷ decimal received ∷ []
+words_in n (Duo did) = codes "duo" ∷ duo_words did
 
 -- The text of a line is its words with a space between them, and the byte that ends a line.
 abbrev pub line_text : Network → Line → List ℕ

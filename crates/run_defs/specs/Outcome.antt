@@ -10,6 +10,9 @@ use Rattle.link_defs.specs.Channel.{channel_tail}
 use Rattle.link_defs.specs.Links.{is_idle}
 use Rattle.gm_defs.specs.declared.token.TokenPlace.{TokenPlace}
 use Rattle.gm_defs.specs.Token.{PortState, place_of_send, place_of_recv}
+use Rattle.duo_defs.specs.declared.effect.DuoEffect.{DuoEffect}
+use Rattle.duo_defs.specs.Duo.{DuoState}
+use Rattle.duo_defs.specs.Step.{step as duo_step}
 use Rattle.world_defs.specs.declared.event.Event.{Event}
 use Rattle.world_defs.specs.declared.event.Event.TheVariants.{Inject, Advance, Lose, Repeat, Hold, Flip, Replay, Reset}
 use Rattle.world_defs.specs.declared.event.Event.TheVariants.{Expire, GiveUp, Begin, Close, Provide, Send, Poll}
@@ -34,7 +37,7 @@ use Rattle.run_defs.specs.declared.command.Command.TheVariants.{Walk, Map, Circu
 use Rattle.run_defs.specs.declared.command.Command.TheVariants.{Begin as BeginCommand}
 use Rattle.run_defs.specs.declared.command.Command.TheVariants.{Close as CloseCommand, Poll as PollCommand, Tokens}
 use Rattle.run_defs.specs.declared.command.Command.TheVariants.{Provide as ProvideCommand, Send as SendCommand, Plan}
-use Rattle.run_defs.specs.declared.command.Command.TheVariants.{Step, Settle, Finish}
+use Rattle.run_defs.specs.declared.command.Command.TheVariants.{Step, Settle, Finish, Duo}
 use Rattle.run_defs.specs.declared.command.PlanKind.{PlanKind}
 use Rattle.run_defs.specs.declared.command.PlanKind.TheVariants.{Lose as PlanLose, Repeat as PlanRepeat}
 use Rattle.run_defs.specs.declared.command.PlanKind.TheVariants.{Hold as PlanHold, Flip as PlanFlip}
@@ -48,7 +51,7 @@ use Rattle.run_defs.specs.declared.line.Line.{Line}
 use Rattle.run_defs.specs.declared.line.Line.TheVariants.{Walk as WalkLine, MapBusy, NoMap, Installed, Table}
 use Rattle.run_defs.specs.declared.line.Line.TheVariants.{InstallRefused, Client, Tokens as TokensLine, PlanAt}
 use Rattle.run_defs.specs.declared.line.Line.TheVariants.{Step as StepOutput, Settle as SettleLine}
-use Rattle.run_defs.specs.declared.line.Line.TheVariants.{Finish as FinishLine}
+use Rattle.run_defs.specs.declared.line.Line.TheVariants.{Finish as FinishLine, Duo as DuoLine}
 use Rattle.run_defs.specs.declared.line.InstallCause.TheVariants.{NoRoutes, Busy, Installed as OtherInstalled}
 use Rattle.run_defs.specs.declared.line.ClientCall.{ClientCall}
 use Rattle.run_defs.specs.declared.line.ClientCall.TheVariants.{Begin as BeginCall, Close as CloseCall}
@@ -65,6 +68,7 @@ use Rattle.run_defs.specs.declared.line.StepWords.TheVariants.{Held as HeldWords
 use Rattle.run_defs.specs.declared.line.PlaceEntry.{PlaceEntry}
 use Rattle.run_defs.specs.Output.{Piece, lines}
 use Rattle.run_defs.specs.Session.{SessionState, LastMap, LastRoutes, complete_map}
+use Rattle.run_defs.specs.Duos.{begun}
 
 -- What a command prints, and the session after it.
 pub record Outcome : Type 0 where
@@ -206,6 +210,10 @@ abbrev pub routes_refused : SessionState → Option LastMap → Option Outcome
 routes_refused s (Some l) = None
 routes_refused s None = Some (says_only s (NoMap ∷ []))
 
+-- an event of the two hosts that restart prints what it did, and leaves the session with them
+abbrev pub duo_done : SessionState → DuoEffect × DuoState → Outcome
+duo_done s (effect, d) = record { output = lines (DuoLine effect ∷ []); after = record s { duo = Some d } }
+
 -- What a command prints, and the session after it, where its session determines them. That leaves out a map that is
 -- made, the map of circuit links, and routes that are computed.
 abbrev pub outcome : SessionState → Command → Option Outcome
@@ -226,3 +234,4 @@ outcome s (Plan ahead kind) = Some (plan_made s (planned s.world ahead (fault_of
 outcome s (Step line) = Some (step_or_idle s (event_of s.world line))
 outcome s Settle = Some (settled s (log.settle s.world))
 outcome s Finish = Some (says_only s (FinishLine s.world.injected s.world.dropped ∷ []))
+outcome s (Duo e) = Some (duo_done s (duo_step (begun s.duo) e))

@@ -7,6 +7,9 @@ use Rattle.net_defs.specs.declared.vertex.Vertex.TheVariants.{Host, Switch}
 use Rattle.net_defs.specs.declared.vertex.End.{End}
 use Rattle.net_defs.specs.Network.{Network, ports_of}
 use Rattle.net_defs.specs.Building.{vertex_named}
+use Rattle.duo_defs.specs.declared.event.DuoEvent.{DuoEvent}
+use Rattle.duo_defs.specs.declared.event.DuoEvent.TheVariants.{Send as DuoSend, Provide as DuoProvide, Emit, Deliver}
+use Rattle.duo_defs.specs.declared.event.DuoEvent.TheVariants.{Expire as DuoExpire, Poll as DuoPoll, Restart}
 use Rattle.fab_text.specs.declared.fault.FaultKind.{FaultKind}
 use Rattle.fab_text.specs.declared.fault.FaultKind.TheVariants.{BadWord, TooLarge, NoVertex, PortRange, NoEnd, AfterEnd}
 use Rattle.fab_text.specs.Word.{name_test, number_within, turn_of}
@@ -15,6 +18,7 @@ use Rattle.fab_text.specs.Fault.{FirstFault, as_kind, at_line, and_then}
 use Rattle.run_defs.specs.declared.command.Command.{Command}
 use Rattle.run_defs.specs.declared.command.Command.TheVariants.{Walk, Map, Circuit, Routes, Install, Begin, Close}
 use Rattle.run_defs.specs.declared.command.Command.TheVariants.{Poll, Tokens, Provide, Send, Plan, Step, Settle, Finish}
+use Rattle.run_defs.specs.declared.command.Command.TheVariants.{Duo}
 use Rattle.run_defs.specs.declared.command.PlanKind.{PlanKind}
 use Rattle.run_defs.specs.declared.command.PlanKind.TheVariants.{Lose as PlanLose, Repeat as PlanRepeat}
 use Rattle.run_defs.specs.declared.command.PlanKind.TheVariants.{Hold as PlanHold, Flip as PlanFlip}
@@ -194,6 +198,25 @@ abbrev pub replay_meant : Network → List Value → Result Command FaultKind
 replay_meant n (Number serial ∷ []) = Ok (Step (Replay serial))
 replay_meant n _ = Err BadWord
 
+-- one of the two hosts that restart: 0 or 1
+abbrev pub of_end : Form
+of_end = OfNumber 0 1
+
+-- `duo emit X`, `duo expire X`, `duo poll X`, `duo restart X`, `duo deliver K`
+abbrev pub duo_meant : (ℕ → DuoEvent) → Network → List Value → Result Command FaultKind
+duo_meant happens n (Number x ∷ []) = Ok (Duo (happens x))
+duo_meant happens n _ = Err BadWord
+
+-- `duo send X LEN SEED`
+abbrev pub duo_send_meant : Network → List Value → Result Command FaultKind
+duo_send_meant n (Number x ∷ Number len ∷ Number seed ∷ []) = Ok (Duo (DuoSend x len seed))
+duo_send_meant n _ = Err BadWord
+
+-- `duo provide X SIZE`
+abbrev pub duo_provide_meant : Network → List Value → Result Command FaultKind
+duo_provide_meant n (Number x ∷ Number size ∷ []) = Ok (Duo (DuoProvide x size))
+duo_provide_meant n _ = Err BadWord
+
 -- a kind of line by its three parts
 abbrev pub kind : List ℕ → List Form → (Network → List Value → Result Command FaultKind) → LineKind
 kind word forms meaning = record { word = word; forms = forms; meaning = meaning }
@@ -239,6 +262,18 @@ step_kinds =
     ∷ kind (codes "replay") (OfNumber 0 4294967295 ∷ []) replay_meant
     ∷ []
 
+-- the lines that begin with `duo` and one word more
+abbrev pub duo_kinds : List LineKind
+duo_kinds =
+    kind (codes "send") (of_end ∷ OfNumber 0 1000000 ∷ OfNumber 0 255 ∷ []) duo_send_meant
+    ∷ kind (codes "provide") (of_end ∷ OfNumber 0 31 ∷ []) duo_provide_meant
+    ∷ kind (codes "emit") (of_end ∷ []) (duo_meant Emit)
+    ∷ kind (codes "deliver") (OfNumber 0 4294967295 ∷ []) (duo_meant Deliver)
+    ∷ kind (codes "expire") (of_end ∷ []) (duo_meant DuoExpire)
+    ∷ kind (codes "poll") (of_end ∷ []) (duo_meant DuoPoll)
+    ∷ kind (codes "restart") (of_end ∷ []) (duo_meant Restart)
+    ∷ []
+
 -- a line's second word counts with its first
 abbrev pub by_second : Network → List LineKind → List (List ℕ) → Result Command FaultKind
 by_second n kinds [] = Err BadWord
@@ -257,13 +292,13 @@ walk_said n (name ∷ words) =
     else if name_test name then and_then (turns_of words) (λ turns. at_host n name (λ h. Walk h turns))
     else Err BadWord
 
--- the command of a line by its first word: `walk`, `plan` with its second word, `step` with its second word, or a
--- word of the table
+-- the command of a line by its first word: `walk`, `plan`, `step` or `duo` with its second word, or a word of the table
 abbrev pub command_as : Network → List ℕ → List (List ℕ) → Result Command FaultKind
 command_as n first args =
     if bytes_eq first (codes "walk") then walk_said n args
     else if bytes_eq first (codes "plan") then by_second n plan_kinds args
     else if bytes_eq first (codes "step") then by_second n step_kinds args
+    else if bytes_eq first (codes "duo") then by_second n duo_kinds args
     else command_by n line_kinds first args
 
 -- The command that a line of these words says over a fabric, or the line's first fault: the first word, the number of

@@ -1,9 +1,10 @@
--- What a run holds from command to command: the world, the last map, the last routes.
+-- What a run holds from command to command: the world, the last map, the last routes, and the two hosts that restart.
 use Rattle.std.specs.Prelude.{ℕ, Bool, true, false, cond, List, Option, Some, None}
 use Rattle.net_defs.specs.declared.route.Route.{Route}
 use Rattle.net_defs.specs.Network.{Network}
 use Rattle.map_defs.specs.NetMap.{NetMap}
 use Rattle.world_defs.specs.World.{WorldState, new_world}
+use Rattle.duo_defs.specs.Duo.{DuoState}
 use Rattle.run_defs.specs.declared.line.MapWords.{MapWords}
 use Rattle.run_defs.specs.declared.line.MapWords.TheVariants.{Complete, Doubtful, IncompleteDepth, IncompleteNodes}
 
@@ -19,15 +20,17 @@ pub record LastRoutes : Type 0 where
   pub hosts : List ℕ
   pub routes : List Route
 
--- What a run holds: the world, the last map and the last routes, where there are any.
+-- What a run holds: the world, the last map and the last routes, where there are any, and the two hosts that restart,
+-- once they have begun.
 pub record SessionState : Type 0 where
   pub world : WorldState
   pub last_map : Option LastMap
   pub last_routes : Option LastRoutes
+  pub duo : Option DuoState
 
 -- the session of a fabric before its first command
 abbrev pub new_session : Network → SessionState
-new_session n = record { world = new_world n; last_map = None; last_routes = None }
+new_session n = record { world = new_world n; last_map = None; last_routes = None; duo = None }
 
 -- a map says complete
 abbrev pub is_complete : MapWords → Bool

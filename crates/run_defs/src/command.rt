@@ -1,5 +1,6 @@
 //! The commands of a script.
 
+use duo_defs::DuoEvent;
 use net_defs::{End, Walk};
 
 /// A fault that a script plans.
@@ -163,4 +164,6 @@ pub enum Command {
     Settle,
     /// Ends the script.
     Finish,
+    /// One event of the two hosts that restart, which are apart from the fabric.
+    Duo(DuoEvent),
 }

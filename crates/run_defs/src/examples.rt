@@ -4,6 +4,7 @@ ghost use Rattle.std.specs.Prelude.{◌≡◌, [], ◌∷◌, ◌++◌, map, cod
 ghost use Rattle.net_defs.specs.Examples.{two_hosts, host_end, switch_end};
 ghost use Rattle.net_defs.specs.declared.place.Place.{Place};
 ghost use Rattle.world_defs.specs.declared.effect.Said.{Said};
+ghost use Rattle.duo_defs.specs.declared.event.DuoEvent.{DuoEvent};
 ghost use Rattle.run_defs.specs.declared.command.Command.{Command};
 ghost use Rattle.run_defs.specs.declared.line.Line.{Line};
 ghost use Rattle.run_defs.specs.declared.line.MapWords.{MapWords};
@@ -24,7 +25,7 @@ ghost use Rattle.net_defs.specs.Network.{Network};
 ghost use Rattle.run_defs.specs.Headline.{HasPrinted, CompleteIsTrue, IsQuiet};
 ghost use Rattle.run_defs.specs.Examples.{mapped_world, mapping, mapping_output, mapped_session, doubtful_world};
 ghost use Rattle.run_defs.specs.Examples.{text_of, printed, fresh, installed_session, setup_map, refused_calls};
-ghost use Rattle.run_defs.specs.Examples.{closing, single_events, message_output};
+ghost use Rattle.run_defs.specs.Examples.{closing, single_events, message_output, restarting};
 
 /// The texts of some lines.
 #[tactic(auto, using(crate::proofs::Reports::line_at_a_switch, crate::proofs::Reports::line_doubtful, crate::proofs::Reports::line_circuit, crate::proofs::Reports::line_circuit_nodes, crate::proofs::Reports::line_route, crate::proofs::Reports::line_empty_message, crate::proofs::Reports::line_message))]
@@ -98,6 +99,15 @@ pub fn report_of_single_events()
         ∷ codes "poll b 1 received token 1 from a 0 prio 0 len 1 bytes 02" ∷ codes "end injected 71 dropped 59" ∷ []) }
 {}
 
+/// The second of two hosts restarts before a frame comes: the first learns that its message may be lost.
+#[tactic(auto, using(crate::proofs::Reports::restarting_text))]
+pub fn report_of_a_restart()
+    ensures text { printed restarting fresh
+        ≡ text_of (codes "duo token 0" ∷ codes "duo token 0" ∷ codes "duo emitted 0" ∷ codes "duo hello"
+        ∷ codes "duo emitted 1" ∷ codes "duo hello" ∷ codes "duo emitted 2" ∷ codes "duo restarted 2"
+        ∷ codes "duo stale" ∷ codes "duo emitted 3" ∷ codes "duo hello" ∷ codes "duo unsure 0" ∷ []) }
+{}
+
 /// Lines of scripts over the two hosts at one switch, and their first faults.
 pub fn lines_of_scripts()
     ensures map { command_of two_hosts (codes "map" ∷ codes "a" ∷ codes "04" ∷ codes "1" ∷ [])
@@ -113,6 +123,10 @@ pub fn lines_of_scripts()
         ≡ Ok (Command.Plan 1 (PlanKind.Flip 6 193)) }
     ensures step { command_of two_hosts (codes "step" ∷ codes "lose" ∷ codes "s" ∷ codes "5" ∷ [])
         ≡ Ok (Command.Step (StepLine.Lose (switch_end 0 5))) }
+    ensures restart { command_of two_hosts (codes "duo" ∷ codes "restart" ∷ codes "1" ∷ [])
+        ≡ Ok (Command.Duo (DuoEvent.Restart 1)) }
+    ensures third_end { command_of two_hosts (codes "duo" ∷ codes "send" ∷ codes "2" ∷ codes "1" ∷ codes "x" ∷ [])
+        ≡ Err FaultKind.TooLarge }
     ensures depth_of_none { command_of two_hosts (codes "map" ∷ codes "a" ∷ codes "0" ∷ codes "x" ∷ [])
         ≡ Err FaultKind.TooLarge }
     ensures form_before_the_host { command_of two_hosts (codes "map" ∷ codes "c" ∷ codes "1" ∷ codes "x" ∷ [])

@@ -2,6 +2,7 @@
 
 ghost use Rattle.std.specs.Prelude.{◌≡◌};
 
+use duo_defs::DuoEffect;
 use fab_text::FaultKind;
 use gm_defs::TokenPlace;
 use map_defs::MapVertex;
@@ -275,4 +276,6 @@ pub enum Line {
         /// How many polls received a message.
         received: u64,
     },
+    /// `duo EFFECT`: what one event of the two hosts that restart did.
+    Duo(DuoEffect),
 }

@@ -15,7 +15,7 @@ use Rattle.log_defs.specs.Logs as log
 use Rattle.log_defs.specs.Log.{Log}
 use Rattle.world_defs.specs.EightBits.{IsByteEvent}
 use Rattle.run_defs.specs.declared.command.Command.{Command}
-use Rattle.run_defs.specs.declared.command.Command.TheVariants.{Walk, Map, Circuit, Routes, Install, Begin as BeginCommand, Close as CloseCommand, Poll as PollCommand, Tokens, Provide as ProvideCommand, Send as SendCommand, Plan, Step, Settle, Finish}
+use Rattle.run_defs.specs.declared.command.Command.TheVariants.{Walk, Map, Circuit, Routes, Install, Begin as BeginCommand, Close as CloseCommand, Poll as PollCommand, Tokens, Provide as ProvideCommand, Send as SendCommand, Plan, Step, Settle, Finish, Duo}
 use Rattle.run_defs.specs.declared.command.StepLine.{StepLine}
 use Rattle.run_defs.specs.declared.command.StepLine.TheVariants.{Inject, GiveUp, Advance, Lose, Repeat, Hold, Reset, Flip, Expire, Replay}
 use Rattle.run_defs.specs.declared.line.Line.TheVariants.{MapBusy, InstallRefused}
@@ -131,6 +131,7 @@ outcome-leads n s (Plan ahead kind) of_n net may = (leads-plan s.world ahead (fa
 outcome-leads n s (Step line) of_n net may = step-leads s (event_of s.world line) (event-bytes s.world line of_n)
 outcome-leads n s Settle of_n net may = (settle-of Leads along-leads s.world, refl)
 outcome-leads n s Finish of_n net may = (leads-same s.world, refl)
+outcome-leads n s (Duo e) of_n net may = (leads-same s.world, refl)
 
 -- a session that a run of such commands leads to
 pub record IsLed (n : Network) (s : SessionState) : Type 0 where

@@ -1,5 +1,6 @@
 pub mod Answered
 pub mod Asks
+pub mod Beside
 pub mod ByCommand
 pub mod Cutting
 pub mod Installable

@@ -1,9 +1,10 @@
-//! Every command that makes no map, over the parts of a session.
+//! Every command of the fabric that makes no map, over the parts of a session.
 
 ghost use Rattle.std.specs.Prelude.{◌≡◌, ℕ, false, IfOk, OnErr};
 ghost use Rattle.link_defs.specs.Links.{empty_links, is_idle};
 ghost use Rattle.world_defs.specs.World.{fabric_of};
 ghost use Rattle.run_defs.specs.declared.command.Command.TheVariants.{Map};
+ghost use Rattle.run_defs.specs.Duos.{IsOther};
 ghost use Rattle.fab_script.specs.Ranges.{IsCommandOf};
 ghost use Rattle.promise_laws.specs.CutShort.{IsCutShort};
 ghost use Rattle.world_commands.specs.Done.{session_of};
@@ -35,6 +36,7 @@ pub(crate) fn obey_here(
     c: &Command,
 ) -> Result<Printed, AllocError>
     requires command { IsCommandOf (fabric_of w.old) c.now }
+    requires other { IsOther c.now }
     requires busy { (host depth tries : ℕ) → c.now ≡ Map host depth tries → is_idle w.old.links ≡ false }
     requires map { IsLastMap (fabric_of w.old) last_map.now }
     requires routes { AreLastRoutes (fabric_of w.old) last_routes.old }

@@ -1,12 +1,16 @@
 //! What a session holds, behind its box.
 
-ghost use Rattle.std.specs.Prelude.{◌≡◌, true, Option, Some, None, IfOk, OnErr};
+ghost use Rattle.std.specs.Prelude.{◌≡◌, true, Option, Some, None, option_map, IfOk, OnErr};
 ghost use Rattle.link_defs.specs.Links.{empty_links, is_idle};
 ghost use Rattle.world_defs.specs.World.{fabric_of};
+ghost use Rattle.run_defs.specs.Duos.{beside, IsOther};
 ghost use Rattle.run_defs.specs.Session.{LastRoutes};
-ghost use Rattle.fab_script.specs.Ranges.{IsCommandOf};
+ghost use Rattle.run_defs.specs.declared.command.Command.{Command};
+ghost use Rattle.fab_script.specs.Ranges.{IsDuoOf, IsCommandOf};
 ghost use Rattle.promise_laws.specs.CutShort.{IsCutShort};
+ghost use Rattle.promise_laws.specs.Duos.{IsDuoLeft};
 ghost use Rattle.world_commands.specs.Done.{session_of};
+ghost use Rattle.world_commands.specs.Duos.{IsDuoDone, IsDuoCut};
 ghost use Rattle.run_session.specs.Holding.{world_in};
 ghost use Rattle.run_session.specs.Kept.{IsKept, IsLastMap};
 ghost use Rattle.run_session.specs.Obeyed.{IsObeyed};
@@ -17,25 +21,30 @@ use crate::last::{LastFound, LastMade};
 use crate::mapping::{MapOrder, map, map_ordered};
 use fab_report::Printed;
 use fab_world::World;
+use gm_restart::{Duo, DuoEvent};
 use link_model::Links;
 use run_defs::Command;
 use std::alloc::{AllocError, Global};
 use std::marker::Model;
+use world_commands::{duo, end_duo};
 
-/// The world, the links of walks, the last map and the last routes.
+/// The world, the links of walks, the last map, the last routes, and the two hosts that restart, once they have begun.
 ///
 /// The world stands in a slot, which is empty only while a map is made: its mapper takes the world by value.
 pub(crate) struct Held {
+    alloc: Global,
     world: Option<World>,
     links: Links,
     last_map: Option<LastMade>,
     last_routes: Option<LastFound>,
+    duo: Option<Duo>,
 }
 
 impl Model for Held {
     ghost use Rattle.std.specs.Prelude.{◌≡◌, Some};
     ghost use Rattle.link_defs.specs.Links.{empty_links};
     ghost use Rattle.world_defs.specs.World.{fabric_of};
+    ghost use Rattle.run_defs.specs.Duos.{beside};
     ghost use Rattle.run_defs.specs.Session.{SessionState};
     ghost use Rattle.world_commands.specs.Done.{session_of};
     ghost use Rattle.run_session.specs.Holding.{world_in};
@@ -43,7 +52,7 @@ impl Model for Held {
 
     ghost Value = { SessionState };
 
-    ghost view = { λ h. session_of (world_in h.world) h.last_map h.last_routes };
+    ghost view = { λ h. beside (session_of (world_in h.world) h.last_map h.last_routes) h.duo };
 
     ghost invariant = { λ h. IsKept (session_of (world_in h.world) h.last_map h.last_routes)
         × (h.links ≡ empty_links (fabric_of (world_in h.world))) × (h.world ≡ Some (world_in h.world)) };
@@ -52,15 +61,17 @@ impl Model for Held {
 impl Held {
     /// A world with links of its fabric, and neither a map nor routes.
     #[tactic(auto, using(crate::proofs::Keeping::none_kept))]
-    pub(crate) fn new(world: World, links: Links) -> Held
+    pub(crate) fn new(alloc: Global, world: World, links: Links) -> Held
         requires { links ≡ empty_links (fabric_of world) }
         ensures { result ≡ session_of world None None }
     {
         Held {
+            alloc,
             world: Some(world),
             links,
             last_map: None,
             last_routes: None,
+            duo: None,
         }
     }
 
@@ -73,6 +84,25 @@ impl Held {
         ensures kept_map { OnErr result (self.new.last_map ≡ self.old.last_map) }
         ensures kept_routes { OnErr result (self.new.last_routes ≡ self.old.last_routes) }
         ensures cut { OnErr result (IsCutShort self.old c.now self.new.world) }
+        ensures duo { OnErr result (IsDuoLeft self.old c.now self.new.duo) }
+    {
+        match c {
+            Command::Duo(e) => self.obey_duo(alloc, *e),
+            _ => self.obey_other(alloc, c),
+        }
+    }
+
+    // Does a command that is none of the two hosts that restart: these stay.
+    #[tactic(auto, using(crate::proofs::Beside::beside_obeyed, crate::proofs::Beside::beside_cut))]
+    fn obey_other(&mut self, alloc: Global, c: &Command) -> Result<Printed, AllocError>
+        requires command { IsCommandOf (fabric_of self.old.world) c.now }
+        requires other { IsOther c.now }
+        ensures obeyed { IfOk result (λ p. IsObeyed self.old c.now self.new p) }
+        ensures fabric { fabric_of self.new.world ≡ fabric_of self.old.world }
+        ensures kept_map { OnErr result (self.new.last_map ≡ self.old.last_map) }
+        ensures kept_routes { OnErr result (self.new.last_routes ≡ self.old.last_routes) }
+        ensures cut { OnErr result (IsCutShort self.old c.now self.new.world) }
+        ensures duo { self.new.duo ≡ self.old.duo }
     {
         obey_parts(
             alloc,
@@ -82,6 +112,24 @@ impl Held {
             &mut self.last_routes,
             c,
         )
+    }
+
+    // Does one event of the two hosts that restart: all else stays.
+    #[tactic(auto, using(crate::proofs::Beside::duo_obeyed, crate::proofs::Beside::duo_left))]
+    fn obey_duo(&mut self, alloc: Global, e: DuoEvent) -> Result<Printed, AllocError>
+        requires event { IsDuoOf e }
+        ensures obeyed { IfOk result (λ p. IsObeyed self.old (Command.Duo e) self.new p) }
+        ensures rest { self.new ≡ beside self.old self.new.duo }
+        ensures duo { OnErr result (IsDuoLeft self.old (Command.Duo e) self.new.duo) }
+    {
+        duo_text(alloc, &self.world, &mut self.duo, e)
+    }
+
+    /// The two hosts that restart, once they have begun.
+    pub(crate) fn duo(&self) -> Option<&Duo>
+        ensures { option_map (λ d. d.now) result ≡ self.now.duo }
+    {
+        self.duo.as_ref()
     }
 
     /// Its world.
@@ -97,17 +145,39 @@ impl Held {
     /// Spends it. Takes no memory.
     pub(crate) fn end(self) {
         let Held {
+            alloc,
             world,
             links,
             last_map,
             last_routes,
+            duo,
         } = self;
+        end_duo(alloc, duo);
         end_kept(links, last_map, last_routes);
         end_slot(world);
     }
 }
 
-// Does a command over what a session holds, whose invariant it keeps.
+// One event of the two hosts that restart, in the names of a slot's fabric.
+#[tactic(auto, using(crate::proofs::Beside::event_is_fair))]
+fn duo_text(
+    alloc: Global,
+    slot: &Option<World>,
+    hosts: &mut Option<Duo>,
+    e: DuoEvent,
+) -> Result<Printed, AllocError>
+    requires there { slot.now ≡ Some (world_in slot.now) }
+    requires event { IsDuoOf e }
+    ensures done { IfOk result (λ p. IsDuoDone (fabric_of (world_in slot.now)) e hosts.old hosts.new p) }
+    ensures err { OnErr result (IsDuoCut e hosts.old hosts.new) }
+{
+    match slot {
+        Some(world) => duo(alloc, world.fabric(), hosts, e),
+        None => unreachable!(),
+    }
+}
+
+// Does a command of the fabric over what a session holds, whose invariant it keeps.
 fn obey_parts(
     alloc: Global,
     slot: &mut Option<World>,
@@ -120,6 +190,7 @@ fn obey_parts(
     requires kept { IsKept (session_of (world_in slot.old) last_map.old last_routes.old) }
     requires links { links.old ≡ empty_links (fabric_of (world_in slot.old)) }
     requires command { IsCommandOf (fabric_of (world_in slot.old)) c.now }
+    requires other { IsOther c.now }
     ensures there { slot.new ≡ Some (world_in slot.new) }
     ensures kept { IsKept (session_of (world_in slot.new) last_map.new last_routes.new) }
     ensures links { links.new ≡ empty_links (fabric_of (world_in slot.new)) }

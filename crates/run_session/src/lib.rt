@@ -13,6 +13,7 @@
 //!   Install, refused       install refused noroutes, busy or installed
 //!   Install                the last routes --> adopted --> their parts, host by host --> its line, then the tables
 //!   Settle                 a clear, and rounds of sending again --> its line
+//!   Duo                    one event of the two hosts that restart, which are apart from the world --> its line
 //!   all others             at most one event of the world --> its line (`world_commands`)
 //! ```
 //!

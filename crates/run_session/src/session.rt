@@ -1,21 +1,24 @@
 //! The session.
 
-ghost use Rattle.std.specs.Prelude.{◌≡◌, IfOk, IfErr};
+ghost use Rattle.std.specs.Prelude.{◌≡◌, option_map, IfOk, IfErr};
 ghost use Rattle.world_defs.specs.World.{fabric_of};
 ghost use Rattle.run_defs.specs.Session.{new_session};
 ghost use Rattle.fab_script.specs.Ranges.{IsCommandOf};
 ghost use Rattle.promise_laws.specs.CutShort.{IsCutShort};
+ghost use Rattle.promise_laws.specs.Duos.{IsDuoLeft};
 ghost use Rattle.run_session.specs.Obeyed.{IsObeyed, IsObeyedIn};
 
 use crate::held::Held;
 use fab_report::Printed;
 use fab_world::{Fabric, World};
+use gm_restart::Duo;
 use link_model::Links;
 use run_defs::Command;
 use std::alloc::{AllocError, Global};
 use std::marker::Model;
 
-/// What a run holds from command to command: its world, the last map and the last routes.
+/// What a run holds from command to command: its world, the last map and the last routes, and the two hosts that
+/// restart, once they have begun.
 ///
 /// A walk's packet takes links of its own, which are empty between commands, so that it meets no other packet. It
 /// must be spent, by [`Session::end`].
@@ -38,7 +41,7 @@ impl Session {
     {
         let world = World::new(alloc, fabric)?;
         match Links::new(alloc, world.fabric()) {
-            Ok(links) => Session::boxed(alloc, Held::new(world, links)),
+            Ok(links) => Session::boxed(alloc, Held::new(alloc, world, links)),
             Err(wanting) => {
                 world.end();
                 Err(wanting)
@@ -61,7 +64,8 @@ impl Session {
 
     /// Does a command over its fabric: the session then, and the text of what it printed. Where memory runs out, the
     /// session comes back with a world that a prefix of the command's acts leads to, and with the last map and the last
-    /// routes as they were. A command `circuit` leaves the session as it is.
+    /// routes as they were; the two hosts that restart are as they were, or new, where the command is their first
+    /// event, or as it leaves them. A command `circuit` leaves the session as it is.
     pub fn exec(
         self,
         alloc: Global,
@@ -74,6 +78,7 @@ impl Session {
         ensures kept_map { IfErr result (λ r. r.0.last_map ≡ self.last_map) }
         ensures kept_routes { IfErr result (λ r. r.0.last_routes ≡ self.last_routes) }
         ensures cut { IfErr result (λ r. IsCutShort self c.now r.0.world) }
+        ensures duo { IfErr result (λ r. IsDuoLeft self c.now r.0.duo) }
     {
         match self.perform(alloc, c) {
             Ok((session, printed)) => Ok((session, printed.into_text())),
@@ -95,6 +100,7 @@ impl Session {
         ensures kept_map { IfErr result (λ r. r.0.last_map ≡ self.last_map) }
         ensures kept_routes { IfErr result (λ r. r.0.last_routes ≡ self.last_routes) }
         ensures cut { IfErr result (λ r. IsCutShort self c.now r.0.world) }
+        ensures duo { IfErr result (λ r. IsDuoLeft self c.now r.0.duo) }
     {
         let Session { mut held } = self;
         let printed = held.obey(alloc, c);
@@ -110,6 +116,13 @@ impl Session {
         ensures { result.now ≡ self.now.world }
     {
         self.held.world()
+    }
+
+    /// The two hosts that restart, once they have begun.
+    pub fn duo(&self) -> Option<&Duo>
+        ensures { option_map (λ d. d.now) result ≡ self.now.duo }
+    {
+        self.held.duo()
     }
 
     /// Spends it. Takes no memory.

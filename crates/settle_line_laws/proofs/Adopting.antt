@@ -19,7 +19,7 @@ use Rattle.log_defs.specs.Log.{Log}
 use Rattle.world_defs.specs.EightBits.{IsByteEvent}
 use Rattle.world_laws.proofs.Along.{Along}
 use Rattle.run_defs.specs.declared.command.Command.{Command}
-use Rattle.run_defs.specs.declared.command.Command.TheVariants.{Walk, Map, Circuit, Routes, Install, Begin as BeginCommand, Close as CloseCommand, Poll as PollCommand, Tokens, Provide as ProvideCommand, Send as SendCommand, Plan, Step, Settle, Finish}
+use Rattle.run_defs.specs.declared.command.Command.TheVariants.{Walk, Map, Circuit, Routes, Install, Begin as BeginCommand, Close as CloseCommand, Poll as PollCommand, Tokens, Provide as ProvideCommand, Send as SendCommand, Plan, Step, Settle, Finish, Duo}
 use Rattle.run_defs.specs.declared.line.Line.TheVariants.{MapBusy, InstallRefused}
 use Rattle.run_defs.specs.declared.line.InstallCause.TheVariants.{Busy, Installed as OtherInstalled}
 use Rattle.run_defs.specs.Output.{Piece}
@@ -106,6 +106,7 @@ outcome-of s (Plan ahead kind) is = record { last = is.last; adopted = is.adopte
 outcome-of s (Step line) is = step-of s (event_of s.world line) is
 outcome-of s Settle is = world-of s (log.settle s.world).world is (settle-set s.world)
 outcome-of s Finish is = is
+outcome-of s (Duo e) is = record { last = is.last; adopted = is.adopted }
 
 -- asks in a row adopt nothing
 along-set : Along SameSet IsByteEvent

@@ -7,7 +7,7 @@ use Rattle.world_defs.specs.Node.{port_at}
 use Rattle.world_defs.specs.Step.{step}
 use Rattle.world_defs.specs.World.{WorldState, fabric_of, node_at, planned}
 use Rattle.run_defs.specs.declared.command.Command.{Command}
-use Rattle.run_defs.specs.declared.command.Command.TheVariants.{Walk, Map, Circuit, Routes, Install, Begin, Close, Poll, Tokens, Provide, Send, Plan, Step, Settle, Finish}
+use Rattle.run_defs.specs.declared.command.Command.TheVariants.{Walk, Map, Circuit, Routes, Install, Begin, Close, Poll, Tokens, Provide, Send, Plan, Step, Settle, Finish, Duo}
 use Rattle.run_defs.specs.declared.command.PlanKind.{PlanKind}
 use Rattle.run_defs.specs.declared.command.StepLine.{StepLine}
 use Rattle.run_defs.specs.declared.line.ClientCall.{ClientCall}
@@ -16,6 +16,7 @@ use Rattle.run_defs.specs.declared.line.Line.TheVariants.{Walk as WalkLine, Plan
 use Rattle.run_defs.specs.declared.line.StepWords.TheVariants.{Idle}
 use Rattle.run_defs.specs.Outcome.{called, client_lines, event_of, fault_of, outcome, step_or_idle, stepped, token_lines, words_of}
 use Rattle.run_defs.specs.Output.{OneLine, lines}
+use Rattle.run_defs.specs.Duos.{IsOther}
 use Rattle.run_defs.specs.Session.{LastMap, LastRoutes}
 use Rattle.fab_report.specs.Printed.{PrintedState, printed_of}
 use Rattle.world_commands.specs.declared.requests.PortAt.{PortAt}
@@ -103,19 +104,20 @@ pub nothing_done : (c : Command) (w : WorldState) → IsAllOrNothing c w w
 nothing_done c w = inl refl
 
 -- a command that is none of the others is of one event at most
-pub one-event : (c : Command) → ((host depth tries : ℕ) → c ≡ Map host depth tries → ⊥) → ((host depth : ℕ) → c ≡ Circuit host depth → ⊥) → (c ≡ Routes → ⊥) → ((tries : ℕ) → c ≡ Install tries → ⊥) → (c ≡ Settle → ⊥) → IsOneEvent c
-one-event (Map host depth tries) m k r i s = m host depth tries refl
-one-event (Circuit host depth) m k r i s = k host depth refl
-one-event Routes m k r i s = r refl
-one-event (Install tries) m k r i s = i tries refl
-one-event Settle m k r i s = s refl
-one-event (Walk host walk) m k r i s = tt
-one-event (Begin host port sends recvs) m k r i s = tt
-one-event (Close host port) m k r i s = tt
-one-event (Poll host port) m k r i s = tt
-one-event (Tokens host port) m k r i s = tt
-one-event (Provide host port size prio) m k r i s = tt
-one-event (Send host port dest dport prio len seed) m k r i s = tt
-one-event (Plan ahead kind) m k r i s = tt
-one-event (Step line) m k r i s = tt
-one-event Finish m k r i s = tt
+pub one-event : (c : Command) → ((host depth tries : ℕ) → c ≡ Map host depth tries → ⊥) → ((host depth : ℕ) → c ≡ Circuit host depth → ⊥) → (c ≡ Routes → ⊥) → ((tries : ℕ) → c ≡ Install tries → ⊥) → (c ≡ Settle → ⊥) → IsOther c → IsOneEvent c
+one-event (Map host depth tries) m k r i s o = m host depth tries refl
+one-event (Circuit host depth) m k r i s o = k host depth refl
+one-event Routes m k r i s o = r refl
+one-event (Install tries) m k r i s o = i tries refl
+one-event Settle m k r i s o = s refl
+one-event (Walk host walk) m k r i s o = tt
+one-event (Begin host port sends recvs) m k r i s o = tt
+one-event (Close host port) m k r i s o = tt
+one-event (Poll host port) m k r i s o = tt
+one-event (Tokens host port) m k r i s o = tt
+one-event (Provide host port size prio) m k r i s o = tt
+one-event (Send host port dest dport prio len seed) m k r i s o = tt
+one-event (Plan ahead kind) m k r i s o = tt
+one-event (Step line) m k r i s o = tt
+one-event Finish m k r i s o = tt
+one-event (Duo e) m k r i s o = absurd (o e refl)

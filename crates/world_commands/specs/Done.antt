@@ -1,11 +1,11 @@
 -- That a command was done over a world, whatever else a session holds, and what it printed.
-use Rattle.std.specs.Prelude.{◌≡◌, ◌⊎◌, List, Option, Some}
+use Rattle.std.specs.Prelude.{◌≡◌, ◌⊎◌, List, Option, Some, None}
 use Rattle.world_defs.specs.declared.event.Event.{Event}
 use Rattle.world_defs.specs.Step.{step}
 use Rattle.world_defs.specs.World.{WorldState, fabric_of}
 use Rattle.run_defs.specs.declared.command.Command.{Command}
 use Rattle.run_defs.specs.declared.command.Command.TheVariants.{Map, Circuit, Routes, Install, Begin}
-use Rattle.run_defs.specs.declared.command.Command.TheVariants.{Close, Poll, Tokens, Provide, Send, Settle}
+use Rattle.run_defs.specs.declared.command.Command.TheVariants.{Close, Poll, Tokens, Provide, Send, Settle, Duo}
 use Rattle.run_defs.specs.declared.line.ClientCall.{ClientCall}
 use Rattle.run_defs.specs.Outcome.{called, outcome}
 use Rattle.run_defs.specs.Output.{Piece}
@@ -14,9 +14,9 @@ use Rattle.fab_report.specs.Printed.{PrintedState, printed_of}
 use Rattle.world_commands.specs.declared.requests.PortAt.{PortAt}
 use Rattle.world_commands.specs.declared.requests.SendRequest.{SendRequest}
 
--- a session with a world, a last map and last routes
+-- a session with a world, a last map and last routes, in which the two hosts that restart have not begun
 abbrev pub session_of : WorldState → Option LastMap → Option LastRoutes → SessionState
-session_of w made found = record { world = w; last_map = made; last_routes = found }
+session_of w made found = record { world = w; last_map = made; last_routes = found; duo = None }
 
 -- A command was done over a world: it leaves each session of that world with the world then and all else as it was,
 -- and this is the text of what it printed, with its figures.
@@ -39,13 +39,15 @@ IsCall c call at event = (s : SessionState) → outcome s c ≡ Some (called s c
 abbrev pub sending : PortAt → SendRequest → Command
 sending at m = Send at.host at.port m.to.host m.to.port m.prio m.len m.seed
 
--- a command is of one event at most: it makes no map, no routes, no installation and no settle
+-- a command is of one event of the world at most: it makes no map, no routes, no installation and no settle, and is none
+-- of the two hosts that restart
 abbrev pub IsOneEvent : Command → Type 0
 IsOneEvent (Map host depth tries) = ⊥
 IsOneEvent (Circuit host depth) = ⊥
 IsOneEvent Routes = ⊥
 IsOneEvent (Install tries) = ⊥
 IsOneEvent Settle = ⊥
+IsOneEvent (Duo e) = ⊥
 IsOneEvent _ = Unit {0}
 
 -- a command opens a port, closes it, or asks where its tokens are

@@ -1,3 +1,4 @@
 pub mod Done
+pub mod Duos
 pub mod Named
 pub mod Places

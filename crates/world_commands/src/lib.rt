@@ -23,12 +23,14 @@
 //! | `stepping` | a single event, in a report's words |
 //! | `telling` | a walk, a plan, and the end |
 //! | `doing` | every command of these |
+//! | `duo_events` | one event of the two hosts that restart, which are apart from the world |
 //! | `tables` | what an installation prints |
 #![tactic(auto)]
 
 mod answers;
 mod clients;
 mod doing;
+mod duo_events;
 mod places;
 mod requests;
 mod stepping;
@@ -37,6 +39,7 @@ mod telling;
 
 pub use clients::{close, open, poll, provide, send};
 pub use doing::do_one;
+pub use duo_events::{duo, end_duo};
 pub use places::tokens;
 pub use requests::{PortAt, SendRequest};
 pub use stepping::step;

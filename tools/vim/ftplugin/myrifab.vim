@@ -12,8 +12,9 @@ if exists('*MyrifabComplete')
 endif
 
 let s:fabric = ['host', 'switch', 'cable', 'script']
-let s:script = ['walk', 'map', 'circuit', 'routes', 'install', 'open', 'provide', 'send', 'poll', 'tokens', 'close', 'plan', 'step', 'settle', 'end']
+let s:script = ['walk', 'map', 'circuit', 'routes', 'install', 'open', 'provide', 'send', 'poll', 'tokens', 'close', 'plan', 'step', 'duo', 'settle', 'end']
 let s:plans = ['lose', 'repeat', 'hold', 'flip']
+let s:duos = ['send', 'provide', 'emit', 'deliver', 'expire', 'poll', 'restart']
 let s:steps = ['inject', 'giveup', 'expire', 'advance', 'lose', 'repeat', 'hold', 'reset', 'flip', 'replay']
 " At which words of a line the names of hosts stand, and those of hosts and switches.
 let s:hosts = {'walk': [1], 'map': [1], 'circuit': [1], 'open': [1], 'provide': [1], 'send': [1, 3], 'poll': [1], 'tokens': [1], 'close': [1]}
@@ -45,6 +46,8 @@ function! s:Next(words) abort
     return ['4', '8', '16']
   elseif first ==# 'plan' && at == 1
     return s:plans
+  elseif first ==# 'duo' && at == 1
+    return s:duos
   elseif first ==# 'step' && at == 1
     return s:steps
   elseif first ==# 'step' && at == 2 && index(s:vertex_steps, a:words[1]) >= 0

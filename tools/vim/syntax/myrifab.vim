@@ -13,6 +13,7 @@ syntax match myrifabCommand '^\s*\%(walk\|map\|circuit\|routes\|install\|settle\
 syntax match myrifabClient '^\s*\%(open\|provide\|send\|poll\|tokens\|close\)\>'
 syntax match myrifabEvent '^\s*plan\s\+\%(lose\|repeat\|hold\|flip\)\>'
 syntax match myrifabEvent '^\s*step\s\+\%(inject\|giveup\|expire\|advance\|lose\|repeat\|hold\|reset\|flip\|replay\)\>'
+syntax match myrifabEvent '^\s*duo\s\+\%(send\|provide\|emit\|deliver\|expire\|poll\|restart\)\>'
 syntax match myrifabNumber '\s\zs[+-]\?\d\+\ze\%(\s\|$\)'
 
 highlight default link myrifabComment Comment

@@ -26,7 +26,7 @@ returns-in-Err-clause-ends g c =
     report-so (record { network = n; commands = cs }) _ _ _ _ NoMemory c.with_session.result.status (Some c.in-Err.wanting) c.with_session.result.session
     c.with_session.ensures.status c.with_session.ensures.some
     (interrupted n cs c.loop-command.command-index _ _ c.loop-command.session c.in-Err.wanting c.command-item.result c.loop-command-test.true c.command-item.is c.loop-command.invariant.ran
-    c.in-Err.ensures.cut c.in-Err.ensures.kept_map c.in-Err.ensures.kept_routes)
+    c.in-Err.ensures.cut c.in-Err.ensures.kept_map c.in-Err.ensures.kept_routes c.in-Err.ensures.duo)
 
 pub returns-then-is_err-clause-ends : goal.returns-then-is_err-clause-ends
 returns-then-is_err-clause-ends g c =

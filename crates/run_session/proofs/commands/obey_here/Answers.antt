@@ -13,7 +13,7 @@ use Rattle.run_session.proofs.Obeying.{done_so}
 use Rattle.run_session.proofs.commands.obey_here.Goals as goal
 
 pub do_one-requires-clause-one_event : goal.do_one-requires-clause-one_event
-do_one-requires-clause-one_event c = one-event c.args.c.now c.in_default.not-Map c.in_default.not-Circuit c.in_default.not-Routes c.in_default.not-Install c.in_default.not-Settle
+do_one-requires-clause-one_event c = one-event c.args.c.now c.in_default.not-Map c.in_default.not-Circuit c.in_default.not-Routes c.in_default.not-Install c.in_default.not-Settle c.requires.other
 
 pub returns-in-Map-clause-cut : goal.returns-in-Map-clause-cut
 returns-in-Map-clause-cut c = on-any c.busy_text.result (cut_unchanged (session_of c.args.w.now c.args.last_map.now c.args.last_routes.now) c.args.c.now c.args.w.now c.requires.busy refl)

@@ -1,0 +1,26 @@
+use Rattle.std.proofs.Common.{IfOk, OnErr, subst}
+use Rattle.run_defs.specs.Duos.{beside}
+use Rattle.run_defs.specs.Session.{SessionState}
+use Rattle.promise_laws.specs.CutShort.{IsCutShort}
+use Rattle.world_commands.specs.Done.{session_of}
+use Rattle.world_commands.proofs.Answered.{if-ok}
+use Rattle.world_drain.proofs.Later.{on-err}
+use Rattle.run_session.specs.Holding.{world_in}
+use Rattle.run_session.specs.Obeyed.{IsObeyed}
+use Rattle.run_session.proofs.Beside.{beside_obeyed, beside_cut}
+use Rattle.run_session.proofs.held.Held.obey_other.Goals as goal
+
+pub returns-clause-obeyed : goal.returns-clause-obeyed
+returns-clause-obeyed c =
+    let s : SessionState = session_of (world_in c.self.inside.world) c.self.inside.last_map c.self.inside.last_routes in
+    let next : SessionState = session_of (world_in c.obey_parts.new.slot) c.obey_parts.new.last_map c.obey_parts.new.last_routes in
+    let hosts = c.self.inside.duo in
+    subst (λ (x : SessionState). IfOk c.obey_parts.result (λ p. IsObeyed x c.args.c.now (beside next hosts) p)) c.self.view_is
+    (if-ok c.obey_parts.result (λ p. IsObeyed s c.args.c.now next p) (λ p. IsObeyed (beside s hosts) c.args.c.now (beside next hosts) p)
+    (λ p is. beside_obeyed s next c.args.c.now p hosts c.requires.other is) c.obey_parts.ensures.obeyed)
+
+pub returns-clause-cut : goal.returns-clause-cut
+returns-clause-cut c =
+    let s : SessionState = session_of (world_in c.self.inside.world) c.self.inside.last_map c.self.inside.last_routes in
+    subst (λ (x : SessionState). OnErr c.obey_parts.result (IsCutShort x c.args.c.now (world_in c.obey_parts.new.slot))) c.self.view_is
+    (on-err c.obey_parts.result (beside_cut s c.args.c.now (world_in c.obey_parts.new.slot) c.self.inside.duo) c.obey_parts.ensures.cut)
