@@ -16,8 +16,8 @@ ghost use Rattle.client_host.specs.Tied.{held_of, now_holding, IsTied};
 use crate::telling::refused;
 use gm_tokens::SendToken;
 use nic_node::{NicNode, NodeSend, SendAsk};
-use port_client::{Client, client_bytes};
-use reg_mem::{register, release};
+use port_client::{Client, client_buffer};
+use reg_mem::{Reg, release};
 use std::alloc::{AllocError, Global};
 use world_defs::{ClientCause, Said};
 
@@ -150,20 +150,20 @@ fn send_new(
     ensures handed_back { IfErr result (λ t. t ≡ token) }
     ensures unchanged { OnErr result (node.new ≡ node.old) }
 {
-    match client_bytes(alloc, a.len, seed) {
-        Ok(bytes) => send_bytes(alloc, node, port, token, a, bytes),
+    match client_buffer(alloc, a.len, seed) {
+        Ok(buffer) => send_buffer(alloc, node, port, token, a, buffer),
         Err(_) => Err(token),
     }
 }
 
-// A token sends a message of these bytes, which isn't refused. It comes back only where memory runs out.
-fn send_bytes(
+// A token sends the message of this buffer, which isn't refused. It comes back only where memory runs out.
+fn send_buffer(
     alloc: Global,
     node: &mut NicNode,
     port: u8,
     token: SendToken,
     a: SendAsk,
-    bytes: Vec<u8>,
+    buffer: Reg,
 ) -> Result<u16, SendToken>
     requires port { port < 8 }
     requires open { is_some (port_at node.old.state port) ≡ true }
@@ -174,15 +174,15 @@ fn send_bytes(
     requires dport { a.dport < 8 }
     requires prio { a.prio < 2 }
     requires accepted { ask_bar node.old a ≡ None }
-    requires whole { length bytes.items ≡ a.len }
+    requires whole { length buffer ≡ a.len }
     ensures number { IfOk result (λ n. n ≡ token.number) }
     ensures sent { OnOk result (node.new ≡ in_state node.old
-        (accepted node.old.state port token.number a bytes.items)) }
+        (accepted node.old.state port token.number a buffer)) }
     ensures handed_back { IfErr result (λ t. t ≡ token) }
     ensures unchanged { OnErr result (node.new ≡ node.old) }
 {
     let number = token.number();
-    match node.send(alloc, port, token, register(bytes), a) {
+    match node.send(alloc, port, token, buffer, a) {
         Ok(()) => Ok(number),
         Err((token, buffer, refusal)) => {
             prove!(matches!(refusal, NodeSend::NoMemory));

@@ -1,10 +1,11 @@
 //! The bytes of a client's buffers, as they are made.
 
-ghost use Rattle.std.specs.Prelude.{◌≡◌, ◌<◌, ◌≤◌, ◌+◌, ◌%◌, IfOk};
+ghost use Rattle.std.specs.Prelude.{◌≡◌, ◌≤◌, IfOk};
 ghost use Rattle.gm_defs.specs.Body.{message_limit};
 ghost use Rattle.world_defs.specs.Client.{client_bytes, empty_buffer};
 
-use reg_mem::{Reg, zeroed};
+use gm_defs::counted_bytes;
+use reg_mem::{Reg, counted, zeroed};
 use std::alloc::{AllocError, Global};
 
 /// The bytes of a client's message: the first is the seed, and each is one more than the one before it, modulo 256.
@@ -12,19 +13,15 @@ pub fn client_bytes(alloc: Global, len: u32, seed: u8) -> Result<Vec<u8>, AllocE
     requires { len ≤ message_limit }
     ensures { IfOk result (λ v. v.items ≡ client_bytes len seed) }
 {
-    let mut bytes = Vec::with_capacity(alloc, len as usize)?;
-    for i in 0..len {
-        bytes.push_reserved(byte_at(seed, i));
-    }
-    Ok(bytes)
+    counted_bytes(seed, len as usize).to_vec(alloc)
 }
 
-// A byte of a client's message.
-fn byte_at(seed: u8, i: u32) -> u8
-    requires { i < message_limit }
-    ensures { result ≡ (seed + i) % 256 }
+/// A new buffer of the bytes of a client's message, none of which is written yet.
+pub fn client_buffer(alloc: Global, len: u32, seed: u8) -> Result<Reg, AllocError>
+    requires { len ≤ message_limit }
+    ensures { IfOk result (λ r. r ≡ client_bytes len seed) }
 {
-    ((u32::from(seed) + i) % 256) as u8
+    counted(alloc, seed, len as usize)
 }
 
 /// A new buffer of zeros, as many as its size has room for, none of which is written yet.
