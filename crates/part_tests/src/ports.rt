@@ -6,7 +6,7 @@ ghost use Rattle.gm_tokens.specs.Token.{token_at};
 use gm_defs::{Blob, FrameHead};
 use gm_port::{CloseRefusal, Port, Wreck};
 use gm_tokens::{Bank, Minted, RecvToken};
-use reg_mem::{Reg, deregister, register};
+use reg_mem::{Reg, counted, deregister, register};
 use std::alloc::Global;
 use std::process::Abort;
 
@@ -116,4 +116,19 @@ fn a_message_keeps_its_bytes_when_its_buffer_is_filled(rt: HostRuntime) {
     buffer.fill(4_095, &[1]);
     let bytes = deregister(buffer);
     assert!(rt; message.bytes().last() == Some(&7) && bytes.last() == Some(&1));
+}
+
+#[test]
+fn a_buffer_that_counts_up_has_its_bytes(rt: HostRuntime) {
+    let buffer = counted(rt.alloc(), 254, 4).expect(&rt, "memory");
+    assert!(rt; buffer.bytes() == [254, 255, 0, 1].as_slice());
+    assert!(rt; deregister(buffer).as_slice() == [254, 255, 0, 1].as_slice());
+}
+
+#[test]
+fn a_blob_goes_on_with_bytes_that_do_not_count_up(rt: HostRuntime) {
+    let mut blob = Blob::counted(254, 2);
+    blob.append(rt.alloc(), &[0], 1).expect(&rt, "memory");
+    blob.append(rt.alloc(), &[7], 0).expect(&rt, "memory");
+    assert!(rt; blob.bytes() == [254, 255, 0, 7].as_slice());
 }
