@@ -28,7 +28,8 @@ pub enum DuoEffect {
     Emitted(u64),
     /// A hello was heard.
     Hello,
-    /// A packet of another incarnation came, and changed nothing.
+    /// A hello of a lower incarnation than the known one came, or data not from the known one to this one: nothing
+    /// changed.
     Stale,
     /// A frame came, and its message was taken.
     Message,
@@ -44,7 +45,8 @@ pub enum DuoEffect {
     Nothing,
     /// The message of this send token was acknowledged.
     Sent(u16),
-    /// The peer restarted before it acknowledged the message of this send token: it may have got it, or not.
+    /// The end heard that its peer restarted before it heard an acknowledgement of this send token's message: the peer
+    /// may have got it, or not.
     Unsure(u16),
     /// A message was received.
     Received {

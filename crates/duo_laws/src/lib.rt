@@ -1,6 +1,6 @@
-//! What holds of two hosts that restart, after every list of events from two new ends: each incarnation gets the
-//! messages that it was sent once and in order, each token has one owner, and a client that is told that its message
-//! came is told the truth.
+//! What holds of two hosts that restart, after every list of events from two new ends: what each incarnation gets is a
+//! prefix of what it was sent, each token has one owner, and a client that is told that its message came is told the
+//! truth.
 //!
 //! It holds no host: the statements are in `specs/Theorem.antt` of `duo_defs`, and the hosts in `gm_restart`.
 //!

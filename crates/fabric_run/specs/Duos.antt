@@ -46,7 +46,8 @@ UnsurePollsAreRight a =
 -- The two hosts that restart keep their promise: after the first commands of a text, and where memory ran out for the
 -- next one, they are reached from new ones, in order and owned; a poll that prints sent, or unsure, is right. Their
 -- lines depend on them alone and change nothing else, and other commands pass them by. So it is after every list of
--- events, from two new hosts of whichever incarnation.
+-- events, from two new hosts of whichever incarnation. The premise: an incarnation's number survives its host's restart
+-- (`restarting` of `duo_defs`).
 pub record IsDuoPromised (a : AcceptedText) : Type 0 where
   pub sound : DuosAreSound a
   pub left : LeftDuosAreSound a

@@ -69,8 +69,8 @@ pub record IsCutOff (a : AcceptedText) (taken now : Option (List ℕ)) (held : O
   pub hands_back : held ≡ Some last
 
 -- The command of a text after so many others was cut short in a session and left another: a prefix of its acts leads
--- from the one world to the other, and the last map and the last routes are as they were; the two hosts that restart are
--- so too, or new, or as the command leaves them.
+-- from the one world to the other, and the last map and the last routes are as they were; the two hosts that restart
+-- are so too, or new, where the command is their first event, or as it leaves them.
 pub record IsLeftShort (a : AcceptedText) (count : ℕ) (before left : SessionState) : Type 0 where
   pub command : Command
   pub next : slice_get a.commands count ≡ Some command
@@ -155,7 +155,8 @@ SomeTextEnds before now status held =
     × TextEnds text before.taken now.taken before.write_faults now.write_faults status held
 
 -- A run of the form `run` may end so: each status says what was read and what the sink took, and which session is
--- handed back. Where memory ran out, the input is as it was, or a text came whole. It never ends with `Usage`.
+-- handed back. Where memory ran out, the input is as it was, which `unread` says, or a text came whole. It never ends
+-- with `Usage`.
 abbrev pub InputEnds : Type 0 → Moment → Moment → Status → Option SessionState → Type 0
 InputEnds unread before now Done held = SomeTextEnds before now Done held
 InputEnds unread before now (Refused line kind) held = SomeTextEnds before now (Refused line kind) held

@@ -1,4 +1,5 @@
--- What an accepted text promises that an input may have: injections are left to its end, and what follows from that.
+-- What is promised of an accepted text that is within the limit of an input: injections are left to its end, and what
+-- follows from that.
 use Rattle.std.specs.Prelude.{◌≡◌, ℕ, ◌^◌, ◌<◌, List, ◌∷◌, take, Some, slice_get}
 use Rattle.world_defs.specs.Settled.{IsSettled}
 use Rattle.world_defs.specs.Asking.{all_given_up}
@@ -15,7 +16,7 @@ use Rattle.run_defs.specs.Outcome.{adoption_of}
 use Rattle.run_defs.specs.Run.{Does, IsRun}
 use Rattle.input_texts.specs.Reading.{AcceptedText}
 
--- fewer than 2 ^ 63 packets are injected by any command: no count of injections comes near its last value
+-- after its first commands, however many, fewer than 2 ^ 63 packets were injected: the count is far from its last value
 abbrev pub InjectionsAreLeft : AcceptedText → Type 0
 InjectionsAreLeft a = (count : ℕ) (out : List Piece) (last : SessionState)
     → IsRun a.network (take count a.commands) out last → last.world.injected < 2 ^ 63

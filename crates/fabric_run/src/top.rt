@@ -82,8 +82,8 @@ pub fn run<S: Source, K: Sink>(alloc: Global, words: &[Word], input: &mut S, out
     // nothing was written, and a sound line stands before the text's first fault, or the text is refused and has no
     // memory for its one line. Or exactly what the commands that ran printed was written, and the session is theirs
     // with the next command cut short: a prefix of its acts leads to the world, and the last map and the last routes
-    // are theirs; the two hosts that restart are theirs, or new, or as the command leaves them. Where a command had run
-    // the session is handed back.
+    // are theirs; the two hosts that restart are theirs, or new, where the command is their first event, or as it
+    // leaves them. Where a command had run the session is handed back.
     ensures no_memory { IsRunForm words.now → result.status ≡ Status.NoMemory
         → IsUnread (input.new ≡ input.old) (K.taken out.old) (K.taken out.new) result.session
         ⊎ ((text : List ℕ) × Came (S.left input.old) (S.left input.new) text
@@ -110,13 +110,13 @@ pub fn run<S: Source, K: Sink>(alloc: Global, words: &[Word], input: &mut S, out
     // accepted with, and each send token comes back with its own message. Each command is acts, each one action of one
     // host or of one channel. Every moment of the run is sound, and reached by acts that may happen: the world after
     // its first commands, and after each prefix of the acts of the next one. The two hosts that restart are reached by
-    // their events: each incarnation got a prefix of what it was sent, each token has one owner, and polls that print
-    // sent, or unsure, are right.
+    // their events, where an incarnation's number survives its host's restart: what each incarnation got is a prefix of
+    // what it was sent, each token has one owner, and polls that print sent, or unsure, are right.
     ensures promise { (text : List ℕ) (a : AcceptedText) → IsAccepted text a → IsPromised a }
 
-    // Where the text is within the limit of an input, all its commands inject fewer than 2^63 packets. So its doubtful
-    // maps and the hosts that its installations don't count have met faults, each of its settles ends settled, and one
-    // with tokens enough delivers all: no injections need to be left for that.
+    // Where the text is within the limit of an input, all its commands together inject fewer than 2^63 packets. So its
+    // doubtful maps and the hosts that its installations don't count have met faults, each of its settles ends settled,
+    // and one with tokens enough delivers all: no injections need to be left for that.
     ensures left { (text : List ℕ) (a : AcceptedText) → length text ≤ input_limit → IsAccepted text a
         → HasInjectionsLeft a }
 {

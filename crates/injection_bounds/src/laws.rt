@@ -14,17 +14,18 @@ pub fn injections_of_acts()
     ensures { InjectionsAreOfActs }
 {}
 
-/// A settle costs one round: all others are paid by the fragments that they acknowledge and the faults that they meet.
+/// In every world that is reached a settle costs one round at most: all others are paid by the fragments that they
+/// acknowledge and the faults that they meet.
 pub fn settle_costs()
     ensures { SettleCostsOneRound }
 {}
 
-/// An ask costs two for each try.
+/// An ask of at most eight tries costs 32 at most: two for each try of each of its two kinds of probe.
 pub fn ask_costs()
     ensures { AskCostsFew }
 {}
 
-/// An installation costs two for each try of each part.
+/// An installation of at most eight tries costs 256 at most for each host, where each has at most sixteen parts.
 pub fn install_costs()
     ensures { InstallCostsFew }
 {}

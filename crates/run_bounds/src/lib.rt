@@ -1,4 +1,4 @@
-//! How many packets a run may inject: no count of a script that is accepted runs out.
+//! How many packets a run may inject: at most 2^26 for each of its commands.
 //!
 //! Each command adds a bounded number, with the rounds of settles paid by the fragments that were accepted and by the
 //! faults that were planned, wherever in the run these stand. What single acts, asks, installations and settles cost

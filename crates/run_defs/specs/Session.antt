@@ -20,8 +20,9 @@ pub record LastRoutes : Type 0 where
   pub hosts : List ℕ
   pub routes : List Route
 
--- What a run holds: the world, the last map and the last routes, where there are any, and the two hosts that restart,
--- once they have begun.
+-- What a run holds, and all that a command's acts and lines depend on, as it stands before it: the world; the last map
+-- line with its map, and the last routes with the mapper and the hosts of their map, where there are any; and the two
+-- hosts that restart, once they have begun.
 pub record SessionState : Type 0 where
   pub world : WorldState
   pub last_map : Option LastMap
