@@ -1,6 +1,6 @@
 -- The ends of each cable are ports of the fabric, since it stood when it was plugged; and an end that no cable in place
 -- has is left by no channel.
-use Rattle.std.proofs.Common.{◌≡◌, ◌<◌, ◌≤◌, ℕ, zero, suc, Bool, true, false, ◌&&◌, nat_lt, nat_le, List, [], ◌∷◌, Option, Some, None, refl, sym, ap, ◌∙◌, subst, arith}
+use Rattle.std.proofs.Common.{◌≡◌, ◌<◌, ◌≤◌, ℕ, zero, suc, Bool, true, false, nat_lt, nat_le, List, [], ◌∷◌, Option, Some, None, refl, ap, ◌∙◌, subst, arith}
 use Rattle.std.specs.Prelude.{IfSome}
 use Rattle.std.specs.List.{slice_get, filter, AllByRecursion}
 use Rattle.std.proofs.lemmas.Bool.Decides.{nat_tests}
@@ -9,7 +9,7 @@ use Rattle.net_defs.specs.declared.vertex.Vertex.TheVariants.{Host, Switch}
 use Rattle.net_defs.specs.declared.vertex.End.{End}
 use Rattle.net_defs.specs.Network.{has_port, ends_of, far, ports_of}
 use Rattle.cable_history.specs.declared.wire.Wire.{Wire}
-use Rattle.cable_history.specs.History.{CableHistory, IsHistory, IsDated, fabric_by, fabric_now, fabric_at, stood_at, is_in_place, is_pulled_after}
+use Rattle.cable_history.specs.History.{CableHistory, IsDated, fabric_by, fabric_now, fabric_at, stood_at, is_in_place}
 use Rattle.cable_history.specs.Crossed.{leaving}
 use Rattle.cable_history.specs.Laws.{EndsAreThere}
 use Rattle.cable_history.proofs.Fewer.{kept, kept_if, some-far}

@@ -1,3 +1,5 @@
+pub mod Changing
+pub mod HopTables
 pub mod Hopping
 pub mod Turned
 pub mod Wirings

@@ -1,23 +1,17 @@
 -- The channel by which a turn leaves a switch, by a table that asks for no number of ports.
-use Rattle.std.proofs.Common.{◌≡◌, ◌≢◌, ◌<◌, ◌≤◌, ℕ, zero, suc, Bool, true, false, ◌&&◌, nat_le, nat_lt, List, [], ◌∷◌, Option, Some, None, refl, sym, ap, ◌∙◌, arith, true≢false, if◌then◌else◌}
+use Rattle.std.proofs.Common.{◌≡◌, ◌<◌, ◌≤◌, ℕ, zero, suc, Bool, true, false, ◌&&◌, nat_le, nat_lt, List, [], ◌∷◌, Option, Some, None, refl, sym, ap, ◌∙◌, arith, if◌then◌else◌}
 use Rattle.std.specs.Prelude.{ℤ, pos, negsuc, ◌+ℤ◌, int_le, int_lt, nat_abs, option_map, option_and_then}
 use Rattle.std.specs.List.{slice_get, AllByRecursion}
 use Rattle.std.specs.Option.{option_map_or}
 use Rattle.std.proofs.lemmas.Bool.Decides.{nat_tests}
 use Rattle.net_defs.specs.declared.vertex.End.{End}
 use Rattle.net_defs.specs.declared.vertex.Vertex.TheVariants.{Switch}
-use Rattle.net_defs.specs.Network.{Network, NamedSwitch, IsFabric, has_port, is_port_count, ports_of, ends_of}
-use Rattle.net_defs.specs.Route.{channel_from, leaving_port}
-use Rattle.net_defs.proofs.Distinct.{all-weaker}
+use Rattle.net_defs.specs.Network.{NamedSwitch, IsFabric, is_port_count, ports_of}
+use Rattle.net_defs.specs.Route.{leaving_port}
+use Rattle.cable_history.specs.History.{CableHistory, fabric_now}
+use Rattle.cable_history.specs.Crossed.{leaving}
 use Rattle.fabric_wiring.specs.Hops.{turned_from}
-use Rattle.fabric_wiring.proofs.Wirings.{channel_out-none}
-
--- no channel leaves by a port that a fabric lacks
-channel-outside : (n : Network) (e : End) → IsFabric n → has_port n e ≡ false → channel_from n e ≡ None
-channel-outside n e f out =
-    let P : End → Type 0 = λ d. has_port n d ≡ true in
-    let Q : End → Type 0 = λ d. e ≢ d in
-    channel_out-none 0 n.cables e (all-weaker P Q (ends_of n.cables) (λ d h same. true≢false (sym h ∙ sym (ap (has_port n) same) ∙ out)) f.cabled_ports)
+use Rattle.fabric_wiring.proofs.Wirings.{leaving-outside}
 
 at_most_16 : (p : ℕ) → is_port_count p ≡ true → p ≤ 16
 at_most_16 p e = grind (arith, nat_tests)
@@ -56,22 +50,22 @@ fewer-none ports (pos k) few is =
 fewer-none ports (negsuc k) few is = refl
 
 -- a turn to one of 16 ports takes the channel that leaves by it, also where the switch has fewer
-pub turned-by : (n : Network) (s p port : ℕ) (turn : ℤ) → IsFabric n → leaving_port 16 p turn ≡ Some port → turned_from n (record { v = Switch s; p = p }) turn ≡ channel_from n (record { v = Switch s; p = port })
-turned-by n s p port turn f is =
-    ap (λ o. option_and_then (channel_from n) (option_map (λ q. end_by q) o)) (fewer-port (ports_of n (Switch s)) (pos p +ℤ turn) port is)
-    ∙ by (nat_lt port (ports_of n (Switch s))) refl
+pub turned-by : (h : CableHistory) (s p port : ℕ) (turn : ℤ) → IsFabric (fabric_now h) → leaving_port 16 p turn ≡ Some port → turned_from h (record { v = Switch s; p = p }) turn ≡ leaving h (record { v = Switch s; p = port })
+turned-by h s p port turn f is =
+    ap (λ o. option_and_then (leaving h) (option_map (λ q. end_by q) o)) (fewer-port (ports_of (fabric_now h) (Switch s)) (pos p +ℤ turn) port is)
+    ∙ by (nat_lt port (ports_of (fabric_now h) (Switch s))) refl
   where
     end_by : ℕ → End
     end_by q = record { v = Switch s; p = q }
 
-    by : (b : Bool) → nat_lt port (ports_of n (Switch s)) ≡ b → option_and_then (channel_from n) (option_map (λ q. end_by q) (if b then Some port else None)) ≡ channel_from n (end_by port)
+    by : (b : Bool) → nat_lt port (ports_of (fabric_now h) (Switch s)) ≡ b → option_and_then (leaving h) (option_map (λ q. end_by q) (if b then Some port else None)) ≡ leaving h (end_by port)
     by true e = refl
-    by false e = sym (channel-outside n (end_by port) f e)
+    by false e = sym (leaving-outside h (end_by port) f e)
 
 -- and a turn to none of them takes none
-pub turned-none : (n : Network) (s p : ℕ) (turn : ℤ) → IsFabric n → leaving_port 16 p turn ≡ None → turned_from n (record { v = Switch s; p = p }) turn ≡ None
-turned-none n s p turn f is =
-    ap (λ o. option_and_then (channel_from n) (option_map (λ q. record { v = Switch s; p = q }) o)) (fewer-none (ports_of n (Switch s)) (pos p +ℤ turn) (ports-few n.switches s f.port_counts) is)
+pub turned-none : (h : CableHistory) (s p : ℕ) (turn : ℤ) → IsFabric (fabric_now h) → leaving_port 16 p turn ≡ None → turned_from h (record { v = Switch s; p = p }) turn ≡ None
+turned-none h s p turn f is =
+    ap (λ o. option_and_then (leaving h) (option_map (λ q. record { v = Switch s; p = q }) o)) (fewer-none (ports_of (fabric_now h) (Switch s)) (pos p +ℤ turn) (ports-few h.switches s f.port_counts) is)
 
 -- a number is a port, is past the 16, or is below 0
 pub leaving-is : (p port : ℕ) (turn : ℤ) → pos p +ℤ turn ≡ pos port → port < 16 → leaving_port 16 p turn ≡ Some port

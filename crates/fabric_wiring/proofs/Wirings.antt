@@ -1,24 +1,32 @@
 -- The tables of a wiring.
-use Rattle.std.proofs.Common.{◌≡◌, ◌≢◌, ◌<◌, ◌+◌, ◌*◌, ℕ, zero, suc, Bool, true, false, nat_eq, nat_lt, List, [], ◌∷◌, ◌++◌, length, take, drop, replicate, get_or, set, Option, Some, None, refl, sym, ap, ◌∙◌, subst, add-one, ◌/◌, ◌%◌, arith, append_assoc, true≢false, if◌then◌else◌}
+use Rattle.std.proofs.Common.{◌≡◌, ◌≢◌, ◌<◌, ◌+◌, ◌*◌, ℕ, zero, suc, Bool, true, false, nat_eq, nat_lt, map, List, [], ◌∷◌, ◌++◌, length, take, drop, replicate, get_or, set, Option, Some, None, refl, sym, ap, ◌∙◌, subst, add-one, ◌/◌, ◌%◌, arith, append_assoc, true≢false, if◌then◌else◌}
 use Rattle.std.specs.List.{slice_get, AllByRecursion}
-use Rattle.std.specs.Option.{option_map, option_map_or}
+use Rattle.std.specs.Option.{option_map, option_map_or, IfSome}
 use Rattle.std.proofs.lemmas.Bool.Decides.{nat_tests}
-use Rattle.std.proofs.lemmas.List.{length-replicate, replicate-append-replicate, get_or-set_same, get_or-set_other}
+use Rattle.std.proofs.lemmas.List.{map-append, length-replicate, replicate-append-replicate, get_or-set_same, get_or-set_other}
 use Rattle.std.proofs.Math.ListN.{length-set}
 use Rattle.net_defs.specs.declared.vertex.End.{End}
 use Rattle.net_defs.specs.declared.vertex.Cable.{Cable}
-use Rattle.net_defs.specs.declared.vertex.Vertex.TheVariants.{Switch}
+use Rattle.net_defs.specs.declared.vertex.Vertex.{Vertex}
+use Rattle.net_defs.specs.declared.vertex.Vertex.TheVariants.{Host, Switch}
 use Rattle.net_defs.specs.Network.{Network, NamedSwitch, IsFabric, has_port, is_port_count, ports_of, same_end, ends_of}
-use Rattle.net_defs.specs.Route.{channel_out, channel_from}
-use Rattle.net_defs.proofs.Ends.{same_end-true, same_end-refl, same_end-false}
+use Rattle.net_defs.specs.Route.{channel_out}
+use Rattle.net_defs.proofs.Ends.{same_end-true, same_end-refl}
 use Rattle.net_defs.proofs.Distinct.{all-weaker}
-use Rattle.link_defs.specs.Channel.{channel_head}
+use Rattle.cable_history.specs.declared.wire.Wire.{Wire}
+use Rattle.cable_history.specs.History.{CableHistory, IsHistory, first_wire, fabric_now, is_in_place}
+use Rattle.cable_history.specs.Crossed.{channel_by, life_channels, life_head, leaving}
+use Rattle.cable_history.proofs.First.{out-first, first_is_history}
+use Rattle.cable_history.proofs.ForLife.{leaving_has_its_end}
+use Rattle.cable_history.proofs.Now.{now_is_fabric}
+use Rattle.cable_history.proofs.There.{ends_are_there, none-leaves}
 use Rattle.port_graph.specs.Table.{is_possible, place_of_end}
 use Rattle.port_graph.proofs.Tables.{place_of_end-same, place_of_end-lt}
-use Rattle.port_graph.proofs.Possible.{has_port-possible}
+use Rattle.port_graph.proofs.Possible.{has_port-possible, far-outside, few_cables}
 use Rattle.fabric_wiring.specs.declared.wiring.Entry.{Entry}
-use Rattle.fabric_wiring.specs.Hops.{hops_from}
-use Rattle.fabric_wiring.specs.Tables.{IsOutTable, with_cable, place_if_possible, entry_by, entries_of}
+use Rattle.fabric_wiring.specs.Hops.{hop_table, hops_from}
+use Rattle.fabric_wiring.specs.Tables.{IsOutTable, IsWiring, with_cable, place_if_possible, count_at, entry_by, entries_of}
+use Rattle.fabric_wiring.proofs.HopTables.{hops-made}
 
 -- what holds of all ends holds of the two of each cable
 pub ends_got : (P : End → Type 0) (cs : List Cable) (k : ℕ) (c : Cable) → AllByRecursion P (ends_of cs) → slice_get cs k ≡ Some c → P c.a × P c.b
@@ -38,50 +46,66 @@ take-got [] k x is = cc
 take-got (y ∷ xs) zero x is = let same : y ≡ x = cc in ap (λ z. z ∷ []) (sym same)
 take-got (y ∷ xs) (suc k) x is = ap (λ l. y ∷ l) (take-got xs k x is)
 
+-- one cable more, and the ports of one switch more
+pub first-next : (cs : List Cable) (k : ℕ) (c : Cable) → slice_get cs k ≡ Some c → map first_wire (take k cs) ++ first_wire c ∷ [] ≡ map first_wire (take (k + 1) cs)
+first-next cs k c is = sym (map-append first_wire (take k cs) (c ∷ [])) ∙ ap (map first_wire) (take-got cs k c is ∙ ap (λ i. take i cs) (sym (add-one k)))
+
+port-next : (ws : List NamedSwitch) (s n : ℕ) → s < length ws → n ≡ option_map_or (λ w. w.ports) (slice_get ws s) 0 → map (λ w. w.ports) (take s ws) ++ n ∷ [] ≡ map (λ w. w.ports) (take (suc s) ws)
+port-next [] s n low is = absurd (omega (arith, low))
+port-next (w ∷ ws) zero n low is = ap (λ x. x ∷ []) is
+port-next (w ∷ ws) (suc s) n low is = ap (λ l. w.ports ∷ l) (port-next ws s n (omega (arith, low)) is)
+
+pub ports-next : (ws : List NamedSwitch) (s n : ℕ) → s < length ws → n ≡ option_map_or (λ w. w.ports) (slice_get ws s) 0 → map (λ w. w.ports) (take s ws) ++ n ∷ [] ≡ map (λ w. w.ports) (take (s + 1) ws)
+ports-next ws s n low is = port-next ws s n low is ∙ ap (λ i. map (λ w. w.ports) (take i ws)) (sym (add-one s))
+
+pub length-wires : (cs : List Cable) → length (map first_wire cs) ≡ length cs
+length-wires [] = refl
+length-wires (c ∷ cs) = ap suc (length-wires cs)
+
 -- the entries, channel by channel
-entries-get : (n : Network) (cs : List Cable) (c : ℕ) → slice_get (entries_of n cs) c ≡ option_map (entry_by n) (option_map (λ cable. if nat_eq (c % 2) 0 then cable.b else cable.a) (slice_get cs (c / 2)))
-entries-get n [] c = refl
-entries-get n (k ∷ cs) zero = refl
-entries-get n (k ∷ cs) (suc zero) = refl
-entries-get n (k ∷ cs) (suc (suc c)) =
+entries-get : (ports : List ℕ) (ws : List Wire) (c : ℕ) → slice_get (entries_of ports ws) c ≡ option_map (entry_by ports) (option_map (λ w. if nat_eq (c % 2) 0 then w.cable.b else w.cable.a) (slice_get ws (c / 2)))
+entries-get ports [] c = refl
+entries-get ports (k ∷ ws) zero = refl
+entries-get ports (k ∷ ws) (suc zero) = refl
+entries-get ports (k ∷ ws) (suc (suc c)) =
     let rest : suc (suc c) % 2 ≡ c % 2 = omega arith in
     let half : suc (suc c) / 2 ≡ suc (c / 2) = omega arith in
-    entries-get n cs c
-    ∙ sym (ap (λ r. option_map (entry_by n) (option_map (λ cable. if nat_eq r 0 then cable.b else cable.a) (slice_get (k ∷ cs) (suc (suc c) / 2)))) rest
-    ∙ ap (λ h. option_map (entry_by n) (option_map (λ cable. if nat_eq (c % 2) 0 then cable.b else cable.a) (slice_get (k ∷ cs) h))) half)
+    entries-get ports ws c
+    ∙ sym (ap (λ r. option_map (entry_by ports) (option_map (λ w. if nat_eq r 0 then w.cable.b else w.cable.a) (slice_get (k ∷ ws) (suc (suc c) / 2)))) rest
+    ∙ ap (λ h. option_map (entry_by ports) (option_map (λ w. if nat_eq (c % 2) 0 then w.cable.b else w.cable.a) (slice_get (k ∷ ws) h))) half)
 
-pub entries-length : (n : Network) (cs : List Cable) → length (entries_of n cs) ≡ 2 * length cs
-entries-length n [] = refl
-entries-length n (c ∷ cs) = let rest = entries-length n cs in omega (arith, rest)
+pub entries-length : (ports : List ℕ) (ws : List Wire) → length (entries_of ports ws) ≡ 2 * length ws
+entries-length ports [] = refl
+entries-length ports (w ∷ ws) = let rest = entries-length ports ws in omega (arith, rest)
 
 -- two entries more
-entries-push : (n : Network) (cs : List Cable) (c : Cable) → entries_of n cs ++ entry_by n c.b ∷ entry_by n c.a ∷ [] ≡ entries_of n (cs ++ c ∷ [])
-entries-push n [] c = refl
-entries-push n (k ∷ cs) c = ap (λ l. entry_by n k.b ∷ entry_by n k.a ∷ l) (entries-push n cs c)
+pub entries-push : (ports : List ℕ) (ws : List Wire) (w : Wire) → entries_of ports ws ++ entry_by ports w.cable.b ∷ entry_by ports w.cable.a ∷ [] ≡ entries_of ports (ws ++ w ∷ [])
+entries-push ports [] w = refl
+entries-push ports (k ∷ ws) w = ap (λ l. entry_by ports k.cable.b ∷ entry_by ports k.cable.a ∷ l) (entries-push ports ws w)
 
-pub entries-next : (n : Network) (cs : List Cable) (k : ℕ) (c : Cable) → slice_get cs k ≡ Some c → (entries_of n (take k cs) ++ entry_by n c.b ∷ []) ++ entry_by n c.a ∷ [] ≡ entries_of n (take (k + 1) cs)
-entries-next n cs k c is =
-    append_assoc (entries_of n (take k cs)) (entry_by n c.b ∷ []) (entry_by n c.a ∷ [])
-    ∙ entries-push n (take k cs) c
-    ∙ ap (entries_of n) (take-got cs k c is ∙ ap (λ i. take i cs) (sym (add-one k)))
+pub entries-next : (ports : List ℕ) (ws : List Wire) (k : ℕ) (w : Wire) → slice_get ws k ≡ Some w → (entries_of ports (take k ws) ++ entry_by ports w.cable.b ∷ []) ++ entry_by ports w.cable.a ∷ [] ≡ entries_of ports (take (k + 1) ws)
+entries-next ports ws k w is =
+    append_assoc (entries_of ports (take k ws)) (entry_by ports w.cable.b ∷ []) (entry_by ports w.cable.a ∷ [])
+    ∙ entries-push ports (take k ws) w
+    ∙ ap (entries_of ports) (take-got ws k w is ∙ ap (λ i. take i ws) (sym (add-one k)))
 
 -- the entry of a channel
-entry-of : (n : Network) (o : Option End) (e : Entry) → option_map (entry_by n) o ≡ Some e → (o ≡ Some e.end) × (e.ports ≡ ports_of n e.end.v) × (e.hops ≡ hops_from (length n.switches) e.end.v e.end.p)
-entry-of n None e is = cc
-entry-of n (Some d) e is =
-    let same : entry_by n d ≡ e = cc in
-    (ap (λ x. Some x.end) same, subst (λ x. x.ports ≡ ports_of n x.end.v) same refl, subst (λ x. x.hops ≡ hops_from (length n.switches) x.end.v x.end.p) same refl)
+entry-of : (ports : List ℕ) (o : Option End) (e : Entry) → option_map (entry_by ports) o ≡ Some e → (o ≡ Some e.end) × (e.ports ≡ count_at ports e.end.v) × (e.hops ≡ hops_from (length ports) e.end.v e.end.p)
+entry-of ports None e is = cc
+entry-of ports (Some d) e is =
+    let same : entry_by ports d ≡ e = cc in
+    (ap (λ x. Some x.end) same, subst (λ x. x.ports ≡ count_at ports x.end.v) same refl, subst (λ x. x.hops ≡ hops_from (length ports) x.end.v x.end.p) same refl)
 
-head-port : (n : Network) (c : ℕ) (d : End) → IsFabric n → channel_head n c ≡ Some d → has_port n d ≡ true
-head-port n c d f is = by (slice_get n.cables (c / 2)) refl is
+head-port : (h : CableHistory) (c : ℕ) (d : End) → IsHistory h → life_head h c ≡ Some d → has_port (fabric_now h) d ≡ true
+head-port h c d is to = by (slice_get h.wires (c / 2)) refl to
   where
-    end_by : (t : Bool) (cable : Cable) → slice_get n.cables (c / 2) ≡ Some cable → has_port n (if t then cable.b else cable.a) ≡ true
-    end_by true cable got = (cable_ports n (c / 2) cable f got).1
-    end_by false cable got = (cable_ports n (c / 2) cable f got).0
+    end_by : (t : Bool) (w : Wire) → slice_get h.wires (c / 2) ≡ Some w → has_port (fabric_now h) (if t then w.cable.b else w.cable.a) ≡ true
+    end_by true w got = (ends_are_there h (c / 2) w is got).1
+    end_by false w got = (ends_are_there h (c / 2) w is got).0
 
-    by : (o : Option Cable) → slice_get n.cables (c / 2) ≡ o → option_map (λ cable. if nat_eq (c % 2) 0 then cable.b else cable.a) o ≡ Some d → has_port n d ≡ true
+    by : (o : Option Wire) → slice_get h.wires (c / 2) ≡ o → option_map (λ w. if nat_eq (c % 2) 0 then w.cable.b else w.cable.a) o ≡ Some d → has_port (fabric_now h) d ≡ true
     by None got to = cc
-    by (Some cable) got to = let same : (if nat_eq (c % 2) 0 then cable.b else cable.a) ≡ d = cc in subst (λ x. has_port n x ≡ true) same (end_by (nat_eq (c % 2) 0) cable got)
+    by (Some w) got to = let same : (if nat_eq (c % 2) 0 then w.cable.b else w.cable.a) ≡ d = cc in subst (λ x. has_port (fabric_now h) x ≡ true) same (end_by (nat_eq (c % 2) 0) w got)
 
 -- a switch that has a port has as many as a switch may have
 switch-counted : (ws : List NamedSwitch) (s p : ℕ) → AllByRecursion (λ w. is_port_count w.ports ≡ true) ws → nat_lt p (option_map_or (λ w. w.ports) (slice_get ws s) 0) ≡ true → is_port_count (option_map_or (λ w. w.ports) (slice_get ws s) 0) ≡ true
@@ -94,38 +118,64 @@ counted-there n e s f there is =
     let at : nat_lt e.p (ports_of n (Switch s)) ≡ true = sym (ap (λ v. nat_lt e.p (ports_of n v)) is) ∙ there in
     ap (λ v. is_port_count (ports_of n v)) is ∙ switch-counted n.switches s e.p f.port_counts at
 
+-- the ports of a vertex that has one
+count-switch : (ws : List NamedSwitch) (s : ℕ) → get_or (map (λ w. w.ports) ws) s 0 ≡ option_map_or (λ w. w.ports) (slice_get ws s) 0
+count-switch [] s = refl
+count-switch (w ∷ ws) zero = refl
+count-switch (w ∷ ws) (suc s) = count-switch ws s
+
+count-is : (h : CableHistory) (v : Vertex) (p : ℕ) → has_port (fabric_now h) (record { v = v; p = p }) ≡ true → count_at (map (λ w. w.ports) h.switches) v ≡ ports_of (fabric_now h) v
+count-is h (Host a) p there = by (nat_lt a (length h.hosts)) there
+  where
+    by : (b : Bool) → nat_lt p (if b then 1 else 0) ≡ true → ◌≡◌ {A = ℕ} 1 (if b then 1 else 0)
+    by true t = refl
+    by false t = absurd (grind (arith, nat_tests))
+count-is h (Switch s) p there = count-switch h.switches s
+
 -- what an entry says of its channel
-pub record IsEntry (n : Network) (c : ℕ) (e : Entry) : Type 0 where
-  pub end : channel_head n c ≡ Some e.end
-  pub ports : e.ports ≡ ports_of n e.end.v
-  pub hops : e.hops ≡ hops_from (length n.switches) e.end.v e.end.p
-  pub there : has_port n e.end ≡ true
+pub record IsEntry (h : CableHistory) (c : ℕ) (e : Entry) : Type 0 where
+  pub end : life_head h c ≡ Some e.end
+  pub ports : e.ports ≡ ports_of (fabric_now h) e.end.v
+  pub hops : e.hops ≡ hops_from (length h.switches) e.end.v e.end.p
+  pub there : has_port (fabric_now h) e.end ≡ true
   pub switch : (s : ℕ) → e.end.v ≡ Switch s → is_port_count e.ports ≡ true
 
-pub entry-there : (n m : Network) (entries there : List Entry) (c at : ℕ) (e : Entry) → IsFabric n → entries ≡ entries_of n n.cables → n ≡ m → there ≡ entries → at ≡ c → slice_get there at ≡ Some e → IsEntry m c e
-entry-there n m entries there c at e f same view whole place is =
-    let got : slice_get (entries_of n n.cables) c ≡ Some e = ap (slice_get (entries_of n n.cables)) (sym place) ∙ ap (λ l. slice_get l at) (sym (whole ∙ same)) ∙ is in
-    let parts = entry-of n (channel_head n c) e (sym (entries-get n n.cables c) ∙ got) in
-    let there = head-port n c e.end f parts.0 in
-    subst (λ x. IsEntry x c e) view (record { end = parts.0; ports = parts.1; hops = parts.2; there = there; switch = λ s is. ap is_port_count parts.1 ∙ counted-there n e.end s f there is })
+pub length-ports : (ws : List NamedSwitch) → length (map (λ w. w.ports) ws) ≡ length ws
+length-ports [] = refl
+length-ports (w ∷ ws) = let rest = length-ports ws in omega (arith, rest)
+
+pub entry-there : (h m : CableHistory) (ports : List ℕ) (entries there : List Entry) (out hops : List (Option ℕ)) (c at : ℕ) (e : Entry) → IsWiring h ports entries out hops → h ≡ m → there ≡ entries → at ≡ c → slice_get there at ≡ Some e → IsEntry m c e
+entry-there h m ports entries there out hops c at e is view whole place got =
+    let counts : List ℕ = map (λ w. w.ports) h.switches in
+    let entered : there ≡ entries_of counts h.wires = whole ∙ is.entered ∙ ap (λ l. entries_of l h.wires) is.same_ports in
+    let here : slice_get (entries_of counts h.wires) c ≡ Some e = ap (slice_get (entries_of counts h.wires)) (sym place) ∙ ap (λ l. slice_get l at) (sym entered) ∙ got in
+    let parts = entry-of counts (life_head h c) e (sym (entries-get counts h.wires c) ∙ here) in
+    let port = head-port h c e.end is.history parts.0 in
+    let count : e.ports ≡ ports_of (fabric_now h) e.end.v = parts.1 ∙ count-is h e.end.v e.end.p port in
+    subst (λ x. IsEntry x c e) view (record {
+      end = parts.0;
+      ports = count;
+      hops = parts.2 ∙ ap (λ n. hops_from n e.end.v e.end.p) (length-ports h.switches);
+      there = port;
+      switch = λ s v. ap is_port_count count ∙ counted-there (fabric_now h) e.end s (now_is_fabric h is.history) port v;
+    })
 
 drop-got : {X : Type 0} (xs : List X) (k : ℕ) (x : X) → slice_get xs k ≡ Some x → drop k xs ≡ x ∷ drop (suc k) xs
 drop-got [] k x is = cc
 drop-got (y ∷ xs) zero x is = let same : y ≡ x = cc in ap (λ z. z ∷ xs) same
 drop-got (y ∷ xs) (suc k) x is = drop-got xs k x is
 
--- an end of no cable has no channel
-pub channel_out-none : (k : ℕ) (cs : List Cable) (e : End) → AllByRecursion (λ d. e ≢ d) (ends_of cs) → channel_out k cs e ≡ None
-channel_out-none k [] e new = refl
-channel_out-none k (c ∷ cs) e new =
-    rw (same_end-false c.a e (λ p. new.0 (sym p)), same_end-false c.b e (λ p. new.1.0 (sym p))) (channel_out-none (k + 1) cs e new.1.1)
+-- no channel leaves by a port that the fabric lacks
+pub leaving-outside : (h : CableHistory) (e : End) → IsFabric (fabric_now h) → has_port (fabric_now h) e ≡ false → leaving h e ≡ None
+leaving-outside h e f out = none-leaves h e (far-outside (fabric_now h) e f out)
 
--- so has an end that no fabric may have
-pub impossible-none : (n : Network) (e : End) → IsFabric n → is_possible e ≡ false → channel_from n e ≡ None
-impossible-none n e f out =
-    let P : End → Type 0 = λ d. has_port n d ≡ true in
-    let Q : End → Type 0 = λ d. e ≢ d in
-    channel_out-none 0 n.cables e (all-weaker P Q (ends_of n.cables) (λ d h same. true≢false (sym (has_port-possible n d f h) ∙ sym (ap is_possible same) ∙ out)) f.cabled_ports)
+-- so none by an end that no fabric may have
+pub impossible-none : (h : CableHistory) (e : End) → IsFabric (fabric_now h) → is_possible e ≡ false → leaving h e ≡ None
+impossible-none h e f out = by (has_port (fabric_now h) e) refl
+  where
+    by : (b : Bool) → has_port (fabric_now h) e ≡ b → leaving h e ≡ None
+    by true p = absurd (true≢false (sym (has_port-possible (fabric_now h) e f p) ∙ out))
+    by false p = leaving-outside h e f p
 
 -- the table without cables
 get_or-nones : (size place : ℕ) → get_or {A = Option ℕ} (replicate size None) place None ≡ None
@@ -192,6 +242,35 @@ unplaced e is = by (is_possible e) refl
     by true p = let got : None ≡ Some (place_of_end e) = is ∙ ap (λ t. if t then Some (place_of_end e) else None) p in cc
     by false p = p
 
+pub placed : (e : End) (place : ℕ) → Some place ≡ place_if_possible e → (is_possible e ≡ true) × (place ≡ place_of_end e)
+placed e place is = by (is_possible e) refl
+  where
+    by : (t : Bool) → is_possible e ≡ t → (is_possible e ≡ true) × (place ≡ place_of_end e)
+    by true p = let got : Some place ≡ Some (place_of_end e) = is ∙ ap (λ t. if t then Some (place_of_end e) else None) p in let same : place ≡ place_of_end e = cc in (p, same)
+    by false p = let got : Some place ≡ None = is ∙ ap (λ t. if t then Some (place_of_end e) else None) p in cc
+
+-- a channel that leaves is one of the channels
+pub leaving-below : (h : CableHistory) (e : End) → IfSome (leaving h e) (λ c. c < life_channels h)
+leaving-below h e = by (leaving h e) refl
+  where
+    by : (o : Option ℕ) → leaving h e ≡ o → IfSome o (λ c. c < life_channels h)
+    by None is = tt
+    by (Some c) is = (leaving_has_its_end h e c is).there
+
 -- one more of the same
 pub nones-next : {X : Type 0} (n : ℕ) (x : X) → replicate n x ++ x ∷ [] ≡ replicate (n + 1) x
 nones-next n x = replicate-append-replicate n 1 x
+
+-- the tables of a fabric, before any change
+pub first-wiring : (n : Network) (ports : List ℕ) (wires : List Wire) (entries : List Entry) (out hops : List (Option ℕ)) → IsFabric n → ports ≡ map (λ s. s.ports) n.switches → wires ≡ map first_wire n.cables
+    → entries ≡ entries_of ports wires → IsOutTable 0 n.cables out → hops ≡ hop_table out (length n.switches) → IsWiring (record { hosts = n.hosts; switches = n.switches; wires = wires; changes = 0; accepted = 0 }) ports entries out hops
+first-wiring n ports wires entries out hops f counts all entered table jumps = record {
+  history = subst (λ l. IsHistory (record { hosts = n.hosts; switches = n.switches; wires = l; changes = 0; accepted = 0 })) (sym all) (let few = few_cables n f in first_is_history n f (omega (arith, few)));
+  same_ports = counts;
+  entered = entered;
+  leaving = record {
+    size = table.size;
+    channels = λ e i. table.channels e i ∙ sym (ap (λ l. channel_by is_in_place 0 l e) all ∙ out-first is_in_place (λ c. refl) 0 n.cables e);
+  };
+  hopping = hops-made out hops (length n.switches) table.size f.few_switches jumps;
+}

@@ -1,22 +1,22 @@
 -- A table for hops: from the channel that a packet leaves, by its front byte, to the channel that it enters.
-use Rattle.std.specs.Prelude.{ℕ, zero, suc, ◌+◌, ◌*◌, ℤ, List, [], ◌++◌, take, drop, replicate}
-use Rattle.std.specs.Prelude.{Option, None, option_and_then}
+use Rattle.std.specs.Prelude.{◌≡◌, ℕ, zero, suc, ◌+◌, ◌*◌, ◌<◌, ◌≤◌, ℤ, List, [], ◌++◌, take, drop, replicate, length}
+use Rattle.std.specs.Prelude.{Option, None, option_and_then, slice_index_or, slice_set}
 use Rattle.net_defs.specs.declared.vertex.Vertex.{Vertex}
 use Rattle.net_defs.specs.declared.vertex.Vertex.TheVariants.{Host, Switch}
 use Rattle.net_defs.specs.declared.vertex.End.{End}
-use Rattle.net_defs.specs.Network.{Network}
-use Rattle.net_defs.specs.Route.{channel_from, exit_at}
+use Rattle.net_defs.specs.Route.{exit_at}
+use Rattle.cable_history.specs.History.{CableHistory, fabric_now}
+use Rattle.cable_history.specs.Crossed.{leaving, life_head}
 use Rattle.packet_defs.specs.RouteByte.{turn_of}
-use Rattle.link_defs.specs.Channel.{channel_head}
 
 -- the channel by which a turn leaves where an end was entered: none by a turn to no port, and at a port without cable
-abbrev pub turned_from : Network → End → ℤ → Option ℕ
-turned_from n e turn = option_and_then (channel_from n) (exit_at n e.v e.p turn)
+abbrev pub turned_from : CableHistory → End → ℤ → Option ℕ
+turned_from h e turn = option_and_then (leaving h) (exit_at (fabric_now h) e.v e.p turn)
 
 -- the channel that a packet enters which leaves another with this byte in front: none by a byte that is no route byte
-abbrev pub next_channel : Network → ℕ → ℕ → Option ℕ
-next_channel n c byte =
-    option_and_then (λ e. option_and_then (turned_from n e) (turn_of byte)) (channel_head n c)
+abbrev pub next_channel : CableHistory → ℕ → ℕ → Option ℕ
+next_channel h c byte =
+    option_and_then (λ e. option_and_then (turned_from h e) (turn_of byte)) (life_head h c)
 
 -- the channels that leave a switch by its ports, of a table of such channels
 abbrev pub port_channels : List (Option ℕ) → ℕ → List (Option ℕ)
@@ -37,7 +37,22 @@ hop_rows out (suc s) = hop_rows out s ++ hop_row out s
 abbrev pub hop_table : List (Option ℕ) → ℕ → List (Option ℕ)
 hop_table out switches = hop_rows out switches ++ replicate 64 None
 
+-- The table of hops has the channels of the other table: twice those of each port of a switch, and none elsewhere.
+pub record IsHopTable (out : List (Option ℕ)) (switches : ℕ) (hops : List (Option ℕ)) : Type 0 where
+  pub size : length hops ≡ 80 * switches + 64
+  pub first : (s p : ℕ) → s < switches → p < 16
+      → slice_index_or hops (80 * s + p) None ≡ slice_index_or out (128 + 16 * s + p) None
+  pub gap : (s q : ℕ) → s < switches → 16 ≤ q → q < 64 → slice_index_or hops (80 * s + q) None ≡ None
+  pub second : (s p : ℕ) → s < switches → p < 16
+      → slice_index_or hops (80 * s + p + 64) None ≡ slice_index_or out (128 + 16 * s + p) None
+  pub last : (i : ℕ) → i < 64 → slice_index_or hops (80 * switches + i) None ≡ None
+
 -- the place of turn 0 of what enters a vertex by a port, among so many switches
 abbrev pub hops_from : ℕ → Vertex → ℕ → ℕ
 hops_from switches (Host h) p = 80 * switches
 hops_from switches (Switch s) p = 80 * s + p
+
+-- the table of hops with another channel, or none, at a port
+abbrev pub with_hop : Vertex → ℕ → Option ℕ → List (Option ℕ) → List (Option ℕ)
+with_hop (Host h) p to hops = hops
+with_hop (Switch s) p to hops = slice_set (slice_set hops (80 * s + p) to) (80 * s + p + 64) to

@@ -6,11 +6,11 @@
 //!                                                                    turn -2 is byte 0xBE: place 5 + 62, port 3
 //! ```
 
-ghost use Rattle.std.specs.Prelude.{◌≡◌, ◌<◌, ◌≤◌, ◌+◌, ◌*◌, ◌-◌, ◌++◌, length, None, IfOk, IfSome, OnOk};
+ghost use Rattle.std.specs.Prelude.{◌≡◌, ◌<◌, ◌≤◌, ◌+◌, ◌*◌, ◌-◌, ◌++◌, length, slice_set, None, IfOk, IfSome, OnOk};
 ghost use Rattle.packet_defs.specs.RouteByte.{turn_of};
 ghost use Rattle.fabric_wiring.specs.Hops.{hop_row, hop_table, hops_from};
 
-use crate::wiring::{HOST_PLACES, PLACES, PORT_PLACES};
+use crate::tables::{HOST_PLACES, PLACES, PORT_PLACES};
 use net_defs::{End, Vertex};
 use std::alloc::{AllocError, Global};
 
@@ -18,7 +18,7 @@ use std::alloc::{AllocError, Global};
 const GAP: usize = 48;
 
 // The places of one switch.
-const ROW: usize = PORT_PLACES + GAP + PORT_PLACES;
+pub(crate) const ROW: usize = PORT_PLACES + GAP + PORT_PLACES;
 
 // The places of hosts.
 const LAST: usize = 64;
@@ -74,4 +74,13 @@ pub(crate) fn last_six(byte: u8) -> Option<usize>
     } else {
         None
     }
+}
+
+/// Puts a channel, or none, at both places of a switch's port.
+pub(crate) fn put_hop(hops: &mut Vec<Option<u16>>, at: usize, to: Option<u16>)
+    requires { at + 64 < length hops.old.items }
+    ensures { hops.new.items ≡ slice_set (slice_set hops.old.items at to) (at + 64) to }
+{
+    hops[at] = to;
+    hops[at + PORT_PLACES + GAP] = to;
 }

@@ -1,4 +1,5 @@
 pub mod Alone
+pub mod FixedCables
 pub mod Limbos
 pub mod NextFull
 pub mod Runs

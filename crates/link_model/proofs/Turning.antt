@@ -1,5 +1,5 @@
 -- The channel that a packet goes into, by its front turn.
-use Rattle.std.proofs.Common.{◌≡◌, ℕ, true, false, List, Option, Some, None, is_some, refl, sym, ap, ◌∙◌}
+use Rattle.std.proofs.Common.{◌≡◌, ℕ, true, false, List, Option, Some, None, is_some, refl, ap, ◌∙◌}
 use Rattle.std.specs.Prelude.{ℤ, option_map, option_and_then}
 use Rattle.std.specs.List.{slice_get}
 use Rattle.net_defs.specs.declared.vertex.Vertex.{Vertex}
@@ -16,7 +16,7 @@ use Rattle.link_defs.specs.Switch.{aim_of, out_by}
 use Rattle.link_defs.specs.Links.{Held, LinkState}
 use Rattle.link_defs.specs.Advance.{course_by_channel, course_out, course_at, course_into, course, gone_on, advance_of}
 use Rattle.link_defs.proofs.HopsLeft.{course_into-enters}
-use Rattle.fabric_wiring.specs.Hops.{turned_from, next_channel}
+use Rattle.link_model.specs.Fixed.{turned_from, next_channel}
 use Rattle.link_model.specs.Hop.{entered_by, is_hop}
 
 by_channel : (o : Option ℕ) → entered_by (course_by_channel o) ≡ o

@@ -8,16 +8,16 @@ ghost use Rattle.link_defs.specs.Channel.{channel_count};
 ghost use Rattle.link_defs.specs.Advance.{course, course_out};
 ghost use Rattle.link_model.specs.Hop.{IsSentOn, IsSentAlong, entered_by};
 
+use crate::fixed::FixedWiring;
 use crate::hop::Run;
 use channel_slots::Slot;
 use crossbar::{aim_by, turn};
-use fabric_wiring::Wiring;
 use link_defs::{Course, Turned, Why};
 use myri_packet::Packet;
 use net_defs::Vertex;
 
 /// Over the channel's cable it arrives at a host, or a switch sends it on by its front byte.
-pub(crate) fn course(wiring: &Wiring, c: u16, p: &Packet) -> Course
+pub(crate) fn course(wiring: &FixedWiring, c: u16, p: &Packet) -> Course
     requires { c < channel_count wiring.now }
     ensures { result ≡ course wiring.now c p.now }
 {
@@ -29,7 +29,7 @@ pub(crate) fn course(wiring: &Wiring, c: u16, p: &Packet) -> Course
 }
 
 // Where a packet goes that a switch sends so.
-fn course_out(wiring: &Wiring, s: u16, turned: Turned) -> Course
+fn course_out(wiring: &FixedWiring, s: u16, turned: Turned) -> Course
     requires { (p : ℕ) → turned ≡ Turned.Out p → has_port wiring.now (record { v = Vertex.Switch s; p = p }) ≡ true }
     ensures { result ≡ course_out wiring.now s turned }
 {
@@ -44,7 +44,7 @@ fn course_out(wiring: &Wiring, s: u16, turned: Turned) -> Course
 }
 
 /// The packet of a channel after the switch ahead, which turns it: it is known to go on into a channel.
-pub(crate) fn turned(wiring: &Wiring, c: u16, slot: Slot) -> Slot
+pub(crate) fn turned(wiring: &FixedWiring, c: u16, slot: Slot) -> Slot
     requires there { c < channel_count wiring.now }
     requires goes { IsSentOn wiring.now c slot.wire }
     ensures { result ≡ record slot { wire = stripped slot.wire } }
@@ -55,7 +55,7 @@ pub(crate) fn turned(wiring: &Wiring, c: u16, slot: Slot) -> Slot
 }
 
 // The switch ahead of a channel turns its packet, which is known to go on into a channel.
-fn turn_on(wiring: &Wiring, c: u16, packet: &mut Packet)
+fn turn_on(wiring: &FixedWiring, c: u16, packet: &mut Packet)
     requires there { c < channel_count wiring.now }
     requires goes { IsSentOn wiring.now c packet.old }
     ensures { packet.new ≡ stripped packet.old }
@@ -80,7 +80,7 @@ fn turn_at(ports: u8, entry: u8, packet: &mut Packet) -> Turned
 
 /// The channel that the packet of a channel goes into, whatever the channels hold, if it goes into one: by one look
 /// into the table of hops, which asks for no number of ports.
-pub(crate) fn next_channel(wiring: &Wiring, c: u16, packet: &Packet) -> Option<u16>
+pub(crate) fn next_channel(wiring: &FixedWiring, c: u16, packet: &Packet) -> Option<u16>
     requires { c < channel_count wiring.now }
     ensures { result ≡ entered_by (course wiring.now c packet.now) }
 {
@@ -109,7 +109,7 @@ fn front_byte(packet: &Packet) -> Option<u8>
 
 /// The packet of a channel goes on, whatever the channels hold, until it leaves them: how far. Each switch strips the
 /// turn that it takes.
-pub(crate) fn follow(wiring: &Wiring, c: u16, packet: &mut Packet) -> Run
+pub(crate) fn follow(wiring: &FixedWiring, c: u16, packet: &mut Packet) -> Run
     requires { c < channel_count wiring.now }
     ensures along { IsSentAlong wiring.now c packet.old result.hops result.at packet.new }
     ensures there { result.at < channel_count wiring.now }

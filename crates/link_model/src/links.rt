@@ -13,9 +13,9 @@ ghost use Rattle.link_model.specs.Full.{next_full, IsNextFull};
 mod advance;
 mod faults;
 
+use crate::fixed::FixedWiring;
 use crate::limbo::Limbo;
 use channel_slots::{Slot, Slots};
-use fabric_wiring::Wiring;
 use myri_packet::Packet;
 use net_defs::End;
 use port_graph::Fabric;
@@ -31,7 +31,7 @@ pub struct Occupied;
 /// Cable k has channel 2k, from its first end to its second, and channel 2k + 1 back. A channel in an argument exists.
 #[derive(Drop)]
 pub struct Links {
-    wiring: Wiring,
+    wiring: FixedWiring,
     slots: Slots,
     limbo: Limbo,
     next_serial: u64,
@@ -54,7 +54,7 @@ impl Links {
     pub fn new(alloc: Global, f: &Fabric) -> Result<Links, AllocError>
         ensures { IfOk result (λ l. l ≡ empty_links f.now) }
     {
-        let wiring = Wiring::new(alloc, f)?;
+        let wiring = FixedWiring::new(alloc, f)?;
         let slots = Slots::new(alloc, wiring.channels())?;
         Ok(Links {
             wiring,

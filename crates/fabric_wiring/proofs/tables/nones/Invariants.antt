@@ -1,5 +1,5 @@
 use Rattle.std.proofs.Common.{◌≡◌, ◌≤◌, ◌-◌, None, replicate, length}
-use Rattle.fabric_wiring.proofs.wiring.nones.Given as goal
+use Rattle.fabric_wiring.proofs.tables.nones.Given as goal
 
 abbrev pub invariant-loop-out : goal.invariant-loop-out
 invariant-loop-out l = (l.out.items ≡ replicate (length l.out.items) None) × (length l.out.items ≤ l.places)
