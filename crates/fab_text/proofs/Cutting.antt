@@ -1,5 +1,5 @@
 -- A text after its first line, and a line after its first word.
-use Rattle.std.proofs.Common.{◌≡◌, ◌<◌, ◌≤◌, ℕ, suc, ◌+◌, ◌-◌, List, [], ◌∷◌, Bool, true, false, not, cond, ◌&&◌, length, take, drop, nat_lt, slice_index, Some, None, unwrap_or, true≢false, refl, ap, sym, ◌∙◌, arith, if◌then◌else◌}
+use Rattle.std.proofs.Common.{◌≡◌, ◌<◌, ◌≤◌, ℕ, suc, ◌+◌, ◌-◌, List, [], ◌∷◌, Bool, true, false, not, cond, ◌&&◌, length, take, drop, nat_eq, nat_lt, slice_index, Some, None, unwrap_or, true≢false, refl, ap, sym, ◌∙◌, arith, if◌then◌else◌}
 use Rattle.std.specs.Prelude.{position}
 use Rattle.std.specs.List.{position_or_len, onto_first}
 use Rattle.std.proofs.lemmas.Bool.Decides.{nat_tests}
@@ -201,6 +201,34 @@ word-none text h = by (nat_lt (start text) (length text)) refl h
     by : (t : Bool) → nat_lt (start text) (length text) ≡ t → None ≡ cond t (Some (start text)) None → words_of text ≡ []
     by true e h = cc
     by false e h = (words_of-at text).0 e
+
+-- whether a line says something, by the byte at which its first word begins
+says-at : (text : List ℕ) → nat_lt (start text) (length text) ≡ true → says_nothing (words_of text) ≡ nat_eq (slice_index text (start text)) 35
+says-at [] e = absurd (true≢false (sym e))
+says-at (b ∷ bs) e = by (is_blank b) refl (says-at bs) e
+  where
+    by : (t : Bool) → is_blank b ≡ t → (nat_lt (start bs) (length bs) ≡ true → says_nothing (words_of bs) ≡ nat_eq (slice_index bs (start bs)) 35)
+        → nat_lt (cond (not (not t)) (1 + start bs) 0) (length (b ∷ bs)) ≡ true
+        → says_nothing (words_of (b ∷ bs)) ≡ nat_eq (slice_index (b ∷ bs) (cond (not (not t)) (1 + start bs) 0)) 35
+    by true e rest p =
+        let skipped : words_of (b ∷ bs) ≡ words_of bs = λ i. if e i then words_of bs else if ends_word bs then (b ∷ []) ∷ words_of bs else onto_first b (words_of bs) in
+        let one_on : 1 + start bs ≡ suc (start bs) = omega arith in
+        let there : slice_index (b ∷ bs) (1 + start bs) ≡ slice_index bs (start bs) = rw one_on refl in
+        ap says_nothing skipped ∙ rest (sym (below-step (start bs) b bs) ∙ p) ∙ ap (λ x. nat_eq x 35) (sym there)
+    by false e rest p =
+        let others = words_of (drop (1 + position_or_len is_blank bs) (b ∷ bs)) in
+        ap says_nothing (words_of-first b bs e ∙ ap (λ w. w ∷ others) (take-step (position_or_len is_blank bs) b bs))
+
+-- the byte at which a word begins that was found
+pub word-begins : (text : List ℕ) (s : ℕ) → Some s ≡ position (λ b. not (is_blank b)) text → (s < length text) × (says_nothing (words_of text) ≡ nat_eq (slice_index text s) 35)
+word-begins text s h = by (nat_lt (start text) (length text)) refl h
+  where
+    by : (t : Bool) → nat_lt (start text) (length text) ≡ t → Some s ≡ cond t (Some (start text)) None → (s < length text) × (says_nothing (words_of text) ≡ nat_eq (slice_index text s) 35)
+    by true e h =
+        let same : s ≡ start text = cc in
+        let below : s < length text = grind (arith, nat_tests) in
+        (below, says-at text e ∙ ap (λ n. nat_eq (slice_index text n) 35) (sym same))
+    by false e h = cc
 
 -- what is left of a text, from its first line on
 left-cut : (k : ℕ) (text bytes after : List ℕ) → 0 < length text → bytes ≡ line_front text → after ≡ line_back text

@@ -11,6 +11,7 @@
 #![tactic(auto)]
 
 mod fault;
+mod keyword;
 mod line;
 mod line_words;
 mod name;
@@ -20,6 +21,7 @@ mod text_lines;
 mod word;
 
 pub use fault::{FaultKind, LineFault, NumFault, TextFault};
+pub use keyword::is_keyword;
 pub use line_words::Words;
 pub use name::is_name;
 pub use number::{read_turn, read_u32};

@@ -5,7 +5,7 @@ ghost use Rattle.std.specs.List.{position_or_len};
 ghost use Rattle.fab_text.specs.Line.{is_line_end, words_of, says_nothing};
 ghost use Rattle.fab_text.specs.Split.{line_front, line_back, without_return};
 
-use crate::line_words::Words;
+use crate::line_words::word_start;
 
 // The first line of a text without its end, and what follows it.
 pub(crate) fn split_line(text: &[u8]) -> Option<(&[u8], &[u8])>
@@ -51,8 +51,8 @@ fn line_end(text: &[u8]) -> Option<usize>
 pub(crate) fn says_nothing(line: &[u8]) -> bool
     ensures { result ≡ says_nothing (words_of line.now) }
 {
-    match Words::of(line).next_word() {
-        Some(word) => word.first() == Some(&b'#'),
+    match word_start(line) {
+        Some(start) => line[start] == b'#',
         None => true,
     }
 }

@@ -104,8 +104,8 @@ fn split_word(line: &[u8]) -> Option<(&[u8], &[u8])>
     }
 }
 
-// The place of the first byte of a word.
-fn word_start(line: &[u8]) -> Option<usize>
+/// The place of the first byte of a word.
+pub(crate) fn word_start(line: &[u8]) -> Option<usize>
     ensures { result ≡ position (λ b. not (is_blank b)) line.now }
 {
     line.iter().position(|b| !is_blank(*b))
