@@ -12,7 +12,7 @@ use crate::plan_lines::plan;
 use crate::port_lines::{PortCall, at_port, open, provide, send};
 use crate::step_lines::step;
 use crate::walk_line::walk;
-use fab_text::{FaultKind, LineFault, Words, words};
+use fab_text::{FaultKind, LineFault, Words, is_keyword, words};
 use port_graph::Fabric;
 use run_defs::Command;
 use std::alloc::Global;
@@ -38,7 +38,7 @@ fn read_as(alloc: Global, fabric: &Fabric, first: &[u8], args: Words) -> Result<
     ensures reading { LineGives (command_as fabric.now first.now (words_of args.entry)) result }
     ensures memory { IsErrOf result LineFault.NoMemory → IsOk (command_as fabric.now first.now (words_of args.entry)) }
 {
-    if first == b"walk".as_slice() {
+    if is_keyword(first, b"walk") {
         return walk(alloc, fabric, args);
     }
     match read_but_walk(fabric, first, args) {
@@ -51,11 +51,11 @@ fn read_as(alloc: Global, fabric: &Fabric, first: &[u8], args: Words) -> Result<
 fn read_but_walk(fabric: &Fabric, first: &[u8], args: Words) -> Result<Command, FaultKind>
     ensures { result ≡ command_but_walk fabric.now first.now (words_of args.entry) }
 {
-    if first == b"plan".as_slice() {
+    if is_keyword(first, b"plan") {
         plan(fabric, args)
-    } else if first == b"step".as_slice() {
+    } else if is_keyword(first, b"step") {
         step(fabric, args)
-    } else if first == b"duo".as_slice() {
+    } else if is_keyword(first, b"duo") {
         duo(fabric, args)
     } else {
         read_by_one_word(fabric, first, args)
@@ -66,27 +66,27 @@ fn read_but_walk(fabric: &Fabric, first: &[u8], args: Words) -> Result<Command, 
 fn read_by_one_word(fabric: &Fabric, first: &[u8], args: Words) -> Result<Command, FaultKind>
     ensures { result ≡ command_by fabric.now line_kinds first.now (words_of args.entry) }
 {
-    if first == b"map".as_slice() {
+    if is_keyword(first, b"map") {
         map(fabric, args)
-    } else if first == b"routes".as_slice() {
+    } else if is_keyword(first, b"routes") {
         routes(fabric, args)
-    } else if first == b"install".as_slice() {
+    } else if is_keyword(first, b"install") {
         install(fabric, args)
-    } else if first == b"open".as_slice() {
+    } else if is_keyword(first, b"open") {
         open(fabric, args)
-    } else if first == b"close".as_slice() {
+    } else if is_keyword(first, b"close") {
         at_port(fabric, PortCall::Close, args)
-    } else if first == b"poll".as_slice() {
+    } else if is_keyword(first, b"poll") {
         at_port(fabric, PortCall::Poll, args)
-    } else if first == b"tokens".as_slice() {
+    } else if is_keyword(first, b"tokens") {
         at_port(fabric, PortCall::Tokens, args)
-    } else if first == b"provide".as_slice() {
+    } else if is_keyword(first, b"provide") {
         provide(fabric, args)
-    } else if first == b"send".as_slice() {
+    } else if is_keyword(first, b"send") {
         send(fabric, args)
-    } else if first == b"settle".as_slice() {
+    } else if is_keyword(first, b"settle") {
         settle(fabric, args)
-    } else if first == b"circuit".as_slice() {
+    } else if is_keyword(first, b"circuit") {
         circuit(fabric, args)
     } else {
         Err(FaultKind::BadWord)

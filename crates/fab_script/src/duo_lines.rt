@@ -11,7 +11,7 @@ ghost use Rattle.fab_script.specs.Commands.{duo_event};
 use crate::counted::{one, three, two};
 use crate::port_lines::{MAX_LEN, MAX_SIZE};
 use crate::values::{byte, number};
-use fab_text::{FaultKind, Words};
+use fab_text::{FaultKind, Words, is_keyword};
 use port_graph::Fabric;
 use run_defs::{Command, DuoEvent};
 
@@ -41,19 +41,19 @@ pub(crate) fn duo(fabric: &Fabric, mut args: Words) -> Result<Command, FaultKind
 fn duo_by(fabric: &Fabric, second: &[u8], args: Words) -> Result<Command, FaultKind>
     ensures { result ≡ command_by fabric.now duo_kinds second.now (words_of args.entry) }
 {
-    if second == b"send".as_slice() {
+    if is_keyword(second, b"send") {
         send(fabric, args)
-    } else if second == b"provide".as_slice() {
+    } else if is_keyword(second, b"provide") {
         provide(fabric, args)
-    } else if second == b"emit".as_slice() {
+    } else if is_keyword(second, b"emit") {
         at_end(fabric, AtEnd::Emit, args)
-    } else if second == b"deliver".as_slice() {
+    } else if is_keyword(second, b"deliver") {
         deliver(fabric, args)
-    } else if second == b"expire".as_slice() {
+    } else if is_keyword(second, b"expire") {
         at_end(fabric, AtEnd::Expire, args)
-    } else if second == b"poll".as_slice() {
+    } else if is_keyword(second, b"poll") {
         at_end(fabric, AtEnd::Poll, args)
-    } else if second == b"restart".as_slice() {
+    } else if is_keyword(second, b"restart") {
         at_end(fabric, AtEnd::Restart, args)
     } else {
         Err(FaultKind::BadWord)

@@ -9,7 +9,7 @@ ghost use Rattle.run_defs.specs.Script.{by_second, command_by};
 
 use crate::counted::{one, three};
 use crate::values::{byte, number};
-use fab_text::{FaultKind, Words};
+use fab_text::{FaultKind, Words, is_keyword};
 use port_graph::Fabric;
 use run_defs::{Command, PlanKind};
 
@@ -33,13 +33,13 @@ pub(crate) fn plan(fabric: &Fabric, mut args: Words) -> Result<Command, FaultKin
 fn plan_by(fabric: &Fabric, second: &[u8], args: Words) -> Result<Command, FaultKind>
     ensures { result ≡ command_by fabric.now plan_kinds second.now (words_of args.entry) }
 {
-    if second == b"lose".as_slice() {
+    if is_keyword(second, b"lose") {
         plan_for(fabric, PlanKind::Lose, args)
-    } else if second == b"repeat".as_slice() {
+    } else if is_keyword(second, b"repeat") {
         plan_for(fabric, PlanKind::Repeat, args)
-    } else if second == b"hold".as_slice() {
+    } else if is_keyword(second, b"hold") {
         plan_for(fabric, PlanKind::Hold, args)
-    } else if second == b"flip".as_slice() {
+    } else if is_keyword(second, b"flip") {
         plan_flip(fabric, args)
     } else {
         Err(FaultKind::BadWord)

@@ -1,15 +1,15 @@
 //! All lines of a script.
 
-ghost use Rattle.std.specs.Prelude.{◌≡◌, ◌<◌, ◌≤◌, ◌+◌, length, IfOk, IsErrOf, IsOk};
+ghost use Rattle.std.specs.Prelude.{◌≡◌, ◌<◌, ◌≤◌, ◌+◌, length, nat_eq, true, false, IfOk, IsErrOf, IsOk};
 ghost use Rattle.std.specs.List.{AllByRecursion};
-ghost use Rattle.fab_text.specs.Line.{lines_left, words_of};
+ghost use Rattle.fab_text.specs.Line.{is_blank, lines_left, words_of};
 ghost use Rattle.fab_text.specs.Fault.{TextGives};
 ghost use Rattle.run_defs.specs.Script.{ended, is_end, script_reading};
 ghost use Rattle.fab_script.specs.Lists.{behind, sound_lines};
 ghost use Rattle.fab_script.specs.Ranges.{IsCommandOf};
 
 use crate::command::read_command;
-use fab_text::{FaultKind, Lines, TextFault, line_count, words};
+use fab_text::{FaultKind, Lines, TextFault, is_keyword, line_count, words};
 use port_graph::Fabric;
 use run_defs::Command;
 use std::alloc::Global;
@@ -102,12 +102,30 @@ fn finished(mut commands: Vec<Command>, mut left: Lines) -> Result<Script, TextF
     Ok(Script { commands })
 }
 
-// Whether a line is `end`.
+// Whether a line is `end`. Most begin with another letter, which tells it at once.
 fn is_end(line: &[u8]) -> bool
     ensures { result ≡ is_end (words_of line.now) }
 {
+    if begins_otherwise(line) {
+        return false;
+    }
     match words(line).one() {
-        Some(word) => word == b"end".as_slice(),
+        Some(word) => is_keyword(word, b"end"),
         None => false,
     }
+}
+
+// Whether a line begins with another letter than `end`.
+#[tactic(auto, using(crate::proofs::Ends::other_word))]
+fn begins_otherwise(line: &[u8]) -> bool
+    ensures { result ≡ true → is_end (words_of line.now) ≡ false }
+{
+    !line.is_empty() && is_other_letter(line[0])
+}
+
+// Whether a byte is neither a blank nor the first letter of `end`.
+fn is_other_letter(b: u8) -> bool
+    ensures { result ≡ true → (nat_eq b 101 ≡ false) × (is_blank b ≡ false) }
+{
+    b != b'e' && b != b' ' && b != b'\t'
 }

@@ -12,7 +12,7 @@ ghost use Rattle.fab_script.specs.Commands.{end_step, host_step};
 use crate::counted::{four, one, two};
 use crate::plan_lines::MAX_BIT;
 use crate::values::{byte, end, host, name, number};
-use fab_text::{FaultKind, Words};
+use fab_text::{FaultKind, Words, is_keyword};
 use port_graph::Fabric;
 use run_defs::{Command, StepLine};
 
@@ -50,25 +50,25 @@ pub(crate) fn step(fabric: &Fabric, mut args: Words) -> Result<Command, FaultKin
 fn step_by(fabric: &Fabric, second: &[u8], args: Words) -> Result<Command, FaultKind>
     ensures { result ≡ command_by fabric.now step_kinds second.now (words_of args.entry) }
 {
-    if second == b"inject".as_slice() {
+    if is_keyword(second, b"inject") {
         at_host(fabric, HostStep::Inject, args)
-    } else if second == b"giveup".as_slice() {
+    } else if is_keyword(second, b"giveup") {
         at_host(fabric, HostStep::GiveUp, args)
-    } else if second == b"advance".as_slice() {
+    } else if is_keyword(second, b"advance") {
         at_end(fabric, EndStep::Advance, args)
-    } else if second == b"lose".as_slice() {
+    } else if is_keyword(second, b"lose") {
         at_end(fabric, EndStep::Lose, args)
-    } else if second == b"repeat".as_slice() {
+    } else if is_keyword(second, b"repeat") {
         at_end(fabric, EndStep::Repeat, args)
-    } else if second == b"hold".as_slice() {
+    } else if is_keyword(second, b"hold") {
         at_end(fabric, EndStep::Hold, args)
-    } else if second == b"reset".as_slice() {
+    } else if is_keyword(second, b"reset") {
         at_end(fabric, EndStep::Reset, args)
-    } else if second == b"flip".as_slice() {
+    } else if is_keyword(second, b"flip") {
         flip(fabric, args)
-    } else if second == b"expire".as_slice() {
+    } else if is_keyword(second, b"expire") {
         expire(fabric, args)
-    } else if second == b"replay".as_slice() {
+    } else if is_keyword(second, b"replay") {
         replay(fabric, args)
     } else {
         Err(FaultKind::BadWord)
