@@ -9,8 +9,9 @@
 //! All is written into the text itself: a number takes no memory of its own.
 #![tactic(auto)]
 
+mod hexadecimal;
 mod word;
 mod words;
 
-pub use word::{Word, append_marked};
+pub use word::{Word, append_bytes, append_marked};
 pub use words::{append_behind, append_line, append_spaced, append_words};

@@ -1,9 +1,9 @@
 //! A word, as it is written.
 
 ghost use Rattle.std.specs.Prelude.{◌≡◌, ◌<◌, ◌≤◌, ◌++◌, ◌∷◌, OnOk, codes, decimal};
-ghost use Rattle.hex.specs.Hex.{encode_lower};
 ghost use Rattle.line_writing.specs.Words.{word_text};
 
+use crate::hexadecimal::append_hex;
 use itoa::Buffer;
 use std::alloc::AllocError;
 
@@ -28,12 +28,24 @@ pub(crate) fn append_word(text: &mut Vec<u8>, word: &Word) -> Result<(), AllocEr
     ensures { OnOk result (text.new.items ≡ text.old.items ++ word_text word.now) }
 {
     match word {
-        Word::Text(bytes) => text.extend_from_slice(bytes),
+        Word::Text(bytes) => append_bytes(text, bytes),
         Word::Number(number) => append_number(text, *number),
         Word::Marked(mark, number) => append_marked(text, *mark, *number),
         Word::Entry(number, value) => append_entry(text, *number, value),
         Word::Hex(bytes) => append_hex(text, bytes),
     }
+}
+
+/// Puts bytes after a text. Room is asked for once, and most words are so short that less is taken byte by byte than by
+/// a copy. Where memory runs out, the text stays.
+pub fn append_bytes(text: &mut Vec<u8>, bytes: &[u8]) -> Result<(), AllocError>
+    ensures { OnOk result (text.new.items ≡ text.old.items ++ bytes.now) }
+{
+    text.reserve(bytes.len())?;
+    for byte in bytes {
+        text.push_reserved(*byte);
+    }
+    Ok(())
 }
 
 // A number in decimal. Most have one digit or two, which need no buffer.
@@ -95,13 +107,4 @@ fn append_entry(text: &mut Vec<u8>, number: u64, value: &[u8]) -> Result<(), All
     append_number(text, number)?;
     text.push(b'=')?;
     text.extend_from_slice(value)
-}
-
-// Two hexadecimal digits for each byte.
-#[inline(never)]
-fn append_hex(text: &mut Vec<u8>, bytes: &[u8]) -> Result<(), AllocError>
-    ensures { OnOk result (text.new.items ≡ text.old.items ++ encode_lower bytes.now) }
-{
-    let digits = hex::encode(*text.allocator(), bytes)?;
-    text.extend_from_slice(digits.as_bytes())
 }
