@@ -6,46 +6,40 @@ ghost use Rattle.run_defs.specs.LineText.{duo_cause, duo_words, hex_text};
 
 use crate::words::bytes_word;
 use line_writing::Word::{Number, Text};
-use line_writing::append_words;
+use line_writing::{append_bytes, append_marked, append_words};
 use run_defs::{DuoCause, DuoEffect};
 use std::alloc::AllocError;
 
-/// `duo EFFECT`
+/// `duo EFFECT`, of which all that no effect has of its own is written at once.
 pub(crate) fn duo_line(text: &mut Vec<u8>, effect: &DuoEffect) -> Result<(), AllocError>
     ensures { OnOk result (text.new.items ≡ text.old.items ++ spaced (codes "duo" ∷ duo_words effect.now)) }
 {
     match effect {
-        DuoEffect::Token(token) => number_line(text, b"token", u64::from(*token)),
+        DuoEffect::Token(token) => number_line(text, b"duo token", u64::from(*token)),
         DuoEffect::Refused(cause) => refused_line(text, *cause),
-        DuoEffect::Idle => alone_line(text, b"idle"),
-        DuoEffect::Emitted(place) => number_line(text, b"emitted", *place),
-        DuoEffect::Hello => alone_line(text, b"hello"),
-        DuoEffect::Stale => alone_line(text, b"stale"),
-        DuoEffect::Message => alone_line(text, b"message"),
-        DuoEffect::NotNext => alone_line(text, b"notnext"),
-        DuoEffect::NoToken => alone_line(text, b"notoken"),
-        DuoEffect::Ack => alone_line(text, b"ack"),
-        DuoEffect::Expired => alone_line(text, b"expired"),
-        DuoEffect::Nothing => alone_line(text, b"nothing"),
-        DuoEffect::Sent(token) => number_line(text, b"sent", u64::from(*token)),
-        DuoEffect::Unsure(token) => number_line(text, b"unsure", u64::from(*token)),
+        DuoEffect::Idle => append_bytes(text, b"duo idle"),
+        DuoEffect::Emitted(place) => number_line(text, b"duo emitted", *place),
+        DuoEffect::Hello => append_bytes(text, b"duo hello"),
+        DuoEffect::Stale => append_bytes(text, b"duo stale"),
+        DuoEffect::Message => append_bytes(text, b"duo message"),
+        DuoEffect::NotNext => append_bytes(text, b"duo notnext"),
+        DuoEffect::NoToken => append_bytes(text, b"duo notoken"),
+        DuoEffect::Ack => append_bytes(text, b"duo ack"),
+        DuoEffect::Expired => append_bytes(text, b"duo expired"),
+        DuoEffect::Nothing => append_bytes(text, b"duo nothing"),
+        DuoEffect::Sent(token) => number_line(text, b"duo sent", u64::from(*token)),
+        DuoEffect::Unsure(token) => number_line(text, b"duo unsure", u64::from(*token)),
         DuoEffect::Received { token, body } => received_line(text, *token, body.bytes()),
-        DuoEffect::Restarted(inc) => number_line(text, b"restarted", u64::from(*inc)),
+        DuoEffect::Restarted(inc) => number_line(text, b"duo restarted", u64::from(*inc)),
     }
 }
 
-// `duo WORD`
-fn alone_line(text: &mut Vec<u8>, word: &[u8]) -> Result<(), AllocError>
-    ensures { OnOk result (text.new.items ≡ text.old.items ++ spaced (codes "duo" ∷ word.now ∷ [])) }
+// Words with a number after them.
+fn number_line(text: &mut Vec<u8>, words: &[u8], number: u64) -> Result<(), AllocError>
+    ensures { OnOk result (text.new.items ≡ text.old.items ++ (words.now ++ 32 ∷ decimal number)) }
 {
-    append_words(text, &[Text(b"duo"), Text(word)])
-}
-
-// `duo WORD NUMBER`
-fn number_line(text: &mut Vec<u8>, word: &[u8], number: u64) -> Result<(), AllocError>
-    ensures { OnOk result (text.new.items ≡ text.old.items ++ spaced (codes "duo" ∷ word.now ∷ decimal number ∷ [])) }
-{
-    append_words(text, &[Text(b"duo"), Text(word), Number(number)])
+    append_bytes(text, words)?;
+    append_marked(text, b' ', number)
 }
 
 // `duo refused CAUSE`

@@ -11,7 +11,7 @@ ghost use Rattle.fab_report.specs.Words.{behind};
 use crate::circuit::{circuit_line, circuit_nodes_line};
 use crate::words::{turn_word, vertex_word};
 use line_writing::Word::{Number, Text};
-use line_writing::{append_behind, append_marked, append_words};
+use line_writing::{append_behind, append_bytes, append_marked, append_words};
 use map_defs::MapVertex;
 use port_graph::{Fabric, Vertex};
 use run_defs::{Line, MapWords};
@@ -136,16 +136,6 @@ fn append_ends(text: &mut Vec<u8>, sender: &[u8], receiver: &[u8]) -> Result<(),
     append_bytes(text, sender)?;
     text.push(b' ')?;
     append_bytes(text, receiver)
-}
-
-// A word or a name. Most are so short that less is taken byte by byte than by a copy.
-fn append_bytes(text: &mut Vec<u8>, bytes: &[u8]) -> Result<(), AllocError>
-    ensures { OnOk result (text.new.items ≡ text.old.items ++ bytes.now) }
-{
-    for byte in bytes {
-        text.push(*byte)?;
-    }
-    Ok(())
 }
 
 // The turns of a route.

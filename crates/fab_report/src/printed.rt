@@ -1,14 +1,16 @@
 //! What a command printed.
 
 ghost use Rattle.std.specs.Prelude.{◌≡◌, ◌++◌, ◌∷◌, [], IfOk, OnOk};
+ghost use Rattle.run_defs.specs.declared.line.Line.TheVariants.{Duo};
 ghost use Rattle.run_defs.specs.Output.{OneLine};
 ghost use Rattle.run_defs.specs.Summary.{call_figures, figures_of};
 ghost use Rattle.fab_report.specs.Printed.{listed, printed_of};
 ghost use Rattle.fab_report.specs.There.{AreThere};
 
-use crate::line::print_line;
+use crate::duo::duo_line;
+use crate::line::{LINE_ROOM, print_line};
 use port_graph::Fabric;
-use run_defs::{ClientCall, Figure, Line};
+use run_defs::{ClientCall, DuoEffect, Figure, Line};
 use std::alloc::{AllocError, Global};
 use std::marker::Model;
 use world_defs::Said;
@@ -70,6 +72,17 @@ impl Printed {
         ensures printed { IfOk result (λ p. p ≡ printed_of f.now (OneLine l ∷ [])) }
     {
         Printed::line(alloc, &l, f)
+    }
+
+    /// What one event of the two hosts that restart did was printed, as [`Printed::line`] prints it.
+    #[tactic(auto, using(crate::proofs::Printing::line_printed))]
+    pub fn duo(alloc: Global, effect: &DuoEffect, f: &Fabric) -> Result<Printed, AllocError>
+        ensures printed { IfOk result (λ p. p ≡ printed_of f.now (OneLine (Duo effect.now) ∷ [])) }
+    {
+        let mut text = Vec::with_capacity(alloc, LINE_ROOM)?;
+        duo_line(&mut text, effect)?;
+        text.push(b'\n')?;
+        Ok(Printed { text, figure: None })
     }
 
     /// Its text, handed out.
