@@ -7,7 +7,7 @@ ghost use Rattle.fabric_file.specs.Declaring.{declared, declared_as, host_line, 
 ghost use Rattle.fabric_file.specs.Declaring.{switch_declared, cable_declared, cable_between, number_word, port_word};
 ghost use Rattle.fabric_file.specs.Declaring.{end_word, added_of, is_script};
 
-use fab_text::{FaultKind, LineFault, Words, is_name, read_u32, words};
+use fab_text::{FaultKind, LineFault, Words, is_keyword, is_name, read_u32, words};
 use port_graph::{End, Fabric, GraphFault, Vertex};
 use std::alloc::Global;
 
@@ -22,7 +22,7 @@ pub(crate) fn is_script(line: &[u8]) -> bool
     ensures { result ≡ is_script (words_of line.now) }
 {
     match words(line).one() {
-        Some(word) => word == b"script".as_slice(),
+        Some(word) => is_keyword(word, b"script"),
         None => false,
     }
 }
@@ -49,11 +49,11 @@ fn declare_as(
     ensures reading { LineLeaves (declared_as fabric.old first.now (words_of args.entry)) fabric.new result }
     ensures memory { IsErrOf result LineFault.NoMemory → IsOk (declared_as fabric.old first.now (words_of args.entry)) }
 {
-    if first == b"host".as_slice() {
+    if is_keyword(first, b"host") {
         declare_host(alloc, fabric, args)
-    } else if first == b"switch".as_slice() {
+    } else if is_keyword(first, b"switch") {
         declare_switch(alloc, fabric, args)
-    } else if first == b"cable".as_slice() {
+    } else if is_keyword(first, b"cable") {
         declare_cable(fabric, args)
     } else {
         Err(LineFault::Wrong(FaultKind::BadWord))
