@@ -15,8 +15,8 @@ use duo_defs::{DuoCause, DuoEffect};
 use gm_defs::PIECE;
 use gm_tokens::NoMemory;
 use host_lanes::{Envelope, OfferRefusal};
-use port_client::{SendAsk, client_bytes, zero_buffer};
-use reg_mem::{register, release};
+use port_client::{SendAsk, client_buffer, zero_buffer};
+use reg_mem::release;
 use std::alloc::{AllocError, Global};
 use world_defs::Said;
 
@@ -83,7 +83,7 @@ impl End {
             (accepted self.old.state token (drop 1 self.old.state.client.sends) (client_bytes len seed))) }
         ensures err { OnErr result (self.new ≡ self.old) }
     {
-        let mut buffer = register(client_bytes(alloc, len, seed)?);
+        let mut buffer = client_buffer(alloc, len, seed)?;
         let envelope = Envelope {
             sport: 0,
             dport: 0,
