@@ -1,11 +1,11 @@
 //! One event of the two hosts that restart, and the text of what it did.
 
-ghost use Rattle.std.specs.Prelude.{◌≡◌, Some, IfOk, OnOk, OnErr};
+ghost use Rattle.std.specs.Prelude.{◌≡◌, None, Some, IfOk, OnOk, OnErr};
 ghost use Rattle.duo_defs.specs.Step.{IsFair, step};
 ghost use Rattle.run_defs.specs.Duos.{begun};
 ghost use Rattle.world_commands.specs.Duos.{IsDuoDone, IsDuoCut};
 
-use fab_report::{Line, Printed};
+use fab_report::Printed;
 use fab_world::Fabric;
 use gm_restart::{Duo, DuoEffect, DuoEvent};
 use std::alloc::{AllocError, Global};
@@ -25,7 +25,7 @@ pub fn duo(
 {
     begin(alloc, hosts)?;
     let effect = happen(alloc, hosts, e)?;
-    Printed::of_line(alloc, Line::Duo(effect), f)
+    Printed::duo(alloc, &effect, f)
 }
 
 // Lets them begin, where they haven't.
@@ -33,9 +33,19 @@ fn begin(alloc: Global, hosts: &mut Option<Duo>) -> Result<(), AllocError>
     ensures ok { OnOk result (hosts.new ≡ Some (begun hosts.old)) }
     ensures err { OnErr result (hosts.new ≡ hosts.old) }
 {
-    if hosts.is_none() {
-        end_duo(alloc, hosts.replace(Duo::new(alloc)?));
+    if hosts.is_some() {
+        return Ok(());
     }
+    begin_new(alloc, hosts)
+}
+
+// Lets them begin. It is no part of its caller's frame, which each of their events pays for.
+#[inline(never)]
+fn begin_new(alloc: Global, hosts: &mut Option<Duo>) -> Result<(), AllocError>
+    ensures ok { OnOk result (hosts.new ≡ Some (begun None)) }
+    ensures err { OnErr result (hosts.new ≡ hosts.old) }
+{
+    end_duo(alloc, hosts.replace(Duo::new(alloc)?));
     Ok(())
 }
 
