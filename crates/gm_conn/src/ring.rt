@@ -8,8 +8,8 @@ use circular_buffer::HeapCircularBuffer;
 use std::alloc::Global;
 use std::marker::Model;
 
-// How many descriptors a new ring holds: many lanes have no second.
-const FIRST_ROOM: usize = 1;
+// How many descriptors a new ring holds: a lane with a second message soon has more, and one alone loses little by it.
+const FIRST_ROOM: usize = 4;
 
 /// Descriptors, oldest first. Room is made apart from its use, and a new one takes no memory.
 #[derive(Drop)]
