@@ -57,7 +57,6 @@ impl Model for BufferList {
 
 impl BufferList {
     /// A list with room for this many tokens.
-    #[tactic(auto, using(crate::proofs::Tallies::tallied_none))]
     pub(crate) fn with_room(
         alloc: Global,
         host: u16,

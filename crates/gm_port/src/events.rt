@@ -46,7 +46,6 @@ impl Model for EventQueue {
 
 impl EventQueue {
     /// A queue with room for an event of each of so many send tokens and receive tokens.
-    #[tactic(auto, using(crate::proofs::Tallies::tallied_none))]
     pub(crate) fn with_room(
         alloc: Global,
         host: u16,
