@@ -1,3 +1,3 @@
 pub mod Ends
+pub mod Parts
 pub mod Ranged
-pub mod Scripts

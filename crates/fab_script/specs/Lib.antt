@@ -1,4 +1,3 @@
-pub mod Commands
 pub mod Lists
+pub mod Parts
 pub mod Ranges
-pub mod Values

@@ -1,17 +1,20 @@
 //! All lines of a script.
 
-ghost use Rattle.std.specs.Prelude.{◌≡◌, ◌<◌, ◌≤◌, ◌+◌, length, nat_eq, true, false, IfOk, IsErrOf, IsOk};
+ghost use Rattle.std.specs.Prelude.{◌≡◌, ◌<◌, ◌≤◌, ◌+◌, ◌⊎◌, length, nat_eq, true, false, IfOk, IsErrOf, IsOk};
 ghost use Rattle.std.specs.List.{AllByRecursion};
 ghost use Rattle.fab_text.specs.Line.{is_blank, lines_left, words_of};
-ghost use Rattle.fab_text.specs.Fault.{TextGives};
+ghost use Rattle.fab_text.specs.Fault.{LineGives, TextGives};
 ghost use Rattle.run_defs.specs.Script.{ended, is_end, script_reading};
-ghost use Rattle.fab_script.specs.Lists.{behind, sound_lines};
+ghost use Rattle.script_lines.specs.Lists.{behind};
+ghost use Rattle.fab_script.specs.Lists.{sound_lines};
+ghost use Rattle.fab_script.specs.Parts.{begins_with_duo, allowed_command, front_part, front_sound, script_part};
+ghost use Rattle.fab_script.specs.Parts.{PartGives, FrontGives};
 ghost use Rattle.fab_script.specs.Ranges.{IsCommandOf};
 
-use crate::command::read_command;
-use fab_text::{FaultKind, Lines, TextFault, is_keyword, line_count, words};
+use fab_text::{FaultKind, LineFault, Lines, TextFault, is_keyword, line_count, words};
 use port_graph::Fabric;
 use run_defs::Command;
+use script_lines::read_command;
 use std::alloc::Global;
 use std::marker::Model;
 
@@ -59,19 +62,59 @@ pub fn read_script(alloc: Global, text: &[u8], line: u32, f: &Fabric) -> Result<
     read_lines(alloc, text, line, f)
 }
 
-// The same, without what each command is.
+/// Reads the lines of a script that a report follows: up to `end`, after which `left` stands then. Its first fault is
+/// that of `read_script`, but that a line `duo` is `BadWord`, that no line after `end` is a fault, and that without
+/// `end` the line `past` is named.
+pub fn read_script_part(
+    alloc: Global,
+    left: &mut Lines,
+    past: u32,
+    f: &Fabric,
+) -> Result<Script, TextFault>
+    // Exactly the commands that the lines say, with the lines after them, or exactly the first fault.
+    ensures reading { PartGives (script_part past f.now (lines_left left.old)) (lines_left left.new) result }
+    // Memory may run out only where a command stands before the first fault, or where there is no fault.
+    ensures memory { IsErrOf result TextFault.NoMemory → (0 < length (front_sound false f.now (lines_left left.old)))
+        ⊎ IsOk (script_part past f.now (lines_left left.old)) }
+{
+    let mut commands = read_front(alloc, left, past, f, false)?;
+    if commands.push(Command::Finish).is_err() {
+        return Err(TextFault::NoMemory);
+    }
+    Ok(Script { commands })
+}
+
+// The same as `read_script`, without what each command is.
+#[tactic(auto, using(crate::proofs::Parts::front_memory, crate::proofs::Parts::whole_memory))]
 fn read_lines(alloc: Global, text: &[u8], line: u32, f: &Fabric) -> Result<Script, TextFault>
     requires { line + length text.now ≤ 4294967290 }
     ensures reading { TextGives (script_reading f.now line text.now) result }
     ensures memory { IsErrOf result TextFault.NoMemory → 0 < length (sound_lines f.now line text.now) }
 {
-    let mut commands = Vec::new(alloc);
     let mut left = Lines::numbered_from(line + 1, text);
+    match read_front(alloc, &mut left, line + line_count(text) + 1, f, true) {
+        Ok(commands) => finished(commands, left),
+        Err(fault) => Err(fault),
+    }
+}
+
+// The commands of the lines before `end`, after which `left` stands then; of lines `duo` only where they are allowed.
+fn read_front(
+    alloc: Global,
+    left: &mut Lines,
+    past: u32,
+    f: &Fabric,
+    duos: bool,
+) -> Result<Vec<Command>, TextFault>
+    ensures reading { FrontGives (front_part duos past f.now (lines_left left.old)) (lines_left left.new) result }
+    ensures memory { IsErrOf result TextFault.NoMemory → 0 < length (front_sound duos f.now (lines_left left.old)) }
+{
+    let mut commands = Vec::new(alloc);
     'lines: while let Some((number, line)) = left.next_line() {
         if is_end(line) {
-            return finished(commands, left);
+            return Ok(commands);
         }
-        let command = match read_command(alloc, f, line) {
+        let command = match read_allowed(alloc, f, line, duos) {
             Ok(command) => command,
             Err(fault) => return Err(fault.at(number)),
         };
@@ -80,9 +123,30 @@ fn read_lines(alloc: Global, text: &[u8], line: u32, f: &Fabric) -> Result<Scrip
         }
     }
     Err(TextFault::At {
-        line: line + line_count(text) + 1,
+        line: past,
         kind: FaultKind::NoEnd,
     })
+}
+
+// The command of a line, where lines `duo` are commands, or where they are none.
+fn read_allowed(alloc: Global, f: &Fabric, line: &[u8], duos: bool) -> Result<Command, LineFault>
+    ensures reading { LineGives (allowed_command duos f.now (words_of line.now)) result }
+    ensures memory { IsErrOf result LineFault.NoMemory → IsOk (allowed_command duos f.now (words_of line.now)) }
+{
+    if !duos && begins_with_duo(line) {
+        return Err(LineFault::Wrong(FaultKind::BadWord));
+    }
+    read_command(alloc, f, line)
+}
+
+// Whether the first word of a line is `duo`.
+fn begins_with_duo(line: &[u8]) -> bool
+    ensures { result ≡ begins_with_duo (words_of line.now) }
+{
+    match words(line).next_word() {
+        Some(first) => first == b"duo".as_slice(),
+        None => false,
+    }
 }
 
 // The commands with `end` after them, where nothing that says something follows it.

@@ -1,5 +1,5 @@
 -- The hosts of a map that was read are hosts of the fabric.
-use Rattle.std.proofs.Common.{◌≡◌, ◌<◌, ◌+◌, ℕ, List, [], ◌∷◌, Bool, true, false, not, cond, length, nat_lt, Option, Some, None, option_map, Result, Ok, Err, IfOk, refl, ap, subst, ◌∙◌, arith, if◌then◌else◌}
+use Rattle.std.proofs.Common.{◌≡◌, ◌<◌, ◌+◌, ℕ, List, [], ◌∷◌, Bool, true, false, not, cond, length, nat_lt, Option, Some, None, option_map, Result, Ok, Err, IfOk, refl, ap, sym, subst, ◌∙◌, arith, if◌then◌else◌}
 use Rattle.std.specs.Prelude.{ℤ, position, codes, bytes_eq}
 use Rattle.std.specs.List.{prefix_len}
 use Rattle.std.proofs.lemmas.Bool.Decides.{nat_tests}
@@ -14,14 +14,15 @@ use Rattle.map_defs.specs.NetMap.{NetMap, switches_of}
 use Rattle.fab_text.specs.declared.fault.FaultKind.{FaultKind}
 use Rattle.fab_text.specs.declared.fault.FaultKind.TheVariants.{BadWord}
 use Rattle.fab_text.specs.declared.fault.TextFault.{TextFault}
+use Rattle.fab_text.specs.declared.fault.TextFault.TheVariants.{At, NoMemory}
 use Rattle.fab_text.specs.Word.{name_test}
 use Rattle.fab_text.specs.Line.{TextLine, lines_left, line_count, words_of, one_of, two_of, four_of}
-use Rattle.fab_text.specs.Fault.{TextGives, at_line, and_then}
+use Rattle.fab_text.specs.Fault.{FirstFault, TextGives, at_line, and_then}
 use Rattle.fabric_file.specs.Declaring.{where_there}
 use Rattle.fabric_map.specs.declared.fault.MapFault.{MapFault}
 use Rattle.fabric_map.specs.Growing.{empty_map, host_refusal, switch_refusal, cable_refusal, with_host, with_switch, with_cable}
 use Rattle.map_canon.specs.Declaring.{declared, unless, host_declared, host_placed, host_line, switch_declared, switch_line, cable_declared, cable_line, cable_between, mark_word, is_next, end_word, vertex_named}
-use Rattle.map_canon.specs.Reading.{is_end, ended, map_from, map_reading}
+use Rattle.map_canon.specs.Reading.{MapPart, PartGives, is_end, ended, map_from, map_until, part_of, map_part, map_reading}
 use Rattle.map_canon.specs.Printing.{IsOfFabric, AreOfFabric}
 
 -- a place that was found is one of the list
@@ -107,16 +108,54 @@ ended-is : (m n : NetMap) (ls : List TextLine) → ended m ls ≡ Ok n → m ≡
 ended-is m n [] e = cc
 ended-is m n (l ∷ ls) e = cc
 
-from-kept : (past : ℕ) (f : Network) (m n : NetMap) (ls : List TextLine) → map_from past f m ls ≡ Ok n → AreOfFabric f m → AreOfFabric f n
-from-kept past f m n [] e all = cc
-from-kept past f m n (l ∷ ls) e all = by (is_end (words_of l.bytes)) (declared f m (words_of l.bytes)) refl e (λ k d more. from-kept past f k n ls d more)
+-- so do lines up to `endmap`, whatever comes of their map
+until-kept : {X : Type 0} (end : NetMap → List TextLine → Result X FirstFault) (made : X → NetMap)
+    → ((m : NetMap) (ls : List TextLine) (x : X) → end m ls ≡ Ok x → m ≡ made x)
+    → (past : ℕ) (f : Network) (m : NetMap) (x : X) (ls : List TextLine) → map_until end past f m ls ≡ Ok x → AreOfFabric f m → AreOfFabric f (made x)
+until-kept end made is past f m x [] e all = cc
+until-kept end made is past f m x (l ∷ ls) e all = by (is_end (words_of l.bytes)) (declared f m (words_of l.bytes)) refl e (λ k d more. until-kept end made is past f k x ls d more)
   where
-    by : (t : Bool) (r : Result NetMap FaultKind) → declared f m (words_of l.bytes) ≡ r → (if t then ended m ls else and_then (at_line l.number r) (λ k. map_from past f k ls)) ≡ Ok n
-        → ((k : NetMap) → map_from past f k ls ≡ Ok n → AreOfFabric f k → AreOfFabric f n) → AreOfFabric f n
-    by true r q d rest = subst (AreOfFabric f) (ended-is m n ls d) all
+    by : (t : Bool) (r : Result NetMap FaultKind) → declared f m (words_of l.bytes) ≡ r → (if t then end m ls else and_then (at_line l.number r) (λ k. map_until end past f k ls)) ≡ Ok x
+        → ((k : NetMap) → map_until end past f k ls ≡ Ok x → AreOfFabric f k → AreOfFabric f (made x)) → AreOfFabric f (made x)
+    by true r q d rest = subst (AreOfFabric f) (is m ls x d) all
     by false (Ok k) q d rest = rest k d (declared-kept f m k (words_of l.bytes) q all)
     by false (Err kind) q d rest = cc
 
+part-is : (m : NetMap) (ls : List TextLine) (p : MapPart) → part_of m ls ≡ Ok p → m ≡ p.made
+part-is m ls p e = let one : (record { made = m; after = ls }) ≡ p = cc in ap (λ q. q.made) one
+
+-- the map of a part is of the fabric
+pub part-of_fabric : (past : ℕ) (f : Network) (ls left : List TextLine) (r : Result NetMap TextFault) → PartGives (map_part past f ls) left r → IfOk r (λ m. AreOfFabric f m)
+part-of_fabric past f ls left (Ok m) h = until-kept part_of (λ p. p.made) part-is past f empty_map (record { made = m; after = left }) ls h tt
+part-of_fabric past f ls left (Err e) h = tt
+
+-- a map is its part with nothing after it
+from-part : (past : ℕ) (f : Network) (m : NetMap) (ls : List TextLine) → map_from past f m ls ≡ and_then (map_until part_of past f m ls) (λ p. ended p.made p.after)
+from-part past f m [] = refl
+from-part past f m (l ∷ ls) = by (is_end (words_of l.bytes)) (declared f m (words_of l.bytes)) (λ k. from-part past f k ls)
+  where
+    by : (t : Bool) (r : Result NetMap FaultKind) → ((k : NetMap) → map_from past f k ls ≡ and_then (map_until part_of past f k ls) (λ p. ended p.made p.after))
+        → (if t then ended m ls else and_then (at_line l.number r) (λ k. map_from past f k ls))
+        ≡ and_then (if t then part_of m ls else and_then (at_line l.number r) (λ k. map_until part_of past f k ls)) (λ p. ended p.made p.after)
+    by true r rest = refl
+    by false (Ok k) rest = rest k
+    by false (Err kind) rest = refl
+
+-- the part of a whole text
+abbrev pub whole_part : Network → List ℕ → Result MapPart FirstFault
+whole_part f text = map_part (line_count text + 1) f (lines_left (record { number = 1; text = text }))
+
+-- a text has the fault of its part
+pub text_fault : (f : Network) (text : List ℕ) (left : List TextLine) (e : TextFault) → PartGives (whole_part f text) left (Err e) → TextGives (map_reading f text) (Err e)
+text_fault f text left (At line kind) h =
+    from-part (line_count text + 1) f empty_map (lines_left (record { number = 1; text = text })) ∙ ap (λ r. and_then r (λ p. ended p.made p.after)) h
+text_fault f text left NoMemory h = tt
+
+-- a text is what comes of its part and of the lines after it
+pub text_ended : (f : Network) (text : List ℕ) (left : List TextLine) (m : NetMap) (r : Result NetMap TextFault) → PartGives (whole_part f text) left (Ok m) → TextGives (ended m left) r → TextGives (map_reading f text) r
+text_ended f text left m r h g =
+    subst (λ s. TextGives s r) (sym (from-part (line_count text + 1) f empty_map (lines_left (record { number = 1; text = text })) ∙ ap (λ s. and_then s (λ p. ended p.made p.after)) h)) g
+
 pub reading-of_fabric : (f : Network) (text : List ℕ) (r : Result NetMap TextFault) → TextGives (map_reading f text) r → IfOk r (λ m. AreOfFabric f m)
-reading-of_fabric f text (Ok m) h = from-kept (line_count text + 1) f empty_map m (lines_left (record { number = 1; text = text })) h tt
+reading-of_fabric f text (Ok m) h = until-kept ended (λ k. k) (λ k ls n. ended-is k n ls) (line_count text + 1) f empty_map m (lines_left (record { number = 1; text = text })) h tt
 reading-of_fabric f text (Err e) h = tt

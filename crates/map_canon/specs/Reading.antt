@@ -1,10 +1,12 @@
 -- Which texts have a map, which map that is, and what the first fault of the others is.
-use Rattle.std.specs.Prelude.{ℕ, ◌+◌, Bool, false, List, [], ◌∷◌, if◌then◌else◌, Result, Ok, Err, codes, bytes_eq}
+use Rattle.std.specs.Prelude.{◌≡◌, ℕ, ◌+◌, Bool, false, List, [], ◌∷◌, if◌then◌else◌, Result, Ok, Err, codes, bytes_eq}
 use Rattle.std.specs.Option.{option_map_or}
 use Rattle.net_defs.specs.Network.{Network}
 use Rattle.map_defs.specs.NetMap.{NetMap}
 use Rattle.fab_text.specs.declared.fault.FaultKind.{FaultKind}
 use Rattle.fab_text.specs.declared.fault.FaultKind.TheVariants.{NoEnd, AfterEnd}
+use Rattle.fab_text.specs.declared.fault.TextFault.{TextFault}
+use Rattle.fab_text.specs.declared.fault.TextFault.TheVariants.{At, NoMemory}
 use Rattle.fab_text.specs.Line.{TextLine, lines_left, line_count, words_of, one_of}
 use Rattle.fab_text.specs.Fault.{FirstFault, at_line, and_then}
 use Rattle.fabric_map.specs.Growing.{empty_map}
@@ -19,13 +21,39 @@ abbrev pub ended : NetMap → List TextLine → Result NetMap FirstFault
 ended m [] = Ok m
 ended m (l ∷ ls) = Err (record { line = l.number; kind = AfterEnd })
 
--- What the lines up to `endmap` declare, one after another. `past` is one more than the number of the text's lines.
-abbrev pub map_from : ℕ → Network → NetMap → List TextLine → Result NetMap FirstFault
-map_from past f m [] = Err (record { line = past; kind = NoEnd })
-map_from past f m (l ∷ ls) =
+-- What the lines up to `endmap` declare, one after another, and what comes of their map and of the lines after it.
+-- `past` is the number of the line that is missing where none is `endmap`.
+abbrev pub map_until : {X : Type 0} → (NetMap → List TextLine → Result X FirstFault) → ℕ → Network → NetMap
+    → List TextLine → Result X FirstFault
+map_until end past f m [] = Err (record { line = past; kind = NoEnd })
+map_until end past f m (l ∷ ls) =
     if is_end (words_of l.bytes)
-    then ended m ls
-    else and_then (at_line l.number (declared f m (words_of l.bytes))) (λ k. map_from past f k ls)
+    then end m ls
+    else and_then (at_line l.number (declared f m (words_of l.bytes))) (λ k. map_until end past f k ls)
+
+-- the map of lines of which `endmap` is the last that says something
+abbrev pub map_from : ℕ → Network → NetMap → List TextLine → Result NetMap FirstFault
+map_from past f m ls = map_until ended past f m ls
+
+-- A map that other lines may follow, with these lines.
+pub record MapPart : Type 0 where
+  pub made : NetMap
+  pub after : List TextLine
+
+-- a map with the lines after it
+abbrev pub part_of : NetMap → List TextLine → Result MapPart FirstFault
+part_of m ls = Ok (record { made = m; after = ls })
+
+-- The map of the first lines, up to `endmap`, or their first fault.
+abbrev pub map_part : ℕ → Network → List TextLine → Result MapPart FirstFault
+map_part past f ls = map_until part_of past f empty_map ls
+
+-- The answer is exactly what is said of the first lines, and these lines are left. Running out of memory may stand in
+-- the place of any answer.
+abbrev pub PartGives : Result MapPart FirstFault → List TextLine → Result NetMap TextFault → Type 0
+PartGives said left (Ok m) = said ≡ Ok (record { made = m; after = left })
+PartGives said left (Err (At line kind)) = said ≡ Err (record { line = line; kind = kind })
+PartGives said left (Err NoMemory) = Unit {0}
 
 -- a line, where it has no fault, and the lines of those after it
 abbrev pub sound_behind : TextLine → Result NetMap FaultKind → (NetMap → List TextLine) → List TextLine

@@ -9,7 +9,7 @@
 //! |---|---|
 //! | `growing` | the map of the lines so far, its switches found by number |
 //! | `declaring` | a line, and what it declares or its first fault |
-//! | `reading` | a text up to its line `endmap` |
+//! | `reading` | a text up to its line `endmap`, and lines up to `endmap` |
 //! | `printing` | the lines of a map |
 //!
 //! ```text
@@ -32,4 +32,4 @@ pub use fabric_map::{FabricMap, MapCable, MapVertex};
 pub use map_quotient::{closed, quotient};
 pub use map_renumber::canon;
 pub use printing::print_map;
-pub use reading::read_map;
+pub use reading::{read_map, read_map_part};

@@ -1,11 +1,11 @@
-//! A text of a map.
+//! A text of a map, and the lines of one that other lines follow.
 
 ghost use Rattle.std.specs.Prelude.{◌≡◌, ◌≢◌, ◌<◌, ◌≤◌, length, Err, IfOk, IsErrOf};
 ghost use Rattle.fab_text.specs.Line.{lines_left};
 ghost use Rattle.fab_text.specs.Fault.{TextGives};
-ghost use Rattle.fabric_map.specs.Growing.{IsFabricMap};
+ghost use Rattle.fabric_map.specs.Growing.{IsFabricMap, empty_map};
 ghost use Rattle.map_canon.specs.Printing.{AreOfFabric};
-ghost use Rattle.map_canon.specs.Reading.{map_reading, sound_lines, ended};
+ghost use Rattle.map_canon.specs.Reading.{map_reading, map_part, PartGives, sound_lines, sound_from, ended};
 
 use crate::declaring::{declare, is_end};
 use crate::growing::MapSoFar;
@@ -31,18 +31,42 @@ pub fn read_map(alloc: Global, text: &[u8], f: &Fabric) -> Result<FabricMap, Tex
     ensures is_map { IfOk result (λ m. IsFabricMap m) }
     ensures of_fabric { IfOk result (λ m. AreOfFabric f.now m) }
 {
-    let mut map = MapSoFar::new(alloc);
     let mut left = lines(text);
+    match read_map_part(alloc, &mut left, line_count(text) + 1, f) {
+        Ok(map) => ended(map, left),
+        Err(fault) => Err(fault),
+    }
+}
+
+/// Reads the lines of a map that other lines may follow: up to `endmap`, after which `left` stands then. The faults are
+/// those of `read_map`, but that no line after `endmap` is one, and that without `endmap` the line `past` is named.
+pub fn read_map_part(
+    alloc: Global,
+    left: &mut Lines,
+    past: u32,
+    f: &Fabric,
+) -> Result<FabricMap, TextFault>
+    // Exactly the map that the lines declare, with the lines after it, or exactly the first fault.
+    ensures reading { PartGives (map_part past f.now (lines_left left.old)) (lines_left left.new) result }
+    // Memory may run out only where a line stands before the first fault.
+    ensures memory { IsErrOf result TextFault.NoMemory
+        → 0 < length (sound_from f.now empty_map (lines_left left.old)) }
+    ensures is_map { IfOk result (λ m. IsFabricMap m) }
+    ensures of_fabric { IfOk result (λ m. AreOfFabric f.now m) }
+{
+    let mut map = MapSoFar::new(alloc);
     'lines: while let Some((number, line)) = left.next_line() {
         if is_end(line) {
-            return ended(map.into_map(), left);
+            let map = map.into_map();
+            let _ = map.vertices();
+            return Ok(map);
         }
         if let Err(fault) = declare(&mut map, f, line) {
             return Err(fault.at(number));
         }
     }
     Err(TextFault::At {
-        line: line_count(text) + 1,
+        line: past,
         kind: FaultKind::NoEnd,
     })
 }

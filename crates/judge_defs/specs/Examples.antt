@@ -1,0 +1,71 @@
+-- A short report over the two hosts at one switch, worked out: a message is sent and received, its token comes back.
+use Rattle.std.specs.Prelude.{ℕ, List, [], ◌∷◌, ◌++◌, Result, Ok, codes}
+use Rattle.net_defs.specs.Examples.{two_hosts}
+use Rattle.fab_text.specs.Line.{TextLine, lines_left}
+use Rattle.fab_text.specs.Fault.{and_then}
+use Rattle.port_ledgers.specs.declared.lane.PortName.{PortName}
+use Rattle.run_defs.specs.declared.command.Command.{Command}
+use Rattle.run_defs.specs.declared.command.Command.TheVariants.{Begin, Send, Poll}
+use Rattle.run_defs.specs.Examples.{text_of}
+use Rattle.line_forms.specs.declared.line.ReportLine.{ReportLine}
+use Rattle.line_forms.specs.declared.line.ReportLine.TheVariants.{Opened, Accepted, Received, Returned}
+use Rattle.answer_defs.specs.Answer.{Alone, Answered}
+use Rattle.judge_defs.specs.Form.{known_by, answer_from}
+use Rattle.answer_defs.specs.Answer.{answered}
+
+-- the answers of commands, the latest first, after others; line 17 is the first that is missing
+abbrev pub answers_after : List Answered → List Command → List TextLine → Result (List Answered) ℕ
+answers_after before [] ls = Ok before
+answers_after before (c ∷ cs) ls = and_then (answer_from c (known_by two_hosts before) 17 two_hosts ls) (λ a.
+    answers_after (answered c a.0 ∷ before) cs a.1)
+
+-- the commands
+abbrev pub commands : List Command
+commands = Begin 0 0 2 0 ∷ Begin 1 1 0 1 ∷ Send 0 0 1 1 0 1 9 ∷ Poll 1 1 ∷ Poll 0 0 ∷ []
+
+-- lines from line 12 on
+abbrev pub lines_of : List (List ℕ) → List TextLine
+lines_of texts = lines_left (record { number = 12; text = text_of texts })
+
+-- the lines of the first four commands
+abbrev pub four_lines : List (List ℕ)
+four_lines = codes "open a 0 done" ∷ codes "open b 1 done" ∷ codes "send a 0 token 0"
+    ∷ codes "poll b 1 received token 0 from a 0 prio 0 len 1 bytes 09" ∷ []
+
+-- the whole report
+abbrev pub report : List TextLine
+report = lines_of (four_lines ++ codes "poll a 0 sent token 0" ∷ [])
+
+-- a report of another port in its second line
+abbrev pub another_port : List TextLine
+another_port = lines_of (codes "open a 0 done" ∷ codes "open b 2 done" ∷ [])
+
+-- the sending port
+abbrev pub sender : PortName
+sender = record { host = 0; port = 0 }
+
+-- the receiving port
+abbrev pub receiver : PortName
+receiver = record { host = 1; port = 1 }
+
+-- a command with an answer of one line
+abbrev pub alone : Command → ReportLine → Answered
+alone c l = answered c (Alone l)
+
+-- the answers, the latest first
+abbrev pub answers : List Answered
+answers =
+    alone (Poll 0 0) (Returned sender 0)
+    ∷ alone (Poll 1 1) (Received (record {
+      port = receiver;
+      token = 0;
+      from = 0;
+      sport = 0;
+      prio = 0;
+      len = 1;
+      body = 9 ∷ [];
+    }))
+    ∷ alone (Send 0 0 1 1 0 1 9) (Accepted sender 0)
+    ∷ alone (Begin 1 1 0 1) (Opened receiver)
+    ∷ alone (Begin 0 0 2 0) (Opened sender)
+    ∷ []

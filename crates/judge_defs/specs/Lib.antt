@@ -1,0 +1,4 @@
+pub mod Form
+pub mod Verdict
+pub mod Text
+pub mod Examples

@@ -1,0 +1,18 @@
+//! What is judged of a report that follows its text: definitions, a law of them, and a worked example.
+//!
+//! It judges nothing itself. `specs/Text.antt` says when a report is judged yes, and which line of another is the first
+//! that fails; read it first. `answer_defs` says what is right of the answer of a command.
+//!
+//! | file of `specs/` | says |
+//! |---|---|
+//! | `Form` | which lines are a command's answer, or which line is out of form |
+//! | `Verdict` | answers that are judged yes, and the first line that fails, for commands and lines |
+//! | `Text` | the same for a text with its report |
+#![tactic(auto)]
+
+mod examples;
+mod law;
+
+pub use answer_defs::Why;
+pub use examples::message_with_its_token;
+pub use law::yes_excludes_no;

@@ -1,0 +1,9 @@
+use Rattle.std.proofs.Common.{◌≡◌, length}
+use Rattle.report_lines.specs.Bytes.{pairs_said, after_bytes}
+use Rattle.report_lines.proofs.bytes.read_pairs.Given as goal
+
+abbrev pub invariant-pairs : goal.invariant-pairs
+invariant-pairs l = pairs_said l.word ≡ after_bytes l.bytes.items (pairs_said l.left)
+
+abbrev pub decreases-pairs : goal.decreases-pairs
+decreases-pairs l = length l.left

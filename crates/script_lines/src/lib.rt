@@ -1,0 +1,33 @@
+//! One line of a script: the command that its words say over a fabric, or its first fault.
+//!
+//! It reads no second line, and runs no command. `specs/Script.antt` of `run_defs` is the grammar.
+//!
+//! ```text
+//!   map a 4 1                Map { host: 0, depth: 4, tries: 1 }
+//!   plan flip 1 6 193        the second word counts with the first
+//!   step advance s 5         the channel that leaves port 5 of s
+//!   send a 0 b               BadWord: words are missing
+//! ```
+//!
+//! | module | has |
+//! |---|---|
+//! | `command` | a line, by its first word |
+//! | `walk_line` | `walk`, which alone takes memory |
+//! | `map_lines` | `map`, `circuit`, `routes`, `install`, `settle` |
+//! | `port_lines` | `open`, `close`, `poll`, `tokens`, `provide`, `send` |
+//! | `plan_lines`, `step_lines`, `duo_lines` | `plan`, `step` and `duo`, by their second word |
+//! | `counted`, `values` | exactly so many words; what one word says |
+#![tactic(auto)]
+
+mod command;
+mod counted;
+mod duo_lines;
+mod map_lines;
+mod plan_lines;
+mod port_lines;
+mod step_lines;
+mod values;
+mod walk_line;
+
+pub use command::read_command;
+pub use run_defs::{Command, DuoEvent, PlanKind, StepLine};
