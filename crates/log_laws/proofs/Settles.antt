@@ -1,5 +1,5 @@
 -- What is part of the way along a settle: along its clear, its rounds, and the parts of a pass.
-use Rattle.std.proofs.Common.{◌≡◌, ◌<◌, ◌≤◌, ◌+◌, ℕ, suc, Bool, true, false, List, [], ◌∷◌, map, nat_lt, refl, sym, ◌∙◌, ap, subst, arith, if◌then◌else◌}
+use Rattle.std.proofs.Common.{◌≡◌, ◌<◌, ◌≤◌, ◌+◌, ℕ, suc, Bool, true, false, List, [], ◌∷◌, ◌++◌, map, nat_lt, refl, sym, ◌∙◌, ap, subst, arith, if◌then◌else◌}
 use Rattle.world_defs.specs.declared.event.Event.TheVariants.{Inject, Replay, Expire, GiveUp}
 use Rattle.world_defs.specs.declared.effect.Effect.{Effect}
 use Rattle.world_defs.specs.declared.effect.Effect.TheVariants.{Idle, Expired}
@@ -7,7 +7,6 @@ use Rattle.world_defs.specs.EightBits.{IsByteEvent}
 use Rattle.world_defs.specs.Node.{node_expired, unacknowledged_to}
 use Rattle.world_defs.specs.World.{WorldState, addresses, node_at, with_node}
 use Rattle.world_defs.specs.Step.{expired, step, steps, after_all}
-use Rattle.world_defs.specs.Drain.{clear}
 use Rattle.world_defs.specs.Settle.{expiries, serials, round_pass, is_last_pass, pass_bound, round, is_last_round, round_bound}
 use Rattle.world_laws.specs.Shape.{HasSenders}
 use Rattle.world_laws.proofs.Along.{Along, expiries-along}
@@ -16,13 +15,14 @@ use Rattle.world_laws.proofs.Rounds.{Going, left_over, not_last-less, round_goin
 use Rattle.log_defs.specs.Log.{Log}
 use Rattle.log_defs.specs.Logs as log
 use Rattle.log_defs.specs.Row.{IsPartWay}
-use Rattle.log_defs.proofs.Rows.{steps-after, all-map, clear-row, cleared-row, round_pass-row, round-row, byte_clears, byte_settles}
-use Rattle.log_defs.proofs.Worlds.{clear-log, stretch, round_pass-log, round-log}
+use Rattle.log_defs.proofs.Rows.{steps-after, all-map, clear-row, cleared-row, byte_clears}
+use Rattle.log_defs.proofs.Worlds.{stretch, round_pass-log, round-log}
 use Rattle.log_laws.proofs.PartWay.{way-front, way-behind, way-step, way-as}
-use Rattle.log_laws.proofs.UpTo.{Lowers, up_to-enough, up_to-within, up_to-behind}
+use Rattle.log_laws.proofs.UnderWay.{behind}
+use Rattle.log_laws.proofs.UpTo.{Lowers, up_to-on, up_to-last, up_to-enough, up_to-within}
 
 -- passes lower what injections and limbo can still move
-passes-lower : Lowers log.is_last_pass log.round_pass (λ w. Unit {0}) measure
+pub passes-lower : Lowers log.is_last_pass log.round_pass (λ w. Unit {0}) measure
 passes-lower = record { keeps = λ w q e. tt; less = less }
   where
     less : (w : WorldState) → Unit {0} → log.is_last_pass w (log.round_pass w) ≡ false → measure (log.round_pass w).world < measure w
@@ -44,17 +44,20 @@ passes-same k w low =
 pub passes-within : (w v : WorldState) → IsPartWay w (log.round_pass w).events v → IsPartWay w (passes_from w).events v
 passes-within w v p = up_to-within log.moved_both log.unmoved log.is_last_pass log.round_pass (pass_bound w) w v (omega arith) p
 
--- after a pass that wasn't the last
-pub passes-behind : (w next v : WorldState) → is_last_pass (round_pass w) ≡ false → next ≡ (round_pass w).world → IsPartWay next (passes_from next).events v → IsPartWay w (passes_from w).events v
-passes-behind w next v goes is p =
-    let not_last : log.is_last_pass w (log.round_pass w) ≡ false = sym (ap is_last_pass (round_pass-log w)) ∙ goes in
-    let led : next ≡ (log.round_pass w).world = is ∙ ap (λ s. s.world) (round_pass-log w) in
-    let less : measure (log.round_pass w).world < measure w = passes-lower.less w tt not_last in
-    let low : measure next < measure w = subst (λ x. measure x < measure w) (sym led) less in
+-- after a pass that wasn't the last come the passes of the world that it left
+pub passes-on : (w next : WorldState) → log.is_last_pass w (log.round_pass w) ≡ false → next ≡ (log.round_pass w).world
+    → passes_from w ≡ behind (log.moved_both (log.round_pass w).value) (log.round_pass w).events (passes_from next)
+passes-on w next goes led =
+    let one : Log log.Moved = log.round_pass w in
     let more : suc (measure w) ≡ pass_bound w = omega arith in
-    subst (λ k. IsPartWay w (log.round_passes k w).events v) more
-    (up_to-behind log.moved_both log.unmoved log.is_last_pass log.round_pass (measure w) w next v (round_pass-row byte_settles w).there not_last led
-    (way-as next v (log.round_passes (measure w) next).events (passes_from next).events (ap (λ l. l.events) (passes-same (measure w) next low)) p))
+    ap (λ k. log.round_passes k w) (sym more) ∙ up_to-on log.moved_both log.unmoved log.is_last_pass log.round_pass (measure w) w goes
+    ∙ ap (behind (log.moved_both one.value) one.events) (passes-same (measure w) one.world (passes-lower.less w tt goes) ∙ ap passes_from (sym led))
+
+-- the last pass
+pub passes-last : (w : WorldState) → log.is_last_pass w (log.round_pass w) ≡ true → passes_from w ≡ log.round_pass w
+passes-last w last =
+    let more : suc (measure w) ≡ pass_bound w = omega arith in
+    ap (λ k. log.round_passes k w) (sym more) ∙ up_to-last log.moved_both log.unmoved log.is_last_pass log.round_pass (measure w) w last
 
 -- the world after the give-ups and the injections of a pass of a settle
 abbrev pub after_injections : WorldState → WorldState
@@ -88,29 +91,19 @@ pass-clear w u v is p =
     (way-front t v one.events (log.replays (serials one.world) one.world).events
     (way-behind t here v (map Inject (addresses w)) (log.clear here).events (steps-after t (map Inject (addresses w))) (subst (λ x. IsPartWay x (log.clear x).events v) is p)))
 
--- a clear leads to its world
-cleared-to : (u x : WorldState) → x ≡ (clear u).1 → x ≡ (log.clear u).world
-cleared-to u x is = is ∙ ap (λ r. r.1) (clear-log u)
-
-pub pass-replays : (w u x v : WorldState) → u ≡ after_injections w → x ≡ (clear u).1 → IsPartWay x (log.replays (serials x) x).events v → IsPartWay w (log.round_pass w).events v
+pub pass-replays : (w u x v : WorldState) → u ≡ after_injections w → x ≡ (log.clear u).world → IsPartWay x (log.replays (serials x) x).events v → IsPartWay w (log.round_pass w).events v
 pass-replays w u x v is cleared p =
     let t : WorldState = after_all w (map GiveUp (addresses w)) in
     let one : Log log.Moved = log.cleared (map Inject (addresses w)) t in
-    let led : x ≡ one.world = cleared-to u x cleared ∙ ap (λ y. (log.clear y).world) is in
+    let led : x ≡ one.world = cleared ∙ ap (λ y. (log.clear y).world) is in
     pass-on w t v refl
     (way-behind t one.world v one.events (log.replays (serials one.world) one.world).events (cleared-row byte_clears (map Inject (addresses w)) (all-map IsByteEvent Inject (λ h. tt) (addresses w)) t).there
     (subst (λ y. IsPartWay y (log.replays (serials y) y).events v) led p))
 
--- along the replay of the first of some serials, and along those after it
+-- along the replay of the first of some serials
 pub replays-within : (s : ℕ) (ss : List ℕ) (w v : WorldState) → IsPartWay w (Replay s ∷ (log.clear (step w (Replay s)).1).events) v → IsPartWay w (log.replays (s ∷ ss) w).events v
 replays-within s ss w v p =
     let one : Log log.Moved = log.cleared (Replay s ∷ []) w in way-front w v one.events (log.replays ss one.world).events p
-
-pub replays-behind : (s : ℕ) (ss : List ℕ) (w next v : WorldState) → next ≡ (clear (step w (Replay s)).1).1 → IsPartWay next (log.replays ss next).events v → IsPartWay w (log.replays (s ∷ ss) w).events v
-replays-behind s ss w next v is p =
-    let one : Log log.Moved = log.cleared (Replay s ∷ []) w in
-    way-behind w one.world v one.events (log.replays ss one.world).events (cleared-row byte_clears (Replay s ∷ []) (tt, tt) w).there
-    (subst (λ y. IsPartWay y (log.replays ss y).events v) (cleared-to (step w (Replay s)).1 next is) p)
 
 -- along the clear after a replay
 pub replay-clear : (s : ℕ) (w u v : WorldState) → u ≡ (step w (Replay s)).1 → IsPartWay u (log.clear u).events v → IsPartWay w (Replay s ∷ (log.clear (step w (Replay s)).1).events) v
@@ -136,20 +129,22 @@ pub round-expiries : (w v : WorldState) → IsPartWay w (expiries w) v → IsPar
 unfolding log.round
 round-expiries w v p = way-front w v (expiries w) (log.round_passes (pass_bound w) (after_all w (expiries w))).events p
 
-pub round-passes : (w u v : WorldState) → u ≡ after_all w (expiries w) → IsPartWay u (passes_from u).events v → IsPartWay w (log.round w).events v
+pub round-on : (w u : WorldState) → u ≡ after_all w (expiries w) → log.round w ≡ behind (λ a. a) (expiries w) (passes_from u)
 unfolding log.round
-round-passes w u v is p =
+round-on w u is =
     let t : WorldState = after_all w (expiries w) in
-    let level : measure u ≡ measure w = ap measure is ∙ expiries-along IsLevel (λ e. (x : WorldState) → IsLevel x (step x e).1) along-level expire-level w in
-    let same : log.round_passes (pass_bound w) u ≡ passes_from u = passes-same (pass_bound w) u (omega (arith, level)) in
-    way-behind w t v (expiries w) (log.round_passes (pass_bound w) t).events refl
-    (subst (λ x. IsPartWay x (log.round_passes (pass_bound w) x).events v) is (way-as u v (log.round_passes (pass_bound w) u).events (passes_from u).events (ap (λ l. l.events) same) p))
+    let level : measure t ≡ measure w = expiries-along IsLevel (λ e. (x : WorldState) → IsLevel x (step x e).1) along-level expire-level w in
+    ap (behind (λ a. a) (expiries w)) (passes-same (pass_bound w) t (omega (arith, level)) ∙ ap passes_from (sym is))
+
+pub round-passes : (w u v : WorldState) → u ≡ after_all w (expiries w) → IsPartWay u (passes_from u).events v → IsPartWay w (log.round w).events v
+round-passes w u v is p =
+    way-as w v (log.round w).events (expiries w ++ (passes_from u).events) (ap (λ l. l.events) (round-on w u is)) (way-behind w u v (expiries w) (passes_from u).events is p)
 
 -- rounds lower what is left over
 abbrev is_last : WorldState → Log log.Rounds → Bool
 is_last before r = is_last_round before r.world
 
-going : (w : WorldState) → Going w (log.round w).world
+pub going : (w : WorldState) → Going w (log.round w).world
 going w = subst (λ s. Going w s.world) (round-log w) (round_going w (round w) (round-is w))
 
 rounds-lower : Lowers is_last log.one_round HasSenders left_over
@@ -166,27 +161,31 @@ rounds_from w = log.rounds (round_bound w) w
 pub rounds-within : (w v : WorldState) → IsPartWay w (log.round w).events v → IsPartWay w (rounds_from w).events v
 rounds-within w v p = up_to-within log.rounds_both (record { rounds = 0; resets = 0 }) is_last log.one_round (round_bound w) w v (omega arith) p
 
--- after a round that wasn't the last
-pub rounds-behind : (w next v : WorldState) → HasSenders w → is_last_round w (round w).world ≡ false → next ≡ (round w).world → IsPartWay next (rounds_from next).events v → IsPartWay w (rounds_from w).events v
-rounds-behind w next v m goes is p =
-    let not_last : is_last w (log.one_round w) ≡ false = sym (ap (λ s. is_last_round w s.world) (round-log w)) ∙ goes in
-    let led : next ≡ (log.round w).world = is ∙ ap (λ s. s.world) (round-log w) in
-    let low : left_over next < left_over w = subst (λ x. left_over x < left_over w) (sym led) (rounds-lower.less w m not_last) in
+-- after a round that wasn't the last come the rounds of the world that it left
+pub rounds-on : (w next : WorldState) → HasSenders w → is_last_round w (log.round w).world ≡ false → next ≡ (log.round w).world
+    → rounds_from w ≡ behind (log.rounds_both (log.one_round w).value) (log.round w).events (rounds_from next)
+rounds-on w next m goes led =
+    let one : Log log.Rounds = log.one_round w in
     let more : suc (left_over w) ≡ round_bound w = omega arith in
-    let same : log.rounds (left_over w) next ≡ rounds_from next =
-    up_to-enough log.rounds_both (record { rounds = 0; resets = 0 }) is_last log.one_round HasSenders left_over rounds-lower (left_over w) (round_bound next) next
-    (subst HasSenders (sym led) (rounds-lower.keeps w m not_last)) low (omega arith) in
-    subst (λ k. IsPartWay w (log.rounds k w).events v) more
-    (up_to-behind log.rounds_both (record { rounds = 0; resets = 0 }) is_last log.one_round (left_over w) w next v (round-row byte_settles w).there not_last led
-    (way-as next v (log.rounds (left_over w) next).events (rounds_from next).events (ap (λ l. l.events) same) p))
+    let low = rounds-lower.less w m goes in
+    let same : log.rounds (left_over w) one.world ≡ rounds_from one.world =
+    up_to-enough log.rounds_both (record { rounds = 0; resets = 0 }) is_last log.one_round HasSenders left_over rounds-lower (left_over w) (round_bound one.world) one.world (rounds-lower.keeps w m goes) low (omega arith) in
+    ap (λ k. log.rounds k w) (sym more) ∙ up_to-on log.rounds_both (record { rounds = 0; resets = 0 }) is_last log.one_round (left_over w) w goes
+    ∙ ap (behind (log.rounds_both one.value) one.events) (same ∙ ap rounds_from (sym led))
+
+-- the last round
+pub rounds-last : (w : WorldState) → is_last_round w (log.round w).world ≡ true → rounds_from w ≡ log.one_round w
+rounds-last w last =
+    let more : suc (left_over w) ≡ round_bound w = omega arith in
+    ap (λ k. log.rounds k w) (sym more) ∙ up_to-last log.rounds_both (record { rounds = 0; resets = 0 }) is_last log.one_round (left_over w) w last
 
 -- along the clear of a settle, and along its rounds
 pub settle-clear : (w v : WorldState) → IsPartWay w (log.clear w).events v → IsPartWay w (log.settle w).events v
 unfolding log.settle
 settle-clear w v p = way-front w v (log.clear w).events (rounds_from (log.clear w).world).events p
 
-pub settle-rounds : (w u v : WorldState) → u ≡ (clear w).1 → IsPartWay u (rounds_from u).events v → IsPartWay w (log.settle w).events v
+pub settle-rounds : (w u v : WorldState) → u ≡ (log.clear w).world → IsPartWay u (rounds_from u).events v → IsPartWay w (log.settle w).events v
 unfolding log.settle
 settle-rounds w u v is p =
     way-behind w (log.clear w).world v (log.clear w).events (rounds_from (log.clear w).world).events (clear-row byte_clears w).there
-    (subst (λ x. IsPartWay x (rounds_from x).events v) (cleared-to w u is) p)
+    (subst (λ x. IsPartWay x (rounds_from x).events v) is p)

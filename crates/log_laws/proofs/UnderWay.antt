@@ -22,6 +22,10 @@ pub record UnderWay {A B : Type 0} (f : B → A) (whole : Log A) (first now : Wo
 pub under_way-none : {A : Type 0} (w : WorldState) (l : Log A) → UnderWay (λ a. a) l w w l
 under_way-none w l = record { done = []; led = refl; all = refl }
 
+-- nor anything found that is joined to the rest
+pub under_way-first : {A : Type 0} (f : A → A) → ((a : A) → a ≡ f a) → (w : WorldState) (l : Log A) → UnderWay f l w w l
+under_way-first f same w l = record { done = []; led = refl; all = λ i. record { value = same l.value i; events = l.events; world = l.world } }
+
 -- more was done, and less is left
 pub under_way-on : {A B C : Type 0} {f : B → A} {whole : Log A} {first now : WorldState} {rest : Log B} (g : C → B) (h : C → A) (next : WorldState) (es : List Event) (left : Log C)
     → UnderWay f whole first now rest → next ≡ after_all now es → rest ≡ behind g es left → ((c : C) → f (g c) ≡ h c) → UnderWay h whole first next left

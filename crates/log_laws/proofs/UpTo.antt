@@ -1,11 +1,9 @@
 -- One thing up to its last: once a bound is enough, a greater one is as good; and what is part of the way along it.
-use Rattle.std.proofs.Common.{◌≡◌, ◌<◌, ◌++◌, ℕ, zero, suc, Bool, true, false, List, refl, ap, subst, arith, if◌then◌else◌}
-use Rattle.world_defs.specs.declared.event.Event.{Event}
+use Rattle.std.proofs.Common.{◌≡◌, ◌<◌, ◌++◌, ℕ, zero, suc, Bool, true, false, refl, ap, arith, if◌then◌else◌}
 use Rattle.world_defs.specs.World.{WorldState}
-use Rattle.world_defs.specs.Step.{after_all}
 use Rattle.log_defs.specs.Log.{Log, told, and_do, up_to}
 use Rattle.log_defs.specs.Row.{IsPartWay}
-use Rattle.log_laws.proofs.PartWay.{way-front, way-behind, way-as}
+use Rattle.log_laws.proofs.PartWay.{way-front}
 
 -- one, and what follows it
 abbrev pub onto : {A : Type 0} → (A → A → A) → Log A → Log A → Log A
@@ -15,6 +13,11 @@ onto join l m = record { value = join l.value m.value; events = l.events ++ m.ev
 pub up_to-on : {A : Type 0} (join : A → A → A) (none : A) (is_last : WorldState → Log A → Bool) (one : WorldState → Log A) (k : ℕ) (w : WorldState) → is_last w (one w) ≡ false
     → up_to join none is_last one (suc k) w ≡ onto join (one w) (up_to join none is_last one k (one w).world)
 up_to-on join none is_last one k w e = ap (λ b. if b then one w else and_do (one w) (λ a v. told (join a) (up_to join none is_last one k v))) e
+
+-- the first is the last
+pub up_to-last : {A : Type 0} (join : A → A → A) (none : A) (is_last : WorldState → Log A → Bool) (one : WorldState → Log A) (k : ℕ) (w : WorldState) → is_last w (one w) ≡ true
+    → up_to join none is_last one (suc k) w ≡ one w
+up_to-last join none is_last one k w e = ap (λ b. if b then one w else and_do (one w) (λ a v. told (join a) (up_to join none is_last one k v))) e
 
 -- each that isn't the last lowers a measure, and keeps what that takes
 pub record Lowers {A : Type 0} (is_last : WorldState → Log A → Bool) (one : WorldState → Log A) (Kept : WorldState → Type 0) (measure : WorldState → ℕ) : Type 0 where
@@ -48,11 +51,3 @@ up_to-within {A = A} join none is_last one (suc k) w v some p = by (is_last w (o
     by : (b : Bool) → IsPartWay w (if b then one w else and_do (one w) (λ a v. told (join a) (up_to join none is_last one k v))).events v
     by true = p
     by false = way-front w v (one w).events (up_to join none is_last one k (one w).world).events p
-
--- after one that isn't the last
-pub up_to-behind : {A : Type 0} (join : A → A → A) (none : A) (is_last : WorldState → Log A → Bool) (one : WorldState → Log A) (k : ℕ) (w next v : WorldState) → (one w).world ≡ after_all w (one w).events → is_last w (one w) ≡ false → next ≡ (one w).world
-    → IsPartWay next (up_to join none is_last one k next).events v → IsPartWay w (up_to join none is_last one (suc k) w).events v
-up_to-behind join none is_last one k w next v led goes is p =
-    let rest : WorldState → List Event = λ x. (up_to join none is_last one k x).events in
-    way-as w v (up_to join none is_last one (suc k) w).events ((one w).events ++ rest (one w).world) (ap (λ l. l.events) (up_to-on join none is_last one k w goes))
-    (way-behind w (one w).world v (one w).events (rest (one w).world) led (subst (λ x. IsPartWay x (rest x) v) is p))

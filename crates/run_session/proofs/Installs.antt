@@ -4,11 +4,11 @@ use Rattle.std.specs.Prelude.{IfSome, IfOk}
 use Rattle.link_defs.specs.Links.{is_idle}
 use Rattle.world_defs.specs.World.{WorldState, fabric_of, adopted_by}
 use Rattle.world_defs.specs.Table.{Adoption, is_other}
-use Rattle.world_defs.specs.Install.{installed}
+use Rattle.world_defs.specs.EightBits.{IsByteEvent}
 use Rattle.log_defs.specs.Logs as log
 use Rattle.log_defs.specs.Row.{IsPartWay}
 use Rattle.log_defs.specs.Laws.{came_to}
-use Rattle.log_defs.proofs.Asks.{install-log, installed-done}
+use Rattle.log_defs.proofs.Rows.{install-row, byte_asks}
 use Rattle.run_defs.specs.declared.command.Command.TheVariants.{Install}
 use Rattle.run_defs.specs.declared.line.Line.TheVariants.{Installed, InstallRefused}
 use Rattle.run_defs.specs.declared.line.InstallCause.{InstallCause}
@@ -66,7 +66,7 @@ installed_told w mid after l tries p idle other is told = record {
     done made = of_count (session_of w made (Some l)) l.hosts (told.acked, after)
 
     counted : came_to (log.install (adoption_of l) l.hosts tries (adopted_by w l.mapper l.routes)) ≡ (told.acked, after)
-    counted = sym (install-log (adoption_of l) l.hosts tries (adopted_by w l.mapper l.routes)) ∙ ap (installed (adoption_of l) l.hosts tries) (sym is) ∙ told.counted
+    counted = ap (λ v. came_to (log.install (adoption_of l) l.hosts tries v)) (sym is) ∙ (λ i. (sym told.counted i, sym told.led i))
 
     all : (made : Option LastMap) → install (session_of w made (Some l)) tries (Some l) ≡ done made
     all made =
@@ -81,12 +81,18 @@ adopted-told w mid after l tries true (Ok p) is idle other led told = installed_
 adopted-told w mid after l tries true (Err e) is idle other led told = tt
 adopted-told w mid after l tries false r is idle other led told = cc
 
+-- what holds of the adopted routes and of these hosts holds of the last routes
+of_last : (w : WorldState) (l : LastRoutes) (P : Adoption → List ℕ → Type 0) (hosts : List ℕ) → w.adopted ≡ Some (adoption_of l) → IfSome w.adopted (λ a. P a hosts) → hosts ≡ l.hosts → P (adoption_of l) l.hosts
+of_last w l P hosts adopted is same = subst (P (adoption_of l)) same (subst (λ (o : Option Adoption). IfSome o (λ a. P a hosts)) adopted is)
+
 -- an installation that was counted is reported
-pub counted-told : (w after : WorldState) (l : LastRoutes) (tries acked total : ℕ) (hosts : List ℕ) (p : PrintedState) → w.adopted ≡ Some (adoption_of l) → IfSome w.adopted (λ a. installed a hosts tries w ≡ (acked, after)) → total ≡ length hosts → hosts ≡ l.hosts → fabric_of after ≡ fabric_of w → p ≡ printed_of (fabric_of after) (lines (Installed acked total ∷ map (table_line after) hosts)) → AreInstalledTold w l tries after p
-counted-told w after l tries acked total hosts p adopted counted all same net e = record {
+pub counted-told : (w after : WorldState) (l : LastRoutes) (tries acked total : ℕ) (hosts : List ℕ) (p : PrintedState) → w.adopted ≡ Some (adoption_of l) → IfSome w.adopted (λ a. acked ≡ (log.install a hosts tries w).value)
+    → IfSome w.adopted (λ a. after ≡ (log.install a hosts tries w).world) → total ≡ length hosts → hosts ≡ l.hosts → fabric_of after ≡ fabric_of w
+    → p ≡ printed_of (fabric_of after) (lines (Installed acked total ∷ map (table_line after) hosts)) → AreInstalledTold w l tries after p
+counted-told w after l tries acked total hosts p adopted counted led all same net e = record {
   acked = acked;
-  counted = subst (λ (hs : List ℕ). installed (adoption_of l) hs tries w ≡ (acked, after)) same
-      (subst (λ (o : Option Adoption). IfSome o (λ a. installed a hosts tries w ≡ (acked, after))) adopted counted);
+  counted = of_last w l (λ a hs. acked ≡ (log.install a hs tries w).value) hosts adopted counted same;
+  led = of_last w l (λ a hs. after ≡ (log.install a hs tries w).world) hosts adopted led same;
   printed = e
       ∙ ap (λ n. printed_of n (lines (Installed acked total ∷ map (table_line after) hosts))) net
       ∙ ap (λ (k : ℕ). printed_of (fabric_of w) (lines (Installed acked k ∷ map (table_line after) hosts))) all
@@ -106,16 +112,13 @@ installed_so w v made found tries p told =
 -- an installation of adopted routes that ran out of memory, or was made and its text ran out of it, is part of the way along its events
 pub installed-part : (w after : WorldState) (l : LastRoutes) (tries : ℕ) (hosts : List ℕ) → w.adopted ≡ Some (adoption_of l) → IfSome w.adopted (λ a. IsPartWay w (log.install a hosts tries w).events after) → hosts ≡ l.hosts
     → IsPartWay w (log.install (adoption_of l) l.hosts tries w).events after
-installed-part w after l tries hosts adopted way same =
-    subst (λ (hs : List ℕ). IsPartWay w (log.install (adoption_of l) hs tries w).events after) same
-    (subst (λ (o : Option Adoption). IfSome o (λ a. IsPartWay w (log.install a hosts tries w).events after)) adopted way)
+installed-part w after l tries hosts adopted way same = of_last w l (λ a hs. IsPartWay w (log.install a hs tries w).events after) hosts adopted way same
 
-pub installed-whole : (w after : WorldState) (l : LastRoutes) (tries acked : ℕ) (hosts : List ℕ) → w.adopted ≡ Some (adoption_of l) → IfSome w.adopted (λ a. installed a hosts tries w ≡ (acked, after)) → hosts ≡ l.hosts
+pub installed-whole : (w after : WorldState) (l : LastRoutes) (tries : ℕ) (hosts : List ℕ) → w.adopted ≡ Some (adoption_of l) → IfSome w.adopted (λ a. after ≡ (log.install a hosts tries w).world) → hosts ≡ l.hosts
     → IsPartWay w (log.install (adoption_of l) l.hosts tries w).events after
-installed-whole w after l tries acked hosts adopted counted same =
-    let is : installed (adoption_of l) hosts tries w ≡ (acked, after) = subst (λ (o : Option Adoption). IfSome o (λ a. installed a hosts tries w ≡ (acked, after))) adopted counted in
-    subst (λ (hs : List ℕ). IsPartWay w (log.install (adoption_of l) hs tries w).events after) same
-    (way-whole w after (log.install (adoption_of l) hosts tries w).events (sym (ap (λ (p : ℕ × WorldState). p.1) is) ∙ (installed-done (adoption_of l) hosts tries w).there))
+installed-whole w after l tries hosts adopted led same =
+    let there : after ≡ (log.install (adoption_of l) l.hosts tries w).world = of_last w l (λ a hs. after ≡ (log.install a hs tries w).world) hosts adopted led same in
+    way-whole w after (log.install (adoption_of l) l.hosts tries w).events (there ∙ (install-row {Q = IsByteEvent} byte_asks (λ dst part. tt) (adoption_of l) l.hosts tries w).there)
 
 -- where the last routes were adopted, and where others were
 pub adopted-cut : (w mid v : WorldState) (l : LastRoutes) (tries : ℕ) (adopted : Bool) → adopted ≡ true → is_idle w.links ≡ true → is_other l.routes w.adopted ≡ not adopted → mid ≡ (if adopted then adopted_by w l.mapper l.routes else w)

@@ -4,14 +4,14 @@ use Rattle.link_defs.specs.Links.{is_idle}
 use Rattle.map_defs.specs.Orientation.{order_of}
 use Rattle.map_defs.specs.Routing.{AreRoutesOf}
 use Rattle.world_defs.specs.World.{WorldState, fabric_of, last_count}
-use Rattle.world_defs.specs.Settle.{Rounds, settle, unacknowledged_in}
+use Rattle.world_defs.specs.Settle.{unacknowledged_in}
 use Rattle.run_defs.specs.declared.command.Command.{Command}
 use Rattle.run_defs.specs.declared.command.Command.TheVariants.{Map, Circuit, Routes, Settle}
 use Rattle.run_defs.specs.declared.line.Line.{Line}
 use Rattle.run_defs.specs.declared.line.Line.TheVariants.{Map as MapLine, MapBusy, NoMap, Settle as SettleLine}
 use Rattle.run_defs.specs.Output.{OneLine, lines}
 use Rattle.run_defs.specs.Session.{SessionState, LastMap, LastRoutes, complete_map}
-use Rattle.run_defs.specs.Outcome.{Outcome, outcome, says, says_only, routes_refused}
+use Rattle.run_defs.specs.Outcome.{outcome, says_only, routes_refused}
 use Rattle.run_defs.specs.Run.{Does, hosts_by_address, map_pieces, routes_lines}
 use Rattle.fab_report.specs.Printed.{PrintedState, printed_of}
 use Rattle.map_making.specs.declared.making.MadeMap.{MadeMap}
@@ -22,7 +22,7 @@ use Rattle.world_commands.proofs.Done.{one}
 use Rattle.run_session.specs.declared.mapping.MapOrder.{MapOrder}
 use Rattle.run_session.specs.Obeyed.{IsObeyed}
 use Rattle.run_session.specs.Told.{AreRoutesTold, IsMadeOver, map_of}
-use Rattle.log_defs.proofs.Worlds.{settle-log}
+use Rattle.log_defs.specs.Logs as log
 
 -- what was done over the world of a session
 pub done_so : (c d : Command) (w v : WorldState) (made : Option LastMap) (found : Option LastRoutes) (p : PrintedState) → IsDone d w v p → d ≡ c → IsObeyed (session_of w made found) c (session_of v made found) p
@@ -32,17 +32,12 @@ done_so c d w v made found p done same = record {
   printed = done.printed;
 }
 
--- what is printed of rounds, and the session then
-abbrev of_rounds : SessionState → Rounds → Outcome
-of_rounds s r = says s (SettleLine r.rounds (min r.resets last_count) (unacknowledged_in r.world) ∷ []) r.world
-
 -- a settle
-pub settled_so : (w v : WorldState) (p : PrintedState) → v ≡ (settle w).world
-    → p ≡ printed_of (fabric_of w) (OneLine (SettleLine (settle w).rounds (min (settle w).resets last_count) (unacknowledged_in (settle w).world)) ∷ []) → IsDone Settle w v p
+pub settled_so : (w v : WorldState) (p : PrintedState) → v ≡ (log.settle w).world
+    → p ≡ printed_of (fabric_of w) (OneLine (SettleLine (log.settle w).value.rounds (min (log.settle w).value.resets last_count) (unacknowledged_in (log.settle w).world)) ∷ []) → IsDone Settle w v p
 settled_so w v p same e =
-    let l : Line = SettleLine (settle w).rounds (min (settle w).resets last_count) (unacknowledged_in (settle w).world) in
-    one Settle l w v p
-    (λ made found. sym (ap (λ r. Some (of_rounds (session_of w made found) r)) (settle-log w)) ∙ ap (λ (u : WorldState). Some (record { output = OneLine l ∷ []; after = session_of u made found })) (sym same)) e
+    let l : Line = SettleLine (log.settle w).value.rounds (min (log.settle w).value.resets last_count) (unacknowledged_in (log.settle w).world) in
+    one Settle l w v p (λ made found. ap (λ (u : WorldState). Some (record { output = OneLine l ∷ []; after = session_of u made found })) (sym same)) e
 
 -- a command whose outcome is one line alone
 only : (s : SessionState) (c : Command) (l : Line) (p : PrintedState) → outcome s c ≡ Some (says_only s (l ∷ [])) → p ≡ printed_of (fabric_of s.world) (OneLine l ∷ []) → IsObeyed s c s p

@@ -5,7 +5,7 @@ use Rattle.journal_defs.specs.declared.entry.Entry.{Entry}
 use Rattle.map_defs.specs.Orientation.{order_of}
 use Rattle.map_defs.specs.Routing.{AreRoutesOf}
 use Rattle.world_defs.specs.World.{WorldState, fabric_of}
-use Rattle.world_defs.specs.Install.{installed}
+use Rattle.log_defs.specs.Logs as log
 use Rattle.run_defs.specs.declared.command.Command.{Command}
 use Rattle.run_defs.specs.declared.command.Command.TheVariants.{Map as MapCommand}
 use Rattle.run_defs.specs.declared.line.Line.TheVariants.{Installed}
@@ -42,7 +42,8 @@ pub record AreRoutesTold (w : WorldState) (l : LastMap) (found : Option LastRout
 pub record AreInstalledTold (w : WorldState) (l : LastRoutes) (tries : ℕ) (after : WorldState)
     (told : PrintedState) : Type 0 where
   pub acked : ℕ
-  pub counted : installed (adoption_of l) l.hosts tries w ≡ (acked, after)
+  pub counted : acked ≡ (log.install (adoption_of l) l.hosts tries w).value
+  pub led : after ≡ (log.install (adoption_of l) l.hosts tries w).world
   pub printed : told ≡ printed_of (fabric_of w)
       (lines (Installed acked (length l.hosts) ∷ map (table_line after) l.hosts))
 

@@ -115,6 +115,13 @@ unfolding log.install
 told w v u hosts tries acked None is given same all = tt
 told w v u hosts tries acked (Some a) is given same all = install-log a hosts tries w ∙ ap (λ x. came_to (log.hosts a tries hosts x)) (sym given) ∙ all a (same ∙ is)
 
+pub in-logs : (w u : WorldState) (hosts : List ℕ) (tries acked : ℕ) (o : Option Adoption) → IfSome o (λ a. installed a hosts tries w ≡ (acked, u))
+    → IfSome o (λ a. acked ≡ (log.install a hosts tries w).value) × IfSome o (λ a. u ≡ (log.install a hosts tries w).world)
+in-logs w u hosts tries acked None is = (tt, tt)
+in-logs w u hosts tries acked (Some a) is =
+    let told : (acked, u) ≡ came_to (log.install a hosts tries w) = sym is ∙ install-log a hosts tries w in
+    (ap (λ p. p.0) told, ap (λ p. p.1) told)
+
 -- hosts that are served lead on by events
 pub hosts-later : (a : Adoption) (tries : ℕ) (hosts : List ℕ) (w v : WorldState) (acked : ℕ) → came_to (log.hosts a tries hosts w) ≡ (acked, v) → IsLater w v
 hosts-later a tries hosts w v acked is =

@@ -5,7 +5,6 @@ ghost use Rattle.std.specs.List.{AllByRecursion};
 ghost use Rattle.link_defs.specs.Links.{is_idle};
 ghost use Rattle.world_defs.specs.Table.{Adoption};
 ghost use Rattle.world_defs.specs.World.{fabric_of, host_count, last_count};
-ghost use Rattle.world_defs.specs.Install.{installed};
 ghost use Rattle.log_defs.specs.Laws.{came_to};
 ghost use Rattle.log_defs.specs.Logs as log;
 ghost use Rattle.log_defs.specs.Row.{IsPartWay};
@@ -41,7 +40,9 @@ pub fn install(
 ) -> Result<Installed, AllocError>
     requires { CanInstall w.old hosts.now tries }
     ensures acked { IfOk result (λ x. IfSome w.old.adopted (λ a.
-        installed a hosts.now tries w.old ≡ (x.acked, w.new))) }
+        x.acked ≡ (log.install a hosts.now tries w.old).value)) }
+    ensures after { OnOk result (IfSome w.old.adopted (λ a.
+        w.new ≡ (log.install a hosts.now tries w.old).world)) }
     ensures of { IfOk result (λ x. x.of ≡ length hosts.now) }
     ensures cause { IfOk result (λ x. IfSome w.old.adopted (λ a. w.new.injected < last_count
         → TellsCause a hosts.now tries x.acked w.old w.new)) }

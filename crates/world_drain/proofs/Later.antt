@@ -5,7 +5,9 @@ use Rattle.world_defs.specs.declared.event.Event.{Event}
 use Rattle.world_defs.specs.World.{WorldState}
 use Rattle.world_defs.specs.Step.{step, after_all}
 use Rattle.world_laws.proofs.Reached.{after_all-append}
+use Rattle.log_defs.specs.Log.{Log}
 use Rattle.log_defs.specs.Row.{IsPartWay}
+use Rattle.log_laws.proofs.UnderWay.{UnderWay}
 use Rattle.fab_world.specs.Held.{IsLater}
 
 pub later-same : (w : WorldState) → IsLater w w
@@ -19,6 +21,9 @@ later-step w v e is = (e ∷ [], is)
 
 pub way-later : {es : List Event} (w v : WorldState) → IsPartWay w es v → IsLater w v
 way-later w v p = (p.done, p.there)
+
+pub under-later : {A B : Type 0} {f : B → A} {whole : Log A} {first now : WorldState} {rest : Log B} → UnderWay f whole first now rest → IsLater first now
+under-later u = (u.done, u.led)
 
 pub on-any : {A E : Type 0} {P : Type 0} (r : Result A E) → P → OnErr r P
 on-any (Ok a) p = tt

@@ -16,7 +16,6 @@ pub mod Quiet
 pub mod Replays
 pub mod Resets
 pub mod Risen
-pub mod RoundRows
 pub mod Running
 pub mod Sleeping
 pub mod Telling

@@ -8,12 +8,12 @@ use Rattle.world_defs.specs.declared.effect.Effect.{Effect}
 use Rattle.world_defs.specs.declared.effect.Effect.TheVariants.{Idle, Reset as WasReset}
 use Rattle.world_defs.specs.World.{WorldState}
 use Rattle.world_defs.specs.Step.{of_links, was_reset, step, steps, followed_by}
-use Rattle.world_defs.specs.Drain.{changes, resets_of, reset_count, clear}
+use Rattle.world_defs.specs.Drain.{changes, resets_of, reset_count}
 use Rattle.world_laws.proofs.Draining.{changes-push}
 use Rattle.world_laws.proofs.Clearing.{reset-changed, clear-idle}
 use Rattle.log_defs.specs.Logs as log
 use Rattle.log_defs.specs.Row.{IsPartWay}
-use Rattle.log_defs.proofs.Worlds.{drain-log}
+use Rattle.log_defs.proofs.Worlds.{clear-log}
 use Rattle.log_laws.proofs.PartWay.{way-first, way-next}
 
 -- a reset of an empty channel is idle
@@ -112,11 +112,13 @@ resetting-all first now from resets r empty =
 
 -- resets after a drain are a clear
 pub is-clear : {E : Type 0} (w u v : WorldState) (r : Result ℕ E) → u ≡ (log.drain w).world
-    → IfOk r (λ n. reset_count (steps u (resets_of u)) ≡ (n, v)) → IfOk r (λ n. clear w ≡ (n, v))
-unfolding clear
-is-clear w u v (Ok n) drained is = ap (λ x. reset_count (steps x (resets_of x))) (ap (λ r. r.1) (drain-log w) ∙ sym drained) ∙ is
-is-clear w u v (Err e) drained is = tt
+    → IfOk r (λ n. reset_count (steps u (resets_of u)) ≡ (n, v)) → IfOk r (λ n. n ≡ (log.clear w).value) × OnOk r (v ≡ (log.clear w).world)
+unfolding log.clear
+is-clear w u v (Ok n) drained is =
+    let all : (n, v) ≡ reset_count (steps (log.drain w).world (resets_of (log.drain w).world)) = sym is ∙ ap (λ x. reset_count (steps x (resets_of x))) drained in
+    (ap (λ p. p.0) all, ap (λ p. p.1) all)
+is-clear w u v (Err e) drained is = (tt, tt)
 
-pub is-idle : {E : Type 0} (w v : WorldState) (r : Result ℕ E) → IfOk r (λ n. clear w ≡ (n, v)) → OnOk r (is_idle v.links ≡ true)
-is-idle w v (Ok n) is = ap (λ p. is_idle p.1.links) (sym is) ∙ clear-idle w
+pub is-idle : {E : Type 0} (w v : WorldState) (r : Result ℕ E) → OnOk r (v ≡ (log.clear w).world) → OnOk r (is_idle v.links ≡ true)
+is-idle w v (Ok n) is = ap (λ (x : WorldState). is_idle x.links) (is ∙ sym (ap (λ p. p.1) (clear-log w))) ∙ clear-idle w
 is-idle w v (Err e) is = tt

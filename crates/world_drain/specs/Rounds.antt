@@ -1,14 +1,12 @@
 -- What is reported of the rounds of a settle.
 use Rattle.std.specs.Prelude.{◌≡◌, ℕ}
 use Rattle.world_defs.specs.World.{WorldState}
-use Rattle.world_defs.specs.Settle.{Rounds}
-use Rattle.world_laws.specs.Settling.{AllRounds}
+use Rattle.world_defs.specs.Settle.{round_bound}
+use Rattle.log_defs.specs.Logs as log
 use Rattle.world_drain.specs.Settling.{capped}
 
--- Rounds lead from one world to another, up to the last of them: so many, with so many resets.
+-- Rounds up to the last lead from one world to the other: so many, with so many resets.
 pub record AreRounds (first last : WorldState) (rounds resets : ℕ) : Type 0 where
-  pub all : Rounds
-  pub through : AllRounds first all
-  pub led : last ≡ all.world
-  pub number : rounds ≡ all.rounds
-  pub counted : resets ≡ capped all.resets
+  pub number : rounds ≡ (log.rounds (round_bound first) first).value.rounds
+  pub counted : resets ≡ capped (log.rounds (round_bound first) first).value.resets
+  pub led : last ≡ (log.rounds (round_bound first) first).world

@@ -4,7 +4,7 @@ ghost use Rattle.std.specs.Prelude.{◌≡◌, ◌≤◌, true, length, IfOk, On
 ghost use Rattle.link_defs.specs.Links.{is_idle};
 ghost use Rattle.world_defs.specs.World.{fabric_of, host_count};
 ghost use Rattle.world_defs.specs.Step.{steps};
-ghost use Rattle.world_defs.specs.Drain.{resets_of, reset_count, clear};
+ghost use Rattle.world_defs.specs.Drain.{resets_of, reset_count};
 ghost use Rattle.log_defs.specs.Logs as log;
 ghost use Rattle.log_defs.specs.Row.{IsPartWay};
 
@@ -15,9 +15,9 @@ use std::alloc::{AllocError, Global};
 
 /// Clears the links: drains them, and then resets each channel that still holds a packet, by rising number. It
 /// answers how many resets there were. Running out of memory leaves a world that a prefix of its events leads to.
-#[tactic(auto, unfolding(world_defs::specs::Drain::clear))]
 pub fn clear(alloc: Global, w: &mut World) -> Result<u64, AllocError>
-    ensures ok { IfOk result (λ resets. clear w.old ≡ (resets, w.new)) }
+    ensures resets { IfOk result (λ resets. resets ≡ (log.clear w.old).value) }
+    ensures after { OnOk result (w.new ≡ (log.clear w.old).world) }
     ensures few { IfOk result (λ resets. resets ≤ 1152) }
     ensures err { OnErr result (IsPartWay w.old (log.clear w.old).events w.new) }
     ensures idle { OnOk result (is_idle w.new.links ≡ true) }

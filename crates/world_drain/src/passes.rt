@@ -7,10 +7,10 @@ ghost use Rattle.world_defs.specs.Node.{to_send};
 ghost use Rattle.world_defs.specs.World.{host_count, node_at, addresses};
 ghost use Rattle.world_defs.specs.Step.{steps};
 ghost use Rattle.world_defs.specs.Drain.{changes};
-ghost use Rattle.world_defs.specs.Settle.{is_quiet, round_pass, pass_bound};
+ghost use Rattle.world_defs.specs.Settle.{is_quiet, pass_bound};
 ghost use Rattle.log_defs.specs.Logs as log;
 ghost use Rattle.log_defs.specs.Row.{IsPartWay};
-ghost use Rattle.world_drain.specs.Settling.{capped, ArePasses};
+ghost use Rattle.world_drain.specs.Settling.{capped};
 
 use crate::clearing::clear;
 use crate::giving_up::give_up_all;
@@ -23,7 +23,8 @@ use std::alloc::{AllocError, Global};
 /// injection and each replay was idle: how many channels were reset. That count stays at its last value once there.
 /// Running out of memory leaves a world that a prefix of their events leads to.
 pub(crate) fn passes(alloc: Global, w: &mut World) -> Result<u64, AllocError>
-    ensures ok { IfOk result (λ resets. ArePasses w.old w.new resets) }
+    ensures resets { IfOk result (λ n. n ≡ capped (log.round_passes (pass_bound w.old) w.old).value.resets) }
+    ensures after { OnOk result (w.new ≡ (log.round_passes (pass_bound w.old) w.old).world) }
     ensures err { OnErr result (IsPartWay w.old (log.round_passes (pass_bound w.old) w.old).events w.new) }
 {
     let mut resets: u64 = 0;
@@ -67,11 +68,10 @@ fn none_sends(w: &World) -> bool
 
 // In a pass every host gives up what it staged, every host injects, by rising address, and a clear follows; then each
 // packet in limbo is replayed, with a clear after it.
-#[tactic(auto, unfolding(world_defs::specs::Settle::round_pass))]
 fn pass(alloc: Global, w: &mut World) -> Result<Told, AllocError>
-    ensures moved { IfOk result (λ t. t.moved ≡ nat_lt 0 (round_pass w.old).moves) }
-    ensures resets { IfOk result (λ t. t.resets ≡ capped (round_pass w.old).resets) }
-    ensures after { OnOk result (w.new ≡ (round_pass w.old).world) }
+    ensures moved { IfOk result (λ t. t.moved ≡ nat_lt 0 (log.round_pass w.old).value.moves) }
+    ensures resets { IfOk result (λ t. t.resets ≡ capped (log.round_pass w.old).value.resets) }
+    ensures after { OnOk result (w.new ≡ (log.round_pass w.old).world) }
     ensures err { OnErr result (IsPartWay w.old (log.round_pass w.old).events w.new) }
 {
     give_up_all(alloc, w)?;

@@ -2,8 +2,7 @@
 
 ghost use Rattle.std.specs.Prelude.{◌≡◌, ◌∷◌, [], ◌||◌, ◌+◌, nat_lt, IfOk, OnOk, OnErr};
 ghost use Rattle.world_defs.specs.declared.event.Event.TheVariants.{Replay};
-ghost use Rattle.world_defs.specs.Step.{step, steps};
-ghost use Rattle.world_defs.specs.Settle.{then_clear, replay_each, serials};
+ghost use Rattle.world_defs.specs.Settle.{serials};
 ghost use Rattle.log_defs.specs.Logs as log;
 ghost use Rattle.log_defs.specs.Row.{IsPartWay};
 ghost use Rattle.world_drain.specs.Settling.{capped};
@@ -38,9 +37,9 @@ impl Told {
 /// A replay of each packet that stands in limbo now, by rising serial, with a clear after each. None comes to limbo
 /// meanwhile. Running out of memory leaves a world that a prefix of their events leads to.
 pub(crate) fn replay_all(alloc: Global, w: &mut World) -> Result<Told, AllocError>
-    ensures moved { IfOk result (λ t. t.moved ≡ nat_lt 0 (replay_each (serials w.old) w.old).moves) }
-    ensures resets { IfOk result (λ t. t.resets ≡ capped (replay_each (serials w.old) w.old).resets) }
-    ensures after { OnOk result (w.new ≡ (replay_each (serials w.old) w.old).world) }
+    ensures moved { IfOk result (λ t. t.moved ≡ nat_lt 0 (log.replays (serials w.old) w.old).value.moves) }
+    ensures resets { IfOk result (λ t. t.resets ≡ capped (log.replays (serials w.old) w.old).value.resets) }
+    ensures after { OnOk result (w.new ≡ (log.replays (serials w.old) w.old).world) }
     ensures err { OnErr result (IsPartWay w.old (log.replays (serials w.old) w.old).events w.new) }
 {
     w.moment();
@@ -59,11 +58,10 @@ pub(crate) fn replay_all(alloc: Global, w: &mut World) -> Result<Told, AllocErro
 
 // A replay of one packet in limbo, and a clear after it.
 fn replay(alloc: Global, w: &mut World, serial: u64) -> Result<Told, AllocError>
-    ensures moved { IfOk result (λ t. t.moved ≡ nat_lt 0 (then_clear (steps w.old (Replay serial ∷ []))).moves) }
-    ensures resets { IfOk result (λ t. t.resets ≡ capped (then_clear (steps w.old (Replay serial ∷ []))).resets) }
-    ensures after { OnOk result (w.new ≡ (then_clear (steps w.old (Replay serial ∷ []))).world) }
-    ensures err { OnErr result (IsPartWay w.old
-        (Replay serial ∷ (log.clear (step w.old (Replay serial)).1).events) w.new) }
+    ensures moved { IfOk result (λ t. t.moved ≡ nat_lt 0 (log.cleared (Replay serial ∷ []) w.old).value.moves) }
+    ensures resets { IfOk result (λ t. t.resets ≡ capped (log.cleared (Replay serial ∷ []) w.old).value.resets) }
+    ensures after { OnOk result (w.new ≡ (log.cleared (Replay serial ∷ []) w.old).world) }
+    ensures err { OnErr result (IsPartWay w.old (log.cleared (Replay serial ∷ []) w.old).events w.new) }
 {
     let moved = happens(alloc, w, Event::Replay(serial))?;
     let resets = clear(alloc, w)?;

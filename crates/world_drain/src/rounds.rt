@@ -6,7 +6,7 @@ ghost use Rattle.link_defs.specs.Links.{is_idle};
 ghost use Rattle.world_defs.specs.World.{fabric_of, host_count, last_count};
 ghost use Rattle.world_defs.specs.declared.event.Event.TheVariants.{Expire};
 ghost use Rattle.world_defs.specs.Step.{step, after_all};
-ghost use Rattle.world_defs.specs.Settle.{unacknowledged_in, expiries_of, expiries, round, round_bound, settle};
+ghost use Rattle.world_defs.specs.Settle.{unacknowledged_in, expiries_of, expiries, round_bound};
 ghost use Rattle.world_defs.specs.Settled.{IsSettled};
 ghost use Rattle.log_defs.specs.Logs as log;
 ghost use Rattle.log_defs.specs.Row.{IsPartWay};
@@ -39,11 +39,11 @@ pub struct Settled {
 /// then; and where it answers that nothing is unacknowledged, all that was sent is got. Running out of memory leaves a
 /// world that a prefix of its events leads to.
 pub fn settle(alloc: Global, w: &mut World) -> Result<Settled, AllocError>
-    ensures after { OnOk result (w.new ≡ (settle w.old).world) }
-    ensures rounds { IfOk result (λ s. s.rounds ≡ (settle w.old).rounds) }
+    ensures after { OnOk result (w.new ≡ (log.settle w.old).world) }
+    ensures rounds { IfOk result (λ s. s.rounds ≡ (log.settle w.old).value.rounds) }
     ensures few_rounds { IfOk result (λ s. (1 ≤ s.rounds)
         × (s.rounds ≤ unacknowledged_in w.old + length w.old.plan + 1)) }
-    ensures resets { IfOk result (λ s. s.resets ≡ min (settle w.old).resets last_count) }
+    ensures resets { IfOk result (λ s. s.resets ≡ min (log.settle w.old).value.resets last_count) }
     ensures lawful { IfOk result (λ s. ClearsBeginLawful w.old (log.settle w.old).events → s.resets ≡ 0) }
     ensures unacked { IfOk result (λ s. s.unacked ≡ unacknowledged_in w.new) }
     ensures settled { OnOk result (w.new.injected < last_count → IsSettled w.new) }
@@ -126,8 +126,8 @@ fn is_last(before: Progress, now: Progress) -> bool
 
 // A round: an expiry for each pair with something unacknowledged, and then passes. How many channels were reset.
 fn round(alloc: Global, w: &mut World) -> Result<u64, AllocError>
-    ensures resets { IfOk result (λ resets. resets ≡ capped (round w.old).resets) }
-    ensures after { OnOk result (w.new ≡ (round w.old).world) }
+    ensures resets { IfOk result (λ resets. resets ≡ capped (log.round w.old).value.resets) }
+    ensures after { OnOk result (w.new ≡ (log.round w.old).world) }
     ensures err { OnErr result (IsPartWay w.old (log.round w.old).events w.new) }
 {
     expire_all(alloc, w)?;

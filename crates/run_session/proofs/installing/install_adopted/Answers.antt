@@ -39,7 +39,7 @@ returns-clause-told c =
     if-ok c.print_tables.result
     (λ p. p ≡ printed_of (fabric_of after) (lines (Installed x.acked x.of ∷ map (table_line after) c.deref-2.result.now)))
     (λ p. AreInstalledTold w c.args.l.now c.args.tries after p)
-    (λ p e. counted-told w after c.args.l.now c.args.tries x.acked x.of c.deref.result.now p c.requires.adopted c.in_ok-installed.ensures.acked c.in_ok-installed.ensures.of
+    (λ p e. counted-told w after c.args.l.now c.args.tries x.acked x.of c.deref.result.now p c.requires.adopted c.in_ok-installed.ensures.acked c.in_ok-installed.ensures.after c.in_ok-installed.ensures.of
     (c.deref.ensures.value ∙ hosts) c.in_ok-installed.ensures.fabric
     (subst (λ (hs : List ℕ). p ≡ printed_of (fabric_of after) (lines (Installed x.acked x.of ∷ map (table_line after) hs))) (sym one) e))
     c.print_tables.ensures
@@ -54,4 +54,4 @@ pub returns-clause-err : goal.returns-clause-err
 returns-clause-err c =
     let hosts : c.l.inside.hosts.items ≡ c.args.l.now.hosts = cc in
     on-any c.print_tables.result
-    (installed-whole c.args.w.now c.install.new.w c.args.l.now c.args.tries c.in_ok-installed.installed.acked c.deref.result.now c.requires.adopted c.in_ok-installed.ensures.acked (c.deref.ensures.value ∙ hosts))
+    (installed-whole c.args.w.now c.install.new.w c.args.l.now c.args.tries c.deref.result.now c.requires.adopted c.in_ok-installed.ensures.after (c.deref.ensures.value ∙ hosts))

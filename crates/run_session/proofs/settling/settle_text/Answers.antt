@@ -1,6 +1,6 @@
 use Rattle.std.proofs.Common.{◌∙◌}
 use Rattle.log_defs.specs.Logs as log
-use Rattle.log_defs.proofs.Worlds.{settle-done}
+use Rattle.log_defs.proofs.Rows.{settle-row, byte_settles}
 use Rattle.promise_laws.proofs.CutShort.{way-whole}
 use Rattle.world_drain.proofs.Later.{on-any}
 use Rattle.run_session.proofs.settling.settle_text.Goals as goal
@@ -10,4 +10,4 @@ returns-in_err-settled-clause-err c = on-any c.from_residual.result c.in_err-set
 
 pub returns-clause-err : goal.returns-clause-err
 returns-clause-err c =
-    on-any c.of_line.result (way-whole c.args.w.now c.settle.new.w (log.settle c.args.w.now).events (c.in_ok-settled.ensures.after ∙ (settle-done c.args.w.now).there))
+    on-any c.of_line.result (way-whole c.args.w.now c.settle.new.w (log.settle c.args.w.now).events (c.in_ok-settled.ensures.after ∙ (settle-row byte_settles c.args.w.now).there))

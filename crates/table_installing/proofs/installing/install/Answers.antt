@@ -1,14 +1,15 @@
 use Rattle.std.proofs.Common.{◌≡◌, ap, sym, ◌∙◌, subst, refl, ℕ, None, arith}
-use Rattle.std.specs.Prelude.{Some, option_map}
+use Rattle.std.specs.Prelude.{Some, IfSome, option_map}
 use Rattle.world_defs.specs.Table.{Adoption}
 use Rattle.world_defs.specs.World.{WorldState, host_count}
+use Rattle.world_defs.specs.Install.{installed}
 use Rattle.log_defs.specs.Laws.{came_to}
 use Rattle.log_defs.specs.Logs as log
 use Rattle.log_laws.proofs.Installs.{install-given_up, install-hosts}
 use Rattle.fab_world.specs.Held.{IsLater}
 use Rattle.fab_world.proofs.Moments.{later-adopted, later-channels, set-stays}
 use Rattle.table_installing.proofs.Causes.{idle-behind, tells}
-use Rattle.table_installing.proofs.InstallHosts.{few-hosts, fewer-hosts, adopter-there, told, cut-of, hosts-later, adopted-later}
+use Rattle.table_installing.proofs.InstallHosts.{few-hosts, fewer-hosts, adopter-there, told, in-logs, cut-of, hosts-later, adopted-later}
 use Rattle.world_drain.proofs.Later.{later-both, way-later, on-any}
 use Rattle.world_drain.proofs.GivingUp.{given_up-later}
 use Rattle.table_installing.proofs.installing.install.Goals as goal
@@ -91,22 +92,29 @@ served c a e =
     none≢some : (m : ℕ) → None ≡ Some m → ⊥
     none≢some m f = cc
 
-pub returns-clause-acked : goal.returns-clause-acked
-returns-clause-acked c =
+-- in the words of worlds
+counted : (c : goal.Joined-adopter) → IfSome c.args.w.now.adopted (λ a. installed a c.args.hosts.now c.args.tries c.args.w.now ≡ (c.match-adopter.acked, c.match-adopter.w))
+counted c =
     let w : WorldState = c.args.w.now in
     let v : WorldState = c.give_up_all.new.w in
     told w v c.match-adopter.w c.args.hosts.now c.args.tries c.match-adopter.acked w.adopted refl c.in_ok-give_up_all.ensures.after
     (later-adopted w v (given_up-later w v c.in_ok-give_up_all.ensures.after)) (served c)
 
+pub returns-clause-acked : goal.returns-clause-acked
+returns-clause-acked c = (in-logs c.args.w.now c.match-adopter.w c.args.hosts.now c.args.tries c.match-adopter.acked c.args.w.now.adopted (counted c)).0
+
+pub returns-clause-after : goal.returns-clause-after
+returns-clause-after c = (in-logs c.args.w.now c.match-adopter.w c.args.hosts.now c.args.tries c.match-adopter.acked c.args.w.now.adopted (counted c)).1
+
 pub returns-clause-cause : goal.returns-clause-cause
 returns-clause-cause c =
     let w : WorldState = c.args.w.now in
-    tells (host_count w) w c.match-adopter.w c.args.hosts.now c.args.tries c.match-adopter.acked w.adopted refl c.reached.ensures c.moment.ensures.kept.adopted c.requires.idle c.requires.named c.requires.some (returns-clause-acked c)
+    tells (host_count w) w c.match-adopter.w c.args.hosts.now c.args.tries c.match-adopter.acked w.adopted refl c.reached.ensures c.moment.ensures.kept.adopted c.requires.idle c.requires.named c.requires.some (counted c)
 
 pub returns-clause-idle : goal.returns-clause-idle
 returns-clause-idle c =
     let w : WorldState = c.args.w.now in
-    idle-behind (host_count w) w c.match-adopter.w c.args.hosts.now c.args.tries c.match-adopter.acked w.adopted refl c.reached.ensures c.moment.ensures.kept.adopted c.requires.idle c.requires.adopted c.requires.named (returns-clause-acked c)
+    idle-behind (host_count w) w c.match-adopter.w c.args.hosts.now c.args.tries c.match-adopter.acked w.adopted refl c.reached.ensures c.moment.ensures.kept.adopted c.requires.idle c.requires.adopted c.requires.named (counted c)
 
 pub returns-clause-channels : goal.returns-clause-channels
 returns-clause-channels c = later-channels c.args.w.now c.match-adopter.w c.moment.ensures.kept (done c)

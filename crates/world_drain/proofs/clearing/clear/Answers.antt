@@ -28,14 +28,17 @@ done c =
     later-both c.args.w.now c.drain.new.w c.reset_full.new.w (drain-later c.args.w.now c.drain.new.w c.in_ok-drain.ensures.after)
     (resets-later c.drain.new.w c.reset_full.new.w c.reset_full.result c.reset_full.ensures.ok c.reset_full.ensures.err)
 
-pub returns-clause-ok : goal.returns-clause-ok
-returns-clause-ok c = is-clear c.args.w.now c.drain.new.w c.reset_full.new.w c.reset_full.result c.in_ok-drain.ensures.after c.reset_full.ensures.ok
+pub returns-clause-resets : goal.returns-clause-resets
+returns-clause-resets c = (is-clear c.args.w.now c.drain.new.w c.reset_full.new.w c.reset_full.result c.in_ok-drain.ensures.after c.reset_full.ensures.ok).0
+
+pub returns-clause-after : goal.returns-clause-after
+returns-clause-after c = (is-clear c.args.w.now c.drain.new.w c.reset_full.new.w c.reset_full.result c.in_ok-drain.ensures.after c.reset_full.ensures.ok).1
 
 pub returns-clause-err : goal.returns-clause-err
 returns-clause-err c = on-err c.reset_full.result (clear-behind c.args.w.now c.drain.new.w c.reset_full.new.w c.in_ok-drain.ensures.after) c.reset_full.ensures.err
 
 pub returns-clause-idle : goal.returns-clause-idle
-returns-clause-idle c = is-idle c.args.w.now c.reset_full.new.w c.reset_full.result (returns-clause-ok c)
+returns-clause-idle c = is-idle c.args.w.now c.reset_full.new.w c.reset_full.result (returns-clause-after c)
 
 pub returns-clause-fabric : goal.returns-clause-fabric
 returns-clause-fabric c = later-fabric c.args.w.now c.reset_full.new.w (done c)

@@ -1,4 +1,4 @@
-use Rattle.std.proofs.Common.{◌≡◌, map, sym, ◌∙◌, ap, subst}
+use Rattle.std.proofs.Common.{◌≡◌, map, ◌∙◌, ap, subst}
 use Rattle.std.specs.List.{range_with_len}
 use Rattle.world_defs.specs.declared.event.Event.TheVariants.{Inject}
 use Rattle.world_defs.specs.World.{WorldState}
@@ -30,13 +30,13 @@ returns-in_err-replayed-clause-err c =
     let w : WorldState = c.args.w.now in
     let u : WorldState = c.inject_all.new.w in
     let here : u ≡ after_injections w = c.in_ok-moved.ensures.after ∙ ap (λ p. p.1) (injects-there w c.give_up_all.new.w c.in_ok-give_up_all.ensures.after c.in_ok-give_up_all.ensures.hosts) in
-    on-any c.from_residual-in_err-replayed.result (pass-replays w u c.clear.new.w c.replay_all.new.w here (sym (ap (λ p. p.1) c.in_ok-resets.ensures.ok)) c.in_err-replayed.ensures.err)
+    on-any c.from_residual-in_err-replayed.result (pass-replays w u c.clear.new.w c.replay_all.new.w here c.in_ok-resets.ensures.after c.in_err-replayed.ensures.err)
 
 told : (c : goal.After-then) → IsPass c.args.w.now c.replay_all.new.w c.then.result.moved c.then.result.resets
 told c =
     pass-told c.args.w.now c.give_up_all.new.w c.inject_all.new.w c.clear.new.w c.replay_all.new.w c.in_ok-moved.moved c.in_ok-replayed.replayed.moved c.then.result.moved
     c.in_ok-resets.resets c.in_ok-replayed.replayed.resets c.then.result.resets c.in_ok-give_up_all.ensures.after c.in_ok-give_up_all.ensures.hosts
-    c.in_ok-moved.ensures.moved c.in_ok-moved.ensures.after c.in_ok-resets.ensures.ok c.in_ok-resets.ensures.few
+    c.in_ok-moved.ensures.moved c.in_ok-moved.ensures.after c.in_ok-resets.ensures.resets c.in_ok-resets.ensures.after c.in_ok-resets.ensures.few
     c.in_ok-replayed.ensures.moved c.in_ok-replayed.ensures.resets c.in_ok-replayed.ensures.after c.then.ensures.moved c.then.ensures.resets
 
 pub returns-clause-moved : goal.returns-clause-moved

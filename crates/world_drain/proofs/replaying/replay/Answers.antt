@@ -22,7 +22,7 @@ returns-clause-moved c = replay-moved c.args.w.now c.args.serial c.in_ok-moved.m
 
 pub returns-clause-resets : goal.returns-clause-resets
 returns-clause-resets c =
-    replay-resets c.args.w.now c.happens.new.w c.clear.new.w c.args.serial c.in_ok-resets.resets c.in_ok-moved.ensures.after c.in_ok-resets.ensures.ok c.in_ok-resets.ensures.few
+    replay-resets c.args.w.now c.happens.new.w c.args.serial c.in_ok-resets.resets c.in_ok-moved.ensures.after c.in_ok-resets.ensures.resets c.in_ok-resets.ensures.few
 
 pub returns-clause-after : goal.returns-clause-after
-returns-clause-after c = replay-world c.args.w.now c.happens.new.w c.clear.new.w c.args.serial c.in_ok-resets.resets c.in_ok-moved.ensures.after c.in_ok-resets.ensures.ok
+returns-clause-after c = replay-world c.args.w.now c.happens.new.w c.clear.new.w c.args.serial c.in_ok-moved.ensures.after c.in_ok-resets.ensures.after

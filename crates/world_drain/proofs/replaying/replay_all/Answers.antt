@@ -1,5 +1,5 @@
 use Rattle.std.proofs.Common.{sym, arith}
-use Rattle.world_drain.proofs.Later.{on-any}
+use Rattle.world_drain.proofs.Later.{on-any, under-later}
 use Rattle.world_drain.proofs.Replays.{replaying-none, replaying-on, replaying-cut, replaying-all, serial-few, serial-above}
 use Rattle.world_drain.proofs.replaying.replay_all.Goals as goal
 
@@ -13,13 +13,13 @@ returns-in_err-one-clause-err c =
 
 pub overflow_add-from : goal.overflow_add-from
 overflow_add-from c =
-    let few = serial-few c.args.w.now c.replays.w c.replays.from c.in-Some.serial c.moment.ensures.kept c.replays.invariant.later (sym c.in-Some.ensures) in
+    let few = serial-few c.args.w.now c.replays.w c.replays.from c.in-Some.serial c.moment.ensures.kept (under-later c.replays.invariant.under) (sym c.in-Some.ensures) in
     omega (arith, few)
 
 pub replays-smaller : goal.replays-smaller
 replays-smaller c =
-    let few = serial-few c.args.w.now c.replays.w c.replays.from c.in-Some.serial c.moment.ensures.kept c.replays.invariant.later (sym c.in-Some.ensures) in
-    let above = serial-above c.args.w.now c.replays.w c.replays.from c.in-Some.serial c.moment.ensures.kept c.replays.invariant.later (sym c.in-Some.ensures) in
+    let few = serial-few c.args.w.now c.replays.w c.replays.from c.in-Some.serial c.moment.ensures.kept (under-later c.replays.invariant.under) (sym c.in-Some.ensures) in
+    let above = serial-above c.args.w.now c.replays.w c.replays.from c.in-Some.serial c.moment.ensures.kept (under-later c.replays.invariant.under) (sym c.in-Some.ensures) in
     omega (arith, few, above)
 
 pub replays-preserved : goal.replays-preserved

@@ -1,4 +1,5 @@
 use Rattle.log_laws.proofs.Settles.{rounds-within}
+use Rattle.log_laws.proofs.UnderWay.{under_way-cut}
 use Rattle.world_drain.proofs.Later.{on-any}
 use Rattle.world_drain.proofs.WholeRound.{IsOneRound, settling-none, settling-on, settling-end, round-smaller, rounds-few}
 use Rattle.std.proofs.Common.{arith}
@@ -8,7 +9,7 @@ pub settling-init : goal.settling-init
 settling-init c = settling-none c.args.w.now c.progress_of-before.result.unacked c.progress_of-before.result.struck c.progress_of-before.ensures.unacked c.progress_of-before.ensures.struck
 
 pub returns-in_err-once-clause-err : goal.returns-in_err-once-clause-err
-returns-in_err-once-clause-err c = on-any c.from_residual.result (c.settling.invariant.way c.round.new.w (rounds-within c.settling.w c.round.new.w c.in_err-once.ensures.err))
+returns-in_err-once-clause-err c = on-any c.from_residual.result (under_way-cut c.round.new.w c.settling.invariant.under (rounds-within c.settling.w c.round.new.w c.in_err-once.ensures.err))
 
 pub overflow_add-rounds : goal.overflow_add-rounds
 overflow_add-rounds c =

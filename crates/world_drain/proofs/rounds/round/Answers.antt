@@ -1,13 +1,19 @@
-use Rattle.log_laws.proofs.Settles.{round-expiries, round-passes}
+use Rattle.std.proofs.Common.{◌≡◌, sym, subst}
+use Rattle.std.specs.Prelude.{IfOk, OnOk}
+use Rattle.log_defs.specs.Log.{Log}
+use Rattle.log_defs.specs.Logs as log
+use Rattle.log_laws.proofs.Settles.{round-expiries, round-on, round-passes}
+use Rattle.world_drain.specs.Settling.{capped}
 use Rattle.world_drain.proofs.Later.{on-any, on-err}
-use Rattle.world_drain.proofs.WholeRound.{resets-told, world-told}
 use Rattle.world_drain.proofs.rounds.round.Goals as goal
 
 pub returns-clause-resets : goal.returns-clause-resets
-returns-clause-resets c = resets-told c.args.w.now c.expire_all.new.w c.passes.new.w c.passes.result c.in_ok-expire_all.ensures.after c.passes.ensures.ok
+returns-clause-resets c =
+    subst (λ (l : Log log.Moved). IfOk c.passes.result (λ n. n ≡ capped l.value.resets)) (sym (round-on c.args.w.now c.expire_all.new.w c.in_ok-expire_all.ensures.after)) c.passes.ensures.resets
 
 pub returns-clause-after : goal.returns-clause-after
-returns-clause-after c = world-told c.args.w.now c.expire_all.new.w c.passes.new.w c.passes.result c.in_ok-expire_all.ensures.after c.passes.ensures.ok
+returns-clause-after c =
+    subst (λ (l : Log log.Moved). OnOk c.passes.result (c.passes.new.w ≡ l.world)) (sym (round-on c.args.w.now c.expire_all.new.w c.in_ok-expire_all.ensures.after)) c.passes.ensures.after
 
 pub returns-clause-err : goal.returns-clause-err
 returns-clause-err c =

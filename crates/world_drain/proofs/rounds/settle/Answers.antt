@@ -2,30 +2,33 @@ use Rattle.std.proofs.Common.{◌≡◌, ◌≤◌, ◌+◌, ℕ, length, min, a
 use Rattle.world_defs.specs.World.{WorldState, fabric_of, last_count}
 use Rattle.world_defs.specs.Settle.{unacknowledged_in, settle}
 use Rattle.world_laws.proofs.Rounds.{settle-settles, settles-bounded}
-use Rattle.log_defs.proofs.Worlds.{settle-log}
 use Rattle.lawful_laws.proofs.Settling.{settle-flows}
 use Rattle.message_laws.specs.Got.{IsAllGot}
 use Rattle.message_laws.proofs.Reaching.{settle-got}
+use Rattle.log_defs.specs.Logs as log
+use Rattle.log_defs.specs.Row.{IsPartWay}
+use Rattle.log_defs.proofs.Rows.{settle-row, byte_settles}
+use Rattle.log_defs.proofs.Worlds.{settle-log}
 use Rattle.log_laws.proofs.Settles.{settle-clear, settle-rounds}
 use Rattle.fab_world.specs.Held.{IsLater}
 use Rattle.fab_world.proofs.Moments.{later-fabric, later-hosts, later-channels, later-adopted}
 use Rattle.world_drain.proofs.Back.{ends-settled}
-use Rattle.world_drain.proofs.EventRows.{clear-later}
-use Rattle.world_drain.proofs.Later.{later-both, way-later, on-any}
-use Rattle.world_drain.proofs.RoundRows.{rounds-later}
-use Rattle.world_drain.proofs.WholeRound.{IsSettled, settled-is}
+use Rattle.world_drain.proofs.Later.{way-later, on-any}
+use Rattle.world_drain.proofs.WholeRound.{IsSettled, settled-is, settled-idle}
 use Rattle.world_drain.proofs.rounds.settle.Goals as goal
 
 -- where memory ran out among the rounds
+cut_way : (c : goal.After-from_residual-in_err-rest) → IsPartWay c.args.w.now (log.settle c.args.w.now).events c.all_rounds.new.w
+cut_way c = settle-rounds c.args.w.now c.clear.new.w c.all_rounds.new.w c.in_ok-first.ensures.after c.in_err-rest.ensures.err
+
 cut : (c : goal.After-from_residual-in_err-rest) → IsLater c.args.w.now c.all_rounds.new.w
-cut c = later-both c.args.w.now c.clear.new.w c.all_rounds.new.w (clear-later c.args.w.now c.clear.new.w c.in_ok-first.first c.in_ok-first.ensures.ok) (way-later c.clear.new.w c.all_rounds.new.w c.in_err-rest.ensures.err)
+cut c = way-later c.args.w.now c.all_rounds.new.w (cut_way c)
 
 pub returns-in_err-first-clause-err : goal.returns-in_err-first-clause-err
 returns-in_err-first-clause-err c = on-any c.from_residual.result (settle-clear c.args.w.now c.clear.new.w c.in_err-first.ensures.err)
 
 pub returns-in_err-rest-clause-err : goal.returns-in_err-rest-clause-err
-returns-in_err-rest-clause-err c =
-    on-any c.from_residual-in_err-rest.result (settle-rounds c.args.w.now c.clear.new.w c.all_rounds.new.w (sym (ap (λ p. p.1) c.in_ok-first.ensures.ok)) c.in_err-rest.ensures.err)
+returns-in_err-rest-clause-err c = on-any c.from_residual-in_err-rest.result (cut_way c)
 
 pub returns-in_err-rest-clause-fabric : goal.returns-in_err-rest-clause-fabric
 returns-in_err-rest-clause-fabric c = later-fabric c.args.w.now c.all_rounds.new.w (cut c)
@@ -39,17 +42,19 @@ returns-in_err-rest-clause-channels c = later-channels c.args.w.now c.all_rounds
 pub returns-in_err-rest-clause-adopted : goal.returns-in_err-rest-clause-adopted
 returns-in_err-rest-clause-adopted c = later-adopted c.args.w.now c.all_rounds.new.w (cut c)
 
--- what was done leads on from where it began
-done : (c : goal.After-saturating_add) → IsLater c.args.w.now c.all_rounds.new.w
-done c =
-    later-both c.args.w.now c.clear.new.w c.all_rounds.new.w (clear-later c.args.w.now c.clear.new.w c.in_ok-first.first c.in_ok-first.ensures.ok)
-    (rounds-later c.clear.new.w c.all_rounds.new.w c.in_ok-rest.rest.rounds c.in_ok-rest.rest.resets c.in_ok-rest.ensures.ok)
-
--- and is a settle
+-- what was done is a settle
 settled : (c : goal.After-saturating_add) → IsSettled c.args.w.now c.all_rounds.new.w c.in_ok-rest.rest.rounds c.saturating_add.result
 settled c =
     settled-is c.args.w.now c.clear.new.w c.all_rounds.new.w c.in_ok-rest.rest.rounds c.in_ok-first.first c.in_ok-rest.rest.resets c.saturating_add.result
-    c.moment.ensures.kept c.in_ok-first.ensures.ok c.in_ok-first.ensures.few c.in_ok-rest.ensures.ok c.saturating_add.ensures
+    c.in_ok-first.ensures.resets c.in_ok-first.ensures.after c.in_ok-first.ensures.few c.in_ok-rest.ensures.ok c.saturating_add.ensures
+
+-- in the words of worlds
+led : (c : goal.After-saturating_add) → c.all_rounds.new.w ≡ (settle c.args.w.now).world
+led c = (settled c).after ∙ sym (ap (λ r. r.world) (settle-log c.args.w.now))
+
+-- and leads on from where it began
+done : (c : goal.After-saturating_add) → IsLater c.args.w.now c.all_rounds.new.w
+done c = ((log.settle c.args.w.now).events, (settled c).after ∙ (settle-row byte_settles c.args.w.now).there)
 
 pub returns-clause-after : goal.returns-clause-after
 returns-clause-after c = (settled c).after
@@ -62,7 +67,7 @@ pub returns-clause-few_rounds : goal.returns-clause-few_rounds
 returns-clause-few_rounds c =
     let w : WorldState = c.args.w.now in
     let senders = c.moment.ensures.kept.senders in
-    subst (λ k. (1 ≤ k) × (k ≤ unacknowledged_in w + length w.plan + 1)) (sym (settled c).number) (settles-bounded w (settle w) senders (settle-settles w senders))
+    subst (λ k. (1 ≤ k) × (k ≤ unacknowledged_in w + length w.plan + 1)) (ap (λ r. r.rounds) (settle-log w) ∙ sym (settled c).number) (settles-bounded w (settle w) senders (settle-settles w senders))
 
 pub returns-clause-resets : goal.returns-clause-resets
 returns-clause-resets c = (settled c).counted
@@ -74,21 +79,21 @@ none-counted k most e = omega (arith, e)
 pub returns-clause-lawful : goal.returns-clause-lawful
 returns-clause-lawful c clears =
     let w : WorldState = c.args.w.now in
-    (settled c).counted ∙ none-counted (settle w).resets last_count (ap (λ r. r.resets) (settle-log w) ∙ settle-flows (fabric_of w) w c.reached.ensures clears)
+    (settled c).counted ∙ none-counted (log.settle w).value.resets last_count (settle-flows (fabric_of w) w c.reached.ensures clears)
 
 -- so it ends settled, and where nothing is unacknowledged all is got
 pub returns-clause-settled : goal.returns-clause-settled
 returns-clause-settled c =
-    ends-settled c.args.w.now c.all_rounds.new.w c.moment.ensures.kept c.reached.ensures (settled c).after
+    ends-settled c.args.w.now c.all_rounds.new.w c.moment.ensures.kept c.reached.ensures (led c)
 
 pub returns-clause-got : goal.returns-clause-got
 returns-clause-got c none =
     let w : WorldState = c.args.w.now in
-    let after = (settled c).after in
+    let after = led c in
     subst IsAllGot (sym after) (settle-got (fabric_of w) w c.reached.ensures (ap unacknowledged_in (sym after) ∙ (sym c.in_ok-rest.ensures.unacked ∙ none)))
 
 pub returns-clause-idle : goal.returns-clause-idle
-returns-clause-idle c = (settled c).idle
+returns-clause-idle c = settled-idle c.args.w.now c.all_rounds.new.w c.moment.ensures.kept (led c)
 
 pub returns-clause-fabric : goal.returns-clause-fabric
 returns-clause-fabric c = later-fabric c.args.w.now c.all_rounds.new.w (done c)
