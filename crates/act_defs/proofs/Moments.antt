@@ -16,10 +16,7 @@ use Rattle.world_defs.specs.Hearing.{hear}
 use Rattle.world_defs.specs.Client.{begun, closed, provided_by, sent_by, polled_by}
 use Rattle.world_defs.specs.World.{new_world, node_at, client_at}
 use Rattle.world_defs.specs.Step.{lost, was_reset, repeated, held, flipped, replayed, asked, part_staged, planned_strikes, sent_out, injected, advanced, expired, gave_up}
-use Rattle.world_defs.specs.Drain.{pass, drain, clear}
-use Rattle.world_defs.specs.Settle.{round_pass, round, settle}
-use Rattle.world_defs.specs.Asking.{sends, host_try, loop_try, ask}
-use Rattle.world_defs.specs.Install.{part_try, installed}
+use Rattle.world_defs.specs.Logs.{drain, clear, round_pass, round, settle, sends, host_try, loop_try, ask, part_try, install}
 use Rattle.world_defs.specs.Traffic.{sent_on, got_on}
 use Rattle.world_defs.specs.Sound.{IsSound, IsPrefix, AreOwned, installed_channels}
 use Rattle.world_defs.proofs.Moments.{rank, rises, both_ways, all-at, same-at, unowned, front_of_none}
@@ -52,16 +49,16 @@ pub delivering_may_happen : MayActAll (new_world two_hosts) delivering
 delivering_may_happen = ((omega arith, tt), ((adoptable, tt), (tt, (tt, (tt, (tt, (tt, (tt, (tt, (tt, (tt, (tt, tt))))))))))))
 
 pub delivered_got : got_on delivered_world (connection 0 1 0) ≡ message (codes "ABC") ∷ []
-unfolding sends host_try loop_try ask begun closed provided_by sent_by polled_by pass drain clear hear part_try installed to_send packet_for after_sending round_pass round settle lost was_reset repeated held flipped replayed asked part_staged planned_strikes sent_out injected advanced expired gave_up applied
+unfolding sends host_try loop_try ask begun closed provided_by sent_by polled_by drain clear hear part_try install to_send packet_for after_sending round_pass round settle lost was_reset repeated held flipped replayed asked part_staged planned_strikes sent_out injected advanced expired gave_up applied
 delivered_got = refl
 
 delivered_sent : sent_on delivered_world (connection 0 1 0) ≡ message (codes "ABC") ∷ []
-unfolding sends host_try loop_try ask begun closed provided_by sent_by polled_by pass drain clear hear part_try installed to_send packet_for after_sending round_pass round settle lost was_reset repeated held flipped replayed asked part_staged planned_strikes sent_out injected advanced expired gave_up applied
+unfolding sends host_try loop_try ask begun closed provided_by sent_by polled_by drain clear hear part_try install to_send packet_for after_sending round_pass round settle lost was_reset repeated held flipped replayed asked part_staged planned_strikes sent_out injected advanced expired gave_up applied
 delivered_sent = refl
 
 -- nothing else came
 delivered_others : (lane : ℕ) → (lane ≡ 0 → ⊥) → (lane_at (node_at delivered_world 1) lane).got ≡ []
-unfolding sends host_try loop_try ask begun closed provided_by sent_by polled_by pass drain clear hear part_try installed to_send packet_for after_sending round_pass round settle lost was_reset repeated held flipped replayed asked part_staged planned_strikes sent_out injected advanced expired gave_up applied
+unfolding sends host_try loop_try ask begun closed provided_by sent_by polled_by drain clear hear part_try install to_send packet_for after_sending round_pass round settle lost was_reset repeated held flipped replayed asked part_staged planned_strikes sent_out injected advanced expired gave_up applied
 delivered_others zero other = absurd (other refl)
 delivered_others (suc zero) other = refl
 delivered_others (suc (suc zero)) other = refl
@@ -69,11 +66,11 @@ delivered_others (suc (suc (suc zero))) other = refl
 delivered_others (suc (suc (suc (suc lane)))) other = refl
 
 delivered_none : AllByRecursion (λ (l : LaneState). l.got ≡ []) (node_at delivered_world 0).lanes
-unfolding sends host_try loop_try ask begun closed provided_by sent_by polled_by pass drain clear hear part_try installed to_send packet_for after_sending round_pass round settle lost was_reset repeated held flipped replayed asked part_staged planned_strikes sent_out injected advanced expired gave_up applied
+unfolding sends host_try loop_try ask begun closed provided_by sent_by polled_by drain clear hear part_try install to_send packet_for after_sending round_pass round settle lost was_reset repeated held flipped replayed asked part_staged planned_strikes sent_out injected advanced expired gave_up applied
 delivered_none = (refl, (refl, (refl, (refl, tt))))
 
 delivered_past : (h : ℕ) → (node_at delivered_world (suc (suc h))).lanes ≡ []
-unfolding sends host_try loop_try ask begun closed provided_by sent_by polled_by pass drain clear hear part_try installed to_send packet_for after_sending round_pass round settle lost was_reset repeated held flipped replayed asked part_staged planned_strikes sent_out injected advanced expired gave_up applied
+unfolding sends host_try loop_try ask begun closed provided_by sent_by polled_by drain clear hear part_try install to_send packet_for after_sending round_pass round settle lost was_reset repeated held flipped replayed asked part_staged planned_strikes sent_out injected advanced expired gave_up applied
 delivered_past h = refl
 
 same_front : (got sent ms : List Message) → got ≡ ms → sent ≡ ms → IsPrefix got sent
@@ -90,7 +87,7 @@ delivered_front c = by c.src c.dst c.prio
     by a (suc (suc b)) prio = front_of_none _ _ (ap (λ ls. (get_or ls (lane_of a prio) new_lane).got) (delivered_past b))
 
 delivered_owned : (h port : ℕ) → AreOwned (port_at (node_at delivered_world h) port) (client_at delivered_world h port)
-unfolding sends host_try loop_try ask begun closed provided_by sent_by polled_by pass drain clear hear part_try installed to_send packet_for after_sending round_pass round settle lost was_reset repeated held flipped replayed asked part_staged planned_strikes sent_out injected advanced expired gave_up applied
+unfolding sends host_try loop_try ask begun closed provided_by sent_by polled_by drain clear hear part_try install to_send packet_for after_sending round_pass round settle lost was_reset repeated held flipped replayed asked part_staged planned_strikes sent_out injected advanced expired gave_up applied
 delivered_owned zero zero = record { sends = record { once = search rules; below = search rules; all = refl }; recvs = record { once = search rules; below = search rules; all = refl } }
 delivered_owned zero (suc port) = unowned _ _ (same-at None 7 port) (same-at None 7 port)
 delivered_owned (suc zero) zero = tt
@@ -110,7 +107,7 @@ one_rises c d b = by b.place b.there
     by (suc place) e = cc
 
 delivered_channels : installed_channels delivered_world ≡ one_way
-unfolding sends host_try loop_try ask begun closed provided_by sent_by polled_by pass drain clear hear part_try installed to_send packet_for after_sending round_pass round settle lost was_reset repeated held flipped replayed asked part_staged planned_strikes sent_out injected advanced expired gave_up applied
+unfolding sends host_try loop_try ask begun closed provided_by sent_by polled_by drain clear hear part_try install to_send packet_for after_sending round_pass round settle lost was_reset repeated held flipped replayed asked part_staged planned_strikes sent_out injected advanced expired gave_up applied
 delivered_channels = refl
 
 pub delivered_is_sound : IsSound delivered_world

@@ -6,11 +6,11 @@ use Rattle.world_defs.specs.declared.effect.Effect.{Effect}
 use Rattle.world_defs.specs.Node.{Outgoing, has_staged, given_up}
 use Rattle.world_defs.specs.World.{WorldState, node_at, with_node, addresses}
 use Rattle.world_defs.specs.Step.{asked, gave_up, step, after_all}
-use Rattle.world_defs.specs.Drain.{drain}
-use Rattle.world_defs.specs.Asking.{Tried, Sent, sends, heard_by, probed_host, host_try, loop_try, also_harmed, or_further, tries_of, asked_hosts, host_tries, loop_tries, all_given_up, ask}
-use Rattle.world_laws.specs.Reached.{IsReachedBy}
-use Rattle.world_laws.proofs.Along.{Along, drain-along}
-use Rattle.world_laws.proofs.Reached.{along-reached}
+use Rattle.world_defs.specs.Log.{Log}
+use Rattle.world_defs.specs.Logs as log
+use Rattle.world_defs.proofs.LogRows.{ask-row}
+use Rattle.world_defs.proofs.LogViews.{tries-by, drain, Tried, Sent, sends, heard_by, host_try, loop_try, also_harmed, tries_of, asked_hosts, host_tries, loop_tries, ask}
+use Rattle.world_defs.specs.Asking.{probed_host, all_given_up}
 use Rattle.ask_laws.specs.Row.{IsOfAsk, AskIsEvents, AskEndsIdle}
 use Rattle.ask_laws.proofs.Lone.{bare, IsBare, is-bare, bare-idle, idle-bare}
 use Rattle.ask_laws.proofs.Sends.{Flight, Sending, sending}
@@ -28,7 +28,7 @@ given_up-of R k w [] = k.same w
 given_up-of R k w (h ∷ hs) = let next : WorldState = (step w (GiveUp h)).1 in k.both w next (after_all next (map GiveUp hs)) (k.give_up w h) (given_up-of R k next hs)
 
 pub host_try-of : (R : WorldState → WorldState → Type 0) → Asks R → (mapper : ℕ) (walk : List ℤ) (w : WorldState) → R w (host_try mapper walk w).world
-unfolding host_try
+unfolding log.host_try
 host_try-of R k mapper walk w = by (probed_host probe.effects)
   where
     staged : WorldState
@@ -45,26 +45,19 @@ host_try-of R k mapper walk w = by (probed_host probe.effects)
     by (Some h) = k.both w probe.world (sends probe.world h).world first (k.send probe.world h)
 
 pub loop_try-of : (R : WorldState → WorldState → Type 0) → Asks R → (mapper : ℕ) (walk : List ℤ) (w : WorldState) → R w (loop_try mapper walk w).world
-unfolding loop_try
+unfolding log.loop_try
 loop_try-of R k mapper walk w =
     let staged : WorldState = (step w (Ask mapper walk true)).1 in
     k.both w staged (sends staged mapper).world (k.stage w mapper walk true) (k.send staged mapper)
 
-further-world : {A : Type 0} (is_found : A → Bool) (t : Tried A) (rest : WorldState → Tried A) (P : WorldState → Type 0) → P t.world → P (rest t.world).world → P (or_further is_found t rest).world
-further-world {A} is_found t rest P here there = by (is_found t.found)
-  where
-    by : (b : Bool) → P (if b then t else also_harmed t.harmed (rest t.world)).world
-    by true = here
-    by false = there
-
-pub tries-of : {A : Type 0} (R : WorldState → WorldState → Type 0) → Asks R → (is_found : A → Bool) (nothing : A) (one : WorldState → Tried A) → ((w : WorldState) → R w (one w).world) → (tries : ℕ) (w : WorldState) → R w (tries_of is_found nothing one tries w).world
+pub tries-of : {A : Type 0} (R : WorldState → WorldState → Type 0) → Asks R → (is_found : A → Bool) (nothing : A) (one : WorldState → Log (log.Tried A)) → ((w : WorldState) → R w (one w).world) → (tries : ℕ) (w : WorldState) → R w (tries_of is_found nothing one tries w).world
 tries-of R k is_found nothing one each zero w = k.same w
 tries-of R k is_found nothing one each (suc n) w =
     let mid : WorldState = (one w).world in
-    further-world is_found (one w) (tries_of is_found nothing one n) (R w) (each w) (k.both w mid (tries_of is_found nothing one n mid).world (each w) (tries-of R k is_found nothing one each n mid))
+    tries-by is_found nothing one n w (λ t. R w t.world) (λ e. each w) (λ e. k.both w mid (tries_of is_found nothing one n mid).world (each w) (tries-of R k is_found nothing one each n mid))
 
 pub ask-of : (R : WorldState → WorldState → Type 0) → Asks R → (w : WorldState) (mapper tries : ℕ) (walk : List ℤ) → R w (ask mapper tries walk w).world
-unfolding ask
+unfolding log.ask
 ask-of R k w mapper tries walk = by hosts.found
   where
     start : WorldState
@@ -74,25 +67,15 @@ ask-of R k w mapper tries walk = by hosts.found
     hosts = host_tries mapper walk tries start
 
     first : R w hosts.world
-    first = k.both w start hosts.world (given_up-of R k w (addresses w)) (tries-of R k is_some None (host_try mapper walk) (host_try-of R k mapper walk) tries start)
+    first = k.both w start hosts.world (given_up-of R k w (addresses w)) (tries-of R k is_some None (log.host_try mapper walk) (host_try-of R k mapper walk) tries start)
 
     by : (o : Option ℕ) → R w (asked_hosts mapper walk tries hosts.harmed hosts.world o).world
     by (Some h) = first
-    by None = k.both w hosts.world (loop_tries mapper walk tries hosts.world).world first (tries-of R k (λ b. b) false (loop_try mapper walk) (loop_try-of R k mapper walk) tries hosts.world)
+    by None = k.both w hosts.world (loop_tries mapper walk tries hosts.world).world first (tries-of R k (λ b. b) false (log.loop_try mapper walk) (loop_try-of R k mapper walk) tries hosts.world)
 
 -- events in a row
-asks-along : (R : WorldState → WorldState → Type 0) → Along R IsOfAsk → Asks R
-unfolding sends
-asks-along R g = record {
-  same = g.same;
-  both = g.both;
-  give_up = λ w h. g.event w (GiveUp h) tt;
-  stage = λ w h walk looped. g.event w (Ask h walk looped) tt;
-  send = λ w h. g.both w (step w (Inject h)).1 (drain (step w (Inject h)).1).1 (g.event w (Inject h) tt) (drain-along R IsOfAsk g (λ c. tt) (step w (Inject h)).1);
-}
-
 pub ask-events : AskIsEvents
-ask-events w mapper tries walk = ask-of (IsReachedBy IsOfAsk) (asks-along (IsReachedBy IsOfAsk) (along-reached IsOfAsk)) w mapper tries walk
+ask-events w mapper tries walk = ask-row {Q = IsOfAsk} (record { advance = λ c. tt; inject = λ h. tt; give_up = λ h. tt }) (λ h walk looped. tt) mapper tries walk w
 
 -- idle links
 bare-again : (l s : LinkState) → l ≡ bare s → IsBare l

@@ -7,8 +7,11 @@ use Rattle.net_defs.specs.declared.place.Answer.TheVariants.{Switch as IsSwitch,
 use Rattle.net_defs.specs.Network.{Network, IsFabric}
 use Rattle.net_defs.specs.Route.{place, answer_at, answer}
 use Rattle.world_defs.specs.World.{WorldState, fabric_of, last_count}
-use Rattle.world_defs.specs.Asking.{Tried, also_harmed, or_further, tries_of, host_try, loop_try, host_tries, loop_tries, Asked, loop_answer, asked_loops, asked_hosts, all_given_up, ask}
-use Rattle.world_laws.proofs.Reached.{reached-kept}
+use Rattle.world_defs.specs.Asking.{loop_answer, all_given_up}
+use Rattle.world_defs.specs.Log.{Log}
+use Rattle.world_defs.specs.Logs as log
+use Rattle.world_defs.proofs.LogViews.{tried_to, tries-by, Tried, also_harmed, tries_of, host_try, loop_try, host_tries, loop_tries, Asked, asked_loops, asked_hosts, ask}
+use Rattle.world_laws.proofs.Reached.{row-kept}
 use Rattle.ask_laws.specs.Premises.{CanAsk}
 use Rattle.ask_laws.specs.Row.{IsOfAsk}
 use Rattle.ask_laws.specs.Kept.{IsAskKept, AskKeeps, CanAskAgain}
@@ -45,31 +48,29 @@ quiet-last : (w u v : WorldState) → IsAskKept w u → IsAskKept u v → IsQuie
 quiet-last w u v k l (IsQuietTo.unplanned none left) = let i = k.injected in IsQuietTo.unplanned (λ number a b. k.unplanned number (none number (omega (arith, i, a)) b)) left
 quiet-last w u v k l (IsQuietTo.unharmed same left) = let a = k.harmed in let b = l.harmed in IsQuietTo.unharmed (omega (arith, same, a, b)) left
 
-further-so : {A : Type 0} (n : Network) (mapper : ℕ) (is_found : A → Bool) (Sound : A → Type 0) (Absent : Type 0) (tries : ℕ) (w : WorldState) (t : Tried A) (rest : WorldState → Tried A) → IsTry n mapper is_found Sound Absent w t → IsTries n mapper is_found Sound Absent tries t.world (rest t.world) → IsTries n mapper is_found Sound Absent (suc tries) w (or_further is_found t rest)
-further-so {A} n mapper is_found Sound Absent tries w t rest one others = by (is_found t.found) refl
-  where
-    by : (b : Bool) → is_found t.found ≡ b → IsTries n mapper is_found Sound Absent (suc tries) w (if b then t else also_harmed t.harmed (rest t.world))
-    by true e = record {
-      ready = one.ready;
-      kept = one.kept;
-      sound = one.sound;
-      missed = λ f. absurd (true≢false (sym e ∙ f));
-      unharmed = λ f some q. absurd (true≢false (sym e ∙ f));
-    }
-    by false e = record {
-      ready = others.ready;
-      kept = kept-both w t.world (rest t.world).world one.kept others.kept;
-      sound = others.sound;
-      missed = λ f. both-harmed t.harmed (rest t.world).harmed (one.missed e) (others.missed f);
-      unharmed = λ f some q. ap (λ x. x && (rest t.world).harmed) (one.unharmed e (quiet-first w t.world (rest t.world).world one.kept others.kept q));
-    }
-
-tries-so : {A : Type 0} (n : Network) (mapper : ℕ) (is_found : A → Bool) (Sound : A → Type 0) (Absent : Type 0) (nothing : A) (one : WorldState → Tried A) → is_found nothing ≡ false → ((w : WorldState) → Ready n mapper w → IsTry n mapper is_found Sound Absent w (one w)) → (tries : ℕ) (w : WorldState) → Ready n mapper w → IsTries n mapper is_found Sound Absent tries w (tries_of is_found nothing one tries w)
+tries-so : {A : Type 0} (n : Network) (mapper : ℕ) (is_found : A → Bool) (Sound : A → Type 0) (Absent : Type 0) (nothing : A) (one : WorldState → Log (log.Tried A)) → is_found nothing ≡ false → ((w : WorldState) → Ready n mapper w → IsTry n mapper is_found Sound Absent w (tried_to (one w))) → (tries : ℕ) (w : WorldState) → Ready n mapper w → IsTries n mapper is_found Sound Absent tries w (tries_of is_found nothing one tries w)
 tries-so n mapper is_found Sound Absent nothing one none each zero w r =
     record { ready = r; kept = kept-same w; sound = λ e. absurd (true≢false (sym e ∙ none)); missed = λ e. inl refl; unharmed = λ e some q. absurd (omega (arith, some)) }
-tries-so n mapper is_found Sound Absent nothing one none each (suc k) w r =
-    let t = each w r in
-    further-so n mapper is_found Sound Absent k w (one w) (tries_of is_found nothing one k) t (tries-so n mapper is_found Sound Absent nothing one none each k (one w).world t.ready)
+tries-so {A} n mapper is_found Sound Absent nothing one none each (suc k) w r =
+    let t : Tried A = tried_to (one w) in
+    let rest : Tried A = tries_of is_found nothing one k t.world in
+    let first = each w r in
+    let others = tries-so n mapper is_found Sound Absent nothing one none each k t.world first.ready in
+    tries-by is_found nothing one k w (IsTries n mapper is_found Sound Absent (suc k) w)
+    (λ e. record {
+      ready = first.ready;
+      kept = first.kept;
+      sound = first.sound;
+      missed = λ f. absurd (true≢false (sym e ∙ f));
+      unharmed = λ f some q. absurd (true≢false (sym e ∙ f));
+    })
+    (λ e. record {
+      ready = others.ready;
+      kept = kept-both w t.world rest.world first.kept others.kept;
+      sound = others.sound;
+      missed = λ f. both-harmed t.harmed rest.harmed (first.missed e) (others.missed f);
+      unharmed = λ f some q. ap (λ x. x && rest.harmed) (first.unharmed e (quiet-first w t.world rest.world first.kept others.kept q));
+    })
 
 -- What an ask comes to.
 record IsAsk (n : Network) (mapper : ℕ) (walk : List ℤ) (tries : ℕ) (w : WorldState) (a : Asked) : Type 0 where
@@ -135,7 +136,7 @@ hosts-so n mapper walk tries w t p k hosts = by t.found refl
         record { kept = k; answers = inl (sym (ap answer_at at)); heard = λ some q. refl }
     by None e =
         loops-so n mapper walk tries w t.world t.harmed (loop_tries mapper walk tries t.world) k (hosts.missed (ap is_some e)) (hosts.unharmed (ap is_some e))
-        (tries-so n mapper (λ b. b) (λ b. AtASwitch n mapper walk) (NoSwitch n mapper walk) false (loop_try mapper walk) refl (λ v r. loop-try n mapper walk v p r) tries t.world hosts.ready)
+        (tries-so n mapper (λ b. b) (λ b. AtASwitch n mapper walk) (NoSwitch n mapper walk) false (log.loop_try mapper walk) refl (λ v r. loop-try n mapper walk v p r) tries t.world hosts.ready)
 
 -- the start is aside
 from-start : (n : Network) (mapper : ℕ) (walk : List ℤ) (tries : ℕ) (w : WorldState) (a : Asked) → IsAsk n mapper walk tries (all_given_up w) a → IsAsk n mapper walk tries w a
@@ -152,12 +153,12 @@ premises w mapper walk can =
     record { fabric = can.fabric; is_host = omega (arith, a, b); turns = can.turns; few_turns = can.few_turns }
 
 ask-so : (w : WorldState) (mapper tries : ℕ) (walk : List ℤ) → CanAsk w mapper walk → IsAsk (fabric_of w) mapper walk tries w (ask mapper tries walk w)
-unfolding ask
+unfolding log.ask
 ask-so w mapper tries walk can =
     let n : Network = fabric_of w in
     let start : WorldState = all_given_up w in
     let p = premises w mapper walk can in
-    let hosts : AreHostTries n mapper walk tries start (host_tries mapper walk tries start) = tries-so n mapper is_some (HostIs n mapper walk) (NoHost n mapper walk) None (host_try mapper walk) refl (λ v r. host-try n mapper walk v p r) tries start (ready-start w mapper walk can) in
+    let hosts : AreHostTries n mapper walk tries start (host_tries mapper walk tries start) = tries-so n mapper is_some (HostIs n mapper walk) (NoHost n mapper walk) None (log.host_try mapper walk) refl (λ v r. host-try n mapper walk v p r) tries start (ready-start w mapper walk can) in
     from-start n mapper walk tries w (asked_hosts mapper walk tries (host_tries mapper walk tries start).harmed (host_tries mapper walk tries start).world (host_tries mapper walk tries start).found) (hosts-so n mapper walk tries start (host_tries mapper walk tries start) p hosts.kept hosts)
 
 pub ask-keeps : AskKeeps
@@ -198,7 +199,7 @@ hosts-nothing mapper walk tries harmed w (Some h) e = absurd (true≢false (sym 
 hosts-nothing mapper walk tries harmed w None e = loops-nothing harmed (loop_tries mapper walk tries w) e
 
 pub ask-nothing : DrownedAskFoundNothing
-unfolding ask
+unfolding log.ask
 ask-nothing w mapper tries walk e =
     let hosts : Tried (Option ℕ) = host_tries mapper walk tries (all_given_up w) in hosts-nothing mapper walk tries hosts.harmed hosts.world hosts.found e
 
@@ -210,7 +211,7 @@ ask-again w mapper tries walk next can other =
     let is_host = other.is_host in
     record {
       fabric = subst (λ n. IsFabric n) (sym k.fabric) other.fabric;
-      world = (reached-kept IsOfAsk w v (ask-events w mapper tries walk)).world other.world;
+      world = (row-kept (ask-events w mapper tries walk)).world other.world;
       idle = ask-idle w mapper tries walk other.world other.idle;
       is_host = omega (arith, hosts, is_host);
       turns = other.turns;

@@ -1,5 +1,5 @@
 -- A drain of one packet alone: the packet leaves the links, and the world is as if it had gone there at once.
-use Rattle.std.proofs.Common.{◌≡◌, ◌≢◌, ◌<◌, ℕ, Bool, true, false, List, [], ◌∷◌, ◌++◌, map, nat_eq, Some, None, ◌⊎◌, inl, inr, append_assoc, refl, sym, ◌∙◌, ap, subst, true≢false}
+use Rattle.std.proofs.Common.{◌≡◌, ◌≢◌, ◌<◌, ◌+◌, ℕ, Bool, true, false, List, [], ◌∷◌, ◌++◌, map, nat_eq, Some, None, ◌⊎◌, inl, inr, append_assoc, refl, sym, ◌∙◌, ap, subst, true≢false}
 use Rattle.std.proofs.lemmas.List.{append-nil}
 use Rattle.std.proofs.lemmas.Bool.Decides.{Decides-eqb}
 use Rattle.packet_defs.specs.Packet.{stripped}
@@ -10,7 +10,7 @@ use Rattle.link_defs.specs.declared.moved.Moved.TheVariants.{AtHost}
 use Rattle.link_defs.specs.Channel.{channel_count}
 use Rattle.link_defs.specs.Links.{Held, LinkState, packet_in, is_idle}
 use Rattle.link_defs.specs.Advance.{course, advance_of, advance}
-use Rattle.link_defs.specs.Hops.{is_stuck, changes as moves}
+use Rattle.link_defs.specs.Hops.{total_hops, is_stuck, changes as moves}
 use Rattle.link_defs.proofs.HopsLeft.{still-advance}
 use Rattle.link_defs.proofs.Idling.{stuck-still}
 use Rattle.world_defs.specs.declared.event.Event.TheVariants.{Advance}
@@ -23,8 +23,13 @@ use Rattle.world_defs.specs.Node.{NodeState}
 use Rattle.world_defs.specs.Hearing.{hear}
 use Rattle.world_defs.specs.World.{WorldState, fabric_of, host_count, node_at, with_links}
 use Rattle.world_defs.specs.Step.{arrived, advanced_by, advanced, step, steps}
-use Rattle.world_defs.specs.Drain.{channels_of, pass, drain, Drains}
-use Rattle.world_laws.proofs.Draining.{drain-drains, drain-still}
+use Rattle.world_defs.specs.Drain.{channels_of}
+use Rattle.world_defs.proofs.LogViews.{drain}
+use Rattle.world_defs.specs.Log.{Log, still}
+use Rattle.world_defs.specs.Logs as log
+use Rattle.world_defs.specs.Logs.{pass, is_still, drain_pass}
+use Rattle.world_laws.proofs.Repeating.{Chains, either, up_to-chain}
+use Rattle.world_laws.proofs.Draining.{drain-still}
 use Rattle.ask_laws.proofs.Lone.{bare, with_lone, lone-there, lone-other, bare-empty, idle-empty, gone, lone-advance, course-below, Goes}
 
 -- what hosts heard, in order
@@ -115,16 +120,23 @@ steps-stage w m v hs (c ∷ cs) s =
     let all : (hs ++ told (x ∷ [])) ++ told rest ≡ hs ++ told (x ∷ rest) = append_assoc hs (told (x ∷ [])) (told rest) ∙ ap (λ l. hs ++ l) (sym (told-push x rest)) in
     subst (Stage w m (steps next (map Advance cs)).1) all (steps-stage w m next (hs ++ told (x ∷ [])) cs (step-stage w m v hs c s))
 
-pass-stage : (w : WorldState) (m : Moved (List ℕ)) (v : WorldState) (hs : List (ℕ × Heard)) → Stage w m v hs → Stage w m (pass v).1 (hs ++ told (pass v).0)
-unfolding pass
-pass-stage w m v hs s = steps-stage w m v hs (channels_of v) s
+abbrev OnStage : WorldState → Moved (List ℕ) → WorldState → Log (List Effect) → Type 0
+OnStage w m v l = (hs : List (ℕ × Heard)) → Stage w m v hs → Stage w m l.world (hs ++ told l.value)
 
-drains-stage : (w : WorldState) (m : Moved (List ℕ)) (v u : WorldState) (hs : List (ℕ × Heard)) (xs : List Effect) → Drains v xs u → Stage w m v hs → Stage w m u (hs ++ told xs)
-drains-stage w m v u hs xs (Drains.at_rest e) s = subst (Stage w m v) (sym (append-nil hs)) s
-drains-stage w m v u hs xs (Drains.more {xs = some} n d p) s =
-    let first : List (ℕ × Heard) = told (pass v).0 in
-    let all : (hs ++ first) ++ told some ≡ hs ++ told xs = append_assoc hs first (told some) ∙ ap (λ l. hs ++ l) (sym (told-append (pass v).0 some)) ∙ ap (λ l. hs ++ told l) (sym p) in
-    subst (Stage w m u) all (drains-stage w m (pass v).1 u (hs ++ first) some d (pass-stage w m v hs s))
+stages : (w : WorldState) (m : Moved (List ℕ)) → Chains (λ xs ys. xs ++ ys) [] (OnStage w m)
+stages w m = record {
+  same = λ v hs s. subst (Stage w m v) (sym (append-nil hs)) s;
+  both = λ v l r p q hs s.
+      let all : (hs ++ told l.value) ++ told r.value ≡ hs ++ told (l.value ++ r.value) = append_assoc hs (told l.value) (told r.value) ∙ ap (λ t. hs ++ t) (sym (told-append l.value r.value)) in
+      subst (Stage w m r.world) all (q (hs ++ told l.value) (p hs s));
+}
+
+pass-stage : (w : WorldState) (m : Moved (List ℕ)) (v : WorldState) → OnStage w m v (drain_pass v)
+pass-stage w m v = either (OnStage w m) v (still [] v) (pass v) (is_still (pass v).value) ((stages w m).same v) (λ hs s. steps-stage w m v hs (channels_of v) s)
+
+drain-stage : (w : WorldState) (m : Moved (List ℕ)) (v : WorldState) → OnStage w m v (log.drain v)
+unfolding log.drain
+drain-stage w m v = up_to-chain (λ xs ys. xs ++ ys) [] (OnStage w m) (stages w m) (λ before p. is_still p.value) drain_pass (pass-stage w m) (total_hops v.links + 1) v
 
 -- links with a packet alone are neither idle nor stuck
 goes-moves : (s : LinkState) (c : ℕ) (held : Held) (to : Course) → moves (gone s held to).0 ≡ true
@@ -154,4 +166,4 @@ ended w m v xs (Stage.on_its_way c held low is g none) still =
 pub lone-drain : (w : WorldState) (m : Moved (List ℕ)) (c : ℕ) (held : Held) → c < channel_count (fabric_of w) → w.links ≡ with_lone w.links c held → Goes (fabric_of w) c held.wire m → Lands w m (drain w)
 lone-drain w m c held low is g =
     let start : Stage w m w [] = Stage.on_its_way c held low (ap (with_links w) is) g refl in
-    ended w m (drain w).1 (drain w).0 (drains-stage w m w (drain w).1 [] (drain w).0 (drain-drains w) start) (drain-still w)
+    ended w m (drain w).1 (drain w).0 (drain-stage w m w [] start) (drain-still w)

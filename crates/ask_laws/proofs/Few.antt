@@ -6,10 +6,13 @@ use Rattle.world_defs.specs.declared.effect.Effect.{Effect}
 use Rattle.world_defs.specs.Node.{Outgoing}
 use Rattle.world_defs.specs.World.{WorldState, addresses}
 use Rattle.world_defs.specs.Step.{planned_strikes, sent_out, step, after_all}
-use Rattle.world_defs.specs.Drain.{drain}
-use Rattle.world_defs.specs.Asking.{Tried, Sent, sends, heard_by, probed_host, host_try, loop_try, also_harmed, tries_of, asked_hosts, host_tries, all_given_up, ask}
+use Rattle.world_defs.specs.Log.{Log}
+use Rattle.world_defs.specs.Logs as log
+use Rattle.world_defs.proofs.LogViews.{tries-by, drain, Tried, Sent, sends, heard_by, host_try, loop_try, also_harmed, tries_of, asked_hosts, host_tries, ask}
+use Rattle.world_defs.specs.Asking.{probed_host, all_given_up}
 use Rattle.world_defs.proofs.Views.{Change, view}
-use Rattle.world_laws.proofs.Along.{Along, after_all-along, drain-along, all-map}
+use Rattle.world_defs.proofs.LogRows.{all-map}
+use Rattle.world_laws.proofs.Along.{Along, after_all-along, drain-along}
 use Rattle.world_laws.proofs.Strikes.{planned_strikes-kept}
 use Rattle.ask_laws.specs.Row.{AskInjectsFew}
 
@@ -49,7 +52,7 @@ give_ups-count : (w : WorldState) (hs : List ℕ) → (after_all w (map GiveUp h
 give_ups-count w hs = after_all-along (λ u v. v.injected ≤ u.injected) IsStill still-count w (map GiveUp hs) (all-map IsStill GiveUp (λ h. refl) hs)
 
 send-count : (w : WorldState) (h : ℕ) → (sends w h).world.injected ≤ w.injected + 1
-unfolding sends
+unfolding log.sends
 send-count w h =
     let a : (step w (Inject h)).1.injected ≤ w.injected + 1 = step-count w (Inject h) in
     let b = drain-count (step w (Inject h)).1 in
@@ -59,7 +62,7 @@ stage-count : (w : WorldState) (h : ℕ) (walk : List ℤ) (looped : Bool) → (
 stage-count w h walk looped = let n : (step w (Ask h walk looped)).1.injected ≤ w.injected + 0 = step-count w (Ask h walk looped) in omega (arith, n)
 
 host_try-count : (mapper : ℕ) (walk : List ℤ) (w : WorldState) → (host_try mapper walk w).world.injected ≤ w.injected + 2
-unfolding host_try
+unfolding log.host_try
 host_try-count mapper walk w = by (probed_host probe.effects)
   where
     staged : WorldState
@@ -76,29 +79,23 @@ host_try-count mapper walk w = by (probed_host probe.effects)
     by (Some h) = let a = send-count probe.world h in omega (arith, first, a)
 
 loop_try-count : (mapper : ℕ) (walk : List ℤ) (w : WorldState) → (loop_try mapper walk w).world.injected ≤ w.injected + 1
-unfolding loop_try
+unfolding log.loop_try
 loop_try-count mapper walk w =
     let staged : WorldState = (step w (Ask mapper walk true)).1 in
     let a = send-count staged mapper in
     let b = stage-count w mapper walk true in
     omega (arith, a, b)
 
-tries-count : {A : Type 0} (k : ℕ) (is_found : A → Bool) (nothing : A) (one : WorldState → Tried A) → ((w : WorldState) → (one w).world.injected ≤ w.injected + k) → (tries : ℕ) (w : WorldState) → (tries_of is_found nothing one tries w).world.injected ≤ w.injected + k * tries
+tries-count : {A : Type 0} (k : ℕ) (is_found : A → Bool) (nothing : A) (one : WorldState → Log (log.Tried A)) → ((w : WorldState) → (one w).world.injected ≤ w.injected + k) → (tries : ℕ) (w : WorldState) → (tries_of is_found nothing one tries w).world.injected ≤ w.injected + k * tries
 tries-count k is_found nothing one each zero w = omega arith
-tries-count {A} k is_found nothing one each (suc n) w = by (is_found (one w).found) (tries-count k is_found nothing one each n (one w).world)
-  where
-    more : k * suc n ≡ k + k * n
-    more = omega arith
-
-    here : (one w).world.injected ≤ w.injected + k
-    here = each w
-
-    by : (b : Bool) → (tries_of is_found nothing one n (one w).world).world.injected ≤ (one w).world.injected + k * n → (if b then one w else also_harmed (one w).harmed (tries_of is_found nothing one n (one w).world)).world.injected ≤ w.injected + k * suc n
-    by true rest = omega (arith, here, more)
-    by false rest = omega (arith, here, rest, more)
+tries-count k is_found nothing one each (suc n) w =
+    let more : k * suc n ≡ k + k * n = omega arith in
+    let here = each w in
+    let rest = tries-count k is_found nothing one each n (one w).world in
+    tries-by is_found nothing one n w (λ t. t.world.injected ≤ w.injected + k * suc n) (λ e. omega (arith, here, more)) (λ e. omega (arith, here, rest, more))
 
 pub ask-few : AskInjectsFew
-unfolding ask
+unfolding log.ask
 ask-few w mapper tries walk = by hosts.found
   where
     start : WorldState
@@ -110,9 +107,9 @@ ask-few w mapper tries walk = by hosts.found
     first : hosts.world.injected ≤ w.injected + 2 * tries
     first =
         let a = give_ups-count w (addresses w) in
-        let b = tries-count 2 is_some None (host_try mapper walk) (host_try-count mapper walk) tries start in
+        let b = tries-count 2 is_some None (log.host_try mapper walk) (host_try-count mapper walk) tries start in
         omega (arith, a, b)
 
     by : (o : Option ℕ) → (asked_hosts mapper walk tries hosts.harmed hosts.world o).world.injected ≤ w.injected + 3 * tries
     by (Some h) = omega (arith, first)
-    by None = let a = tries-count 1 (λ b. b) false (loop_try mapper walk) (loop_try-count mapper walk) tries hosts.world in omega (arith, first, a)
+    by None = let a = tries-count 1 (λ b. b) false (log.loop_try mapper walk) (loop_try-count mapper walk) tries hosts.world in omega (arith, first, a)

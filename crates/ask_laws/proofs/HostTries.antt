@@ -12,7 +12,9 @@ use Rattle.world_defs.specs.Node.{NodeState, StagedReply, Outgoing, Reply, new_n
 use Rattle.world_defs.specs.Hearing.{heard_if}
 use Rattle.world_defs.specs.World.{WorldState, host_count, last_count, node_at, with_node}
 use Rattle.world_defs.specs.Step.{arrived}
-use Rattle.world_defs.specs.Asking.{probed_host, Tried, Sent, sends, is_harmed, reply_in, replied, heard_by, host_try}
+use Rattle.world_defs.specs.Asking.{probed_host, is_harmed, reply_in}
+use Rattle.world_defs.specs.Logs as log
+use Rattle.world_defs.proofs.LogViews.{Tried, Sent, sends, replied, heard_by, host_try}
 use Rattle.ask_laws.specs.Kept.{IsAskKept}
 use Rattle.ask_laws.proofs.Drained.{told}
 use Rattle.ask_laws.proofs.Back.{reply-place}
@@ -139,7 +141,7 @@ silent-so n mapper walk w probe s =
     subst (λ o. IsHostTry n mapper walk w (heard_by w mapper probe o)) (sym (no_probe probe.effects s.heard)) (none-found n mapper walk w t refl s.ready s.kept s.missed s.unharmed)
 
 pub host-try : (n : Network) (mapper : ℕ) (walk : List ℤ) (w : WorldState) → Premises n mapper walk → Ready n mapper w → IsHostTry n mapper walk w (host_try mapper walk w)
-unfolding host_try
+unfolding log.host_try
 host-try n mapper walk w p r = by (probe-sent n mapper walk false walk (HostProbe (u.injected + 1) mapper (way_back walk)) w p r (probe-parcel n mapper walk u p))
   where
     u : WorldState

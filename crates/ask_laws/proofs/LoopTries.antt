@@ -11,7 +11,9 @@ use Rattle.world_defs.specs.Node.{way_back}
 use Rattle.world_defs.specs.Hearing.{heard_if}
 use Rattle.world_defs.specs.World.{WorldState, node_at, with_node}
 use Rattle.world_defs.specs.Step.{arrived}
-use Rattle.world_defs.specs.Asking.{Tried, Sent, sends, returned_in, looped_back, loop_try}
+use Rattle.world_defs.specs.Asking.{returned_in}
+use Rattle.world_defs.specs.Logs as log
+use Rattle.world_defs.proofs.LogViews.{Tried, Sent, sends, looped_back, loop_try}
 use Rattle.ask_laws.specs.Kept.{IsAskKept}
 use Rattle.ask_laws.proofs.Drained.{told}
 use Rattle.ask_laws.proofs.Back.{loop-place, loop-switch}
@@ -69,7 +71,7 @@ returned-so n mapper walk number w probe p d =
     }
 
 pub loop-try : (n : Network) (mapper : ℕ) (walk : List ℤ) (w : WorldState) → Premises n mapper walk → Ready n mapper w → IsLoopTry n mapper walk w (loop_try mapper walk w)
-unfolding loop_try
+unfolding log.loop_try
 loop-try n mapper walk w p r = by (probe-sent n mapper walk true (looped_route walk) (Loopback (u.injected + 1) mapper) w p r (loop-parcel n mapper walk u p))
   where
     u : WorldState

@@ -7,8 +7,9 @@ use Rattle.world_defs.specs.Node.{to_send, packet_for, after_sending}
 use Rattle.world_defs.specs.Hearing.{hear}
 use Rattle.world_defs.specs.World.{new_world}
 use Rattle.world_defs.specs.Step.{asked, planned_strikes, sent_out, injected, advanced, gave_up}
-use Rattle.world_defs.specs.Drain.{pass, drain}
-use Rattle.world_defs.specs.Asking.{sends, host_try, loop_try, ask}
+use Rattle.world_defs.specs.Logs as log
+use Rattle.world_defs.proofs.LogViews.{drain, sends, host_try, loop_try, ask}
+use Rattle.world_defs.specs.Logs.{pass}
 use Rattle.world_laws.proofs.Shapes.{new-world, planned-world}
 use Rattle.ask_laws.specs.Examples.{HostCanAsk, OneTryDrowns, SecondTryFinds}
 
@@ -24,9 +25,9 @@ host-can_ask = record {
 }
 
 pub one_try-drowns : OneTryDrowns
-unfolding sends host_try loop_try ask pass drain hear to_send packet_for after_sending asked planned_strikes sent_out injected advanced gave_up
+unfolding log.sends log.host_try log.loop_try log.ask log.drain hear to_send packet_for after_sending asked planned_strikes sent_out injected advanced gave_up
 one_try-drowns = (refl, refl)
 
 pub second_try-finds : SecondTryFinds
-unfolding sends host_try loop_try ask pass drain hear to_send packet_for after_sending asked planned_strikes sent_out injected advanced gave_up
+unfolding log.sends log.host_try log.loop_try log.ask log.drain hear to_send packet_for after_sending asked planned_strikes sent_out injected advanced gave_up
 second_try-finds = (refl, refl)

@@ -17,7 +17,7 @@ use Rattle.world_defs.specs.Node.{Outgoing, to_send, packet_for, after_sending}
 use Rattle.world_defs.specs.Hearing.{hear_mapping}
 use Rattle.world_defs.specs.World.{WorldState, fabric_of, host_count, last_count, node_at, with_links}
 use Rattle.world_defs.specs.Step.{arrived}
-use Rattle.world_defs.specs.Asking.{Sent, sends}
+use Rattle.world_defs.proofs.LogViews.{Sent, sends}
 use Rattle.world_defs.specs.EightBits.{IsByteFault, HasByteFaults}
 use Rattle.ask_laws.proofs.Lone.{bare, IsBare, Goes}
 use Rattle.ask_laws.proofs.Drained.{told, landed_in, Lands}

@@ -10,7 +10,8 @@ use Rattle.world_defs.specs.declared.event.Event.TheVariants.{Ask}
 use Rattle.world_defs.specs.Node.{NodeState, Probe, new_node}
 use Rattle.world_defs.specs.World.{WorldState, host_count, last_count, node_at, with_node}
 use Rattle.world_defs.specs.Step.{step}
-use Rattle.world_defs.specs.Asking.{Sent, sends, is_harmed}
+use Rattle.world_defs.specs.Asking.{is_harmed}
+use Rattle.world_defs.proofs.LogViews.{Sent, sends}
 use Rattle.world_laws.proofs.Lists.{at-set}
 use Rattle.ask_laws.specs.Kept.{IsAskKept}
 use Rattle.ask_laws.proofs.Drained.{told}

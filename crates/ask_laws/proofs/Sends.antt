@@ -14,7 +14,9 @@ use Rattle.world_defs.specs.declared.effect.Effect.TheVariants.{Idle, Injected}
 use Rattle.world_defs.specs.Node.{Outgoing, to_send, packet_for, after_sending}
 use Rattle.world_defs.specs.World.{WorldState, fabric_of, last_count, node_at}
 use Rattle.world_defs.specs.Step.{planned_strikes, sent_out, inject_one, inject_into, injected}
-use Rattle.world_defs.specs.Asking.{is_used_up, Sent, drained_after, sends}
+use Rattle.world_defs.specs.Asking.{is_used_up}
+use Rattle.world_defs.specs.Logs as log
+use Rattle.world_defs.proofs.LogViews.{Sent, drained_after, sends}
 use Rattle.world_laws.proofs.Resting.{idle-drain}
 use Rattle.world_defs.specs.EightBits.{HasByteFaults}
 use Rattle.ask_laws.proofs.Lone.{IsBare, HasLone, is-bare, has-lone, put-lone, bare-empty, bare-idle, Goes, going}
@@ -81,7 +83,7 @@ pub data Sending (w : WorldState) (h : ℕ) (s : Sent) : Type 0 where
 still : (w : WorldState) (h : ℕ) (used : Bool) → IsBare w.links → Unsent w h used → Sending w h (drained_after used (Idle, w))
 still w h used e why =
     let d = idle-drain w (ap is_idle (is-bare w.links e) ∙ bare-idle w.links) in
-    Sending.unsent why refl (ap (λ r. told r.0) d) (ap (λ r. r.1) d)
+    Sending.unsent why refl (ap (λ l. told l.value) d) (ap (λ l. l.world) d)
 
 lone-flight : (w : WorldState) (h c : ℕ) (out : Outgoing) (used : Bool) (u v : WorldState) → channel_from (fabric_of w) (host_port h) ≡ Some c → IsOut w h c out u → StruckSo u v c (new_held w h out) → Flight w h c out (drained_after used (Injected (w.injected + 1), v))
 lone-flight w h c out used u v at o k = by k.outcome
@@ -107,7 +109,7 @@ lone-flight w h c out used u v at o k = by k.outcome
         Flight.lands u v g.end o k.keeps (e ∙ o.harmed) (subst (λ n. Goes n c (packet_for h (w.injected + 1) out) g.end) net g.goes) (lone-drain v g.end c (new_held w h out) low (has-lone v.links c (new_held w h out) l) g.goes)
     by (Outcome.gone b e some) =
         let d = idle-drain v (ap is_idle (is-bare v.links b) ∙ bare-idle v.links) in
-        Flight.lost u v o k.keeps (more e) (planned some) b (ap (λ r. told r.0) d) (ap (λ r. r.1) d)
+        Flight.lost u v o k.keeps (more e) (planned some) b (ap (λ l. told l.value) d) (ap (λ l. l.world) d)
     by (Outcome.marred new l d e some) =
         let g = going v.links.net c new.wire in
         Flight.marred u v new.wire g.end o k.keeps (more e) (planned some) (λ all none. d (subst (λ p. HasByteFaults (record u { plan = p })) (sym o.plan) all) refl none) (subst (λ n. Goes n c new.wire g.end) net g.goes) (lone-drain v g.end c new low (has-lone v.links c new l) g.goes)
@@ -132,5 +134,5 @@ into w h None e at = still w h (is_used_up w h) e (Unsent.no_cable (rw at refl) 
 into w h (Some c) e at = one w h c (is_used_up w h) (to_send h (node_at w h)) e at refl (rw at refl)
 
 pub sending : (w : WorldState) (h : ℕ) → IsBare w.links → Sending w h (sends w h)
-unfolding sends injected
+unfolding log.sends injected
 sending w h e = into w h (channel_from (fabric_of w) (host_port h)) e refl

@@ -18,7 +18,8 @@ use Rattle.world_defs.specs.declared.heard.Heard.{Heard}
 use Rattle.world_defs.specs.declared.heard.Heard.TheVariants.{Probe as HeardProbe, Reply as HeardReply, Loop as HeardLoop}
 use Rattle.world_defs.specs.Node.{Probe, Reply, packet_for, way_back}
 use Rattle.world_defs.specs.World.{WorldState, last_count}
-use Rattle.world_defs.specs.Asking.{probed_host, replied_host, has_returned, Tried, is_harmed, reply_in, returned_in}
+use Rattle.world_defs.specs.Asking.{probed_host, replied_host, has_returned, is_harmed, reply_in, returned_in}
+use Rattle.world_defs.proofs.LogViews.{Tried}
 use Rattle.ask_laws.specs.Kept.{IsAskKept}
 use Rattle.ask_laws.proofs.Drained.{told}
 use Rattle.ask_laws.proofs.Back.{back-turns, back-length, entered-place}

@@ -2,7 +2,7 @@
 use Rattle.std.specs.Prelude.{◌≡◌, ℕ, ◌≤◌, ℤ, List, nat_eq, None}
 use Rattle.std.specs.Map.{lookup}
 use Rattle.world_defs.specs.World.{WorldState, fabric_of, host_count, node_at}
-use Rattle.world_defs.specs.Asking.{ask}
+use Rattle.world_defs.specs.Logs.{ask}
 use Rattle.world_defs.specs.EightBits.{HasByteFaults}
 use Rattle.ask_laws.specs.Premises.{CanAsk}
 

@@ -4,8 +4,8 @@ use Rattle.link_defs.specs.Links.{is_idle}
 use Rattle.world_defs.specs.declared.event.Event.{Event}
 use Rattle.world_defs.specs.declared.event.Event.TheVariants.{Ask, Inject, Advance, GiveUp}
 use Rattle.world_defs.specs.World.{WorldState}
-use Rattle.world_defs.specs.Asking.{ask}
-use Rattle.world_laws.specs.Reached.{IsReachedBy}
+use Rattle.world_defs.specs.Logs.{ask}
+use Rattle.world_defs.specs.Row.{IsRow}
 use Rattle.world_laws.specs.Shape.{IsWorld}
 
 -- the events of an ask
@@ -19,7 +19,7 @@ IsOfAsk _ = ⊥
 -- an ask is such events in a row
 abbrev pub AskIsEvents : Type 0
 AskIsEvents = (w : WorldState) (mapper tries : ℕ) (walk : List ℤ)
-    → IsReachedBy IsOfAsk w (ask mapper tries walk w).world
+    → IsRow IsOfAsk w (ask mapper tries walk w).events (ask mapper tries walk w).world
 
 -- where the links of a world are idle, they are idle after it
 abbrev pub AskEndsIdle : Type 0

@@ -22,9 +22,10 @@ use Rattle.world_defs.specs.Traffic.{sender_on, sent_on, got_on, coming_on}
 use Rattle.world_defs.specs.Settle.{unacknowledged_from, unacknowledged_in}
 use Rattle.world_defs.specs.Settled.{IsWaiting, IsSettledConnection, IsSettled, all_acknowledged, no_table, waiting}
 use Rattle.world_laws.specs.Reached.{IsOfSettle}
-use Rattle.world_laws.proofs.Along.{settles-along}
+use Rattle.world_laws.proofs.Along.{settle-along}
 use Rattle.world_laws.proofs.Reached.{settles-of}
 use Rattle.world_laws.proofs.Rounds.{Going}
+use Rattle.world_defs.specs.Logs.{settle}
 use Rattle.act_defs.specs.Acts.{IsReached}
 use Rattle.message_laws.specs.Filling.{provided_in, IsTied, IsFillingWith}
 use Rattle.message_laws.specs.Untouched.{IsUntouched}
@@ -281,22 +282,22 @@ all-done z done = total-zero (unacknowledged_from z) 0 (host_count z) (λ h low.
         (λ k. unacknowledged_to (node_at z (i k)) (j k)) ∙ sum
 
 pub settle-delivers : SettleDelivers
-settle-delivers w r can s left enough = (none, none-got n z k.reached none)
+settle-delivers w can left enough = (none, none-got n z k.reached none)
   where
     n : Network
     n = fabric_of w
 
     z : WorldState
-    z = r.world
+    z = (settle w).world
 
     k : Keeps n w z
-    k = settles-along (λ u v. IsReached n u → Keeps n u v) IsOfSettle (along-keeps n) settles-of w r s can.reached
+    k = settle-along (λ u v. IsReached n u → Keeps n u v) IsOfSettle (along-keeps n) settles-of w can.reached
 
     going : Going w z
-    going = settles-along Going IsOfSettle along-going settles-of w r s
+    going = settle-along Going IsOfSettle along-going settles-of w
 
     settled : IsSettled z
-    settled = settle-ends_settled w r can s left
+    settled = settle-ends_settled w can left
 
     tokens : HasTokens z
     tokens = k.tokens (record { each = enough.tokens })

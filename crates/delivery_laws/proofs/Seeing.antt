@@ -2,6 +2,7 @@
 use Rattle.std.proofs.Common.{map, sym, ap, ◌∙◌}
 use Rattle.std.specs.List.{filter}
 use Rattle.world_defs.specs.World.{fabric_of}
+use Rattle.world_defs.specs.Logs.{settle}
 use Rattle.seen_laws.specs.Handed.{is_to, as_handed}
 use Rattle.seen_laws.proofs.Polled.{polled-got}
 use Rattle.seen_laws.proofs.Accepted.{accepted-sent}
@@ -9,6 +10,6 @@ use Rattle.delivery_laws.specs.Delivery.{SettledIsSeen}
 use Rattle.delivery_laws.proofs.Delivered.{settle-delivers}
 
 pub settled-seen : SettledIsSeen
-settled-seen w r can s left enough is c port low =
-    polled-got (fabric_of w) r.world is c port low
-    ∙ ap (λ ms. map (as_handed c.src) (filter (is_to port) ms)) ((settle-delivers w r can s left enough).1 c ∙ sym (accepted-sent (fabric_of w) r.world is c))
+settled-seen w can left enough is c port low =
+    polled-got (fabric_of w) (settle w).world is c port low
+    ∙ ap (λ ms. map (as_handed c.src) (filter (is_to port) ms)) ((settle-delivers w can left enough).1 c ∙ sym (accepted-sent (fabric_of w) (settle w).world is c))

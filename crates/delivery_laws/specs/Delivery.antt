@@ -10,8 +10,8 @@ use Rattle.world_defs.specs.Table.{active_epoch}
 use Rattle.world_defs.specs.Node.{port_at}
 use Rattle.world_defs.specs.World.{WorldState, fabric_of, host_count, last_count, new_world, node_at, addresses, sum_of}
 use Rattle.world_defs.specs.Traffic.{sender_on, sent_on, got_on}
-use Rattle.world_defs.specs.Settle.{Rounds, unacknowledged_in}
-use Rattle.world_laws.specs.Settling.{Settles}
+use Rattle.world_defs.specs.Settle.{unacknowledged_in}
+use Rattle.world_defs.specs.Logs.{settle}
 use Rattle.message_laws.specs.Filling.{provided_in}
 use Rattle.message_laws.specs.Got.{IsAllGot}
 use Rattle.act_defs.specs.Acts.{IsReached}
@@ -55,15 +55,15 @@ pub record HasEnough (w : WorldState) : Type 0 where
 -- planned, where the count of injections hasn't reached its last value then.
 abbrev pub SettleDelivers : Type 0
 SettleDelivers =
-    (w : WorldState) (r : Rounds) → CanSettle w → Settles w r → r.world.injected < last_count → HasEnough w
-    → (unacknowledged_in r.world ≡ 0) × IsAllGot r.world
+    (w : WorldState) → CanSettle w → (settle w).world.injected < last_count → HasEnough w
+    → (unacknowledged_in (settle w).world ≡ 0) × IsAllGot (settle w).world
 
 -- And after it what polls handed to the client of a port, and what waits there, are all messages that sends to this
 -- port were accepted with.
 abbrev pub SettledIsSeen : Type 0
 SettledIsSeen =
-    (w : WorldState) (r : Rounds) → CanSettle w → Settles w r → r.world.injected < last_count → HasEnough w
-    → (is : IsReached (fabric_of w) r.world) (c : ConnectionKey) (port : ℕ) → c.prio < prio_limit
+    (w : WorldState) → CanSettle w → (settle w).world.injected < last_count → HasEnough w
+    → (is : IsReached (fabric_of w) (settle w).world) (c : ConnectionKey) (port : ℕ) → c.prio < prio_limit
     → filter (is_on c.src c.prio)
-    (handed_in c.dst port (new_world (fabric_of w)) is.acts ++ waiting_in (port_at (node_at r.world c.dst) port))
+    (handed_in c.dst port (new_world (fabric_of w)) is.acts ++ waiting_in (port_at (node_at (settle w).world c.dst) port))
     ≡ map (as_handed c.src) (filter (is_to port) (accepted_in c (new_world (fabric_of w)) is.acts))

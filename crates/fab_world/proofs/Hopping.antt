@@ -10,7 +10,7 @@ use Rattle.world_defs.specs.declared.event.Event.TheVariants.{Advance}
 use Rattle.world_defs.specs.declared.effect.Effect.TheVariants.{Moved as MovedTo, Blocked as StaysFor}
 use Rattle.world_defs.specs.World.{WorldState, with_links}
 use Rattle.world_defs.specs.Step.{advanced_by, advanced, step}
-use Rattle.world_laws.proofs.Reached.{after_all-append}
+use Rattle.world_defs.proofs.LogRows.{after_all-append}
 use Rattle.faulty_links.specs.Held.{LinksAndPlan, of_world, with_part, IsHopOf}
 use Rattle.fab_world.specs.Held.{IsLater}
 use Rattle.fab_world.specs.Hop.{IsHopIn, IsRunIn}

@@ -5,10 +5,9 @@ use Rattle.net_defs.specs.Network.{Network, IsFabric}
 use Rattle.net_defs.proofs.Distinct.{all-weaker}
 use Rattle.map_defs.specs.NetMap.{NetMap}
 use Rattle.link_defs.specs.Links.{is_idle}
-use Rattle.world_defs.specs.World.{WorldState, fabric_of, last_count}
-use Rattle.world_defs.specs.Settle.{unacknowledged_in, settle}
-use Rattle.world_laws.proofs.Rounds.{settle-settles}
-use Rattle.log_defs.proofs.Worlds.{settle-log}
+use Rattle.world_defs.specs.World.{WorldState, last_count}
+use Rattle.world_defs.specs.Settle.{unacknowledged_in}
+use Rattle.world_defs.specs.Logs.{settle}
 use Rattle.settle_laws.specs.Premises.{CanSettle}
 use Rattle.fab_text.specs.Fault.{FirstFault, and_then}
 use Rattle.journal_defs.specs.declared.entry.Entry.{Entry}
@@ -47,7 +46,6 @@ use Rattle.mapping_laws.proofs.Printed.{circuit_maps_are_true, deep_circuit_maps
 use Rattle.print_laws.proofs.Pieces.{complete_maps_read_back, circuit_maps_read_back}
 use Rattle.message_laws.specs.Got.{IsAllGot}
 use Rattle.message_laws.proofs.Fillings.{coming-tied}
-use Rattle.message_laws.proofs.Windows.{reached-windowed}
 use Rattle.seen_laws.proofs.Fronts.{polled-front}
 use Rattle.return_laws.proofs.Returned.{events-of_tokens, polls-of_tokens}
 use Rattle.delivery_laws.specs.Delivery.{HasEnough}
@@ -164,9 +162,9 @@ does-doubt n host depth tries drowned asks packets rest f of_n session same some
 settle-got-all : (s next : SessionState) (rounds resets unacked : ℕ) → CanSettle s.world → IsSettledLine s next rounds resets unacked → next.world.injected < last_count → HasEnough s.world → (unacked ≡ 0) × IsAllGot next.world
 settle-got-all s next rounds resets unacked can line left enough =
     let w : WorldState = s.world in
-    let after : next.world ≡ (settle w).world = line.after ∙ sym (ap (λ r. r.world) (settle-log w)) in
+    let after : next.world ≡ (settle w).world = line.after in
     let low : (settle w).world.injected < last_count = subst (λ (v : WorldState). v.injected < last_count) after left in
-    let all = settle-delivers w (settle w) can (settle-settles w (reached-windowed (fabric_of w) w can.reached).senders) low enough in
+    let all = settle-delivers w can low enough in
     (line.left ∙ ap unacknowledged_in after ∙ all.0, subst IsAllGot (sym after) all.1)
 
 -- every accepted text has its report

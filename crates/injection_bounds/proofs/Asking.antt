@@ -5,10 +5,13 @@ use Rattle.world_defs.specs.declared.event.Event.TheVariants.{Ask, Part, Inject,
 use Rattle.world_defs.specs.Table.{Adoption}
 use Rattle.world_defs.specs.World.{WorldState, addresses}
 use Rattle.world_defs.specs.Step.{step, after_all}
-use Rattle.world_defs.specs.Drain.{drain}
-use Rattle.world_defs.specs.Asking.{Tried, Sent, sends, is_harmed, heard_by, probed_host, host_try, loop_try, also_harmed, tries_of, asked_hosts, host_tries, all_given_up, ask}
-use Rattle.world_defs.specs.Install.{answered, has_staged_answer, part_try, part_tries, parts_installed, parts_of, host_counted, hosts_installed, installed}
-use Rattle.world_laws.proofs.Along.{Along, after_all-along, drain-along, all-map}
+use Rattle.world_defs.specs.Asking.{probed_host, all_given_up}
+use Rattle.world_defs.specs.Install.{has_staged_answer, parts_of}
+use Rattle.world_defs.specs.Log.{Log}
+use Rattle.world_defs.specs.Logs as log
+use Rattle.world_defs.proofs.LogRows.{all-map}
+use Rattle.world_defs.proofs.LogViews.{drain, Sent, sends, heard_by, host_try, loop_try, Tried, tries_of, tries-by, host_tries, asked_hosts, part_sent_if, part_try, part_tries, parts_installed, parts-by, host_counted, hosts_installed}
+use Rattle.world_laws.proofs.Along.{Along, after_all-along, drain-along}
 use Rattle.world_laws.proofs.Leaves.{IsNoCall}
 use Rattle.world_laws.proofs.Rounds.{Going, along-going, fragments-fewer}
 use Rattle.act_defs.specs.Acts.{Happens}
@@ -45,13 +48,13 @@ give_ups-pledged : (w : WorldState) (hs : List ℕ) → pledged (after_all w (ma
 give_ups-pledged w hs = after_all-along NoDearer IsStill along-still w (map GiveUp hs) (all-map IsStill GiveUp (λ h. (tt, λ v. refl)) hs)
 
 sends-pledged : (w : WorldState) (h : ℕ) → pledged (sends w h).world ≤ pledged w
-unfolding sends
+unfolding log.sends
 sends-pledged w h =
     let u : WorldState = (step w (Inject h)).1 in
     along-still.both w u (drain u).1 (along-still.event w (Inject h) (tt, λ v. refl)) (drain-along NoDearer IsStill along-still (λ c. (tt, λ v. refl)) u)
 
 host_try-pledged : (mapper : ℕ) (walk : List ℤ) (w : WorldState) → pledged (host_try mapper walk w).world ≤ pledged w + 2
-unfolding host_try
+unfolding log.host_try
 host_try-pledged mapper walk w = by (probed_host probe.effects)
   where
     staged : WorldState
@@ -68,7 +71,7 @@ host_try-pledged mapper walk w = by (probed_host probe.effects)
     by (Some h) = let a = sends-pledged probe.world h in omega (arith, first, a)
 
 loop_try-pledged : (mapper : ℕ) (walk : List ℤ) (w : WorldState) → pledged (loop_try mapper walk w).world ≤ pledged w + 2
-unfolding loop_try
+unfolding log.loop_try
 loop_try-pledged mapper walk w =
     let staged : WorldState = (step w (Ask mapper walk true)).1 in
     let a = sends-pledged staged mapper in
@@ -76,7 +79,7 @@ loop_try-pledged mapper walk w =
     omega (arith, a, b)
 
 part_try-pledged : (mapper dst part : ℕ) (w : WorldState) → pledged (part_try mapper dst part w).world ≤ pledged w + 2
-unfolding part_try
+unfolding log.part_try
 part_try-pledged mapper dst part w = by (has_staged_answer sent.world dst sent.effects)
   where
     staged : WorldState
@@ -88,23 +91,19 @@ part_try-pledged mapper dst part w = by (has_staged_answer sent.world dst sent.e
     first : pledged sent.world ≤ pledged w + 2
     first = let a = sends-pledged staged mapper in let b = event-pledged w (Part dst part) tt in omega (arith, a, b)
 
-    by : (b : Bool) → pledged (if b then answered w mapper dst part sent (sends sent.world dst) else (let r : Tried Bool = record { found = false; harmed = is_harmed sent.used_up w sent.world; world = sent.world } in r)).world ≤ pledged w + 2
+    by : (b : Bool) → pledged (part_sent_if w mapper dst part sent b).world ≤ pledged w + 2
     by true = let a = sends-pledged sent.world dst in omega (arith, first, a)
     by false = first
 
-tries-pledged : {A : Type 0} (is_found : A → Bool) (nothing : A) (one : WorldState → Tried A) → ((w : WorldState) → pledged (one w).world ≤ pledged w + 2) → (tries : ℕ) (w : WorldState) → pledged (tries_of is_found nothing one tries w).world ≤ pledged w + 2 * tries
+tries-pledged : {A : Type 0} (is_found : A → Bool) (nothing : A) (one : WorldState → Log (log.Tried A)) → ((w : WorldState) → pledged (one w).world ≤ pledged w + 2) → (tries : ℕ) (w : WorldState) → pledged (tries_of is_found nothing one tries w).world ≤ pledged w + 2 * tries
 tries-pledged is_found nothing one each zero w = omega arith
-tries-pledged {A} is_found nothing one each (suc n) w = by (is_found (one w).found) (tries-pledged is_found nothing one each n (one w).world)
-  where
-    here : pledged (one w).world ≤ pledged w + 2
-    here = each w
-
-    by : (b : Bool) → pledged (tries_of is_found nothing one n (one w).world).world ≤ pledged (one w).world + 2 * n → pledged (if b then one w else also_harmed (one w).harmed (tries_of is_found nothing one n (one w).world)).world ≤ pledged w + 2 * suc n
-    by true rest = omega (arith, here)
-    by false rest = omega (arith, here, rest)
+tries-pledged is_found nothing one each (suc n) w =
+    let here = each w in
+    let rest = tries-pledged is_found nothing one each n (one w).world in
+    tries-by is_found nothing one n w (λ t. pledged t.world ≤ pledged w + 2 * suc n) (λ e. omega (arith, here)) (λ e. omega (arith, here, rest))
 
 pub ask-costs : AskCostsFew
-unfolding ask
+unfolding log.ask
 ask-costs w mapper tries walk few = by hosts.found
   where
     start : WorldState
@@ -116,39 +115,32 @@ ask-costs w mapper tries walk few = by hosts.found
     first : pledged hosts.world ≤ pledged w + 2 * tries
     first =
         let a = give_ups-pledged w (addresses w) in
-        let b = tries-pledged is_some None (host_try mapper walk) (host_try-pledged mapper walk) tries start in
+        let b = tries-pledged is_some None (log.host_try mapper walk) (host_try-pledged mapper walk) tries start in
         omega (arith, a, b)
 
     by : (o : Option ℕ) → pledged (asked_hosts mapper walk tries hosts.harmed hosts.world o).world ≤ pledged w + 32
     by (Some h) = omega (arith, first, few)
-    by None = let a = tries-pledged (λ b. b) false (loop_try mapper walk) (loop_try-pledged mapper walk) tries hosts.world in omega (arith, first, few, a)
+    by None = let a = tries-pledged (λ b. b) false (log.loop_try mapper walk) (loop_try-pledged mapper walk) tries hosts.world in omega (arith, first, few, a)
 
 -- an installation
 parts-pledged : (mapper dst tries : ℕ) (ps : List ℕ) (w : WorldState) → tries ≤ 8 → pledged (parts_installed mapper dst tries ps w).1 ≤ pledged w + 16 * length ps
 parts-pledged mapper dst tries [] w few = omega arith
-parts-pledged mapper dst tries (p ∷ ps) w few = by t.found (tries-pledged (λ b. b) false (part_try mapper dst p) (part_try-pledged mapper dst p) tries w) (parts-pledged mapper dst tries ps t.world few)
-  where
-    t : Tried Bool
-    t = part_tries mapper dst tries p w
-
-    by : (b : Bool) → pledged t.world ≤ pledged w + 2 * tries → pledged (parts_installed mapper dst tries ps t.world).1 ≤ pledged t.world + 16 * length ps
-        → pledged (if b then parts_installed mapper dst tries ps t.world else (false, t.world)).1 ≤ pledged w + 16 * length (p ∷ ps)
-    by true first rest = omega (arith, few, first, rest)
-    by false first rest = omega (arith, few, first)
+parts-pledged mapper dst tries (p ∷ ps) w few =
+    let first = tries-pledged (λ b. b) false (log.part_try mapper dst p) (part_try-pledged mapper dst p) tries w in
+    let rest = parts-pledged mapper dst tries ps (part_tries mapper dst tries p w).world few in
+    parts-by mapper dst tries p ps w (λ r. pledged r.1 ≤ pledged w + 16 * length (p ∷ ps)) (λ e. omega (arith, few, first, rest)) (λ e. omega (arith, few, first))
 
 hosts-pledged : (a : Adoption) (tries : ℕ) (hs : List ℕ) (w : WorldState) → tries ≤ 8 → HasFewParts a → pledged (hosts_installed a tries hs w).1 ≤ pledged w + 256 * length hs
 hosts-pledged a tries [] w few parts = omega arith
 hosts-pledged a tries (h ∷ hs) w few parts =
     let ps : List ℕ = parts_of a h in
     let low = parts h in
-    by (parts_installed a.mapper h tries ps w) (let k = parts-pledged a.mapper h tries ps w few in omega (arith, k, low)) (λ v. hosts-pledged a tries hs v few parts)
-  where
-    by : (r : Bool × WorldState) → pledged r.1 ≤ pledged w + 256 → ((v : WorldState) → pledged (hosts_installed a tries hs v).1 ≤ pledged v + 256 * length hs) → pledged (host_counted r (hosts_installed a tries hs)).1 ≤ pledged w + 256 * length (h ∷ hs)
-    by (true, v) first rest = let k = rest v in omega (arith, first, k)
-    by (false, v) first rest = let k = rest v in omega (arith, first, k)
+    let first = parts-pledged a.mapper h tries ps w few in
+    let rest = hosts-pledged a tries hs (parts_installed a.mapper h tries ps w).1 few parts in
+    omega (arith, first, low, rest)
 
 pub install-costs : InstallCostsFew
-unfolding installed
+unfolding log.install
 install-costs a hosts tries w few parts =
     let first = give_ups-pledged w (addresses w) in
     let rest = hosts-pledged a tries hosts (all_given_up w) few parts in

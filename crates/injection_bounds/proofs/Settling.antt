@@ -10,14 +10,18 @@ use Rattle.world_defs.specs.EightBits.{IsByteEvent}
 use Rattle.world_defs.specs.Node.{lane_of, unacknowledged_to}
 use Rattle.world_defs.specs.World.{WorldState, host_count, node_at, addresses}
 use Rattle.world_defs.specs.Step.{step, steps, after_all}
-use Rattle.world_defs.specs.Drain.{clear}
-use Rattle.world_defs.specs.Settle.{unacknowledged_in, expiries_of, expiries_of_all, expiries, Stretch, replay_each, serials, round_pass, Rounds, settle}
+use Rattle.world_defs.specs.Settle.{unacknowledged_in, expiries_of, expiries_of_all, expiries, serials, pass_bound, round_bound}
+use Rattle.world_defs.specs.Log.{Log}
+use Rattle.world_defs.specs.Logs.{Rounds, clear, replays, round_pass, is_last_pass, moved_both, unmoved, round_passes, round, rounds, settle}
+use Rattle.world_defs.proofs.LogRows.{Clears, all-map}
 use Rattle.world_laws.specs.Reached.{IsOfSettle}
 use Rattle.world_laws.specs.Shape.{HasSenders}
-use Rattle.world_laws.specs.Settling.{RoundPasses, IsRound, AllRounds, Settles}
-use Rattle.world_laws.proofs.Along.{Along, Clears, all-map, steps-along, after_all-along, clear-along, round-along}
+use Rattle.world_laws.specs.Settling.{AllRounds}
+use Rattle.world_laws.specs.Repeats.{Repeats}
+use Rattle.world_laws.proofs.Repeating.{up_to-chain}
+use Rattle.world_laws.proofs.Along.{Along, steps-along, after_all-along, clear-along, round-along}
 use Rattle.world_laws.proofs.Reached.{settles-of}
-use Rattle.world_laws.proofs.Rounds.{Going, left_over, fragments-fewer, not_last-less, round_going, clear-raises, settle-settles}
+use Rattle.world_laws.proofs.Rounds.{Going, left_over, fragments-fewer, not_last-less, round_going, clear-raises, settle-ends}
 use Rattle.act_defs.specs.Acts.{Happens, IsReached}
 use Rattle.act_defs.proofs.Reaching.{reached-next}
 use Rattle.message_laws.proofs.Windows.{reached-windowed, windows-hold}
@@ -45,28 +49,27 @@ clears-free : Clears IsFree
 clears-free = record { advance = λ c w. refl; reset = λ c w. refl }
 
 -- a pass
-replay_each-free : (ss : List ℕ) (w : WorldState) → NoDearer w (replay_each ss w).world
-replay_each-free [] w = along-free.same w
-replay_each-free (s ∷ ss) w =
+replays-free : (ss : List ℕ) (w : WorldState) → NoDearer w (replays ss w).world
+replays-free [] w = along-free.same w
+replays-free (s ∷ ss) w =
     let u : WorldState = (step w (Replay s)).1 in
-    let v : WorldState = (clear u).1 in
-    along-free.both w u (replay_each ss v).world (along-free.event w (Replay s) (λ x. refl)) (along-free.both u v (replay_each ss v).world (clear-along NoDearer IsFree along-free clears-free u) (replay_each-free ss v))
+    let v : WorldState = (clear u).world in
+    along-free.both w u (replays ss v).world (along-free.event w (Replay s) (λ x. refl)) (along-free.both u v (replays ss v).world (clear-along NoDearer IsFree along-free clears-free u) (replays-free ss v))
 
 round_pass-free : (w : WorldState) → NoDearer w (round_pass w).world
 unfolding round_pass
 round_pass-free w =
     let t : WorldState = after_all w (map GiveUp (addresses w)) in
     let u : WorldState = (steps t (map Inject (addresses w))).1 in
-    let v : WorldState = (clear u).1 in
-    let last : WorldState = (replay_each (serials v) v).world in
+    let v : WorldState = (clear u).world in
+    let last : WorldState = (replays (serials v) v).world in
     along-free.both w t last (after_all-along NoDearer IsFree along-free w (map GiveUp (addresses w)) (all-map IsFree GiveUp (λ h x. refl) (addresses w)))
     (along-free.both t u last (steps-along NoDearer IsFree along-free t (map Inject (addresses w)) (all-map IsFree Inject (λ h x. refl) (addresses w)))
-    (along-free.both u v last (clear-along NoDearer IsFree along-free clears-free u) (replay_each-free (serials v) v)))
+    (along-free.both u v last (clear-along NoDearer IsFree along-free clears-free u) (replays-free (serials v) v)))
 
-passes-free : (n : ℕ) (w : WorldState) (s : Stretch) → RoundPasses n w s → NoDearer w s.world
-passes-free n w s (RoundPasses.last_pass e) = round_pass-free w
-passes-free n w s (RoundPasses.another_pass {n = m} {s = rest} e p c d) =
-    subst (λ t. NoDearer w t.world) (sym d) (along-free.both w (round_pass w).world rest.world (round_pass-free w) (passes-free m (round_pass w).world rest p))
+passes-free : (k : ℕ) (w : WorldState) → NoDearer w (round_passes k w).world
+passes-free k w =
+    up_to-chain moved_both unmoved (λ u l. NoDearer u l.world) (record { same = λ u. along-free.same u; both = λ u l m a b. along-free.both u l.world m.world a b }) is_last_pass round_pass round_pass-free k w
 
 -- events of a settle may always happen
 byte : (e : Event) → IsOfSettle e → IsByteEvent e
@@ -139,14 +142,15 @@ module _ (n : Network) where
       (record { reached = rest.reached; most = omega (arith, few, count, low, a, b) })
 
   -- a round
-  round-costs : (w : WorldState) (s : Stretch) → IsReached n w → IsRound w s → account s.world ≤ account w + round_cost
-  round-costs w s r one =
+  round-costs : (w : WorldState) → IsReached n w → account (round w).world ≤ account w + round_cost
+  unfolding round
+  round-costs w r =
       let hosts = reached-count n w r in
       let few = r.fabric.few_hosts in
       let low : host_count w ≤ 128 = omega (arith, hosts, few) in
       let count : length (addresses w) ≡ host_count w = length-range_with_len 0 (host_count w) in
       let a = (expiries-brings w w (addresses w) low r).most in
-      let b = passes-free one.passes (after_all w (expiries w)) s one.through in
+      let b = passes-free (pass_bound w) (after_all w (expiries w)) in
       omega (arith, low, count, a, b)
 
   senders : (w : WorldState) → IsReached n w → HasSenders w
@@ -156,32 +160,33 @@ module _ (n : Network) where
   abbrev dues : WorldState → ℕ
   dues w = account w + round_cost * left_over w
 
-  rounds-cost : (w : WorldState) (r : Rounds) → IsReached n w → AllRounds w r → dues r.world ≤ dues w + round_cost
-  rounds-cost w r is (AllRounds.last_round {s = s} one e) =
-      let g : Going w s.world = round_going w s one in
-      let cost = round-costs w s is one in
-      let fewer = fragments-fewer w s.world g in
+  rounds-cost : (w : WorldState) (l : Log Rounds) → IsReached n w → AllRounds w l → dues l.world ≤ dues w + round_cost
+  rounds-cost w l is (Repeats.last e) =
+      let g : Going w (round w).world = round_going w in
+      let cost = round-costs w is in
+      let fewer = fragments-fewer w (round w).world g in
       let p = g.planned in
       let q = g.rises in
       omega (arith, cost, fewer, p, q)
-  rounds-cost w r is (AllRounds.another_round {s = s} {r = rest} one e more d) =
-      let g : Going w s.world = round_going w s one in
-      let cost = round-costs w s is one in
-      let less = not_last-less w s.world g (senders w is) e in
-      let after = rounds-cost s.world rest (round-along StaysReached IsOfSettle along-reached settles-of w s one is) more in
-      let same : dues r.world ≡ dues rest.world = ap (λ t. dues t.world) d in
+  rounds-cost w l is (Repeats.another {l = rest} e more d) =
+      let next : WorldState = (round w).world in
+      let g : Going w next = round_going w in
+      let cost = round-costs w is in
+      let less = not_last-less w next g (senders w is) e in
+      let after = rounds-cost next rest (round-along StaysReached IsOfSettle along-reached settles-of w is) more in
+      let same : dues l.world ≡ dues rest.world = ap (λ t. dues t.world) d in
       omega (arith, cost, less, after, same)
 
-  settles-cost : (w : WorldState) (r : Rounds) → IsReached n w → Settles w r → dues r.world ≤ dues w + round_cost
-  settles-cost w r is s =
-      let v : WorldState = (clear w).1 in
+  settle-cost : (w : WorldState) → IsReached n w → dues (settle w).world ≤ dues w + round_cost
+  unfolding settle
+  settle-cost w is =
+      let v : WorldState = (clear w).world in
       let first : account v ≤ account w = clear-along NoDearer IsFree along-free clears-free w in
       let reached : IsReached n v = clear-along StaysReached IsOfSettle along-reached settles-of.clears w is in
-      let rest = rounds-cost v s.rest reached s.rounds in
+      let rest = rounds-cost v (rounds (round_bound v) v) reached (settle-ends w (senders w is)) in
       let fewer = (clear-raises w).0 in
       let plan : length v.plan ≡ length w.plan = ap length (clear-raises w).1 in
-      let same : dues r.world ≡ dues s.rest.world = ap (λ t. dues t.world) s.whole in
-      omega (arith, first, rest, fewer, plan, same)
+      omega (arith, first, rest, fewer, plan)
 
 pub settle-costs : SettleCostsOneRound
-settle-costs n w is = settles-cost n w (settle w) is (settle-settles w (senders n w is))
+settle-costs n w is = settle-cost n w is

@@ -3,8 +3,8 @@ use Rattle.std.specs.Prelude.{ℕ, ◌+◌, ◌*◌, ◌≤◌, ℤ, List, lengt
 use Rattle.net_defs.specs.Network.{Network}
 use Rattle.world_defs.specs.Table.{Adoption}
 use Rattle.world_defs.specs.World.{WorldState}
-use Rattle.world_defs.specs.Asking.{ask}
-use Rattle.world_defs.specs.Install.{parts_of, installed}
+use Rattle.world_defs.specs.Install.{parts_of}
+use Rattle.world_defs.specs.Logs.{ask, install}
 use Rattle.act_defs.specs.Acts.{Act, acted, IsReached}
 use Rattle.injection_bounds.specs.Settled.{round_cost, pledged}
 
@@ -28,7 +28,7 @@ HasFewParts a = (host : ℕ) → length (parts_of a host) ≤ 16
 -- an installation of at most eight tries costs so much for each host
 abbrev pub InstallCostsFew : Type 0
 InstallCostsFew = (a : Adoption) (hosts : List ℕ) (tries : ℕ) (w : WorldState) → tries ≤ 8 → HasFewParts a
-    → pledged (installed a hosts tries w).1 ≤ pledged w + host_cost * length hosts
+    → pledged (install a hosts tries w).world ≤ pledged w + host_cost * length hosts
 
 -- the most that any act costs: an accepted message has at most 65 pieces, and two for each, and one round for each
 abbrev pub act_cost : ℕ

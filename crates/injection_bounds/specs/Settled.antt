@@ -2,7 +2,8 @@
 use Rattle.std.specs.Prelude.{ℕ, ◌+◌, ◌*◌, ◌≤◌, length}
 use Rattle.net_defs.specs.Network.{Network}
 use Rattle.world_defs.specs.World.{WorldState}
-use Rattle.world_defs.specs.Settle.{unacknowledged_in, settle}
+use Rattle.world_defs.specs.Settle.{unacknowledged_in}
+use Rattle.world_defs.specs.Logs.{settle}
 use Rattle.act_defs.specs.Acts.{IsReached}
 use Rattle.injection_bounds.specs.Paid.{account}
 

@@ -6,8 +6,9 @@ use Rattle.std.proofs.lemmas.Bool.{cases_lt}
 use Rattle.world_defs.specs.Table.{Adoption}
 use Rattle.world_defs.specs.World.{WorldState}
 use Rattle.world_defs.specs.Asking.{all_given_up}
-use Rattle.world_defs.specs.Install.{parts_installed, parts_of, host_counted, hosts_installed, installed}
-use Rattle.log_defs.proofs.Asks.{parts-log}
+use Rattle.world_defs.specs.Install.{parts_of}
+use Rattle.world_defs.specs.Logs as log
+use Rattle.world_defs.proofs.LogViews.{parts_installed, host_counted, hosts_installed, installed}
 use Rattle.install_laws.specs.Counts.{EachIsAcknowledged, CountsAtMostAll, CountsAllWhereAcknowledged, UnharmedCountsAll, InstallingTellsCause}
 use Rattle.install_laws.specs.Tables.{has_table, EachCountedHasTable, CountsTables}
 use Rattle.install_laws.proofs.Installing.{missed-harmed, counted-tables, misses-cost}
@@ -24,7 +25,7 @@ hosts-most a tries (h ∷ hs) w =
     omega (arith, all)
 
 pub counts-most : CountsAtMostAll
-unfolding installed
+unfolding log.install
 counts-most a hosts tries w = hosts-most a tries hosts (all_given_up w)
 
 -- counted hosts are among those that have a table
@@ -32,21 +33,16 @@ more-tables : (r : Bool × WorldState) (rest : WorldState → ℕ × WorldState)
 more-tables (true, v) rest h hs true has few = omega (arith, few)
 more-tables (true, v) rest h hs false has few = absurd (true≢false (sym (has refl)))
 more-tables (false, v) rest h hs true has few = omega (arith, few)
-more-tables (false, v) rest h hs false has few = few
-
--- the first host has a table if it is counted, and so have the others
-abbrev HasFirstTable : Adoption → ℕ → ℕ → List ℕ → WorldState → Bool × WorldState → Type 0
-HasFirstTable a tries h hs v r = (r.0 ≡ true → has_table v h ≡ true) × EachCountedHasTable a tries hs r.1 v
+more-tables (false, v) rest h hs false has few = omega (arith, few)
 
 hosts-tables : (a : Adoption) (tries : ℕ) (hs : List ℕ) (w v : WorldState) → EachCountedHasTable a tries hs w v → (hosts_installed a tries hs w).0 ≤ length (filter (has_table v) hs)
 hosts-tables a tries [] w v all = omega arith
 hosts-tables a tries (h ∷ hs) w v all =
     let r : Bool × WorldState = parts_installed a.mapper h tries (parts_of a h) w in
-    let first : HasFirstTable a tries h hs v r = subst (HasFirstTable a tries h hs v) (sym (parts-log a.mapper h tries (parts_of a h) w)) all in
-    more-tables r (hosts_installed a tries hs) h (filter (has_table v) hs) (has_table v h) first.0 (hosts-tables a tries hs r.1 v first.1)
+    more-tables r (hosts_installed a tries hs) h (filter (has_table v) hs) (has_table v h) all.0 (hosts-tables a tries hs r.1 v all.1)
 
 tables-of : (a : Adoption) (hosts : List ℕ) (tries : ℕ) (w v : WorldState) → EachCountedHasTable a tries hosts (all_given_up w) v → (installed a hosts tries w).0 ≤ length (filter (has_table v) hosts)
-unfolding installed
+unfolding log.install
 tables-of a hosts tries w v all = hosts-tables a tries hosts (all_given_up w) v all
 
 pub counts-tables : CountsTables
@@ -61,27 +57,22 @@ each-counted : (r : Bool × WorldState) (rest : WorldState → ℕ × WorldState
 each-counted (true, v) rest k e same = omega (arith, same)
 each-counted (false, v) rest k e same = absurd (true≢false (sym e))
 
--- the first host is counted, and so are the others
-abbrev IsCountedFirst : Adoption → ℕ → List ℕ → Bool × WorldState → Type 0
-IsCountedFirst a tries hs r = (r.0 ≡ true) × EachIsAcknowledged a tries hs r.1
-
 to-each : (a : Adoption) (tries : ℕ) (hs : List ℕ) (w : WorldState) → (hosts_installed a tries hs w).0 ≡ length hs → EachIsAcknowledged a tries hs w
 to-each a tries [] w e = tt
 to-each a tries (h ∷ hs) w e =
     let r : Bool × WorldState = parts_installed a.mapper h tries (parts_of a h) w in
     let both = all-counted r (hosts_installed a tries hs) (length hs) (hosts-most a tries hs r.1) (omega (arith, e)) in
-    subst (IsCountedFirst a tries hs) (parts-log a.mapper h tries (parts_of a h) w) (both.0, to-each a tries hs r.1 both.1)
+    (both.0, to-each a tries hs r.1 both.1)
 
 from-each : (a : Adoption) (tries : ℕ) (hs : List ℕ) (w : WorldState) → EachIsAcknowledged a tries hs w → (hosts_installed a tries hs w).0 ≡ length hs
 from-each a tries [] w all = refl
 from-each a tries (h ∷ hs) w all =
     let r : Bool × WorldState = parts_installed a.mapper h tries (parts_of a h) w in
-    let first : IsCountedFirst a tries hs r = subst (IsCountedFirst a tries hs) (sym (parts-log a.mapper h tries (parts_of a h) w)) all in
-    let e = each-counted r (hosts_installed a tries hs) (length hs) first.0 (from-each a tries hs r.1 first.1) in
+    let e = each-counted r (hosts_installed a tries hs) (length hs) all.0 (from-each a tries hs r.1 all.1) in
     omega (arith, e)
 
 pub counts-all : CountsAllWhereAcknowledged
-unfolding installed
+unfolding log.install
 counts-all a hosts tries w = (to-each a tries hosts (all_given_up w), from-each a tries hosts (all_given_up w))
 
 -- a product is no less where its factor is

@@ -5,9 +5,10 @@ use Rattle.link_defs.specs.Links.{LinkState, is_idle}
 use Rattle.world_defs.specs.Table.{Adoption, TableState}
 use Rattle.world_defs.specs.World.{WorldState, fabric_of, new_world}
 use Rattle.world_defs.specs.Asking.{all_given_up}
-use Rattle.world_defs.specs.Install.{hosts_installed, installed}
 use Rattle.world_laws.specs.Shape.{IsWorld}
 use Rattle.world_laws.proofs.Shapes.{step-kept, new-world, planned-world, adopted-world}
+use Rattle.world_defs.specs.Logs as log
+use Rattle.world_defs.proofs.LogViews.{hosts_installed, installed}
 use Rattle.ask_laws.proofs.Lone.{IsBare, is-bare, bare-idle}
 use Rattle.ask_laws.proofs.Ready.{kept-start}
 use Rattle.act_defs.specs.Acts.{Act, Happens, Plans, Adopts, acted, acted_all, IsReached}
@@ -24,7 +25,6 @@ use Rattle.install_laws.proofs.Epochs.{reached-low}
 use Rattle.install_laws.proofs.Between.{Between, kept-ask, kept-both, between-start}
 use Rattle.install_laws.proofs.Parts.{are-ways}
 use Rattle.install_laws.proofs.Walking.{IsInstallable, AreInstalled, hosts-so}
-use Rattle.log_defs.proofs.Asks.{install-log}
 
 -- acts lead to worlds of the fabric
 acts-world : (w : WorldState) (acts : List Act) → IsWorld w → IsWorld (acted_all w acts)
@@ -52,7 +52,7 @@ start-between a hosts w can =
     between-start n a w refl (reached-world n w can.reached) can.idle can.adopted (reached-of n w can.reached).plan (reached-low n w can.reached).each
 
 installation : (a : Adoption) (hosts : List ℕ) (tries : ℕ) (w : WorldState) → CanInstall a hosts w → IsInstallation (fabric_of w) a tries hosts w (installed a hosts tries w)
-unfolding installed
+unfolding log.install
 installation a hosts tries w can =
     let start : WorldState = all_given_up w in
     let all = hosts-so (fabric_of w) a tries hosts start (installable a hosts w can) can.set.joined (start-between a hosts w can) in
@@ -86,7 +86,7 @@ pub install-again : CanInstallAgain
 install-again a hosts tries w can =
     let v : WorldState = (installed a hosts tries w).1 in
     let k = installing-keeps a hosts tries w can in
-    let on = reached-further (fabric_of w) w v can.reached (subst (λ r. Leads w r.1) (sym (install-log a hosts tries w)) (installed-of Leads along-leads a hosts tries w)) in
+    let on = reached-further (fabric_of w) w v can.reached (installed-of Leads along-leads a hosts tries w) in
     record {
       reached = subst (λ n. IsReached n v) (sym k.fabric) on;
       idle = installing-idle a hosts tries w can;

@@ -13,8 +13,10 @@ use Rattle.world_defs.specs.Table.{Adoption, part_for, route_of}
 use Rattle.world_defs.specs.Node.{NodeState, StagedPart, Outgoing, TablePart, PartAnswer, new_node}
 use Rattle.world_defs.specs.World.{WorldState, host_count, last_count, node_at, with_node}
 use Rattle.world_defs.specs.Step.{stage_at, stage_part, part_staged, step}
-use Rattle.world_defs.specs.Asking.{Tried, Sent, sends, is_harmed}
-use Rattle.world_defs.specs.Install.{answered, has_part_come, has_staged_answer, part_sent, part_try}
+use Rattle.world_defs.specs.Asking.{is_harmed}
+use Rattle.world_defs.specs.Install.{has_part_come, has_staged_answer}
+use Rattle.world_defs.specs.Logs as log
+use Rattle.world_defs.proofs.LogViews.{part_sent_if, Tried, Sent, sends, acknowledged, part_sent, part_try}
 use Rattle.ask_laws.proofs.Drained.{told}
 use Rattle.ask_laws.proofs.Parcels.{hears_in, Delivery, deliver}
 use Rattle.ask_laws.proofs.Tries.{stuck-place, one-host, small-host}
@@ -54,7 +56,7 @@ silent-so n a dst part w s heard b k m g =
     let none : has_staged_answer s.world dst s.effects ≡ false = ap (λ c. c && is_some (node_at s.world dst).part_ack) (no_part dst s.effects heard) in
     let t : Tried Bool = record { found = false; harmed = is_harmed s.used_up w s.world; world = s.world } in
     let is : IsPartTry n a dst part w t = record { between = b; kept = k; missed = λ e. m; grows = g; took = λ e. absurd (true≢false (sym e)) } in
-    subst (λ c. IsPartTry n a dst part w (if c then answered w a.mapper dst part s (sends s.world dst) else t)) (sym none) is
+    subst (λ c. IsPartTry n a dst part w (part_sent_if w a.mapper dst part s c)) (sym none) is
 
 -- What is known once the host has taken the part.
 record Taken (n : Network) (a : Adoption) (dst : ℕ) (p : RoutePart) (w : WorldState) (v : WorldState) : Type 0 where
@@ -68,7 +70,7 @@ record Taken (n : Network) (a : Adoption) (dst : ℕ) (p : RoutePart) (w : World
 has-part : {n : Network} (a : Adoption) (dst part : ℕ) (x : IsSent n a dst part) (v : WorldState) → HasPart a dst x.sent.part v → HasPart a dst part v
 has-part a dst part x v h = subst (λ q. HasPart a dst q v) x.number h
 
-answered-so : (n : Network) (a : Adoption) (dst part : ℕ) (w : WorldState) (x : IsSent n a dst part) (s r : Sent) → IsFabric n → Taken n a dst x.sent w s.world → Delivery n s.world dst (PartAnswer (ack_of x.sent)) x.sent.back (PartAck x.sent.epoch dst x.sent.part) r → IsPartTry n a dst part w (answered w a.mapper dst part s r)
+answered-so : (n : Network) (a : Adoption) (dst part : ℕ) (w : WorldState) (x : IsSent n a dst part) (s r : Sent) → IsFabric n → Taken n a dst x.sent w s.world → Delivery n s.world dst (PartAnswer (ack_of x.sent)) x.sent.back (PartAck x.sent.epoch dst x.sent.part) r → IsPartTry n a dst part w (acknowledged w a.mapper dst part s r)
 answered-so n a dst part w x s r f k (Delivery.no_cable none used num heard same) = absurd (stuck-place n dst a.mapper x.sent.back none x.home)
 answered-so n a dst part w x s r f k (Delivery.none_left most used num heard same) = record {
   between = subst (Between n a) (sym same) k.between;
@@ -111,7 +113,7 @@ answered-so n a dst part w x s r f k (Delivery.delivered g base left used num at
     }
 
 -- its host answers
-answer-sent : (n : Network) (a : Adoption) (dst part : ℕ) (w : WorldState) (x : IsSent n a dst part) (s : Sent) → IsFabric n → dst ≢ a.mapper → Taken n a dst x.sent w s.world → IsPartTry n a dst part w (answered w a.mapper dst part s (sends s.world dst))
+answer-sent : (n : Network) (a : Adoption) (dst part : ℕ) (w : WorldState) (x : IsSent n a dst part) (s : Sent) → IsFabric n → dst ≢ a.mapper → Taken n a dst x.sent w s.world → IsPartTry n a dst part w (acknowledged w a.mapper dst part s (sends s.world dst))
 answer-sent n a dst part w x s f other k =
     let b = k.between in
     let here = b.nodes dst in
@@ -158,11 +160,10 @@ sent-so n a dst part w x u s f other b k grown (Delivery.delivered g base left u
       grows = subst (Grows a w) (sym is) (grows-both a w base (with_node base dst m) (grows-both a w u base grown (grows-sent a u a.mapper out base c)) (grows-node a base dst m (applied-grows (parts_for a dst) (node_at base dst).table x.sent x.epoch x.parts (now.nodes dst).low)));
       has = subst (HasPart a dst x.sent.part) (sym is) (subst (λ (y : NodeState). Has (parts_for a dst) x.sent.part y.table) (sym (get_or-set_same base.nodes dst m (new_node 0) low)) (applied-takes (parts_for a dst) (node_at base dst).table x.sent x.epoch x.parts (now.nodes dst).low));
     } in
-    let t : Tried Bool = record { found = false; harmed = is_harmed s.used_up w s.world; world = s.world } in
-    subst (λ c. IsPartTry n a dst part w (if c then answered w a.mapper dst part s (sends s.world dst) else t)) (sym staged) (answer-sent n a dst part w x s f other taken)
+    subst (λ c. IsPartTry n a dst part w (part_sent_if w a.mapper dst part s c)) (sym staged) (answer-sent n a dst part w x s f other taken)
 
 pub part-tried : (n : Network) (a : Adoption) (dst part : ℕ) (w : WorldState) → IsFabric n → dst ≢ a.mapper → IsSent n a dst part → Between n a w → IsPartTry n a dst part w (part_try a.mapper dst part w)
-unfolding part_try
+unfolding log.part_try
 part-tried n a dst part w f other x b =
     let u : WorldState = with_staged a w x.sent x.way in
     let m : NodeState = record (node_at w a.mapper) { staged = Some (StagedPart x.sent x.way) } in

@@ -5,9 +5,7 @@ use Rattle.world_defs.specs.Table.{applied}
 use Rattle.world_defs.specs.Node.{to_send, packet_for, after_sending}
 use Rattle.world_defs.specs.Hearing.{hear}
 use Rattle.world_defs.specs.Step.{part_staged, planned_strikes, sent_out, injected, advanced, gave_up}
-use Rattle.world_defs.specs.Drain.{pass, drain}
-use Rattle.world_defs.specs.Asking.{sends}
-use Rattle.world_defs.specs.Install.{part_try, installed}
+use Rattle.world_defs.specs.Logs.{drain, sends, part_try, install}
 use Rattle.table_laws.specs.Examples.{adopted_world}
 use Rattle.table_laws.proofs.TwoHosts.{adopted-reached}
 use Rattle.install_laws.proofs.Leads.{leads-plan, reached-further}
@@ -26,17 +24,17 @@ both-can_install = record {
 }
 
 pub both-counted : BothAreCounted
-unfolding sends part_try installed pass drain hear applied to_send packet_for after_sending part_staged planned_strikes sent_out injected advanced gave_up
+unfolding sends part_try install drain hear applied to_send packet_for after_sending part_staged planned_strikes sent_out injected advanced gave_up
 both-counted = (refl, refl)
 
 pub part-missed : LostPartIsMissed
-unfolding sends part_try installed pass drain hear applied to_send packet_for after_sending part_staged planned_strikes sent_out injected advanced gave_up
+unfolding sends part_try install drain hear applied to_send packet_for after_sending part_staged planned_strikes sent_out injected advanced gave_up
 part-missed = (refl, refl, refl)
 
 pub answer-missed : LostAnswerIsMissed
-unfolding sends part_try installed pass drain hear applied to_send packet_for after_sending part_staged planned_strikes sent_out injected advanced gave_up
+unfolding sends part_try install drain hear applied to_send packet_for after_sending part_staged planned_strikes sent_out injected advanced gave_up
 answer-missed = (refl, refl, refl)
 
 pub second-counts : SecondTryCounts
-unfolding sends part_try installed pass drain hear applied to_send packet_for after_sending part_staged planned_strikes sent_out injected advanced gave_up
+unfolding sends part_try install drain hear applied to_send packet_for after_sending part_staged planned_strikes sent_out injected advanced gave_up
 second-counts = (refl, refl)

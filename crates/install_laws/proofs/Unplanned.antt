@@ -12,7 +12,6 @@ use Rattle.world_defs.proofs.Strikes.{Strike, strike_view}
 use Rattle.install_laws.proofs.Worlds.{installed-of}
 use Rattle.install_laws.specs.Counts.{UnplannedCountsAll}
 use Rattle.install_laws.proofs.Counting.{unharmed-all}
-use Rattle.log_defs.proofs.Asks.{install-log}
 
 -- no fault is planned for an injection between two worlds
 abbrev IsUnplanned : WorldState → WorldState → Type 0
@@ -82,4 +81,4 @@ along-so : Along Unharmed IsByteEvent
 along-so = record { same = λ w. unharmed-same w w refl refl refl; both = unharmed-both; event = λ w e q. step-leaves Unharmed follows-so calls-so w e }
 
 pub unplanned-all : UnplannedCountsAll
-unplanned-all a hosts tries w can some left none = unharmed-all a hosts tries w can some left ((subst (λ r. Unharmed w r.1) (sym (install-log a hosts tries w)) (installed-of Unharmed along-so a hosts tries w)).harmed none)
+unplanned-all a hosts tries w can some left none = unharmed-all a hosts tries w can some left ((installed-of Unharmed along-so a hosts tries w).harmed none)

@@ -11,9 +11,9 @@ use Rattle.world_defs.specs.EightBits.{IsByteFault, IsByteEvent, HasByteFaults}
 use Rattle.world_laws.specs.Shape.{IsWorld}
 use Rattle.world_laws.proofs.Shapes.{step-kept, adopted-world, planned-world}
 use Rattle.world_laws.proofs.Along.{Along, after_all-along}
-use Rattle.log_defs.specs.Logs.{settle, asks, install}
-use Rattle.log_defs.specs.Row.{IsRow}
-use Rattle.log_defs.proofs.Rows.{settle-row, asks-row, install-row, byte_settles, byte_asks}
+use Rattle.world_defs.specs.Logs.{settle, asks, install}
+use Rattle.world_defs.specs.Row.{IsRow}
+use Rattle.world_defs.proofs.LogRows.{settle-row, asks-row, install-row, byte_settles, byte_asks}
 
 -- what is kept from a world to another
 pub record Stays (w v : WorldState) : Type 0 where

@@ -2,10 +2,10 @@
 use Rattle.std.specs.Prelude.{◌≡◌, ◌⊎◌, ℕ, zero, suc, ◌<◌, Bool, true, false, List, [], ◌∷◌}
 use Rattle.world_defs.specs.Table.{Adoption}
 use Rattle.world_defs.specs.World.{WorldState, last_count}
-use Rattle.world_defs.specs.Install.{parts_of, installed}
+use Rattle.world_defs.specs.Install.{parts_of}
 use Rattle.world_defs.specs.Asking.{all_given_up}
-use Rattle.log_defs.specs.Log.{Log}
-use Rattle.log_defs.specs.Logs.{Tried, part_try, tries, parts}
+use Rattle.world_defs.specs.Log.{Log}
+use Rattle.world_defs.specs.Logs.{Tried, part_try, tries, parts, install}
 use Rattle.install_laws.specs.Premises.{CanInstall}
 
 -- A part is sent in vain so many times, and each time a planned fault loses, holds or flips a packet of that try: the
@@ -45,5 +45,5 @@ EachMissedWasHarmed a tries (h ∷ hs) w =
 abbrev pub MissedHostsWereHarmed : Type 0
 MissedHostsWereHarmed =
     (a : Adoption) (hosts : List ℕ) (tries : ℕ) (w : WorldState) → CanInstall a hosts w
-    → (installed a hosts tries w).1.injected < last_count
+    → (install a hosts tries w).world.injected < last_count
     → EachMissedWasHarmed a tries hosts (all_given_up w)

@@ -4,7 +4,7 @@ use Rattle.std.specs.Map.{lookup}
 use Rattle.world_defs.specs.Table.{Adoption}
 use Rattle.world_defs.specs.World.{WorldState, last_count}
 use Rattle.world_defs.specs.Asking.{all_given_up}
-use Rattle.world_defs.specs.Install.{installed}
+use Rattle.world_defs.specs.Logs.{install}
 use Rattle.install_laws.specs.Premises.{CanInstall}
 use Rattle.install_laws.specs.Cause.{host_installed, EachMissedWasHarmed}
 
@@ -17,36 +17,36 @@ EachIsAcknowledged a tries (h ∷ hs) w = ((host_installed a tries h w).value �
 -- no more hosts are counted than there are
 abbrev pub CountsAtMostAll : Type 0
 CountsAtMostAll = (a : Adoption) (hosts : List ℕ) (tries : ℕ) (w : WorldState)
-    → (installed a hosts tries w).0 ≤ length hosts
+    → (install a hosts tries w).value ≤ length hosts
 
 -- all are counted exactly where each part of each host was acknowledged
 abbrev pub CountsAllWhereAcknowledged : Type 0
 CountsAllWhereAcknowledged =
     (a : Adoption) (hosts : List ℕ) (tries : ℕ) (w : WorldState)
-    → ((installed a hosts tries w).0 ≡ length hosts) ↔ EachIsAcknowledged a tries hosts (all_given_up w)
+    → ((install a hosts tries w).value ≡ length hosts) ↔ EachIsAcknowledged a tries hosts (all_given_up w)
 
 -- each host that isn't counted costs as many planned faults as a part has tries
 abbrev pub EachMissCostsFaults : Type 0
 EachMissCostsFaults =
     (a : Adoption) (hosts : List ℕ) (tries : ℕ) (w : WorldState) → CanInstall a hosts w
-    → (installed a hosts tries w).1.injected < last_count
-    → w.harmed + tries * length hosts ≤ (installed a hosts tries w).1.harmed + tries * (installed a hosts tries w).0
+    → (install a hosts tries w).world.injected < last_count
+    → w.harmed + tries * length hosts ≤ (install a hosts tries w).world.harmed + tries * (install a hosts tries w).value
 
 -- so all hosts are counted where a part has a try at least and no planned fault loses, holds or flips a packet
 abbrev pub UnharmedCountsAll : Type 0
 UnharmedCountsAll =
     (a : Adoption) (hosts : List ℕ) (tries : ℕ) (w : WorldState) → CanInstall a hosts w → 0 < tries
-    → (installed a hosts tries w).1.injected < last_count
-    → (installed a hosts tries w).1.harmed ≡ w.harmed → (installed a hosts tries w).0 ≡ length hosts
+    → (install a hosts tries w).world.injected < last_count
+    → (install a hosts tries w).world.harmed ≡ w.harmed → (install a hosts tries w).value ≡ length hosts
 
 -- and so where no fault is planned for an injection of it
 abbrev pub UnplannedCountsAll : Type 0
 UnplannedCountsAll =
     (a : Adoption) (hosts : List ℕ) (tries : ℕ) (w : WorldState) → CanInstall a hosts w → 0 < tries
-    → (installed a hosts tries w).1.injected < last_count
-    → ((number : ℕ) → w.injected < number → number ≤ (installed a hosts tries w).1.injected
+    → (install a hosts tries w).world.injected < last_count
+    → ((number : ℕ) → w.injected < number → number ≤ (install a hosts tries w).world.injected
     → lookup (nat_eq number) w.plan ≡ None)
-    → (installed a hosts tries w).0 ≡ length hosts
+    → (install a hosts tries w).value ≡ length hosts
 
 -- What the count of an installation shows: each host that isn't counted has a part each of whose tries met a planned
 -- loss, hold or flip, on the part or on its acknowledgement; so all hosts are counted where none did.
@@ -58,5 +58,5 @@ pub record TellsCause (a : Adoption) (hosts : List ℕ) (tries acked : ℕ) (w v
 abbrev pub InstallingTellsCause : Type 0
 InstallingTellsCause =
     (a : Adoption) (hosts : List ℕ) (tries : ℕ) (w : WorldState) → CanInstall a hosts w → 0 < tries
-    → (installed a hosts tries w).1.injected < last_count
-    → TellsCause a hosts tries (installed a hosts tries w).0 w (installed a hosts tries w).1
+    → (install a hosts tries w).world.injected < last_count
+    → TellsCause a hosts tries (install a hosts tries w).value w (install a hosts tries w).world

@@ -3,8 +3,8 @@ use Rattle.std.specs.Prelude.{◌≡◌, ℕ, List, [], ◌∷◌, Some, None}
 use Rattle.world_defs.specs.declared.fault.Fault.TheVariants.{Lose}
 use Rattle.world_defs.specs.Table.{active_epoch}
 use Rattle.world_defs.specs.World.{WorldState, node_at, planned}
-use Rattle.world_defs.specs.Install.{installed}
 use Rattle.world_defs.specs.Examples.{setup_adoption}
+use Rattle.world_defs.specs.Logs.{install}
 use Rattle.table_laws.specs.Examples.{adopted_world}
 use Rattle.install_laws.specs.Premises.{CanInstall}
 
@@ -22,24 +22,24 @@ BothCanInstall = CanInstall setup_adoption both_hosts (losing 1)
 
 -- where no fault is planned, both hosts are counted, by two injections
 abbrev pub BothAreCounted : Type 0
-BothAreCounted = ((installed setup_adoption both_hosts 1 adopted_world).0 ≡ 2)
-    × ((installed setup_adoption both_hosts 1 adopted_world).1.injected ≡ 2)
+BothAreCounted = ((install setup_adoption both_hosts 1 adopted_world).value ≡ 2)
+    × ((install setup_adoption both_hosts 1 adopted_world).world.injected ≡ 2)
 
 -- where the part is lost, one try counts the adopter alone, and host 1 has no table
 abbrev pub LostPartIsMissed : Type 0
 LostPartIsMissed =
-    ((installed setup_adoption both_hosts 1 (losing 1)).0 ≡ 1)
-    × ((installed setup_adoption both_hosts 1 (losing 1)).1.harmed ≡ 1)
-    × (active_epoch (node_at (installed setup_adoption both_hosts 1 (losing 1)).1 1).table ≡ None)
+    ((install setup_adoption both_hosts 1 (losing 1)).value ≡ 1)
+    × ((install setup_adoption both_hosts 1 (losing 1)).world.harmed ≡ 1)
+    × (active_epoch (node_at (install setup_adoption both_hosts 1 (losing 1)).world 1).table ≡ None)
 
 -- where its acknowledgement is lost, one try counts the adopter alone too, though host 1 has its table
 abbrev pub LostAnswerIsMissed : Type 0
 LostAnswerIsMissed =
-    ((installed setup_adoption both_hosts 1 (losing 2)).0 ≡ 1)
-    × ((installed setup_adoption both_hosts 1 (losing 2)).1.harmed ≡ 1)
-    × (active_epoch (node_at (installed setup_adoption both_hosts 1 (losing 2)).1 1).table ≡ Some 1)
+    ((install setup_adoption both_hosts 1 (losing 2)).value ≡ 1)
+    × ((install setup_adoption both_hosts 1 (losing 2)).world.harmed ≡ 1)
+    × (active_epoch (node_at (install setup_adoption both_hosts 1 (losing 2)).world 1).table ≡ Some 1)
 
 -- a second try counts both
 abbrev pub SecondTryCounts : Type 0
-SecondTryCounts = ((installed setup_adoption both_hosts 2 (losing 1)).0 ≡ 2)
-    × ((installed setup_adoption both_hosts 2 (losing 2)).0 ≡ 2)
+SecondTryCounts = ((install setup_adoption both_hosts 2 (losing 1)).value ≡ 2)
+    × ((install setup_adoption both_hosts 2 (losing 2)).value ≡ 2)

@@ -4,8 +4,8 @@ use Rattle.std.specs.Map.{lookup}
 use Rattle.link_defs.specs.Links.{is_idle}
 use Rattle.world_defs.specs.Table.{Adoption}
 use Rattle.world_defs.specs.World.{WorldState, fabric_of, host_count, node_at}
-use Rattle.world_defs.specs.Install.{installed}
 use Rattle.world_defs.specs.EightBits.{HasByteFaults}
+use Rattle.world_defs.specs.Logs.{install}
 use Rattle.install_laws.specs.Premises.{CanInstall}
 
 -- The fabric, each host's connections and ports, the clients and the adopted set are as before; no fault is planned
@@ -26,14 +26,14 @@ pub record IsInstallKept (w v : WorldState) : Type 0 where
 -- an installation keeps them
 abbrev pub InstallingKeeps : Type 0
 InstallingKeeps = (a : Adoption) (hosts : List ℕ) (tries : ℕ) (w : WorldState) → CanInstall a hosts w
-    → IsInstallKept w (installed a hosts tries w).1
+    → IsInstallKept w (install a hosts tries w).world
 
 -- and leaves idle links
 abbrev pub InstallingEndsIdle : Type 0
 InstallingEndsIdle = (a : Adoption) (hosts : List ℕ) (tries : ℕ) (w : WorldState) → CanInstall a hosts w
-    → is_idle (installed a hosts tries w).1.links ≡ true
+    → is_idle (install a hosts tries w).world.links ≡ true
 
 -- and the same set can be installed again
 abbrev pub CanInstallAgain : Type 0
 CanInstallAgain = (a : Adoption) (hosts : List ℕ) (tries : ℕ) (w : WorldState) → CanInstall a hosts w
-    → CanInstall a hosts (installed a hosts tries w).1
+    → CanInstall a hosts (install a hosts tries w).world

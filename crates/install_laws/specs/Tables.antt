@@ -4,7 +4,7 @@ use Rattle.std.specs.List.{filter}
 use Rattle.world_defs.specs.Table.{Adoption}
 use Rattle.world_defs.specs.World.{WorldState, node_at}
 use Rattle.world_defs.specs.Asking.{all_given_up}
-use Rattle.world_defs.specs.Install.{installed}
+use Rattle.world_defs.specs.Logs.{install}
 use Rattle.install_laws.specs.Premises.{CanInstall}
 use Rattle.install_laws.specs.Cause.{host_installed}
 
@@ -23,10 +23,10 @@ EachCountedHasTable a tries (h ∷ hs) w v =
 abbrev pub CountedHostsHaveTables : Type 0
 CountedHostsHaveTables =
     (a : Adoption) (hosts : List ℕ) (tries : ℕ) (w : WorldState) → CanInstall a hosts w → has_table w a.mapper ≡ true
-    → EachCountedHasTable a tries hosts (all_given_up w) (installed a hosts tries w).1
+    → EachCountedHasTable a tries hosts (all_given_up w) (install a hosts tries w).world
 
 -- so no more hosts are counted than have one
 abbrev pub CountsTables : Type 0
 CountsTables =
     (a : Adoption) (hosts : List ℕ) (tries : ℕ) (w : WorldState) → CanInstall a hosts w → has_table w a.mapper ≡ true
-    → (installed a hosts tries w).0 ≤ length (filter (has_table (installed a hosts tries w).1) hosts)
+    → (install a hosts tries w).value ≤ length (filter (has_table (install a hosts tries w).world) hosts)

@@ -17,11 +17,9 @@ use Rattle.world_defs.specs.declared.effect.Effect.{Effect}
 use Rattle.world_defs.specs.Node.{NodeState, new_node}
 use Rattle.world_defs.specs.World.{WorldState, fabric_of, host_count, last_count, node_at, addresses, adopted_by}
 use Rattle.world_defs.specs.Step.{step}
-use Rattle.world_defs.specs.Install.{installed}
-use Rattle.log_defs.specs.Logs as log
-use Rattle.log_defs.specs.Log.{Log}
-use Rattle.log_defs.specs.Laws.{came_to}
-use Rattle.log_defs.proofs.Asks.{install-log}
+use Rattle.world_defs.proofs.LogViews.{installed}
+use Rattle.world_defs.specs.Logs as log
+use Rattle.world_defs.specs.Log.{Log, came_to}
 use Rattle.run_defs.specs.declared.command.Command.{Command}
 use Rattle.run_defs.specs.declared.command.Command.TheVariants.{Walk, Map, Circuit, Routes, Install, Begin as BeginCommand, Close as CloseCommand, Poll as PollCommand, Tokens, Provide as ProvideCommand, Send as SendCommand, Plan, Step, Settle, Finish, Duo}
 use Rattle.run_defs.specs.declared.line.Line.TheVariants.{MapBusy, Installed, InstallRefused}
@@ -277,7 +275,7 @@ install-prints s next tries acked total rest (Some l) are e = by (is_idle s.worl
     by true true p q d = refusal-prints s next tries acked total rest OtherInstalled d
     by true false p q d =
         let w : WorldState = adopted_by s.world l.mapper l.routes in
-        done-prints s next tries acked total rest l (log.install (adoption_of l) l.hosts tries w) are p q (install-log (adoption_of l) l.hosts tries w) d
+        done-prints s next tries acked total rest l (log.install (adoption_of l) l.hosts tries w) are p q refl d
 
 -- a list that a test leaves as long as it is passes it
 filter-most : {X : Type 0} (p : X → Bool) (xs : List X) → length (filter p xs) ≤ length xs
@@ -321,7 +319,7 @@ line-so n commands out s next tries acked total f all r p =
     let behind : (installed (adoption_of p.last) p.last.hosts tries w).1 ≡ next.world = ap (λ x. x.1) p.counted in
     let has : (installed (adoption_of p.last) p.last.hosts tries w).0 ≤ length (filter (has_table (installed (adoption_of p.last) p.last.hosts tries w).1) p.last.hosts) = counts-tables (adoption_of p.last) p.last.hosts tries w can adopter in
     let now : (installed (adoption_of p.last) p.last.hosts tries w).0 ≤ length (filter (has_table next.world) p.last.hosts) = subst (λ v. (installed (adoption_of p.last) p.last.hosts tries w).0 ≤ length (filter (has_table v) p.last.hosts)) behind has in
-    let counted : came_to (log.install (adoption_of p.last) p.last.hosts tries w) ≡ (acked, next.world) = sym (install-log (adoption_of p.last) p.last.hosts tries w) ∙ p.counted in
+    let counted : came_to (log.install (adoption_of p.last) p.last.hosts tries w) ≡ (acked, next.world) = p.counted in
     let again = subst (CanInstall (adoption_of p.last) p.last.hosts) behind (install-again (adoption_of p.last) p.last.hosts tries w can) in
     record {
       last = p.last;

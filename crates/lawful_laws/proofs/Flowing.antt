@@ -24,7 +24,7 @@ use Rattle.world_defs.specs.Node.{NodeState}
 use Rattle.world_defs.specs.Hearing.{hear}
 use Rattle.world_defs.specs.World.{WorldState, fabric_of, host_count, new_world, node_at, with_links}
 use Rattle.world_defs.specs.Step.{of_links, was_reset, arrived, advanced_by, advanced, step}
-use Rattle.world_defs.specs.Drain.{drain}
+use Rattle.world_defs.specs.Logs.{drain}
 use Rattle.world_defs.specs.Traffic.{routes_in, adopted_routes, IsLawful, IsLawfulTraffic}
 use Rattle.world_laws.specs.Reached.{IsOfDrain}
 use Rattle.world_laws.proofs.Along.{Along, drain-along}
@@ -184,7 +184,7 @@ drained-along n = record { same = λ w p. p; both = λ u v w f g p. g (f p); eve
 
 pub lawful-drains : LawfulDrainsIdle
 lawful-drains n w r t =
-    let v : WorldState = (drain w).1 in
+    let v : WorldState = (drain w).world in
     let p : IsFlowing n v = drain-along (λ a b. IsFlowing n a → IsFlowing n b) IsOfDrain (drained-along n) (λ c. tt) w (r, t) in
     ⊎_elim (λ e. e) (λ e. absurd (true≢false (sym e ∙ lawful-flows n v p.0 p.1))) (drain-still w)
 

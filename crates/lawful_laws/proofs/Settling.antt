@@ -15,11 +15,10 @@ use Rattle.world_laws.specs.Draining.{full_count}
 use Rattle.world_laws.specs.Reached.{IsOfClear}
 use Rattle.world_laws.proofs.Along.{after_all-along}
 use Rattle.world_laws.proofs.Clearing.{clear-resets}
-use Rattle.log_defs.specs.Log.{Log, told, and_do, up_to}
-use Rattle.log_defs.specs.Logs.{Moved, Rounds, drain, clear, unmoved, moved_both, cleared, replays, is_last_pass, round_pass, round_passes, round, rounds_both, one_round, settle}
-use Rattle.log_defs.specs.Row.{IsRow}
-use Rattle.log_defs.proofs.Rows.{steps-after, all-map, row-none, row-both, clear-row, round-row, byte_clears, byte_settles}
-use Rattle.log_defs.proofs.Worlds.{drain-log, clear-log}
+use Rattle.world_defs.specs.Log.{Log, told, and_do, up_to}
+use Rattle.world_defs.specs.Logs.{Moved, Rounds, drain, clear, unmoved, moved_both, cleared, replays, is_last_pass, round_pass, round_passes, round, rounds_both, one_round, settle}
+use Rattle.world_defs.specs.Row.{IsRow}
+use Rattle.world_defs.proofs.LogRows.{steps-after, all-map, row-none, row-both, clear-row, round-row, byte_clears, byte_settles}
 use Rattle.act_defs.specs.Acts.{IsReached}
 use Rattle.lawful_laws.specs.Resets.{BeginsLawful, OnlyUnlawfulIsReset}
 use Rattle.lawful_laws.proofs.Flowing.{advance-lawful, reset-lawful, event-reached, lawful-clears}
@@ -98,8 +97,7 @@ clear-unreset : (n : Network) (w : WorldState) → IsReached n w → AreLawful w
 unfolding clear
 clear-unreset n w r all =
     let v : WorldState = (drain w).world in
-    sym (ap (λ p. p.0) (clear-log w))
-    ∙ ⊎_elim (lawful-clears n w r) (λ none. clear-resets w ∙ ap (λ (u : WorldState). full_count u.links.channels) (ap (λ p. p.1) (drain-log w)) ∙ no_channels v.links.channels none)
+    ⊎_elim (lawful-clears n w r) (λ none. clear-resets w ∙ no_channels v.links.channels none)
     (begins w (drain w).events (resets_of v) (clear-row {Q = IsOfClear} (record { advance = λ c. tt; reset = λ c. tt }) w).kinds all)
 
 clear-flows : (n : Network) (w : WorldState) → Flows n w (clear w).events (clear w).value (clear w).world

@@ -5,8 +5,8 @@ use Rattle.net_defs.specs.Network.{Network}
 use Rattle.link_defs.specs.Links.{is_idle}
 use Rattle.link_defs.specs.Hops.{is_stuck}
 use Rattle.world_defs.specs.World.{WorldState}
-use Rattle.world_defs.specs.Drain.{drain, clear}
 use Rattle.world_defs.specs.Traffic.{IsLawfulTraffic}
+use Rattle.world_defs.specs.Logs.{drain, clear}
 use Rattle.act_defs.specs.Acts.{IsReached}
 
 -- links of lawful traffic aren't stuck
@@ -15,8 +15,8 @@ LawfulIsNotStuck = (n : Network) (w : WorldState) → IsReached n w → IsLawful
 
 -- so a drain leaves them idle
 abbrev pub LawfulDrainsIdle : Type 0
-LawfulDrainsIdle = (n : Network) (w : WorldState) → IsReached n w → IsLawfulTraffic w → is_idle (drain w).1.links ≡ true
+LawfulDrainsIdle = (n : Network) (w : WorldState) → IsReached n w → IsLawfulTraffic w → is_idle (drain w).world.links ≡ true
 
 -- and a clear resets no channel
 abbrev pub LawfulNeedsNoReset : Type 0
-LawfulNeedsNoReset = (n : Network) (w : WorldState) → IsReached n w → IsLawfulTraffic w → (clear w).0 ≡ 0
+LawfulNeedsNoReset = (n : Network) (w : WorldState) → IsReached n w → IsLawfulTraffic w → (clear w).value ≡ 0

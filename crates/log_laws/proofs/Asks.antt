@@ -6,10 +6,10 @@ use Rattle.world_defs.specs.World.{WorldState, addresses}
 use Rattle.world_defs.specs.Step.{step}
 use Rattle.world_defs.specs.EightBits.{IsByteEvent}
 use Rattle.world_defs.specs.Asking.{reply_in, probed_host, all_given_up}
-use Rattle.log_defs.specs.Log.{Log}
-use Rattle.log_defs.specs.Logs as log
-use Rattle.log_defs.specs.Row.{IsPartWay}
-use Rattle.log_defs.proofs.Rows.{sends-row, host_try-row, tries-row, byte_asks}
+use Rattle.world_defs.specs.Log.{Log}
+use Rattle.world_defs.specs.Logs as log
+use Rattle.world_defs.specs.Row.{IsPartWay}
+use Rattle.world_defs.proofs.LogRows.{sends-row, host_try-row, tries-row, byte_asks}
 use Rattle.log_laws.proofs.PartWay.{way-front, way-behind, way-step}
 
 -- along the drain after an injection

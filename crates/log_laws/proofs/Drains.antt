@@ -9,12 +9,12 @@ use Rattle.world_defs.specs.declared.effect.Effect.{Effect}
 use Rattle.world_defs.specs.EightBits.{IsByteEvent}
 use Rattle.world_defs.specs.World.{WorldState}
 use Rattle.world_defs.specs.Step.{step, steps, after_all}
-use Rattle.world_defs.specs.Drain.{changes, channels_of, pass, resets_of}
+use Rattle.world_defs.specs.Drain.{changes, channels_of, resets_of}
 use Rattle.world_laws.proofs.Draining.{changes-push, advance-changed, advance-world, pass-cost}
-use Rattle.log_defs.specs.Log.{Log, still}
-use Rattle.log_defs.specs.Logs as log
-use Rattle.log_defs.specs.Row.{IsPartWay}
-use Rattle.log_defs.proofs.Rows.{steps-after, drain-row, byte_clears}
+use Rattle.world_defs.specs.Log.{Log, still}
+use Rattle.world_defs.specs.Logs as log
+use Rattle.world_defs.specs.Row.{IsPartWay}
+use Rattle.world_defs.proofs.LogRows.{steps-after, drain-row, byte_clears}
 use Rattle.log_laws.specs.Drains.{DrainRests, DrainGoesOn}
 use Rattle.log_laws.proofs.PartWay.{way-behind, way-front, way-as, way-still}
 use Rattle.log_laws.proofs.UpTo.{Lowers, onto, up_to-on, up_to-enough}
@@ -30,7 +30,6 @@ goes : (w : WorldState) → log.is_still (log.pass w).value ≡ false → log.dr
 goes w e = ap (λ b. if b then still [] w else log.pass w) e
 
 lowers : Lowers is_last log.drain_pass (λ w. Unit {0}) (λ w. total_hops w.links)
-unfolding pass
 lowers = record { keeps = λ w q e. tt; less = λ w q e. by w (log.is_still (log.pass w).value) refl e }
   where
     by : (w : WorldState) (b : Bool) → log.is_still (log.pass w).value ≡ b → log.is_still (if b then still [] w else log.pass w).value ≡ false
@@ -55,7 +54,7 @@ drain-rests w e =
     by false is = absurd (true≢false (sym is))
 
 pub drain-goes_on : DrainGoesOn
-unfolding log.drain pass
+unfolding log.drain
 drain-goes_on w e =
     let more : total_hops w.links + 1 ≡ suc (total_hops w.links) = omega arith in
     let some : changes (log.pass w).value ≢ 0 = λ none. grind (arith, nat_tests) in
@@ -67,24 +66,21 @@ drain-goes_on w e =
     ∙ ap (onto joined (log.pass w)) (up_to-enough joined [] is_last log.drain_pass (λ v. Unit {0}) (λ v. total_hops v.links) lowers (total_hops w.links) (total_hops next.links + 1) next tt (omega (arith, cost, some)) (omega arith))
 
 -- the events of a drain whose first pass changes something
-pub drain-events : (w : WorldState) → changes (pass w).0 ≢ 0 → (log.drain w).events ≡ map Advance (channels_of w) ++ (log.drain (pass w).1).events
-unfolding pass
+pub drain-events : (w : WorldState) → changes (log.pass w).value ≢ 0 → (log.drain w).events ≡ map Advance (channels_of w) ++ (log.drain (log.pass w).world).events
 drain-events w some = let differs : log.is_still (log.pass w).value ≡ false = grind (arith, nat_tests) in ap (λ l. l.events) (drain-goes_on w differs)
 
 -- and of one whose first pass changes nothing
-pub drain-none : (w : WorldState) → changes (pass w).0 ≡ 0 → (log.drain w).events ≡ []
-unfolding pass
+pub drain-none : (w : WorldState) → changes (log.pass w).value ≡ 0 → (log.drain w).events ≡ []
 drain-none w none = let same : log.is_still (log.pass w).value ≡ true = grind (arith, nat_tests) in ap (λ l. l.events) (drain-rests w same)
 
-after-pass : (w : WorldState) → (pass w).1 ≡ after_all w (map Advance (channels_of w))
-unfolding pass
+after-pass : (w : WorldState) → (log.pass w).world ≡ after_all w (map Advance (channels_of w))
 after-pass w = steps-after w (map Advance (channels_of w))
 
 -- part of the way along a drain, after a first pass that changed something
-pub drain-on : (w next v : WorldState) → changes (pass w).0 ≢ 0 → next ≡ (pass w).1 → IsPartWay next (log.drain next).events v → IsPartWay w (log.drain w).events v
+pub drain-on : (w next v : WorldState) → changes (log.pass w).value ≢ 0 → next ≡ (log.pass w).world → IsPartWay next (log.drain next).events v → IsPartWay w (log.drain w).events v
 drain-on w next v some is p =
-    way-as w v (log.drain w).events (map Advance (channels_of w) ++ (log.drain (pass w).1).events) (drain-events w some)
-    (way-behind w (pass w).1 v (map Advance (channels_of w)) (log.drain (pass w).1).events (after-pass w) (subst (λ u. IsPartWay u (log.drain u).events v) is p))
+    way-as w v (log.drain w).events (map Advance (channels_of w) ++ (log.drain (log.pass w).world).events) (drain-events w some)
+    (way-behind w (log.pass w).world v (map Advance (channels_of w)) (log.drain (log.pass w).world).events (after-pass w) (subst (λ u. IsPartWay u (log.drain u).events v) is p))
 
 -- the first of advances of which none changed anything
 first-still : (w : WorldState) (c : ℕ) (cs : List ℕ) → changes (steps w (map Advance (c ∷ cs))).0 ≡ 0 → ((step w (Advance c)).1 ≡ w) × (changes (steps w (map Advance cs)).0 ≡ 0)
@@ -118,22 +114,21 @@ advances-still w (c ∷ cs) none (d ∷ ds) rest is =
     ∙ ap (λ v. after_all v ds) first.0
     ∙ advances-still w cs first.1 ds rest (tails (Advance c) d (map Advance cs) (ds ++ rest) is)
 
-pass-still : (w v : WorldState) → changes (pass w).0 ≡ 0 → IsPartWay w (map Advance (channels_of w)) v → v ≡ w
-unfolding pass
+pass-still : (w v : WorldState) → changes (log.pass w).value ≡ 0 → IsPartWay w (map Advance (channels_of w)) v → v ≡ w
 pass-still w v none p = p.there ∙ advances-still w (channels_of w) none p.done p.front.rest p.front.both
 
 -- part of the way along the first pass of a drain
 pub drain-within : (w v : WorldState) → IsPartWay w (map Advance (channels_of w)) v → IsPartWay w (log.drain w).events v
-drain-within w v p = by (nat_eq (changes (pass w).0) 0) refl
+drain-within w v p = by (nat_eq (changes (log.pass w).value) 0) refl
   where
-    by : (b : Bool) → nat_eq (changes (pass w).0) 0 ≡ b → IsPartWay w (log.drain w).events v
+    by : (b : Bool) → nat_eq (changes (log.pass w).value) 0 ≡ b → IsPartWay w (log.drain w).events v
     by true is =
-        let none : changes (pass w).0 ≡ 0 = grind (arith, nat_tests) in
+        let none : changes (log.pass w).value ≡ 0 = grind (arith, nat_tests) in
         way-still w v (log.drain w).events (pass-still w v none p)
     by false is =
-        let some : changes (pass w).0 ≢ 0 = λ none. grind (arith, nat_tests) in
-        way-as w v (log.drain w).events (map Advance (channels_of w) ++ (log.drain (pass w).1).events) (drain-events w some)
-        (way-front w v (map Advance (channels_of w)) (log.drain (pass w).1).events p)
+        let some : changes (log.pass w).value ≢ 0 = λ none. grind (arith, nat_tests) in
+        way-as w v (log.drain w).events (map Advance (channels_of w) ++ (log.drain (log.pass w).world).events) (drain-events w some)
+        (way-front w v (map Advance (channels_of w)) (log.drain (log.pass w).world).events p)
 
 -- part of the way along the drain of a clear
 pub clear-within : (w v : WorldState) → IsPartWay w (log.drain w).events v → IsPartWay w (log.clear w).events v

@@ -7,30 +7,22 @@ use Rattle.world_defs.specs.EightBits.{IsByteEvent}
 use Rattle.world_defs.specs.Node.{node_expired, unacknowledged_to}
 use Rattle.world_defs.specs.World.{WorldState, addresses, node_at, with_node}
 use Rattle.world_defs.specs.Step.{expired, step, steps, after_all}
-use Rattle.world_defs.specs.Settle.{expiries, serials, round_pass, is_last_pass, pass_bound, round, is_last_round, round_bound}
+use Rattle.world_defs.specs.Settle.{expiries, serials, pass_bound, is_last_round, round_bound}
 use Rattle.world_laws.specs.Shape.{HasSenders}
 use Rattle.world_laws.proofs.Along.{Along, expiries-along}
-use Rattle.world_laws.proofs.Passes.{measure, pass-cost, not_last-moves, round-is}
+use Rattle.world_laws.proofs.Passes.{measure, pass-less}
 use Rattle.world_laws.proofs.Rounds.{Going, left_over, not_last-less, round_going, going_senders}
-use Rattle.log_defs.specs.Log.{Log}
-use Rattle.log_defs.specs.Logs as log
-use Rattle.log_defs.specs.Row.{IsPartWay}
-use Rattle.log_defs.proofs.Rows.{steps-after, all-map, clear-row, cleared-row, byte_clears}
-use Rattle.log_defs.proofs.Worlds.{stretch, round_pass-log, round-log}
+use Rattle.world_defs.specs.Log.{Log}
+use Rattle.world_defs.specs.Logs as log
+use Rattle.world_defs.specs.Row.{IsPartWay}
+use Rattle.world_defs.proofs.LogRows.{steps-after, all-map, clear-row, cleared-row, byte_clears}
 use Rattle.log_laws.proofs.PartWay.{way-front, way-behind, way-step, way-as}
 use Rattle.log_laws.proofs.UnderWay.{behind}
 use Rattle.log_laws.proofs.UpTo.{Lowers, up_to-on, up_to-last, up_to-enough, up_to-within}
 
 -- passes lower what injections and limbo can still move
 pub passes-lower : Lowers log.is_last_pass log.round_pass (λ w. Unit {0}) measure
-passes-lower = record { keeps = λ w q e. tt; less = less }
-  where
-    less : (w : WorldState) → Unit {0} → log.is_last_pass w (log.round_pass w) ≡ false → measure (log.round_pass w).world < measure w
-    less w q e =
-        let is : stretch (log.round_pass w) ≡ round_pass w = sym (round_pass-log w) in
-        let some = not_last-moves (stretch (log.round_pass w)) e in
-        let cost = subst (λ s. s.moves + measure s.world ≤ measure w) (sym is) (pass-cost w) in
-        omega (arith, cost, some)
+passes-lower = record { keeps = λ w q e. tt; less = λ w q e. (pass-less w q e).1 }
 
 -- the passes from a world on
 abbrev pub passes_from : WorldState → Log log.Moved
@@ -145,7 +137,7 @@ abbrev is_last : WorldState → Log log.Rounds → Bool
 is_last before r = is_last_round before r.world
 
 pub going : (w : WorldState) → Going w (log.round w).world
-going w = subst (λ s. Going w s.world) (round-log w) (round_going w (round w) (round-is w))
+going w = round_going w
 
 rounds-lower : Lowers is_last log.one_round HasSenders left_over
 rounds-lower = record {

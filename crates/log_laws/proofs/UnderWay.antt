@@ -4,9 +4,9 @@ use Rattle.std.proofs.lemmas.List.{append_assoc}
 use Rattle.world_defs.specs.declared.event.Event.{Event}
 use Rattle.world_defs.specs.World.{WorldState}
 use Rattle.world_defs.specs.Step.{after_all}
-use Rattle.log_defs.specs.Log.{Log}
-use Rattle.log_defs.specs.Row.{IsPartWay}
-use Rattle.log_defs.proofs.Rows.{after_all-append}
+use Rattle.world_defs.specs.Log.{Log}
+use Rattle.world_defs.specs.Row.{IsPartWay}
+use Rattle.world_defs.proofs.LogRows.{after_all-append}
 use Rattle.log_laws.proofs.PartWay.{way-behind, way-as}
 
 -- one log after events: what it came to is joined to what these did

@@ -1,8 +1,8 @@
 -- One thing up to its last: once a bound is enough, a greater one is as good; and what is part of the way along it.
 use Rattle.std.proofs.Common.{◌≡◌, ◌<◌, ◌++◌, ℕ, zero, suc, Bool, true, false, refl, ap, arith, if◌then◌else◌}
 use Rattle.world_defs.specs.World.{WorldState}
-use Rattle.log_defs.specs.Log.{Log, told, and_do, up_to}
-use Rattle.log_defs.specs.Row.{IsPartWay}
+use Rattle.world_defs.specs.Log.{Log, told, and_do, up_to}
+use Rattle.world_defs.specs.Row.{IsPartWay}
 use Rattle.log_laws.proofs.PartWay.{way-front}
 
 -- one, and what follows it

@@ -1,8 +1,8 @@
 -- A drain goes on pass by pass: what bounds its passes doesn't count.
 use Rattle.std.specs.Prelude.{◌≡◌, true, false, [], ◌++◌}
 use Rattle.world_defs.specs.World.{WorldState}
-use Rattle.log_defs.specs.Log.{still, told, and_do}
-use Rattle.log_defs.specs.Logs.{is_still, pass, drain}
+use Rattle.world_defs.specs.Log.{still, told, and_do}
+use Rattle.world_defs.specs.Logs.{is_still, pass, drain}
 
 -- where the first pass changes nothing, a drain is nothing
 abbrev pub DrainRests : Type 0

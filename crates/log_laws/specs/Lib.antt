@@ -1,1 +1,3 @@
 pub mod Drains
+pub mod Examples
+pub mod Leads

@@ -12,9 +12,8 @@ use Rattle.journal_defs.specs.declared.entry.Entry.{Entry}
 use Rattle.growth_laws.specs.Laws.{IsTold, TellsTruth}
 use Rattle.growth_laws.proofs.Existence.{told_journal_exists}
 use Rattle.world_defs.specs.World.{WorldState, fabric_of}
-use Rattle.log_defs.specs.Log.{Log}
-use Rattle.log_defs.specs.Logs as log
-use Rattle.log_defs.proofs.Asks.{ask-log}
+use Rattle.world_defs.specs.Log.{Log}
+use Rattle.world_defs.specs.Logs as log
 use Rattle.ask_laws.proofs.Answering.{ask-true}
 use Rattle.mapping_laws.specs.Laws.{CanMap}
 use Rattle.mapping_laws.specs.Asked.{AskedJournalExists}
@@ -69,7 +68,7 @@ tells-truth host depth tries w can j x = by (list_all fits (walks_of j) && fits 
     a = (log.ask host tries x v).value.answer
 
     there : AreAsked host tries w (walks_of j) (log.asks host tries (walks_of j) w) → IsCarried x → a ≢ Nothing → a ≡ answer (fabric_of w) host x
-    there so is some = of (subst (λ y. (y.answer ≡ answer (fabric_of v) host x) ⊎ ((y.answer ≡ Nothing) × (y.drowned ≡ true))) (ask-log host tries x v) (ask-true v host tries x (ask-by v host x so.can is)))
+    there so is some = of (ask-true v host tries x (ask-by v host x so.can is))
       where
         of : (a ≡ answer (fabric_of v) host x) ⊎ ((a ≡ Nothing) × ((log.ask host tries x v).value.drowned ≡ true)) → a ≡ answer (fabric_of w) host x
         of (inl e) = e ∙ ap (λ n. answer n host x) so.kept.fabric

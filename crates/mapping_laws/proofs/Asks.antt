@@ -10,16 +10,14 @@ use Rattle.net_defs.specs.Route.{answer}
 use Rattle.net_defs.specs.Turn.{IsTurn}
 use Rattle.journal_defs.specs.Truth.{IsTrueJournal, IsTrueWhereFound}
 use Rattle.world_defs.specs.World.{WorldState, fabric_of, last_count}
-use Rattle.world_defs.specs.Asking.{Asked, ask}
 use Rattle.ask_laws.specs.Premises.{CanAsk}
 use Rattle.ask_laws.specs.Kept.{IsAskKept}
 use Rattle.ask_laws.proofs.Answering.{ask-keeps, ask-again, ask-true, ask-heard, ask-harmed}
 use Rattle.ask_laws.proofs.Few.{ask-few}
 use Rattle.ask_laws.proofs.Ready.{kept-same, kept-both}
-use Rattle.log_defs.specs.Log.{Log}
-use Rattle.log_defs.specs.Logs as log
-use Rattle.log_defs.specs.Laws.{asked_to}
-use Rattle.log_defs.proofs.Asks.{ask-log}
+use Rattle.world_defs.specs.Log.{Log}
+use Rattle.world_defs.specs.Logs as log
+use Rattle.world_defs.proofs.LogViews.{Asked, asked_to, ask}
 
 -- a test as a count of one or none
 abbrev one_if : Bool → ℕ
@@ -90,7 +88,7 @@ ask-push host tries walk walks w can is others = record {
     a = asked_to (log.ask host tries walk w)
 
     is_log : ask host tries walk w ≡ a
-    is_log = ask-log host tries walk w
+    is_log = refl
 
     rest : Log log.AskedAll
     rest = log.asks host tries walks a.world

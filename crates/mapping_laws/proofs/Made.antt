@@ -30,8 +30,8 @@ use Rattle.map_laws.proofs.Ruled.{quotient_is_map}
 use Rattle.world_defs.specs.declared.fault.Fault.{Fault}
 use Rattle.world_defs.specs.World.{WorldState, fabric_of}
 use Rattle.ask_laws.specs.Premises.{CanAsk}
-use Rattle.log_defs.specs.Log.{Log}
-use Rattle.log_defs.specs.Logs as log
+use Rattle.world_defs.specs.Log.{Log}
+use Rattle.world_defs.specs.Logs as log
 use Rattle.run_defs.specs.Mapped.{IsMapped, IsCalled}
 use Rattle.run_defs.specs.Mapped.IsCalled.{too_many_nodes, too_shallow, doubted, right}
 use Rattle.run_defs.specs.declared.line.MapWords.{MapWords}

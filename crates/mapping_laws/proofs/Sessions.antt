@@ -8,8 +8,8 @@ use Rattle.world_defs.specs.declared.event.Event.TheVariants.{Begin, Close, Prov
 use Rattle.world_defs.specs.declared.effect.Effect.{Effect}
 use Rattle.world_defs.specs.World.{WorldState, adopted_by}
 use Rattle.world_defs.specs.Step.{step}
-use Rattle.log_defs.specs.Logs as log
-use Rattle.log_defs.specs.Log.{Log}
+use Rattle.world_defs.specs.Logs as log
+use Rattle.world_defs.specs.Log.{Log}
 use Rattle.world_laws.proofs.Shapes.{new-world}
 use Rattle.run_defs.specs.declared.command.Command.{Command}
 use Rattle.run_defs.specs.declared.command.Command.TheVariants.{Walk, Map, Circuit, Routes, Install, Begin as BeginCommand, Close as CloseCommand, Poll as PollCommand, Tokens, Provide as ProvideCommand, Send as SendCommand, Plan, Step, Settle, Finish, Duo}

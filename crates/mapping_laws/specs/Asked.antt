@@ -5,7 +5,7 @@ use Rattle.journal_defs.specs.Growth.{IsGrown}
 use Rattle.journal_defs.specs.Truth.{IsTrueWhereFound}
 use Rattle.map_defs.specs.NetMap.{NetMap}
 use Rattle.world_defs.specs.World.{WorldState, fabric_of}
-use Rattle.log_defs.specs.Logs as log
+use Rattle.world_defs.specs.Logs as log
 use Rattle.run_defs.specs.declared.line.MapWords.{MapWords}
 use Rattle.run_defs.specs.Mapped.{IsMapped}
 use Rattle.mapping_laws.specs.Laws.{CanMap}

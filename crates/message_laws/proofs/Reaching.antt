@@ -8,9 +8,9 @@ use Rattle.world_defs.specs.declared.event.Event.TheVariants.{Flip}
 use Rattle.world_defs.specs.EightBits.{IsByteEvent}
 use Rattle.world_defs.specs.World.{WorldState}
 use Rattle.world_defs.specs.Step.{step, after_all}
-use Rattle.world_defs.specs.Settle.{settle}
+use Rattle.world_defs.specs.Logs.{settle}
 use Rattle.world_laws.specs.Reached.{IsOfSettle}
-use Rattle.world_laws.proofs.Reached.{settle-reached}
+use Rattle.world_laws.proofs.Reached.{settle-is_row}
 use Rattle.act_defs.specs.Acts.{Happens, IsReached}
 use Rattle.act_defs.proofs.Reaching.{reached-next}
 use Rattle.message_laws.specs.Got.{SettleGetsAll}
@@ -27,8 +27,8 @@ settle-byte _ of = tt
 
 pub reached-settle : (n : Network) (w : WorldState) → IsReached n w → IsReached n (settle w).world
 reached-settle n w is =
-    let by = settle-reached w in
-    subst (IsReached n) (sym by.there) (reached-events n w by.events (all-weaker IsOfSettle IsByteEvent by.events settle-byte by.kinds) is)
+    let by = settle-is_row w in
+    subst (IsReached n) (sym by.there) (reached-events n w (settle w).events (all-weaker IsOfSettle IsByteEvent (settle w).events settle-byte by.kinds) is)
 
 pub settle-got : SettleGetsAll
 settle-got n w is e = none-got n (settle w).world (reached-settle n w is) e

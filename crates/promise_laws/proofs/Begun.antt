@@ -14,10 +14,10 @@ use Rattle.world_defs.specs.declared.event.Event.{Event}
 use Rattle.world_defs.specs.EightBits.{IsByteEvent}
 use Rattle.world_defs.specs.World.{WorldState}
 use Rattle.world_defs.specs.Sound.{IsPrefix}
-use Rattle.log_defs.specs.Log.{Log}
-use Rattle.log_defs.specs.Logs as log
-use Rattle.log_defs.specs.Row.{IsPartWay}
-use Rattle.log_defs.proofs.Rows.{asks-row, byte_asks}
+use Rattle.world_defs.specs.Log.{Log}
+use Rattle.world_defs.specs.Logs as log
+use Rattle.world_defs.specs.Row.{IsPartWay}
+use Rattle.world_defs.proofs.LogRows.{asks-row, byte_asks}
 use Rattle.log_laws.proofs.PartWay.{way-start, way-front, way-behind, way-as}
 use Rattle.promise_laws.specs.CutShort.{IsBegunMap}
 use Rattle.promise_laws.specs.CutShort.IsBegunMap.{stopped_between, stopped_within}

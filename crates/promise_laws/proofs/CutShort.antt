@@ -10,10 +10,10 @@ use Rattle.world_defs.specs.World.{WorldState, adopted_by}
 use Rattle.world_defs.specs.Step.{after_all}
 use Rattle.world_defs.specs.Sound.{IsSound}
 use Rattle.act_defs.specs.Acts.{Act, Happens, Plans, acted_all}
-use Rattle.log_defs.specs.Logs as log
-use Rattle.log_defs.specs.Row.{IsPartWay}
+use Rattle.world_defs.specs.Logs as log
+use Rattle.world_defs.specs.Row.{IsPartWay}
 use Rattle.world_defs.specs.EightBits.{IsByteEvent}
-use Rattle.log_defs.proofs.Rows.{settle-row, asks-row, install-row, byte_settles, byte_asks}
+use Rattle.world_defs.proofs.LogRows.{settle-row, asks-row, install-row, byte_settles, byte_asks}
 use Rattle.run_defs.specs.declared.command.Command.{Command}
 use Rattle.run_defs.specs.declared.command.Command.TheVariants.{Walk, Map, Circuit, Routes, Install, Begin as BeginCommand, Close as CloseCommand, Poll as PollCommand, Tokens, Provide as ProvideCommand, Send as SendCommand, Plan, Step, Settle, Finish, Duo}
 use Rattle.run_defs.specs.declared.line.MapWords.{MapWords}

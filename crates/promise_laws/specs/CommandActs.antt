@@ -24,7 +24,7 @@ use Rattle.run_defs.specs.Session.{SessionState, LastRoutes}
 use Rattle.run_defs.specs.Outcome.{event_of, fault_of, adoption_of}
 use Rattle.run_defs.specs.Run.{Does, IsRun}
 use Rattle.run_laws.specs.Acts.{IsActOf}
-use Rattle.log_defs.specs.Logs as log
+use Rattle.world_defs.specs.Logs as log
 use Rattle.promise_laws.specs.OneAction.{IsOneAction}
 
 -- an event that may be none, as acts

@@ -7,9 +7,7 @@ use Rattle.journal_defs.specs.Tree.Node.{Reached}
 use Rattle.journal_defs.specs.Growth.{IsGrown, IsEndedByDepth, IsEndedAtLimit, node_limit}
 use Rattle.growth_laws.proofs.Few.{asks_are_few}
 use Rattle.world_defs.specs.World.{WorldState}
-use Rattle.world_defs.specs.Asking.{ask}
-use Rattle.log_defs.specs.Logs as log
-use Rattle.log_defs.proofs.Asks.{ask-log}
+use Rattle.world_defs.specs.Logs as log
 use Rattle.injection_bounds.specs.Settled.{pledged}
 use Rattle.injection_bounds.proofs.Asking.{ask-costs}
 
@@ -18,9 +16,8 @@ pub asks-cost : (host tries : ℕ) (walks : List (List ℤ)) (w : WorldState) �
 asks-cost host tries [] w few = omega arith
 asks-cost host tries (walk ∷ walks) w few =
     let one = ask-costs w host tries walk few in
-    let same : pledged (ask host tries walk w).world ≡ pledged (log.ask host tries walk w).world = ap (λ r. pledged r.world) (ask-log host tries walk w) in
     let rest = asks-cost host tries walks (log.ask host tries walk w).world few in
-    omega (arith, one, same, rest)
+    omega (arith, one, rest)
 
 -- a last entry is one node more at most
 reached-push : (j : List Entry) (e : Entry) → length (reached (j ++ e ∷ [])) ≤ length (reached j) + 1
@@ -42,7 +39,7 @@ few-nodes host depth j (inr e) =
     let k : length (nodes e.before) ≤ node_limit = e.kept in
     let p = reached-push e.before e.last in
     let same : length (reached j) ≡ length (reached (e.before ++ e.last ∷ [])) = ap (λ i. length (reached i)) e.whole in
-    omega (arith, k, p, same)
+    omega (arith, k, p)
 
 pub few-asks : (host depth : ℕ) (j : List Entry) → IsGrown host depth j → length j ≤ 1966081
 few-asks host depth j grown =

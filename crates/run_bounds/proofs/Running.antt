@@ -17,12 +17,8 @@ use Rattle.world_defs.specs.declared.effect.Effect.{Effect}
 use Rattle.world_defs.specs.Table.{is_other}
 use Rattle.world_defs.specs.World.{WorldState, host_count, addresses, adopted_by}
 use Rattle.world_defs.specs.Step.{step}
-use Rattle.world_defs.specs.Install.{installed}
-use Rattle.world_defs.specs.Settle.{settle}
-use Rattle.log_defs.specs.Log.{Log}
-use Rattle.log_defs.specs.Logs as log
-use Rattle.log_defs.proofs.Worlds.{settle-log}
-use Rattle.log_defs.proofs.Asks.{install-log}
+use Rattle.world_defs.specs.Log.{Log}
+use Rattle.world_defs.specs.Logs as log
 use Rattle.message_laws.proofs.Known.{reached-count}
 use Rattle.act_defs.specs.Acts.{Happens, Plans, IsReached}
 use Rattle.run_defs.specs.declared.command.Command.{Command}
@@ -89,8 +85,7 @@ install-now-costs s l tries few small =
     let a = adopts-pledged s.world l.mapper l.routes in
     let b = install-costs (adoption_of l) l.hosts tries w few small.parts in
     let c = small.hosts in
-    let same : pledged (installed (adoption_of l) l.hosts tries w).1 ≡ pledged (log.install (adoption_of l) l.hosts tries w).world = ap (λ (r : ℕ × WorldState). pledged r.1) (install-log (adoption_of l) l.hosts tries w) in
-    done-costs s l.hosts (log.install (adoption_of l) l.hosts tries w) (omega (arith, a, b, c, same))
+    done-costs s l.hosts (log.install (adoption_of l) l.hosts tries w) (omega (arith, a, b, c))
 
 installs-cost : (s : SessionState) (tries : ℕ) (o : Option LastRoutes) → tries ≤ 8 → ((l : LastRoutes) → o ≡ Some l → IsSmall l) → CostsIn s (Some (install s tries o))
 installs-cost s tries None few small = nothing s
@@ -119,8 +114,7 @@ duo-costs s (effect, d) = nothing s
 settle-cost : (n : Network) (s : SessionState) → IsReached n s.world → pledged (log.settle s.world).world ≤ pledged s.world + command_cost
 settle-cost n s r =
     let cost = settle-costs n s.world r in
-    let same : pledged (settle s.world).world ≡ pledged (log.settle s.world).world = ap (λ l. pledged l.world) (settle-log s.world) in
-    omega (arith, cost, same)
+    omega (arith, cost)
 
 outcome-costs : (n : Network) (s : SessionState) (c : Command) → IsCommandOf n c → IsReached n s.world → KeepsSmall s → CostsIn s (outcome s c)
 outcome-costs n s (Walk host walk) said r small = nothing s

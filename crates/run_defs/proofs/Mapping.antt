@@ -11,10 +11,6 @@ use Rattle.world_defs.specs.Node.{to_send, packet_for, after_sending}
 use Rattle.world_defs.specs.Hearing.{hear}
 use Rattle.world_defs.specs.Client.{begun, closed, provided_by, sent_by, polled_by}
 use Rattle.world_defs.specs.Step.{lost, was_reset, repeated, held, flipped, replayed, asked, part_staged, planned_strikes, sent_out, injected, advanced, expired, gave_up}
-use Rattle.world_defs.specs.Drain.{pass, drain, clear}
-use Rattle.world_defs.specs.Settle.{round_pass, round, settle}
-use Rattle.world_defs.specs.Asking.{sends, host_try, loop_try, ask}
-use Rattle.world_defs.specs.Install.{part_try, installed}
 use Rattle.world_defs.specs.World.{new_world}
 use Rattle.run_defs.specs.declared.line.MapWords.{MapWords}
 use Rattle.run_defs.specs.declared.line.MapWords.TheVariants.{Complete, IncompleteDepth}
@@ -29,10 +25,10 @@ use Rattle.run_defs.specs.Run.Runs.{ended, goes_on}
 use Rattle.run_defs.specs.Session.{new_session}
 use Rattle.run_defs.specs.Headline.{HasPrinted, IsQuiet}
 use Rattle.run_defs.specs.Examples.{setup_map, mapped_world, mapping, mapping_output, mapped_session, doubtful_world}
-use Rattle.log_defs.specs.Logs as log
+use Rattle.world_defs.specs.Logs as log
 
 asks : (log.asks 0 1 (map (λ e. e.walk) two_hosts_journal) (new_world two_hosts)).value ≡ record { entries = two_hosts_journal; drowned = 0 }
-unfolding sends host_try loop_try ask begun closed provided_by sent_by polled_by pass drain clear hear part_try installed log.drain log.clear log.round_pass log.round log.settle log.sends log.host_try log.loop_try log.ask log.part_try log.install to_send packet_for after_sending round_pass round settle lost was_reset repeated held flipped replayed asked part_staged planned_strikes sent_out injected advanced expired gave_up applied
+unfolding begun closed provided_by sent_by polled_by hear log.drain log.clear log.round_pass log.round log.settle log.sends log.host_try log.loop_try log.ask log.part_try log.install to_send packet_for after_sending lost was_reset repeated held flipped replayed asked part_staged planned_strikes sent_out injected advanced expired gave_up applied
 asks = refl
 
 -- three nodes are far from the limit
@@ -64,19 +60,19 @@ pub not_called_shallow : ¬ IsMapped 0 4 1 (new_world two_hosts) mapped_world tw
 not_called_shallow m = not_shallow m.drowned IncompleteDepth refl m.called
 
 injections : mapped_world.injected ≡ 62
-unfolding sends host_try loop_try ask begun closed provided_by sent_by polled_by pass drain clear hear part_try installed log.drain log.clear log.round_pass log.round log.settle log.sends log.host_try log.loop_try log.ask log.part_try log.install to_send packet_for after_sending round_pass round settle lost was_reset repeated held flipped replayed asked part_staged planned_strikes sent_out injected advanced expired gave_up applied
+unfolding begun closed provided_by sent_by polled_by hear log.drain log.clear log.round_pass log.round log.settle log.sends log.host_try log.loop_try log.ask log.part_try log.install to_send packet_for after_sending lost was_reset repeated held flipped replayed asked part_staged planned_strikes sent_out injected advanced expired gave_up applied
 injections = refl
 
 drops : mapped_world.dropped ≡ 59
-unfolding sends host_try loop_try ask begun closed provided_by sent_by polled_by pass drain clear hear part_try installed log.drain log.clear log.round_pass log.round log.settle log.sends log.host_try log.loop_try log.ask log.part_try log.install to_send packet_for after_sending round_pass round settle lost was_reset repeated held flipped replayed asked part_staged planned_strikes sent_out injected advanced expired gave_up applied
+unfolding begun closed provided_by sent_by polled_by hear log.drain log.clear log.round_pass log.round log.settle log.sends log.host_try log.loop_try log.ask log.part_try log.install to_send packet_for after_sending lost was_reset repeated held flipped replayed asked part_staged planned_strikes sent_out injected advanced expired gave_up applied
 drops = refl
 
 first_does : Does (new_session two_hosts) (Map 0 4 1) (OneLine (MapLine 0 Complete 31 62) ∷ MapLines setup_map ∷ []) mapped_session
-unfolding sends host_try loop_try ask begun closed provided_by sent_by polled_by pass drain clear hear part_try installed log.drain log.clear log.round_pass log.round log.settle log.sends log.host_try log.loop_try log.ask log.part_try log.install to_send packet_for after_sending round_pass round settle lost was_reset repeated held flipped replayed asked part_staged planned_strikes sent_out injected advanced expired gave_up applied
+unfolding begun closed provided_by sent_by polled_by hear log.drain log.clear log.round_pass log.round log.settle log.sends log.host_try log.loop_try log.ask log.part_try log.install to_send packet_for after_sending lost was_reset repeated held flipped replayed asked part_staged planned_strikes sent_out injected advanced expired gave_up applied
 first_does = maps mapped_world two_hosts_journal setup_map Complete refl two_hosts_mapped refl refl
 
 last_does : Does mapped_session Finish (OneLine (FinishLine 62 59) ∷ []) mapped_session
-unfolding sends host_try loop_try ask begun closed provided_by sent_by polled_by pass drain clear hear part_try installed log.drain log.clear log.round_pass log.round log.settle log.sends log.host_try log.loop_try log.ask log.part_try log.install to_send packet_for after_sending round_pass round settle lost was_reset repeated held flipped replayed asked part_staged planned_strikes sent_out injected advanced expired gave_up applied
+unfolding begun closed provided_by sent_by polled_by hear log.drain log.clear log.round_pass log.round log.settle log.sends log.host_try log.loop_try log.ask log.part_try log.install to_send packet_for after_sending lost was_reset repeated held flipped replayed asked part_staged planned_strikes sent_out injected advanced expired gave_up applied
 last_does = determined refl
 
 pub mapping_runs : IsRun two_hosts mapping mapping_output mapped_session

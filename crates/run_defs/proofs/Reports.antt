@@ -7,10 +7,6 @@ use Rattle.world_defs.specs.Node.{to_send, packet_for, after_sending}
 use Rattle.world_defs.specs.Hearing.{hear}
 use Rattle.world_defs.specs.Client.{begun, closed, provided_by, sent_by, polled_by}
 use Rattle.world_defs.specs.Step.{lost, was_reset, repeated, held, flipped, replayed, asked, part_staged, planned_strikes, sent_out, injected, advanced, expired, gave_up}
-use Rattle.world_defs.specs.Drain.{pass, drain, clear}
-use Rattle.world_defs.specs.Settle.{round_pass, round, settle}
-use Rattle.world_defs.specs.Asking.{sends, host_try, loop_try, ask}
-use Rattle.world_defs.specs.Install.{part_try, installed}
 use Rattle.net_defs.specs.Examples.{two_hosts}
 use Rattle.net_defs.specs.declared.place.Place.{Place}
 use Rattle.world_defs.specs.declared.effect.Said.{Said}
@@ -21,18 +17,18 @@ use Rattle.run_defs.specs.LineText.{line_text, map_text, output_text}
 use Rattle.run_defs.specs.Output.{lines}
 use Rattle.run_defs.specs.Summary.{figures_in, summary}
 use Rattle.run_defs.specs.Examples.{setup_map, text_of, printed, fresh, installed_session, refused_calls, closing, single_events, message_output, restarting}
-use Rattle.log_defs.specs.Logs as log
+use Rattle.world_defs.specs.Logs as log
 
 pub refusals_text : printed refused_calls fresh ≡ text_of (codes "open a 0 done" ∷ codes "open a 0 refused already" ∷ codes "provide a 0 refused badsize" ∷ codes "provide a 0 token 0" ∷ codes "provide a 0 refused notoken" ∷ codes "send a 0 refused noroute" ∷ codes "send a 1 refused notopen" ∷ codes "poll a 1 refused notopen" ∷ codes "poll a 0 nothing" ∷ codes "routes refused nomap" ∷ codes "install refused noroutes" ∷ codes "end injected 0 dropped 0" ∷ [])
-unfolding sends host_try loop_try ask begun closed provided_by sent_by polled_by pass drain clear hear part_try installed log.drain log.clear log.round_pass log.round log.settle log.sends log.part_try log.install to_send packet_for after_sending round_pass round settle lost was_reset repeated held flipped replayed asked part_staged planned_strikes sent_out injected advanced expired gave_up applied digits
+unfolding begun closed provided_by sent_by polled_by hear log.drain log.clear log.round_pass log.round log.settle log.sends log.host_try log.loop_try log.ask log.part_try log.install to_send packet_for after_sending lost was_reset repeated held flipped replayed asked part_staged planned_strikes sent_out injected advanced expired gave_up applied digits
 refusals_text = refl
 
 pub closing_text : printed closing installed_session ≡ text_of (codes "open a 0 done" ∷ codes "provide a 0 token 0" ∷ codes "provide a 0 token 1" ∷ codes "open b 1 done" ∷ codes "provide b 1 token 0" ∷ codes "send a 0 token 0" ∷ codes "close a 0 refused busy 1" ∷ codes "settle rounds 1 resets 0 unacked 0" ∷ codes "close a 0 refused unread 1" ∷ codes "poll a 0 sent token 0" ∷ codes "tokens a 0 send 0=client recv 0=provided 1=provided" ∷ codes "close a 0 done 2" ∷ codes "tokens a 0 refused notopen" ∷ codes "end injected 66 dropped 59" ∷ [])
-unfolding sends host_try loop_try ask begun closed provided_by sent_by polled_by pass drain clear hear part_try installed log.drain log.clear log.round_pass log.round log.settle log.sends log.part_try log.install to_send packet_for after_sending round_pass round settle lost was_reset repeated held flipped replayed asked part_staged planned_strikes sent_out injected advanced expired gave_up applied digits
+unfolding begun closed provided_by sent_by polled_by hear log.drain log.clear log.round_pass log.round log.settle log.sends log.host_try log.loop_try log.ask log.part_try log.install to_send packet_for after_sending lost was_reset repeated held flipped replayed asked part_staged planned_strikes sent_out injected advanced expired gave_up applied digits
 closing_text = refl
 
 pub single_events_text : printed single_events installed_session ≡ text_of (codes "open a 0 done" ∷ codes "open b 1 done" ∷ codes "provide b 1 token 0" ∷ codes "provide b 1 token 1" ∷ codes "send a 0 token 0" ∷ codes "send a 0 token 1" ∷ codes "step injected 65" ∷ codes "step moved s 5" ∷ codes "step injected 66" ∷ codes "step idle" ∷ codes "step blocked s 5" ∷ codes "map a refused busy" ∷ codes "step arrived b message" ∷ codes "step moved s 5" ∷ codes "step lost" ∷ codes "step idle" ∷ codes "settle rounds 1 resets 0 unacked 0" ∷ codes "poll b 1 received token 0 from a 0 prio 0 len 1 bytes 01" ∷ codes "poll b 1 received token 1 from a 0 prio 0 len 1 bytes 02" ∷ codes "end injected 71 dropped 59" ∷ [])
-unfolding sends host_try loop_try ask begun closed provided_by sent_by polled_by pass drain clear hear part_try installed log.drain log.clear log.round_pass log.round log.settle log.sends log.part_try log.install to_send packet_for after_sending round_pass round settle lost was_reset repeated held flipped replayed asked part_staged planned_strikes sent_out injected advanced expired gave_up applied digits
+unfolding begun closed provided_by sent_by polled_by hear log.drain log.clear log.round_pass log.round log.settle log.sends log.host_try log.loop_try log.ask log.part_try log.install to_send packet_for after_sending lost was_reset repeated held flipped replayed asked part_staged planned_strikes sent_out injected advanced expired gave_up applied digits
 single_events_text = refl
 
 pub restarting_text : printed restarting fresh ≡ text_of (codes "duo token 0" ∷ codes "duo token 0" ∷ codes "duo emitted 0" ∷ codes "duo hello" ∷ codes "duo emitted 1" ∷ codes "duo hello" ∷ codes "duo emitted 2" ∷ codes "duo restarted 2" ∷ codes "duo stale" ∷ codes "duo emitted 3" ∷ codes "duo hello" ∷ codes "duo unsure 0" ∷ [])

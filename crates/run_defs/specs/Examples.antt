@@ -9,7 +9,7 @@ use Rattle.world_defs.specs.declared.effect.Said.{Said}
 use Rattle.world_defs.specs.declared.fault.Fault.TheVariants.{Lose as LoseFault}
 use Rattle.world_defs.specs.World.{WorldState, fabric_of, new_world, planned}
 use Rattle.world_defs.specs.Examples.{setup, setup_routes}
-use Rattle.log_defs.specs.Logs as log
+use Rattle.world_defs.specs.Logs as log
 use Rattle.run_defs.specs.declared.command.Command.{Command}
 use Rattle.run_defs.specs.declared.command.Command.TheVariants.{Map, Routes, Install, Begin, Close, Poll, Tokens}
 use Rattle.run_defs.specs.declared.command.Command.TheVariants.{Provide, Send, Step, Settle, Finish, Duo}

@@ -30,8 +30,8 @@ use Rattle.world_defs.specs.Node.{port_at}
 use Rattle.world_defs.specs.World.{WorldState, fabric_of, node_at, planned, adopted_by, last_count}
 use Rattle.world_defs.specs.Step.{step}
 use Rattle.world_defs.specs.Settle.{unacknowledged_in}
-use Rattle.log_defs.specs.Log.{Log}
-use Rattle.log_defs.specs.Logs as log
+use Rattle.world_defs.specs.Log.{Log}
+use Rattle.world_defs.specs.Logs as log
 use Rattle.run_defs.specs.declared.command.Command.{Command}
 use Rattle.run_defs.specs.declared.command.Command.TheVariants.{Walk, Map, Circuit, Routes, Install}
 use Rattle.run_defs.specs.declared.command.Command.TheVariants.{Begin as BeginCommand}

@@ -15,7 +15,7 @@ use Rattle.growth_laws.specs.Laws.{IsTold}
 use Rattle.growth_laws.proofs.OneJournal.{told_journal_is_one}
 use Rattle.map_laws.proofs.OneMap.{quotient_is_one}
 use Rattle.world_defs.specs.World.{WorldState, new_world}
-use Rattle.log_defs.specs.Logs as log
+use Rattle.world_defs.specs.Logs as log
 use Rattle.run_defs.specs.declared.line.MapWords.{MapWords}
 use Rattle.run_defs.specs.declared.line.MapWords.TheVariants.{Complete}
 use Rattle.run_defs.specs.Mapped.{IsMapped, IsCalled}

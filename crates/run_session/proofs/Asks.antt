@@ -15,10 +15,10 @@ use Rattle.run_defs.specs.Mapped.{IsCalled}
 use Rattle.mapper.specs.Asks.{AreAsked}
 use Rattle.mapper.specs.Growths.{StopsShort}
 use Rattle.mapper.specs.Growths.StopsShort.{between_asks, within_ask}
-use Rattle.log_defs.specs.Log.{Log}
-use Rattle.log_defs.specs.Logs as log
-use Rattle.log_defs.proofs.Rows.{ask-row, byte_asks}
-use Rattle.log_defs.specs.Row.{IsPartWay}
+use Rattle.world_defs.specs.Log.{Log}
+use Rattle.world_defs.specs.Logs as log
+use Rattle.world_defs.proofs.LogRows.{ask-row, byte_asks}
+use Rattle.world_defs.specs.Row.{IsPartWay}
 use Rattle.promise_laws.specs.CutShort.{IsBegunMap}
 use Rattle.promise_laws.specs.CutShort.IsBegunMap.{stopped_between, stopped_within}
 use Rattle.world_asking.specs.Prober.{WorldAsking, IsAsked, IsCutAsk, next_ask, after_ask}

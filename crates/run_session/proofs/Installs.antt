@@ -5,10 +5,10 @@ use Rattle.link_defs.specs.Links.{is_idle}
 use Rattle.world_defs.specs.World.{WorldState, fabric_of, adopted_by}
 use Rattle.world_defs.specs.Table.{Adoption, is_other}
 use Rattle.world_defs.specs.EightBits.{IsByteEvent}
-use Rattle.log_defs.specs.Logs as log
-use Rattle.log_defs.specs.Row.{IsPartWay}
-use Rattle.log_defs.specs.Laws.{came_to}
-use Rattle.log_defs.proofs.Rows.{install-row, byte_asks}
+use Rattle.world_defs.specs.Logs as log
+use Rattle.world_defs.specs.Row.{IsPartWay}
+use Rattle.world_defs.specs.Log.{came_to}
+use Rattle.world_defs.proofs.LogRows.{install-row, byte_asks}
 use Rattle.run_defs.specs.declared.command.Command.TheVariants.{Install}
 use Rattle.run_defs.specs.declared.line.Line.TheVariants.{Installed, InstallRefused}
 use Rattle.run_defs.specs.declared.line.InstallCause.{InstallCause}

@@ -22,7 +22,7 @@ use Rattle.world_commands.proofs.Done.{one}
 use Rattle.run_session.specs.declared.mapping.MapOrder.{MapOrder}
 use Rattle.run_session.specs.Obeyed.{IsObeyed}
 use Rattle.run_session.specs.Told.{AreRoutesTold, IsMadeOver, map_of}
-use Rattle.log_defs.specs.Logs as log
+use Rattle.world_defs.specs.Logs as log
 
 -- what was done over the world of a session
 pub done_so : (c d : Command) (w v : WorldState) (made : Option LastMap) (found : Option LastRoutes) (p : PrintedState) → IsDone d w v p → d ≡ c → IsObeyed (session_of w made found) c (session_of v made found) p

@@ -3,8 +3,8 @@
 ghost use Rattle.std.specs.Prelude.{◌≡◌, ◌≤◌, ◌∷◌, [], true, not, Some, if◌then◌else◌, IfOk, OnErr};
 ghost use Rattle.link_defs.specs.Links.{is_idle};
 ghost use Rattle.world_defs.specs.World.{fabric_of, adopted_by};
-ghost use Rattle.log_defs.specs.Logs as log;
-ghost use Rattle.log_defs.specs.Row.{IsPartWay};
+ghost use Rattle.world_defs.specs.Logs as log;
+ghost use Rattle.world_defs.specs.Row.{IsPartWay};
 ghost use Rattle.run_defs.specs.Output.{OneLine};
 ghost use Rattle.run_defs.specs.Outcome.{adoption_of};
 ghost use Rattle.world_defs.specs.Table.{is_other};

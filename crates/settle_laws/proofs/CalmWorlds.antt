@@ -4,9 +4,8 @@ use Rattle.world_defs.specs.declared.event.Event.{Event}
 use Rattle.world_defs.specs.declared.event.Event.TheVariants.{Advance, Replay, Reset, GiveUp}
 use Rattle.world_defs.specs.declared.effect.Effect.{Effect}
 use Rattle.world_defs.specs.Node.{NodeState}
+use Rattle.world_defs.specs.Logs.{clear, replays}
 use Rattle.world_defs.specs.World.{WorldState, host_count, node_at}
-use Rattle.world_defs.specs.Drain.{clear}
-use Rattle.world_defs.specs.Settle.{replay_each}
 use Rattle.world_laws.proofs.Along.{Along, clear-along}
 use Rattle.settle_laws.proofs.Calm.{NodeCalm, node-quiet, node-both, hear-calm, given_up-calm}
 use Rattle.world_defs.specs.Client.{Called}
@@ -58,12 +57,12 @@ event-calm w e q = record { nodes = each_node (λ h. NodeCalm (node_at w h)) (ch
 pub along-calm : Along WorldCalm IsCalm
 along-calm = record { same = λ w. calm-same w; both = calm-both; event = event-calm }
 
-pub clear-calm : (w : WorldState) → WorldCalm w (clear w).1
+pub clear-calm : (w : WorldState) → WorldCalm w (clear w).world
 clear-calm w = clear-along WorldCalm IsCalm along-calm (record { advance = λ c. tt; reset = λ c. tt }) w
 
-pub replay_each-calm : (ss : List ℕ) (w : WorldState) → WorldCalm w (replay_each ss w).world
-replay_each-calm [] w = calm-same w
-replay_each-calm (s ∷ ss) w =
+pub replays-calm : (ss : List ℕ) (w : WorldState) → WorldCalm w (replays ss w).world
+replays-calm [] w = calm-same w
+replays-calm (s ∷ ss) w =
     let u : WorldState = (step w (Replay s)).1 in
-    let v : WorldState = (clear u).1 in
-    calm-both w u (replay_each ss v).world (event-calm w (Replay s) tt) (calm-both u v (replay_each ss v).world (clear-calm u) (replay_each-calm ss v))
+    let v : WorldState = (clear u).world in
+    calm-both w u (replays ss v).world (event-calm w (Replay s) tt) (calm-both u v (replays ss v).world (clear-calm u) (replays-calm ss v))

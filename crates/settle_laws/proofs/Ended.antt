@@ -11,10 +11,11 @@ use Rattle.world_defs.specs.declared.event.Event.TheVariants.{Inject, Replay, Gi
 use Rattle.world_defs.specs.declared.effect.Effect.{Effect}
 use Rattle.world_defs.specs.declared.effect.Effect.TheVariants.{Idle}
 use Rattle.world_defs.specs.Node.{to_send}
+use Rattle.world_defs.specs.Logs.{clear, replays, round_pass, is_last_pass}
 use Rattle.world_defs.specs.World.{WorldState, fabric_of, host_count, last_count, node_at, addresses}
 use Rattle.world_defs.specs.Step.{of_replay, replayed, step, steps, after_all}
-use Rattle.world_defs.specs.Drain.{changed, changes, clear}
-use Rattle.world_defs.specs.Settle.{serials, replay_each, round_pass, is_quiet, is_last_pass}
+use Rattle.world_defs.specs.Drain.{changed, changes}
+use Rattle.world_defs.specs.Settle.{serials, is_quiet}
 use Rattle.world_laws.specs.Idle.{CannotInject}
 use Rattle.world_laws.proofs.Idling.{step-idle}
 use Rattle.world_laws.proofs.Draining.{changes-push, range-all}
@@ -59,20 +60,20 @@ replay-still : (w : WorldState) (s : ℕ) → changed (step w (Replay s)).0 ≡ 
 unfolding replayed
 replay-still w s e = of_replay-still w (replay w.links s) e
 
-replays-idle : (ss : List ℕ) (w : WorldState) → is_idle w.links ≡ true → (replay_each ss w).moves ≡ 0 → (replay_each ss w).world ≡ w
+replays-idle : (ss : List ℕ) (w : WorldState) → is_idle w.links ≡ true → (replays ss w).value.moves ≡ 0 → (replays ss w).world ≡ w
 replays-idle [] w idle e = refl
 replays-idle (s ∷ ss) w idle e = by (changed (step w (Replay s)).0) refl (replays-idle ss w idle)
   where
     u : WorldState
     u = (step w (Replay s)).1
 
-    by : (t : Bool) → changed (step w (Replay s)).0 ≡ t → ((replay_each ss w).moves ≡ 0 → (replay_each ss w).world ≡ w) → (replay_each ss (clear u).1).world ≡ w
+    by : (t : Bool) → changed (step w (Replay s)).0 ≡ t → ((replays ss w).value.moves ≡ 0 → (replays ss w).world ≡ w) → (replays ss (clear u).world).world ≡ w
     by true c rest = let a = changes-push (step w (Replay s)).0 [] true c in absurd (omega (arith, a, e))
     by false c rest =
         let a = changes-push (step w (Replay s)).0 [] false c in
-        let none : (replay_each ss (clear u).1).moves ≡ 0 = omega (arith, a, e) in
-        let same : (clear u).1 ≡ w = ap (λ v. (clear v).1) (replay-still w s c) ∙ ap (λ x. x.1) (idle-clear w idle) in
-        ap (λ v. (replay_each ss v).world) same ∙ rest (sym (ap (λ v. (replay_each ss v).moves) same) ∙ none)
+        let none : (replays ss (clear u).world).value.moves ≡ 0 = omega (arith, a, e) in
+        let same : (clear u).world ≡ w = ap (λ v. (clear v).world) (replay-still w s c) ∙ (idle-clear w idle).1 in
+        ap (λ v. (replays ss v).world) same ∙ rest (sym (ap (λ v. (replays ss v).value.moves) same) ∙ none)
 
 -- a pass that injects and replays nothing
 record PassIdle (w z : WorldState) : Type 0 where
@@ -81,16 +82,16 @@ record PassIdle (w z : WorldState) : Type 0 where
   same : z ≡ given
   each : AllByRecursion (λ h. (step given (Inject h)).0 ≡ Idle) (addresses w)
 
-idle-pass : (w : WorldState) → is_idle w.links ≡ true → (round_pass w).moves ≡ 0 → PassIdle w (round_pass w).world
+idle-pass : (w : WorldState) → is_idle w.links ≡ true → (round_pass w).value.moves ≡ 0 → PassIdle w (round_pass w).world
 unfolding round_pass
 idle-pass w idle e =
     let t : WorldState = after_all w (map GiveUp (addresses w)) in
     let u : WorldState = (steps t (map Inject (addresses w))).1 in
-    let v : WorldState = (clear u).1 in
+    let v : WorldState = (clear u).world in
     let links : t.links ≡ w.links = given_up-links w (addresses w) in
     let still : is_idle t.links ≡ true = ap is_idle links ∙ idle in
     let first = injects-idle t (addresses w) (omega (arith, e)) in
-    let cleared : v ≡ t = ap (λ x. (clear x).1) first.same ∙ ap (λ x. x.1) (idle-clear t still) in
+    let cleared : v ≡ t = ap (λ x. (clear x).world) first.same ∙ (idle-clear t still).1 in
     let rest = replays-idle (serials v) v (ap (λ x. is_idle x.links) cleared ∙ still) (omega (arith, e)) in
     record { given = t; links = links; same = rest ∙ cleared; each = first.each }
 
@@ -106,7 +107,7 @@ last-of true b e f = absurd (true≢false f)
 last-of false b e f = e
 
 -- the last pass
-pub nothing-left : (w : WorldState) (h : ℕ) → is_idle w.links ≡ true → is_last_pass (round_pass w) ≡ true → h < host_count w → h < host_count (round_pass w).world
+pub nothing-left : (w : WorldState) (h : ℕ) → is_idle w.links ≡ true → is_last_pass w (round_pass w) ≡ true → h < host_count w → h < host_count (round_pass w).world
     → is_some (channel_from (fabric_of w) (host_port h)) ≡ true → (round_pass w).world.injected < last_count → to_send h (node_at (round_pass w).world h) ≡ None
 nothing-left w h idle e low below cable left = by (is_quiet z) refl
   where
@@ -123,5 +124,5 @@ nothing-left w h idle e low below cable left = by (is_quiet z) refl
     by : (t : Bool) → is_quiet z ≡ t → to_send h (node_at z h) ≡ None
     by true q = ((quiet-test z).0 q).nothing_to_send h below
     by false q =
-        let m : nat_eq (round_pass w).moves 0 ≡ true = last-of (is_quiet z) (nat_eq (round_pass w).moves 0) e q in
+        let m : nat_eq (round_pass w).value.moves 0 ≡ true = last-of (is_quiet z) (nat_eq (round_pass w).value.moves 0) e q in
         stopped (idle-pass w idle (grind (arith, nat_tests)))

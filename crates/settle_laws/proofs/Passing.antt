@@ -7,22 +7,24 @@ use Rattle.gm_defs.specs.declared.frame.ConnectionKey.{ConnectionKey}
 use Rattle.world_defs.specs.declared.event.Event.{Event}
 use Rattle.world_defs.specs.declared.event.Event.TheVariants.{Inject, Advance, Replay, Reset, GiveUp}
 use Rattle.world_defs.specs.declared.effect.Effect.{Effect}
+use Rattle.world_defs.specs.Logs.{drain, clear, replays, round_pass}
 use Rattle.world_defs.specs.World.{WorldState, addresses}
 use Rattle.world_defs.specs.Step.{planned_strikes, sent_out, step, steps, after_all}
-use Rattle.world_defs.specs.Drain.{channels_of, drain, resets_of, clear}
-use Rattle.world_defs.specs.Settle.{serials, replay_each, round_pass}
+use Rattle.world_defs.specs.Drain.{channels_of, resets_of}
+use Rattle.world_defs.specs.Settle.{serials}
 use Rattle.world_laws.specs.Reached.{IsOfDrain, IsOfSettle}
 use Rattle.world_laws.proofs.Shapes.{step-kept}
 use Rattle.world_laws.proofs.Rounds.{Going}
 use Rattle.world_laws.proofs.Clearing.{clear-idle}
-use Rattle.world_laws.proofs.Along.{Along, all-map, steps-along, after_all-along, drain-along, clear-along, round_pass-along}
+use Rattle.world_defs.proofs.LogRows.{all-map}
+use Rattle.world_laws.proofs.Along.{Along, steps-along, after_all-along, drain-along, clear-along, round_pass-along}
 use Rattle.world_laws.proofs.Reached.{settles-of}
 use Rattle.act_defs.specs.Acts.{IsReached}
 use Rattle.settle_laws.proofs.Views.{advance-is, InjectOf, inject-is}
 use Rattle.settle_laws.proofs.Ways.{OnWay}
 use Rattle.settle_laws.proofs.Staged.{IsBare, given_up-bare, given_up-links, sending-bare}
 use Rattle.world_defs.proofs.Strikes.{injection-nodes}
-use Rattle.settle_laws.proofs.CalmWorlds.{WorldCalm, IsCalm, event-calm, along-calm, replay_each-calm}
+use Rattle.settle_laws.proofs.CalmWorlds.{WorldCalm, IsCalm, event-calm, along-calm, replays-calm}
 use Rattle.settle_laws.proofs.Plain.{IsPlain, idle-empty, idle-plain, inject-plain}
 use Rattle.settle_laws.proofs.Still.{Still, calm-still}
 use Rattle.settle_laws.proofs.Facts.{Facts, IsReadable}
@@ -32,7 +34,7 @@ use Rattle.settle_laws.proofs.Injecting.{inject-lively}
 
 -- a drain after injections leaves idle links
 abbrev pub PlainDrainsIdle : Type 0
-PlainDrainsIdle = (n : Network) (w : WorldState) → IsReached n w → IsPlain w.links → is_idle (drain w).1.links ≡ true
+PlainDrainsIdle = (n : Network) (w : WorldState) → IsReached n w → IsPlain w.links → is_idle (drain w).world.links ≡ true
 
 inject-bare : (w : WorldState) (h : ℕ) (r : Effect × WorldState) → InjectOf w h r → IsBare w → IsBare r.1
 inject-bare w h r (InjectOf.idle e s) is = subst IsBare (sym s) is
@@ -77,7 +79,7 @@ module _ (flows : PlainDrainsIdle) (n : Network) (key : ConnectionKey) (k : ℕ)
   along-draining : Along (λ w v. Draining n key k fragment w → Draining n key k fragment v) IsOfDrain
   along-draining = record { same = λ w d. d; both = λ u v w f g d. g (f d); event = advance-draining }
 
-  drained : (w : WorldState) → Draining n key k fragment w → Draining n key k fragment (drain w).1
+  drained : (w : WorldState) → Draining n key k fragment w → Draining n key k fragment (drain w).world
   drained w d = drain-along (λ w v. Draining n key k fragment w → Draining n key k fragment v) IsOfDrain along-draining (λ c. tt) w d
 
   -- nothing is on its way in idle links
@@ -89,16 +91,16 @@ module _ (flows : PlainDrainsIdle) (n : Network) (key : ConnectionKey) (k : ℕ)
   settled-down w idle (Lively.frame o) = absurd (no-way _ key.dst w idle o)
   settled-down w idle (Lively.ack next more most o) = absurd (no-way _ key.src w idle o)
 
-  clear-still : (w : WorldState) → Sending n key k fragment w → Still key k fragment (clear w).1
+  clear-still : (w : WorldState) → Sending n key k fragment w → Still key k fragment (clear w).world
   unfolding clear
   clear-still w s =
-      let d : WorldState = (drain w).1 in
+      let d : WorldState = (drain w).world in
       let idle : is_idle d.links ≡ true = flows n w s.facts.reached s.plain in
       let down = drained w (record { facts = s.facts; lively = s.lively }) in
       let calm = steps-along WorldCalm IsCalm along-calm d (resets_of d) (all-map IsCalm Reset (λ c. tt) (channels_of d)) in
       calm-still key k fragment d (steps d (resets_of d)).1 calm down.facts.low (settled-down d idle down.lively)
 
-  clear-facts : (w : WorldState) → Facts n key k fragment w → Facts n key k fragment (clear w).1
+  clear-facts : (w : WorldState) → Facts n key k fragment w → Facts n key k fragment (clear w).world
   clear-facts w f = clear-along (λ w v. Facts n key k fragment w → Facts n key k fragment v) IsOfSettle (along-facts n key k fragment) settles-of.clears w f
 
   pub pass-facts : (w : WorldState) → Facts n key k fragment w → Facts n key k fragment (round_pass w).world
@@ -109,12 +111,12 @@ module _ (flows : PlainDrainsIdle) (n : Network) (key : ConnectionKey) (k : ℕ)
   pass-still w idle few f s =
       let t : WorldState = after_all w (map GiveUp (addresses w)) in
       let u : WorldState = (steps t (map Inject (addresses w))).1 in
-      let v : WorldState = (clear u).1 in
-      let last : WorldState = (replay_each (serials v) v).world in
+      let v : WorldState = (clear u).world in
+      let last : WorldState = (replays (serials v) v).world in
       let calm : WorldCalm w t = after_all-along WorldCalm IsCalm along-calm w (map GiveUp (addresses w)) (all-map IsCalm GiveUp (λ h. tt) (addresses w)) in
       let first = (after_all-along Going IsOfSettle along-going w (map GiveUp (addresses w)) (all-map IsOfSettle GiveUp (λ h. tt) (addresses w))).rises in
       let mid = (clear-along Going IsOfSettle along-going settles-of.clears u).rises in
-      let end = (replay_each-going (serials v) v).rises in
+      let end = (replays-going (serials v) v).rises in
       let start : Sending n key k fragment t = record {
         facts = after_all-along (λ w v. Facts n key k fragment w → Facts n key k fragment v) IsOfSettle (along-facts n key k fragment) w (map GiveUp (addresses w)) (all-map IsOfSettle GiveUp (λ h. tt) (addresses w)) f;
         bare = given_up-bare w;
@@ -123,22 +125,22 @@ module _ (flows : PlainDrainsIdle) (n : Network) (key : ConnectionKey) (k : ℕ)
       } in
       let sent : Sending n key k fragment u = all-sending t (addresses w) (omega (arith, few, first, mid, end)) start in
       let low = (clear-facts u sent.facts).low in
-      calm-still key k fragment v last (replay_each-calm (serials v) v) low (clear-still u sent)
+      calm-still key k fragment v last (replays-calm (serials v) v) low (clear-still u sent)
     where
-      replay_each-going : (ss : List ℕ) (x : WorldState) → Going x (replay_each ss x).world
-      replay_each-going [] x = along-going.same x
-      replay_each-going (y ∷ ys) x =
+      replays-going : (ss : List ℕ) (x : WorldState) → Going x (replays ss x).world
+      replays-going [] x = along-going.same x
+      replays-going (y ∷ ys) x =
           let p : WorldState = (step x (Replay y)).1 in
-          let q : WorldState = (clear p).1 in
-          along-going.both x p (replay_each ys q).world (event-going x (Replay y) tt) (along-going.both p q (replay_each ys q).world (clear-along Going IsOfSettle along-going settles-of.clears p) (replay_each-going ys q))
+          let q : WorldState = (clear p).world in
+          along-going.both x p (replays ys q).world (event-going x (Replay y) tt) (along-going.both p q (replays ys q).world (clear-along Going IsOfSettle along-going settles-of.clears p) (replays-going ys q))
 
 -- a pass ends with idle links
-replay_each-idle : (ss : List ℕ) (w : WorldState) → is_idle w.links ≡ true → is_idle (replay_each ss w).world.links ≡ true
-replay_each-idle [] w e = e
-replay_each-idle (s ∷ ss) w e = let u : WorldState = (step w (Replay s)).1 in replay_each-idle ss (clear u).1 (clear-idle u)
+replays-idle : (ss : List ℕ) (w : WorldState) → is_idle w.links ≡ true → is_idle (replays ss w).world.links ≡ true
+replays-idle [] w e = e
+replays-idle (s ∷ ss) w e = let u : WorldState = (step w (Replay s)).1 in replays-idle ss (clear u).world (clear-idle u)
 
 pub pass-idle : (w : WorldState) → is_idle (round_pass w).world.links ≡ true
 unfolding round_pass
 pass-idle w =
     let u : WorldState = (steps (after_all w (map GiveUp (addresses w))) (map Inject (addresses w))).1 in
-    replay_each-idle (serials (clear u).1) (clear u).1 (clear-idle u)
+    replays-idle (serials (clear u).world) (clear u).world (clear-idle u)

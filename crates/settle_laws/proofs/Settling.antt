@@ -13,24 +13,28 @@ use Rattle.gm_defs.specs.declared.frame.ConnectionKey.{ConnectionKey}
 use Rattle.net_defs.specs.RouteSet.{HasRoute}
 use Rattle.world_defs.specs.Table.{ActiveTable, table_route}
 use Rattle.world_defs.specs.Node.{sending_lane, to_send}
+use Rattle.world_defs.specs.Log.{Log}
+use Rattle.world_defs.specs.Logs.{Moved, Rounds, moved_both, clear, is_last_pass, round_pass, round_passes, round, rounds, settle}
 use Rattle.world_defs.specs.World.{WorldState, fabric_of, host_count, last_count, node_at}
 use Rattle.world_defs.specs.Step.{after_all}
-use Rattle.world_defs.specs.Drain.{clear}
 use Rattle.world_defs.specs.Traffic.{adopted_routes, routes_in, sender_on, sent_on}
-use Rattle.world_defs.specs.Settle.{Stretch, expiries, round_pass, unacknowledged_in, base_rose, has_helped, is_last_round, Rounds}
+use Rattle.world_defs.specs.Settle.{expiries, pass_bound, round_bound, unacknowledged_in, base_rose, has_helped, is_last_round}
 use Rattle.world_defs.specs.Settled.{IsSettledConnection, IsSettled}
 use Rattle.world_laws.specs.Reached.{IsOfSettle}
-use Rattle.world_laws.specs.Settling.{RoundPasses, IsRound, AllRounds}
+use Rattle.world_laws.specs.Settling.{RoundPasses, AllRounds}
+use Rattle.world_laws.specs.Repeats.{Repeats}
+use Rattle.world_laws.proofs.Repeating.{repeats-end}
+use Rattle.world_laws.proofs.Passes.{round-ends}
 use Rattle.world_laws.proofs.Shapes.{step-kept}
-use Rattle.world_laws.proofs.Rounds.{Going}
+use Rattle.world_laws.proofs.Rounds.{Going, settle-ends}
 use Rattle.world_laws.proofs.Clearing.{clear-idle}
 use Rattle.world_laws.proofs.Meanings.{base-test, none_left-settled}
-use Rattle.world_laws.proofs.Along.{Along, clear-along, expiries-along, round_pass-along, round-along, settles-along}
+use Rattle.world_laws.proofs.Along.{Along, clear-along, expiries-along, round_pass-along, round-along, settle-along}
 use Rattle.world_laws.proofs.Reached.{settles-of}
 use Rattle.act_defs.specs.Acts.{IsReached}
 use Rattle.message_laws.proofs.Worlds.{reached-ordered}
 use Rattle.message_laws.proofs.Windows.{reached-windowed}
-use Rattle.settle_laws.specs.Premises.{HasRoutesBack}
+use Rattle.settle_laws.specs.Premises.{CanSettle, HasRoutesBack}
 use Rattle.settle_laws.specs.Settles.{SentHasRoute, SettleEndsSettled}
 use Rattle.world_defs.proofs.Kept.{step-adopted}
 use Rattle.settle_laws.proofs.Routes.{table-route, has-active, route-leads, route-in, in-route}
@@ -47,14 +51,14 @@ pub sent-route : SentHasRoute
 sent-route n w is c some = (reached-said n w is).routed c some
 
 -- what passes leave
-passes-going : (p : ℕ) (w : WorldState) (s : Stretch) → RoundPasses p w s → Going w s.world
-passes-going p w s (RoundPasses.last_pass e) = round_pass-along Going IsOfSettle along-going settles-of w
-passes-going p w s (RoundPasses.another_pass {n = j} {s = rest} e more c d) =
-    subst (λ t. Going w t.world) (sym d) (along-going.both w (round_pass w).world rest.world (round_pass-along Going IsOfSettle along-going settles-of w) (passes-going j (round_pass w).world rest more))
+passes-going : (w : WorldState) (l : Log Moved) → RoundPasses w l → Going w l.world
+passes-going w l (Repeats.last e) = round_pass-along Going IsOfSettle along-going settles-of w
+passes-going w l (Repeats.another {l = rest} e more d) =
+    subst (λ t. Going w t.world) (sym d) (along-going.both w (round_pass w).world rest.world (round_pass-along Going IsOfSettle along-going settles-of w) (passes-going (round_pass w).world rest more))
 
-passes-idle : (p : ℕ) (w : WorldState) (s : Stretch) → RoundPasses p w s → is_idle s.world.links ≡ true
-passes-idle p w s (RoundPasses.last_pass e) = pass-idle w
-passes-idle p w s (RoundPasses.another_pass {n = j} {s = rest} e more c d) = ap (λ t. is_idle t.world.links) d ∙ passes-idle j (round_pass w).world rest more
+round-ends-idle : (w : WorldState) → is_idle (round w).world.links ≡ true
+unfolding round
+round-ends-idle w = repeats-end moved_both is_last_pass round_pass (λ v. is_idle v.links ≡ true) (λ v e. pass-idle v) (after_all w (expiries w)) (round_passes (pass_bound w) (after_all w (expiries w))) (round-ends w)
 
 -- a connection after the last pass of a round
 record Ended (n : Network) (key : ConnectionKey) (k : ℕ) (fragment : FragmentOf) (z : WorldState) : Type 0 where
@@ -67,8 +71,8 @@ module _ (flows : PlainDrainsIdle) (n : Network) (key : ConnectionKey) (k : ℕ)
   cable : (h : ℕ) (w : WorldState) → fabric_of w ≡ n → is_some (channel_from n (host_port h)) ≡ true → is_some (channel_from (fabric_of w) (host_port h)) ≡ true
   cable h w net e = ap (λ x. is_some (channel_from x (host_port h))) net ∙ e
 
-  passes-end : (p : ℕ) (w : WorldState) (s : Stretch) → RoundPasses p w s → is_idle w.links ≡ true → s.world.struck ≤ w.struck → s.world.injected < last_count → Facts n key k fragment w → Still key k fragment w → Ended n key k fragment s.world
-  passes-end p w s (RoundPasses.last_pass e) idle few left f still =
+  passes-end : (w : WorldState) (l : Log Moved) → RoundPasses w l → is_idle w.links ≡ true → l.world.struck ≤ w.struck → l.world.injected < last_count → Facts n key k fragment w → Still key k fragment w → Ended n key k fragment l.world
+  passes-end w l (Repeats.last e) idle few left f still =
       let then_f = pass-facts flows n key k fragment readable w f in
       record {
         facts = then_f;
@@ -76,14 +80,21 @@ module _ (flows : PlainDrainsIdle) (n : Network) (key : ConnectionKey) (k : ℕ)
         host_done = nothing-left w key.src idle e f.host then_f.host (cable key.src w f.net from) left;
         peer_done = nothing-left w key.dst idle e f.peer then_f.peer (cable key.dst w f.net to) left;
       }
-  passes-end p w s (RoundPasses.another_pass {n = j} {s = rest} e more c d) idle few left f still =
+  passes-end w l (Repeats.another {l = rest} e more d) idle few left f still =
       let mid : WorldState = (round_pass w).world in
       let up = (round_pass-along Going IsOfSettle along-going settles-of w).rises in
-      let on = (passes-going j mid rest more).rises in
+      let on = (passes-going mid rest more).rises in
       let few_all : rest.world.struck ≤ w.struck = subst (λ t. t.world.struck ≤ w.struck) d few in
       let left_all : rest.world.injected < last_count = subst (λ t. t.world.injected < last_count) d left in
       subst (λ t. Ended n key k fragment t.world) (sym d)
-      (passes-end j mid rest more (pass-idle w) (omega (arith, few_all, up)) left_all (pass-facts flows n key k fragment readable w f) (pass-still flows n key k fragment readable w idle (omega (arith, few_all, on)) f still))
+      (passes-end mid rest more (pass-idle w) (omega (arith, few_all, up)) left_all (pass-facts flows n key k fragment readable w f) (pass-still flows n key k fragment readable w idle (omega (arith, few_all, on)) f still))
+
+  round-end : (w : WorldState) → is_idle w.links ≡ true → (round w).world.struck ≤ w.struck → (round w).world.injected < last_count → Facts n key k fragment (after_all w (expiries w)) → Still key k fragment (after_all w (expiries w)) → Ended n key k fragment (round w).world
+  unfolding round
+  round-end w idle few left f still =
+      let u : WorldState = after_all w (expiries w) in
+      let up = (expiries-along Going IsOfSettle along-going (λ h p. tt) w).rises in
+      passes-end u (round_passes (pass_bound w) u) (round-ends w) (ap is_idle (expiries-links w) ∙ idle) (omega (arith, few, up)) left f still
 
 -- a route from a host needs its cable
 has-cable : (n : Network) (h to : ℕ) (walk : List ℤ) → place n h walk ≡ AtHostPlace to → is_some (channel_from n (host_port h)) ≡ true
@@ -107,21 +118,21 @@ route-back n z a b is joined there active back =
     ap is_some (table-route n z b a is back) ∙ in-route (adopted_routes z) b a y.place y.route y.there y.from y.to
 
 -- a connection after the last round
-module _ (flows : PlainDrainsIdle) (n : Network) (w : WorldState) (s : Stretch) (round : IsRound w s) (is : IsReached n w) (net : fabric_of w ≡ n) (idle : is_idle w.links ≡ true) (few : s.world.struck ≤ w.struck) (left : s.world.injected < last_count) (joined : HasRoutesBack s.world) (key : ConnectionKey) (low : key.src < host_count w) (below : key.dst < host_count w) (same : (sender_on s.world key).base ≡ (sender_on w key).base) (some : (sender_on w key).base < (sender_on w key).next) where
+module _ (flows : PlainDrainsIdle) (n : Network) (w : WorldState) (is : IsReached n w) (net : fabric_of w ≡ n) (idle : is_idle w.links ≡ true) (few : (round w).world.struck ≤ w.struck) (left : (round w).world.injected < last_count) (joined : HasRoutesBack (round w).world) (key : ConnectionKey) (low : key.src < host_count w) (below : key.dst < host_count w) (same : (sender_on (round w).world key).base ≡ (sender_on w key).base) (some : (sender_on w key).base < (sender_on w key).next) where
   abbrev k : ℕ
   k = (sender_on w key).base
 
   abbrev z : WorldState
-  z = s.world
+  z = (round w).world
 
   abbrev u : WorldState
   u = after_all w (expiries w)
 
   going : Going w z
-  going = round-along Going IsOfSettle along-going settles-of w s round
+  going = round-along Going IsOfSettle along-going settles-of w
 
   reached-end : IsReached n z
-  reached-end = round-along (λ w v. IsReached n w → IsReached n v) IsOfSettle (along-reached n) settles-of w s round is
+  reached-end = round-along (λ w v. IsReached n w → IsReached n v) IsOfSettle (along-reached n) settles-of w is
 
   next-same : (sender_on z key).next ≡ (sender_on w key).next
   next-same = ((going.nodes.each key.src).senders (sending_lane key)).next
@@ -136,7 +147,7 @@ module _ (flows : PlainDrainsIdle) (n : Network) (w : WorldState) (s : Stretch) 
   first = record { reached = is; net = net; host = low; peer = below; low = omega arith; there = found.1 }
 
   last : Facts n key k fragment z
-  last = round-along (λ w v. Facts n key k fragment w → Facts n key k fragment v) IsOfSettle (along-facts n key k fragment) settles-of w s round first
+  last = round-along (λ w v. Facts n key k fragment w → Facts n key k fragment v) IsOfSettle (along-facts n key k fragment) settles-of w first
 
   start : Facts n key k fragment u
   start = expiries-along (λ w v. Facts n key k fragment w → Facts n key k fragment v) IsOfSettle (along-facts n key k fragment) (λ h p. tt) w first
@@ -152,8 +163,7 @@ module _ (flows : PlainDrainsIdle) (n : Network) (w : WorldState) (s : Stretch) 
       let back = route-back n z key.src key.dst reached-end joined there (has-active (node_at z key.src).table key.dst there) active in
       let from = table-cable n z key.src key.dst reached-end there in
       let to = table-cable n z key.dst key.src reached-end back in
-      let up = (expiries-along Going IsOfSettle along-going (λ h p. tt) w).rises in
-      let e = passes-end flows n key k fragment readable from to round.passes u s round.through (ap is_idle (expiries-links w) ∙ idle) (omega (arith, few, up)) left start expired-first in
+      let e = round-end flows n key k fragment readable from to w idle few left start expired-first in
       IsSettledConnection.waiting (still-waiting n key k fragment z e.facts same readable.priority (omega (arith, some, next-same)) there back e.host_done e.peer_done e.still)
 
   readable-by : (t v : Bool) → nat_lt fragment.message.dport 8 ≡ t → nat_lt fragment.message.prio 2 ≡ v → is_some (node_at z key.dst).table.active ≡ true → IsSettledConnection z key
@@ -181,17 +191,17 @@ neither true y e = absurd (true≢false e)
 neither false y e = (refl, e)
 
 -- the last round
-round-settled : PlainDrainsIdle → (n : Network) (w : WorldState) (s : Stretch) → IsRound w s → is_last_round w s.world ≡ true → IsReached n w → fabric_of w ≡ n → is_idle w.links ≡ true → s.world.injected < last_count → HasRoutesBack s.world → IsSettled s.world
-round-settled flows n w s round e is net idle left joined = by (nat_eq (unacknowledged_in s.world) 0) refl
+round-settled : PlainDrainsIdle → (n : Network) (w : WorldState) → is_last_round w (round w).world ≡ true → IsReached n w → fabric_of w ≡ n → is_idle w.links ≡ true → (round w).world.injected < last_count → HasRoutesBack (round w).world → IsSettled (round w).world
+round-settled flows n w e is net idle left joined = by (nat_eq (unacknowledged_in (round w).world) 0) refl
   where
     z : WorldState
-    z = s.world
+    z = (round w).world
 
     going : Going w z
-    going = round-along Going IsOfSettle along-going settles-of w s round
+    going = round-along Going IsOfSettle along-going settles-of w
 
     reached-z : IsReached n z
-    reached-z = round-along (λ w v. IsReached n w → IsReached n v) IsOfSettle (along-reached n) settles-of w s round is
+    reached-z = round-along (λ w v. IsReached n w → IsReached n v) IsOfSettle (along-reached n) settles-of w is
 
     left-over : (base_rose w z ≡ false) × (nat_lt w.struck z.struck ≡ false) → (key : ConnectionKey) → key.src < host_count z → key.dst < host_count z → IsSettledConnection z key
     left-over none key low below = equal (nat_eq (sender_on z key).base (sender_on z key).next) refl
@@ -217,7 +227,7 @@ round-settled flows n w s round e is net idle left joined = by (nat_eq (unacknow
             let f = order.top_below in
             let other : (sender_on z key).base ≢ (sender_on z key).next = grind (arith, nat_tests) in
             let next = ((going.nodes.each key.src).senders (sending_lane key)).next in
-            connection-settled flows n w s round is net idle few left joined key (omega (arith, low, count)) (omega (arith, below, count)) same (omega (arith, c, d, f, other, next, same))
+            connection-settled flows n w is net idle few left joined key (omega (arith, low, count)) (omega (arith, below, count)) same (omega (arith, c, d, f, other, next, same))
 
     by : (t : Bool) → nat_eq (unacknowledged_in z) 0 ≡ t → IsSettled z
     by true t = none_left-settled z (reached-windowed n z reached-z).senders (grind (arith, nat_tests))
@@ -230,20 +240,25 @@ along-net = record { same = λ w. refl; both = λ u v w k l. l ∙ k; event = λ
 along-adopted : Along (λ w v. v.adopted ≡ w.adopted) IsOfSettle
 along-adopted = record { same = λ w. refl; both = λ u v w k l. l ∙ k; event = λ w e q. step-adopted w e }
 
-rounds-settled : PlainDrainsIdle → (n : Network) (w : WorldState) (r : Rounds) → AllRounds w r → IsReached n w → fabric_of w ≡ n → is_idle w.links ≡ true → r.world.injected < last_count → HasRoutesBack r.world → IsSettled r.world
-rounds-settled flows n w r (AllRounds.last_round {s = s} one e) is net idle left joined = round-settled flows n w s one e is net idle left joined
-rounds-settled flows n w r (AllRounds.another_round {s = s} {r = rest} one e more d) is net idle left joined =
-    let reached-then : IsReached n s.world = round-along (λ w v. IsReached n w → IsReached n v) IsOfSettle (along-reached n) settles-of w s one is in
-    let net-then : fabric_of s.world ≡ n = round-along (λ w v. fabric_of v ≡ fabric_of w) IsOfSettle along-net settles-of w s one ∙ net in
+rounds-settled : PlainDrainsIdle → (n : Network) (w : WorldState) (l : Log Rounds) → AllRounds w l → IsReached n w → fabric_of w ≡ n → is_idle w.links ≡ true → l.world.injected < last_count → HasRoutesBack l.world → IsSettled l.world
+rounds-settled flows n w l (Repeats.last e) is net idle left joined = round-settled flows n w e is net idle left joined
+rounds-settled flows n w l (Repeats.another {l = rest} e more d) is net idle left joined =
+    let reached-then : IsReached n (round w).world = round-along (λ w v. IsReached n w → IsReached n v) IsOfSettle (along-reached n) settles-of w is in
+    let net-then : fabric_of (round w).world ≡ n = round-along (λ w v. fabric_of v ≡ fabric_of w) IsOfSettle along-net settles-of w ∙ net in
     subst (λ t. IsSettled t.world) (sym d)
-    (rounds-settled flows n s.world rest more reached-then net-then (passes-idle one.passes (after_all w (expiries w)) s one.through) (subst (λ t. t.world.injected < last_count) d left) (subst (λ t. HasRoutesBack t.world) d joined))
+    (rounds-settled flows n (round w).world rest more reached-then net-then (round-ends-idle w) (subst (λ t. t.world.injected < last_count) d left) (subst (λ t. HasRoutesBack t.world) d joined))
 
-pub settle-settled : PlainDrainsIdle → SettleEndsSettled
-settle-settled flows w r can s left =
+settle-rounds : PlainDrainsIdle → (w : WorldState) → CanSettle w → HasRoutesBack (settle w).world → (settle w).world.injected < last_count → IsSettled (settle w).world
+unfolding settle
+settle-rounds flows w can joined left =
     let n : Network = fabric_of w in
-    let v : WorldState = (clear w).1 in
-    let same : r.world.adopted ≡ w.adopted = settles-along (λ w v. v.adopted ≡ w.adopted) IsOfSettle along-adopted settles-of w r s in
-    let joined : HasRoutesBack r.world = subst (λ o. (place : ℕ) (route : Route) → slice_get (routes_in o) place ≡ Some route → HasRoute (routes_in o) route.to route.from) (sym same) can.joined in
+    let v : WorldState = (clear w).world in
     let is : IsReached n v = clear-along (λ w v. IsReached n w → IsReached n v) IsOfSettle (along-reached n) settles-of.clears w can.reached in
     let net : fabric_of v ≡ n = clear-along (λ w v. fabric_of v ≡ fabric_of w) IsOfSettle along-net settles-of.clears w in
-    subst (λ t. IsSettled t.world) (sym s.whole) (rounds-settled flows n v s.rest s.rounds is net (clear-idle w) (subst (λ t. t.world.injected < last_count) s.whole left) (subst (λ t. HasRoutesBack t.world) s.whole joined))
+    rounds-settled flows n v (rounds (round_bound v) v) (settle-ends w (reached-windowed n w can.reached).senders) is net (clear-idle w) left joined
+
+pub settle-settled : PlainDrainsIdle → SettleEndsSettled
+settle-settled flows w can left =
+    let same : (settle w).world.adopted ≡ w.adopted = settle-along (λ w v. v.adopted ≡ w.adopted) IsOfSettle along-adopted settles-of w in
+    let joined : HasRoutesBack (settle w).world = subst (λ o. (place : ℕ) (route : Route) → slice_get (routes_in o) place ≡ Some route → HasRoute (routes_in o) route.to route.from) (sym same) can.joined in
+    settle-rounds flows w can joined left

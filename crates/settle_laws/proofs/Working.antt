@@ -6,15 +6,14 @@ use Rattle.net_defs.specs.declared.route.Route.{Route}
 use Rattle.net_defs.specs.Examples.{two_hosts}
 use Rattle.net_defs.proofs.TwoHosts.{two_hosts_fabric}
 use Rattle.net_defs.specs.RouteSet.{HasRoute}
+use Rattle.world_defs.specs.Logs.{drain, clear, round_pass, round, settle}
 use Rattle.world_defs.specs.Examples.{setup_routes}
 use Rattle.world_defs.specs.Node.{to_send, packet_for, after_sending}
 use Rattle.world_defs.specs.Hearing.{hear}
 use Rattle.world_defs.specs.Client.{begun, provided_by, sent_by}
 use Rattle.world_defs.specs.Step.{lost, was_reset, replayed, planned_strikes, sent_out, injected, advanced, expired, gave_up}
-use Rattle.world_defs.specs.Drain.{pass, drain, clear}
 use Rattle.gm_defs.specs.Connection.{connection}
 use Rattle.world_defs.specs.Traffic.{got_on}
-use Rattle.world_defs.specs.Settle.{round_pass, round, settle}
 use Rattle.act_defs.specs.Acts.{AreAdoptable}
 use Rattle.table_laws.specs.Examples.{adopted_world}
 use Rattle.table_laws.proofs.Dependencies.{adopted-adoptable}
@@ -45,7 +44,7 @@ lost-can = record {
 }
 
 pub lost-settled : LostFrameIsSentAgain
-unfolding to_send packet_for after_sending hear begun provided_by sent_by lost was_reset replayed planned_strikes sent_out injected advanced expired gave_up pass drain clear round_pass round settle
+unfolding to_send packet_for after_sending hear begun provided_by sent_by lost was_reset replayed planned_strikes sent_out injected advanced expired gave_up drain clear round_pass round settle
 lost-settled = (refl, refl, refl)
 
 pub bare-can : BareWorldCanSettle
@@ -56,7 +55,7 @@ bare-can = record {
 }
 
 pub bare-waits : MessageWaitsForToken
-unfolding to_send packet_for after_sending hear begun provided_by sent_by was_reset replayed planned_strikes sent_out injected advanced expired gave_up pass drain clear round_pass round settle
+unfolding to_send packet_for after_sending hear begun provided_by sent_by was_reset replayed planned_strikes sent_out injected advanced expired gave_up drain clear round_pass round settle
 bare-waits =
     let none : length (got_on (settle bare_world).world (connection 0 1 0)) ≡ 0 = refl in
     (refl, record { place = 0; message = ten; first = refl; there = refl; not_taken = omega (arith, none); not_begun = refl; no_token = refl })

@@ -3,10 +3,11 @@ use Rattle.std.specs.Prelude.{◌≡◌, List, [], ◌∷◌}
 use Rattle.net_defs.specs.Examples.{two_hosts}
 use Rattle.gm_defs.specs.Connection.{connection}
 use Rattle.world_defs.specs.declared.event.Event.TheVariants.{Inject, Lose, Begin, Provide, Send}
+use Rattle.world_defs.specs.Logs.{settle}
 use Rattle.world_defs.specs.World.{WorldState, new_world}
 use Rattle.world_defs.specs.Examples.{setup_routes}
 use Rattle.world_defs.specs.Traffic.{got_on}
-use Rattle.world_defs.specs.Settle.{unacknowledged_in, settle}
+use Rattle.world_defs.specs.Settle.{unacknowledged_in}
 use Rattle.world_defs.specs.Settled.{IsWaiting}
 use Rattle.act_defs.specs.Acts.{Act, Happens, Adopts, acted_all}
 use Rattle.message_laws.specs.Examples.{ten}

@@ -5,9 +5,8 @@ use Rattle.gm_defs.specs.declared.frame.ConnectionKey.{ConnectionKey}
 use Rattle.world_defs.specs.Table.{table_route}
 use Rattle.world_defs.specs.World.{WorldState, last_count, node_at}
 use Rattle.world_defs.specs.Traffic.{sent_on}
-use Rattle.world_defs.specs.Settle.{Rounds}
 use Rattle.world_defs.specs.Settled.{IsSettled}
-use Rattle.world_laws.specs.Settling.{Settles}
+use Rattle.world_defs.specs.Logs.{settle}
 use Rattle.act_defs.specs.Acts.{IsReached}
 use Rattle.settle_laws.specs.Premises.{CanSettle}
 
@@ -19,5 +18,4 @@ SentHasRoute =
 
 -- a settle ends in a settled world, where the count of injections hasn't reached its last value then
 abbrev pub SettleEndsSettled : Type 0
-SettleEndsSettled = (w : WorldState) (r : Rounds) → CanSettle w → Settles w r → r.world.injected < last_count
-    → IsSettled r.world
+SettleEndsSettled = (w : WorldState) → CanSettle w → (settle w).world.injected < last_count → IsSettled (settle w).world

@@ -14,8 +14,8 @@ use Rattle.world_defs.specs.declared.effect.Effect.{Effect}
 use Rattle.world_defs.specs.Table.{Adoption, is_other}
 use Rattle.world_defs.specs.World.{WorldState, adopted_by}
 use Rattle.world_defs.specs.Step.{step}
-use Rattle.log_defs.specs.Logs as log
-use Rattle.log_defs.specs.Log.{Log}
+use Rattle.world_defs.specs.Logs as log
+use Rattle.world_defs.specs.Log.{Log}
 use Rattle.world_defs.specs.EightBits.{IsByteEvent}
 use Rattle.world_laws.proofs.Along.{Along}
 use Rattle.run_defs.specs.declared.command.Command.{Command}

@@ -10,11 +10,10 @@ use Rattle.net_defs.specs.RouteSet.{HasRoute}
 use Rattle.world_defs.specs.Table.{Adoption}
 use Rattle.world_defs.specs.World.{WorldState, fabric_of, last_count}
 use Rattle.world_defs.specs.Traffic.{routes_in}
-use Rattle.world_defs.specs.Settle.{Rounds, unacknowledged_in, settle}
+use Rattle.world_defs.specs.Settle.{unacknowledged_in}
 use Rattle.world_defs.specs.Settled.{IsSettled}
 use Rattle.world_laws.specs.Shape.{HasSenders}
-use Rattle.world_laws.specs.Settling.{Settles}
-use Rattle.world_laws.proofs.Rounds.{settle-settles, settles-bounded}
+use Rattle.world_laws.proofs.Rounds.{settle-bounded}
 use Rattle.act_defs.specs.Acts.{IsReached}
 use Rattle.message_laws.specs.Got.{IsAllGot}
 use Rattle.message_laws.proofs.Windows.{reached-windowed}
@@ -30,9 +29,9 @@ use Rattle.run_defs.specs.Headline.{IsCommandOf}
 use Rattle.mapping_laws.proofs.Sessions.{run_keeps_world}
 use Rattle.run_laws.specs.Acts.{IsActOf}
 use Rattle.run_laws.proofs.Reaching.{run_is_reached}
-use Rattle.log_defs.specs.Log.{Log}
-use Rattle.log_defs.specs.Logs as log
-use Rattle.log_defs.proofs.Worlds.{settle-log}
+use Rattle.world_defs.specs.Log.{Log}
+use Rattle.world_defs.specs.Logs as log
+use Rattle.world_defs.specs.Logs.{settle}
 use Rattle.lawful_laws.proofs.Settling.{settle-flows}
 use Rattle.settle_laws.specs.Premises.{CanSettle}
 use Rattle.settle_laws.proofs.Flowing.{settle-ends_settled}
@@ -61,8 +60,8 @@ run-can_settle n commands out s f all r =
 -- what a settle prints
 record Prints (s next : SessionState) (rounds resets unacked : ℕ) : Type 0 where
   after : (settle s.world).world ≡ next.world
-  round_count : (settle s.world).rounds ≡ rounds
-  reset_count : min (settle s.world).resets last_count ≡ resets
+  round_count : (settle s.world).value.rounds ≡ rounds
+  reset_count : min (settle s.world).value.resets last_count ≡ resets
   left : unacknowledged_in (settle s.world).world ≡ unacked
 
 settle-prints : (s next : SessionState) (rounds resets unacked : ℕ) (rest : List Piece) → outcome s Settle ≡ Some (record { output = OneLine (SettleLine rounds resets unacked) ∷ rest; after = next }) → Prints s next rounds resets unacked
@@ -75,10 +74,10 @@ settle-prints s next rounds resets unacked rest e =
     let counted : min l.value.resets last_count ≡ resets = cc in
     let unacked_is : unacknowledged_in l.world ≡ unacked = cc in
     record {
-      after = ap (λ r. r.world) (settle-log s.world) ∙ ap (λ (x : Outcome). x.after.world) o;
-      round_count = ap (λ r. r.rounds) (settle-log s.world) ∙ number;
-      reset_count = ap (λ r. min r.resets last_count) (settle-log s.world) ∙ counted;
-      left = ap (λ r. unacknowledged_in r.world) (settle-log s.world) ∙ unacked_is;
+      after = ap (λ (x : Outcome). x.after.world) o;
+      round_count = number;
+      reset_count = counted;
+      left = unacked_is;
     }
 
 -- a reached world has its connections in order
@@ -92,21 +91,19 @@ none-printed k most e = omega (arith, e)
 line-so : (s next : SessionState) (rounds resets unacked : ℕ) → CanSettle s.world → Prints s next rounds resets unacked → IsSettledLine s next rounds resets unacked
 line-so s next rounds resets unacked can p =
     let w : WorldState = s.world in
-    let r : Rounds = settle w in
     let senders = reached-senders (fabric_of w) w can.reached in
-    let is : Settles w r = settle-settles w senders in
-    let bound = settles-bounded w r senders is in
+    let bound = settle-bounded w senders in
     let least = bound.0 in
     let most = bound.1 in
     let count = p.round_count in
     let after = p.after in
     record {
-      after = sym after ∙ ap (λ x. x.world) (settle-log w);
+      after = sym after;
       at_least = omega (arith, least, count);
       at_most = omega (arith, most, count);
-      lawful = λ clears. sym p.reset_count ∙ none-printed r.resets last_count (ap (λ x. x.resets) (settle-log w) ∙ settle-flows (fabric_of w) w can.reached clears);
+      lawful = λ clears. sym p.reset_count ∙ none-printed (settle w).value.resets last_count (settle-flows (fabric_of w) w can.reached clears);
       left = sym p.left ∙ ap unacknowledged_in after;
-      settled = λ left. subst IsSettled after (settle-ends_settled w r can is (subst (λ (v : WorldState). v.injected < last_count) (sym after) left));
+      settled = λ left. subst IsSettled after (settle-ends_settled w can (subst (λ (v : WorldState). v.injected < last_count) (sym after) left));
       got = λ none. subst IsAllGot after (settle-got (fabric_of w) w can.reached (p.left ∙ none));
     }
 

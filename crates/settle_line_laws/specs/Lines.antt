@@ -5,7 +5,7 @@ use Rattle.net_defs.specs.Network.{Network, IsFabric}
 use Rattle.world_defs.specs.World.{fabric_of, last_count}
 use Rattle.world_defs.specs.Settle.{unacknowledged_in}
 use Rattle.world_defs.specs.Settled.{IsSettled}
-use Rattle.log_defs.specs.Logs as log
+use Rattle.world_defs.specs.Logs as log
 use Rattle.run_defs.specs.declared.command.Command.{Command}
 use Rattle.run_defs.specs.declared.command.Command.TheVariants.{Settle}
 use Rattle.run_defs.specs.declared.line.Line.TheVariants.{Settle as SettleLine}

@@ -6,7 +6,7 @@ use Rattle.std.proofs.lemmas.Bool.Decides.{nat_tests}
 use Rattle.link_defs.specs.Links.{is_idle}
 use Rattle.world_defs.specs.Table.{Adoption}
 use Rattle.world_defs.specs.World.{WorldState, fabric_of, last_count}
-use Rattle.world_defs.specs.Install.{installed}
+use Rattle.world_defs.proofs.LogViews.{installed}
 use Rattle.act_defs.specs.Acts.{IsReached}
 use Rattle.install_laws.specs.Premises.{IsJoined, CanInstall}
 use Rattle.install_laws.specs.Counts.{TellsCause}

@@ -5,9 +5,8 @@ use Rattle.std.proofs.lemmas.Bool.Decides.{nat_tests}
 use Rattle.std.proofs.lemmas.List.{drop_more}
 use Rattle.world_defs.specs.Table.{Adoption}
 use Rattle.world_defs.specs.World.{WorldState}
-use Rattle.log_defs.specs.Log.{Log, still}
-use Rattle.log_defs.specs.Logs as log
-use Rattle.log_defs.specs.Laws.{came_to}
+use Rattle.world_defs.specs.Log.{Log, still, came_to}
+use Rattle.world_defs.specs.Logs as log
 use Rattle.route_install.specs.declared.installer.Work.{Work}
 use Rattle.route_install.specs.Installing.{Installation, AreHosts, is_acked, is_done, acked_of}
 use Rattle.table_installing.specs.Installing.{has_parts, acked_among}

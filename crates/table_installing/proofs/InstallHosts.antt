@@ -9,14 +9,14 @@ use Rattle.world_defs.specs.Table.{Adoption, part_count, entries_from}
 use Rattle.world_defs.specs.World.{WorldState, fabric_of, host_count}
 use Rattle.world_defs.specs.Asking.{all_given_up}
 use Rattle.world_defs.specs.EightBits.{IsByteEvent}
-use Rattle.world_defs.specs.Install.{parts_of, installed}
-use Rattle.log_defs.specs.Laws.{came_to}
-use Rattle.log_defs.proofs.Rows.{hosts-row, byte_asks}
-use Rattle.log_defs.proofs.Asks.{install-log}
+use Rattle.world_defs.specs.Install.{parts_of}
+use Rattle.world_defs.proofs.LogViews.{installed}
+use Rattle.world_defs.specs.Log.{came_to}
+use Rattle.world_defs.proofs.LogRows.{hosts-row, byte_asks}
 use Rattle.route_install.specs.Installing.{AreHosts}
 use Rattle.adopted_routes.specs.Adopting.{is_among, IsSetOfHosts, part_count_for}
-use Rattle.log_defs.specs.Logs as log
-use Rattle.log_defs.specs.Row.{IsPartWay}
+use Rattle.world_defs.specs.Logs as log
+use Rattle.world_defs.specs.Row.{IsPartWay}
 use Rattle.fab_world.specs.Held.{IsMoment, IsLater}
 use Rattle.table_installing.specs.Installing.{CanInstall}
 
@@ -113,13 +113,13 @@ pub told : (w v u : WorldState) (hosts : List ℕ) (tries acked : ℕ) (o : Opti
     → ((a : Adoption) → v.adopted ≡ Some a → came_to (log.hosts a tries hosts v) ≡ (acked, u)) → IfSome o (λ a. installed a hosts tries w ≡ (acked, u))
 unfolding log.install
 told w v u hosts tries acked None is given same all = tt
-told w v u hosts tries acked (Some a) is given same all = install-log a hosts tries w ∙ ap (λ x. came_to (log.hosts a tries hosts x)) (sym given) ∙ all a (same ∙ is)
+told w v u hosts tries acked (Some a) is given same all = ap (λ x. came_to (log.hosts a tries hosts x)) (sym given) ∙ all a (same ∙ is)
 
 pub in-logs : (w u : WorldState) (hosts : List ℕ) (tries acked : ℕ) (o : Option Adoption) → IfSome o (λ a. installed a hosts tries w ≡ (acked, u))
     → IfSome o (λ a. acked ≡ (log.install a hosts tries w).value) × IfSome o (λ a. u ≡ (log.install a hosts tries w).world)
 in-logs w u hosts tries acked None is = (tt, tt)
 in-logs w u hosts tries acked (Some a) is =
-    let told : (acked, u) ≡ came_to (log.install a hosts tries w) = sym is ∙ install-log a hosts tries w in
+    let told : (acked, u) ≡ came_to (log.install a hosts tries w) = sym is in
     (ap (λ p. p.0) told, ap (λ p. p.1) told)
 
 -- hosts that are served lead on by events

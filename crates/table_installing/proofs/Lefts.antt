@@ -7,8 +7,8 @@ use Rattle.std.proofs.lemmas.Bool.Decides.{nat_tests}
 use Rattle.std.proofs.lemmas.List.{append_assoc}
 use Rattle.world_defs.specs.declared.event.Event.{Event}
 use Rattle.world_defs.specs.World.{WorldState}
-use Rattle.log_defs.specs.Log.{Log, still, told as tell, and_do, for_each}
-use Rattle.log_defs.specs.Logs as log
+use Rattle.world_defs.specs.Log.{Log, still, told as tell, and_do, for_each}
+use Rattle.world_defs.specs.Logs as log
 use Rattle.route_install.specs.declared.installer.Work.{Work}
 use Rattle.route_install.specs.Installing.{is_acked, is_done, one_acked, one_silent, changed}
 

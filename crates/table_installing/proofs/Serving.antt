@@ -6,10 +6,10 @@ use Rattle.std.proofs.lemmas.Bool.Decides.{nat_tests}
 use Rattle.world_defs.specs.EightBits.{IsByteEvent}
 use Rattle.world_defs.specs.Table.{Adoption}
 use Rattle.world_defs.specs.World.{WorldState}
-use Rattle.log_defs.specs.Log.{Log, told as tell}
-use Rattle.log_defs.specs.Logs as log
-use Rattle.log_defs.specs.Row.{IsPartWay}
-use Rattle.log_defs.proofs.Rows.{part_try-row, byte_asks}
+use Rattle.world_defs.specs.Log.{Log, told as tell}
+use Rattle.world_defs.specs.Logs as log
+use Rattle.world_defs.specs.Row.{IsPartWay}
+use Rattle.world_defs.proofs.LogRows.{part_try-row, byte_asks}
 use Rattle.log_laws.proofs.PartWay.{way-front, way-as}
 use Rattle.log_laws.proofs.UnderWay.{UnderWay, under_way-on, under_way-cut}
 use Rattle.route_install.specs.declared.installer.Work.{Work}

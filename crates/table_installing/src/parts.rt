@@ -2,8 +2,8 @@
 
 ghost use Rattle.std.specs.Prelude.{◌≡◌, is_some, IfOk, OnOk, OnErr};
 ghost use Rattle.world_defs.specs.World.{fabric_of, host_count};
-ghost use Rattle.log_defs.specs.Logs as log;
-ghost use Rattle.log_defs.specs.Row.{IsPartWay};
+ghost use Rattle.world_defs.specs.Logs as log;
+ghost use Rattle.world_defs.specs.Row.{IsPartWay};
 ghost use Rattle.fab_world.specs.Events.{IsHostOf};
 ghost use Rattle.world_drain.specs.Watch.{seen_in};
 
@@ -13,7 +13,7 @@ use world_drain::{AwaitedPart, Seen, Watch, drain_watching, happen};
 
 /// One try of a part: the part alone, and then the acknowledgement of its host. The epoch of that, where the mapper
 /// hears it. Running out of memory leaves a world that a prefix of its events leads to.
-#[tactic(auto, unfolding(log_defs::specs::Logs::part_try))]
+#[tactic(auto, unfolding(world_defs::specs::Logs::part_try))]
 pub(crate) fn part_try(
     alloc: Global,
     w: &mut World,
@@ -44,7 +44,7 @@ pub(crate) fn part_try(
 }
 
 // A host puts what it has to send first into its channel, and the links are drained.
-#[tactic(auto, unfolding(log_defs::specs::Logs::sends))]
+#[tactic(auto, unfolding(world_defs::specs::Logs::sends))]
 fn send(alloc: Global, w: &mut World, host: u16, watch: Watch) -> Result<Seen, AllocError>
     requires { IsHostOf w.old host }
     ensures seen { IfOk result (λ s. s ≡ seen_in watch (log.sends host w.old).value.effects) }

@@ -2,9 +2,9 @@
 use Rattle.std.proofs.Common.{◌≡◌, ◌<◌, ◌-◌, ℕ, zero, suc, Bool, true, false, ◌&&◌, refl, sym, ◌∙◌, ap, arith, if◌then◌else◌}
 use Rattle.world_defs.specs.World.{WorldState, fabric_of, host_count}
 use Rattle.world_defs.specs.Step.{after_all}
-use Rattle.log_defs.specs.Log.{Log, told, and_do}
-use Rattle.log_defs.specs.Logs.{Tried, tries}
-use Rattle.log_defs.specs.Row.{IsPartWay}
+use Rattle.world_defs.specs.Log.{Log, told, and_do}
+use Rattle.world_defs.specs.Logs.{Tried, tries}
+use Rattle.world_defs.specs.Row.{IsPartWay}
 use Rattle.log_laws.proofs.UpTo.{up_to-on, up_to-within}
 use Rattle.log_laws.proofs.UnderWay.{UnderWay, under_way-none, under_way-on, under_way-cut, behind}
 

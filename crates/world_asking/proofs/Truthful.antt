@@ -1,5 +1,5 @@
 -- An ask over a world answers the truth, or it drowns.
-use Rattle.std.proofs.Common.{◌≡◌, ◌<◌, ◌≤◌, ◌⊎◌, inl, inr, ℕ, ℤ, true, false, true≢false, List, [], ◌∷◌, suc, length, sym, ◌∙◌, ap, subst, arith}
+use Rattle.std.proofs.Common.{◌≡◌, ◌<◌, ◌≤◌, ◌⊎◌, inl, inr, ℕ, ℤ, true, false, true≢false, List, [], ◌∷◌, suc, length, sym, ◌∙◌, subst, arith}
 use Rattle.std.specs.List.{All, AllByRecursion}
 use Rattle.fab_outer.specs.Fault.{Rose}
 use Rattle.net_defs.specs.declared.place.Answer.{Answer}
@@ -8,9 +8,8 @@ use Rattle.net_defs.specs.Turn.{IsTurn}
 use Rattle.net_defs.specs.Route.{answer}
 use Rattle.link_defs.specs.Links.{is_idle}
 use Rattle.world_defs.specs.World.{WorldState, fabric_of, host_count}
-use Rattle.world_defs.specs.Asking.{ask}
-use Rattle.log_defs.specs.Logs as log
-use Rattle.log_defs.proofs.Asks.{ask-log}
+use Rattle.world_defs.proofs.LogViews.{ask}
+use Rattle.world_defs.specs.Logs as log
 use Rattle.probe.specs.Drowning.{IsTrueOrDrowned}
 use Rattle.ask_laws.specs.Premises.{CanAsk}
 use Rattle.ask_laws.proofs.Answering.{ask-true}
@@ -39,13 +38,13 @@ pub told-drowned : (w : WorldState) (mapper tries : ℕ) (walk : List ℤ) (a : 
 told-drowned w mapper tries walk a before now can told rose = by (ask-true w mapper tries walk can)
   where
     by : ((ask mapper tries walk w).answer ≡ answer (fabric_of w) mapper walk) ⊎ (((ask mapper tries walk w).answer ≡ Nothing) × ((ask mapper tries walk w).drowned ≡ true)) → IsTrueOrDrowned (answer (fabric_of w) mapper walk) before now a
-    by (inl e) = inl (told ∙ sym (ap (λ r. r.answer) (ask-log mapper tries walk w)) ∙ e)
-    by (inr (e, d)) = inr (told ∙ sym (ap (λ r. r.answer) (ask-log mapper tries walk w)) ∙ e, rose)
+    by (inl e) = inl (told ∙ e)
+    by (inr (e, d)) = inr (told ∙ e, rose)
 
 pub told-true : (w : WorldState) (mapper tries : ℕ) (walk : List ℤ) (a : Answer) (before now : ℕ) → CanAsk w mapper walk → a ≡ (log.ask mapper tries walk w).value.answer → (log.ask mapper tries walk w).value.drowned ≡ false
     → IsTrueOrDrowned (answer (fabric_of w) mapper walk) before now a
 told-true w mapper tries walk a before now can told alive = by (ask-true w mapper tries walk can)
   where
     by : ((ask mapper tries walk w).answer ≡ answer (fabric_of w) mapper walk) ⊎ (((ask mapper tries walk w).answer ≡ Nothing) × ((ask mapper tries walk w).drowned ≡ true)) → IsTrueOrDrowned (answer (fabric_of w) mapper walk) before now a
-    by (inl e) = inl (told ∙ sym (ap (λ r. r.answer) (ask-log mapper tries walk w)) ∙ e)
-    by (inr (e, d)) = absurd (true≢false (sym d ∙ ap (λ r. r.drowned) (ask-log mapper tries walk w) ∙ alive))
+    by (inl e) = inl (told ∙ e)
+    by (inr (e, d)) = absurd (true≢false (sym d ∙ alive))

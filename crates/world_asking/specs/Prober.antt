@@ -3,9 +3,9 @@ use Rattle.std.specs.Prelude.{◌≡◌, ℕ, ◌≤◌, ◌<◌, ℤ, List, if�
 use Rattle.fab_outer.specs.Fault.{one_more}
 use Rattle.net_defs.specs.declared.place.Answer.{Answer}
 use Rattle.world_defs.specs.World.{WorldState, host_count}
-use Rattle.log_defs.specs.Log.{Log}
-use Rattle.log_defs.specs.Logs.{Asked, ask}
-use Rattle.log_defs.specs.Row.{IsPartWay}
+use Rattle.world_defs.specs.Log.{Log}
+use Rattle.world_defs.specs.Logs.{Asked, ask}
+use Rattle.world_defs.specs.Row.{IsPartWay}
 
 -- The world, the host that asks, how often it tries a probe of each kind, and how many of its asks drowned.
 pub record WorldAsking : Type 0 where

@@ -2,8 +2,8 @@
 
 ghost use Rattle.std.specs.Prelude.{◌≡◌, ◌≤◌, length, IfOk, OnOk, OnErr};
 ghost use Rattle.world_defs.specs.World.{fabric_of, host_count};
-ghost use Rattle.log_defs.specs.Logs as log;
-ghost use Rattle.log_defs.specs.Row.{IsPartWay};
+ghost use Rattle.world_defs.specs.Logs as log;
+ghost use Rattle.world_defs.specs.Row.{IsPartWay};
 ghost use Rattle.fab_world.specs.Events.{IsHostOf};
 
 use crate::trying::{host_tries, loop_tries};
@@ -22,7 +22,7 @@ pub(crate) struct Asked {
 /// An ask: every host gives up what it staged; up to so many host probes, to the first reply; without one up to so
 /// many loopback probes, to the first that returns. Running out of memory leaves a world that a prefix of its events
 /// leads to.
-#[tactic(auto, unfolding(log_defs::specs::Logs::ask))]
+#[tactic(auto, unfolding(world_defs::specs::Logs::ask))]
 pub(crate) fn ask(
     alloc: Global,
     w: &mut World,

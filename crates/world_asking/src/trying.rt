@@ -5,8 +5,8 @@ ghost use Rattle.world_defs.specs.World.{fabric_of, host_count};
 ghost use Rattle.world_defs.specs.Step.{step};
 ghost use Rattle.world_defs.specs.declared.event.Event.TheVariants.{Ask, Inject};
 ghost use Rattle.world_defs.specs.Asking.{is_used_up, number_of};
-ghost use Rattle.log_defs.specs.Logs as log;
-ghost use Rattle.log_defs.specs.Row.{IsPartWay};
+ghost use Rattle.world_defs.specs.Logs as log;
+ghost use Rattle.world_defs.specs.Row.{IsPartWay};
 ghost use Rattle.fab_world.specs.Events.{IsHostOf};
 
 use fab_world::World;
@@ -115,7 +115,7 @@ pub(crate) fn loop_tries(
 }
 
 // One try of a host probe: the probe alone, and then the reply of the host that heard it.
-#[tactic(auto, unfolding(log_defs::specs::Logs::host_try, log_defs::specs::Logs::sends))]
+#[tactic(auto, unfolding(world_defs::specs::Logs::host_try, world_defs::specs::Logs::sends))]
 fn host_try(alloc: Global, w: &mut World, mapper: u16, walk: &Walk) -> Result<HostTry, AllocError>
     requires there { IsHostOf w.old mapper }
     ensures found { IfOk result (λ t. t.found ≡ (log.host_try mapper walk.now w.old).value.found) }
@@ -148,7 +148,7 @@ fn host_try(alloc: Global, w: &mut World, mapper: u16, walk: &Walk) -> Result<Ho
 }
 
 // One try of a loopback probe.
-#[tactic(auto, unfolding(log_defs::specs::Logs::loop_try, log_defs::specs::Logs::sends))]
+#[tactic(auto, unfolding(world_defs::specs::Logs::loop_try, world_defs::specs::Logs::sends))]
 fn loop_try(alloc: Global, w: &mut World, mapper: u16, walk: &Walk) -> Result<LoopTry, AllocError>
     requires there { IsHostOf w.old mapper }
     requires short { length walk.now ≤ 31 }

@@ -29,12 +29,9 @@ use Rattle.world_defs.specs.Hearing.{hear, port_fits}
 use Rattle.world_defs.specs.Client.{ClientState, begun, closed, provided_by, sent_by, polled_by}
 use Rattle.world_defs.specs.World.{new_world, fabric_of, host_count, node_at, client_at}
 use Rattle.world_defs.specs.Step.{lost, was_reset, repeated, held, flipped, replayed, asked, part_staged, planned_strikes, sent_out, injected, advanced, expired, gave_up}
-use Rattle.world_defs.specs.Drain.{pass, drain, clear}
-use Rattle.world_defs.specs.Settle.{round_pass, round, settle}
 use Rattle.world_defs.specs.Settled.{IsSettled, IsSettledConnection, IsWaiting}
 use Rattle.world_defs.specs.Settled.IsSettledConnection.{all_acknowledged, no_table, waiting}
-use Rattle.world_defs.specs.Asking.{sends, host_try, loop_try, ask}
-use Rattle.world_defs.specs.Install.{part_try, installed}
+use Rattle.world_defs.specs.Logs.{drain, clear, round_pass, round, settle, sends, host_try, loop_try, ask, part_try, install}
 use Rattle.world_defs.specs.Traffic.{IsLawful, IsLawfulTraffic, IsHonest, IsHonestTraffic, adopted_routes, channels_ahead, sender_on, sent_on, got_on, taken_on, unrouted}
 use Rattle.world_defs.specs.Sound.{IsSound, IsPrefix, AreOwned, installed_channels}
 use Rattle.world_defs.specs.Examples.{on_its_way, abc_frame, further_on, abc_further_on, spoiled, forged, unserved}
@@ -118,7 +115,7 @@ first_is_sound = record { no_cycle = no_cycle-rising _ (λ c. c) no_routes; in_o
 
 -- a frame is on its way
 way_got : (h : ℕ) → AllByRecursion (λ (l : LaneState). l.got ≡ []) (node_at on_its_way h).lanes
-unfolding sends host_try loop_try ask begun closed provided_by sent_by polled_by pass drain clear hear part_try installed to_send packet_for after_sending round_pass round settle lost was_reset repeated held flipped replayed asked part_staged planned_strikes sent_out injected advanced expired gave_up applied
+unfolding sends host_try loop_try ask begun closed provided_by sent_by polled_by drain clear hear part_try install to_send packet_for after_sending round_pass round settle lost was_reset repeated held flipped replayed asked part_staged planned_strikes sent_out injected advanced expired gave_up applied
 way_got zero = (refl, (refl, (refl, (refl, tt))))
 way_got (suc zero) = (refl, (refl, (refl, (refl, tt))))
 way_got (suc (suc h)) = tt
@@ -127,7 +124,7 @@ way_front : (c : ConnectionKey) → IsPrefix (got_on on_its_way c) (sent_on on_i
 way_front c = front_of_none _ _ (all-at (λ (l : LaneState). l.got ≡ []) (node_at on_its_way c.dst).lanes (taking_lane c) new_lane (way_got c.dst) refl)
 
 way_owned : (h port : ℕ) → AreOwned (port_at (node_at on_its_way h) port) (client_at on_its_way h port)
-unfolding sends host_try loop_try ask begun closed provided_by sent_by polled_by pass drain clear hear part_try installed to_send packet_for after_sending round_pass round settle lost was_reset repeated held flipped replayed asked part_staged planned_strikes sent_out injected advanced expired gave_up applied
+unfolding sends host_try loop_try ask begun closed provided_by sent_by polled_by drain clear hear part_try install to_send packet_for after_sending round_pass round settle lost was_reset repeated held flipped replayed asked part_staged planned_strikes sent_out injected advanced expired gave_up applied
 way_owned zero zero = record { sends = record { once = search rules; below = search rules; all = refl }; recvs = record { once = search rules; below = search rules; all = refl } }
 way_owned zero (suc port) = unowned _ _ (same-at None 7 port) (same-at None 7 port)
 way_owned (suc zero) zero = tt
@@ -136,7 +133,7 @@ way_owned (suc zero) (suc (suc port)) = unowned _ _ (same-at None 6 port) (same-
 way_owned (suc (suc h)) port = unowned _ _ (same-at None 8 port) refl
 
 way_channels : installed_channels on_its_way ≡ both_ways
-unfolding sends host_try loop_try ask begun closed provided_by sent_by polled_by pass drain clear hear part_try installed to_send packet_for after_sending round_pass round settle lost was_reset repeated held flipped replayed asked part_staged planned_strikes sent_out injected advanced expired gave_up applied
+unfolding sends host_try loop_try ask begun closed provided_by sent_by polled_by drain clear hear part_try install to_send packet_for after_sending round_pass round settle lost was_reset repeated held flipped replayed asked part_staged planned_strikes sent_out injected advanced expired gave_up applied
 way_channels = refl
 
 pub way_is_sound : IsSound on_its_way
@@ -144,11 +141,11 @@ way_is_sound = record { no_cycle = subst (λ cs. HasNoCycle (IsBefore cs)) (sym 
 
 -- a message that nobody sent
 forged_got : got_on forged (connection 0 1 0) ≡ message [] ∷ []
-unfolding sends host_try loop_try ask begun closed provided_by sent_by polled_by pass drain clear hear part_try installed to_send packet_for after_sending round_pass round settle lost was_reset repeated held flipped replayed asked part_staged planned_strikes sent_out injected advanced expired gave_up applied
+unfolding sends host_try loop_try ask begun closed provided_by sent_by polled_by drain clear hear part_try install to_send packet_for after_sending round_pass round settle lost was_reset repeated held flipped replayed asked part_staged planned_strikes sent_out injected advanced expired gave_up applied
 forged_got = refl
 
 forged_sent : sent_on forged (connection 0 1 0) ≡ message (codes "ABC") ∷ []
-unfolding sends host_try loop_try ask begun closed provided_by sent_by polled_by pass drain clear hear part_try installed to_send packet_for after_sending round_pass round settle lost was_reset repeated held flipped replayed asked part_staged planned_strikes sent_out injected advanced expired gave_up applied
+unfolding sends host_try loop_try ask begun closed provided_by sent_by polled_by drain clear hear part_try install to_send packet_for after_sending round_pass round settle lost was_reset repeated held flipped replayed asked part_staged planned_strikes sent_out injected advanced expired gave_up applied
 forged_sent = refl
 
 no_front : (got sent : List Message) → got ≡ message [] ∷ [] → sent ≡ message (codes "ABC") ∷ [] → ¬ IsPrefix got sent
@@ -163,26 +160,26 @@ forged_is_not_sound s = no_front _ _ forged_got forged_sent (s.in_order (connect
 
 -- the frame in its channels
 pub frame_is_there : packet_in on_its_way.links 0 ≡ Some abc_frame
-unfolding sends host_try loop_try ask begun closed provided_by sent_by polled_by pass drain clear hear part_try installed to_send packet_for after_sending round_pass round settle lost was_reset repeated held flipped replayed asked part_staged planned_strikes sent_out injected advanced expired gave_up applied
+unfolding sends host_try loop_try ask begun closed provided_by sent_by polled_by drain clear hear part_try install to_send packet_for after_sending round_pass round settle lost was_reset repeated held flipped replayed asked part_staged planned_strikes sent_out injected advanced expired gave_up applied
 frame_is_there = refl
 
 way_whole : channels_of (fabric_of on_its_way) 0 (pos 3 ∷ []) ≡ 0 ∷ 3 ∷ []
-unfolding sends host_try loop_try ask begun closed provided_by sent_by polled_by pass drain clear hear part_try installed to_send packet_for after_sending round_pass round settle lost was_reset repeated held flipped replayed asked part_staged planned_strikes sent_out injected advanced expired gave_up applied
+unfolding sends host_try loop_try ask begun closed provided_by sent_by polled_by drain clear hear part_try install to_send packet_for after_sending round_pass round settle lost was_reset repeated held flipped replayed asked part_staged planned_strikes sent_out injected advanced expired gave_up applied
 way_whole = refl
 
 way_ahead : channels_ahead on_its_way 0 abc_frame.wire ≡ 0 ∷ 3 ∷ []
-unfolding sends host_try loop_try ask begun closed provided_by sent_by polled_by pass drain clear hear part_try installed to_send packet_for after_sending round_pass round settle lost was_reset repeated held flipped replayed asked part_staged planned_strikes sent_out injected advanced expired gave_up applied
+unfolding sends host_try loop_try ask begun closed provided_by sent_by polled_by drain clear hear part_try install to_send packet_for after_sending round_pass round settle lost was_reset repeated held flipped replayed asked part_staged planned_strikes sent_out injected advanced expired gave_up applied
 way_ahead = refl
 
 way_route : slice_get (adopted_routes on_its_way) 0 ≡ Some (record { from = 0; to = 1; walk = pos 3 ∷ [] })
-unfolding sends host_try loop_try ask begun closed provided_by sent_by polled_by pass drain clear hear part_try installed to_send packet_for after_sending round_pass round settle lost was_reset repeated held flipped replayed asked part_staged planned_strikes sent_out injected advanced expired gave_up applied
+unfolding sends host_try loop_try ask begun closed provided_by sent_by polled_by drain clear hear part_try install to_send packet_for after_sending round_pass round settle lost was_reset repeated held flipped replayed asked part_staged planned_strikes sent_out injected advanced expired gave_up applied
 way_route = refl
 
 frame_lawful : IsLawful on_its_way 0 abc_frame
 frame_lawful = record { unmarked = refl; place = 0; route = record { from = 0; to = 1; walk = pos 3 ∷ [] }; behind = []; there = way_route; ends_it = way_whole ∙ sym way_ahead }
 
 way_channels_hold : on_its_way.links.channels ≡ Some abc_frame ∷ None ∷ None ∷ None ∷ []
-unfolding sends host_try loop_try ask begun closed provided_by sent_by polled_by pass drain clear hear part_try installed to_send packet_for after_sending round_pass round settle lost was_reset repeated held flipped replayed asked part_staged planned_strikes sent_out injected advanced expired gave_up applied
+unfolding sends host_try loop_try ask begun closed provided_by sent_by polled_by drain clear hear part_try install to_send packet_for after_sending round_pass round settle lost was_reset repeated held flipped replayed asked part_staged planned_strikes sent_out injected advanced expired gave_up applied
 way_channels_hold = refl
 
 -- of four channels the first alone holds a packet
@@ -200,15 +197,15 @@ pub way_is_lawful : IsLawfulTraffic on_its_way
 way_is_lawful = record { packets = on_the_way (IsLawful on_its_way) frame_lawful }
 
 pub frame_is_further_on : packet_in further_on.links 3 ≡ Some abc_further_on
-unfolding sends host_try loop_try ask begun closed provided_by sent_by polled_by pass drain clear hear part_try installed to_send packet_for after_sending round_pass round settle lost was_reset repeated held flipped replayed asked part_staged planned_strikes sent_out injected advanced expired gave_up applied
+unfolding sends host_try loop_try ask begun closed provided_by sent_by polled_by drain clear hear part_try install to_send packet_for after_sending round_pass round settle lost was_reset repeated held flipped replayed asked part_staged planned_strikes sent_out injected advanced expired gave_up applied
 frame_is_further_on = refl
 
 pub further_is_lawful : IsLawful further_on 3 abc_further_on
-unfolding sends host_try loop_try ask begun closed provided_by sent_by polled_by pass drain clear hear part_try installed to_send packet_for after_sending round_pass round settle lost was_reset repeated held flipped replayed asked part_staged planned_strikes sent_out injected advanced expired gave_up applied
+unfolding sends host_try loop_try ask begun closed provided_by sent_by polled_by drain clear hear part_try install to_send packet_for after_sending round_pass round settle lost was_reset repeated held flipped replayed asked part_staged planned_strikes sent_out injected advanced expired gave_up applied
 further_is_lawful = record { unmarked = refl; place = 0; route = record { from = 0; to = 1; walk = pos 3 ∷ [] }; behind = 0 ∷ []; there = refl; ends_it = refl }
 
 spoiled_frame : packet_in spoiled.links 0 ≡ Some (record { wire = 128 ∷ 4 ∷ 8 ∷ frame_bytes abc (codes "ABC") ++ 146 ∷ []; marked = true })
-unfolding sends host_try loop_try ask begun closed provided_by sent_by polled_by pass drain clear hear part_try installed to_send packet_for after_sending round_pass round settle lost was_reset repeated held flipped replayed asked part_staged planned_strikes sent_out injected advanced expired gave_up applied
+unfolding sends host_try loop_try ask begun closed provided_by sent_by polled_by drain clear hear part_try install to_send packet_for after_sending round_pass round settle lost was_reset repeated held flipped replayed asked part_staged planned_strikes sent_out injected advanced expired gave_up applied
 spoiled_frame = refl
 
 pub spoiled_is_not_lawful : ¬ IsLawfulTraffic spoiled
@@ -244,7 +241,7 @@ head_in : (body : List ℕ) → abc_bytes ≡ body → decode body ≡ Ok (Frame
 head_in body e = subst (λ y. decode y ≡ Ok (Frame abc)) e frame_head
 
 way_frame : IsHonestFrame (sent_on on_its_way) abc (part_in abc_bytes)
-unfolding sends host_try loop_try ask begun closed provided_by sent_by polled_by pass drain clear hear part_try installed to_send packet_for after_sending round_pass round settle lost was_reset repeated held flipped replayed asked part_staged planned_strikes sent_out injected advanced expired gave_up applied
+unfolding sends host_try loop_try ask begun closed provided_by sent_by polled_by drain clear hear part_try install to_send packet_for after_sending round_pass round settle lost was_reset repeated held flipped replayed asked part_staged planned_strikes sent_out injected advanced expired gave_up applied
 way_frame = refl
 
 frame_honest : IsHonest on_its_way abc_frame
@@ -260,7 +257,7 @@ frame_honest = record { frames = frames; acks = acks }
     acks a body u b d = absurd (no_ack body abc a (head_in body (body_is body b)) d)
 
 way_limbo : on_its_way.links.limbo ≡ []
-unfolding sends host_try loop_try ask begun closed provided_by sent_by polled_by pass drain clear hear part_try installed to_send packet_for after_sending round_pass round settle lost was_reset repeated held flipped replayed asked part_staged planned_strikes sent_out injected advanced expired gave_up applied
+unfolding sends host_try loop_try ask begun closed provided_by sent_by polled_by drain clear hear part_try install to_send packet_for after_sending round_pass round settle lost was_reset repeated held flipped replayed asked part_staged planned_strikes sent_out injected advanced expired gave_up applied
 way_limbo = refl
 
 nothing_there : (limbo : List (ℕ × Caught)) (place : ℕ) (x : ℕ × Caught) → limbo ≡ [] → slice_get limbo place ≡ Some x → ⊥
@@ -291,16 +288,16 @@ pub first_is_settled : IsSettled (new_world two_hosts)
 first_is_settled = record { connections = λ c l m. all_acknowledged (first_numbers c) }
 
 unserved_waits : IsWaiting unserved (connection 0 1 0)
-unfolding sends host_try loop_try ask begun closed provided_by sent_by polled_by pass drain clear hear part_try installed to_send packet_for after_sending round_pass round settle lost was_reset repeated held flipped replayed asked part_staged planned_strikes sent_out injected advanced expired gave_up applied
+unfolding sends host_try loop_try ask begun closed provided_by sent_by polled_by drain clear hear part_try install to_send packet_for after_sending round_pass round settle lost was_reset repeated held flipped replayed asked part_staged planned_strikes sent_out injected advanced expired gave_up applied
 unserved_waits = record { place = 0; message = message (1 ∷ 2 ∷ []); first = refl; there = refl; not_taken = omega arith; not_begun = refl; no_token = refl }
 
 two : host_count unserved ≡ 2
-unfolding sends host_try loop_try ask begun closed provided_by sent_by polled_by pass drain clear hear part_try installed to_send packet_for after_sending round_pass round settle lost was_reset repeated held flipped replayed asked part_staged planned_strikes sent_out injected advanced expired gave_up applied
+unfolding sends host_try loop_try ask begun closed provided_by sent_by polled_by drain clear hear part_try install to_send packet_for after_sending round_pass round settle lost was_reset repeated held flipped replayed asked part_staged planned_strikes sent_out injected advanced expired gave_up applied
 two = refl
 
 -- its sender has nothing else unacknowledged, and its receiver nothing at all
 unserved_others : (lane : ℕ) → (lane ≡ 2 → ⊥) → (lane_at (node_at unserved 0) lane).sender.base ≡ (lane_at (node_at unserved 0) lane).sender.next
-unfolding sends host_try loop_try ask begun closed provided_by sent_by polled_by pass drain clear hear part_try installed to_send packet_for after_sending round_pass round settle lost was_reset repeated held flipped replayed asked part_staged planned_strikes sent_out injected advanced expired gave_up applied
+unfolding sends host_try loop_try ask begun closed provided_by sent_by polled_by drain clear hear part_try install to_send packet_for after_sending round_pass round settle lost was_reset repeated held flipped replayed asked part_staged planned_strikes sent_out injected advanced expired gave_up applied
 unserved_others zero other = refl
 unserved_others (suc zero) other = refl
 unserved_others (suc (suc zero)) other = absurd (other refl)
@@ -308,7 +305,7 @@ unserved_others (suc (suc (suc zero))) other = refl
 unserved_others (suc (suc (suc (suc lane)))) other = refl
 
 unserved_receiver : AllByRecursion (λ (l : LaneState). l.sender.base ≡ l.sender.next) (node_at unserved 1).lanes
-unfolding sends host_try loop_try ask begun closed provided_by sent_by polled_by pass drain clear hear part_try installed to_send packet_for after_sending round_pass round settle lost was_reset repeated held flipped replayed asked part_staged planned_strikes sent_out injected advanced expired gave_up applied
+unfolding sends host_try loop_try ask begun closed provided_by sent_by polled_by drain clear hear part_try install to_send packet_for after_sending round_pass round settle lost was_reset repeated held flipped replayed asked part_staged planned_strikes sent_out injected advanced expired gave_up applied
 unserved_receiver = (refl, (refl, (refl, (refl, tt))))
 
 pub unserved_is_settled : IsSettled unserved
@@ -325,31 +322,31 @@ unserved_is_settled = record { connections = λ c l m. by c.src c.dst c.prio (su
 
 -- a token fits the message of the frame that is on its way
 way_hosts : host_count on_its_way ≡ 2
-unfolding sends host_try loop_try ask begun closed provided_by sent_by polled_by pass drain clear hear part_try installed to_send packet_for after_sending round_pass round settle lost was_reset repeated held flipped replayed asked part_staged planned_strikes sent_out injected advanced expired gave_up applied
+unfolding sends host_try loop_try ask begun closed provided_by sent_by polled_by drain clear hear part_try install to_send packet_for after_sending round_pass round settle lost was_reset repeated held flipped replayed asked part_staged planned_strikes sent_out injected advanced expired gave_up applied
 way_hosts = refl
 
 way_base : (sender_on on_its_way (connection 0 1 0)).base ≡ 0
-unfolding sends host_try loop_try ask begun closed provided_by sent_by polled_by pass drain clear hear part_try installed to_send packet_for after_sending round_pass round settle lost was_reset repeated held flipped replayed asked part_staged planned_strikes sent_out injected advanced expired gave_up applied
+unfolding sends host_try loop_try ask begun closed provided_by sent_by polled_by drain clear hear part_try install to_send packet_for after_sending round_pass round settle lost was_reset repeated held flipped replayed asked part_staged planned_strikes sent_out injected advanced expired gave_up applied
 way_base = refl
 
 way_next : (sender_on on_its_way (connection 0 1 0)).next ≡ 1
-unfolding sends host_try loop_try ask begun closed provided_by sent_by polled_by pass drain clear hear part_try installed to_send packet_for after_sending round_pass round settle lost was_reset repeated held flipped replayed asked part_staged planned_strikes sent_out injected advanced expired gave_up applied
+unfolding sends host_try loop_try ask begun closed provided_by sent_by polled_by drain clear hear part_try install to_send packet_for after_sending round_pass round settle lost was_reset repeated held flipped replayed asked part_staged planned_strikes sent_out injected advanced expired gave_up applied
 way_next = refl
 
 way_table : active_epoch (node_at on_its_way 1).table ≡ Some 1
-unfolding sends host_try loop_try ask begun closed provided_by sent_by polled_by pass drain clear hear part_try installed to_send packet_for after_sending round_pass round settle lost was_reset repeated held flipped replayed asked part_staged planned_strikes sent_out injected advanced expired gave_up applied
+unfolding sends host_try loop_try ask begun closed provided_by sent_by polled_by drain clear hear part_try install to_send packet_for after_sending round_pass round settle lost was_reset repeated held flipped replayed asked part_staged planned_strikes sent_out injected advanced expired gave_up applied
 way_table = refl
 
 way_sent : sent_on on_its_way (connection 0 1 0) ≡ message (codes "ABC") ∷ []
-unfolding sends host_try loop_try ask begun closed provided_by sent_by polled_by pass drain clear hear part_try installed to_send packet_for after_sending round_pass round settle lost was_reset repeated held flipped replayed asked part_staged planned_strikes sent_out injected advanced expired gave_up applied
+unfolding sends host_try loop_try ask begun closed provided_by sent_by polled_by drain clear hear part_try install to_send packet_for after_sending round_pass round settle lost was_reset repeated held flipped replayed asked part_staged planned_strikes sent_out injected advanced expired gave_up applied
 way_sent = refl
 
 way_fits : port_fits (port_at (node_at on_its_way 1) 1) 3 0 ≡ true
-unfolding sends host_try loop_try ask begun closed provided_by sent_by polled_by pass drain clear hear part_try installed to_send packet_for after_sending round_pass round settle lost was_reset repeated held flipped replayed asked part_staged planned_strikes sent_out injected advanced expired gave_up applied
+unfolding sends host_try loop_try ask begun closed provided_by sent_by polled_by drain clear hear part_try install to_send packet_for after_sending round_pass round settle lost was_reset repeated held flipped replayed asked part_staged planned_strikes sent_out injected advanced expired gave_up applied
 way_fits = refl
 
 way_first : whole_below (sent_on on_its_way (connection 0 1 0)) (sender_on on_its_way (connection 0 1 0)).base ≡ 0
-unfolding sends host_try loop_try ask begun closed provided_by sent_by polled_by pass drain clear hear part_try installed to_send packet_for after_sending round_pass round settle lost was_reset repeated held flipped replayed asked part_staged planned_strikes sent_out injected advanced expired gave_up applied
+unfolding sends host_try loop_try ask begun closed provided_by sent_by polled_by drain clear hear part_try install to_send packet_for after_sending round_pass round settle lost was_reset repeated held flipped replayed asked part_staged planned_strikes sent_out injected advanced expired gave_up applied
 way_first = refl
 
 zero_one : (a b : ℕ) → a ≡ 0 → b ≡ 1 → a ≡ b → ⊥

@@ -20,9 +20,8 @@ use Rattle.world_defs.specs.Lane.{new_lane}
 use Rattle.world_defs.specs.Node.{lane_of, with_lane}
 use Rattle.world_defs.specs.World.{WorldState, new_world, node_at, with_node, adopted_by, planned}
 use Rattle.world_defs.specs.Step.{step, steps, after_all}
-use Rattle.world_defs.specs.Asking.{Asked, ask}
-use Rattle.world_defs.specs.Install.{installed}
-use Rattle.world_defs.specs.Settle.{Rounds, settle}
+use Rattle.world_defs.specs.Log.{Log}
+use Rattle.world_defs.specs.Logs.{Rounds, settle, AskedAll, asks, install}
 
 -- the turns from -15 to 15 other than 0
 abbrev pub onward : List ℤ
@@ -33,17 +32,8 @@ onward = map (λ k. negsuc k) (14 ∷ 13 ∷ 12 ∷ 11 ∷ 10 ∷ 9 ∷ 8 ∷ 7 
 abbrev pub walks_of_setup : List (List ℤ)
 walks_of_setup = [] ∷ map (λ t. t ∷ []) onward
 
--- an ask's answer, and those to the asks that follow in the world then
-abbrev pub answer_then : Asked → (WorldState → List Answer × WorldState) → List Answer × WorldState
-answer_then a rest = (a.answer ∷ (rest a.world).0, (rest a.world).1)
-
--- the answers to asks in order, and the world then
-abbrev pub asks : ℕ → ℕ → List (List ℤ) → WorldState → List Answer × WorldState
-asks mapper tries [] w = ([], w)
-asks mapper tries (walk ∷ walks) w = answer_then (ask mapper tries walk w) (asks mapper tries walks)
-
 -- the 31 answers to host 0, with one try each
-abbrev pub setup_map : List Answer × WorldState
+abbrev pub setup_map : Log AskedAll
 setup_map = asks 0 1 walks_of_setup (new_world two_hosts)
 
 -- the routes of the two hosts: from port 4 of the switch to port 7, and back
@@ -55,12 +45,12 @@ abbrev pub setup_adoption : Adoption
 setup_adoption = record { mapper = 0; epoch = 1; routes = setup_routes }
 
 -- how many hosts have their tables once they are installed, and the world then
-abbrev pub setup_install : ℕ × WorldState
-setup_install = installed setup_adoption (0 ∷ 1 ∷ []) 1 (adopted_by setup_map.1 0 setup_routes)
+abbrev pub setup_install : Log ℕ
+setup_install = install setup_adoption (0 ∷ 1 ∷ []) 1 (adopted_by setup_map.world 0 setup_routes)
 
 -- the two hosts with their tables
 abbrev pub setup : WorldState
-setup = setup_install.1
+setup = setup_install.world
 
 -- ports 0 of host 0 and 1 of host 1 with so many tokens, and so many buffers of 8 bytes provided
 abbrev pub opened : ℕ → ℕ → List Event → List Event
@@ -111,7 +101,7 @@ abbrev pub three_plans : List ℕ × WorldState
 three_plans = planned_all three_calls.1 ((1, Repeat) ∷ (2, Lose) ∷ (4, Hold) ∷ [])
 
 -- the settle of the three messages
-abbrev pub three_settled : Rounds
+abbrev pub three_settled : Log Rounds
 three_settled = settle three_plans.1
 
 -- host 1 takes all three
@@ -127,7 +117,7 @@ abbrev pub abc_injected : WorldState
 abc_injected = (step abc_calls.1 (Inject 0)).1
 
 -- the settle of the message whose frame is flipped
-abbrev pub abc_settled : Rounds
+abbrev pub abc_settled : Log Rounds
 abc_settled = settle (planned abc_calls.1 1 (Flip 6 193)).1
 
 -- host 1 takes the message, and host 0 its token
@@ -135,7 +125,7 @@ abbrev pub abc_polls : List Effect × WorldState
 abc_polls = steps abc_settled.world (poll_receiver ∷ poll_sender ∷ [])
 
 -- a message for which no token fits, until one is provided
-abbrev pub waiting : Rounds
+abbrev pub waiting : Log Rounds
 waiting = settle (steps setup (opened 1 2 (provide 1 ∷ send 2 1 ∷ []))).1
 
 -- nothing came, and a token that fits is provided
@@ -143,7 +133,7 @@ abbrev pub provided_late : List Effect × WorldState
 provided_late = steps waiting.world (poll_receiver ∷ provide 0 ∷ [])
 
 -- the settle once a token fits
-abbrev pub served : Rounds
+abbrev pub served : Log Rounds
 served = settle provided_late.1
 
 -- host 1 takes the message that waited
@@ -155,7 +145,7 @@ abbrev pub two_priorities : List Effect × WorldState
 two_priorities = steps setup (opened 2 1 (provide 1 ∷ send_of 0 1 1 ∷ send_of 1 1 2 ∷ []))
 
 -- their settle
-abbrev pub priorities_settled : Rounds
+abbrev pub priorities_settled : Log Rounds
 priorities_settled = settle two_priorities.1
 
 -- host 1 takes the one that came
@@ -169,7 +159,7 @@ stepwise =
     (Inject 0 ∷ Advance 0 ∷ Inject 0 ∷ Inject 0 ∷ Advance 0 ∷ Advance 3 ∷ Advance 0 ∷ LoseEvent 3 ∷ [])
 
 -- the settle of the two messages
-abbrev pub stepwise_settled : Rounds
+abbrev pub stepwise_settled : Log Rounds
 stepwise_settled = settle stepwise.1
 
 -- host 1 takes both
@@ -178,7 +168,7 @@ stepwise_polls = steps stepwise_settled.world (poll_receiver ∷ poll_receiver �
 
 -- the two hosts with their tables, installed on the new world
 abbrev pub ready : WorldState
-ready = (installed setup_adoption (0 ∷ 1 ∷ []) 1 (adopted_by (new_world two_hosts) 0 setup_routes)).1
+ready = (install setup_adoption (0 ∷ 1 ∷ []) 1 (adopted_by (new_world two_hosts) 0 setup_routes)).world
 
 -- the message `ABC` was sent to a token that fits, and its frame is in the channel that leaves host 0
 abbrev pub on_its_way : WorldState
@@ -216,7 +206,7 @@ long_calls = steps ready
     (opened 1 1 (Provide 1 1 11 0 ∷ send 1017 5 ∷ Inject 0 ∷ Advance 0 ∷ Advance 3 ∷ Close 1 1 ∷ []))
 
 -- its settle
-abbrev pub long_settled : Rounds
+abbrev pub long_settled : Log Rounds
 long_settled = settle long_calls.1
 
 -- host 1 takes it

@@ -14,3 +14,6 @@ pub mod Step
 pub mod Table
 pub mod Traffic
 pub mod World
+pub mod Log
+pub mod Logs
+pub mod Row

@@ -28,18 +28,18 @@ ghost use Rattle.world_defs.specs.Client.{client_bytes};
 /// A mapper asks 31 walks over the two hosts at one switch: 62 packets, of which three aren't dropped.
 #[tactic(auto, using(crate::proofs::Rows::asks_of_the_map_answers, crate::proofs::Rows::asks_of_the_map_injections, crate::proofs::Rows::asks_of_the_map_drops))]
 pub fn asks_of_the_map()
-    ensures answers { setup_map.0 ≡ Answer.Switch ∷ replicate 17 Answer.Nothing
+    ensures answers { map (λ e. e.answer) setup_map.value.entries ≡ Answer.Switch ∷ replicate 17 Answer.Nothing
         ++ Answer.Host 1 ∷ replicate 12 Answer.Nothing }
-    ensures injections { setup_map.1.injected ≡ 62 }
-    ensures drops { setup_map.1.dropped ≡ 59 }
+    ensures injections { setup_map.world.injected ≡ 62 }
+    ensures drops { setup_map.world.dropped ≡ 59 }
 {}
 
 /// Its routes are installed with two packets more.
 #[tactic(auto, using(crate::proofs::Rows::installation_both, crate::proofs::Rows::installation_injections, crate::proofs::Rows::installation_drops))]
 pub fn installation()
-    ensures both { setup_install.0 ≡ 2 }
-    ensures injections { setup_install.1.injected ≡ 64 }
-    ensures drops { setup_install.1.dropped ≡ 59 }
+    ensures both { setup_install.value ≡ 2 }
+    ensures injections { setup_install.world.injected ≡ 64 }
+    ensures drops { setup_install.world.dropped ≡ 59 }
 {}
 
 /// Three messages come once each and in order, though the first frame is copied, the second lost and an
@@ -49,8 +49,8 @@ pub fn three_messages()
     ensures calls { three_calls.0 ≡ Effect.Said Said.Done ∷ Effect.Said Said.Done
         ∷ map (λ t. Effect.Said (Said.Token t)) (0 ∷ 1 ∷ 2 ∷ 0 ∷ 1 ∷ 2 ∷ []) }
     ensures plans { three_plans.0 ≡ 65 ∷ 66 ∷ 68 ∷ [] }
-    ensures rounds { three_settled.rounds ≡ 2 }
-    ensures resets { three_settled.resets ≡ 0 }
+    ensures rounds { three_settled.value.rounds ≡ 2 }
+    ensures resets { three_settled.value.resets ≡ 0 }
     ensures acknowledged { unacknowledged_in three_settled.world ≡ 0 }
     ensures messages { three_polls.0 ≡ received 0 (10 ∷ []) ∷ received 1 (20 ∷ []) ∷ received 2 (30 ∷ []) ∷ [] }
     ensures injections { three_polls.1.injected ≡ 73 }
@@ -66,8 +66,8 @@ pub fn flipped_route_byte()
               ++ 0 ∷ 0 ∷ 0 ∷ 3 ∷ replicate 4 0 ++ 0 ∷ 3 ∷ 65 ∷ 66 ∷ 67 ∷ 146 ∷ [];
           marked = false;
         }) }
-    ensures rounds { abc_settled.rounds ≡ 2 }
-    ensures resets { abc_settled.resets ≡ 0 }
+    ensures rounds { abc_settled.value.rounds ≡ 2 }
+    ensures resets { abc_settled.value.resets ≡ 0 }
     ensures acknowledged { unacknowledged_in abc_settled.world ≡ 0 }
     ensures polls { abc_polls.0 ≡ received 0 (65 ∷ 66 ∷ 67 ∷ []) ∷ Effect.Said (Said.Sent 0) ∷ [] }
     ensures injections { abc_polls.1.injected ≡ 67 }
@@ -77,11 +77,11 @@ pub fn flipped_route_byte()
 /// A message for which no token fits isn't acknowledged, and comes once one is provided.
 #[tactic(auto, using(crate::proofs::Rows::message_waits_for_a_token_first_rounds, crate::proofs::Rows::message_waits_for_a_token_first_resets, crate::proofs::Rows::message_waits_for_a_token_waits, crate::proofs::Rows::message_waits_for_a_token_nothing_yet, crate::proofs::Rows::message_waits_for_a_token_rounds, crate::proofs::Rows::message_waits_for_a_token_acknowledged, crate::proofs::Rows::message_waits_for_a_token_message, crate::proofs::Rows::message_waits_for_a_token_injections, crate::proofs::Rows::message_waits_for_a_token_drops))]
 pub fn message_waits_for_a_token()
-    ensures first_rounds { waiting.rounds ≡ 1 }
-    ensures first_resets { waiting.resets ≡ 0 }
+    ensures first_rounds { waiting.value.rounds ≡ 1 }
+    ensures first_resets { waiting.value.resets ≡ 0 }
     ensures waits { unacknowledged_in waiting.world ≡ 1 }
     ensures nothing_yet { provided_late.0 ≡ Effect.Said Said.Nothing ∷ Effect.Said (Said.Token 1) ∷ [] }
-    ensures rounds { served.rounds ≡ 1 }
+    ensures rounds { served.value.rounds ≡ 1 }
     ensures acknowledged { unacknowledged_in served.world ≡ 0 }
     ensures message { served_poll.0 ≡ received 1 (1 ∷ 2 ∷ []) ∷ [] }
     ensures injections { served_poll.1.injected ≡ 68 }
@@ -104,8 +104,8 @@ pub fn lanes_of_peers()
 pub fn priority_passes()
     ensures calls { two_priorities.0 ≡ Effect.Said Said.Done ∷ Effect.Said Said.Done
         ∷ map (λ t. Effect.Said (Said.Token t)) (0 ∷ 0 ∷ 1 ∷ []) }
-    ensures rounds { priorities_settled.rounds ≡ 2 }
-    ensures resets { priorities_settled.resets ≡ 0 }
+    ensures rounds { priorities_settled.value.rounds ≡ 2 }
+    ensures resets { priorities_settled.value.resets ≡ 0 }
     ensures waits { unacknowledged_in priorities_settled.world ≡ 1 }
     ensures polls { priorities_polls.0 ≡ received_of 1 0 (2 ∷ []) ∷ Effect.Said Said.Nothing ∷ [] }
     ensures injections { priorities_polls.1.injected ≡ 70 }
@@ -118,8 +118,8 @@ pub fn message_of_two_fragments()
     ensures calls { long_calls.0 ≡ Effect.Said Said.Done ∷ Effect.Said Said.Done ∷ Effect.Said (Said.Token 0)
         ∷ Effect.Said (Said.Token 0) ∷ Effect.Injected 3 ∷ Effect.Moved 3 ∷ Effect.Arrived 1 Heard.Fragment
         ∷ Effect.Said (Said.Refused (ClientCause.Filling 1)) ∷ [] }
-    ensures rounds { long_settled.rounds ≡ 1 }
-    ensures resets { long_settled.resets ≡ 0 }
+    ensures rounds { long_settled.value.rounds ≡ 1 }
+    ensures resets { long_settled.value.resets ≡ 0 }
     ensures acknowledged { unacknowledged_in long_settled.world ≡ 0 }
     ensures message { long_polls.0 ≡ received 0 (client_bytes 1017 5) ∷ [] }
     ensures injections { long_polls.1.injected ≡ 8 }
@@ -131,8 +131,8 @@ pub fn message_of_two_fragments()
 pub fn step_by_step()
     ensures effects { stepwise.0 ≡ Effect.Injected 65 ∷ Effect.Moved 3 ∷ Effect.Injected 66 ∷ Effect.Idle
         ∷ Effect.Blocked 3 ∷ Effect.Arrived 1 Heard.Message ∷ Effect.Moved 3 ∷ Effect.Lost ∷ [] }
-    ensures rounds { stepwise_settled.rounds ≡ 1 }
-    ensures resets { stepwise_settled.resets ≡ 0 }
+    ensures rounds { stepwise_settled.value.rounds ≡ 1 }
+    ensures resets { stepwise_settled.value.resets ≡ 0 }
     ensures acknowledged { unacknowledged_in stepwise_settled.world ≡ 0 }
     ensures messages { stepwise_polls.0 ≡ received 0 (1 ∷ []) ∷ received 1 (2 ∷ []) ∷ [] }
     ensures injections { stepwise_polls.1.injected ≡ 71 }

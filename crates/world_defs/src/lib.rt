@@ -9,8 +9,9 @@
 //! | `Client` | the tokens that a client holds, and its calls |
 //! | `Hearing` | what a host makes of a packet that reaches it |
 //! | `Step` | one event: its effect, and the world after it |
-//! | `Drain`, `Settle` | passes over all channels; rounds over all hosts, until nothing helps |
-//! | `Asking`, `Install` | what a mapper's ask is, and the distribution of routes |
+//! | `Drain`, `Settle`, `Asking`, `Install` | what drains, settles, asks and installations are made of |
+//! | `Log`, `Logs` | what a log is, and its words; a drain, a clear, a settle, an ask and an installation, said with them |
+//! | `Row` | events in a row from one world to another, and a part of the way along them |
 //! | `Traffic`, `Sound`, `Settled` | lawful and honest packets, what is sound at a moment, settled connections |
 //!
 //! ```text

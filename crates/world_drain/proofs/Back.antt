@@ -9,9 +9,8 @@ use Rattle.net_defs.specs.RouteSet.{HasRoute}
 use Rattle.world_defs.specs.Table.{Adoption}
 use Rattle.world_defs.specs.World.{WorldState, fabric_of, host_count, last_count}
 use Rattle.world_defs.specs.Traffic.{routes_in}
-use Rattle.world_defs.specs.Settle.{settle}
+use Rattle.world_defs.specs.Logs.{settle}
 use Rattle.world_defs.specs.Settled.{IsSettled}
-use Rattle.world_laws.proofs.Rounds.{settle-settles}
 use Rattle.act_defs.specs.Acts.{IsReached}
 use Rattle.settle_laws.proofs.Flowing.{settle-ends_settled}
 use Rattle.adopted_routes.specs.Adopting.{is_among, IsSetOfHosts}
@@ -53,5 +52,5 @@ back hosts (Some a) s place r there = one-back hosts a s place r there
 pub ends-settled : (w v : WorldState) → IsMoment w → IsReached (fabric_of w) w → v ≡ (settle w).world → v.injected < last_count → IsSettled v
 ends-settled w v m reached after left =
     subst IsSettled (sym after)
-    (settle-ends_settled w (settle w) (record { reached = reached; joined = back (host_count w) w.adopted m.adopted }) (settle-settles w m.senders)
+    (settle-ends_settled w (record { reached = reached; joined = back (host_count w) w.adopted m.adopted })
     (subst (λ (u : WorldState). u.injected < last_count) after left))

@@ -6,7 +6,8 @@ use Rattle.link_defs.specs.Advance.{advance}
 use Rattle.world_defs.specs.declared.event.Event.TheVariants.{Advance}
 use Rattle.world_defs.specs.World.{WorldState}
 use Rattle.world_defs.specs.Step.{step, steps}
-use Rattle.world_defs.specs.Drain.{changes, channels_of, pass}
+use Rattle.world_defs.specs.Drain.{changes, channels_of}
+use Rattle.world_defs.proofs.LogViews.{pass}
 use Rattle.world_laws.proofs.Draining.{changes-push, advance-changed, advance-world}
 use Rattle.ask_laws.proofs.Lone.{idle-empty}
 use Rattle.world_drain.specs.declared.seen.Watch.{Watch}
@@ -31,7 +32,6 @@ advances-same w (c ∷ cs) e = by (moves (advance w.links c).0) refl (advances-s
         ap (λ v. (steps v (map Advance cs)).1) same ∙ ih (subst (λ v. changes (steps v (map Advance cs)).0 ≡ 0) same none)
 
 pub pass-same : (w : WorldState) → changes (pass w).0 ≡ 0 → (pass w).1 ≡ w
-unfolding pass
 pass-same w e = advances-same w (channels_of w) e
 
 -- a pass over links without a packet changes nothing

@@ -4,8 +4,8 @@ use Rattle.std.specs.Prelude.{Result, Ok, Err, IfOk, OnErr}
 use Rattle.world_defs.specs.World.{WorldState}
 use Rattle.world_defs.specs.Step.{steps}
 use Rattle.world_defs.specs.Drain.{resets_of, reset_count}
-use Rattle.log_defs.specs.Row.{IsPartWay}
-use Rattle.log_defs.proofs.Rows.{steps-after}
+use Rattle.world_defs.specs.Row.{IsPartWay}
+use Rattle.world_defs.proofs.LogRows.{steps-after}
 use Rattle.fab_world.specs.Held.{IsLater}
 use Rattle.world_drain.proofs.Later.{way-later}
 

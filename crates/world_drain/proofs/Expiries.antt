@@ -14,8 +14,8 @@ use Rattle.world_defs.specs.Step.{expired, step, after_all}
 use Rattle.world_defs.specs.Settle.{unacknowledged_from, expiries_of, expiries_of_all, expiries}
 use Rattle.world_laws.proofs.Lists.{at-set}
 use Rattle.world_laws.proofs.Idling.{step-idle}
-use Rattle.world_laws.proofs.Reached.{after_all-append}
-use Rattle.log_defs.specs.Row.{IsPartWay}
+use Rattle.world_defs.proofs.LogRows.{after_all-append}
+use Rattle.world_defs.specs.Row.{IsPartWay}
 use Rattle.log_laws.proofs.PartWay.{way-front, way-behind, way-step}
 
 -- as much isn't acknowledged, of each pair

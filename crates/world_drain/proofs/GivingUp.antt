@@ -8,7 +8,7 @@ use Rattle.world_defs.specs.Node.{has_staged, given_up}
 use Rattle.world_defs.specs.World.{WorldState, fabric_of, host_count, addresses, node_at, with_node}
 use Rattle.world_defs.specs.Step.{step, gave_up, after_all}
 use Rattle.world_defs.specs.Asking.{all_given_up}
-use Rattle.log_defs.specs.Row.{IsPartWay}
+use Rattle.world_defs.specs.Row.{IsPartWay}
 use Rattle.log_laws.proofs.PartWay.{way-first, way-next}
 use Rattle.fab_world.specs.Held.{IsLater}
 

@@ -1,5 +1,5 @@
 -- A probe that is heard in a drain is heard by a host that is there; and a drain keeps the fabric and the hosts.
-use Rattle.std.proofs.Common.{◌≡◌, ◌<◌, ℕ, List, [], ◌∷◌, map, Option, Some, None, refl, sym, ◌∙◌, ap, subst}
+use Rattle.std.proofs.Common.{◌≡◌, ◌<◌, ◌+◌, ℕ, List, [], ◌∷◌, ◌++◌, map, Option, Some, None, refl, sym, ◌∙◌, subst}
 use Rattle.std.specs.Prelude.{IfSome, Result, Ok, Err, IfOk, OnOk, OnErr}
 use Rattle.world_defs.specs.declared.heard.Heard.TheVariants.{Probe, Reply, Loop, Routes, RoutesAck, Message, Fragment, NotNext, NoToken, Ack}
 use Rattle.world_defs.specs.declared.event.Event.TheVariants.{Advance}
@@ -8,19 +8,21 @@ use Rattle.world_defs.specs.declared.effect.Effect.TheVariants.{Idle, Injected, 
 use Rattle.world_defs.specs.Node.{either}
 use Rattle.world_defs.specs.World.{WorldState, host_count}
 use Rattle.world_defs.specs.Step.{step, steps}
-use Rattle.world_defs.specs.Drain.{channels_of, pass, drain, Drains}
+use Rattle.world_defs.specs.Drain.{channels_of}
+use Rattle.world_defs.proofs.LogViews.{pass}
 use Rattle.world_defs.specs.Asking.{probed_host}
-use Rattle.world_laws.proofs.Draining.{drain-drains}
-use Rattle.log_defs.specs.Logs as log
-use Rattle.log_defs.specs.Row.{IsPartWay}
-use Rattle.log_defs.proofs.Worlds.{drain-log}
+use Rattle.link_defs.specs.Hops.{total_hops}
+use Rattle.world_laws.proofs.Repeating.{Chains, either as by-still, up_to-chain}
+use Rattle.world_defs.specs.Log.{Log, still}
+use Rattle.world_defs.specs.Logs as log
+use Rattle.world_defs.specs.Row.{IsPartWay}
 use Rattle.fab_world.specs.Held.{IsMoment, IsLater, IsOfHosts}
 use Rattle.fab_world.proofs.Arriving.{effect-hosts}
 use Rattle.fab_world.proofs.Moments.{step-moment, later-moment, later-hosts}
 use Rattle.world_drain.specs.declared.seen.Watch.{Watch}
 use Rattle.world_drain.specs.declared.seen.Seen.{Seen}
 use Rattle.world_drain.specs.Watch.{seen_in}
-use Rattle.world_drain.proofs.Later.{later-step, way-later}
+use Rattle.world_drain.proofs.Later.{later-same, later-both, later-step, way-later}
 use Rattle.world_drain.proofs.Running.{pass-later, drain-later}
 use Rattle.world_drain.proofs.Watching.{probed-push, probed-append}
 
@@ -71,21 +73,31 @@ row-there n w (c ∷ cs) m e =
     (both-there n (probed_host (x ∷ [])) (probed_host (steps v (map Advance cs)).0) (one-there n x here) (row-there n v cs (step-moment w (Advance c) m) hosts))
 
 pass-there : (n : ℕ) (w : WorldState) → IsMoment w → host_count w ≡ n → IsThere n (probed_host (pass w).0)
-unfolding pass
 pass-there n w m e = row-there n w (channels_of w) m e
 
-drains-there : (n : ℕ) (w v : WorldState) (xs : List Effect) → IsMoment w → host_count w ≡ n → Drains w xs v → IsThere n (probed_host xs)
-drains-there n w v xs m e (Drains.at_rest none) = tt
-drains-there n w v xs m e (Drains.more {xs = rest} goes d is) =
-    let next : IsLater w (pass w).1 = pass-later w in
-    let behind : IsThere n (probed_host rest) = drains-there n (pass w).1 v rest (later-moment w (pass w).1 m next) (later-hosts w (pass w).1 m next ∙ e) d in
-    subst (λ ys. IsThere n (probed_host ys)) (sym is)
-    (subst (IsThere n) (sym (probed-append (pass w).0 rest)) (both-there n (probed_host (pass w).0) (probed_host rest) (pass-there n w m e) behind))
+-- what leads on, and names a host that is there
+record Names (w : WorldState) (l : Log (List Effect)) : Type 0 where
+  later : IsLater w l.world
+  there : (n : ℕ) → IsMoment w → host_count w ≡ n → IsThere n (probed_host l.value)
+
+names-chain : Chains (λ xs ys. xs ++ ys) [] Names
+names-chain = record {
+  same = λ w. record { later = later-same w; there = λ n m e. tt };
+  both = λ w l r p q. record {
+    later = later-both w l.world r.world p.later q.later;
+    there = λ n m e. subst (IsThere n) (sym (probed-append l.value r.value)) (both-there n (probed_host l.value) (probed_host r.value) (p.there n m e) (q.there n (later-moment w l.world m p.later) (later-hosts w l.world m p.later ∙ e)));
+  };
+}
+
+drain-names : (w : WorldState) → Names w (log.drain w)
+unfolding log.drain
+drain-names w =
+    up_to-chain (λ xs ys. xs ++ ys) [] Names names-chain (λ before p. log.is_still p.value) log.drain_pass
+    (λ v. by-still Names v (still [] v) (log.pass v) (log.is_still (log.pass v).value) (names-chain.same v) (record { later = pass-later v; there = λ n m e. pass-there n v m e })) (total_hops w.links + 1) w
 
 pub drain-heard : {E : Type 0} (watch : Watch) (w : WorldState) (r : Result Seen E) → IsMoment w → IfOk r (λ s. s ≡ seen_in watch (log.drain w).value)
     → IfOk r (λ s. IfSome s.probed (λ h. h < host_count w))
-drain-heard watch w (Ok s) m is =
-    subst (λ (t : Seen). IfSome t.probed (λ h. h < host_count w)) (sym (is ∙ ap (λ r. seen_in watch r.0) (sym (drain-log w)))) (drains-there (host_count w) w (drain w).1 (drain w).0 m refl (drain-drains w))
+drain-heard watch w (Ok s) m is = subst (λ (t : Seen). IfSome t.probed (λ h. h < host_count w)) (sym is) ((drain-names w).there (host_count w) m refl)
 drain-heard watch w (Err e) m is = tt
 
 -- ---- a drain that came to its end, or was cut off

@@ -10,7 +10,7 @@ use Rattle.world_defs.specs.Drain.{changed, changes}
 use Rattle.world_laws.specs.Idle.{CannotInject}
 use Rattle.world_laws.proofs.Draining.{one_if, changes-push}
 use Rattle.world_laws.proofs.Idling.{step-idle}
-use Rattle.log_defs.specs.Row.{IsPartWay}
+use Rattle.world_defs.specs.Row.{IsPartWay}
 use Rattle.log_laws.proofs.PartWay.{way-first, way-next}
 use Rattle.world_drain.proofs.Telling.{moved-sum, one-moved}
 

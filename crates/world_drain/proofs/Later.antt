@@ -4,9 +4,9 @@ use Rattle.std.specs.Prelude.{Result, Ok, Err, OnErr}
 use Rattle.world_defs.specs.declared.event.Event.{Event}
 use Rattle.world_defs.specs.World.{WorldState}
 use Rattle.world_defs.specs.Step.{step, after_all}
-use Rattle.world_laws.proofs.Reached.{after_all-append}
-use Rattle.log_defs.specs.Log.{Log}
-use Rattle.log_defs.specs.Row.{IsPartWay}
+use Rattle.world_defs.proofs.LogRows.{after_all-append}
+use Rattle.world_defs.specs.Log.{Log}
+use Rattle.world_defs.specs.Row.{IsPartWay}
 use Rattle.log_laws.proofs.UnderWay.{UnderWay}
 use Rattle.fab_world.specs.Held.{IsLater}
 

@@ -14,8 +14,7 @@ use Rattle.world_defs.specs.World.{WorldState}
 use Rattle.world_defs.specs.Step.{of_replay, replayed, step}
 use Rattle.world_defs.specs.Settle.{serials}
 use Rattle.world_laws.proofs.Passes.{clear-limbo}
-use Rattle.log_defs.specs.Logs as log
-use Rattle.log_defs.proofs.Worlds.{clear-log}
+use Rattle.world_defs.specs.Logs as log
 
 -- the serials from a number on
 abbrev pub from_on : ℕ → List (ℕ × Caught) → List ℕ
@@ -116,4 +115,4 @@ replay-on w serial = replay_of-on w serial (caught_as w.links serial)
 pub behind-replay : (w : WorldState) (serial : ℕ) → from_on (serial + 1) (log.cleared (Replay serial ∷ []) w).world.links.limbo ≡ from_on (serial + 1) w.links.limbo
 behind-replay w serial =
     let u : WorldState = (step w (Replay serial)).1 in
-    ap (λ p. from_on (serial + 1) p.1.links.limbo) (sym (clear-log u)) ∙ ap (from_on (serial + 1)) (clear-limbo u) ∙ replay-on w serial
+    ap (from_on (serial + 1)) (clear-limbo u) ∙ replay-on w serial

@@ -14,11 +14,12 @@ use Rattle.world_defs.specs.declared.effect.Effect.{Effect}
 use Rattle.world_defs.specs.declared.effect.Effect.TheVariants.{Moved as MovedTo}
 use Rattle.world_defs.specs.World.{WorldState, with_links}
 use Rattle.world_defs.specs.Step.{step, steps, after_all}
-use Rattle.world_defs.specs.Drain.{changed, changes, channels_of, pass}
+use Rattle.world_defs.specs.Drain.{changed, changes, channels_of}
+use Rattle.world_defs.proofs.LogViews.{pass}
 use Rattle.world_laws.proofs.Draining.{advance-links, advance-changed, advance-world, changes-push}
-use Rattle.log_defs.specs.Logs as log
-use Rattle.log_defs.specs.Row.{IsPartWay}
-use Rattle.log_defs.proofs.Rows.{steps-after}
+use Rattle.world_defs.specs.Logs as log
+use Rattle.world_defs.specs.Row.{IsPartWay}
+use Rattle.world_defs.proofs.LogRows.{steps-after}
 use Rattle.log_laws.proofs.Drains.{drain-none, drain-events}
 use Rattle.log_laws.proofs.PartWay.{way-behind, way-as, way-still}
 use Rattle.fab_world.specs.Hop.{IsRunIn}
@@ -159,7 +160,6 @@ way-above watch w v u x c at s high some same p =
 
 -- where it is in one above, the pass goes on as the next one would
 begun : (v : WorldState) (count : ℕ) → length v.links.channels ≡ count → steps v (map Advance (range_with_len 0 count)) ≡ pass v
-unfolding pass
 begun v count long = ap (λ n. steps v (map Advance (range_with_len 0 n))) (sym long)
 
 above : (watch : Watch) (w v : WorldState) (x : Effect) (c at : ℕ) → IsLoneStep w v x c at → c < at → IsDrainedTo watch w v (seen_in watch (x ∷ []))

@@ -3,8 +3,9 @@ use Rattle.std.proofs.Common.{◌≡◌, ◌≢◌, Bool, true, false, [], refl,
 use Rattle.std.proofs.lemmas.Bool.Decides.{nat_tests}
 use Rattle.link_defs.specs.Links.{is_idle}
 use Rattle.world_defs.specs.World.{WorldState}
-use Rattle.world_defs.specs.Drain.{changes, pass}
-use Rattle.log_defs.specs.Logs as log
+use Rattle.world_defs.specs.Drain.{changes}
+use Rattle.world_defs.proofs.LogViews.{pass}
+use Rattle.world_defs.specs.Logs as log
 use Rattle.log_laws.proofs.Drains.{drain-rests, drain-goes_on, drain-on}
 use Rattle.world_drain.specs.declared.seen.Watch.{Watch}
 use Rattle.world_drain.specs.declared.seen.Seen.{Seen}
@@ -29,7 +30,6 @@ drained-on watch first now next seen once a b = record {
 
 -- a pass is a part of a drain
 pub drained-pass : (watch : Watch) (w : WorldState) → IsDrainedTo watch w (pass w).1 (seen_in watch (pass w).0)
-unfolding pass
 drained-pass watch w = by (log.is_still (pass w).0) refl
   where
     by : (b : Bool) → log.is_still (pass w).0 ≡ b → IsDrainedTo watch w (pass w).1 (seen_in watch (pass w).0)
@@ -47,7 +47,6 @@ drained-pass watch w = by (log.is_still (pass w).0) refl
 -- a drain has ended where a pass would change nothing
 pub drained-rest : (watch : Watch) (first now : WorldState) (seen : Seen) → IsDrainedTo watch first now seen → changes (pass now).0 ≡ 0
     → (seen ≡ seen_in watch (log.drain first).value) × (now ≡ (log.drain first).world)
-unfolding pass
 drained-rest watch first now seen d none =
     let same : log.is_still (pass now).0 ≡ true = grind (arith, nat_tests) in
     let rest = drain-rests now same in

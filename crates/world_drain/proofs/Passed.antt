@@ -5,9 +5,10 @@ use Rattle.world_defs.specs.declared.event.Event.TheVariants.{Advance}
 use Rattle.world_defs.specs.declared.effect.Effect.{Effect}
 use Rattle.world_defs.specs.World.{WorldState}
 use Rattle.world_defs.specs.Step.{step, steps}
-use Rattle.world_defs.specs.Drain.{changed, changes, channels_of, pass}
+use Rattle.world_defs.specs.Drain.{changed, changes, channels_of}
+use Rattle.world_defs.proofs.LogViews.{pass}
 use Rattle.world_laws.proofs.Draining.{one_if, changes-push}
-use Rattle.log_defs.specs.Row.{IsPartWay}
+use Rattle.world_defs.specs.Row.{IsPartWay}
 use Rattle.log_laws.proofs.PartWay.{way-first, way-next}
 use Rattle.world_drain.specs.declared.seen.Watch.{Watch}
 use Rattle.world_drain.specs.declared.seen.Seen.{Seen}
@@ -25,7 +26,6 @@ pub record Passed (watch : Watch) (first now : WorldState) (from : ℕ) (seen : 
   pub channels : length now.links.channels ≡ length first.links.channels
 
 pub whole : (w : WorldState) → advances_from w 0 (length w.links.channels) ≡ pass w
-unfolding pass
 whole w = let e : length w.links.channels - 0 ≡ length w.links.channels = omega arith in ap (λ n. steps w (map Advance (range_with_len 0 n))) e
 
 pub passed-none : (watch : Watch) (w : WorldState) (nothing : Seen) → nothing ≡ seen_in watch [] → Passed watch w w 0 nothing

@@ -7,10 +7,10 @@ use Rattle.world_defs.specs.World.{WorldState}
 use Rattle.world_defs.specs.Step.{step}
 use Rattle.world_defs.specs.Drain.{changed}
 use Rattle.world_defs.specs.Settle.{serials}
-use Rattle.log_defs.specs.Log.{Log}
-use Rattle.log_defs.specs.Logs as log
-use Rattle.log_defs.specs.Row.{IsPartWay}
-use Rattle.log_defs.proofs.Rows.{cleared-row, byte_clears}
+use Rattle.world_defs.specs.Log.{Log}
+use Rattle.world_defs.specs.Logs as log
+use Rattle.world_defs.specs.Row.{IsPartWay}
+use Rattle.world_defs.proofs.LogRows.{cleared-row, byte_clears}
 use Rattle.log_laws.proofs.Settles.{replays-within}
 use Rattle.log_laws.proofs.UnderWay.{UnderWay, behind, under_way-first, under_way-on, under_way-cut}
 use Rattle.fab_world.specs.Held.{IsLater, IsMoment}

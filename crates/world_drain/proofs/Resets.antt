@@ -11,9 +11,8 @@ use Rattle.world_defs.specs.Step.{of_links, was_reset, step, steps, followed_by}
 use Rattle.world_defs.specs.Drain.{changes, resets_of, reset_count}
 use Rattle.world_laws.proofs.Draining.{changes-push}
 use Rattle.world_laws.proofs.Clearing.{reset-changed, clear-idle}
-use Rattle.log_defs.specs.Logs as log
-use Rattle.log_defs.specs.Row.{IsPartWay}
-use Rattle.log_defs.proofs.Worlds.{clear-log}
+use Rattle.world_defs.specs.Logs as log
+use Rattle.world_defs.specs.Row.{IsPartWay}
 use Rattle.log_laws.proofs.PartWay.{way-first, way-next}
 
 -- a reset of an empty channel is idle
@@ -120,5 +119,5 @@ is-clear w u v (Ok n) drained is =
 is-clear w u v (Err e) drained is = (tt, tt)
 
 pub is-idle : {E : Type 0} (w v : WorldState) (r : Result ℕ E) → OnOk r (v ≡ (log.clear w).world) → OnOk r (is_idle v.links ≡ true)
-is-idle w v (Ok n) is = ap (λ (x : WorldState). is_idle x.links) (is ∙ sym (ap (λ p. p.1) (clear-log w))) ∙ clear-idle w
+is-idle w v (Ok n) is = ap (λ (x : WorldState). is_idle x.links) is ∙ clear-idle w
 is-idle w v (Err e) is = tt

@@ -4,11 +4,12 @@ use Rattle.link_defs.specs.Hops.{total_hops}
 use Rattle.world_defs.specs.declared.event.Event.TheVariants.{Advance}
 use Rattle.world_defs.specs.EightBits.{IsByteEvent}
 use Rattle.world_defs.specs.World.{WorldState}
-use Rattle.world_defs.specs.Drain.{changes, channels_of, pass}
+use Rattle.world_defs.specs.Drain.{changes, channels_of}
+use Rattle.world_defs.proofs.LogViews.{pass}
 use Rattle.world_laws.proofs.Draining.{pass-cost}
-use Rattle.log_defs.specs.Logs as log
-use Rattle.log_defs.specs.Row.{IsPartWay}
-use Rattle.log_defs.proofs.Rows.{steps-after, drain-row, byte_clears}
+use Rattle.world_defs.specs.Logs as log
+use Rattle.world_defs.specs.Row.{IsPartWay}
+use Rattle.world_defs.proofs.LogRows.{steps-after, drain-row, byte_clears}
 use Rattle.log_laws.proofs.PartWay.{way-still}
 use Rattle.log_laws.proofs.Drains.{drain-on}
 use Rattle.fab_world.specs.Held.{IsLater}
@@ -25,7 +26,6 @@ pub record Running (watch : Watch) (first now : WorldState) (seen : Seen) : Type
   pub cost : seen.changes + total_hops now.links ≤ total_hops first.links
 
 pub pass-later : (w : WorldState) → IsLater w (pass w).1
-unfolding pass
 pass-later w = (map Advance (channels_of w), steps-after w (map Advance (channels_of w)))
 
 pub running-none : (watch : Watch) (w : WorldState) (nothing : Seen) → nothing ≡ seen_in watch [] → Running watch w w nothing

@@ -4,7 +4,7 @@ use Rattle.std.proofs.lemmas.Bool.Decides.{nat_tests}
 use Rattle.world_defs.specs.declared.effect.Effect.{Effect}
 use Rattle.world_defs.specs.Drain.{changed, changes}
 use Rattle.world_laws.proofs.Draining.{one_if, changes-push}
-use Rattle.log_defs.specs.Logs as log
+use Rattle.world_defs.specs.Logs as log
 use Rattle.world_drain.specs.Settling.{capped}
 
 -- something moved in one of two stretches

@@ -8,9 +8,9 @@ use Rattle.world_defs.specs.Drain.{changes}
 use Rattle.world_defs.specs.Asking.{all_given_up}
 use Rattle.world_defs.specs.Settle.{is_quiet}
 use Rattle.world_laws.proofs.Passes.{measure}
-use Rattle.log_defs.specs.Log.{Log}
-use Rattle.log_defs.specs.Logs as log
-use Rattle.log_defs.proofs.Rows.{round_pass-row, byte_settles}
+use Rattle.world_defs.specs.Log.{Log}
+use Rattle.world_defs.specs.Logs as log
+use Rattle.world_defs.proofs.LogRows.{round_pass-row, byte_settles}
 use Rattle.log_laws.proofs.Settles.{passes_from, passes-lower, passes-on, passes-last}
 use Rattle.log_laws.proofs.UnderWay.{UnderWay, behind, under_way-first, under_way-on}
 use Rattle.world_drain.specs.Settling.{capped}

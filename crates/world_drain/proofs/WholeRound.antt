@@ -2,14 +2,13 @@
 use Rattle.std.proofs.Common.{◌≡◌, ◌<◌, ◌≤◌, ◌+◌, ◌^◌, ℕ, Bool, true, false, not, ◌||◌, length, nat_eq, nat_lt, sym, ◌∙◌, ap, subst, arith}
 use Rattle.link_defs.specs.Links.{is_idle}
 use Rattle.world_defs.specs.World.{WorldState}
-use Rattle.world_defs.specs.Settle.{unacknowledged_in, is_last_round, settle}
+use Rattle.world_defs.specs.Settle.{unacknowledged_in, is_last_round}
 use Rattle.world_laws.specs.Shape.{HasSenders}
-use Rattle.world_laws.proofs.Rounds.{Going, left_over, not_last-less, settle-settles}
-use Rattle.world_laws.proofs.Resting.{settles-idle}
-use Rattle.log_defs.specs.Log.{Log}
-use Rattle.log_defs.specs.Logs as log
-use Rattle.log_defs.proofs.Rows.{round-row, byte_settles}
-use Rattle.log_defs.proofs.Worlds.{zero_more}
+use Rattle.world_laws.proofs.Rounds.{Going, left_over, not_last-less}
+use Rattle.world_laws.proofs.Resting.{settled-idle as settle-idle}
+use Rattle.world_defs.specs.Log.{Log}
+use Rattle.world_defs.specs.Logs as log
+use Rattle.world_defs.proofs.LogRows.{round-row, byte_settles}
 use Rattle.log_laws.proofs.Settles.{rounds_from, rounds-on, rounds-last, going}
 use Rattle.log_laws.proofs.UnderWay.{UnderWay, behind, under_way-first, under_way-on}
 use Rattle.fab_world.specs.Held.{IsMoment}
@@ -116,6 +115,9 @@ pub record IsSettled (w v : WorldState) (rounds resets : ℕ) : Type 0 where
   pub number : rounds ≡ (log.settle w).value.rounds
   pub counted : resets ≡ capped (log.settle w).value.resets
 
+rounds-zero : (n : ℕ) → n ≡ 0 + n
+rounds-zero n = omega arith
+
 pub settled-is : (w u v : WorldState) (rounds first rest all : ℕ) → first ≡ (log.clear w).value → u ≡ (log.clear w).world → first ≤ 1152 → AreRounds u v rounds rest → all ≡ capped (first + rest)
     → IsSettled w v rounds all
 unfolding log.settle
@@ -123,10 +125,10 @@ settled-is w u v rounds first rest all counted cleared few r all_is =
     let left : Log log.Rounds = rounds_from (log.clear w).world in
     record {
       after = r.led ∙ ap (λ y. (rounds_from y).world) cleared;
-      number = r.number ∙ ap (λ y. (rounds_from y).value.rounds) cleared ∙ zero_more left.value.rounds;
+      number = r.number ∙ ap (λ y. (rounds_from y).value.rounds) cleared ∙ rounds-zero left.value.rounds;
       counted = capped-sum (log.clear w).value left.value.resets first rest all (capped-few first few ∙ ap capped counted) (r.counted ∙ ap (λ y. capped (rounds_from y).value.resets) cleared) all_is;
     }
 
 -- a settle leaves idle links
-pub settled-idle : (w v : WorldState) → IsMoment w → v ≡ (settle w).world → is_idle v.links ≡ true
-settled-idle w v m after = ap (λ (y : WorldState). is_idle y.links) after ∙ settles-idle w (settle w) (settle-settles w m.senders)
+pub settled-idle : (w v : WorldState) → IsMoment w → v ≡ (log.settle w).world → is_idle v.links ≡ true
+settled-idle w v m after = ap (λ (y : WorldState). is_idle y.links) after ∙ settle-idle w m.senders

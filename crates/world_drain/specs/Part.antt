@@ -1,8 +1,8 @@
 -- A part of a drain.
 use Rattle.std.specs.Prelude.{◌≡◌}
 use Rattle.world_defs.specs.World.{WorldState}
-use Rattle.log_defs.specs.Logs as log
-use Rattle.log_defs.specs.Row.{IsPartWay}
+use Rattle.world_defs.specs.Logs as log
+use Rattle.world_defs.specs.Row.{IsPartWay}
 use Rattle.world_drain.specs.declared.seen.Watch.{Watch}
 use Rattle.world_drain.specs.declared.seen.Seen.{Seen}
 use Rattle.world_drain.specs.Watch.{seen_in, seen_then}

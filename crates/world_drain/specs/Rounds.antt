@@ -2,7 +2,7 @@
 use Rattle.std.specs.Prelude.{◌≡◌, ℕ}
 use Rattle.world_defs.specs.World.{WorldState}
 use Rattle.world_defs.specs.Settle.{round_bound}
-use Rattle.log_defs.specs.Logs as log
+use Rattle.world_defs.specs.Logs as log
 use Rattle.world_drain.specs.Settling.{capped}
 
 -- Rounds up to the last lead from one world to the other: so many, with so many resets.

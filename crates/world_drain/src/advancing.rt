@@ -5,9 +5,9 @@ ghost use Rattle.std.specs.Prelude.{◌≡◌, ◌<◌, ◌≤◌, ◌+◌, ◌^
 ghost use Rattle.std.specs.Prelude.{OnErr};
 ghost use Rattle.world_defs.specs.declared.event.Event.TheVariants.{Advance};
 ghost use Rattle.world_defs.specs.Step.{step};
-ghost use Rattle.world_defs.specs.Drain.{channels_of, pass};
-ghost use Rattle.log_defs.specs.Logs as log;
-ghost use Rattle.log_defs.specs.Row.{IsPartWay};
+ghost use Rattle.world_defs.specs.Drain.{channels_of};
+ghost use Rattle.world_defs.specs.Logs as log;
+ghost use Rattle.world_defs.specs.Row.{IsPartWay};
 ghost use Rattle.world_drain.specs.Watch.{seen_in, seen_then};
 ghost use Rattle.world_drain.specs.Awake.{AreAwake, AreAwakeBehind, IsNextAwake, IsStill, hop_of};
 
@@ -104,8 +104,8 @@ fn pass(
     noted: &mut Option<Awake>,
 ) -> Result<Seen, AllocError>
     requires { IfSome noted.old (λ a. AreAwake w.old.links a.marks a.places.items a.counts.items) }
-    ensures seen { IfOk result (λ s. s ≡ seen_in watch.now (pass w.old).0) }
-    ensures after { OnOk result (w.new ≡ (pass w.old).1) }
+    ensures seen { IfOk result (λ s. s ≡ seen_in watch.now (log.pass w.old).value) }
+    ensures after { OnOk result (w.new ≡ (log.pass w.old).world) }
     ensures awake { OnOk result (IfSome noted.new (λ a. AreAwake w.new.links a.marks a.places.items a.counts.items)) }
     ensures err { OnErr result (IsPartWay w.old (map Advance (channels_of w.old)) w.new) }
 {

@@ -5,8 +5,8 @@ ghost use Rattle.link_defs.specs.Links.{is_idle};
 ghost use Rattle.world_defs.specs.World.{fabric_of, host_count};
 ghost use Rattle.world_defs.specs.Step.{steps};
 ghost use Rattle.world_defs.specs.Drain.{resets_of, reset_count};
-ghost use Rattle.log_defs.specs.Logs as log;
-ghost use Rattle.log_defs.specs.Row.{IsPartWay};
+ghost use Rattle.world_defs.specs.Logs as log;
+ghost use Rattle.world_defs.specs.Row.{IsPartWay};
 
 use crate::draining::drain;
 use crate::happening::happen;

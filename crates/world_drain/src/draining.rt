@@ -6,8 +6,8 @@ ghost use Rattle.world_defs.specs.World.{fabric_of, host_count};
 ghost use Rattle.world_defs.specs.declared.event.Event.TheVariants.{Advance};
 ghost use Rattle.world_defs.specs.Step.{step};
 ghost use Rattle.world_defs.specs.Drain.{changes};
-ghost use Rattle.log_defs.specs.Logs as log;
-ghost use Rattle.log_defs.specs.Row.{IsPartWay};
+ghost use Rattle.world_defs.specs.Logs as log;
+ghost use Rattle.world_defs.specs.Row.{IsPartWay};
 ghost use Rattle.world_drain.specs.Watch.{seen_in};
 ghost use Rattle.world_drain.specs.Part.{IsDrainedTo};
 

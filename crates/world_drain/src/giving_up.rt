@@ -5,7 +5,7 @@ ghost use Rattle.world_defs.specs.World.{fabric_of, host_count, addresses};
 ghost use Rattle.world_defs.specs.declared.event.Event.TheVariants.{GiveUp};
 ghost use Rattle.world_defs.specs.Step.{step};
 ghost use Rattle.world_defs.specs.Asking.{all_given_up};
-ghost use Rattle.log_defs.specs.Row.{IsPartWay};
+ghost use Rattle.world_defs.specs.Row.{IsPartWay};
 ghost use Rattle.fab_world.specs.Events.{IsHostOf};
 
 use crate::happening::happen;

@@ -8,8 +8,8 @@ ghost use Rattle.world_defs.specs.World.{host_count, node_at, addresses};
 ghost use Rattle.world_defs.specs.Step.{steps};
 ghost use Rattle.world_defs.specs.Drain.{changes};
 ghost use Rattle.world_defs.specs.Settle.{is_quiet, pass_bound};
-ghost use Rattle.log_defs.specs.Logs as log;
-ghost use Rattle.log_defs.specs.Row.{IsPartWay};
+ghost use Rattle.world_defs.specs.Logs as log;
+ghost use Rattle.world_defs.specs.Row.{IsPartWay};
 ghost use Rattle.world_drain.specs.Settling.{capped};
 
 use crate::clearing::clear;

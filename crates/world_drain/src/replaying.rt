@@ -3,8 +3,8 @@
 ghost use Rattle.std.specs.Prelude.{◌≡◌, ◌∷◌, [], ◌||◌, ◌+◌, nat_lt, IfOk, OnOk, OnErr};
 ghost use Rattle.world_defs.specs.declared.event.Event.TheVariants.{Replay};
 ghost use Rattle.world_defs.specs.Settle.{serials};
-ghost use Rattle.log_defs.specs.Logs as log;
-ghost use Rattle.log_defs.specs.Row.{IsPartWay};
+ghost use Rattle.world_defs.specs.Logs as log;
+ghost use Rattle.world_defs.specs.Row.{IsPartWay};
 ghost use Rattle.world_drain.specs.Settling.{capped};
 
 use crate::clearing::clear;

@@ -9,7 +9,8 @@ use Rattle.world_defs.specs.declared.event.Event.TheVariants.{Reset}
 use Rattle.world_defs.specs.declared.effect.Effect.TheVariants.{Reset as WasReset}
 use Rattle.world_defs.specs.World.{WorldState}
 use Rattle.world_defs.specs.Step.{of_links, was_reset, step, steps}
-use Rattle.world_defs.specs.Drain.{changed, changes, channels_of, drain, resets_of, clear}
+use Rattle.world_defs.specs.Drain.{changed, changes, channels_of, resets_of}
+use Rattle.world_defs.specs.Logs.{drain, clear}
 use Rattle.world_laws.specs.Draining.{full_count}
 use Rattle.world_laws.proofs.Lists.{at-set}
 use Rattle.world_laws.proofs.Draining.{one_if, changes-push, range-all}
@@ -90,14 +91,14 @@ resets-idle w =
     let all = range-all (λ c. packet_in v.links c ≡ None) (length w.links.channels) (resets-all w v (channels_of w) refl) in
     all-empty v.links.channels (λ c low. all c (subst (λ n. c < n) (resets-long w (channels_of w)) low))
 
-pub clear-idle : (w : WorldState) → is_idle (clear w).1.links ≡ true
+pub clear-idle : (w : WorldState) → is_idle (clear w).world.links ≡ true
 unfolding clear
-clear-idle w = resets-idle (drain w).1
+clear-idle w = resets-idle (drain w).world
 
-pub clear-resets : (w : WorldState) → (clear w).0 ≡ full_count (drain w).1.links.channels
+pub clear-resets : (w : WorldState) → (clear w).value ≡ full_count (drain w).world.links.channels
 unfolding clear
 clear-resets w =
-    let v : WorldState = (drain w).1 in
+    let v : WorldState = (drain w).world in
     let count = resets-count v (channels_of v) in
     let none = empty-count (steps v (resets_of v)).1.links.channels (resets-idle v) in
     omega (arith, count, none)

@@ -1,5 +1,5 @@
 -- A drain is passes up to the first that changes nothing.
-use Rattle.std.proofs.Common.{◌≡◌, ◌≢◌, ◌<◌, ◌≤◌, ◌+◌, ℕ, zero, suc, Bool, true, false, List, [], ◌∷◌, ◌++◌, map, length, nat_eq, ◌⊎◌, inl, inr, ⊎_elim, refl, sym, ◌∙◌, ap, subst, arith, true≢false, if◌then◌else◌}
+use Rattle.std.proofs.Common.{◌≡◌, ◌≢◌, ◌<◌, ◌≤◌, ◌+◌, ℕ, zero, suc, Bool, true, false, List, [], ◌∷◌, ◌++◌, map, length, ◌⊎◌, inl, inr, ⊎_elim, refl, sym, ◌∙◌, ap, subst, arith, true≢false, if◌then◌else◌}
 use Rattle.std.specs.List.{AllByRecursion, range_with_len}
 use Rattle.std.proofs.lemmas.Bool.{cases_lt}
 use Rattle.std.proofs.lemmas.Bool.Decides.{nat_tests}
@@ -17,7 +17,11 @@ use Rattle.world_defs.specs.Node.{NodeState}
 use Rattle.world_defs.specs.Hearing.{hear}
 use Rattle.world_defs.specs.World.{WorldState, host_count, node_at, with_links}
 use Rattle.world_defs.specs.Step.{arrived, advanced_by, advanced, step, steps}
-use Rattle.world_defs.specs.Drain.{changed, changes, channels_of, pass, passes, drain, Drains}
+use Rattle.world_defs.specs.Drain.{changed, changes, channels_of}
+use Rattle.world_defs.specs.Log.{Log, still}
+use Rattle.world_defs.specs.Logs.{pass, is_still, drain_pass, drain}
+use Rattle.world_laws.specs.Draining.{Drains}
+use Rattle.world_laws.proofs.Repeating.{Chains, either, up_to-chain, up_to-repeats, repeats-end}
 
 -- an advance: what it makes of the links, whether it changed something, and that it left the world where not
 record AdvanceBy (w : WorldState) (o : Moved (List ℕ) × LinkState) (r : Effect × WorldState) : Type 0 where
@@ -92,8 +96,7 @@ advances-cost w (c ∷ cs) =
     let a = changes-push (step w (Advance c)).0 (steps next (map Advance cs)).0 (changed (step w (Advance c)).0) refl in
     omega (arith, here, rest, a)
 
-pub pass-cost : (w : WorldState) → changes (pass w).0 + total_hops (pass w).1.links ≤ total_hops w.links
-unfolding pass
+pub pass-cost : (w : WorldState) → changes (pass w).value + total_hops (pass w).world.links ≤ total_hops w.links
 pass-cost w = advances-cost w (channels_of w)
 
 -- a pass that changes nothing: no advance of a channel does
@@ -125,53 +128,47 @@ still_below : (s : LinkState) (n : ℕ) → ((c : ℕ) → c < n → moves (adva
 still_below s zero still = refl
 still_below s (suc n) still = rw (still n (omega arith), still_below s n (λ c low. still c (omega (arith, low)))) refl
 
-rest-still : (w : WorldState) → changes (pass w).0 ≡ 0 → is_still_below w.links (length w.links.channels) ≡ true
-unfolding pass
+rest-still : (w : WorldState) → changes (pass w).value ≡ 0 → is_still_below w.links (length w.links.channels) ≡ true
 rest-still w e = still_below w.links (length w.links.channels) (range-all (λ c. moves (advance w.links c).0 ≡ false) (length w.links.channels) (advances-still w (channels_of w) e))
 
 idle_or_stuck : (s : LinkState) (b : Bool) → is_idle s ≡ b → is_still_below s (length s.channels) ≡ true → (is_idle s ≡ true) ⊎ (is_stuck s ≡ true)
 idle_or_stuck s true e still = inl e
 idle_or_stuck s false e still = inr (rw (e, still) refl)
 
--- the drain
-passes-drain : (k : ℕ) (w : WorldState) → total_hops w.links < k → Drains w (passes k w).0 (passes k w).1
-passes-drain zero w low = absurd (omega (arith, low))
-passes-drain (suc k) w low = by (nat_eq (changes (pass w).0) 0) refl (passes-drain k (pass w).1)
+-- a pass of a drain is told where it changes something
+drain_pass-is : (w : WorldState) → ((is_still (pass w).value ≡ true) × (drain_pass w ≡ still [] w)) ⊎ ((is_still (pass w).value ≡ false) × (drain_pass w ≡ pass w))
+drain_pass-is w = by (is_still (pass w).value) refl
   where
-    by : (t : Bool) → nat_eq (changes (pass w).0) 0 ≡ t → (total_hops (pass w).1.links < k → Drains (pass w).1 (passes k (pass w).1).0 (passes k (pass w).1).1) → Drains w (if t then (let r : List Effect × WorldState = ([], w) in r) else ((pass w).0 ++ (passes k (pass w).1).0, (passes k (pass w).1).1)).0 (if t then (let r : List Effect × WorldState = ([], w) in r) else ((pass w).0 ++ (passes k (pass w).1).0, (passes k (pass w).1).1)).1
-    by true e ih = Drains.at_rest (grind (arith, nat_tests))
-    by false e ih =
-        let some : changes (pass w).0 ≢ 0 = grind (arith, nat_tests) in
-        let cost = pass-cost w in
-        Drains.more some (ih (omega (arith, cost, some, low))) refl
+    by : (t : Bool) → is_still (pass w).value ≡ t → ((is_still (pass w).value ≡ true) × (drain_pass w ≡ still [] w)) ⊎ ((is_still (pass w).value ≡ false) × (drain_pass w ≡ pass w))
+    by true e = inl (e, ap (λ b. if b then still [] w else pass w) e)
+    by false e = inr (e, ap (λ b. if b then still [] w else pass w) e)
 
-pub drain-drains : (w : WorldState) → Drains w (drain w).0 (drain w).1
+-- the drain
+abbrev Costs : WorldState → Log (List Effect) → Type 0
+Costs w l = changes l.value + total_hops l.world.links ≤ total_hops w.links
+
+drain_pass-cost : (w : WorldState) → Costs w (drain_pass w)
+drain_pass-cost w = either Costs w (still [] w) (pass w) (is_still (pass w).value) (omega arith) (pass-cost w)
+
+chain-costs : Chains (λ xs ys. xs ++ ys) [] Costs
+chain-costs = record { same = λ w. omega arith; both = λ w l m p q. let a = changes-append l.value m.value in omega (arith, p, q, a) }
+
+drain_pass-less : (w : WorldState) → Unit {0} → is_still (drain_pass w).value ≡ false → Unit {0} × (total_hops (drain_pass w).world.links < total_hops w.links)
+drain_pass-less w i e = let some : changes (drain_pass w).value ≢ 0 = grind (arith, nat_tests) in let cost = drain_pass-cost w in (tt, omega (arith, some, cost))
+
+pub drain-drains : (w : WorldState) → Drains w (drain w)
 unfolding drain
-drain-drains w = passes-drain (total_hops w.links + 1) w (omega arith)
+drain-drains w = up_to-repeats (λ xs ys. xs ++ ys) [] (λ before p. is_still p.value) drain_pass (λ v. Unit {0}) (λ v. total_hops v.links) drain_pass-less (total_hops w.links + 1) w tt (omega arith)
 
-pub drains-one : (w u v : WorldState) (xs ys : List Effect) → Drains w xs u → Drains w ys v → (xs ≡ ys) × (u ≡ v)
-drains-one w u v xs ys (Drains.at_rest e) (Drains.at_rest f) = (refl, refl)
-drains-one w u v xs ys (Drains.at_rest e) (Drains.more m f q) = absurd (m e)
-drains-one w u v xs ys (Drains.more n d p) (Drains.at_rest f) = absurd (n f)
-drains-one w u v xs ys (Drains.more {xs = some} n d p) (Drains.more {xs = bs} m f q) =
-    let h = drains-one (pass w).1 u v some bs d f in (p ∙ (ap (λ l. (pass w).0 ++ l) h.0 ∙ sym q), h.1)
+pub drain-cost : (w : WorldState) → changes (drain w).value ≤ total_hops w.links
+unfolding drain
+drain-cost w = let h : Costs w (drain w) = up_to-chain (λ xs ys. xs ++ ys) [] Costs chain-costs (λ before p. is_still p.value) drain_pass drain_pass-cost (total_hops w.links + 1) w in omega (arith, h)
 
-drains-cost : (w v : WorldState) (xs : List Effect) → Drains w xs v → changes xs + total_hops v.links ≤ total_hops w.links
-drains-cost w v xs (Drains.at_rest e) = omega arith
-drains-cost w v xs (Drains.more {xs = some} n d p) =
-    let rest = drains-cost (pass w).1 v some d in
-    let here = pass-cost w in
-    let a : changes xs ≡ changes (pass w).0 + changes some = ap changes p ∙ changes-append (pass w).0 some in
-    omega (arith, rest, here, a)
+-- the pass that changes nothing
+last-still : (w : WorldState) → is_still (drain_pass w).value ≡ true → is_still_below (drain_pass w).world.links (length (drain_pass w).world.links.channels) ≡ true
+last-still w last = ⊎_elim (λ p. let none : changes (pass w).value ≡ 0 = let e = p.0 in grind (arith, nat_tests) in subst (λ l. is_still_below l.world.links (length l.world.links.channels) ≡ true) (sym p.1) (rest-still w none)) (λ p. absurd (true≢false (sym last ∙ (ap (λ l. is_still l.value) p.1 ∙ p.0)))) (drain_pass-is w)
 
-pub drain-cost : (w : WorldState) → changes (drain w).0 ≤ total_hops w.links
-drain-cost w = let h = drains-cost w (drain w).1 (drain w).0 (drain-drains w) in omega (arith, h)
-
-drains-rest : (w v : WorldState) (xs : List Effect) → Drains w xs v → changes (pass v).0 ≡ 0
-drains-rest w v xs (Drains.at_rest e) = e
-drains-rest w v xs (Drains.more {xs = some} n d p) = drains-rest (pass w).1 v some d
-
-pub drain-still : (w : WorldState) → (is_idle (drain w).1.links ≡ true) ⊎ (is_stuck (drain w).1.links ≡ true)
+pub drain-still : (w : WorldState) → (is_idle (drain w).world.links ≡ true) ⊎ (is_stuck (drain w).world.links ≡ true)
 drain-still w =
-    let v : WorldState = (drain w).1 in
-    idle_or_stuck v.links (is_idle v.links) refl (rest-still v (drains-rest w v (drain w).0 (drain-drains w)))
+    let v : WorldState = (drain w).world in
+    idle_or_stuck v.links (is_idle v.links) refl (repeats-end (λ xs ys. xs ++ ys) (λ before p. is_still p.value) drain_pass (λ u. is_still_below u.links (length u.links.channels) ≡ true) last-still w (drain w) (drain-drains w))

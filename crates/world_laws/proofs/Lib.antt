@@ -5,6 +5,7 @@ pub mod Strikes
 pub mod Leaves
 pub mod Shapes
 pub mod Idling
+pub mod Repeating
 pub mod Draining
 pub mod Clearing
 pub mod Along

@@ -1,5 +1,5 @@
 -- The passes of a round end: each injection uses up a number and adds at most one packet to limbo, and each replay takes one out.
-use Rattle.std.proofs.Common.{◌≡◌, ◌≢◌, ◌<◌, ◌≤◌, ◌+◌, ◌-◌, ◌*◌, ℕ, zero, suc, Bool, true, false, ◌||◌, List, [], ◌∷◌, map, length, nat_eq, nat_le, Option, Some, None, is_some, cond, refl, sym, ◌∙◌, ap, arith, true≢false, if◌then◌else◌}
+use Rattle.std.proofs.Common.{◌≡◌, ◌≢◌, ◌<◌, ◌≤◌, ◌+◌, ◌-◌, ◌*◌, ℕ, Bool, true, false, ◌||◌, List, [], ◌∷◌, map, length, nat_eq, nat_le, Option, Some, None, is_some, cond, refl, ◌∙◌, ap, arith, true≢false, if◌then◌else◌}
 use Rattle.std.specs.Map.{lookup, remove_entry}
 use Rattle.std.proofs.lemmas.Bool.Decides.{nat_tests}
 use Rattle.net_defs.specs.Route.{host_port, channel_from}
@@ -14,12 +14,16 @@ use Rattle.world_defs.specs.declared.effect.Effect.TheVariants.{Idle, Injected}
 use Rattle.world_defs.specs.Node.{Outgoing, to_send, packet_for}
 use Rattle.world_defs.specs.World.{WorldState, fabric_of, last_count, node_at, addresses}
 use Rattle.world_defs.specs.Step.{of_replay, replayed, planned_strikes, sent_out, inject_one, inject_into, injected, step, steps, after_all}
-use Rattle.world_defs.specs.Drain.{changed, changes, clear}
-use Rattle.world_defs.specs.Settle.{Stretch, replay_each, serials, round_pass, is_quiet, is_last_pass, round_passes, pass_bound, round, expiries}
-use Rattle.world_laws.specs.Settling.{joined_stretch, RoundPasses, IsRound}
+use Rattle.world_defs.specs.Drain.{changed, changes}
+use Rattle.world_defs.specs.Settle.{serials, is_quiet, pass_bound, expiries}
+use Rattle.world_defs.specs.Log.{Log, for_each}
+use Rattle.world_defs.specs.Logs.{Moved, clear, cleared, moved_both, unmoved, round_pass, is_last_pass}
+use Rattle.world_laws.specs.Settling.{RoundEnds}
+use Rattle.world_laws.proofs.Repeating.{Chains, each-chain, up_to-repeats}
 use Rattle.world_laws.proofs.Strikes.{planned_strikes-kept}
 use Rattle.world_laws.proofs.Draining.{one_if, changes-push}
-use Rattle.world_laws.proofs.Along.{Along, Clears, after_all-along, clear-along, expiries-along, all-map}
+use Rattle.world_defs.proofs.LogRows.{Clears, clear-row, expiries-row, given_up-row}
+use Rattle.world_laws.proofs.Along.{Along, row-along}
 use Rattle.link_defs.specs.Step.{Step, stepped}
 use Rattle.world_defs.proofs.Views.{LinksChange, Change, view}
 
@@ -71,11 +75,11 @@ along-calm = record {
 clears-calm : Clears IsCalm
 clears-calm = record { advance = λ c. tt; reset = λ c. tt }
 
-pub clear-plan : (w : WorldState) → (clear w).1.plan ≡ w.plan
-clear-plan w = (clear-along Calm IsCalm along-calm clears-calm w).plan
+pub clear-plan : (w : WorldState) → (clear w).world.plan ≡ w.plan
+clear-plan w = (row-along along-calm (clear-row clears-calm w)).plan
 
-pub clear-limbo : (w : WorldState) → (clear w).1.links.limbo ≡ w.links.limbo
-clear-limbo w = (clear-along Calm IsCalm along-calm clears-calm w).limbo
+pub clear-limbo : (w : WorldState) → (clear w).world.links.limbo ≡ w.links.limbo
+clear-limbo w = (row-along along-calm (clear-row clears-calm w)).limbo
 
 -- what the passes of a round use up: the injections that are left, and what each may add to limbo
 abbrev pub measure : WorldState → ℕ
@@ -84,8 +88,8 @@ measure w = 2 * (last_count - w.injected) + length w.links.limbo
 calm-measure : (w v : WorldState) → Calm w v → measure v ≡ measure w
 calm-measure w v k = let a = k.injected in let b : length v.links.limbo ≡ length w.links.limbo = ap length k.limbo in omega (arith, a, b)
 
-pub clear-measure : (w : WorldState) → measure (clear w).1 ≡ measure w
-clear-measure w = calm-measure w (clear w).1 (clear-along Calm IsCalm along-calm clears-calm w)
+pub clear-measure : (w : WorldState) → measure (clear w).world ≡ measure w
+clear-measure w = calm-measure w (clear w).world (row-along along-calm (clear-row clears-calm w))
 
 -- an injection
 put-limbo : (s : LinkState) (c : ℕ) (wire : List ℕ) (b : Bool) → (if b then (let r : Bool × LinkState = (false, s) in r) else (true, with_packet s c (Some (record { wire = wire; marked = false })))).1.limbo ≡ s.limbo
@@ -157,28 +161,30 @@ pub replay-cost : (w : WorldState) (serial : ℕ) → one_if (changed (step w (R
 unfolding replayed
 replay-cost w serial = replay_of-cost w serial (caught_as w.links serial) refl
 
-pub replay_each-cost : (ss : List ℕ) (w : WorldState) → (replay_each ss w).moves + measure (replay_each ss w).world ≤ measure w
-replay_each-cost [] w = omega arith
-replay_each-cost (s ∷ ss) w =
-    let u : WorldState = (step w (Replay s)).1 in
-    let v : WorldState = (clear u).1 in
+abbrev Costs : WorldState → Log Moved → Type 0
+Costs w l = l.value.moves + measure l.world ≤ measure w
+
+chain-costs : Chains moved_both unmoved Costs
+chain-costs = record { same = λ w. omega arith; both = λ w l m p q. omega (arith, p, q) }
+
+replayed-cost : (s : ℕ) (w : WorldState) → Costs w (cleared (Replay s ∷ []) w)
+replayed-cost s w =
     let here = replay-cost w s in
     let a = changes-push (step w (Replay s)).0 [] (changed (step w (Replay s)).0) refl in
-    let b = clear-measure u in
-    let rest = replay_each-cost ss v in
-    omega (arith, here, a, b, rest)
+    let b = clear-measure (step w (Replay s)).1 in
+    omega (arith, here, a, b)
 
 -- a pass
-pub pass-cost : (w : WorldState) → (round_pass w).moves + measure (round_pass w).world ≤ measure w
+pub pass-cost : (w : WorldState) → Costs w (round_pass w)
 unfolding round_pass
 pass-cost w =
-    let t : WorldState = after_all w (map GiveUp (addresses w)) in
+    let t : WorldState = (after_all w (map GiveUp (addresses w))) in
     let u : WorldState = (steps t (map Inject (addresses w))).1 in
-    let v : WorldState = (clear u).1 in
-    let a = calm-measure w t (after_all-along Calm IsCalm along-calm w (map GiveUp (addresses w)) (all-map IsCalm GiveUp (λ h. tt) (addresses w))) in
+    let v : WorldState = (clear u).world in
+    let a = calm-measure w t (row-along along-calm (given_up-row {Q = IsCalm} (λ h. tt) w)) in
     let b = injects-cost t (addresses w) in
     let c = clear-measure u in
-    let d = replay_each-cost (serials v) v in
+    let d : Costs v (for_each moved_both unmoved (λ s. cleared (Replay s ∷ [])) (serials v) v) = each-chain moved_both unmoved Costs chain-costs (λ s. cleared (Replay s ∷ [])) replayed-cost (serials v) v in
     omega (arith, a, b, c, d)
 
 -- a pass that isn't the last moves something
@@ -187,47 +193,14 @@ some_moves true still n e f = absurd (true≢false f)
 some_moves false true n e f = absurd (true≢false f)
 some_moves false false n e f = grind (arith, nat_tests)
 
-pub not_last-moves : (s : Stretch) → is_last_pass s ≡ false → s.moves ≢ 0
-not_last-moves s e = some_moves (is_quiet s.world) (nat_eq s.moves 0) s.moves refl e
-
-record SomePasses (w : WorldState) (s : Stretch) : Type 0 where
-  count : ℕ
-  through : RoundPasses count w s
-
-passes-end : (k : ℕ) (w : WorldState) → measure w < k → SomePasses w (round_passes k w)
-passes-end zero w low = absurd (omega (arith, low))
-passes-end (suc k) w low = by (is_last_pass (round_pass w)) refl (passes-end k (round_pass w).world)
-  where
-    by : (t : Bool) → is_last_pass (round_pass w) ≡ t → (measure (round_pass w).world < k → SomePasses (round_pass w).world (round_passes k (round_pass w).world)) → SomePasses w (if t then round_pass w else joined_stretch (round_pass w) (round_passes k (round_pass w).world))
-    by true e ih = record { count = 1; through = RoundPasses.last_pass e }
-    by false e ih =
-        let some = not_last-moves (round_pass w) e in
-        let cost = pass-cost w in
-        let rest = ih (omega (arith, some, cost, low)) in
-        record { count = rest.count + 1; through = RoundPasses.another_pass e rest.through refl refl }
-
-pub round-is : (w : WorldState) → IsRound w (round w)
-unfolding round
-round-is w =
-    let u : WorldState = after_all w (expiries w) in
-    let a = calm-measure w u (expiries-along Calm IsCalm along-calm (λ h peer. tt) w) in
-    let p = passes-end (pass_bound w) u (omega (arith, a)) in
-    record { passes = p.count; through = p.through }
-
-pub passes-bounded : (w : WorldState) (n : ℕ) (s : Stretch) → RoundPasses n w s → n ≤ pass_bound w
-passes-bounded w n s (RoundPasses.last_pass e) = omega arith
-passes-bounded w n s (RoundPasses.another_pass {n = m} {s = rest} e p c d) =
-    let some = not_last-moves (round_pass w) e in
+pub pass-less : (w : WorldState) → Unit {0} → is_last_pass w (round_pass w) ≡ false → Unit {0} × (measure (round_pass w).world < measure w)
+pass-less w i e =
+    let some = some_moves (is_quiet (round_pass w).world) (nat_eq (round_pass w).value.moves 0) (round_pass w).value.moves refl e in
     let cost = pass-cost w in
-    let h = passes-bounded (round_pass w).world m rest p in
-    omega (arith, some, cost, h, c)
+    (tt, omega (arith, some, cost))
 
-passes-one : (w : WorldState) (n m : ℕ) (s t : Stretch) → RoundPasses n w s → RoundPasses m w t → s ≡ t
-passes-one w n m s t (RoundPasses.last_pass e) (RoundPasses.last_pass f) = refl
-passes-one w n m s t (RoundPasses.last_pass e) (RoundPasses.another_pass f q c d) = absurd (true≢false (sym e ∙ f))
-passes-one w n m s t (RoundPasses.another_pass e p c d) (RoundPasses.last_pass f) = absurd (true≢false (sym f ∙ e))
-passes-one w n m s t (RoundPasses.another_pass {n = i} {s = a} e p c d) (RoundPasses.another_pass {n = j} {s = b} f q g h) =
-    d ∙ (ap (joined_stretch (round_pass w)) (passes-one (round_pass w).world i j a b p q) ∙ sym h)
-
-pub rounds-one : (w : WorldState) (s t : Stretch) → IsRound w s → IsRound w t → s ≡ t
-rounds-one w s t a b = passes-one (after_all w (expiries w)) a.passes b.passes s t a.through b.through
+pub round-ends : RoundEnds
+round-ends w =
+    let u : WorldState = (after_all w (expiries w)) in
+    let a = calm-measure w u (row-along along-calm (expiries-row {Q = IsCalm} (λ h peer. tt) w)) in
+    up_to-repeats moved_both unmoved is_last_pass round_pass (λ v. Unit {0}) measure pass-less (pass_bound w) u tt (omega (arith, a))

@@ -1,21 +1,26 @@
 -- Resets come only where links are stuck: where something keeps them from that throughout, a settle has none.
-use Rattle.std.proofs.Common.{◌≡◌, ◌↔◌, ◌+◌, ℕ, true, false, List, [], ◌∷◌, map, ⊎_elim, Option, Some, None, is_none, refl, sym, ◌∙◌, ap, arith, true≢false}
-use Rattle.std.specs.List.{list_all}
+use Rattle.std.proofs.Common.{◌≡◌, ◌↔◌, ◌+◌, ℕ, true, false, List, [], ◌∷◌, ◌++◌, map, length, ◌⊎◌, inl, inr, ⊎_elim, Option, Some, None, is_none, refl, sym, ◌∙◌, subst, arith, true≢false}
+use Rattle.std.specs.List.{AllByRecursion, list_all, range_with_len}
 use Rattle.link_defs.specs.Links.{Held, is_idle}
 use Rattle.link_defs.specs.Hops.{is_stuck}
 use Rattle.world_defs.specs.declared.event.Event.{Event}
-use Rattle.world_defs.specs.declared.event.Event.TheVariants.{Inject, Replay, GiveUp}
+use Rattle.world_defs.specs.declared.event.Event.TheVariants.{Inject, Replay, Reset, GiveUp}
 use Rattle.world_defs.specs.World.{WorldState, addresses}
 use Rattle.world_defs.specs.Step.{step, steps, after_all}
-use Rattle.world_defs.specs.Drain.{drain, clear}
-use Rattle.world_defs.specs.Settle.{Stretch, replay_each, serials, round_pass, Rounds, expiries}
+use Rattle.world_defs.specs.Drain.{resets_of}
+use Rattle.world_defs.specs.Settle.{serials, expiries, pass_bound, is_last_round, round_bound}
+use Rattle.world_defs.specs.Log.{Log}
+use Rattle.world_defs.specs.Logs.{Moved, Rounds, drain, clear, cleared, moved_both, unmoved, round_pass, is_last_pass, round, rounds_both, one_round, settle}
+use Rattle.world_laws.proofs.Repeating.{no_rounds}
 use Rattle.world_laws.specs.Draining.{full_count}
-use Rattle.world_laws.specs.Reached.{IsOfSettle, IsReachedBy}
-use Rattle.world_laws.specs.Settling.{RoundPasses, IsRound, AllRounds, Settles}
-use Rattle.world_laws.proofs.Along.{Along, all-map, steps-along, after_all-along, drain-along, clear-along, expiries-along, round_pass-along, round-along}
+use Rattle.world_defs.specs.Row.{IsRow}
+use Rattle.world_laws.specs.Reached.{IsOfSettle, EachStep, NeverStuckHasNoResets}
+use Rattle.world_defs.proofs.LogRows.{all-map, row-none, row-both, row-of, clear-row, expiries-row, given_up-row}
+use Rattle.world_laws.proofs.Along.{Along, row-along}
 use Rattle.world_laws.proofs.Draining.{drain-still}
 use Rattle.world_laws.proofs.Clearing.{clear-resets, empty-count}
-use Rattle.world_laws.proofs.Reached.{reached_both, along-reached, settles-of}
+use Rattle.world_laws.proofs.Reached.{settles-of, drain-is_row}
+use Rattle.world_laws.proofs.Repeating.{Chains, each-chain, up_to-chain}
 
 count-empty : (ps : List (Option Held)) → full_count ps ≡ 0 → list_all is_none ps ≡ true
 count-empty [] e = refl
@@ -23,79 +28,98 @@ count-empty (None ∷ ps) e = count-empty ps e
 count-empty (Some held ∷ ps) e = absurd (omega (arith, e))
 
 -- a clear has no resets exactly where the drain left the links idle
-pub no_resets-idle : (w : WorldState) → (clear w).0 ≡ 0 ↔ is_idle (drain w).1.links ≡ true
-no_resets-idle w = ((λ e. count-empty (drain w).1.links.channels (sym (clear-resets w) ∙ e)), (λ e. clear-resets w ∙ empty-count (drain w).1.links.channels e))
+pub no_resets-idle : (w : WorldState) → (clear w).value ≡ 0 ↔ is_idle (drain w).world.links ≡ true
+no_resets-idle w = ((λ e. count-empty (drain w).world.links.channels (sym (clear-resets w) ∙ e)), (λ e. clear-resets w ∙ empty-count (drain w).world.links.channels e))
 
--- What holds of a world and stays so at every event of a settle, and where it holds links aren't stuck.
-pub record KeepsFlowing (P : WorldState → Type 0) : Type 0 where
-  pub event : (w : WorldState) (e : Event) → IsOfSettle e → P w → P (step w e).1
-  pub flows : (w : WorldState) → P w → is_stuck w.links ≡ false
+-- what holds at each step of events holds at each of those in front, and at each of those behind
+pub front-steps : (P : WorldState → Event → Type 0) (w : WorldState) (es ds : List Event) → EachStep P w (es ++ ds) → EachStep P w es
+front-steps P w [] ds all = tt
+front-steps P w (e ∷ es) ds all = (all.0, front-steps P (step w e).1 es ds all.1)
 
-along-flowing : (P : WorldState → Type 0) → KeepsFlowing P → Along (λ w v. P w → P v) IsOfSettle
-along-flowing P k = record { same = λ w p. p; both = λ u v w f g p. g (f p); event = k.event }
+behind : (P : WorldState → Event → Type 0) (w : WorldState) (es ds : List Event) → EachStep P w (es ++ ds) → EachStep P (after_all w es) ds
+behind P w [] ds all = all
+behind P w (e ∷ es) ds all = behind P (step w e).1 es ds all.1
 
-pub clear-flows : (P : WorldState → Type 0) → KeepsFlowing P → (w : WorldState) → P w → ((clear w).0 ≡ 0) × P (clear w).1
-clear-flows P k w p =
-    let g = along-flowing P k in
-    let v : WorldState = (drain w).1 in
-    let there : P v = drain-along (λ w v. P w → P v) IsOfSettle g settles-of.clears.advance w p in
-    let idle : is_idle v.links ≡ true = ⊎_elim (λ e. e) (λ e. absurd (true≢false (sym e ∙ k.flows v there))) (drain-still w) in
-    ((no_resets-idle w).1 idle, clear-along (λ w v. P w → P v) IsOfSettle g settles-of.clears w p)
+pub behind-steps : {Q : Event → Type 0} (P : WorldState → Event → Type 0) {w v : WorldState} {es : List Event} → IsRow Q w es v → (ds : List Event) → EachStep P w (es ++ ds) → EachStep P v ds
+behind-steps P {w = w} {es = es} r ds all = subst (λ v. EachStep P v ds) (sym r.there) (behind P w es ds all)
 
-replay_each-flows : (P : WorldState → Type 0) → KeepsFlowing P → (ss : List ℕ) (w : WorldState) → P w → (replay_each ss w).resets ≡ 0
-replay_each-flows P k [] w p = refl
-replay_each-flows P k (s ∷ ss) w p =
-    let u : WorldState = (step w (Replay s)).1 in
-    let here = clear-flows P k u (k.event w (Replay s) tt p) in
-    let a : (clear u).0 ≡ 0 = here.0 in
-    let rest : (replay_each ss (clear u).1).resets ≡ 0 = replay_each-flows P k ss (clear u).1 here.1 in
-    omega (arith, a, rest)
+-- What each event of a settle keeps, and what holds at each step of a clear without resets.
+pub record Unreset (I : WorldState → Type 0) (P : WorldState → Event → Type 0) : Type 0 where
+  pub event : (w : WorldState) (e : Event) → IsOfSettle e → I w → I (step w e).1
+  pub clears : (w : WorldState) → I w → EachStep P w (clear w).events → (clear w).value ≡ 0
 
-round_pass-flows : (P : WorldState → Type 0) → KeepsFlowing P → (w : WorldState) → P w → (round_pass w).resets ≡ 0
+abbrev kept : {I : WorldState → Type 0} {P : WorldState → Event → Type 0} → Unreset I P → Along (λ w v. I w → I v) IsOfSettle
+kept k = record { same = λ w i. i; both = λ u v w f g i. g (f i); event = k.event }
+
+-- events of a settle with so many resets, of which there are none where that holds
+pub record Quiet (I : WorldState → Type 0) (P : WorldState → Event → Type 0) (w : WorldState) (es : List Event) (resets : ℕ) (v : WorldState) : Type 0 where
+  pub row : IsRow IsOfSettle w es v
+  pub unreset : I w → EachStep P w es → resets ≡ 0
+
+quiet-both : {I : WorldState → Type 0} {P : WorldState → Event → Type 0} {u v w : WorldState} {es ds : List Event} {a b : ℕ} → Unreset I P → Quiet I P u es a v → Quiet I P v ds b w → Quiet I P u (es ++ ds) (a + b) w
+quiet-both {P = P} {u = u} {es = es} {ds = ds} {a = a} {b = b} k q r = record {
+  row = row-both q.row r.row;
+  unreset = λ i all.
+      let x : a ≡ 0 = q.unreset i (front-steps P u es ds all) in
+      let y : b ≡ 0 = r.unreset (row-along (kept k) q.row i) (behind-steps P q.row ds all) in
+      omega (arith, x, y);
+}
+
+quiet-front : {I : WorldState → Type 0} {P : WorldState → Event → Type 0} {u v w : WorldState} {es ds : List Event} {b : ℕ} → Unreset I P → IsRow IsOfSettle u es v → Quiet I P v ds b w → Quiet I P u (es ++ ds) b w
+quiet-front {P = P} {ds = ds} k q r = record { row = row-both q r.row; unreset = λ i all. r.unreset (row-along (kept k) q i) (behind-steps P q ds all) }
+
+clear-quiet : {I : WorldState → Type 0} {P : WorldState → Event → Type 0} → Unreset I P → (w : WorldState) → Quiet I P w (clear w).events (clear w).value (clear w).world
+clear-quiet k w = record { row = clear-row settles-of.clears w; unreset = k.clears w }
+
+abbrev QuietMoves : (WorldState → Type 0) → (WorldState → Event → Type 0) → WorldState → Log Moved → Type 0
+QuietMoves I P w l = Quiet I P w l.events l.value.resets l.world
+
+abbrev QuietRounds : (WorldState → Type 0) → (WorldState → Event → Type 0) → WorldState → Log Rounds → Type 0
+QuietRounds I P w l = Quiet I P w l.events l.value.resets l.world
+
+chain-moves : {I : WorldState → Type 0} {P : WorldState → Event → Type 0} → Unreset I P → Chains moved_both unmoved (QuietMoves I P)
+chain-moves k = record { same = λ w. record { row = row-none; unreset = λ i all. refl }; both = λ w l m q r. quiet-both k q r }
+
+chain-rounds : {I : WorldState → Type 0} {P : WorldState → Event → Type 0} → Unreset I P → Chains rounds_both no_rounds (QuietRounds I P)
+chain-rounds k = record { same = λ w. record { row = row-none; unreset = λ i all. refl }; both = λ w l m q r. quiet-both k q r }
+
+cleared-quiet : {I : WorldState → Type 0} {P : WorldState → Event → Type 0} → Unreset I P → (es : List Event) → AllByRecursion IsOfSettle es → (w : WorldState) → QuietMoves I P w (cleared es w)
+cleared-quiet k es q w = quiet-front k (row-of w es q) (clear-quiet k (steps w es).1)
+
+round_pass-quiet : {I : WorldState → Type 0} {P : WorldState → Event → Type 0} → Unreset I P → (w : WorldState) → QuietMoves I P w (round_pass w)
 unfolding round_pass
-round_pass-flows P k w p =
-    let g = along-flowing P k in
-    let t : WorldState = after_all w (map GiveUp (addresses w)) in
-    let u : WorldState = (steps t (map Inject (addresses w))).1 in
-    let at : P t = after_all-along (λ w v. P w → P v) IsOfSettle g w (map GiveUp (addresses w)) (all-map IsOfSettle GiveUp (λ h. tt) (addresses w)) p in
-    let then : P u = steps-along (λ w v. P w → P v) IsOfSettle g t (map Inject (addresses w)) (all-map IsOfSettle Inject (λ h. tt) (addresses w)) at in
-    let here = clear-flows P k u then in
-    let a : (clear u).0 ≡ 0 = here.0 in
-    let rest : (replay_each (serials (clear u).1) (clear u).1).resets ≡ 0 = replay_each-flows P k (serials (clear u).1) (clear u).1 here.1 in
-    omega (arith, a, rest)
+round_pass-quiet {I = I} {P = P} k w =
+    let v : WorldState = (after_all w (map GiveUp (addresses w))) in
+    let u : WorldState = (cleared (map Inject (addresses w)) v).world in
+    quiet-front k (given_up-row settles-of.give_up w) (quiet-both k (cleared-quiet k (map Inject (addresses w)) (all-map IsOfSettle Inject settles-of.inject (addresses w)) v)
+    (each-chain moved_both unmoved (QuietMoves I P) (chain-moves k) (λ s. cleared (Replay s ∷ [])) (λ s. cleared-quiet k (Replay s ∷ []) (tt, tt)) (serials u) u))
 
-passes-flow : (P : WorldState → Type 0) → KeepsFlowing P → (n : ℕ) (w : WorldState) (s : Stretch) → RoundPasses n w s → P w → s.resets ≡ 0
-passes-flow P k n w s (RoundPasses.last_pass e) p = round_pass-flows P k w p
-passes-flow P k n w s (RoundPasses.another_pass {n = m} {s = rest} e q c d) p =
-    let here : (round_pass w).resets ≡ 0 = round_pass-flows P k w p in
-    let next : P (round_pass w).world = round_pass-along (λ w v. P w → P v) IsOfSettle (along-flowing P k) settles-of w p in
-    let after : rest.resets ≡ 0 = passes-flow P k m (round_pass w).world rest q next in
-    let whole : s.resets ≡ (round_pass w).resets + rest.resets = ap (λ t. t.resets) d in
-    omega (arith, here, after, whole)
+round-quiet : {I : WorldState → Type 0} {P : WorldState → Event → Type 0} → Unreset I P → (w : WorldState) → QuietMoves I P w (round w)
+unfolding round
+round-quiet {I = I} {P = P} k w = quiet-front k (expiries-row settles-of.expire w) (up_to-chain moved_both unmoved (QuietMoves I P) (chain-moves k) is_last_pass round_pass (round_pass-quiet k) (pass_bound w) (after_all w (expiries w)))
 
-round-flows : (P : WorldState → Type 0) → KeepsFlowing P → (w : WorldState) (s : Stretch) → IsRound w s → P w → s.resets ≡ 0
-round-flows P k w s r p = passes-flow P k r.passes (after_all w (expiries w)) s r.through (expiries-along (λ w v. P w → P v) IsOfSettle (along-flowing P k) settles-of.expire w p)
+settle-quiet : {I : WorldState → Type 0} {P : WorldState → Event → Type 0} → Unreset I P → (w : WorldState) → QuietRounds I P w (settle w)
+unfolding settle
+settle-quiet {I = I} {P = P} k w =
+    let v : WorldState = (clear w).world in
+    quiet-both k (clear-quiet k w) (up_to-chain rounds_both no_rounds (QuietRounds I P) (chain-rounds k) (λ before p. is_last_round before p.world) one_round (λ u. let q = round-quiet k u in record { row = q.row; unreset = q.unreset }) (round_bound v) v)
 
-rounds-flow : (P : WorldState → Type 0) → KeepsFlowing P → (w : WorldState) (r : Rounds) → AllRounds w r → P w → r.resets ≡ 0
-rounds-flow P k w r (AllRounds.last_round {s = s} one e) p = round-flows P k w s one p
-rounds-flow P k w r (AllRounds.another_round {s = s} {r = rest} one e more d) p =
-    let here : s.resets ≡ 0 = round-flows P k w s one p in
-    let next : P s.world = round-along (λ w v. P w → P v) IsOfSettle (along-flowing P k) settles-of w s one p in
-    let after : rest.resets ≡ 0 = rounds-flow P k s.world rest more next in
-    let whole : r.resets ≡ s.resets + rest.resets = ap (λ t. t.resets) d in
-    omega (arith, here, after, whole)
+pub settle-unreset : {I : WorldState → Type 0} {P : WorldState → Event → Type 0} → Unreset I P → (w : WorldState) → I w → EachStep P w (settle w).events → (settle w).value.resets ≡ 0
+settle-unreset k w i all = (settle-quiet k w).unreset i all
 
-pub settles-flow : (P : WorldState → Type 0) → KeepsFlowing P → (w : WorldState) (r : Rounds) → Settles w r → P w → r.resets ≡ 0
-settles-flow P k w r s p =
-    let here = clear-flows P k w p in
-    let a : (clear w).0 ≡ 0 = here.0 in
-    let after : s.rest.resets ≡ 0 = rounds-flow P k (clear w).1 s.rest s.rounds here.1 in
-    let whole : r.resets ≡ (clear w).0 + s.rest.resets = ap (λ t. t.resets) s.whole in
-    omega (arith, a, after, whole)
+-- where no world along the way is stuck
+abbrev NotStuck : WorldState → Event → Type 0
+NotStuck v e = is_stuck v.links ≡ false
 
--- where no world that is reached is stuck
-pub never_stuck-resets : (w : WorldState) (r : Rounds) → Settles w r → ((v : WorldState) → IsReachedBy IsOfSettle w v → is_stuck v.links ≡ false) → r.resets ≡ 0
-never_stuck-resets w r s f =
-    let g = along-reached IsOfSettle in
-    let k : KeepsFlowing (IsReachedBy IsOfSettle w) = record { event = λ v e q p. reached_both IsOfSettle w v (step v e).1 p (g.event v e q); flows = f } in
-    settles-flow (IsReachedBy IsOfSettle w) k w r s (g.same w)
+at-resets : (v : WorldState) (ps : List (Option Held)) → EachStep NotStuck v (map Reset (range_with_len 0 (length ps))) → (is_stuck v.links ≡ false) ⊎ (full_count ps ≡ 0)
+at-resets v [] all = inr refl
+at-resets v (p ∷ ps) all = inl all.0
+
+clear-never_stuck : (w : WorldState) → EachStep NotStuck w (clear w).events → (clear w).value ≡ 0
+unfolding clear
+clear-never_stuck w all =
+    let v : WorldState = (drain w).world in
+    ⊎_elim (λ flows. (no_resets-idle w).1 (⊎_elim (λ e. e) (λ e. absurd (true≢false (sym e ∙ flows))) (drain-still w))) (λ none. clear-resets w ∙ none) (at-resets v v.links.channels (behind-steps NotStuck (drain-is_row w) (resets_of v) all))
+
+pub never_stuck-resets : NeverStuckHasNoResets
+never_stuck-resets w all = settle-unreset {I = λ v. Unit {0}} {P = NotStuck} (record { event = λ v e q i. tt; clears = λ v i steps. clear-never_stuck v steps }) w tt all

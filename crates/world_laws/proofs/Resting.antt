@@ -1,18 +1,26 @@
 -- Links without packets: a drain and a clear leave them alone, and a settle leaves such.
-use Rattle.std.proofs.Common.{◌≡◌, ℕ, zero, suc, true, false, List, [], ◌∷◌, map, get_or, Option, Some, None, is_some, is_none, refl, sym, ◌∙◌, ap, arith, true≢false}
+use Rattle.std.proofs.Common.{◌≡◌, ℕ, zero, suc, nat_eq, if◌then◌else◌, ◌++◌, true, false, List, [], ◌∷◌, map, get_or, Option, Some, None, is_some, is_none, refl, sym, ◌∙◌, ap, arith, true≢false}
 use Rattle.std.specs.List.{list_all}
 use Rattle.link_defs.specs.Links.{Held, packet_in, is_idle}
 use Rattle.link_defs.specs.Advance.{advance_of, advance}
 use Rattle.link_defs.specs.Hops.{changes as moves}
 use Rattle.world_defs.specs.declared.event.Event.TheVariants.{Inject, Advance, Replay, Reset, GiveUp}
+use Rattle.world_defs.specs.Logs.{Moved}
 use Rattle.world_defs.specs.World.{WorldState, addresses}
 use Rattle.world_defs.specs.Step.{step, steps, after_all}
-use Rattle.world_defs.specs.Drain.{changes, channels_of, pass, drain, Drains, clear_drained, clear}
-use Rattle.world_defs.specs.Settle.{Stretch, replay_each, serials, round_pass, Rounds, expiries}
-use Rattle.world_laws.specs.Settling.{RoundPasses, IsRound, AllRounds, Settles}
+use Rattle.world_defs.specs.Drain.{changes, channels_of, resets_of}
+use Rattle.world_defs.specs.Settle.{serials, round_bound, is_last_round}
+use Rattle.world_defs.specs.Log.{Log, still}
+use Rattle.world_defs.specs.Logs.{pass, is_still, drain_pass, drain, clear, cleared, moved_both, unmoved, round_pass, is_last_pass, round, one_round, rounds, rounds_both, settle}
+use Rattle.world_laws.specs.Repeats.{Repeats}
+use Rattle.world_laws.specs.Draining.{IdleIsDrained, IdleIsCleared}
+use Rattle.world_laws.specs.Settling.{SettledIsIdle}
 use Rattle.world_laws.proofs.Idling.{step-idle}
-use Rattle.world_laws.proofs.Draining.{changes-push, advance-changed, advance-world, drain-drains, drains-one}
+use Rattle.world_laws.proofs.Draining.{changes-push, advance-changed, advance-world, drain-drains}
 use Rattle.world_laws.proofs.Clearing.{reset-changed, clear-idle}
+use Rattle.world_laws.proofs.Repeating.{Chains, each-chain, repeats-one, repeats-end}
+use Rattle.world_laws.proofs.Passes.{round-ends}
+use Rattle.world_laws.proofs.Rounds.{settle-ends}
 
 -- every channel of idle links is empty
 idle-empty : (ps : List (Option Held)) → list_all is_none ps ≡ true → (c : ℕ) → get_or ps c None ≡ None
@@ -31,13 +39,11 @@ advances-none w (c ∷ cs) e =
     let a = changes-push (step w (Advance c)).0 (steps next (map Advance cs)).0 false (advance-changed w c ∙ still) in
     omega (arith, a, rest)
 
-pass-none : (w : WorldState) → is_idle w.links ≡ true → changes (pass w).0 ≡ 0
-unfolding pass
-pass-none w e = advances-none w (channels_of w) e
-
-pub idle-drain : (w : WorldState) → is_idle w.links ≡ true → drain w ≡ ([], w)
+pub idle-drain : IdleIsDrained
 idle-drain w e =
-    let h = drains-one w (drain w).1 w (drain w).0 [] (drain-drains w) (Drains.at_rest (pass-none w e)) in λ i. (h.0 i, h.1 i)
+    let none : is_still (pass w).value ≡ true = ap (λ n. nat_eq n 0) (advances-none w (channels_of w) e) in
+    let same : drain_pass w ≡ still [] w = ap (λ b. if b then still [] w else pass w) none in
+    repeats-one (λ xs ys. xs ++ ys) (λ before p. is_still p.value) drain_pass w (drain w) (drain_pass w) (drain-drains w) (Repeats.last (ap (λ l. is_still l.value) same)) ∙ same
 
 record NoResets (w : WorldState) (cs : List ℕ) : Type 0 where
   count : changes (steps w (map Reset cs)).0 ≡ 0
@@ -55,36 +61,30 @@ resets-none w (c ∷ cs) e =
     let a = changes-push (step w (Reset c)).0 (steps next (map Reset cs)).0 false (reset-changed w c ∙ ap is_some none) in
     record { count = omega (arith, a, after); world = ap (λ v. (steps v (map Reset cs)).1) same ∙ rest.world }
 
-pub idle-clear : (w : WorldState) → is_idle w.links ≡ true → clear w ≡ (0, w)
+pub idle-clear : IdleIsCleared
 unfolding clear
 idle-clear w e =
     let h = resets-none w (channels_of w) e in
-    let rest : clear_drained ([], w) ≡ (0, w) = λ i. (h.count i, h.world i) in
-    ap clear_drained (idle-drain w e) ∙ rest
+    let same : (drain w).world ≡ w = ap (λ l. l.world) (idle-drain w e) in
+    (ap (λ v. changes (steps v (resets_of v)).0) same ∙ h.count, ap (λ v. (steps v (resets_of v)).1) same ∙ h.world)
 
 -- each pass of a settle ends with a clear
-replay_each-idle : (ss : List ℕ) (w : WorldState) → is_idle w.links ≡ true → is_idle (replay_each ss w).world.links ≡ true
-replay_each-idle [] w e = e
-replay_each-idle (s ∷ ss) w e =
-    let u : WorldState = (step w (Replay s)).1 in
-    replay_each-idle ss (clear u).1 (clear-idle u)
+abbrev Idle : WorldState → Log Moved → Type 0
+Idle w l = is_idle w.links ≡ true → is_idle l.world.links ≡ true
+
+chain-idle : Chains moved_both unmoved Idle
+chain-idle = record { same = λ w e. e; both = λ w l m f g e. g (f e) }
 
 round_pass-idle : (w : WorldState) → is_idle (round_pass w).world.links ≡ true
 unfolding round_pass
 round_pass-idle w =
-    let u : WorldState = (steps (after_all w (map GiveUp (addresses w))) (map Inject (addresses w))).1 in
-    replay_each-idle (serials (clear u).1) (clear u).1 (clear-idle u)
+    let u : WorldState = (cleared (map Inject (addresses w)) (after_all w (map GiveUp (addresses w)))).world in
+    each-chain moved_both unmoved Idle chain-idle (λ s. cleared (Replay s ∷ [])) (λ s v e. clear-idle (step v (Replay s)).1) (serials u) u (clear-idle (steps (after_all w (map GiveUp (addresses w))) (map Inject (addresses w))).1)
 
-passes-idle : (n : ℕ) (w : WorldState) (s : Stretch) → RoundPasses n w s → is_idle s.world.links ≡ true
-passes-idle n w s (RoundPasses.last_pass e) = round_pass-idle w
-passes-idle n w s (RoundPasses.another_pass {n = m} {s = rest} e p c d) = ap (λ t. is_idle t.world.links) d ∙ passes-idle m (round_pass w).world rest p
+round-idle : (w : WorldState) → is_idle (round w).world.links ≡ true
+unfolding round
+round-idle w = repeats-end moved_both is_last_pass round_pass (λ v. is_idle v.links ≡ true) (λ v e. round_pass-idle v) _ _ (round-ends w)
 
-round-idle : (w : WorldState) (s : Stretch) → IsRound w s → is_idle s.world.links ≡ true
-round-idle w s r = passes-idle r.passes (after_all w (expiries w)) s r.through
-
-rounds-idle : (w : WorldState) (r : Rounds) → AllRounds w r → is_idle r.world.links ≡ true
-rounds-idle w r (AllRounds.last_round {s = s} one e) = round-idle w s one
-rounds-idle w r (AllRounds.another_round {s = s} {r = rest} one e more d) = ap (λ t. is_idle t.world.links) d ∙ rounds-idle s.world rest more
-
-pub settles-idle : (w : WorldState) (r : Rounds) → Settles w r → is_idle r.world.links ≡ true
-settles-idle w r s = ap (λ t. is_idle t.world.links) s.whole ∙ rounds-idle (clear w).1 s.rest s.rounds
+pub settled-idle : SettledIsIdle
+unfolding settle
+settled-idle w is = repeats-end rounds_both (λ before p. is_last_round before p.world) one_round (λ v. is_idle v.links ≡ true) (λ v e. round-idle v) (clear w).world (rounds (round_bound (clear w).world) (clear w).world) (settle-ends w is)

@@ -1,22 +1,27 @@
 -- The rounds of a settle end: each but the last lowers the fragments that aren't acknowledged, or the faults that are planned.
-use Rattle.std.proofs.Common.{◌≡◌, ◌<◌, ◌≤◌, ◌+◌, ℕ, zero, suc, Bool, true, false, not, ◌||◌, List, [], ◌∷◌, map, length, nat_eq, nat_lt, inl, inr, refl, sym, ◌∙◌, ap, subst, arith, true≢false, if◌then◌else◌}
+use Rattle.std.proofs.Common.{◌≡◌, ◌<◌, ◌≤◌, ◌+◌, ℕ, Bool, true, false, not, ◌||◌, List, [], ◌∷◌, map, length, nat_eq, nat_lt, inl, inr, refl, sym, ◌∙◌, ap, arith, true≢false}
 use Rattle.std.specs.List.{range_with_len, list_any}
 use Rattle.std.proofs.lemmas.Bool.Decides.{nat_tests}
 use Rattle.link_defs.specs.Step.{stepped}
 use Rattle.world_defs.specs.Node.{lane_of, lane_at, unacknowledged_on, unacknowledged_to}
 use Rattle.world_defs.specs.World.{WorldState, node_at, with_node, with_links, with_drop, addresses, sum_of}
 use Rattle.world_defs.specs.Step.{planned_strikes, sent_out}
-use Rattle.world_defs.specs.Drain.{clear}
-use Rattle.world_defs.specs.Settle.{unacknowledged_from, unacknowledged_in, Stretch, round, base_of, rose_to, base_rose, has_helped, is_last_round, Rounds, one_round, after_round, rounds_of, round_bound, behind_clear, settle}
+use Rattle.world_defs.specs.Settle.{unacknowledged_from, unacknowledged_in, base_of, rose_to, base_rose, has_helped, is_last_round, round_bound}
+use Rattle.world_defs.specs.Log.{Log}
+use Rattle.world_defs.specs.Logs.{Rounds, clear, round, rounds_both, one_round, rounds, settle}
+use Rattle.world_laws.specs.Repeats.{Repeats}
+use Rattle.world_laws.proofs.Repeating.{no_rounds}
 use Rattle.world_laws.specs.Shape.{HasSenders}
-use Rattle.world_laws.specs.Settling.{IsRound, AllRounds, Settles}
+use Rattle.world_laws.specs.Settling.{AllRounds, SettleEnds, RoundsAreBounded, ClearRaisesNothing}
+use Rattle.world_laws.proofs.Repeating.{up_to-repeats}
 use Rattle.world_laws.proofs.Lists.{or-cases}
 use Rattle.world_laws.proofs.Nodes.{node_after}
 use Rattle.world_laws.proofs.Strikes.{Strikes, planned_strikes-kept}
 use Rattle.world_laws.proofs.Leaves.{Follows, IsNoCall, quiet-leaves}
 use Rattle.world_laws.proofs.Shapes.{NodesKept, nodes_same, with_node-kept, struck_nodes, made_senders, SentOut, sent_out-kept}
-use Rattle.world_laws.proofs.Along.{Along, Clears, SettlesBy, clear-along, round-along}
-use Rattle.world_laws.proofs.Passes.{clear-plan, round-is, rounds-one}
+use Rattle.world_defs.proofs.LogRows.{Clears, SettlesBy, clear-row, round-row}
+use Rattle.world_laws.proofs.Along.{Along, row-along}
+use Rattle.world_laws.proofs.Passes.{clear-plan}
 
 -- what an event that is no client's call leaves: no fragment more, and a fault that struck is planned no more
 pub record Going (w v : WorldState) : Type 0 where
@@ -168,68 +173,41 @@ pub not_last-less : (w v : WorldState) → Going w v → HasSenders w → is_las
 not_last-less w v k is e =
     helped-less w v k (going_senders w v k is) (helped_if (nat_eq (unacknowledged_in v) 0) (has_helped w v) e)
 
-pub round_going : (w : WorldState) (s : Stretch) → IsRound w s → Going w s.world
-round_going w s r = round-along Going IsNoCall along-going settles-no_call w s r
+pub round_going : (w : WorldState) → Going w (round w).world
+round_going w = row-along along-going (round-row settles-no_call w)
 
-rounds-end : (k : ℕ) (w : WorldState) → HasSenders w → left_over w < k → AllRounds w (rounds_of k w)
-rounds-end zero w is low = absurd (omega (arith, low))
-rounds-end (suc k) w is low = by (is_last_round w (round w).world) refl (rounds-end k (round w).world)
-  where
-    by : (t : Bool) → is_last_round w (round w).world ≡ t → (HasSenders (round w).world → left_over (round w).world < k → AllRounds (round w).world (rounds_of k (round w).world)) → AllRounds w (if t then one_round (round w) else after_round (round w) (rounds_of k (round w).world))
-    by true e ih = AllRounds.last_round (round-is w) e
-    by false e ih =
-        let g : Going w (round w).world = round_going w (round w) (round-is w) in
-        let less = not_last-less w (round w).world g is e in
-        AllRounds.another_round (round-is w) e (ih (going_senders w (round w).world g is) (omega (arith, less, low))) refl
+round-less : (w : WorldState) → HasSenders w → is_last_round w (round w).world ≡ false → HasSenders (round w).world × (left_over (round w).world < left_over w)
+round-less w is e = (going_senders w (round w).world (round_going w) is, not_last-less w (round w).world (round_going w) is e)
 
-rounds-bounded : (w : WorldState) (r : Rounds) → HasSenders w → AllRounds w r → (1 ≤ r.rounds) × (r.rounds ≤ left_over w + 1)
-rounds-bounded w r is (AllRounds.last_round one e) = (omega arith, omega arith)
-rounds-bounded w r is (AllRounds.another_round {s = s} {r = rest} one e more d) =
-    let g : Going w s.world = round_going w s one in
-    let less = not_last-less w s.world g is e in
-    let h = rounds-bounded s.world rest (going_senders w s.world g is) more in
+clear_going : (w : WorldState) → Going w (clear w).world
+clear_going w = row-along along-going (clear-row clears-no_call w)
+
+pub clear-raises : ClearRaisesNothing
+clear-raises w = (fragments-fewer w (clear w).world (clear_going w), clear-plan w)
+
+pub settle-ends : SettleEnds
+settle-ends w is =
+    let v : WorldState = (clear w).world in
+    up_to-repeats rounds_both no_rounds (λ before p. is_last_round before p.world) one_round HasSenders left_over round-less (round_bound v) v (going_senders w v (clear_going w) is) (omega arith)
+
+rounds-bounded : (w : WorldState) (l : Log Rounds) → HasSenders w → AllRounds w l → (1 ≤ l.value.rounds) × (l.value.rounds ≤ left_over w + 1)
+rounds-bounded w l is (Repeats.last e) = (omega arith, omega arith)
+rounds-bounded w l is (Repeats.another {l = rest} e p d) =
+    let less = round-less w is e in
+    let lower = less.1 in
+    let h = rounds-bounded (round w).world rest less.0 p in
     let a = h.0 in
     let b = h.1 in
-    let c : r.rounds ≡ rest.rounds + 1 = ap (λ t. t.rounds) d in
-    (omega (arith, a, c), omega (arith, b, c, less))
+    let c : l.value.rounds ≡ 1 + rest.value.rounds = ap (λ x. x.value.rounds) d in
+    (omega (arith, a, c), omega (arith, b, c, lower))
 
-rounds-agree : (w : WorldState) (r t : Rounds) → AllRounds w r → AllRounds w t → r ≡ t
-rounds-agree w r t (AllRounds.last_round {s = a} one e) (AllRounds.last_round {s = b} two f) = ap one_round (rounds-one w a b one two)
-rounds-agree w r t (AllRounds.last_round {s = a} one e) (AllRounds.another_round {s = b} two f more d) =
-    absurd (true≢false (sym e ∙ (ap (λ s. is_last_round w s.world) (rounds-one w a b one two) ∙ f)))
-rounds-agree w r t (AllRounds.another_round {s = a} one e more d) (AllRounds.last_round {s = b} two f) =
-    absurd (true≢false (sym f ∙ (ap (λ s. is_last_round w s.world) (rounds-one w b a two one) ∙ e)))
-rounds-agree w r t (AllRounds.another_round {s = a} {r = i} one e more d) (AllRounds.another_round {s = b} {r = j} two f again g) =
-    let same : a ≡ b = rounds-one w a b one two in
-    let rest : i ≡ j = rounds-agree a.world i j more (subst (λ s. AllRounds s.world j) (sym same) again) in
-    d ∙ (ap (λ s. after_round s i) same ∙ (ap (after_round b) rest ∙ sym g))
-
--- the first clear
-clear_going : (w : WorldState) → Going w (clear w).1
-clear_going w = clear-along Going IsNoCall along-going clears-no_call w
-
-pub clear-raises : (w : WorldState) → (unacknowledged_in (clear w).1 ≤ unacknowledged_in w) × ((clear w).1.plan ≡ w.plan)
-clear-raises w = (fragments-fewer w (clear w).1 (clear_going w), clear-plan w)
-
-pub settle-settles : (w : WorldState) → HasSenders w → Settles w (settle w)
+pub settle-bounded : RoundsAreBounded
 unfolding settle
-settle-settles w is =
-    let v : WorldState = (clear w).1 in
-    record { rest = rounds_of (round_bound v) v; rounds = rounds-end (round_bound v) v (going_senders w v (clear_going w) is) (omega arith); whole = refl }
-
-pub settles-one : (w : WorldState) (r t : Rounds) → Settles w r → Settles w t → r ≡ t
-settles-one w r t a b =
-    let v : WorldState = (clear w).1 in
-    let same : a.rest ≡ b.rest = rounds-agree v a.rest b.rest a.rounds b.rounds in
-    a.whole ∙ (ap (behind_clear (clear w).0) same ∙ sym b.whole)
-
-pub settles-bounded : (w : WorldState) (r : Rounds) → HasSenders w → Settles w r → (1 ≤ r.rounds) × (r.rounds ≤ unacknowledged_in w + length w.plan + 1)
-settles-bounded w r is s =
-    let v : WorldState = (clear w).1 in
-    let h = rounds-bounded v s.rest (going_senders w v (clear_going w) is) s.rounds in
+settle-bounded w is =
+    let v : WorldState = (clear w).world in
+    let h = rounds-bounded v (rounds (round_bound v) v) (going_senders w v (clear_going w) is) (settle-ends w is) in
     let a = h.0 in
     let b = h.1 in
-    let c : r.rounds ≡ s.rest.rounds = ap (λ t. t.rounds) s.whole in
     let d = (clear-raises w).0 in
     let e : length v.plan ≡ length w.plan = ap length (clear-raises w).1 in
-    (omega (arith, a, c), omega (arith, b, c, d, e))
+    (omega (arith, a), omega (arith, b, d, e))

@@ -1,5 +1,5 @@
 -- What a drain and a clear come to.
-use Rattle.std.specs.Prelude.{◌≡◌, ◌↔◌, ◌⊎◌, ℕ, ◌+◌, ◌≤◌, true, List, [], ◌∷◌, Option, Some, None}
+use Rattle.std.specs.Prelude.{◌≡◌, ◌↔◌, ◌⊎◌, ℕ, ◌+◌, ◌≤◌, true, List, [], ◌∷◌, ◌++◌, Option, Some, None}
 use Rattle.link_defs.specs.Links.{Held, is_idle}
 use Rattle.link_defs.specs.Advance.{advance}
 use Rattle.link_defs.specs.Hops.{total_hops, is_stuck}
@@ -7,27 +7,34 @@ use Rattle.world_defs.specs.declared.event.Event.TheVariants.{Advance}
 use Rattle.world_defs.specs.declared.effect.Effect.{Effect}
 use Rattle.world_defs.specs.World.{WorldState}
 use Rattle.world_defs.specs.Step.{step}
-use Rattle.world_defs.specs.Drain.{changes, drain, Drains, clear}
+use Rattle.world_defs.specs.Drain.{changes}
+use Rattle.world_defs.specs.Log.{Log, still}
+use Rattle.world_defs.specs.Logs.{is_still, drain_pass, drain, clear}
+use Rattle.world_laws.specs.Repeats.{Repeats}
 
 -- an advance does to the links what it does to links without a world
 abbrev pub AdvanceOfLinks : Type 0
 AdvanceOfLinks = (w : WorldState) (c : ℕ) → (step w (Advance c)).1.links ≡ (advance w.links c).1
 
--- passes that change something, and then one that doesn't: a drain is that
-abbrev pub DrainDrains : Type 0
-DrainDrains = (w : WorldState) → Drains w (drain w).0 (drain w).1
+-- What a drain is: passes that change something, up to one that doesn't.
+abbrev pub Drains : WorldState → Log (List Effect) → Type 0
+Drains w l = Repeats (λ xs ys. xs ++ ys) (λ before p. is_still p.value) drain_pass w l
 
--- no other effects and no other world are a drain of the same world
+-- a drain is that
+abbrev pub DrainDrains : Type 0
+DrainDrains = (w : WorldState) → Drains w (drain w)
+
+-- there is one such drain
 abbrev pub DrainsAreOne : Type 0
-DrainsAreOne = (w u v : WorldState) (xs ys : List Effect) → Drains w xs u → Drains w ys v → (xs ≡ ys) × (u ≡ v)
+DrainsAreOne = (w : WorldState) (l m : Log (List Effect)) → Drains w l → Drains w m → l ≡ m
 
 -- a drain has no more changes than the packets have hops left
 abbrev pub ChangesAreHops : Type 0
-ChangesAreHops = (w : WorldState) → changes (drain w).0 ≤ total_hops w.links
+ChangesAreHops = (w : WorldState) → changes (drain w).value ≤ total_hops w.links
 
 -- after a drain the links are idle or stuck
 abbrev pub DrainedIsStill : Type 0
-DrainedIsStill = (w : WorldState) → (is_idle (drain w).1.links ≡ true) ⊎ (is_stuck (drain w).1.links ≡ true)
+DrainedIsStill = (w : WorldState) → (is_idle (drain w).world.links ≡ true) ⊎ (is_stuck (drain w).world.links ≡ true)
 
 -- how many channels hold a packet
 abbrev pub full_count : List (Option Held) → ℕ
@@ -37,20 +44,20 @@ full_count (Some held ∷ ps) = 1 + full_count ps
 
 -- after a clear the links are idle
 abbrev pub ClearedIsIdle : Type 0
-ClearedIsIdle = (w : WorldState) → is_idle (clear w).1.links ≡ true
+ClearedIsIdle = (w : WorldState) → is_idle (clear w).world.links ≡ true
 
 -- a clear resets each channel that held a packet after the drain, and no other
 abbrev pub ResetsAreFull : Type 0
-ResetsAreFull = (w : WorldState) → (clear w).0 ≡ full_count (drain w).1.links.channels
+ResetsAreFull = (w : WorldState) → (clear w).value ≡ full_count (drain w).world.links.channels
 
 -- where the links are idle, a drain does nothing
 abbrev pub IdleIsDrained : Type 0
-IdleIsDrained = (w : WorldState) → is_idle w.links ≡ true → drain w ≡ ([], w)
+IdleIsDrained = (w : WorldState) → is_idle w.links ≡ true → drain w ≡ still [] w
 
 -- where the links are idle, a clear does nothing
 abbrev pub IdleIsCleared : Type 0
-IdleIsCleared = (w : WorldState) → is_idle w.links ≡ true → clear w ≡ (0, w)
+IdleIsCleared = (w : WorldState) → is_idle w.links ≡ true → ((clear w).value ≡ 0) × ((clear w).world ≡ w)
 
 -- a clear has no resets exactly where the drain left the links idle, so where it didn't leave them stuck
 abbrev pub NoResetsIsIdle : Type 0
-NoResetsIsIdle = (w : WorldState) → (clear w).0 ≡ 0 ↔ is_idle (drain w).1.links ≡ true
+NoResetsIsIdle = (w : WorldState) → (clear w).value ≡ 0 ↔ is_idle (drain w).world.links ≡ true

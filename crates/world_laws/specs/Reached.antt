@@ -1,15 +1,13 @@
 -- A drain, a clear and a settle are events in a row: what holds after every list of events holds after each of them.
-use Rattle.std.specs.Prelude.{◌≡◌, false, List}
-use Rattle.std.specs.List.{AllByRecursion}
+use Rattle.std.specs.Prelude.{◌≡◌, false, List, [], ◌∷◌}
 use Rattle.link_defs.specs.Hops.{is_stuck}
 use Rattle.world_defs.specs.declared.event.Event.{Event}
 use Rattle.world_defs.specs.declared.event.Event.TheVariants.{Inject, Advance, Replay, Reset, Expire, GiveUp}
 use Rattle.world_defs.specs.World.{WorldState, fabric_of}
-use Rattle.world_defs.specs.Step.{after_all}
-use Rattle.world_defs.specs.Drain.{drain, clear}
-use Rattle.world_defs.specs.Settle.{Rounds, settle}
+use Rattle.world_defs.specs.Step.{step}
+use Rattle.world_defs.specs.Logs.{drain, clear, settle}
+use Rattle.world_defs.specs.Row.{IsRow}
 use Rattle.world_laws.specs.Shape.{IsWorld, HasSenders}
-use Rattle.world_laws.specs.Settling.{Settles}
 
 -- the events of a drain
 abbrev pub IsOfDrain : Event → Type 0
@@ -32,33 +30,27 @@ IsOfSettle (Expire h peer) = Unit {0}
 IsOfSettle (GiveUp h) = Unit {0}
 IsOfSettle _ = ⊥
 
--- Events of a kind lead in a row from one world to another.
-pub record IsReachedBy (kind : Event → Type 0) (w v : WorldState) : Type 0 where
-  pub events : List Event
-  pub kinds : AllByRecursion kind events
-  pub there : v ≡ after_all w events
-
 -- a drain is advances in a row
-abbrev pub DrainIsEvents : Type 0
-DrainIsEvents = (w : WorldState) → IsReachedBy IsOfDrain w (drain w).1
+abbrev pub DrainIsRow : Type 0
+DrainIsRow = (w : WorldState) → IsRow IsOfDrain w (drain w).events (drain w).world
 
 -- a clear is advances and resets in a row
-abbrev pub ClearIsEvents : Type 0
-ClearIsEvents = (w : WorldState) → IsReachedBy IsOfClear w (clear w).1
+abbrev pub ClearIsRow : Type 0
+ClearIsRow = (w : WorldState) → IsRow IsOfClear w (clear w).events (clear w).world
 
 -- a settle is events of a settle in a row
-abbrev pub SettleIsEvents : Type 0
-SettleIsEvents = (w : WorldState) → IsReachedBy IsOfSettle w (settle w).world
+abbrev pub SettleIsRow : Type 0
+SettleIsRow = (w : WorldState) → IsRow IsOfSettle w (settle w).events (settle w).world
 
--- and so is whatever has the rounds and passes of one
-abbrev pub SettlesIsEvents : Type 0
-SettlesIsEvents = (w : WorldState) (r : Rounds) → Settles w r → IsReachedBy IsOfSettle w r.world
+-- what holds at each of these events, in the world before it
+abbrev pub EachStep : (WorldState → Event → Type 0) → WorldState → List Event → Type 0
+EachStep P w [] = Unit {0}
+EachStep P w (e ∷ es) = P w e × EachStep P (step w e).1 es
 
--- where no world that events of a settle reach is stuck, a settle has no resets
+-- where no world along a settle is stuck, it has no resets
 abbrev pub NeverStuckHasNoResets : Type 0
-NeverStuckHasNoResets =
-    (w : WorldState) (r : Rounds) → Settles w r → ((v : WorldState) → IsReachedBy IsOfSettle w v
-    → is_stuck v.links ≡ false) → r.resets ≡ 0
+NeverStuckHasNoResets = (w : WorldState) → EachStep (λ v e. is_stuck v.links ≡ false) w (settle w).events
+    → (settle w).value.resets ≡ 0
 
 -- What events keep: the fabric, a world, and the numbers of each connection in order.
 pub record IsKept (w v : WorldState) : Type 0 where
@@ -68,11 +60,11 @@ pub record IsKept (w v : WorldState) : Type 0 where
 
 -- a drain keeps them
 abbrev pub DrainKeeps : Type 0
-DrainKeeps = (w : WorldState) → IsKept w (drain w).1
+DrainKeeps = (w : WorldState) → IsKept w (drain w).world
 
 -- so does a clear
 abbrev pub ClearKeeps : Type 0
-ClearKeeps = (w : WorldState) → IsKept w (clear w).1
+ClearKeeps = (w : WorldState) → IsKept w (clear w).world
 
 -- so does a settle
 abbrev pub SettleKeeps : Type 0

@@ -1,14 +1,13 @@
 //! A drain, a clear and a settle are events in a row: `specs/Reached.antt` has the statements.
 
-ghost use Rattle.world_laws.specs.Reached.{DrainIsEvents, ClearIsEvents, SettleIsEvents, SettlesIsEvents};
-ghost use Rattle.world_laws.specs.Reached.{NeverStuckHasNoResets, DrainKeeps, ClearKeeps, SettleKeeps};
+ghost use Rattle.world_laws.specs.Reached.{DrainIsRow, ClearIsRow, SettleIsRow, NeverStuckHasNoResets};
+ghost use Rattle.world_laws.specs.Reached.{DrainKeeps, ClearKeeps, SettleKeeps};
 
 /// A drain, a clear and a settle are events of their kinds, in a row.
 pub fn rows_of_events()
-    ensures drain { DrainIsEvents }
-    ensures clear { ClearIsEvents }
-    ensures settle { SettleIsEvents }
-    ensures settles { SettlesIsEvents }
+    ensures drain { DrainIsRow }
+    ensures clear { ClearIsRow }
+    ensures settle { SettleIsRow }
 {}
 
 /// A settle resets a channel only where links were stuck in it.

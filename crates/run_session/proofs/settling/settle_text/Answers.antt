@@ -1,6 +1,6 @@
 use Rattle.std.proofs.Common.{◌∙◌}
-use Rattle.log_defs.specs.Logs as log
-use Rattle.log_defs.proofs.Rows.{settle-row, byte_settles}
+use Rattle.world_defs.specs.Logs as log
+use Rattle.world_defs.proofs.LogRows.{settle-row, byte_settles}
 use Rattle.promise_laws.proofs.CutShort.{way-whole}
 use Rattle.world_drain.proofs.Later.{on-any}
 use Rattle.run_session.proofs.settling.settle_text.Goals as goal

@@ -2,9 +2,9 @@ use Rattle.std.proofs.Common.{◌≡◌, ap, sym, ◌∙◌, subst, refl, ℕ, N
 use Rattle.std.specs.Prelude.{Some, IfSome, option_map}
 use Rattle.world_defs.specs.Table.{Adoption}
 use Rattle.world_defs.specs.World.{WorldState, host_count}
-use Rattle.world_defs.specs.Install.{installed}
-use Rattle.log_defs.specs.Laws.{came_to}
-use Rattle.log_defs.specs.Logs as log
+use Rattle.world_defs.proofs.LogViews.{installed}
+use Rattle.world_defs.specs.Log.{came_to}
+use Rattle.world_defs.specs.Logs as log
 use Rattle.log_laws.proofs.Installs.{install-given_up, install-hosts}
 use Rattle.fab_world.specs.Held.{IsLater}
 use Rattle.fab_world.proofs.Moments.{later-adopted, later-channels, set-stays}

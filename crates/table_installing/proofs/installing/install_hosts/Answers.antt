@@ -4,7 +4,7 @@ use Rattle.std.specs.List.{filter}
 use Rattle.std.proofs.lemmas.Option.{same_Some}
 use Rattle.world_defs.specs.Table.{Adoption}
 use Rattle.world_defs.specs.World.{WorldState, host_count}
-use Rattle.log_defs.specs.Logs as log
+use Rattle.world_defs.specs.Logs as log
 use Rattle.log_laws.proofs.PartWay.{way-still}
 use Rattle.route_install.specs.declared.installer.Work.{Work}
 use Rattle.route_install.specs.Installing.{Installation, is_done, awaited, changed}

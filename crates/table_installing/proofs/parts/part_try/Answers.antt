@@ -4,8 +4,8 @@ use Rattle.world_defs.specs.declared.event.Event.TheVariants.{Part}
 use Rattle.world_defs.specs.World.{WorldState, node_at}
 use Rattle.world_defs.specs.Step.{step}
 use Rattle.world_defs.specs.Install.{has_part_come, has_staged_answer, is_acknowledged}
-use Rattle.log_defs.specs.Log.{Log}
-use Rattle.log_defs.specs.Logs as log
+use Rattle.world_defs.specs.Log.{Log}
+use Rattle.world_defs.specs.Logs as log
 use Rattle.log_laws.proofs.Installs.{part_try-sent, part_try-answer}
 use Rattle.log_laws.proofs.PartWay.{way-still}
 use Rattle.world_drain.specs.declared.seen.Seen.{Seen}

@@ -1,4 +1,4 @@
-use Rattle.log_defs.specs.Logs as log
+use Rattle.world_defs.specs.Logs as log
 use Rattle.log_laws.proofs.Asks.{sends-behind}
 use Rattle.log_laws.proofs.PartWay.{way-still}
 use Rattle.world_drain.proofs.Later.{on-any, on-err}

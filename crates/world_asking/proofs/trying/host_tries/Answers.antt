@@ -1,7 +1,7 @@
 use Rattle.std.proofs.Common.{◌≡◌, ap, sym, refl, ◌∙◌, ◌&&◌, false}
 use Rattle.std.specs.Prelude.{is_some, None}
-use Rattle.log_defs.specs.Logs as log
-use Rattle.log_defs.proofs.Rows.{host_try-row, byte_asks}
+use Rattle.world_defs.specs.Logs as log
+use Rattle.world_defs.proofs.LogRows.{host_try-row, byte_asks}
 use Rattle.world_defs.specs.EightBits.{IsByteEvent}
 use Rattle.world_drain.proofs.Later.{on-any}
 use Rattle.world_asking.proofs.Tries.{trying-on, trying-cut}

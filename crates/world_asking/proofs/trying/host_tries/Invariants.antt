@@ -1,6 +1,6 @@
 -- What was tried so far, and what the tries that are left come to, is what all tries come to.
 use Rattle.std.specs.Prelude.{is_some, None}
-use Rattle.log_defs.specs.Logs as log
+use Rattle.world_defs.specs.Logs as log
 use Rattle.world_asking.proofs.Tries.{Trying}
 use Rattle.world_asking.proofs.trying.host_tries.Given as goal
 

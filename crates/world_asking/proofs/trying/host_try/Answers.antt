@@ -3,7 +3,7 @@ use Rattle.world_defs.specs.World.{WorldState}
 use Rattle.world_defs.specs.Asking.{probed_host}
 use Rattle.world_defs.specs.declared.event.Event.TheVariants.{Ask}
 use Rattle.world_defs.specs.Step.{step}
-use Rattle.log_defs.specs.Logs as log
+use Rattle.world_defs.specs.Logs as log
 use Rattle.log_laws.proofs.Asks.{sends-behind, sends-world, sends-effects, host_try-probe, host_try-reply}
 use Rattle.log_laws.proofs.PartWay.{way-still}
 use Rattle.world_drain.proofs.Later.{on-any}

@@ -2,7 +2,7 @@ use Rattle.std.proofs.Common.{true, refl}
 use Rattle.world_defs.specs.World.{WorldState}
 use Rattle.world_defs.specs.declared.event.Event.TheVariants.{Ask}
 use Rattle.world_defs.specs.Step.{step}
-use Rattle.log_defs.specs.Logs as log
+use Rattle.world_defs.specs.Logs as log
 use Rattle.log_laws.proofs.Asks.{sends-behind, loop_try-probe}
 use Rattle.log_laws.proofs.PartWay.{way-still}
 use Rattle.world_drain.proofs.Later.{on-any}

@@ -2,7 +2,7 @@ use Rattle.std.proofs.Common.{◌≡◌, map, ◌∙◌, ap, subst}
 use Rattle.std.specs.List.{range_with_len}
 use Rattle.world_defs.specs.declared.event.Event.TheVariants.{Inject}
 use Rattle.world_defs.specs.World.{WorldState}
-use Rattle.log_defs.specs.Row.{IsPartWay}
+use Rattle.world_defs.specs.Row.{IsPartWay}
 use Rattle.log_laws.proofs.Settles.{after_injections, pass-given_up, pass-injects, pass-clear, pass-replays}
 use Rattle.world_drain.proofs.Later.{on-any}
 use Rattle.world_drain.proofs.WholePass.{IsPass, pass-told, injects-there}

@@ -1,7 +1,7 @@
 use Rattle.std.proofs.Common.{◌∷◌}
 use Rattle.world_defs.specs.declared.event.Event.TheVariants.{Replay}
 use Rattle.world_defs.specs.Step.{step}
-use Rattle.log_defs.specs.Logs as log
+use Rattle.world_defs.specs.Logs as log
 use Rattle.log_laws.proofs.PartWay.{way-still}
 use Rattle.log_laws.proofs.Settles.{replay-clear}
 use Rattle.world_drain.proofs.Later.{on-any}

@@ -1,7 +1,7 @@
 use Rattle.std.proofs.Common.{◌≡◌, sym, subst}
 use Rattle.std.specs.Prelude.{IfOk, OnOk}
-use Rattle.log_defs.specs.Log.{Log}
-use Rattle.log_defs.specs.Logs as log
+use Rattle.world_defs.specs.Log.{Log}
+use Rattle.world_defs.specs.Logs as log
 use Rattle.log_laws.proofs.Settles.{round-expiries, round-on, round-passes}
 use Rattle.world_drain.specs.Settling.{capped}
 use Rattle.world_drain.proofs.Later.{on-any, on-err}

@@ -1,14 +1,13 @@
 use Rattle.std.proofs.Common.{◌≡◌, ◌≤◌, ◌+◌, ℕ, length, min, ap, sym, ◌∙◌, subst, arith}
 use Rattle.world_defs.specs.World.{WorldState, fabric_of, last_count}
-use Rattle.world_defs.specs.Settle.{unacknowledged_in, settle}
-use Rattle.world_laws.proofs.Rounds.{settle-settles, settles-bounded}
+use Rattle.world_defs.specs.Settle.{unacknowledged_in}
+use Rattle.world_laws.proofs.Rounds.{settle-bounded}
 use Rattle.lawful_laws.proofs.Settling.{settle-flows}
 use Rattle.message_laws.specs.Got.{IsAllGot}
 use Rattle.message_laws.proofs.Reaching.{settle-got}
-use Rattle.log_defs.specs.Logs as log
-use Rattle.log_defs.specs.Row.{IsPartWay}
-use Rattle.log_defs.proofs.Rows.{settle-row, byte_settles}
-use Rattle.log_defs.proofs.Worlds.{settle-log}
+use Rattle.world_defs.specs.Logs as log
+use Rattle.world_defs.specs.Row.{IsPartWay}
+use Rattle.world_defs.proofs.LogRows.{settle-row, byte_settles}
 use Rattle.log_laws.proofs.Settles.{settle-clear, settle-rounds}
 use Rattle.fab_world.specs.Held.{IsLater}
 use Rattle.fab_world.proofs.Moments.{later-fabric, later-hosts, later-channels, later-adopted}
@@ -48,10 +47,6 @@ settled c =
     settled-is c.args.w.now c.clear.new.w c.all_rounds.new.w c.in_ok-rest.rest.rounds c.in_ok-first.first c.in_ok-rest.rest.resets c.saturating_add.result
     c.in_ok-first.ensures.resets c.in_ok-first.ensures.after c.in_ok-first.ensures.few c.in_ok-rest.ensures.ok c.saturating_add.ensures
 
--- in the words of worlds
-led : (c : goal.After-saturating_add) → c.all_rounds.new.w ≡ (settle c.args.w.now).world
-led c = (settled c).after ∙ sym (ap (λ r. r.world) (settle-log c.args.w.now))
-
 -- and leads on from where it began
 done : (c : goal.After-saturating_add) → IsLater c.args.w.now c.all_rounds.new.w
 done c = ((log.settle c.args.w.now).events, (settled c).after ∙ (settle-row byte_settles c.args.w.now).there)
@@ -67,7 +62,7 @@ pub returns-clause-few_rounds : goal.returns-clause-few_rounds
 returns-clause-few_rounds c =
     let w : WorldState = c.args.w.now in
     let senders = c.moment.ensures.kept.senders in
-    subst (λ k. (1 ≤ k) × (k ≤ unacknowledged_in w + length w.plan + 1)) (ap (λ r. r.rounds) (settle-log w) ∙ sym (settled c).number) (settles-bounded w (settle w) senders (settle-settles w senders))
+    subst (λ k. (1 ≤ k) × (k ≤ unacknowledged_in w + length w.plan + 1)) (sym (settled c).number) (settle-bounded w senders)
 
 pub returns-clause-resets : goal.returns-clause-resets
 returns-clause-resets c = (settled c).counted
@@ -84,16 +79,16 @@ returns-clause-lawful c clears =
 -- so it ends settled, and where nothing is unacknowledged all is got
 pub returns-clause-settled : goal.returns-clause-settled
 returns-clause-settled c =
-    ends-settled c.args.w.now c.all_rounds.new.w c.moment.ensures.kept c.reached.ensures (led c)
+    ends-settled c.args.w.now c.all_rounds.new.w c.moment.ensures.kept c.reached.ensures (settled c).after
 
 pub returns-clause-got : goal.returns-clause-got
 returns-clause-got c none =
     let w : WorldState = c.args.w.now in
-    let after = led c in
+    let after = (settled c).after in
     subst IsAllGot (sym after) (settle-got (fabric_of w) w c.reached.ensures (ap unacknowledged_in (sym after) ∙ (sym c.in_ok-rest.ensures.unacked ∙ none)))
 
 pub returns-clause-idle : goal.returns-clause-idle
-returns-clause-idle c = settled-idle c.args.w.now c.all_rounds.new.w c.moment.ensures.kept (led c)
+returns-clause-idle c = settled-idle c.args.w.now c.all_rounds.new.w c.moment.ensures.kept (settled c).after
 
 pub returns-clause-fabric : goal.returns-clause-fabric
 returns-clause-fabric c = later-fabric c.args.w.now c.all_rounds.new.w (done c)

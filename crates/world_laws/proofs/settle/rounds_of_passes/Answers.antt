@@ -1,11 +1,10 @@
-use Rattle.world_laws.proofs.Passes.{round-is, rounds-one, passes-bounded}
+use Rattle.world_defs.specs.Logs.{moved_both, is_last_pass, round_pass}
+use Rattle.world_laws.proofs.Passes.{round-ends}
+use Rattle.world_laws.proofs.Repeating.{repeats-one}
 use Rattle.world_laws.proofs.settle.rounds_of_passes.Goals as goal
 
 pub returns-clause-round : goal.returns-clause-round
-returns-clause-round c = round-is
+returns-clause-round c = round-ends
 
 pub returns-clause-one : goal.returns-clause-one
-returns-clause-one c = rounds-one
-
-pub returns-clause-bound : goal.returns-clause-bound
-returns-clause-bound c = passes-bounded
+returns-clause-one c = repeats-one moved_both is_last_pass round_pass

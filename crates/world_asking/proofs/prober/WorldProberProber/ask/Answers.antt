@@ -3,7 +3,6 @@ use Rattle.net_defs.specs.Route.{answer}
 use Rattle.link_defs.specs.Links.{is_idle}
 use Rattle.world_defs.specs.World.{WorldState, fabric_of}
 use Rattle.probe.specs.Drowning.{IsTrueOrDrowned}
-use Rattle.log_defs.proofs.Asks.{ask-log}
 use Rattle.ask_laws.specs.Premises.{CanAsk}
 use Rattle.ask_laws.proofs.Along.{ask-idle}
 use Rattle.world_asking.specs.Prober.{WorldAsking, IsCutAsk}
@@ -22,7 +21,7 @@ returns-then-asked-clause-truth c =
 pub returns-then-asked-clause-stays_ready : goal.returns-then-asked-clause-stays_ready
 returns-then-asked-clause-stays_ready c =
     let w : WorldState = c.self.inside.world in
-    ap (λ v. is_idle v.links) c.in_ok-asked.ensures.after ∙ sym (ap (λ r. is_idle r.world.links) (ask-log c.self.inside.host c.self.inside.tries c.args.w.now w))
+    ap (λ v. is_idle v.links) c.in_ok-asked.ensures.after
     ∙ ask-idle w c.self.inside.host c.self.inside.tries c.args.w.now c.moment.ensures.kept.world (ap (λ p. is_idle p.world.links) c.self.view_is ∙ c.requires.is_ready)
 
 pub returns-else-asked-clause-truth : goal.returns-else-asked-clause-truth
@@ -36,7 +35,7 @@ returns-else-asked-clause-truth c =
 pub returns-else-asked-clause-stays_ready : goal.returns-else-asked-clause-stays_ready
 returns-else-asked-clause-stays_ready c =
     let w : WorldState = c.self.inside.world in
-    ap (λ v. is_idle v.links) c.in_ok-asked.ensures.after ∙ sym (ap (λ r. is_idle r.world.links) (ask-log c.self.inside.host c.self.inside.tries c.args.w.now w))
+    ap (λ v. is_idle v.links) c.in_ok-asked.ensures.after
     ∙ ask-idle w c.self.inside.host c.self.inside.tries c.args.w.now c.moment.ensures.kept.world (ap (λ p. is_idle p.world.links) c.self.view_is ∙ c.requires.is_ready)
 
 pub returns-in_err-asked-clause-by_cutting : goal.returns-in_err-asked-clause-by_cutting

@@ -2,8 +2,8 @@ use Rattle.std.proofs.Common.{refl}
 use Rattle.world_defs.specs.Node.{to_send, packet_for, after_sending}
 use Rattle.world_defs.specs.Hearing.{hear}
 use Rattle.world_defs.specs.Step.{asked, planned_strikes, sent_out, injected, advanced, gave_up}
-use Rattle.log_defs.specs.Logs.{drain, sends, host_try, ask}
-use Rattle.log_defs.proofs.worked_ask.Goals as goal
+use Rattle.world_defs.specs.Logs.{drain, sends, host_try, ask}
+use Rattle.log_laws.proofs.worked_ask.Goals as goal
 
 pub returns-clause-answer : goal.returns-clause-answer
 unfolding drain sends host_try ask asked planned_strikes sent_out injected advanced gave_up to_send packet_for after_sending hear

@@ -14,7 +14,7 @@ use Rattle.world_defs.specs.Drain.{changes, channels_of, resets_of}
 use Rattle.world_defs.specs.Settle.{expiries, serials, is_quiet, pass_bound, round_bound, is_last_round}
 use Rattle.world_defs.specs.Asking.{loop_answer, is_used_up, number_of, is_harmed, probed_host, reply_in, returned_in}
 use Rattle.world_defs.specs.Install.{has_staged_answer, is_acknowledged, parts_of}
-use Rattle.log_defs.specs.Log.{Log, still, happen, happen_all, told, after_events, and_do, for_each, up_to}
+use Rattle.world_defs.specs.Log.{Log, still, happen, happen_all, told, after_events, and_do, for_each, up_to}
 
 -- one pass: an advance of each channel by rising number
 abbrev pub pass : WorldState → Log (List Effect)

@@ -54,3 +54,7 @@ abbrev pub up_to : {A : Type 0} → (A → A → A) → A → (WorldState → Lo
 up_to join none is_last one zero w = still none w
 up_to join none is_last one (suc k) w =
     if is_last w (one w) then one w else and_do (one w) (λ a v. told (join a) (up_to join none is_last one k v))
+
+-- what a log came to, and the world then
+abbrev pub came_to : {A : Type 0} → Log A → A × WorldState
+came_to l = (l.value, l.world)

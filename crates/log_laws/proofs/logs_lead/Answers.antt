@@ -1,6 +1,6 @@
-use Rattle.log_defs.proofs.Rows.{drain-row, clear-row, settle-row, ask-row, asks-row, install-row}
-use Rattle.log_defs.proofs.Rows.{byte_clears, byte_settles, byte_asks}
-use Rattle.log_defs.proofs.logs_lead.Goals as goal
+use Rattle.world_defs.proofs.LogRows.{drain-row, clear-row, settle-row, ask-row, asks-row, install-row}
+use Rattle.world_defs.proofs.LogRows.{byte_clears, byte_settles, byte_asks}
+use Rattle.log_laws.proofs.logs_lead.Goals as goal
 
 pub returns-clause-drain : goal.returns-clause-drain
 returns-clause-drain c = drain-row byte_clears.advance

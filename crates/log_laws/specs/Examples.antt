@@ -5,8 +5,8 @@ use Rattle.net_defs.specs.Examples.{two_hosts}
 use Rattle.world_defs.specs.declared.event.Event.{Event}
 use Rattle.world_defs.specs.declared.event.Event.TheVariants.{Ask, Inject, Advance, GiveUp}
 use Rattle.world_defs.specs.World.{new_world}
-use Rattle.log_defs.specs.Log.{Log}
-use Rattle.log_defs.specs.Logs.{Asked, ask}
+use Rattle.world_defs.specs.Log.{Log}
+use Rattle.world_defs.specs.Logs.{Asked, ask}
 
 -- the walk from host 0 to host 1, and what an ask of it comes to
 abbrev pub across : List ℤ

@@ -13,10 +13,10 @@ use Rattle.world_defs.specs.Drain.{channels_of, resets_of}
 use Rattle.world_defs.specs.Settle.{expiries_of, expiries_of_all, expiries, serials, pass_bound, is_last_round, round_bound}
 use Rattle.world_defs.specs.Asking.{reply_in, probed_host}
 use Rattle.world_defs.specs.Install.{has_staged_answer, is_acknowledged, parts_of}
-use Rattle.log_defs.specs.Log.{Log, still, told, and_do, for_each, up_to}
-use Rattle.log_defs.specs.Logs.{pass, is_still, drain_pass, drain, clear, unmoved, moved_both, cleared, is_last_pass, round_pass, round, rounds_both, one_round, rounds, settle}
-use Rattle.log_defs.specs.Logs.{Sent, Tried, sends, answered, host_try, loop_try, part_try, tries, asked_on, ask, asked_both, one_asked, asks, parts, hosts, install}
-use Rattle.log_defs.specs.Row.{IsRow}
+use Rattle.world_defs.specs.Log.{Log, still, told, and_do, for_each, up_to}
+use Rattle.world_defs.specs.Logs.{pass, is_still, drain_pass, drain, clear, unmoved, moved_both, cleared, is_last_pass, round_pass, round, rounds_both, one_round, rounds, settle}
+use Rattle.world_defs.specs.Logs.{Sent, Tried, sends, answered, host_try, loop_try, part_try, tries, asked_on, ask, asked_both, one_asked, asks, parts, hosts, install}
+use Rattle.world_defs.specs.Row.{IsRow}
 
 pub after_all-append : (w : WorldState) (es ds : List Event) → after_all w (es ++ ds) ≡ after_all (after_all w es) ds
 after_all-append w [] ds = refl
@@ -44,13 +44,13 @@ row-both {Q = Q} {u = u} {es = es} {ds = ds} a b = record {
   there = b.there ∙ (ap (λ x. after_all x ds) a.there ∙ sym (after_all-append u es ds));
 }
 
-row-of : {Q : Event → Type 0} (w : WorldState) (es : List Event) → AllByRecursion Q es → IsRow Q w es (steps w es).1
+pub row-of : {Q : Event → Type 0} (w : WorldState) (es : List Event) → AllByRecursion Q es → IsRow Q w es (steps w es).1
 row-of w es q = record { kinds = q; there = steps-after w es }
 
-row-after : {Q : Event → Type 0} (w : WorldState) (es : List Event) → AllByRecursion Q es → IsRow Q w es (after_all w es)
+pub row-after : {Q : Event → Type 0} (w : WorldState) (es : List Event) → AllByRecursion Q es → IsRow Q w es (after_all w es)
 row-after w es q = record { kinds = q; there = refl }
 
-row-one : {Q : Event → Type 0} (w : WorldState) (e : Event) → Q e → IsRow Q w (e ∷ []) (step w e).1
+pub row-one : {Q : Event → Type 0} (w : WorldState) (e : Event) → Q e → IsRow Q w (e ∷ []) (step w e).1
 row-one w e q = record { kinds = (q, tt); there = refl }
 
 -- the events of a log are a row
@@ -98,13 +98,16 @@ pub record SettlesBy (Q : Event → Type 0) : Type 0 where
   pub expire : (h peer : ℕ) → Q (Expire h peer)
   pub give_up : (h : ℕ) → Q (GiveUp h)
 
-given_up-row : {Q : Event → Type 0} → ((h : ℕ) → Q (GiveUp h)) → (w : WorldState) → IsRow Q w (map GiveUp (addresses w)) (after_all w (map GiveUp (addresses w)))
+pub given_up-row : {Q : Event → Type 0} → ((h : ℕ) → Q (GiveUp h)) → (w : WorldState) → IsRow Q w (map GiveUp (addresses w)) (after_all w (map GiveUp (addresses w)))
 given_up-row {Q = Q} k w = row-after w (map GiveUp (addresses w)) (all-map Q GiveUp k (addresses w))
 
 all-expiries : (Q : Event → Type 0) → ((h peer : ℕ) → Q (Expire h peer)) → (w : WorldState) (hs : List ℕ) → AllByRecursion Q (expiries_of_all w hs)
 all-expiries Q k w [] = tt
 all-expiries Q k w (h ∷ hs) =
     all-append Q (expiries_of w h) (expiries_of_all w hs) (all-map Q (Expire h) (k h) (filter (λ p. nat_lt 0 (unacknowledged_to (node_at w h) p)) (addresses w))) (all-expiries Q k w hs)
+
+pub expiries-row : {Q : Event → Type 0} → ((h peer : ℕ) → Q (Expire h peer)) → (w : WorldState) → IsRow Q w (expiries w) (after_all w (expiries w))
+expiries-row {Q = Q} k w = row-after w (expiries w) (all-expiries Q k w (addresses w))
 
 pub cleared-row : {Q : Event → Type 0} → Clears Q → (es : List Event) → AllByRecursion Q es → (w : WorldState) → Rows Q w (cleared es w)
 cleared-row k es q w = row-both (row-of w es q) (clear-row k (steps w es).1)
@@ -119,7 +122,7 @@ round_pass-row {Q = Q} k w =
 
 pub round-row : {Q : Event → Type 0} → SettlesBy Q → (w : WorldState) → Rows Q w (round w)
 unfolding round
-round-row {Q = Q} k w = row-both (row-after w (expiries w) (all-expiries Q k.expire w (addresses w))) (up_to-row Q moved_both unmoved is_last_pass round_pass (round_pass-row k) (pass_bound w) (after_all w (expiries w)))
+round-row {Q = Q} k w = row-both (expiries-row k.expire w) (up_to-row Q moved_both unmoved is_last_pass round_pass (round_pass-row k) (pass_bound w) (after_all w (expiries w)))
 
 rounds-row : {Q : Event → Type 0} → SettlesBy Q → (k : ℕ) (w : WorldState) → Rows Q w (rounds k w)
 rounds-row {Q = Q} s k w = up_to-row Q rounds_both (record { rounds = 0; resets = 0 }) (λ before r. is_last_round before r.world) one_round (round-row s) k w

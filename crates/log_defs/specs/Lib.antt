@@ -1,5 +1,0 @@
-pub mod Examples
-pub mod Laws
-pub mod Log
-pub mod Logs
-pub mod Row
