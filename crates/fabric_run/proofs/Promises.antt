@@ -55,6 +55,7 @@ use Rattle.promise_laws.proofs.Sound.{always_promised}
 use Rattle.promise_laws.specs.Existence.{HasRun}
 use Rattle.promise_laws.proofs.Acting.{commands_have_sound_acts, runs_end_sound}
 use Rattle.promise_laws.proofs.CutShort.{cut_commands_leave_sound}
+use Rattle.promise_laws.proofs.ReceivedLines.{runs-receive_as_sent}
 use Rattle.promise_laws.proofs.Running.{each_command_is_done, run_exists}
 use Rattle.input_texts.specs.Reading.{AcceptedText, reading_from, reading}
 use Rattle.fabric_run.proofs.Duos.{duos_promised}
@@ -240,6 +241,7 @@ text_promised text a e =
       sound = (promised 0).sound;
       parts = coming-tied n;
       polled = polled-front;
+      received = λ k out last r. runs-receive_as_sent n (take k cs) out last o.fabric (acts k) r;
       returned = events-of_tokens;
       tokens = polls-of_tokens;
       no_cycle = λ k out last r. run_has_no_cycle n (take k cs) out last o.fabric (acts k) r;

@@ -40,6 +40,7 @@ use Rattle.delivery_laws.specs.Delivery.{HasEnough}
 use Rattle.promise_laws.specs.CommandActs.{HasSoundActs}
 use Rattle.promise_laws.specs.CutShort.{IsCutShort}
 use Rattle.promise_laws.specs.Existence.{HasDone, HasRun}
+use Rattle.promise_laws.specs.ReceivedLines.{AreReceivedAsSent}
 use Rattle.input_texts.specs.Reading.{AcceptedText}
 use Rattle.fabric_run.specs.Duos.{IsDuoPromised}
 
@@ -194,6 +195,13 @@ CutCommandsLeaveSound a =
     → IsRun a.network (take count a.commands) out s → slice_get a.commands count ≡ Some c → IsCutShort s c v
     → IsSound v
 
+-- after the first commands of a text, for each receiver, port, sender and priority, the messages that the lines
+-- `received` show are, in order, the first of those that the `send` lines with a token handed in
+abbrev pub ReceivedLinesAreOfSends : AcceptedText → Type 0
+ReceivedLinesAreOfSends a = (count : ℕ) (out : List Piece) (last : SessionState)
+    → IsRun a.network (take count a.commands) out last
+    → AreReceivedAsSent a.network (take count a.commands) out last.world
+
 -- A map of circuit links is the circuit map of the fabric to its depth, after so many asks. It is the core, up to each
 -- switch's offset, where the depth is at least the most cables in a return walk of some path list of the core; and its
 -- lines are read as that map.
@@ -220,8 +228,9 @@ CircuitMapsAreTrue a =
 -- what was sent, for each sender, receiver and priority, and each token has one owner; and of a message that came in
 -- part one provided buffer holds what came. What polls handed out is a prefix of what sends were accepted with; a sent
 -- event that waits has the bytes of the message that was last sent with its token, and a send token that a poll
--- answers is of that message, which is acknowledged. So it is at every moment, whatever happens before it. The two hosts
--- that restart keep their own promise.
+-- answers is of that message, which is acknowledged. So it is at every moment, whatever happens before it. And what the
+-- lines `received` show is a prefix of what the `send` lines with a token handed in. The two hosts that restart keep
+-- their own promise.
 pub record IsPromised (a : AcceptedText) : Type 0 where
   pub report : HasRun a.network a.commands
   pub done : EachCommandIsDone a
@@ -245,6 +254,7 @@ pub record IsPromised (a : AcceptedText) : Type 0 where
   pub sound : AlwaysSound a.network
   pub parts : PartsAreTied a
   pub polled : PolledIsFrontOfAccepted
+  pub received : ReceivedLinesAreOfSends a
   pub returned : SentEventsAreOfTokens
   pub tokens : PolledTokensAreOfMessages
   pub no_cycle : RoutesHaveNoCycle a

@@ -107,11 +107,12 @@ pub fn run<S: Source, K: Sink>(alloc: Global, words: &[Word], input: &mut S, out
     // say, with ranks that rise; a map of circuit links is the circuit map to its depth. Each count of installed hosts
     // has its cause, and no more are counted than have their table; each settle ends settled, with all got where there
     // were tokens enough; the installed routes have no cycle. What polls hand out is a prefix of what sends were
-    // accepted with, and each send token comes back with its own message. Each command is acts, each one action of one
-    // host or of one channel. Every moment of the run is sound, and reached by acts that may happen: the world after
-    // its first commands, and after each prefix of the acts of the next one. The two hosts that restart are reached by
-    // their events, where an incarnation's number survives its host's restart: what each incarnation got is a prefix of
-    // what it was sent, each token has one owner, and polls that print sent, or unsure, are right.
+    // accepted with, and what lines `received` show of what `send` lines with a token handed in; each send token comes
+    // back with its own message. Each command is acts, each one action of one host or of one channel. Every moment of
+    // the run is sound, and reached by acts that may happen: the world after its first commands, and after each prefix
+    // of the acts of the next one. The two hosts that restart are reached by their events, where an incarnation's
+    // number survives its host's restart: what each incarnation got is a prefix of what it was sent, each token has one
+    // owner, and polls that print sent, or unsure, are right.
     ensures promise { (text : List ℕ) (a : AcceptedText) → IsAccepted text a → IsPromised a }
 
     // Where the text is within the limit of an input, all its commands together inject fewer than 2^63 packets. So its

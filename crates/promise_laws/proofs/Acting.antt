@@ -129,7 +129,7 @@ determined-stands s next c out e k = by (acts_of s c) refl (subst (λ o. ActsIn 
     by None p leads = absurd leads
 
 -- a map that isn't refused finds idle links
-idle-there : (s : SessionState) (host : ℕ) → map_refused s host ≡ None → is_idle s.world.links ≡ true
+pub idle-there : (s : SessionState) (host : ℕ) → map_refused s host ≡ None → is_idle s.world.links ≡ true
 idle-there s host e = by (is_idle s.world.links) refl e
   where
     by : (b : Bool) → is_idle s.world.links ≡ b → (if b then None else Some (says_only s (MapBusy host ∷ []))) ≡ None → is_idle s.world.links ≡ true
@@ -177,7 +177,7 @@ stands-one {s = s} {xs = xs} {ys = ys} (asks {host = host} {depth = depth} {trie
     asked-one s host depth tries xs ys v w j l m k x y made remade e f
 
 -- a prefix of acts that may happen
-acted-append : (w : WorldState) (xs ys : List Act) → acted_all w (xs ++ ys) ≡ acted_all (acted_all w xs) ys
+pub acted-append : (w : WorldState) (xs ys : List Act) → acted_all w (xs ++ ys) ≡ acted_all (acted_all w xs) ys
 acted-append w [] ys = refl
 acted-append w (x ∷ xs) ys = acted-append (acted w x) xs ys
 
@@ -185,7 +185,7 @@ may-prefix : (w : WorldState) (xs ys : List Act) → MayActAll w (xs ++ ys) → 
 may-prefix w [] ys may = tt
 may-prefix w (x ∷ xs) ys may = (may.0, may-prefix (acted w x) xs ys may.1)
 
-may-append : (w : WorldState) (xs ys : List Act) → MayActAll w xs → MayActAll (acted_all w xs) ys → MayActAll w (xs ++ ys)
+pub may-append : (w : WorldState) (xs ys : List Act) → MayActAll w xs → MayActAll (acted_all w xs) ys → MayActAll w (xs ++ ys)
 may-append w [] ys a b = b
 may-append w (x ∷ xs) ys a b = (a.0, may-append (acted w x) xs ys a.1 b)
 

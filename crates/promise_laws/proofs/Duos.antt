@@ -1,5 +1,5 @@
 -- What the two hosts that restart come to in a run, and what they depend on.
-use Rattle.std.proofs.Common.{◌≡◌, ◌≤◌, ◌⊎◌, inl, inr, ℕ, Bool, true, false, not, List, [], ◌∷◌, ◌++◌, Option, Some, None, option_map, refl, sym, ◌∙◌, ap, subst, arith, if◌then◌else◌}
+use Rattle.std.proofs.Common.{◌≡◌, ◌⊎◌, inl, inr, ℕ, Bool, true, false, not, List, [], ◌∷◌, ◌++◌, Option, Some, None, option_map, refl, sym, ◌∙◌, ap, subst, arith, if◌then◌else◌}
 use Rattle.std.specs.List.{AllByRecursion}
 use Rattle.net_defs.specs.Network.{Network}
 use Rattle.link_defs.specs.Links.{is_idle}
@@ -13,7 +13,6 @@ use Rattle.duo_defs.specs.declared.effect.DuoEffect.{DuoEffect}
 use Rattle.duo_defs.specs.declared.effect.DuoEffect.TheVariants.{Sent, Unsure}
 use Rattle.duo_defs.specs.Duo.{DuoState, new_duo}
 use Rattle.duo_defs.specs.Step.{IsFair, step as duo_step, after_all}
-use Rattle.duo_defs.specs.Theorem.{IsReached}
 use Rattle.duo_laws.proofs.Order.{got-prefix}
 use Rattle.duo_laws.proofs.Owners.{one-owner}
 use Rattle.duo_laws.proofs.Polls.{polls-right}
@@ -23,11 +22,11 @@ use Rattle.run_defs.specs.declared.line.Line.TheVariants.{MapBusy, InstallRefuse
 use Rattle.run_defs.specs.declared.line.InstallCause.TheVariants.{Busy, Installed as OtherInstalled}
 use Rattle.run_defs.specs.Duos.{begun, beside, IsOther}
 use Rattle.run_defs.specs.Output.{Piece, OneLine}
-use Rattle.run_defs.specs.Outcome.{Outcome, says_only, event_of, step_or_idle, duo_done, install_now, install, map_refused, routes_refused, outcome}
+use Rattle.run_defs.specs.Outcome.{Outcome, says_only, event_of, step_or_idle, install_now, install, map_refused, routes_refused, outcome}
 use Rattle.run_defs.specs.Run.{Does, Runs}
 use Rattle.run_defs.specs.Run.Does.{determined, maps, circuits, routes}
 use Rattle.run_defs.specs.Run.Runs.{ended, goes_on}
-use Rattle.run_defs.specs.Session.{SessionState, LastMap, LastRoutes, complete_map, new_session}
+use Rattle.run_defs.specs.Session.{SessionState, LastMap, LastRoutes, complete_map}
 use Rattle.fab_script.specs.Ranges.{IsCommandOf as IsSaid}
 use Rattle.fab_script.proofs.Ranged.{events_are_fair}
 use Rattle.promise_laws.specs.CommandActs.{acts_of, StandsFor}

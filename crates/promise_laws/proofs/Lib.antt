@@ -4,6 +4,7 @@ pub mod CutShort
 pub mod Duos
 pub mod OneAction
 pub mod OneChannel
+pub mod ReceivedLines
 pub mod Running
 pub mod Said
 pub mod Sound

@@ -1,14 +1,28 @@
--- Whose acts are, worked out: of the two hosts at one switch host 0 has adopted routes and sends a message to host 1.
-use Rattle.std.specs.Prelude.{◌≡◌, ℕ, List, [], ◌∷◌, Option, Some, option_map}
+-- Whose acts are, and what lines show of messages, worked out: of the two hosts at one switch host 0 has adopted routes
+-- and sends a message to host 1.
+use Rattle.std.specs.Prelude.{◌≡◌, ℕ, List, [], ◌∷◌, map, Option, Some, option_map}
+use Rattle.std.specs.List.{filter}
 use Rattle.net_defs.specs.Examples.{two_hosts}
 use Rattle.link_defs.specs.declared.moved.Course.{Course}
 use Rattle.link_defs.specs.declared.moved.Course.TheVariants.{Arrives, Enters}
 use Rattle.link_defs.specs.Links.{packet_in}
 use Rattle.link_defs.specs.Advance.{course}
+use Rattle.gm_defs.specs.declared.message.Message.{Message}
+use Rattle.gm_defs.specs.Connection.{connection}
+use Rattle.world_defs.specs.declared.client.ClientCause.TheVariants.{NoToken}
+use Rattle.world_defs.specs.declared.effect.Said.TheVariants.{Refused}
 use Rattle.world_defs.specs.declared.event.Event.TheVariants.{Part, Inject, Advance, Hold, Replay, Begin, Send}
 use Rattle.world_defs.specs.World.{WorldState, fabric_of, new_world}
 use Rattle.world_defs.specs.Examples.{setup_routes}
 use Rattle.act_defs.specs.Acts.{Act, Happens, Adopts, acted_all}
+use Rattle.run_defs.specs.declared.command.Command.{Command}
+use Rattle.run_defs.specs.declared.command.Command.TheVariants.{Provide, Send as SendCommand, Settle, Poll, Finish}
+use Rattle.run_defs.specs.declared.line.ClientCall.TheVariants.{Send as SendCall}
+use Rattle.run_defs.specs.declared.line.Line.TheVariants.{Client}
+use Rattle.run_defs.specs.Output.{OneLine}
+use Rattle.run_defs.specs.Examples.{message_output}
+use Rattle.seen_laws.specs.Handed.{Handed, is_to, as_handed}
+use Rattle.promise_laws.specs.ReceivedLines.{received_in, accepted_of}
 use Rattle.promise_laws.specs.OneAction.{OfHost, OfChannel, OfNone, actor_of}
 
 -- host 0 has put its message into its channel
@@ -38,3 +52,24 @@ abbrev pub ReplaysAreOfChannels : Type 0
 ReplaysAreOfChannels =
     (actor_of (acted_all sent_world (Happens (Advance 0) ∷ Happens (Hold 3) ∷ [])) (Happens (Replay 0)) ≡ OfChannel 3)
     × (actor_of sent_world (Happens (Replay 0)) ≡ OfNone)
+
+-- the commands from a message's buffer on
+abbrev pub message_commands : List Command
+message_commands = Provide 1 1 4 0 ∷ SendCommand 0 0 1 1 0 1 9 ∷ Settle ∷ Poll 1 1 ∷ Poll 1 1 ∷ Finish ∷ []
+
+-- the message that its `send` hands in, whose line has a token
+abbrev pub sent_nine : Message
+sent_nine = record { sport = 0; dport = 1; prio = 0; body = 9 ∷ [] }
+
+-- the message as its line `received` shows it
+abbrev pub shown_nine : Handed
+shown_nine = record { from = 0; sport = 0; prio = 0; bytes = 9 ∷ [] }
+
+-- what port 1 of host 1 is shown to receive is what was handed in for it; a `send` whose line has no token hands in
+-- nothing
+abbrev pub MessageIsInLines : Type 0
+MessageIsInLines = (received_in 1 1 message_output ≡ shown_nine ∷ [])
+    × (accepted_of (connection 0 1 0) message_commands message_output ≡ sent_nine ∷ [])
+    × (map (as_handed 0) (filter (is_to 1) (sent_nine ∷ [])) ≡ shown_nine ∷ [])
+    × (accepted_of (connection 0 1 0) (SendCommand 0 0 1 1 0 1 9 ∷ [])
+    (OneLine (Client SendCall 0 0 (Refused NoToken)) ∷ []) ≡ [])

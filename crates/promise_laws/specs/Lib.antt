@@ -5,4 +5,5 @@ pub mod Examples
 pub mod Existence
 pub mod OneAction
 pub mod Promised
+pub mod ReceivedLines
 pub mod Scripts

@@ -10,6 +10,7 @@
 //! | `Duos` | what a command depends on, of the two hosts that restart, and what they come to in a run |
 //! | `OneAction` | whose an act is, and that it is one action, of one host or of one channel |
 //! | `Existence` | each command does something after every run, and so there is a run |
+//! | `ReceivedLines` | what lines `received` show, against the `send` lines that have a token: once, in order, byte for byte |
 //! | `Promised` | every moment is sound, and every run keeps its promise |
 //! | `Scripts` | what every script promises that is read without a fault |
 //! | `Examples` | whose acts of a message's way are |
@@ -19,6 +20,7 @@ mod command_acts;
 mod duo_lines;
 mod existence;
 mod promises;
+mod received_lines;
 mod scripts;
 mod worked;
 
@@ -26,5 +28,6 @@ pub use command_acts::{acts_of_commands, acts_of_cut_commands, acts_of_one_host_
 pub use duo_lines::{dependence_on_the_duo, duos_of_runs};
 pub use existence::runs_exist;
 pub use promises::{promises_of_runs, sound_moments};
+pub use received_lines::lines_of_messages;
 pub use scripts::{acts_of_scripts, maps_of_scripts};
-pub use worked::actors_of_acts;
+pub use worked::{actors_of_acts, message_in_lines};

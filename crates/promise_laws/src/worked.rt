@@ -1,10 +1,16 @@
-//! Whose acts are, worked out: `specs/Examples.antt` has the statements.
+//! Whose acts are, and what lines show of a message, worked out: `specs/Examples.antt` has the statements.
 
 ghost use Rattle.promise_laws.specs.Examples.{PacketGoesOn, PartsAreOfAdopters, ReplaysAreOfChannels};
+ghost use Rattle.promise_laws.specs.Examples.{MessageIsInLines};
 
 /// A message goes through the switch; a part is its adopter's, and a replay the channel's that the packet was held in.
 pub fn actors_of_acts()
     ensures goes { PacketGoesOn }
     ensures parts { PartsAreOfAdopters }
     ensures replays { ReplaysAreOfChannels }
+{}
+
+/// A line `received` shows the message that its `send` handed in.
+pub fn message_in_lines()
+    ensures { MessageIsInLines }
 {}
