@@ -1,7 +1,7 @@
 """Two hosts that restart, and the medium between them: a model of what one event does, apart from the program's.
 
 It keeps messages where the program keeps bytes, and looks a period up by its numbers. After each event it can be asked
-whether what was got is in order and whether each token has one owner; a poll asks by itself whether it tells the truth.
+whether what was got is in order and whether each token has one owner; a poll asks by itself whether it says the truth.
 """
 
 from dataclasses import dataclass, field

@@ -18,7 +18,7 @@ class Event:
 def events(script, items):
     """The events of a script's lines (numbers and words) and a report's items; they end where either does."""
     items, found = list(items), []
-    waits = waiting.behind_settles(script, items)
+    waits = waiting.after_settles(script, items)
     for line, words in script:
         if not items:
             break

@@ -112,7 +112,7 @@ class MapFacts:
         return [
             f"line {shown.line}: circuit {shown.host} depth {shown.depth}",
             f"  circuit links to {shown.depth} cables, by {shown.asks} asks and no packet, without what is outside",
-            "  nothing in it tells whether that is deep enough: one more than the core has cables always is",
+            "  nothing in it shows whether that is deep enough: one more than the core has cables always is",
         ]
 
     def switch_line(self, vertex):

@@ -18,7 +18,7 @@ cable V P W Q                         joins port P of V and port Q of W
 script                                the fabric ends, the script begins
 """
 SCRIPT = """
-walk H TURN ..                        tells where a walk of up to 64 turns ends
+walk H TURN ..                        shows where a walk of up to 64 turns ends
 map H DEPTH TRIES                     maps from H by packets, so many cables deep
 circuit H DEPTH                       maps from H as over circuit links
 routes                                the routes of the last map, if complete
@@ -27,7 +27,7 @@ open H PORT SENDS RECVS               opens a port with so many tokens
 provide H PORT SIZE PRIO              a buffer of 2^SIZE - 8 bytes (SIZE 4 to 16)
 send H PORT B BPORT PRIO LEN SEED     sends bytes SEED, SEED + 1, .. (LEN to 65528)
 poll H PORT                           takes the port's next event
-tokens H PORT                         tells where each token is
+tokens H PORT                         shows where each token is
 close H PORT                          closes the port
 plan lose|repeat|hold N               a fault for the Nth injection from now
 plan flip N BIT PATTERN               the same, of bits from BIT on

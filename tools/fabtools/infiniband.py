@@ -29,8 +29,8 @@ FIRMWARE = re.compile(r"\w+;([^:]+):[^/]*((?:/\w+)*?)/U\d+\s*\Z")
 # Other forms of these tools, by a line that only they have.
 OTHERS = (
     (re.compile(r"(CA|SW|RT)\s+\d+\s+\d+\s+0x", re.M), "what `ibnetdiscover -p` prints"),
+    (re.compile(r"^(CA: .*:|Switch:? 0x[0-9a-f]+ .*:)\s*$|==\(.*\)==>", re.M), "what `iblinkinfo` prints"),
     (re.compile(r"(Ca|Switch|Router)\s*:\s*0x", re.M), "a list of nodes, as `ibnetdiscover -l` or `ibnodes` prints"),
-    (re.compile(r"(CA: .*:|Switch:? 0x[0-9a-f]+ .*:)\s*$", re.M), "what `iblinkinfo` prints"),
 )
 
 

@@ -57,7 +57,7 @@ class Whole:
 
     def __init__(self, fabric, report, is_brief):
         self.items, self.is_brief = [], is_brief
-        waits = waiting.behind_settles(fabric.script, report.items)
+        waits = waiting.after_settles(fabric.script, report.items)
         told = restarts.pairs(fabric.script, report.items)
         for item in routed(fabric, report.items):
             if isinstance(item, (Map, CircuitMap)):

@@ -73,12 +73,12 @@ class Calls:
         for lane, messages in self.sent.items():
             if messages:
                 line, port, prio, length = messages[0]
-                behind = f", and {len(messages) - 1} more behind it" if len(messages) > 1 else ""
-                first = f"{lane[0]} to {lane[1]}: the message of line {line} ({length} bytes, priority {prio}) waits{behind}"
+                others = f", and {len(messages) - 1} more after it" if len(messages) > 1 else ""
+                first = f"{lane[0]} to {lane[1]}: the message of line {line} ({length} bytes, priority {prio}) waits{others}"
                 yield f"{first}: {self.cause(lane)}"
 
 
-def behind_settles(script, items):
+def after_settles(script, items):
     """For the line of each settle in a report: what waits after it, where its count of unacknowledged fragments agrees."""
     calls, told, items = Calls(), {}, list(items)
     for line, words in script:

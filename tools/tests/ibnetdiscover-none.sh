@@ -1,6 +1,6 @@
 # What is no topology is refused, with what it is and what was expected.
 for text in '' 'CA 1 1 0x0002c903 4x QDR - SW 2 1 0x0002c902' 'Ca : 0x0002c903 ports 1 "x"' \
-  'Switch 0x0002c902 MF0;sw:\n  1 1[ ] ==( 4X )==> 3 1[ ] "x"' 'host a\nscript\nend'; do
+  'Switch 0x0002c902 MF0;sw:\n  1 1[ ] ==( 4X )==> 3 1[ ] "x"' 'Switch: 0x0002c902 MF0;sw:\n  1 1[ ] ==( Down/ Polling)==> [ ] "" ( )' 'host a\nscript\nend'; do
   printf "$text" | from-ibnetdiscover 2>&1 | cut -d';' -f1
 done
 printf '' | from-ibnetdiscover
