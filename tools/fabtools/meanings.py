@@ -88,7 +88,7 @@ def of_depth(fabric, host, is_complete=False):
     if enough <= most:
         return f"depth {enough} is deep enough for {host}"
     if is_complete:
-        return f"only depth {enough} would surely be enough for {host}, and less was"
+        return f"from {host} only depth {enough} is surely enough, but this map is whole all the same"
     why = f"no depth up to {most} is surely enough for {host}, only {enough} would be"
     if least > most:
         why = f"no map from {host} is whole: a switch is {least - 1} cables away, and a map to {most} needs them nearer"
@@ -99,7 +99,7 @@ def better_hosts(sure, possible):
     if sure:
         return f"deep enough are maps from {', '.join(sure)}"
     if possible:
-        return f"from no host one surely is, but one may be from {', '.join(possible)}"
+        return f"a map from {', '.join(possible)} may be whole, though none surely is"
     return "the same holds for each other host"
 
 
