@@ -2,7 +2,7 @@
 
 from fabtools import meanings, restarts, waiting
 from fabtools.explained import LineFacts, MapFacts, RoutesFacts
-from fabtools.report import CircuitMap, Map, Routes, Shown
+from fabtools.report import CircuitMap, Map, Routes, Shown, misfit
 from fabtools.routing import Routed, channel_text, end_text, load_facts, shortest_way, way_text
 
 
@@ -14,6 +14,9 @@ def facts(fabric, report, asked):
     stranger = next((it for it in hosts_of(report) if it not in fabric.hosts), None)
     if stranger:
         raise NoSuchThing(f"the report isn't that of this text, which has no host {stranger}")
+    for shown in report.of(Map):
+        if misfit(fabric, shown):
+            raise NoSuchThing(f"the report isn't that of this text: {misfit(fabric, shown)}")
     if asked.pair:
         return Pair(last_routes(fabric, report), *asked.pair)
     if asked.cable:

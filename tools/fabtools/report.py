@@ -1,5 +1,9 @@
 """A report, read line by line: its maps, routes, installations, settles and all other lines, each with its number."""
 
+from fabtools.fabric import reached
+
+COMPARE = "tools/compare says all that differs"
+
 
 class Shown:
     """What a map of a report shows: its mapper, and its vertices and cables by the names that the map gives them."""
@@ -107,6 +111,38 @@ def place(fabric, shown):
                     at[b] = (far[0], far[1] - q)
                     todo.append(b)
     return at
+
+
+def misfit(fabric, shown):
+    """Why a map by packets is none of its fabric, or None.
+
+    Whatever words such a map has, each of its cables is one of the fabric's; and a complete one has each that is joined to its mapper.
+    """
+    at, seen = place(fabric, shown), set()
+    for a, b in shown.cables:
+        ends = real_end(at, a), real_end(at, b)
+        if None in ends or fabric.far(ends[0]) != ends[1] or not all(stands(fabric, at, it) for it, _ in (a, b)):
+            return f"it maps a 'cable {a[0]} {port_text(a[1])} {b[0]} {port_text(b[1])}', and the text has none there; {COMPARE}"
+        seen.add(frozenset(ends))
+    lacking = lacks(fabric, shown, seen) if shown.words == "complete" else None
+    return lacking and "its complete map lacks the text's 'cable {} {} {} {}'; {}".format(*lacking[0], *lacking[1], COMPARE)
+
+
+def lacks(fabric, shown, seen):
+    """The first cable that is joined to a map's host and isn't among the seen ones, or None."""
+    joined = reached(fabric, shown.host)
+    return next((it for it in fabric.cables if it[0][0] in joined and frozenset(it) not in seen), None)
+
+
+def stands(fabric, at, vertex):
+    """Whether a vertex of a map lies at one of its kind, a host at itself."""
+    name = at[vertex][0]
+    return name in fabric.switches if vertex.startswith("#") else name == vertex
+
+
+def port_text(port):
+    """A port as a map's line has it."""
+    return f"{port:+}" if port else "0"
 
 
 def both_ways(cables):

@@ -3,7 +3,7 @@
 from collections import Counter
 
 from fabtools import fabric as fabrics
-from fabtools.report import Map, Report, Routes, place, real_end
+from fabtools.report import Map, Report, Routes, misfit, place, real_end
 
 
 class Run:
@@ -16,6 +16,10 @@ class Run:
         self.at = place(self.fabric, self.shown) if self.shown else {}
         self.routes = routes[-1].routes if routes else []
         self.routes_line = routes[-1].line if routes else 0
+
+    def misfit(self):
+        """Why the last map is none of the text's fabric, or None."""
+        return misfit(self.fabric, self.shown) if self.shown else None
 
     def map_names(self, vertex):
         """What the map calls a switch; an incomplete map may show one twice."""
