@@ -2,6 +2,7 @@
 
 from fabtools import meanings, waiting
 from fabtools.report import CircuitMap, Map, Routes
+from fabtools.words import counted
 
 KINDS = ("commands", "messages", "faults", "ports", "steps", "refused")
 KIND = {"open": "ports", "close": "ports", "provide": "ports", "tokens": "ports", "send": "messages", "poll": "messages", "plan": "faults"}
@@ -35,11 +36,11 @@ def is_table(item):
 
 def event(line, words, item, waits):
     if isinstance(item, Map):
-        return Event("commands", line, item.line, f"{item.host} maps {words[2]} deep: {item.words}, by {item.asks} asks")
+        return Event("commands", line, item.line, f"{item.host} maps {words[2]} deep: {item.words}, by {counted(item.asks, 'ask')}")
     if isinstance(item, CircuitMap):
-        return Event("commands", line, item.line, f"{item.host} maps circuit links {item.depth} deep, by {item.asks} asks")
+        return Event("commands", line, item.line, f"{item.host} maps circuit links {item.depth} deep, by {counted(item.asks, 'ask')}")
     if isinstance(item, Routes):
-        return Event("commands", line, item.line, f"{len(item.routes)} routes, and {len(item.ranks)} ranks")
+        return Event("commands", line, item.line, f"{counted(len(item.routes), 'route')}, and {counted(len(item.ranks), 'rank')}")
     at, answer = item
     means = waits.get(at) or meanings.of_line(answer)
     means = "; ".join(means) if isinstance(means, list) else means

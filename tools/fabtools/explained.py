@@ -8,6 +8,7 @@ from fabtools import meanings, script
 from fabtools.forms import LONGEST_TEXT
 from fabtools.report import place, real_end
 from fabtools.routing import channel_text, end_text
+from fabtools.words import counted
 
 # So many entries of a list are told in brief.
 FEW = 6
@@ -92,7 +93,7 @@ class MapFacts:
         told = self.circuit_head() if self.is_circuit else self.map_head()
         if is_brief:
             switches, hosts = self.shown.switches(), self.shown.hosts()
-            told.append(f"  {len(switches)} switches, {len(hosts)} hosts, {len(self.shown.cables)} cables")
+            told.append(f"  {counted(len(switches), 'switch', 'switches')}, {counted(len(hosts), 'host')}, {counted(len(self.shown.cables), 'cable')}")
         else:
             told += map(self.switch_line, self.shown.switches())
         told += [f"  {it} is shown {count} times: the map is too shallow to see that these are one switch" for it, count in self.twice().items()]
@@ -104,14 +105,14 @@ class MapFacts:
         return [
             f"line {shown.line}: map {shown.host} {shown.words}",
             f"  {meanings.of_map(shown.words, shown.host)}",
-            f"  {shown.asks} asks by {shown.packets} packets; {depth}",
+            f"  {counted(shown.asks, 'ask')} by {counted(shown.packets, 'packet')}; {depth}",
         ]
 
     def circuit_head(self):
         shown = self.shown
         return [
             f"line {shown.line}: circuit {shown.host} depth {shown.depth}",
-            f"  circuit links to {shown.depth} cables, by {shown.asks} asks and no packet, without what is outside",
+            f"  circuit links to {counted(shown.depth, 'cable')}, by {counted(shown.asks, 'ask')} and no packet, without what is outside",
             "  nothing in it shows whether that is deep enough: one more than the core has cables always is",
         ]
 
@@ -151,7 +152,7 @@ class RoutesFacts:
 
     def lines(self, is_brief):
         routed = self.routed
-        told = [f"line {routed.line}: {len(routed.routes)} routes"]
+        told = [f"line {routed.line}: {counted(len(routed.routes), 'route')}"]
         if not is_brief:
             told += [f"  {it.line()}" for it in routed.routes]
         lengths = routed.lengths()
@@ -186,7 +187,7 @@ class RoutesFacts:
         busiest = sorted(it for it in load if load[it] == most)
         unused = [channel_text(it) for it in self.routed.unused()]
         return [
-            f"  busiest, with {most} routes: " + cut_short(list(map(channel_text, busiest)), is_brief),
+            f"  busiest, with {counted(most, 'route')}: " + cut_short(list(map(channel_text, busiest)), is_brief),
             "  used by no route: " + (cut_short(unused, is_brief) or "none"),
         ]
 

@@ -4,6 +4,7 @@ from fabtools import meanings, restarts, waiting
 from fabtools.explained import LineFacts, MapFacts, RoutesFacts
 from fabtools.report import CircuitMap, Map, Routes, Shown, misfit
 from fabtools.routing import Routed, channel_text, end_text, load_facts, shortest_way, way_text
+from fabtools.words import counted
 
 
 class NoSuchThing(Exception):
@@ -104,10 +105,10 @@ class Pair:
             yield f"{sender} to {receiver}: the report has no such route"
             return
         more = f"{route.detour()} more than the shortest way" if route.detour() else "a shortest way"
-        yield f"{sender} to {receiver}: {len(route.way)} cables, {more}"
+        yield f"{sender} to {receiver}: {counted(len(route.way), 'cable')}, {more}"
         wide = max(map(len, map(channel_text, route.way)))
         for it in route.way:
-            yield f"  {channel_text(it):{wide}}  rank {self.routed.ranks.get(it[0], '?')}, on {self.routed.load[it]} routes"
+            yield f"  {channel_text(it):{wide}}  rank {self.routed.ranks.get(it[0], '?')}, on {counted(self.routed.load[it], 'route')}"
         if route.detour():
             yield f"  a shortest way: {way_text(shortest_way(self.routed.fabric, sender, receiver))}"
 
@@ -137,7 +138,7 @@ class Cable:
     def lines(self):
         told = [f"the cable {end_text(self.channels[0][0])} - {end_text(self.channels[0][1])}"]
         for channel in self.channels:
-            told.append(f"  {channel_text(channel)}: {len(self.across[channel])} routes")
+            told.append(f"  {channel_text(channel)}: {counted(len(self.across[channel]), 'route')}")
             senders = dict.fromkeys(it.sender for it in self.across[channel])
             for sender in senders:
                 told.append(f"    {sender} to {', '.join(it.receiver for it in self.across[channel] if it.sender == sender)}")

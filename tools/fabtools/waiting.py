@@ -1,6 +1,7 @@
 """What waits after a settle, and for what: the script's calls and the report's answers, followed side by side."""
 
 from fabtools.report import Routes, Shown
+from fabtools.words import counted
 
 
 def least_size(length):
@@ -74,7 +75,7 @@ class Calls:
             if messages:
                 line, port, prio, length = messages[0]
                 others = f", and {len(messages) - 1} more after it" if len(messages) > 1 else ""
-                first = f"{lane[0]} to {lane[1]}: the message of line {line} ({length} bytes, priority {prio}) waits{others}"
+                first = f"{lane[0]} to {lane[1]}: the message of line {line} ({counted(length, 'byte')}, priority {prio}) waits{others}"
                 yield f"{first}: {self.cause(lane)}"
 
 
