@@ -30,8 +30,8 @@ MAP_WORDS = {
         "map [deeper](#which-depth), or from a host nearer to all",
     ),
     "doubtful {count}": (
-        "{count} asks drowned: a planned fault met every try of one of their two probes",
-        "{count} asks drowned: a planned fault met every try of one of their two probes, so what they found to be nothing may be something",
+        "{count} of the asks drowned: of each a planned fault met every try of one of its two probes",
+        "{count} of the asks drowned: of each a planned fault met every try of one of its two probes, so what it found to be nothing may be something",
         "map again, since faults strike once; or give more TRIES than you planned faults",
     ),
     "complete": (
