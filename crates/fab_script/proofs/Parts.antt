@@ -108,17 +108,26 @@ lines_of line text = lines_left (record { number = line + 1; text = text })
 
 -- the front of such a script
 abbrev pub front_of : Network → ℕ → List ℕ → Result ScriptPart FirstFault
-front_of n line text = front_part true (line + line_count text + 1) n (lines_of line text)
+front_of n line text = front_part true (line + 1 + line_count text) n (lines_of line text)
+
+-- one line past so many and so many more
+line_past : (line count : ℕ) → line + count + 1 ≡ line + 1 + count
+line_past line count = omega arith
+
+-- a script is its front with nothing after it
+front_script : (n : Network) (line : ℕ) (text : List ℕ) → script_reading n line text ≡ whole (front_of n line text)
+front_script n line text =
+    ap (λ p. script_from p n (lines_of line text)) (line_past line (line_count text)) ∙ script-part (line + 1 + line_count text) n (lines_of line text)
 
 -- a script has the fault of its front
 pub front_fault : (n : Network) (line : ℕ) (text : List ℕ) (left : List TextLine) (e : TextFault) → FrontGives (front_of n line text) left (Err e) → TextGives (script_reading n line text) (Err e)
-front_fault n line text left (At k kind) h = script-part (line + line_count text + 1) n (lines_of line text) ∙ ap whole h
+front_fault n line text left (At k kind) h = front_script n line text ∙ ap whole h
 front_fault n line text left NoMemory h = tt
 
 -- a script is what comes of its front and of the lines after it
 pub front_whole : (n : Network) (line : ℕ) (text : List ℕ) (left : List TextLine) (cs : Vec Command Global) (r : Result (List Command) TextFault) → FrontGives (front_of n line text) left (Ok cs)
     → TextGives (behind cs.items (ended left)) r → TextGives (script_reading n line text) r
-front_whole n line text left cs r h g = subst (λ s. TextGives s r) (sym (script-part (line + line_count text + 1) n (lines_of line text) ∙ ap whole h)) g
+front_whole n line text left cs r h g = subst (λ s. TextGives s r) (sym (front_script n line text ∙ ap whole h)) g
 
 -- memory ran out in front after a sound line
 pub front_memory : (n : Network) (line : ℕ) (text : List ℕ) → 0 < length (front_sound true n (lines_of line text)) → 0 < length (sound_lines n line text)
@@ -126,4 +135,4 @@ front_memory n line text h = sound-front n (lines_of line text) h
 
 -- memory ran out at `end`, which is sound then
 pub whole_memory : (n : Network) (line : ℕ) (text : List ℕ) (left : List TextLine) (cs : Vec Command Global) → FrontGives (front_of n line text) left (Ok cs) → IsOk (ended left) → 0 < length (sound_lines n line text)
-whole_memory n line text left cs h o = sound-part (line + line_count text + 1) n (lines_of line text) (record { commands = cs.items; after = left }) h o
+whole_memory n line text left cs h o = sound-part (line + 1 + line_count text) n (lines_of line text) (record { commands = cs.items; after = left }) h o

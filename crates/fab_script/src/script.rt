@@ -2,7 +2,7 @@
 
 ghost use Rattle.std.specs.Prelude.{◌≡◌, ◌<◌, ◌≤◌, ◌+◌, ◌⊎◌, length, nat_eq, true, false, IfOk, IsErrOf, IsOk};
 ghost use Rattle.std.specs.List.{AllByRecursion};
-ghost use Rattle.fab_text.specs.Line.{is_blank, lines_left, words_of};
+ghost use Rattle.fab_text.specs.Line.{is_blank, line_count, lines_left, words_of};
 ghost use Rattle.fab_text.specs.Fault.{LineGives, TextGives};
 ghost use Rattle.run_defs.specs.Script.{ended, is_end, script_reading};
 ghost use Rattle.script_lines.specs.Lists.{behind};
@@ -77,7 +77,7 @@ pub fn read_script_part(
     ensures memory { IsErrOf result TextFault.NoMemory → (0 < length (front_sound false f.now (lines_left left.old)))
         ⊎ IsOk (script_part past f.now (lines_left left.old)) }
 {
-    let mut commands = read_front(alloc, left, past, f, false)?;
+    let mut commands = read_front(alloc, left, past, &[], f, false)?;
     if commands.push(Command::Finish).is_err() {
         return Err(TextFault::NoMemory);
     }
@@ -92,21 +92,25 @@ fn read_lines(alloc: Global, text: &[u8], line: u32, f: &Fabric) -> Result<Scrip
     ensures memory { IsErrOf result TextFault.NoMemory → 0 < length (sound_lines f.now line text.now) }
 {
     let mut left = Lines::numbered_from(line + 1, text);
-    match read_front(alloc, &mut left, line + line_count(text) + 1, f, true) {
+    match read_front(alloc, &mut left, line + 1, text, f, true) {
         Ok(commands) => finished(commands, left),
         Err(fault) => Err(fault),
     }
 }
 
 // The commands of the lines before `end`, after which `left` stands then; of lines `duo` only where they are allowed.
+// Without `end` the line is named that comes so many after `past` as `text` has: they are counted only then.
 fn read_front(
     alloc: Global,
     left: &mut Lines,
     past: u32,
+    text: &[u8],
     f: &Fabric,
     duos: bool,
 ) -> Result<Vec<Command>, TextFault>
-    ensures reading { FrontGives (front_part duos past f.now (lines_left left.old)) (lines_left left.new) result }
+    requires { (length text.now ≤ 4294967290) × (past + line_count text.now ≤ 4294967295) }
+    ensures reading { FrontGives (front_part duos (past + line_count text.now) f.now (lines_left left.old))
+        (lines_left left.new) result }
     ensures memory { IsErrOf result TextFault.NoMemory → 0 < length (front_sound duos f.now (lines_left left.old)) }
 {
     let mut commands = Vec::new(alloc);
@@ -123,7 +127,7 @@ fn read_front(
         }
     }
     Err(TextFault::At {
-        line: past,
+        line: past + line_count(text),
         kind: FaultKind::NoEnd,
     })
 }
