@@ -37,10 +37,18 @@ fn walk_from(
     ensures reading { LineGives (walk_said fabric.now (name.now ∷ words_of turns.now)) result }
     ensures memory { IsErrOf result LineFault.NoMemory → IsOk (walk_said fabric.now (name.now ∷ words_of turns.now)) }
 {
-    if !are_within(words(turns), MAX_TURNS) {
+    if !are_few(turns) {
         return Err(LineFault::Wrong(FaultKind::BadWord));
     }
     walk_of_words(alloc, fabric, name, turns)
+}
+
+// Whether there are few enough turns. Each but the last takes two bytes, so only those of long lines are counted.
+#[tactic(auto, using(crate::proofs::Counts::few_words))]
+fn are_few(turns: &[u8]) -> bool
+    ensures { result ≡ nat_le (length (words_of turns.now)) 64 }
+{
+    turns.len() <= 2 * MAX_TURNS || are_within(words(turns), MAX_TURNS)
 }
 
 // Whether there are at most so many words. It reads one more at most.
