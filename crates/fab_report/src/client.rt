@@ -8,9 +8,9 @@ ghost use Rattle.world_defs.specs.declared.effect.Said.TheVariants.{Received};
 ghost use Rattle.fab_report.specs.There.{IsHost, IsSaidOf};
 ghost use Rattle.fab_report.specs.Words.{behind};
 
-use crate::words::bytes_word;
+use crate::words::{append_numbered, bytes_word};
 use line_writing::Word::{Number, Text};
-use line_writing::{append_behind, append_spaced, append_words};
+use line_writing::{append_behind, append_bytes, append_marked};
 use port_graph::{Fabric, Vertex};
 use run_defs::ClientCall;
 use std::alloc::AllocError;
@@ -30,10 +30,20 @@ pub(crate) fn client_line(
     ensures { OnOk result (text.new.items ≡ text.old.items
         ++ spaced (words_in f.now (Client call host port said.now))) }
 {
-    let name = Text(f.name_of(Vertex::Host(host)));
-    let port = Number(u64::from(port));
-    append_words(text, &[Text(call_of(call)), name, port])?;
+    let name = f.name_of(Vertex::Host(host));
+    append_call(text, call_of(call), name, port)?;
     append_said(text, f, said)
+}
+
+// The word of a call, with the port at which it is made. None of these is made a `Word` first.
+fn append_call(text: &mut Vec<u8>, call: &[u8], name: &[u8], port: u8) -> Result<(), AllocError>
+    ensures { OnOk result (text.new.items ≡ text.old.items
+        ++ spaced (call.now ∷ name.now ∷ decimal port ∷ [])) }
+{
+    append_bytes(text, call)?;
+    text.push(b' ')?;
+    append_bytes(text, name)?;
+    append_marked(text, b' ', u64::from(port))
 }
 
 // The word of a call.
@@ -56,13 +66,10 @@ fn append_said(text: &mut Vec<u8>, f: &Fabric, said: &Said) -> Result<(), AllocE
     ensures { OnOk result (text.new.items ≡ text.old.items ++ behind (said_words f.now said.now)) }
 {
     match said {
-        Said::Done => append_spaced(text, &Text(b"done")),
-        Said::Count(count) => append_behind(text, &[Text(b"done"), Number(u64::from(*count))]),
-        Said::Token(token) => append_behind(text, &[Text(b"token"), Number(u64::from(*token))]),
-        Said::Sent(token) => append_behind(
-            text,
-            &[Text(b"sent"), Text(b"token"), Number(u64::from(*token))],
-        ),
+        Said::Done => append_bytes(text, b" done"),
+        Said::Count(count) => append_numbered(text, b" done", u64::from(*count)),
+        Said::Token(token) => append_numbered(text, b" token", u64::from(*token)),
+        Said::Sent(token) => append_numbered(text, b" sent token", u64::from(*token)),
         Said::Received {
             token,
             from,
@@ -70,7 +77,7 @@ fn append_said(text: &mut Vec<u8>, f: &Fabric, said: &Said) -> Result<(), AllocE
             prio,
             body,
         } => append_received(text, f, *token, *from, *sport, *prio, body.bytes()),
-        Said::Nothing => append_spaced(text, &Text(b"nothing")),
+        Said::Nothing => append_bytes(text, b" nothing"),
         Said::Refused(cause) => append_refused(text, *cause),
     }
 }

@@ -4,21 +4,20 @@ ghost use Rattle.std.specs.Prelude.{◌≡◌, ◌++◌, ◌∷◌, [], OnOk, co
 ghost use Rattle.fab_text.specs.Written.{spaced};
 ghost use Rattle.run_defs.specs.LineText.{duo_cause, duo_words, hex_text};
 
-use crate::words::bytes_word;
-use line_writing::Word::{Number, Text};
-use line_writing::{append_bytes, append_marked, append_words};
+use crate::words::{append_numbered, bytes_word};
+use line_writing::{append_bytes, append_spaced};
 use run_defs::{DuoCause, DuoEffect};
 use std::alloc::AllocError;
 
-/// `duo EFFECT`, of which all that no effect has of its own is written at once.
+/// `duo EFFECT`, without a word made first.
 pub(crate) fn duo_line(text: &mut Vec<u8>, effect: &DuoEffect) -> Result<(), AllocError>
     ensures { OnOk result (text.new.items ≡ text.old.items ++ spaced (codes "duo" ∷ duo_words effect.now)) }
 {
     match effect {
-        DuoEffect::Token(token) => number_line(text, b"duo token", u64::from(*token)),
+        DuoEffect::Token(token) => append_numbered(text, b"duo token", u64::from(*token)),
         DuoEffect::Refused(cause) => refused_line(text, *cause),
         DuoEffect::Idle => append_bytes(text, b"duo idle"),
-        DuoEffect::Emitted(place) => number_line(text, b"duo emitted", *place),
+        DuoEffect::Emitted(place) => append_numbered(text, b"duo emitted", *place),
         DuoEffect::Hello => append_bytes(text, b"duo hello"),
         DuoEffect::Stale => append_bytes(text, b"duo stale"),
         DuoEffect::Message => append_bytes(text, b"duo message"),
@@ -27,19 +26,11 @@ pub(crate) fn duo_line(text: &mut Vec<u8>, effect: &DuoEffect) -> Result<(), All
         DuoEffect::Ack => append_bytes(text, b"duo ack"),
         DuoEffect::Expired => append_bytes(text, b"duo expired"),
         DuoEffect::Nothing => append_bytes(text, b"duo nothing"),
-        DuoEffect::Sent(token) => number_line(text, b"duo sent", u64::from(*token)),
-        DuoEffect::Unsure(token) => number_line(text, b"duo unsure", u64::from(*token)),
+        DuoEffect::Sent(token) => append_numbered(text, b"duo sent", u64::from(*token)),
+        DuoEffect::Unsure(token) => append_numbered(text, b"duo unsure", u64::from(*token)),
         DuoEffect::Received { token, body } => received_line(text, *token, body.bytes()),
-        DuoEffect::Restarted(inc) => number_line(text, b"duo restarted", u64::from(*inc)),
+        DuoEffect::Restarted(inc) => append_numbered(text, b"duo restarted", u64::from(*inc)),
     }
-}
-
-// Words with a number after them.
-fn number_line(text: &mut Vec<u8>, words: &[u8], number: u64) -> Result<(), AllocError>
-    ensures { OnOk result (text.new.items ≡ text.old.items ++ (words.now ++ 32 ∷ decimal number)) }
-{
-    append_bytes(text, words)?;
-    append_marked(text, b' ', number)
 }
 
 // `duo refused CAUSE`
@@ -47,8 +38,8 @@ fn refused_line(text: &mut Vec<u8>, cause: DuoCause) -> Result<(), AllocError>
     ensures { OnOk result (text.new.items ≡ text.old.items
         ++ spaced (codes "duo" ∷ codes "refused" ∷ duo_cause cause ∷ [])) }
 {
-    let cause = Text(cause_of(cause));
-    append_words(text, &[Text(b"duo"), Text(b"refused"), cause])
+    append_bytes(text, b"duo refused ")?;
+    append_bytes(text, cause_of(cause))
 }
 
 // `duo received T HEX`
@@ -56,9 +47,8 @@ fn received_line(text: &mut Vec<u8>, token: u16, body: &[u8]) -> Result<(), Allo
     ensures { OnOk result (text.new.items ≡ text.old.items
         ++ spaced (codes "duo" ∷ codes "received" ∷ decimal token ∷ hex_text body.now ∷ [])) }
 {
-    let token = Number(u64::from(token));
-    let bytes = bytes_word(body);
-    append_words(text, &[Text(b"duo"), Text(b"received"), token, bytes])
+    append_numbered(text, b"duo received", u64::from(token))?;
+    append_spaced(text, &bytes_word(body))
 }
 
 // Why a call, or a restart, was refused, in one word.

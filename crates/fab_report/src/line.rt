@@ -19,7 +19,7 @@ use crate::step::step_line;
 use fab_text::FaultKind;
 use itoa::Buffer;
 use line_writing::Word::{Number, Text};
-use line_writing::append_words;
+use line_writing::{append_bytes, append_words};
 use net_defs::Route;
 use port_graph::{Fabric, Place, Vertex};
 use run_defs::{InstallCause, Line};
@@ -197,8 +197,8 @@ fn plan_line(text: &mut Vec<u8>, number: u128) -> Result<(), AllocError>
         ++ spaced (codes "plan" ∷ codes "at" ∷ decimal number ∷ [])) }
 {
     let mut buffer = Buffer::new();
-    let number = Text(buffer.format(number).as_bytes());
-    append_words(text, &[Text(b"plan"), Text(b"at"), number])
+    append_bytes(text, b"plan at ")?;
+    append_bytes(text, buffer.format(number).as_bytes())
 }
 
 // `settle rounds R resets N unacked U`

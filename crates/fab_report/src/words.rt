@@ -1,13 +1,14 @@
-//! The words of turns, vertices and bytes.
+//! The words of turns, vertices and bytes; and words that a number follows.
 
-ghost use Rattle.std.specs.Prelude.{◌≡◌};
+ghost use Rattle.std.specs.Prelude.{◌≡◌, ◌++◌, ◌∷◌, OnOk, decimal};
 ghost use Rattle.line_writing.specs.Words.{word_text};
 ghost use Rattle.run_defs.specs.LineText.{hex_text, turn_text, vertex_text};
 ghost use Rattle.fab_report.specs.There.{IsVertexOf};
 
-use line_writing::Word;
+use line_writing::{Word, append_bytes, append_marked};
 use map_defs::MapVertex;
 use port_graph::{Fabric, Vertex};
+use std::alloc::AllocError;
 
 /// A turn, or a port of a map: `0`, `+3`, `-3`.
 pub(crate) fn turn_word(turn: i8) -> Word<'static>
@@ -43,4 +44,18 @@ pub(crate) fn bytes_word(bytes: &[u8]) -> Word<'_>
     } else {
         Word::Hex(bytes)
     }
+}
+
+/// Puts words after a text, and then a number. It stands in its callers, where the words are known: so they are
+/// written without a loop.
+#[inline(always)]
+pub(crate) fn append_numbered(
+    text: &mut Vec<u8>,
+    words: &[u8],
+    number: u64,
+) -> Result<(), AllocError>
+    ensures { OnOk result (text.new.items ≡ text.old.items ++ (words.now ++ 32 ∷ decimal number)) }
+{
+    append_bytes(text, words)?;
+    append_marked(text, b' ', number)
 }

@@ -9,5 +9,5 @@ pub returns : goal.returns
 returns c =
     on_ok_weaker c.append_said.result
     (continued c.args.text.now.items (call_word c.args.call) (host_name c.args.f.now c.args.host ∷ decimal c.args.port ∷ []) (said_words c.args.f.now c.args.said.now)
-    (c.in_ok-append_words.ensures ∙ (λ i. c.args.text.now.items ++ spaced (c.call_of.ensures i ∷ c.name_of.ensures i ∷ decimal (c.from.ensures i) ∷ []))))
+    (c.in_ok-append_call.ensures ∙ (λ i. c.args.text.now.items ++ spaced (c.call_of.ensures i ∷ c.name_of-name.ensures i ∷ decimal c.args.port ∷ []))))
     c.append_said.ensures
