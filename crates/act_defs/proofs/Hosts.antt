@@ -2,7 +2,8 @@
 use Rattle.std.proofs.Common.{◌≡◌, ℕ, get_or, set, Some, refl, sym, subst}
 use Rattle.std.specs.Prelude.{List}
 use Rattle.net_defs.specs.declared.route.Route.{Route}
-use Rattle.net_defs.specs.Route.{host_port, channel_from}
+use Rattle.net_defs.specs.Route.{host_port}
+use Rattle.cable_history.specs.Crossed.{leaving}
 use Rattle.link_defs.specs.declared.moved.Course.TheVariants.{Arrives}
 use Rattle.link_defs.specs.Links.{Held, packet_in}
 use Rattle.link_defs.specs.Advance.{course}
@@ -13,7 +14,7 @@ use Rattle.world_defs.specs.Table.{whole_table}
 use Rattle.world_defs.specs.Node.{NodeState, Outgoing, to_send, after_sending, new_node}
 use Rattle.world_defs.specs.Hearing.{hear}
 use Rattle.world_defs.specs.Client.{Called}
-use Rattle.world_defs.specs.World.{WorldState, fabric_of, host_count, node_at}
+use Rattle.world_defs.specs.World.{WorldState, host_count, node_at}
 use Rattle.act_defs.specs.Acts.{Act, Happens, Plans, Adopts, acted}
 use Rattle.world_defs.proofs.Lists.{each-set}
 use Rattle.world_defs.proofs.Views.{HostChange, CallChange, Change, view}
@@ -22,8 +23,8 @@ use Rattle.world_defs.proofs.Strikes.{injection-nodes}
 -- One host as an act leaves it: it changed by itself, heard a packet, sent one, was called, or adopted routes.
 pub data NodeChange (w : WorldState) : Act → ℕ → NodeState → Type 0 where
   itself : {e : Event} {x : Effect} {h : ℕ} {m : NodeState} → HostChange w e x h m → NodeChange w (Happens e) h m
-  hears : {c : ℕ} (packet : Held) (h : ℕ) → packet_in w.links c ≡ Some packet → course (fabric_of w) c packet.wire ≡ Arrives h → NodeChange w (Happens (Advance c)) h (hear h (host_count w) (node_at w h) packet.wire).1
-  sends : {h : ℕ} (c : ℕ) (out : Outgoing) → channel_from (fabric_of w) (host_port h) ≡ Some c → to_send h (node_at w h) ≡ Some out → NodeChange w (Happens (Inject h)) h (after_sending (node_at w h) out)
+  hears : {c : ℕ} (packet : Held) (h : ℕ) → packet_in w.links c ≡ Some packet → course w.links.cables c packet.wire ≡ Arrives h → NodeChange w (Happens (Advance c)) h (hear h (host_count w) (node_at w h) packet.wire).1
+  sends : {h : ℕ} (c : ℕ) (out : Outgoing) → leaving w.links.cables (host_port h) ≡ Some c → to_send h (node_at w h) ≡ Some out → NodeChange w (Happens (Inject h)) h (after_sending (node_at w h) out)
   calls : {e : Event} {h port : ℕ} {call : Called} → CallChange w e h port call → NodeChange w (Happens e) h call.node
   adopts : {mapper : ℕ} {routes : List Route} → NodeChange w (Adopts mapper routes) mapper (record (node_at w mapper) { table = whole_table routes mapper 1 })
 

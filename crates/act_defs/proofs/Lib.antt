@@ -1,4 +1,5 @@
 mod Moments
+pub mod Cables
 pub mod Hosts
 pub mod Kept
 pub mod Reaching

@@ -1,7 +1,7 @@
 -- What holds from a world to the next at each send of an ask holds along the ask.
 use Rattle.std.proofs.Common.{◌≡◌, ℕ, zero, suc, Bool, true, false, ℤ, List, [], ◌∷◌, map, Option, Some, None, is_some, refl, sym, ap, ◌∙◌, subst, if◌then◌else◌}
 use Rattle.link_defs.specs.Links.{LinkState, is_idle}
-use Rattle.world_defs.specs.declared.event.Event.TheVariants.{Ask, Inject, GiveUp}
+use Rattle.world_defs.specs.declared.event.Event.TheVariants.{Ask, GiveUp}
 use Rattle.world_defs.specs.declared.effect.Effect.{Effect}
 use Rattle.world_defs.specs.Node.{Outgoing, has_staged, given_up}
 use Rattle.world_defs.specs.World.{WorldState, node_at, with_node, addresses}
@@ -9,7 +9,7 @@ use Rattle.world_defs.specs.Step.{asked, gave_up, step, after_all}
 use Rattle.world_defs.specs.Log.{Log}
 use Rattle.world_defs.specs.Logs as log
 use Rattle.world_defs.proofs.LogRows.{ask-row}
-use Rattle.world_defs.proofs.LogViews.{tries-by, drain, Tried, Sent, sends, heard_by, host_try, loop_try, also_harmed, tries_of, asked_hosts, host_tries, loop_tries, ask}
+use Rattle.world_defs.proofs.LogViews.{tries-by, Tried, Sent, sends, heard_by, host_try, loop_try, tries_of, asked_hosts, host_tries, loop_tries, ask}
 use Rattle.world_defs.specs.Asking.{probed_host, all_given_up}
 use Rattle.ask_laws.specs.Row.{IsOfAsk, AskIsEvents, AskEndsIdle}
 use Rattle.ask_laws.proofs.Lone.{bare, IsBare, is-bare, bare-idle, idle-bare}

@@ -1,5 +1,5 @@
 -- What an ask comes to: the laws.
-use Rattle.std.proofs.Common.{◌≡◌, ◌<◌, ◌≤◌, ℕ, zero, suc, Bool, true, false, not, ◌&&◌, ◌||◌, ℤ, List, Option, Some, None, is_some, ◌⊎◌, inl, inr, refl, sym, ap, ◌∙◌, subst, arith, true≢false, if◌then◌else◌}
+use Rattle.std.proofs.Common.{◌≡◌, ◌<◌, ◌≤◌, ℕ, zero, suc, Bool, true, false, not, ◌&&◌, ◌||◌, ℤ, List, Option, Some, None, is_some, ◌⊎◌, inl, inr, refl, sym, ap, ◌∙◌, subst, arith, true≢false}
 use Rattle.std.proofs.lemmas.Bool.{cases_lt}
 use Rattle.net_defs.specs.declared.place.Place.{Place}
 use Rattle.net_defs.specs.declared.place.Place.TheVariants.{Host as AtHostPlace, Switch as AtSwitch, Nothing as Stuck}
@@ -10,10 +10,9 @@ use Rattle.world_defs.specs.World.{WorldState, fabric_of, last_count}
 use Rattle.world_defs.specs.Asking.{loop_answer, all_given_up}
 use Rattle.world_defs.specs.Log.{Log}
 use Rattle.world_defs.specs.Logs as log
-use Rattle.world_defs.proofs.LogViews.{tried_to, tries-by, Tried, also_harmed, tries_of, host_try, loop_try, host_tries, loop_tries, Asked, asked_loops, asked_hosts, ask}
+use Rattle.world_defs.proofs.LogViews.{tried_to, tries-by, Tried, tries_of, host_tries, loop_tries, Asked, asked_loops, asked_hosts, ask}
 use Rattle.world_laws.proofs.Reached.{row-kept}
 use Rattle.ask_laws.specs.Premises.{CanAsk}
-use Rattle.ask_laws.specs.Row.{IsOfAsk}
 use Rattle.ask_laws.specs.Kept.{IsAskKept, AskKeeps, CanAskAgain}
 use Rattle.ask_laws.specs.Truth.{AskIsTrueOrDrowns, QuietAskIsHeard, DrownedAskFoundNothing, DrownedAskWasHarmed}
 use Rattle.ask_laws.proofs.Along.{ask-events, ask-idle}

@@ -9,9 +9,8 @@ use Rattle.net_defs.specs.declared.vertex.Vertex.TheVariants.{Host, Switch}
 use Rattle.net_defs.specs.declared.vertex.End.{End}
 use Rattle.net_defs.specs.declared.place.Place.{Place}
 use Rattle.net_defs.specs.declared.place.Place.TheVariants.{Host as AtHostPlace, Nothing as Stuck}
-use Rattle.net_defs.specs.Network.{Network}
 use Rattle.net_defs.specs.Turn.{IsTurn}
-use Rattle.net_defs.specs.Route.{place, place_at, host_port, channel_from}
+use Rattle.net_defs.specs.Route.{place, place_at, host_port}
 use Rattle.packet_defs.specs.declared.kind.Kind.{Kind}
 use Rattle.packet_defs.specs.declared.kind.Kind.TheVariants.{Mapping}
 use Rattle.packet_defs.specs.declared.host_drop.HostDrop.{HostDrop}
@@ -23,12 +22,13 @@ use Rattle.packet_defs.specs.Host.{has_route, decode}
 use Rattle.packet_defs.proofs.Packets.{head-push, packet_of-difference, packet_of-stripped}
 use Rattle.packet_defs.proofs.Hosts.{decode-packet_of, decode-difference}
 use Rattle.link_defs.specs.declared.moved.Why.{Why}
-use Rattle.link_defs.specs.declared.moved.Why.TheVariants.{OutOfRange, NotRoute, NoCable}
+use Rattle.link_defs.specs.declared.moved.Why.TheVariants.{OutOfRange, NotRoute, NoCable, NewCable}
 use Rattle.link_defs.specs.declared.moved.Course.{Course}
 use Rattle.link_defs.specs.declared.moved.Course.TheVariants.{Drops}
 use Rattle.link_defs.specs.declared.moved.Moved.{Moved}
 use Rattle.link_defs.specs.declared.moved.Moved.TheVariants.{To, AtHost, Dropped as MovedDropped, Blocked as MovedBlocked, Empty}
-use Rattle.link_defs.specs.Channel.{channel_head}
+use Rattle.cable_history.specs.History.{CableHistory, fabric_now}
+use Rattle.cable_history.specs.Crossed.{leaving, life_head}
 use Rattle.link_defs.specs.Advance.{course, course_into}
 use Rattle.link_defs.specs.Lone.{dropped_place, ended_place, lone_place}
 use Rattle.link_defs.proofs.HopsLeft.{course_into-enters}
@@ -69,71 +69,72 @@ route-left : (turn : ℤ) (route : List ℤ) (kind : Kind) (payload : List ℕ) 
 route-left turn route kind payload = rw (packet_of-difference (turn ∷ route) kind payload, has_route-turn turn route kind payload) refl
 
 -- a switch that drops a packet is no host
-dropped-elsewhere : (n : Network) (c : ℕ) (wire : List ℕ) (why : Why) (h : ℕ) → course n c wire ≡ Drops why → dropped_place n c why ≢ AtHostPlace h
-dropped-elsewhere n c wire OutOfRange h e is = cc
-dropped-elsewhere n c wire NoCable h e is = cc
-dropped-elsewhere n c wire NotRoute h e is = by (channel_head n c) e is
+dropped-elsewhere : (cables : CableHistory) (c : ℕ) (wire : List ℕ) (why : Why) (h : ℕ) → course cables c wire ≡ Drops why → dropped_place cables c why ≢ AtHostPlace h
+dropped-elsewhere cables c wire OutOfRange h e is = cc
+dropped-elsewhere cables c wire NoCable h e is = cc
+dropped-elsewhere cables c wire NewCable h e is = cc
+dropped-elsewhere cables c wire NotRoute h e is = by (life_head cables c) e is
   where
-    at : (v : Vertex) (p : ℕ) → course_into n (Some (record { v = v; p = p })) wire ≡ Drops NotRoute → place_at (Some (record { v = v; p = p })) ≢ AtHostPlace h
+    at : (v : Vertex) (p : ℕ) → course_into cables (Some (record { v = v; p = p })) wire ≡ Drops NotRoute → place_at (Some (record { v = v; p = p })) ≢ AtHostPlace h
     at (Host g) p f q = cc
     at (Switch s) p f q = cc
 
-    by : (o : Option End) → course_into n o wire ≡ Drops NotRoute → place_at o ≢ AtHostPlace h
+    by : (o : Option End) → course_into cables o wire ≡ Drops NotRoute → place_at o ≢ AtHostPlace h
     by None f q = cc
     by (Some d) f q = at d.v d.p f q
 
-abbrev ended_by : Network → ℕ → List ℕ → ℕ → Course → Place
-ended_by n c wire k to = ended_place n c wire (λ next. lone_place k n next (stripped wire)) to
+abbrev ended_by : CableHistory → ℕ → List ℕ → ℕ → Course → Place
+ended_by cables c wire k to = ended_place cables c wire (λ next. lone_place k cables next (stripped wire)) to
 
 one_more : (m : ℕ) → suc m + 1 ≡ suc (m + 1)
 one_more m = omega arith
 
 -- the last turn is taken
-comes-none : (n : Network) (c : ℕ) (kind : Kind) (payload : List ℕ) (m : Moved (List ℕ)) → Goes n c (packet_of [] kind payload) m → Comes (ended_by n c (packet_of [] kind payload) 0 (course n c (packet_of [] kind payload))) kind payload m
-comes-none n c kind payload m (Goes.to_host h e is) =
+comes-none : (cables : CableHistory) (c : ℕ) (kind : Kind) (payload : List ℕ) (m : Moved (List ℕ)) → Goes cables c (packet_of [] kind payload) m → Comes (ended_by cables c (packet_of [] kind payload) 0 (course cables c (packet_of [] kind payload))) kind payload m
+comes-none cables c kind payload m (Goes.to_host h e is) =
     let wire : List ℕ = packet_of [] kind payload in
-    Comes.taken h (ap (ended_by n c wire 0) e ∙ ap (λ b. if b then Stuck else AtHostPlace h) (has_route-none kind payload)) is
-comes-none n c kind payload m (Goes.nowhere why e is) =
+    Comes.taken h (ap (ended_by cables c wire 0) e ∙ ap (λ b. if b then Stuck else AtHostPlace h) (has_route-none kind payload)) is
+comes-none cables c kind payload m (Goes.nowhere why e is) =
     let wire : List ℕ = packet_of [] kind payload in
-    Comes.left_over (λ h p. dropped-elsewhere n c wire why h e (sym (ap (ended_by n c wire 0) e) ∙ p)) (λ h at p. let bad : MovedDropped why ≡ AtHost h at = sym is ∙ p in cc)
-comes-none n c kind payload m (Goes.further next e g) =
-    let t = course_into-enters n (channel_head n c) (packet_of [] kind payload) next e in absurd (no_turn kind payload t.0 t.1)
+    Comes.left_over (λ h p. dropped-elsewhere cables c wire why h e (sym (ap (ended_by cables c wire 0) e) ∙ p)) (λ h at p. let bad : MovedDropped why ≡ AtHost h at = sym is ∙ p in cc)
+comes-none cables c kind payload m (Goes.further next e g) =
+    let t = course_into-enters cables (life_head cables c) (packet_of [] kind payload) next e in absurd (no_turn kind payload t.0 t.1)
 
 -- a turn is left
-comes-turn : (n : Network) (c : ℕ) (turn : ℤ) (route : List ℤ) (kind : Kind) (payload : List ℕ) (m : Moved (List ℕ)) → Goes n c (packet_of (turn ∷ route) kind payload) m
-    → ((next : ℕ) → Goes n next (packet_of route kind payload) m → Comes (lone_place (length route + 1) n next (packet_of route kind payload)) kind payload m)
-    → Comes (ended_by n c (packet_of (turn ∷ route) kind payload) (length route + 1) (course n c (packet_of (turn ∷ route) kind payload))) kind payload m
-comes-turn n c turn route kind payload m (Goes.to_host h e is) rest =
+comes-turn : (cables : CableHistory) (c : ℕ) (turn : ℤ) (route : List ℤ) (kind : Kind) (payload : List ℕ) (m : Moved (List ℕ)) → Goes cables c (packet_of (turn ∷ route) kind payload) m
+    → ((next : ℕ) → Goes cables next (packet_of route kind payload) m → Comes (lone_place (length route + 1) cables next (packet_of route kind payload)) kind payload m)
+    → Comes (ended_by cables c (packet_of (turn ∷ route) kind payload) (length route + 1) (course cables c (packet_of (turn ∷ route) kind payload))) kind payload m
+comes-turn cables c turn route kind payload m (Goes.to_host h e is) rest =
     let wire : List ℕ = packet_of (turn ∷ route) kind payload in
     let k : ℕ = length route + 1 in
-    let stuck : ended_by n c wire k (course n c wire) ≡ Stuck = ap (ended_by n c wire k) e ∙ ap (λ b. if b then Stuck else AtHostPlace h) (has_route-turn turn route kind payload) in
+    let stuck : ended_by cables c wire k (course cables c wire) ≡ Stuck = ap (ended_by cables c wire k) e ∙ ap (λ b. if b then Stuck else AtHostPlace h) (has_route-turn turn route kind payload) in
     Comes.left_over (λ g p. let bad : Stuck ≡ AtHostPlace g = sym stuck ∙ p in cc)
     (λ g at p. let same : at ≡ wire = at-same g at wire h (sym p ∙ is) in ap decode same ∙ route-left turn route kind payload)
   where
     at-same : (g : ℕ) (at wire : List ℕ) (h : ℕ) → (let r : Moved (List ℕ) = AtHost g at in r) ≡ AtHost h wire → at ≡ wire
     at-same g at wire h e = cc
-comes-turn n c turn route kind payload m (Goes.nowhere why e is) rest =
+comes-turn cables c turn route kind payload m (Goes.nowhere why e is) rest =
     let wire : List ℕ = packet_of (turn ∷ route) kind payload in
     let k : ℕ = length route + 1 in
-    Comes.left_over (λ h p. dropped-elsewhere n c wire why h e (sym (ap (ended_by n c wire k) e) ∙ p)) (λ h at p. let bad : MovedDropped why ≡ AtHost h at = sym is ∙ p in cc)
-comes-turn n c turn route kind payload m (Goes.further next e g) rest =
+    Comes.left_over (λ h p. dropped-elsewhere cables c wire why h e (sym (ap (ended_by cables c wire k) e) ∙ p)) (λ h at p. let bad : MovedDropped why ≡ AtHost h at = sym is ∙ p in cc)
+comes-turn cables c turn route kind payload m (Goes.further next e g) rest =
     let wire : List ℕ = packet_of (turn ∷ route) kind payload in
     let k : ℕ = length route + 1 in
     let less : stripped wire ≡ packet_of route kind payload = packet_of-stripped turn route kind payload in
-    let on : ended_by n c wire k (course n c wire) ≡ lone_place k n next (packet_of route kind payload) = ap (ended_by n c wire k) e ∙ ap (lone_place k n next) less in
-    subst (λ p. Comes p kind payload m) (sym on) (rest next (subst (λ x. Goes n next x m) less g))
+    let on : ended_by cables c wire k (course cables c wire) ≡ lone_place k cables next (packet_of route kind payload) = ap (ended_by cables c wire k) e ∙ ap (lone_place k cables next) less in
+    subst (λ p. Comes p kind payload m) (sym on) (rest next (subst (λ x. Goes cables next x m) less g))
 
-comes : (n : Network) (c : ℕ) (route : List ℤ) (kind : Kind) (payload : List ℕ) (m : Moved (List ℕ)) → Goes n c (packet_of route kind payload) m → Comes (lone_place (length route + 1) n c (packet_of route kind payload)) kind payload m
-comes n c [] kind payload m g = comes-none n c kind payload m g
-comes n c (turn ∷ route) kind payload m g =
+comes : (cables : CableHistory) (c : ℕ) (route : List ℤ) (kind : Kind) (payload : List ℕ) (m : Moved (List ℕ)) → Goes cables c (packet_of route kind payload) m → Comes (lone_place (length route + 1) cables c (packet_of route kind payload)) kind payload m
+comes cables c [] kind payload m g = comes-none cables c kind payload m g
+comes cables c (turn ∷ route) kind payload m g =
     let wire : List ℕ = packet_of (turn ∷ route) kind payload in
-    let more : lone_place (length (turn ∷ route) + 1) n c wire ≡ lone_place (suc (length route + 1)) n c wire = ap (λ k. lone_place k n c wire) (one_more (length route)) in
-    subst (λ p. Comes p kind payload m) (sym more) (comes-turn n c turn route kind payload m g (λ next h. comes n next route kind payload m h))
+    let more : lone_place (length (turn ∷ route) + 1) cables c wire ≡ lone_place (suc (length route + 1)) cables c wire = ap (λ k. lone_place k cables c wire) (one_more (length route)) in
+    subst (λ p. Comes p kind payload m) (sym more) (comes-turn cables c turn route kind payload m g (λ next h. comes cables next route kind payload m h))
 
--- a packet that goes as it was built comes to the place of its walk
-pub built-comes : (n : Network) (host c : ℕ) (route : List ℤ) (kind : Kind) (payload : List ℕ) (m : Moved (List ℕ)) → AllByRecursion IsTurn route → channel_from n (host_port host) ≡ Some c → Goes n c (packet_of route kind payload) m → Comes (place n host route) kind payload m
-built-comes n host c route kind payload m turns at g =
-    subst (λ p. Comes p kind payload m) (lone-place n host route kind payload c turns at) (comes n c route kind payload m g)
+-- a packet of the mapper's protocol that goes as it was built comes to the place of its walk
+pub built-comes : (cables : CableHistory) (host c : ℕ) (route : List ℤ) (payload : List ℕ) (m : Moved (List ℕ)) → AllByRecursion IsTurn route → leaving cables (host_port host) ≡ Some c → Goes cables c (packet_of route Mapping payload) m → Comes (place (fabric_now cables) host route) Mapping payload m
+built-comes cables host c route payload m turns at g =
+    subst (λ p. Comes p Mapping payload m) (lone-place cables host route payload c turns at) (comes cables c route Mapping payload m g)
 
 -- what a host hears of a body of the mapper's protocol
 pub hear-body : (h hosts : ℕ) (n : NodeState) (b : MappingBody) → is_mapping b ≡ true → hear h hosts n (packet_of [] Mapping (mapping_bytes b)) ≡ hear_mapping h hosts n b
@@ -174,7 +175,7 @@ unheard v (AtHost h wire) all =
     subst (Unheard v) (sym e) same
 
 -- a packet with a difference is dropped at each host
-pub marred-dropped : (n : Network) (c : ℕ) (wire : List ℕ) (m : Moved (List ℕ)) → Goes n c wire m → 0 < difference wire → (h : ℕ) (at : List ℕ) → m ≡ AtHost h at → IsDropped at
-marred-dropped n c wire m g some h at is =
-    let e = goes-difference n c wire m g h at is in
+pub marred-dropped : (cables : CableHistory) (c : ℕ) (wire : List ℕ) (m : Moved (List ℕ)) → Goes cables c wire m → 0 < difference wire → (h : ℕ) (at : List ℕ) → m ≡ AtHost h at → IsDropped at
+marred-dropped cables c wire m g some h at is =
+    let e = goes-difference cables c wire m g h at is in
     record { drop = BadCrc; is = decode-difference at (subst (λ x. 0 < x) (sym e) some) }

@@ -7,7 +7,7 @@ use Rattle.link_defs.specs.declared.moved.Course.{Course}
 use Rattle.link_defs.specs.declared.moved.Course.TheVariants.{Arrives, Enters, Drops}
 use Rattle.link_defs.specs.declared.moved.Moved.{Moved}
 use Rattle.link_defs.specs.declared.moved.Moved.TheVariants.{AtHost}
-use Rattle.link_defs.specs.Channel.{channel_count}
+use Rattle.cable_history.specs.Crossed.{life_channels}
 use Rattle.link_defs.specs.Links.{Held, LinkState, packet_in, is_idle}
 use Rattle.link_defs.specs.Advance.{course, advance_of, advance}
 use Rattle.link_defs.specs.Hops.{total_hops, is_stuck, changes as moves}
@@ -21,7 +21,7 @@ use Rattle.world_defs.specs.declared.arrival.Arrival.{Arrival}
 use Rattle.world_defs.specs.declared.arrival.Arrival.TheVariants.{Heard as Hears, Dropped as HostDropped, NotMine as ArrivalNotMine}
 use Rattle.world_defs.specs.Node.{NodeState}
 use Rattle.world_defs.specs.Hearing.{hear}
-use Rattle.world_defs.specs.World.{WorldState, fabric_of, host_count, node_at, with_links}
+use Rattle.world_defs.specs.World.{WorldState, host_count, node_at, with_links}
 use Rattle.world_defs.specs.Step.{arrived, advanced_by, advanced, step, steps}
 use Rattle.world_defs.specs.Drain.{channels_of}
 use Rattle.world_defs.proofs.LogViews.{drain}
@@ -56,7 +56,7 @@ landed_in w m = advanced_by w (m, bare w.links)
 
 -- while the packet is on its way, the world is as before but for its channel; then it has landed
 pub data Stage (w : WorldState) (m : Moved (List ℕ)) (v : WorldState) (hs : List (ℕ × Heard)) : Type 0 where
-  on_its_way : (c : ℕ) (held : Held) → c < channel_count (fabric_of w) → v ≡ with_links w (with_lone w.links c held) → Goes (fabric_of w) c held.wire m → hs ≡ [] → Stage w m v hs
+  on_its_way : (c : ℕ) (held : Held) → c < life_channels w.links.cables → v ≡ with_links w (with_lone w.links c held) → Goes w.links.cables c held.wire m → hs ≡ [] → Stage w m v hs
   landed : v ≡ (landed_in w m).1 → v.links ≡ bare w.links → hs ≡ told ((landed_in w m).0 ∷ []) → Stage w m v hs
 
 arrived-links : (w : WorldState) (h : ℕ) (o : Arrival × NodeState) → (arrived w h o).1.links ≡ w.links
@@ -71,20 +71,20 @@ landed-host w h wire = arrived-links (with_links w (bare w.links)) h (hear h (ho
 landed-stage : (w : WorldState) (m : Moved (List ℕ)) (r : Effect × WorldState) → r ≡ landed_in w m → (landed_in w m).1.links ≡ bare w.links → Stage w m r.1 (told (r.0 ∷ []))
 landed-stage w m r e links = Stage.landed (ap (λ t. t.1) e) (ap (λ t. t.1.links) e ∙ links) (ap (λ t. told (t.0 ∷ [])) e)
 
-advance-packet : (w v : WorldState) (c : ℕ) (held : Held) (to : Course) → c < channel_count (fabric_of w) → v ≡ with_links w (with_lone w.links c held) → course (fabric_of w) c held.wire ≡ to → step v (Advance c) ≡ advanced_by (with_links w (with_lone w.links c held)) (gone w.links held to)
+advance-packet : (w v : WorldState) (c : ℕ) (held : Held) (to : Course) → c < life_channels w.links.cables → v ≡ with_links w (with_lone w.links c held) → course w.links.cables c held.wire ≡ to → step v (Advance c) ≡ advanced_by (with_links w (with_lone w.links c held)) (gone w.links held to)
 unfolding advanced
 advance-packet w v c held to low is e =
     let u : WorldState = with_links w (with_lone w.links c held) in
     ap (λ t. step t (Advance c)) is ∙ ap (advanced_by u) (lone-advance w.links c held low ∙ ap (gone w.links held) e)
 
-at-packet : (w : WorldState) (m : Moved (List ℕ)) (v : WorldState) (c : ℕ) (held : Held) → c < channel_count (fabric_of w) → v ≡ with_links w (with_lone w.links c held) → Goes (fabric_of w) c held.wire m → Stage w m (step v (Advance c)).1 (told ((step v (Advance c)).0 ∷ []))
+at-packet : (w : WorldState) (m : Moved (List ℕ)) (v : WorldState) (c : ℕ) (held : Held) → c < life_channels w.links.cables → v ≡ with_links w (with_lone w.links c held) → Goes w.links.cables c held.wire m → Stage w m (step v (Advance c)).1 (told ((step v (Advance c)).0 ∷ []))
 at-packet w m v c held low is (Goes.to_host h e end) =
     landed-stage w m (step v (Advance c)) (advance-packet w v c held (Arrives h) low is e ∙ ap (landed_in w) (sym end)) (ap (λ x. (landed_in w x).1.links) end ∙ landed-host w h held.wire)
 at-packet w m v c held low is (Goes.nowhere why e end) =
     landed-stage w m (step v (Advance c)) (advance-packet w v c held (Drops why) low is e ∙ ap (landed_in w) (sym end)) (ap (λ x. (landed_in w x).1.links) end)
 at-packet w m v c held low is (Goes.further next e g) =
     let r = advance-packet w v c held (Enters next) low is e in
-    Stage.on_its_way next (record held { wire = stripped held.wire }) (course-below (fabric_of w) c held.wire next e) (ap (λ t. t.1) r) g (ap (λ t. told (t.0 ∷ [])) r)
+    Stage.on_its_way next (record held { wire = stripped held.wire }) (course-below w.links.cables c held.wire next e) (ap (λ t. t.1) r) g (ap (λ t. told (t.0 ∷ [])) r)
 
 -- an advance of an empty channel
 advance-empty : (v : WorldState) (d : ℕ) → packet_in v.links d ≡ None → step v (Advance d) ≡ (Idle, v)
@@ -144,12 +144,12 @@ goes-moves s c held (Arrives h) = refl
 goes-moves s c held (Enters next) = refl
 goes-moves s c held (Drops why) = refl
 
-not_still : (s : LinkState) (c : ℕ) (held : Held) → c < channel_count s.net → (is_idle (with_lone s c held) ≡ true) ⊎ (is_stuck (with_lone s c held) ≡ true) → ⊥
+not_still : (s : LinkState) (c : ℕ) (held : Held) → c < life_channels s.cables → (is_idle (with_lone s c held) ≡ true) ⊎ (is_stuck (with_lone s c held) ≡ true) → ⊥
 not_still s c held low (inl idle) =
     let none : None ≡ Some held = sym (idle-empty (with_lone s c held).channels idle c) ∙ lone-there s c held low in cc
 not_still s c held low (inr stuck) =
     let still : moves (advance (with_lone s c held) c).0 ≡ false = still-advance (with_lone s c held) c ((stuck-still (with_lone s c held) stuck).1 c) in
-    let moved : moves (advance (with_lone s c held) c).0 ≡ true = ap (λ r. moves r.0) (lone-advance s c held low) ∙ goes-moves s c held (course s.net c held.wire) in
+    let moved : moves (advance (with_lone s c held) c).0 ≡ true = ap (λ r. moves r.0) (lone-advance s c held low) ∙ goes-moves s c held (course s.cables c held.wire) in
     true≢false (sym moved ∙ still)
 
 -- A drain of the packet alone.
@@ -163,7 +163,7 @@ ended w m v xs (Stage.landed is links heard) still = record { world = is; links 
 ended w m v xs (Stage.on_its_way c held low is g none) still =
     absurd (not_still w.links c held low (subst (λ t. (is_idle t.links ≡ true) ⊎ (is_stuck t.links ≡ true)) is still))
 
-pub lone-drain : (w : WorldState) (m : Moved (List ℕ)) (c : ℕ) (held : Held) → c < channel_count (fabric_of w) → w.links ≡ with_lone w.links c held → Goes (fabric_of w) c held.wire m → Lands w m (drain w)
+pub lone-drain : (w : WorldState) (m : Moved (List ℕ)) (c : ℕ) (held : Held) → c < life_channels w.links.cables → w.links ≡ with_lone w.links c held → Goes w.links.cables c held.wire m → Lands w m (drain w)
 lone-drain w m c held low is g =
     let start : Stage w m w [] = Stage.on_its_way c held low (ap (with_links w) is) g refl in
     ended w m (drain w).1 (drain w).0 (drain-stage w m w [] start) (drain-still w)

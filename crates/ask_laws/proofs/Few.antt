@@ -1,5 +1,5 @@
 -- An ask has three injections at most for each try.
-use Rattle.std.proofs.Common.{◌≡◌, ◌≤◌, ◌+◌, ◌*◌, ℕ, zero, suc, Bool, true, false, ℤ, List, map, Option, Some, None, is_some, refl, arith, if◌then◌else◌}
+use Rattle.std.proofs.Common.{◌≡◌, ◌≤◌, ◌+◌, ◌*◌, ℕ, zero, suc, Bool, true, false, ℤ, List, map, Option, Some, None, is_some, refl, arith}
 use Rattle.world_defs.specs.declared.event.Event.{Event}
 use Rattle.world_defs.specs.declared.event.Event.TheVariants.{Ask, Inject, GiveUp}
 use Rattle.world_defs.specs.declared.effect.Effect.{Effect}
@@ -8,7 +8,7 @@ use Rattle.world_defs.specs.World.{WorldState, addresses}
 use Rattle.world_defs.specs.Step.{planned_strikes, sent_out, step, after_all}
 use Rattle.world_defs.specs.Log.{Log}
 use Rattle.world_defs.specs.Logs as log
-use Rattle.world_defs.proofs.LogViews.{tries-by, drain, Tried, Sent, sends, heard_by, host_try, loop_try, also_harmed, tries_of, asked_hosts, host_tries, ask}
+use Rattle.world_defs.proofs.LogViews.{tries-by, drain, Tried, Sent, sends, heard_by, host_try, loop_try, tries_of, asked_hosts, host_tries}
 use Rattle.world_defs.specs.Asking.{probed_host, all_given_up}
 use Rattle.world_defs.proofs.Views.{Change, view}
 use Rattle.world_defs.proofs.LogRows.{all-map}

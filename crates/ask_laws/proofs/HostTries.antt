@@ -20,7 +20,7 @@ use Rattle.ask_laws.proofs.Drained.{told}
 use Rattle.ask_laws.proofs.Back.{reply-place}
 use Rattle.ask_laws.proofs.Parcels.{hears_in, Delivery, deliver}
 use Rattle.ask_laws.proofs.Ready.{Ready, same-node, kept-both, kept-sent, reply-first, ready-sent, unstaged-reply}
-use Rattle.ask_laws.proofs.Tries.{no_probe, one_probe, no_reply, one_reply, Premises, IsQuietTo, IsTry, below, place-there, probe-parcel, reply-parcel, harm, used-harm, stuck-place, one-host}
+use Rattle.ask_laws.proofs.Tries.{no_probe, one_probe, no_reply, one_reply, Premises, IsQuietTo, IsTry, below, place-there, probe-parcel, reply-parcel, harm, used-harm, one-host}
 use Rattle.ask_laws.proofs.Probing.{staged_in, Silent, Delivered, not_quiet, none-quiet, probe-sent, Heeded, heeded}
 
 -- what a found host is, and that there is none
@@ -76,7 +76,7 @@ heard-there base g mapper number from xs same low e =
     e ∙ ap (λ r. told (r.0 ∷ [])) (reply-heard base g number from low) ∙ ap (λ x. (x, HeardReply number from) ∷ []) same
 
 replied-so : (n : Network) (mapper : ℕ) (walk : List ℤ) (g number : ℕ) (w : WorldState) (probe reply : Sent) → Premises n mapper walk → Probed n mapper walk g number w probe → Delivery n probe.world g (reply_of number walk) (way_back walk) (HostReply number g) reply → IsHostTry n mapper walk w (replied w mapper probe reply)
-replied-so n mapper walk g number w probe reply p b (Delivery.no_cable none used num heard same) = absurd (stuck-place n g mapper (way_back walk) none (reply-place n mapper g walk p.fabric b.at))
+replied-so n mapper walk g number w probe reply p b (Delivery.no_cable none used num heard same) = absurd (none mapper (reply-place n mapper g walk p.fabric b.at))
 replied-so n mapper walk g number w probe reply p b (Delivery.none_left most used num heard same) =
     let full : last_count ≤ reply.world.injected = subst (λ x. last_count ≤ x.injected) (sym same) most in
     none-found n mapper walk w (replied w mapper probe reply) (no_reply mapper probe.number reply.effects heard)

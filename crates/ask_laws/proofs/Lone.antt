@@ -1,12 +1,12 @@
 -- One packet alone in the channels, whatever limbo holds: where it goes, and what an advance makes of it.
-use Rattle.std.proofs.Common.{◌≡◌, ◌≢◌, ◌<◌, ◌≤◌, ℕ, zero, suc, true, ℤ, List, [], ◌∷◌, length, get_or, set, replicate, Option, Some, None, is_none, refl, sym, ap, ◌∙◌, subst, arith, true≢false}
+use Rattle.std.proofs.Common.{◌≡◌, ◌≢◌, ◌<◌, ◌≤◌, ℕ, zero, suc, Bool, true, false, not, ◌&&◌, ℤ, List, [], ◌∷◌, length, get_or, set, replicate, Option, Some, None, is_none, refl, sym, ap, ◌∙◌, subst, arith, true≢false, if◌then◌else◌}
 use Rattle.std.specs.List.{list_all}
 use Rattle.std.proofs.lemmas.List.{length-replicate, get_or-set_same, get_or-set_other}
 use Rattle.net_defs.specs.declared.vertex.Vertex.{Vertex}
 use Rattle.net_defs.specs.declared.vertex.Vertex.TheVariants.{Host, Switch}
 use Rattle.net_defs.specs.declared.vertex.End.{End}
-use Rattle.net_defs.specs.Network.{Network, ports_of}
-use Rattle.net_defs.specs.Route.{channel_from}
+use Rattle.net_defs.specs.Network.{ports_of}
+use Rattle.cable_history.specs.History.{CableHistory, fabric_now}
 use Rattle.packet_defs.specs.Packet.{front_turn, stripped, difference}
 use Rattle.packet_defs.proofs.Packets.{length-stripped, strip_keeps}
 use Rattle.link_defs.specs.declared.turned.Turned.{Turned}
@@ -16,17 +16,19 @@ use Rattle.link_defs.specs.declared.moved.Course.TheVariants.{Arrives, Enters, D
 use Rattle.link_defs.specs.declared.moved.Moved.{Moved}
 use Rattle.link_defs.specs.declared.moved.Moved.TheVariants.{To, AtHost, Dropped}
 use Rattle.link_defs.specs.declared.moved.Why.{Why}
-use Rattle.link_defs.specs.Channel.{channel_count, channel_head}
+use Rattle.link_defs.specs.declared.moved.Why.TheVariants.{NewCable}
+use Rattle.link_defs.specs.Kinds.{is_mapping}
+use Rattle.cable_history.specs.Crossed.{leaving, life_channels, life_head, is_new}
+use Rattle.cable_history.proofs.ForLife.{leaving_has_its_end}
 use Rattle.link_defs.specs.Switch.{aim}
 use Rattle.link_defs.specs.Links.{Held, LinkState, packet_in, with_packet, emptied, is_idle}
 use Rattle.link_defs.specs.Advance.{course, course_by_channel, course_out, course_into, entered, gone_on, advance_of, advance}
-use Rattle.link_defs.proofs.Ends.{channel_from-ends}
 use Rattle.link_defs.proofs.HopsLeft.{course_into-enters}
 use Rattle.link_defs.proofs.LonePackets.{get-empty}
 
 -- the links without packets in channels, and with one
 abbrev pub bare : LinkState → LinkState
-bare s = record s { channels = replicate (channel_count s.net) None }
+bare s = record s { channels = replicate (life_channels s.cables) None }
 
 abbrev pub with_lone : LinkState → ℕ → Held → LinkState
 with_lone s c held = with_packet (bare s) c (Some held)
@@ -43,10 +45,10 @@ set-empty (suc k) (suc c) x = ap (λ l. x ∷ l) (set-empty k c x)
 
 -- the same of the channels of links
 abbrev pub IsBare : LinkState → Type 0
-IsBare s = s.channels ≡ replicate (channel_count s.net) None
+IsBare s = s.channels ≡ replicate (life_channels s.cables) None
 
 abbrev pub HasLone : LinkState → ℕ → Held → Type 0
-HasLone s c held = s.channels ≡ set (replicate (channel_count s.net) None) c (Some held)
+HasLone s c held = s.channels ≡ set (replicate (life_channels s.cables) None) c (Some held)
 
 pub is-bare : (s : LinkState) → IsBare s → s ≡ bare s
 is-bare s e = ap (λ l. record s { channels = l }) e
@@ -55,37 +57,37 @@ pub has-lone : (s : LinkState) (c : ℕ) (held : Held) → HasLone s c held → 
 has-lone s c held e = ap (λ l. record s { channels = l }) e
 
 -- a packet is put, taken or replaced
-pub put-lone : (s : LinkState) (c : ℕ) (held : Held) → IsBare s → set s.channels c (Some held) ≡ set (replicate (channel_count s.net) None) c (Some held)
+pub put-lone : (s : LinkState) (c : ℕ) (held : Held) → IsBare s → set s.channels c (Some held) ≡ set (replicate (life_channels s.cables) None) c (Some held)
 put-lone s c held e = ap (λ l. set l c (Some held)) e
 
-pub take-lone : (s : LinkState) (c : ℕ) (held : Held) → HasLone s c held → set s.channels c None ≡ replicate (channel_count s.net) None
-take-lone s c held e = ap (λ l. set l c None) e ∙ set-twice (replicate (channel_count s.net) None) c (Some held) None ∙ set-empty (channel_count s.net) c None
+pub take-lone : (s : LinkState) (c : ℕ) (held : Held) → HasLone s c held → set s.channels c None ≡ replicate (life_channels s.cables) None
+take-lone s c held e = ap (λ l. set l c None) e ∙ set-twice (replicate (life_channels s.cables) None) c (Some held) None ∙ set-empty (life_channels s.cables) c None
 
-pub other-lone : (s : LinkState) (c : ℕ) (held new : Held) → HasLone s c held → set s.channels c (Some new) ≡ set (replicate (channel_count s.net) None) c (Some new)
-other-lone s c held new e = ap (λ l. set l c (Some new)) e ∙ set-twice (replicate (channel_count s.net) None) c (Some held) (Some new)
+pub other-lone : (s : LinkState) (c : ℕ) (held new : Held) → HasLone s c held → set s.channels c (Some new) ≡ set (replicate (life_channels s.cables) None) c (Some new)
+other-lone s c held new e = ap (λ l. set l c (Some new)) e ∙ set-twice (replicate (life_channels s.cables) None) c (Some held) (Some new)
 
 pub lone-emptied : (s : LinkState) (c : ℕ) (held : Held) → emptied (with_lone s c held) c ≡ bare s
 lone-emptied s c held =
-    let e : set (set (replicate (channel_count s.net) None) c (Some held)) c None ≡ replicate (channel_count s.net) None = set-twice (replicate (channel_count s.net) None) c (Some held) None ∙ set-empty (channel_count s.net) c None in
+    let e : set (set (replicate (life_channels s.cables) None) c (Some held)) c None ≡ replicate (life_channels s.cables) None = set-twice (replicate (life_channels s.cables) None) c (Some held) None ∙ set-empty (life_channels s.cables) c None in
     ap (λ l. record s { channels = l }) e
 
-pub lone-there : (s : LinkState) (c : ℕ) (held : Held) → c < channel_count s.net → packet_in (with_lone s c held) c ≡ Some held
+pub lone-there : (s : LinkState) (c : ℕ) (held : Held) → c < life_channels s.cables → packet_in (with_lone s c held) c ≡ Some held
 lone-there s c held low =
-    let room : c < length (replicate {A = Option Held} (channel_count s.net) None) = omega (arith, low, length-replicate {A = Option Held} (channel_count s.net) None) in
-    get_or-set_same (replicate (channel_count s.net) None) c (Some held) None room
+    let room : c < length (replicate {A = Option Held} (life_channels s.cables) None) = omega (arith, low, length-replicate {A = Option Held} (life_channels s.cables) None) in
+    get_or-set_same (replicate (life_channels s.cables) None) c (Some held) None room
 
 pub lone-other : (s : LinkState) (c d : ℕ) (held : Held) → d ≢ c → packet_in (with_lone s c held) d ≡ None
-lone-other s c d held other = get_or-set_other (replicate (channel_count s.net) None) c d (Some held) None other ∙ get-empty (channel_count s.net) d None
+lone-other s c d held other = get_or-set_other (replicate (life_channels s.cables) None) c d (Some held) None other ∙ get-empty (life_channels s.cables) d None
 
 pub bare-empty : (s : LinkState) (c : ℕ) → packet_in (bare s) c ≡ None
-bare-empty s c = get-empty (channel_count s.net) c None
+bare-empty s c = get-empty (life_channels s.cables) c None
 
 all_none : (k : ℕ) → list_all (is_none {T = Held}) (replicate k None) ≡ true
 all_none zero = refl
 all_none (suc k) = all_none k
 
 pub bare-idle : (s : LinkState) → is_idle (bare s) ≡ true
-bare-idle s = all_none (channel_count s.net)
+bare-idle s = all_none (life_channels s.cables)
 
 -- idle links are bare
 idle-replicate : (ps : List (Option Held)) → list_all is_none ps ≡ true → ps ≡ replicate (length ps) None
@@ -93,7 +95,7 @@ idle-replicate [] e = refl
 idle-replicate (None ∷ ps) e = ap (λ l. None ∷ l) (idle-replicate ps e)
 idle-replicate (Some held ∷ ps) e = absurd (true≢false (sym e))
 
-pub idle-bare : (s : LinkState) → length s.channels ≡ channel_count s.net → is_idle s ≡ true → IsBare s
+pub idle-bare : (s : LinkState) → length s.channels ≡ life_channels s.cables → is_idle s ≡ true → IsBare s
 idle-bare s long e = idle-replicate s.channels e ∙ ap (λ k. replicate k None) long
 
 -- every channel of idle links is empty
@@ -117,68 +119,72 @@ gone_on-gone s c held (Enters next) =
     ap (entered (with_lone s c held) c held next) free ∙ ap (λ t. (To next, with_packet t next (Some on))) (lone-emptied s c held)
 gone_on-gone s c held (Drops why) = ap (λ t. (Dropped why, t)) (lone-emptied s c held)
 
-pub lone-advance : (s : LinkState) (c : ℕ) (held : Held) → c < channel_count s.net → advance (with_lone s c held) c ≡ gone s held (course s.net c held.wire)
-lone-advance s c held low = ap (advance_of (with_lone s c held) c) (lone-there s c held low) ∙ gone_on-gone s c held (course s.net c held.wire)
+pub lone-advance : (s : LinkState) (c : ℕ) (held : Held) → c < life_channels s.cables → advance (with_lone s c held) c ≡ gone s held (course s.cables c held.wire)
+lone-advance s c held low = ap (advance_of (with_lone s c held) c) (lone-there s c held low) ∙ gone_on-gone s c held (course s.cables c held.wire)
 
 -- a packet enters a channel that exists
-by_port : (n : Network) (o : Option ℕ) (next : ℕ) (e : End) → channel_from n e ≡ o → course_by_channel o ≡ Enters next → next < channel_count n
-by_port n None next e is to = cc
-by_port n (Some c) next e is to =
-    let same : c ≡ next = cc in
-    subst (λ d. d < channel_count n) same (channel_from-ends n e c is).2
+by_port : (h : CableHistory) (wire : List ℕ) (o : Option ℕ) (next : ℕ) (e : End) → leaving h e ≡ o → course_by_channel h wire o ≡ Enters next → next < life_channels h
+by_port h wire None next e is to = cc
+by_port h wire (Some c) next e is to = by (is_new h c && not (is_mapping wire)) to
+  where
+    by : (t : Bool) → (if t then Drops NewCable else Enters c) ≡ Enters next → next < life_channels h
+    by true bad = cc
+    by false enters =
+        let same : c ≡ next = cc in
+        subst (λ d. d < life_channels h) same (leaving_has_its_end h e c is).there
 
-by_turned : (n : Network) (s next : ℕ) (t : Turned) → course_out n s t ≡ Enters next → next < channel_count n
-by_turned n s next (Out port) to = let e : End = record { v = Switch s; p = port } in by_port n (channel_from n e) next e refl to
-by_turned n s next TurnedTooFar to = cc
-by_turned n s next NoTurn to = cc
+by_turned : (h : CableHistory) (wire : List ℕ) (s next : ℕ) (t : Turned) → course_out h s wire t ≡ Enters next → next < life_channels h
+by_turned h wire s next (Out port) to = let e : End = record { v = Switch s; p = port } in by_port h wire (leaving h e) next e refl to
+by_turned h wire s next TurnedTooFar to = cc
+by_turned h wire s next NoTurn to = cc
 
-by_end : (n : Network) (wire : List ℕ) (next : ℕ) (v : Vertex) (p : ℕ) → course_into n (Some (record { v = v; p = p })) wire ≡ Enters next → next < channel_count n
-by_end n wire next (Host h) p to = cc
-by_end n wire next (Switch s) p to = by_turned n s next (aim (ports_of n (Switch s)) p wire) to
+by_end : (h : CableHistory) (wire : List ℕ) (next : ℕ) (v : Vertex) (p : ℕ) → course_into h (Some (record { v = v; p = p })) wire ≡ Enters next → next < life_channels h
+by_end h wire next (Host g) p to = cc
+by_end h wire next (Switch s) p to = by_turned h wire s next (aim (ports_of (fabric_now h) (Switch s)) p wire) to
 
-by_head : (n : Network) (wire : List ℕ) (next : ℕ) (o : Option End) → course_into n o wire ≡ Enters next → next < channel_count n
-by_head n wire next None to = cc
-by_head n wire next (Some e) to = by_end n wire next e.v e.p to
+by_head : (h : CableHistory) (wire : List ℕ) (next : ℕ) (o : Option End) → course_into h o wire ≡ Enters next → next < life_channels h
+by_head h wire next None to = cc
+by_head h wire next (Some e) to = by_end h wire next e.v e.p to
 
-pub course-below : (n : Network) (c : ℕ) (wire : List ℕ) (next : ℕ) → course n c wire ≡ Enters next → next < channel_count n
-course-below n c wire next to = by_head n wire next (channel_head n c) to
+pub course-below : (h : CableHistory) (c : ℕ) (wire : List ℕ) (next : ℕ) → course h c wire ≡ Enters next → next < life_channels h
+course-below h c wire next to = by_head h wire next (life_head h c) to
 
 two_bytes : (wire : List ℕ) (turn : ℤ) → front_turn wire ≡ Some turn → 2 ≤ length wire
 two_bytes [] turn e = cc
 two_bytes (byte ∷ []) turn e = cc
 two_bytes (byte ∷ next ∷ wire) turn e = omega arith
 
-pub enters-two : (n : Network) (c : ℕ) (wire : List ℕ) (next : ℕ) → course n c wire ≡ Enters next → 2 ≤ length wire
-enters-two n c wire next to = let t = course_into-enters n (channel_head n c) wire next to in two_bytes wire t.0 t.1
+pub enters-two : (h : CableHistory) (c : ℕ) (wire : List ℕ) (next : ℕ) → course h c wire ≡ Enters next → 2 ≤ length wire
+enters-two h c wire next to = let t = course_into-enters h (life_head h c) wire next to in two_bytes wire t.0 t.1
 
 -- Where a packet goes from a channel, until it leaves the links: to a host, or nowhere.
-pub data Goes (n : Network) : ℕ → List ℕ → Moved (List ℕ) → Type 0 where
-  to_host : {c : ℕ} {wire : List ℕ} {m : Moved (List ℕ)} (h : ℕ) → course n c wire ≡ Arrives h → m ≡ AtHost h wire → Goes n c wire m
-  nowhere : {c : ℕ} {wire : List ℕ} {m : Moved (List ℕ)} (why : Why) → course n c wire ≡ Drops why → m ≡ Dropped why → Goes n c wire m
-  further : {c : ℕ} {wire : List ℕ} {m : Moved (List ℕ)} (next : ℕ) → course n c wire ≡ Enters next → Goes n next (stripped wire) m → Goes n c wire m
+pub data Goes (h : CableHistory) : ℕ → List ℕ → Moved (List ℕ) → Type 0 where
+  to_host : {c : ℕ} {wire : List ℕ} {m : Moved (List ℕ)} (g : ℕ) → course h c wire ≡ Arrives g → m ≡ AtHost g wire → Goes h c wire m
+  nowhere : {c : ℕ} {wire : List ℕ} {m : Moved (List ℕ)} (why : Why) → course h c wire ≡ Drops why → m ≡ Dropped why → Goes h c wire m
+  further : {c : ℕ} {wire : List ℕ} {m : Moved (List ℕ)} (next : ℕ) → course h c wire ≡ Enters next → Goes h next (stripped wire) m → Goes h c wire m
 
 -- every packet goes somewhere
-pub record Going (n : Network) (c : ℕ) (wire : List ℕ) : Type 0 where
+pub record Going (h : CableHistory) (c : ℕ) (wire : List ℕ) : Type 0 where
   pub end : Moved (List ℕ)
-  pub goes : Goes n c wire end
+  pub goes : Goes h c wire end
 
-going_within : (k : ℕ) (n : Network) (c : ℕ) (wire : List ℕ) → length wire < k → Going n c wire
-going_within zero n c wire low = absurd (omega (arith, low))
-going_within (suc k) n c wire low = by (course n c wire) refl (λ next. going_within k n next (stripped wire))
+going_within : (k : ℕ) (h : CableHistory) (c : ℕ) (wire : List ℕ) → length wire < k → Going h c wire
+going_within zero h c wire low = absurd (omega (arith, low))
+going_within (suc k) h c wire low = by (course h c wire) refl (λ next. going_within k h next (stripped wire))
   where
-    by : (to : Course) → course n c wire ≡ to → ((next : ℕ) → length (stripped wire) < k → Going n next (stripped wire)) → Going n c wire
-    by (Arrives h) e rest = record { end = AtHost h wire; goes = Goes.to_host h e refl }
+    by : (to : Course) → course h c wire ≡ to → ((next : ℕ) → length (stripped wire) < k → Going h next (stripped wire)) → Going h c wire
+    by (Arrives g) e rest = record { end = AtHost g wire; goes = Goes.to_host g e refl }
     by (Drops why) e rest = record { end = Dropped why; goes = Goes.nowhere why e refl }
     by (Enters next) e rest =
-        let short = length-stripped wire (enters-two n c wire next e) in
+        let short = length-stripped wire (enters-two h c wire next e) in
         let g = rest next (omega (arith, short, low)) in
         record { end = g.end; goes = Goes.further next e g.goes }
 
-pub going : (n : Network) (c : ℕ) (wire : List ℕ) → Going n c wire
-going n c wire = going_within (suc (length wire)) n c wire (omega arith)
+pub going : (h : CableHistory) (c : ℕ) (wire : List ℕ) → Going h c wire
+going h c wire = going_within (suc (length wire)) h c wire (omega arith)
 
 -- a difference stays on the way
-pub goes-difference : (n : Network) (c : ℕ) (wire : List ℕ) (m : Moved (List ℕ)) → Goes n c wire m → (h : ℕ) (at : List ℕ) → m ≡ AtHost h at → difference at ≡ difference wire
-goes-difference n c wire m (Goes.to_host g e is) h at f = let same : at ≡ wire = cc in ap difference same
-goes-difference n c wire m (Goes.nowhere why e is) h at f = cc
-goes-difference n c wire m (Goes.further next e g) h at f = goes-difference n next (stripped wire) m g h at f ∙ strip_keeps wire (enters-two n c wire next e)
+pub goes-difference : (h : CableHistory) (c : ℕ) (wire : List ℕ) (m : Moved (List ℕ)) → Goes h c wire m → (g : ℕ) (at : List ℕ) → m ≡ AtHost g at → difference at ≡ difference wire
+goes-difference h c wire m (Goes.to_host a e is) g at f = let same : at ≡ wire = cc in ap difference same
+goes-difference h c wire m (Goes.nowhere why e is) g at f = cc
+goes-difference h c wire m (Goes.further next e on) g at f = goes-difference h next (stripped wire) m on g at f ∙ strip_keeps wire (enters-two h c wire next e)

@@ -8,7 +8,6 @@ use Rattle.world_defs.specs.Hearing.{hear}
 use Rattle.world_defs.specs.World.{new_world}
 use Rattle.world_defs.specs.Step.{asked, planned_strikes, sent_out, injected, advanced, gave_up}
 use Rattle.world_defs.specs.Logs as log
-use Rattle.world_defs.proofs.LogViews.{drain, sends, host_try, loop_try, ask}
 use Rattle.world_defs.specs.Logs.{pass}
 use Rattle.world_laws.proofs.Shapes.{new-world, planned-world}
 use Rattle.ask_laws.specs.Examples.{HostCanAsk, OneTryDrowns, SecondTryFinds}

@@ -2,15 +2,18 @@
 use Rattle.std.proofs.Common.{◌≡◌, ◌≢◌, ◌<◌, ◌≤◌, ◌+◌, ℕ, true, false, nat_eq, ℤ, List, [], ◌∷◌, set, Option, Some, None, refl, sym, ap, ◌∙◌, subst, arith}
 use Rattle.std.specs.List.{AllByRecursion}
 use Rattle.std.specs.Map.{lookup}
-use Rattle.net_defs.specs.declared.place.Place.TheVariants.{Host as AtHostPlace}
+use Rattle.net_defs.specs.declared.place.Place.TheVariants.{Host as AtHostPlace, Nothing as Stuck}
 use Rattle.net_defs.specs.Network.{Network}
 use Rattle.net_defs.specs.Turn.{IsTurn}
-use Rattle.net_defs.specs.Route.{place, host_port, channel_from}
+use Rattle.net_defs.specs.Route.{place, host_port}
+use Rattle.cable_history.specs.History.{CableHistory, fabric_now}
+use Rattle.cable_history.specs.Crossed.{leaving}
 use Rattle.packet_defs.specs.declared.kind.Kind.TheVariants.{Mapping}
 use Rattle.packet_defs.specs.declared.host_drop.HostDrop.TheVariants.{RouteLeft}
 use Rattle.packet_defs.specs.Packet.{packet_of, difference}
 use Rattle.packet_defs.proofs.Packets.{packet_of-difference}
 use Rattle.link_defs.specs.declared.moved.Moved.{Moved}
+use Rattle.link_defs.proofs.LonePackets.{no_channel-place}
 use Rattle.mapping_defs.specs.Mapping.{MappingBody, mapping_bytes, is_mapping}
 use Rattle.world_defs.specs.declared.effect.Effect.{Effect}
 use Rattle.world_defs.specs.Node.{Outgoing, to_send, packet_for, after_sending}
@@ -50,7 +53,7 @@ hears_in base g body = arrived base g (hear_mapping g (host_count base) (node_at
 
 -- What became of it.
 pub data Delivery (n : Network) (w : WorldState) (h : ℕ) (out : Outgoing) (route : List ℤ) (body : MappingBody) (s : Sent) : Type 0 where
-  no_cable : channel_from n (host_port h) ≡ None → s.used_up ≡ false → s.number ≡ None → told s.effects ≡ [] → s.world ≡ w → Delivery n w h out route body s
+  no_cable : ((g : ℕ) → place n h route ≢ AtHostPlace g) → s.used_up ≡ false → s.number ≡ None → told s.effects ≡ [] → s.world ≡ w → Delivery n w h out route body s
   none_left : last_count ≤ w.injected → s.used_up ≡ true → s.number ≡ None → told s.effects ≡ [] → s.world ≡ w → Delivery n w h out route body s
   struck : s.used_up ≡ false → s.number ≡ Some (w.injected + 1) → told s.effects ≡ [] → SendKeeps w h out s.world → w.harmed < s.world.harmed → lookup (nat_eq (w.injected + 1)) w.plan ≢ None → Delivery n w h out route body s
   astray : s.used_up ≡ false → s.number ≡ Some (w.injected + 1) → told s.effects ≡ [] → SendKeeps w h out s.world → s.world.harmed ≡ w.harmed → ((g : ℕ) → place n h route ≢ AtHostPlace g) → Delivery n w h out route body s
@@ -77,7 +80,7 @@ keeps-of w h c out u v t o k r =
     let h1 = k.harmed in
     let h2 = r.harmed in
     record {
-      net = r.net ∙ k.net ∙ o.net;
+      net = r.net ∙ ap fabric_now (k.cables ∙ o.cables);
       bare = r.empty;
       nodes = r.nodes ∙ k.nodes ∙ o.nodes;
       clients = r.clients ∙ k.clients ∙ o.clients;
@@ -98,7 +101,7 @@ rest-bare v = record { net = refl; empty = refl; nodes = refl; clients = refl; a
 
 rest-landed : (v : WorldState) (m : Moved (List ℕ)) (s : Sent) → Lands v m (s.effects, s.world) → Unheard v (landed_in v m) → Rest v s.world
 rest-landed v m s l q = record {
-  net = ap (λ x. x.net) l.links;
+  net = ap (λ x. fabric_now x.cables) l.links;
   empty = subst IsBare (sym l.links) refl;
   nodes = ap (λ x. x.nodes) l.world ∙ q.nodes;
   clients = ap (λ x. x.clients) l.world ∙ q.clients;
@@ -119,28 +122,33 @@ came n w h c out route body s u v m low used number valid o k e l (Comes.left_ov
     let r = rest-landed v m s l quiet in
     Delivery.astray used number (l.heard ∙ quiet.heard) (keeps-of w h c out u v s.world o k r) (r.harmed ∙ e) p
 
-flown : (n : Network) (w : WorldState) (h c : ℕ) (out : Outgoing) (route : List ℤ) (body : MappingBody) (s : Sent) → HasByteFaults w → channel_from n (host_port h) ≡ Some c → fabric_of w ≡ n → w.injected < last_count → s.used_up ≡ false → s.number ≡ Some (w.injected + 1) → IsParcel w h out route body → Flight w h c out s → Delivery n w h out route body s
+flown : (n : Network) (w : WorldState) (h c : ℕ) (out : Outgoing) (route : List ℤ) (body : MappingBody) (s : Sent) → HasByteFaults w → leaving w.links.cables (host_port h) ≡ Some c → fabric_of w ≡ n → w.injected < last_count → s.used_up ≡ false → s.number ≡ Some (w.injected + 1) → IsParcel w h out route body → Flight w h c out s → Delivery n w h out route body s
 flown n w h c out route body s flips at net low used number parcel (Flight.lands u v m o k e g l) =
-    let goes : Goes n c (packet_of route Mapping (mapping_bytes body)) m = subst (λ x. Goes x c (packet_of route Mapping (mapping_bytes body)) m) net (subst (λ x. Goes (fabric_of w) c x m) parcel.written g) in
-    came n w h c out route body s u v m low used number parcel.valid o k e l (built-comes n h c route Mapping (mapping_bytes body) m parcel.turns at goes)
+    let goes : Goes w.links.cables c (packet_of route Mapping (mapping_bytes body)) m = subst (λ x. Goes w.links.cables c x m) parcel.written g in
+    let comes = built-comes w.links.cables h c route (mapping_bytes body) m parcel.turns at goes in
+    came n w h c out route body s u v m low used number parcel.valid o k e l (subst (λ x. Comes (place x h route) Mapping (mapping_bytes body) m) net comes)
 flown n w h c out route body s flips at net low used number parcel (Flight.lost u v o k more planned b heard same) =
     let harm : w.harmed < s.world.harmed = subst (λ x. w.harmed < x.harmed) (sym same) more in
     Delivery.struck used number heard (keeps-of w h c out u v s.world o k (rest-same v s.world b same)) harm planned
 flown n w h c out route body s flips at net low used number parcel (Flight.marred u v wire m o k more planned differs g l) =
     let none : difference (packet_for h (w.injected + 1) out) ≡ 0 = ap difference parcel.written ∙ packet_of-difference route Mapping (mapping_bytes body) in
-    let quiet = unheard v m (marred-dropped (fabric_of w) c wire m g (differs flips none)) in
+    let quiet = unheard v m (marred-dropped w.links.cables c wire m g (differs flips none)) in
     let r = rest-landed v m s l quiet in
     let same = r.harmed in
     Delivery.struck used number (l.heard ∙ quiet.heard) (keeps-of w h c out u v s.world o k r) (omega (arith, more, same)) planned
 
+-- no channel, no place
+stuck-place : (cables : CableHistory) (host h : ℕ) (route : List ℤ) → leaving cables (host_port host) ≡ None → place (fabric_now cables) host route ≢ AtHostPlace h
+stuck-place cables host h route none is = let bad : Stuck ≡ AtHostPlace h = sym (no_channel-place cables host route none) ∙ is in cc
+
 delivery : (n : Network) (w : WorldState) (h : ℕ) (out : Outgoing) (route : List ℤ) (body : MappingBody) (s : Sent) → HasByteFaults w → fabric_of w ≡ n → to_send h (node_at w h) ≡ Some out → (w.injected < last_count → IsParcel w h out route body) → Sending w h s → Delivery n w h out route body s
 delivery n w h out route body s flips net is parcel (Sending.unsent (Unsent.no_cable used at) number heard same) =
-    Delivery.no_cable (ap (λ x. channel_from x (host_port h)) (sym net) ∙ at) used number heard same
+    Delivery.no_cable (λ g is_there. stuck-place w.links.cables h g route at (ap (λ x. place x h route) net ∙ is_there)) used number heard same
 delivery n w h out route body s flips net is parcel (Sending.unsent (Unsent.no_packet none) number heard same) = let bad : None ≡ Some out = sym none ∙ is in cc
 delivery n w h out route body s flips net is parcel (Sending.unsent (Unsent.none_left used most) number heard same) = Delivery.none_left most used number heard same
 delivery n w h out route body s flips net is parcel (Sending.sent c other at this low used number f) =
     let same : other ≡ out = some-same other out (sym this ∙ is) in
-    flown n w h c out route body s flips (ap (λ x. channel_from x (host_port h)) (sym net) ∙ at) net low used number (parcel low) (subst (λ o. Flight w h c o s) same f)
+    flown n w h c out route body s flips at net low used number (parcel low) (subst (λ o. Flight w h c o s) same f)
   where
     some-same : (a b : Outgoing) → (let r : Option Outgoing = Some a in r) ≡ Some b → a ≡ b
     some-same a b e = cc

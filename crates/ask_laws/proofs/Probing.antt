@@ -17,7 +17,7 @@ use Rattle.ask_laws.specs.Kept.{IsAskKept}
 use Rattle.ask_laws.proofs.Drained.{told}
 use Rattle.ask_laws.proofs.Parcels.{IsParcel, hears_in, Delivery, deliver}
 use Rattle.ask_laws.proofs.Ready.{Ready, IsUnstaged, SameNode, kept-both, kept-node, kept-sent, ready-staged, kept-staged, counts-staged, staged-sends, unstaged-probe, ready-sent}
-use Rattle.ask_laws.proofs.Tries.{Premises, IsQuietTo, next-fits, calm, harm, used-harm, stuck-place}
+use Rattle.ask_laws.proofs.Tries.{Premises, IsQuietTo, next-fits, calm, harm, used-harm}
 
 -- the world in which a probe is staged
 abbrev pub staged_in : WorldState → ℕ → List ℤ → Bool → WorldState
@@ -65,7 +65,7 @@ sent-so n mapper walk looped route body w s low r (Delivery.no_cable none used n
       heard = heard;
       ready = subst (Ready n mapper) (sym same) r;
       kept = subst (IsAskKept w) (sym same) (kept-staged w mapper walk looped);
-      missed = inr (λ g. stuck-place n mapper g route none);
+      missed = inr none;
       unharmed = λ q. calm s.used_up w s.world used h;
     })
 sent-so n mapper walk looped route body w s low r (Delivery.none_left most used number heard same) =

@@ -7,7 +7,7 @@ use Rattle.net_defs.proofs.Ends.{both}
 use Rattle.packet_defs.specs.Packet.{difference}
 use Rattle.packet_defs.specs.Burst.{flipped, may_flip}
 use Rattle.packet_defs.proofs.Bursts.{flip-seen}
-use Rattle.link_defs.specs.Channel.{channel_count}
+use Rattle.cable_history.specs.Crossed.{life_channels}
 use Rattle.link_defs.specs.Links.{Held, LinkState, packet_in, with_packet, emptied}
 use Rattle.link_defs.specs.Fault.{repeat_of, hold_of, is_used_up, with_caught, flip_of}
 use Rattle.link_defs.proofs.Idling.{pick}
@@ -22,9 +22,9 @@ use Rattle.ask_laws.proofs.Lone.{IsBare, HasLone, has-lone, take-lone, other-lon
 -- a fault on a channel that has a packet alone
 pub data Fate (s : LinkState) (c : ℕ) (held : Held) (f : Fault) (o : Bool × LinkState) : Type 0 where
   missed : o.0 ≡ false → Fate s c held f o
-  copied : is_harm f ≡ false → o.0 ≡ true → o.1.net ≡ s.net → HasLone o.1 c held → Fate s c held f o
-  taken : is_harm f ≡ true → o.0 ≡ true → o.1.net ≡ s.net → IsBare o.1 → Fate s c held f o
-  spoilt : (new : Held) → is_harm f ≡ true → o.0 ≡ true → o.1.net ≡ s.net → HasLone o.1 c new → (IsByteFault f → held.marked ≡ false → difference held.wire ≡ 0 → 0 < difference new.wire) → Fate s c held f o
+  copied : is_harm f ≡ false → o.0 ≡ true → o.1.cables ≡ s.cables → HasLone o.1 c held → Fate s c held f o
+  taken : is_harm f ≡ true → o.0 ≡ true → o.1.cables ≡ s.cables → IsBare o.1 → Fate s c held f o
+  spoilt : (new : Held) → is_harm f ≡ true → o.0 ≡ true → o.1.cables ≡ s.cables → HasLone o.1 c new → (IsByteFault f → held.marked ≡ false → difference held.wire ≡ 0 → 0 < difference new.wire) → Fate s c held f o
 
 -- what a test of serials answers
 abbrev caught_if : Bool → LinkState → ℕ → LinkState → Bool × LinkState
@@ -46,16 +46,16 @@ flip-differs held bit pattern e low none =
     let room = parts.1 in
     flip-seen held.wire bit pattern none (grind (arith, nat_tests)) low (grind (arith, nat_tests))
 
-flip-fate : (s : LinkState) (c : ℕ) (held : Held) (bit pattern : ℕ) (t : Bool) → (not held.marked && may_flip held.wire bit pattern) ≡ t → HasLone s c held → Fate s c held (FlipFault bit pattern) (pick t (true, with_packet s c (Some (record { wire = flipped held.wire bit pattern; marked = true }))) (false, s))
+flip-fate : (s : LinkState) (c : ℕ) (held : Held) (bit pattern : ℕ) (t : Bool) → (not held.marked && may_flip held.wire bit pattern) ≡ t → HasLone s c held → Fate s c held (FlipFault bit pattern) (pick t (true, with_packet s c (Some (record held { wire = flipped held.wire bit pattern; marked = true }))) (false, s))
 flip-fate s c held bit pattern true e is =
-    let new : Held = record { wire = flipped held.wire bit pattern; marked = true } in
+    let new : Held = record held { wire = flipped held.wire bit pattern; marked = true } in
     Fate.spoilt new refl refl refl (other-lone s c held new is) (λ low m none. flip-differs held bit pattern e low none)
 flip-fate s c held bit pattern false e is = Fate.missed refl
 
-there : (s : LinkState) (c : ℕ) (held : Held) → c < channel_count s.net → HasLone s c held → packet_in s c ≡ Some held
+there : (s : LinkState) (c : ℕ) (held : Held) → c < life_channels s.cables → HasLone s c held → packet_in s c ≡ Some held
 there s c held low e = ap (λ t. packet_in t c) (has-lone s c held e) ∙ lone-there s c held low
 
-fault-fate : (s : LinkState) (c : ℕ) (held : Held) (f : Fault) → c < channel_count s.net → HasLone s c held → Fate s c held f (fault_on s c f)
+fault-fate : (s : LinkState) (c : ℕ) (held : Held) (f : Fault) → c < life_channels s.cables → HasLone s c held → Fate s c held f (fault_on s c f)
 fault-fate s c held LoseFault low e = Fate.taken refl (ap is_some (there s c held low e)) refl (take-lone s c held e)
 fault-fate s c held RepeatFault low e =
     subst (λ q. Fate s c held RepeatFault (is_some (repeat_of s c q).0, (repeat_of s c q).1)) (sym (there s c held low e)) (repeat-fate s c held (is_used_up s) e)
@@ -66,7 +66,7 @@ fault-fate s c held (FlipFault bit pattern) low e =
 
 -- What a strike keeps of the world.
 pub record StrikeKeeps (u v : WorldState) : Type 0 where
-  pub net : v.links.net ≡ u.links.net
+  pub cables : v.links.cables ≡ u.links.cables
   pub nodes : v.nodes ≡ u.nodes
   pub clients : v.clients ≡ u.clients
   pub adopted : v.adopted ≡ u.adopted
@@ -100,7 +100,7 @@ looked-up : (number : ℕ) (fs : List (ℕ × Fault)) (x : Fault) → AllByRecur
 looked-up number fs x all e = subst (λ o. IfSome o IsByteFault) e (planned_one number fs all)
 
 no-strike : (u : WorldState) → StrikeKeeps u u
-no-strike u = record { net = refl; nodes = refl; clients = refl; adopted = refl; injected = refl; unplanned = λ number e. e; byte_flips = λ all. all; struck = omega arith; harmed = omega arith }
+no-strike u = record { cables = refl; nodes = refl; clients = refl; adopted = refl; injected = refl; unplanned = λ number e. e; byte_flips = λ all. all; struck = omega arith; harmed = omega arith }
 
 harm-more : (f : Fault) (n : ℕ) → is_harm f ≡ true → (if is_harm f then n + 1 else n) ≡ n + 1
 harm-more f n e = rw e refl
@@ -115,7 +115,7 @@ harm-rises false n = omega arith
 strike-so : (u : WorldState) (c : ℕ) (held : Held) (f : Fault) (o : Bool × LinkState) → lookup (nat_eq u.injected) u.plan ≡ Some f → HasLone u.links c held → Fate u.links c held f o → StruckSo u (struck_by (record u { plan = without_fault u.injected u.plan }) f o) c held
 strike-so u c held f (true, l) planned is fate = record {
   keeps = record {
-    net = net fate;
+    cables = cables fate;
     nodes = refl;
     clients = refl;
     adopted = refl;
@@ -131,11 +131,11 @@ strike-so u c held f (true, l) planned is fate = record {
     some : lookup (nat_eq u.injected) u.plan ≢ None
     some none = let bad : None ≡ Some f = sym none ∙ planned in cc
 
-    net : Fate u.links c held f (true, l) → l.net ≡ u.links.net
-    net (Fate.missed m) = absurd (true≢false m)
-    net (Fate.copied h s n e) = n
-    net (Fate.taken h s n e) = n
-    net (Fate.spoilt new h s n e d) = n
+    cables : Fate u.links c held f (true, l) → l.cables ≡ u.links.cables
+    cables (Fate.missed m) = absurd (true≢false m)
+    cables (Fate.copied h s n e) = n
+    cables (Fate.taken h s n e) = n
+    cables (Fate.spoilt new h s n e d) = n
 
     by : Fate u.links c held f (true, l) → Outcome u (struck_by (record u { plan = without_fault u.injected u.plan }) f (true, l)) c held
     by (Fate.missed m) = absurd (true≢false m)
@@ -144,7 +144,7 @@ strike-so u c held f (true, l) planned is fate = record {
     by (Fate.spoilt new h s n e d) = Outcome.marred new e (λ all m none. d (looked-up u.injected u.plan f all planned) m none) (harm-more f u.harmed h) some
 strike-so u c held f (false, l) planned is fate = record {
   keeps = record {
-    net = refl;
+    cables = refl;
     nodes = refl;
     clients = refl;
     adopted = refl;
@@ -157,10 +157,10 @@ strike-so u c held f (false, l) planned is fate = record {
   outcome = Outcome.intact is refl;
 }
 
-strikes-so : (u : WorldState) (c : ℕ) (held : Held) (o : Option Fault) → lookup (nat_eq u.injected) u.plan ≡ o → c < channel_count u.links.net → HasLone u.links c held → StruckSo u (fault_strikes u c o) c held
+strikes-so : (u : WorldState) (c : ℕ) (held : Held) (o : Option Fault) → lookup (nat_eq u.injected) u.plan ≡ o → c < life_channels u.links.cables → HasLone u.links c held → StruckSo u (fault_strikes u c o) c held
 strikes-so u c held None e low is = record { keeps = no-strike u; outcome = Outcome.intact is refl }
 strikes-so u c held (Some f) e low is = strike-so u c held f (fault_on u.links c f) e is (fault-fate u.links c held f low is)
 
-pub planned-so : (u : WorldState) (c : ℕ) (held : Held) → c < channel_count u.links.net → HasLone u.links c held → StruckSo u (planned_strikes u c) c held
+pub planned-so : (u : WorldState) (c : ℕ) (held : Held) → c < life_channels u.links.cables → HasLone u.links c held → StruckSo u (planned_strikes u c) c held
 unfolding planned_strikes
 planned-so u c held low is = strikes-so u c held (lookup (nat_eq u.injected) u.plan) refl low is

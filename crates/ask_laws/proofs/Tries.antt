@@ -1,15 +1,14 @@
 -- One try of a mapper: what it finds is there, and where it misses what is there, a fault met it.
-use Rattle.std.proofs.Common.{◌≡◌, ◌≢◌, ◌<◌, ◌≤◌, ◌+◌, ◌^◌, ℕ, Bool, true, false, ◌&&◌, ◌||◌, nat_eq, nat_lt, nat_le, List, [], ◌∷◌, ◌++◌, length, Option, Some, None, ◌⊎◌, refl, sym, ap, ◌∙◌, subst, arith, if◌then◌else◌}
+use Rattle.std.proofs.Common.{◌≡◌, ◌<◌, ◌≤◌, ◌+◌, ◌^◌, ℕ, Bool, true, false, ◌&&◌, ◌||◌, nat_eq, nat_lt, nat_le, List, [], ◌∷◌, ◌++◌, length, Option, Some, None, ◌⊎◌, refl, ap, ◌∙◌, subst, arith, if◌then◌else◌}
 use Rattle.std.specs.Prelude.{ℤ, pos}
 use Rattle.std.specs.List.{AllByRecursion, list_all}
 use Rattle.std.specs.Map.{lookup}
 use Rattle.std.proofs.lemmas.Bool.Decides.{Decides-eqb, nat_tests}
-use Rattle.net_defs.specs.declared.place.Place.TheVariants.{Host as AtHostPlace, Nothing as Stuck}
+use Rattle.net_defs.specs.declared.place.Place.TheVariants.{Host as AtHostPlace}
 use Rattle.net_defs.specs.Network.{Network, IsFabric, far}
 use Rattle.net_defs.specs.Turn.{is_turn, IsTurn}
-use Rattle.net_defs.specs.Route.{place, host_port, channel_from, entered_after, IsPlaceOf}
+use Rattle.net_defs.specs.Route.{place, host_port, entered_after, IsPlaceOf}
 use Rattle.net_defs.proofs.Places.{place_at-there}
-use Rattle.link_defs.proofs.LonePackets.{no_channel-place}
 use Rattle.mapping_defs.specs.Mapping.{is_route, is_mapping}
 use Rattle.mapping_defs.specs.Mapping.MappingBody.{HostProbe, HostReply, Loopback}
 use Rattle.world_defs.specs.declared.effect.Effect.{Effect}
@@ -184,9 +183,6 @@ harm false a b more = below a.harmed b.harmed more
 pub used-harm : (used : Bool) (a b : WorldState) → used ≡ true → is_harmed used a b ≡ true
 used-harm used a b u = rw u refl
 
--- no channel, no place
-pub stuck-place : (n : Network) (host h : ℕ) (route : List ℤ) → channel_from n (host_port host) ≡ None → place n host route ≢ AtHostPlace h
-stuck-place n host h route none is = let bad : Stuck ≡ AtHostPlace h = sym (no_channel-place n host route none) ∙ is in cc
-
+-- a place has one host
 pub one-host : (a b : ℕ) → AtHostPlace a ≡ AtHostPlace b → a ≡ b
 one-host a b e = cc

@@ -1,8 +1,8 @@
 //! The packets in the channels.
 
-ghost use Rattle.std.specs.Prelude.{◌≡◌, ◌<◌, ◌≤◌, length, replicate, not, ◌&&◌, if◌then◌else◌, slice_index_or};
-ghost use Rattle.std.specs.Prelude.{slice_set, Option, Some, None, is_some, is_none, option_map, option_copied};
-ghost use Rattle.std.specs.Prelude.{IfOk, IfSome, IfNone, IfErr, OnOk, true, false, ◌≢◌};
+ghost use Rattle.std.specs.Prelude.{◌≡◌, ◌<◌, ◌≤◌, ◌+◌, length, replicate, not, ◌&&◌, if◌then◌else◌, slice_index_or};
+ghost use Rattle.std.specs.Prelude.{List, [], ◌∷◌, ◌++◌, slice_set, Option, Some, None, is_some, is_none, option_copied};
+ghost use Rattle.std.specs.Prelude.{IfOk, IfSome, IfNone, OnOk, OnErr, false, ◌≢◌};
 ghost use Rattle.std.specs.List.{list_all};
 ghost use Rattle.packet_defs.specs.Burst.{flipped, may_flip};
 ghost use Rattle.link_defs.specs.Links.{Held};
@@ -14,11 +14,12 @@ use std::alloc::{AllocError, Global};
 use std::marker::Model;
 use std::mem;
 
-/// A packet with the mark of a flip.
+/// A packet with the mark of a flip, and the number of the epoch in which it was built.
 #[derive(Drop)]
 pub struct Slot {
     packet: Packet,
     marked: bool,
+    born: u32,
 }
 
 impl Model for Slot {
@@ -26,17 +27,18 @@ impl Model for Slot {
 
     ghost Value = { Held };
 
-    ghost view = { λ s. record { wire = s.packet; marked = s.marked } };
+    ghost view = { λ s. record { wire = s.packet; marked = s.marked; born = s.born } };
 }
 
 impl Slot {
-    /// A packet that no flip has met.
-    pub fn new(packet: Packet) -> Slot
-        ensures { result ≡ record { wire = packet; marked = false } }
+    /// A packet that no flip has met, built in an epoch.
+    pub fn new(packet: Packet, born: u32) -> Slot
+        ensures { result ≡ record { wire = packet; marked = false; born = born } }
     {
         Slot {
             packet,
             marked: false,
+            born,
         }
     }
 
@@ -51,54 +53,65 @@ impl Slot {
     pub fn into_packet(self) -> Packet
         ensures { result ≡ self.wire }
     {
-        let Slot { packet, marked: _ } = self;
+        let Slot {
+            packet,
+            marked: _,
+            born: _,
+        } = self;
         packet
     }
 
-    /// The packet, and whether a flip has met it.
-    pub fn into_parts(self) -> (Packet, bool)
-        ensures { result ≡ (self.wire, self.marked) }
+    /// The packet, whether a flip has met it, and its epoch.
+    pub fn into_parts(self) -> (Packet, bool, u32)
+        ensures { result ≡ (self.wire, self.marked, self.born) }
     {
-        let Slot { packet, marked } = self;
-        (packet, marked)
+        let Slot {
+            packet,
+            marked,
+            born,
+        } = self;
+        (packet, marked, born)
     }
 
-    /// A packet, and whether a flip has met it.
-    pub fn from_parts(packet: Packet, marked: bool) -> Slot
-        ensures { result ≡ record { wire = packet; marked = marked } }
+    /// A packet, whether a flip has met it, and its epoch.
+    pub fn from_parts(packet: Packet, marked: bool, born: u32) -> Slot
+        ensures { result ≡ record { wire = packet; marked = marked; born = born } }
     {
-        Slot { packet, marked }
+        Slot {
+            packet,
+            marked,
+            born,
+        }
     }
 
-    /// Another packet with the same bytes and mark.
+    /// Another packet with the same bytes, mark and epoch.
     pub fn copy(&self, alloc: Global) -> Result<Slot, AllocError>
         ensures { IfOk result (λ s. s ≡ self.now) }
     {
         Ok(Slot {
             packet: self.packet.copy(alloc)?,
             marked: self.marked,
+            born: self.born,
         })
     }
 
     /// The packet after a flip, and whether the flip met it: a marked packet is flipped no more.
     pub fn flip(self, bit: u32, pattern: u8) -> (Slot, bool)
         ensures meets { result.1 ≡ (not self.marked && may_flip self.wire bit pattern) }
-        ensures slot { result.0 ≡ (if result.1 then record { wire = flipped self.wire bit pattern; marked = result.1 }
+        ensures slot { result.0 ≡ (if result.1 then record self { wire = flipped self.wire bit pattern; marked = result.1 }
             else self) }
     {
-        let Slot { packet, marked } = self;
+        let Slot {
+            packet,
+            marked,
+            born,
+        } = self;
         if marked {
-            return (Slot { packet, marked }, false);
+            return (Slot::from_parts(packet, marked, born), false);
         }
         match packet.flip(bit, pattern) {
-            Ok(packet) => (
-                Slot {
-                    packet,
-                    marked: true,
-                },
-                true,
-            ),
-            Err((packet, _)) => (Slot { packet, marked }, false),
+            Ok(packet) => (Slot::from_parts(packet, true, born), true),
+            Err((packet, _)) => (Slot::from_parts(packet, marked, born), false),
         }
     }
 }
@@ -128,7 +141,7 @@ impl Model for Slots {
 impl Slots {
     /// So many empty channels.
     pub fn new(alloc: Global, channels: usize) -> Result<Slots, AllocError>
-        requires { channels ≤ 1152 }
+        requires { channels ≤ 8192 }
         ensures { IfOk result (λ s. s ≡ replicate channels None) }
     {
         let mut slots = Vec::with_capacity(alloc, channels)?;
@@ -206,6 +219,31 @@ impl Slots {
             unmark(&mut self.marks, c);
         }
         slot
+    }
+
+    /// Two empty channels more.
+    pub fn push_cable(&mut self) -> Result<(), AllocError>
+        requires { length self.old + 2 ≤ 8192 }
+        ensures ok { OnOk result (self.new ≡ self.old ++ None ∷ None ∷ []) }
+        ensures err { OnErr result (self.new ≡ self.old) }
+    {
+        self.slots.reserve(2)?;
+        if self.slots.len() + 2 > 64 * self.marks.len() {
+            self.marks.push(0)?;
+        }
+        self.slots.push_reserved(None);
+        self.slots.push_reserved(None);
+        Ok(())
+    }
+
+    /// Takes the last two channels away, which are empty.
+    pub fn pop_cable(&mut self)
+        requires { (others : List (Option Held)) × (self.old ≡ others ++ None ∷ None ∷ []) }
+        ensures { (others : List (Option Held)) → self.old ≡ others ++ None ∷ None ∷ [] → self.new ≡ others }
+    {
+        // Nothing is lost, and nothing has to be let go.
+        mem::forget(self.slots.pop());
+        mem::forget(self.slots.pop());
     }
 
     /// Puts a packet into an empty channel.

@@ -1,11 +1,12 @@
 -- What one act makes of the packets that the links hold, and of the counters, as its effect and its strike tell it.
 use Rattle.std.proofs.Common.{◌≡◌, ◌<◌, ◌+◌, ℕ, Bool, true, false, cond, min, List, [], ◌∷◌, length, nat_eq, count_by, Option, Some, None, is_some, refl, sym, ap, ◌∙◌, subst, arith, if◌then◌else◌}
 use Rattle.std.specs.Map.{lookup}
-use Rattle.net_defs.specs.Route.{host_port, channel_from}
+use Rattle.net_defs.specs.Route.{host_port}
+use Rattle.cable_history.specs.Crossed.{leaving}
+use Rattle.cable_history.proofs.ForLife.{leaving_has_its_end}
 use Rattle.link_defs.specs.Links.{LinkState, packet_in, put}
 use Rattle.link_defs.specs.Shape.{IsLinks}
 use Rattle.link_defs.specs.Step.{Step, Put as PutLinks, Advance as AdvanceLinks, Lose as LoseLinks, Reset as ResetLinks, Repeat as RepeatLinks, Hold as HoldLinks, Flip as FlipLinks, Replay as ReplayLinks, stepped}
-use Rattle.link_defs.proofs.Ends.{channel_from-ends}
 use Rattle.link_defs.proofs.Shapes.{stepped-links}
 use Rattle.packet_defs.specs.Packet.{stripped}
 use Rattle.world_defs.specs.declared.event.Event.{Event}
@@ -18,7 +19,7 @@ use Rattle.world_defs.specs.declared.fault.Fault.{Fault}
 use Rattle.world_defs.specs.declared.fault.Fault.TheVariants.{Lose as LoseFault, Repeat as RepeatFault, Hold as HoldFault, Flip as FlipFault}
 use Rattle.world_defs.specs.Node.{NodeState, Outgoing, to_send, packet_for}
 use Rattle.world_defs.specs.Hearing.{hear}
-use Rattle.world_defs.specs.World.{WorldState, fabric_of, host_count, node_at, counted, last_count, with_node, with_links, with_drop, without_fault}
+use Rattle.world_defs.specs.World.{WorldState, host_count, node_at, counted, last_count, with_node, with_links, with_drop, without_fault}
 use Rattle.world_defs.specs.Step.{fault_on, is_harm, planned_strikes, sent_out, cause_at_switch, cause_at_host, of_call}
 use Rattle.world_defs.proofs.Views.{LinksChange, HostChange, ArrivalChange, Change, view}
 use Rattle.world_defs.proofs.Strikes.{fault_step, Strike, strike_view}
@@ -149,10 +150,10 @@ abbrev struck_world : WorldState → ℕ → Fault → WorldState
 struck_world u c f = record u { links = stepped u.links (fault_step c f); plan = without_fault u.injected u.plan; struck = u.struck + 1; harmed = if is_harm f then u.harmed + 1 else u.harmed }
 
 -- a packet is injected, and a fault may strike it
-module _ (w : WorldState) (h c : ℕ) (wire : List ℕ) (u : WorldState) (cable : channel_from (fabric_of w) (host_port h) ≡ Some c) (room : packet_in w.links c ≡ None) (o : IsOut w c wire u) where
+module _ (w : WorldState) (h c : ℕ) (wire : List ℕ) (u : WorldState) (cable : leaving w.links.cables (host_port h) ≡ Some c) (room : packet_in w.links c ≡ None) (o : IsOut w c wire u) where
   entered-present : IsLinks w.links → present u.links ≡ present w.links + 1
   entered-present is =
-      let low = (channel_from-ends (fabric_of w) (host_port h) c cable).2 in
+      let low = (leaving_has_its_end w.links.cables (host_port h) c cable).there in
       let slots = is.slots in
       let inside : c < length w.links.channels = omega (arith, low, slots) in
       ap present o.links ∙ put-present w.links c wire inside room
@@ -198,7 +199,7 @@ module _ (w : WorldState) (h c : ℕ) (wire : List ℕ) (u : WorldState) (cable 
         harmed = harm-once f u.harmed ∙ ap (λ n. n + count_by is_harm (f ∷ [])) o.harmed;
       })
 
-injects-tells : (w : WorldState) (h c : ℕ) (out : Outgoing) → channel_from (fabric_of w) (host_port h) ≡ Some c → to_send h (node_at w h) ≡ Some out → packet_in w.links c ≡ None
+injects-tells : (w : WorldState) (h c : ℕ) (out : Outgoing) → leaving w.links.cables (host_port h) ≡ Some c → to_send h (node_at w h) ≡ Some out → packet_in w.links c ≡ None
     → Tells w (planned_strikes (sent_out w h c out) c) (Injected (w.injected + 1) ∷ []) (strike_by w (Injected (w.injected + 1)) (Inject h))
 injects-tells w h c out cable item room =
     let u : WorldState = sent_out w h c out in

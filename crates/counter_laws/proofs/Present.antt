@@ -5,19 +5,21 @@ use Rattle.std.specs.Map.{lookup, remove_entry}
 use Rattle.std.proofs.lemmas.List.Sums.{sum_by-set}
 use Rattle.net_defs.specs.declared.vertex.Vertex.TheVariants.{Host, Switch}
 use Rattle.net_defs.specs.declared.vertex.End.{End}
-use Rattle.net_defs.specs.Network.{Network, ports_of}
-use Rattle.net_defs.specs.Route.{channel_from}
+use Rattle.net_defs.specs.Network.{ports_of}
+use Rattle.cable_history.specs.History.{CableHistory, fabric_now}
 use Rattle.link_defs.specs.declared.turned.Turned.{Turned}
 use Rattle.link_defs.specs.declared.turned.Turned.TheVariants.{Out, OutOfRange as TurnedTooFar, NotRoute as NoTurn}
-use Rattle.link_defs.specs.declared.moved.Course.TheVariants.{Enters}
+use Rattle.link_defs.specs.declared.moved.Course.TheVariants.{Enters, Drops}
+use Rattle.link_defs.specs.declared.moved.Why.TheVariants.{NewCable}
+use Rattle.link_defs.specs.Kinds.{is_mapping}
 use Rattle.link_defs.specs.declared.replayed.Replayed.TheVariants.{Back, Busy}
-use Rattle.link_defs.specs.Channel.{channel_count, channel_head}
+use Rattle.cable_history.specs.Crossed.{leaving, life_channels, life_head, is_new}
+use Rattle.cable_history.proofs.ForLife.{leaving_has_its_end}
 use Rattle.link_defs.specs.Links.{Held, Caught, LinkState, packet_in, with_packet, emptied, put}
 use Rattle.link_defs.specs.Switch.{aim}
 use Rattle.link_defs.specs.Advance.{course_by_channel, course_out, course_at, course_into, course}
 use Rattle.link_defs.specs.Fault.{lose, repeat_of, repeat, hold_of, hold, flip_of, flip, is_used_up, with_caught, caught_as, released, replay_of, replay}
 use Rattle.link_defs.specs.Shape.{IsLinks}
-use Rattle.link_defs.proofs.Ends.{channel_from-ends}
 use Rattle.link_defs.proofs.Idling.{pick}
 use Rattle.packet_defs.specs.Burst.{flipped, may_flip}
 use Rattle.counter_laws.specs.Counts.{in_channels, in_limbo}
@@ -57,7 +59,7 @@ caught-present s c held = let h = length-append s.limbo ((s.next_serial, record 
 -- a new packet
 pub put-present : (s : LinkState) (c : ℕ) (wire : List ℕ) → c < length s.channels → packet_in s c ≡ None → present (put s c wire).1 ≡ present s + 1
 put-present s c wire low e =
-    let new : Held = record { wire = wire; marked = false } in
+    let new : Held = record { wire = wire; marked = false; born = s.epoch } in
     ap (λ o. present (pick (is_some o) (false, s) (true, with_packet s c (Some new))).1) e ∙ filled-present s c new low e
 
 -- a loss, and a reset
@@ -98,7 +100,7 @@ pub flip-present : (s : LinkState) (c bit pattern : ℕ) → (flip s c bit patte
 flip-present s c bit pattern k = by (packet_in s c) refl k
   where
     next : Held → Held
-    next held = record { wire = flipped held.wire bit pattern; marked = true }
+    next held = record held { wire = flipped held.wire bit pattern; marked = true }
 
     may : (held : Held) (b : Bool) → packet_in s c ≡ Some held → (pick b (true, with_packet s c (Some (next held))) (false, s)).0 ≡ true → present (pick b (true, with_packet s c (Some (next held))) (false, s)).1 ≡ present s
     may held true e k = over-present s c held (next held) e
@@ -145,32 +147,36 @@ replay-present s serial c is k = by (caught_as s serial) refl k
     by None e k = cc
     by (Some x) e k = room x (packet_in s x.channel) e refl k
 
--- a packet enters a channel of the fabric
-enters-low : (n : Network) (c next : ℕ) (wire : List ℕ) → course n c wire ≡ Enters next → next < channel_count n
-enters-low n c next wire e = into (channel_head n c) e
+-- a packet enters a channel that is there
+enters-low : (cables : CableHistory) (c next : ℕ) (wire : List ℕ) → course cables c wire ≡ Enters next → next < life_channels cables
+enters-low cables c next wire e = into (life_head cables c) e
   where
-    to : (x : End) (o : Option ℕ) → channel_from n x ≡ o → course_by_channel o ≡ Enters next → next < channel_count n
-    to x None f g = cc
-    to x (Some d) f g = let same : d ≡ next = cc in subst (λ k. k < channel_count n) same (channel_from-ends n x d f).2
+    may : (x : End) (d : ℕ) (b : Bool) → leaving cables x ≡ Some d → (if b then Drops NewCable else Enters d) ≡ Enters next → next < life_channels cables
+    may x d true f g = cc
+    may x d false f g = let same : d ≡ next = cc in subst (λ k. k < life_channels cables) same (leaving_has_its_end cables x d f).there
 
-    out : (s : ℕ) (t : Turned) → course_out n s t ≡ Enters next → next < channel_count n
-    out s (Out port) g = to (record { v = Switch s; p = port }) (channel_from n (record { v = Switch s; p = port })) refl g
+    to : (x : End) (o : Option ℕ) → leaving cables x ≡ o → course_by_channel cables wire o ≡ Enters next → next < life_channels cables
+    to x None f g = cc
+    to x (Some d) f g = may x d (is_new cables d && not (is_mapping wire)) f g
+
+    out : (s : ℕ) (t : Turned) → course_out cables s wire t ≡ Enters next → next < life_channels cables
+    out s (Out port) g = to (record { v = Switch s; p = port }) (leaving cables (record { v = Switch s; p = port })) refl g
     out s TurnedTooFar g = cc
     out s NoTurn g = cc
 
-    into : (o : Option End) → course_into n o wire ≡ Enters next → next < channel_count n
+    into : (o : Option End) → course_into cables o wire ≡ Enters next → next < life_channels cables
     into None g = cc
     into (Some x) g = at x.v g
       where
-        at : (v : _) → course_at n v x.p wire ≡ Enters next → next < channel_count n
+        at : (v : _) → course_at cables v x.p wire ≡ Enters next → next < life_channels cables
         at (Host h) g = cc
-        at (Switch s) g = out s (aim (ports_of n (Switch s)) x.p wire) g
+        at (Switch s) g = out s (aim (ports_of (fabric_now cables) (Switch s)) x.p wire) g
 
-pub moved-present : (s : LinkState) (c next : ℕ) (held moved : Held) → IsLinks s → packet_in s c ≡ Some held → course s.net c held.wire ≡ Enters next → packet_in (emptied s c) next ≡ None
+pub moved-present : (s : LinkState) (c next : ℕ) (held moved : Held) → IsLinks s → packet_in s c ≡ Some held → course s.cables c held.wire ≡ Enters next → packet_in (emptied s c) next ≡ None
     → present (with_packet (emptied s c) next (Some moved)) ≡ present s
 moved-present s c next held moved is e g room =
     let long : length (set s.channels c None) ≡ length s.channels = length-set s.channels c None in
-    let low = enters-low s.net c next held.wire g in
+    let low = enters-low s.cables c next held.wire g in
     let slots = is.slots in
     let inside : next < length (emptied s c).channels = omega (arith, long, low, slots) in
     filled-present (emptied s c) next moved inside room ∙ emptied-present s c held e

@@ -1,7 +1,8 @@
 -- All acts, from a fabric's new world on.
 use Rattle.std.proofs.Common.{◌≡◌, ◌+◌, ℕ, zero, suc, Bool, cond, min, List, [], ◌∷◌, ◌++◌, replicate, count_by, is_some, Option, None, refl, ap, ◌∙◌, arith, length-append}
 use Rattle.std.proofs.lemmas.List.Sums.{sum_by-append}
-use Rattle.link_defs.specs.Channel.{channel_count}
+use Rattle.cable_history.specs.History.{first_history}
+use Rattle.cable_history.specs.Crossed.{life_channels}
 use Rattle.link_defs.specs.Links.{Held}
 use Rattle.link_defs.proofs.Shapes.{empty-links}
 use Rattle.world_defs.specs.declared.effect.Effect.{Effect}
@@ -63,7 +64,7 @@ no_packets (suc k) = no_packets k
 pub packets-conserved : PacketsAreConserved
 packets-conserved n acts =
     let t : Tells (new_world n) (acted_all (new_world n) acts) (effects_of (new_world n) acts) (strikes_of (new_world n) acts) = all-tell (new_world n) acts in
-    let none = no_packets (channel_count n) in
+    let none = no_packets (life_channels (first_history n)) in
     let balance = t.balance (empty-links n) in
     omega (arith, none, balance)
 

@@ -2,7 +2,8 @@
 use Rattle.std.specs.Prelude.{ℕ, ◌+◌, Bool, true, false, List, [], ◌∷◌, ◌++◌, length, nat_eq, is_some, count_by}
 use Rattle.std.specs.Prelude.{if◌then◌else◌, Option, Some, None}
 use Rattle.std.specs.Map.{lookup}
-use Rattle.net_defs.specs.Route.{host_port, channel_from}
+use Rattle.net_defs.specs.Route.{host_port}
+use Rattle.cable_history.specs.Crossed.{leaving}
 use Rattle.link_defs.specs.Links.{LinkState}
 use Rattle.world_defs.specs.declared.event.Event.{Event}
 use Rattle.world_defs.specs.declared.event.Event.TheVariants.{Inject}
@@ -11,7 +12,7 @@ use Rattle.world_defs.specs.declared.effect.Effect.TheVariants.{Injected, Arrive
 use Rattle.world_defs.specs.declared.fault.Fault.{Fault}
 use Rattle.world_defs.specs.declared.fault.Fault.TheVariants.{Lose as LoseFault, Repeat as RepeatFault}
 use Rattle.world_defs.specs.Node.{Outgoing, to_send}
-use Rattle.world_defs.specs.World.{WorldState, fabric_of, node_at}
+use Rattle.world_defs.specs.World.{WorldState, node_at}
 use Rattle.world_defs.specs.Step.{fault_on, sent_out, step}
 use Rattle.act_defs.specs.Acts.{Act, Happens, Plans, Adopts, acted}
 
@@ -40,7 +41,7 @@ strike_at w h number _ _ = []
 -- the planned fault that struck at an event of this effect: that of a host's injection into its channel, and else none
 abbrev pub strike_by : WorldState → Effect → Event → List Fault
 strike_by w (Injected number) (Inject h) =
-    strike_at w h number (channel_from (fabric_of w) (host_port h)) (to_send h (node_at w h))
+    strike_at w h number (leaving w.links.cables (host_port h)) (to_send h (node_at w h))
 strike_by w _ _ = []
 
 -- the planned fault that struck at an act

@@ -112,6 +112,7 @@ fn cause_of(cause: Cause) -> &'static [u8]
         Cause::OutOfRange => b"outofrange",
         Cause::NotRoute => b"notroute",
         Cause::NoCable => b"nocable",
+        Cause::NewCable => b"newcable",
         Cause::BadCrc => b"badcrc",
         Cause::RouteLeft => b"routeleft",
         Cause::UnknownType => b"unknowntype",

@@ -12,7 +12,7 @@ use Rattle.world_defs.specs.declared.effect.Said.TheVariants.{Token}
 use Rattle.world_defs.specs.Client.{Called, ClientState, Wanted, refused, left, begin_at, begun, close_refusal, close_unless, close_at, close_open, closed, empty_buffer, provide_with, provide_open, provided_by, send_refusal, send_unless, send_with, send_open, sent_by}
 use Rattle.gm_defs.specs.Token.{PortState}
 use Rattle.gm_defs.specs.Port.{is_bad_size, provided_with}
-use Rattle.world_defs.specs.World.{WorldState, fabric_of, host_count, node_at, client_at}
+use Rattle.world_defs.specs.World.{WorldState, host_count, node_at, client_at}
 use Rattle.world_defs.specs.Step.{wanted, step}
 use Rattle.world_defs.proofs.Views.{LinksChange, HostChange, CallChange, ArrivalChange, Change, view}
 use Rattle.faulty_links.proofs.Arrivals.{course-host}
@@ -112,7 +112,7 @@ change-hosts Change.idle m polled = tt
 change-hosts (Change.blocked packet next d e) m polled = tt
 change-hosts {w = w} (Change.links k) m polled = links-hosts (host_count w) k
 change-hosts (Change.drops packet why d e f) m polled = tt
-change-hosts {w = w} (Change.arrives {c = c} packet h d e f k) m polled = arrival-hosts (host_count w) (subst (λ n. h < n) (sym m.world.hosts) (course-host (fabric_of w) c packet.wire h m.fabric e)) k
+change-hosts {w = w} (Change.arrives {c = c} packet h d e f k) m polled = arrival-hosts (host_count w) (subst (λ n. h < n) (sym m.world.hosts) (course-host w.links.cables c packet.wire h m.history e)) k
 change-hosts {w = w} (Change.host k) m polled = host-hosts (host_count w) k
 change-hosts (Change.injects c out d e f g) m polled = tt
 change-hosts {w = w} (Change.calls k) m polled = call-hosts (host_count w) k polled

@@ -1,10 +1,12 @@
 -- Every event, and every plan of a fault with a pattern of eight bits, leads from one moment of a world to another.
-use Rattle.std.proofs.Common.{◌≡◌, ◌<◌, ◌+◌, ℕ, List, [], ◌∷◌, length, Option, refl, sym, ◌∙◌, ap, subst}
+use Rattle.std.proofs.Common.{◌≡◌, ◌<◌, ◌≤◌, ◌+◌, ℕ, List, [], ◌∷◌, length, Option, refl, sym, ◌∙◌, ap, subst, arith}
 use Rattle.std.specs.Prelude.{Result, Ok, Err, OnOk, OnErr, IfOk, IfSome}
-use Rattle.std.proofs.lemmas.List.{length-set}
+use Rattle.std.proofs.lemmas.List.{length-set, length-map}
 use Rattle.net_defs.specs.declared.route.Route.{Route}
 use Rattle.net_defs.specs.Network.{Network, IsFabric}
-use Rattle.link_defs.specs.Channel.{channel_count}
+use Rattle.cable_history.specs.History.{CableHistory, IsHistory, first_wire, first_history, fabric_now}
+use Rattle.cable_history.specs.Crossed.{life_channels}
+use Rattle.cable_history.proofs.First.{first_is_history, first_stands}
 use Rattle.net_defs.specs.RouteSet.{AreRising}
 use Rattle.world_defs.specs.declared.event.Event.{Event}
 use Rattle.world_defs.specs.declared.effect.Effect.{Effect}
@@ -13,9 +15,12 @@ use Rattle.world_defs.specs.Table.{Adoption, whole_table}
 use Rattle.world_defs.specs.World.{WorldState, fabric_of, host_count, node_at, new_world, planned, adopted_by}
 use Rattle.world_defs.specs.Step.{step, after_all}
 use Rattle.world_laws.proofs.Shapes.{step-kept, after_all-kept, new-world, new-senders, planned-world, planned-senders, adopted-world, adopted-senders}
+use Rattle.act_defs.specs.Acts.{IsReached}
+use Rattle.act_defs.proofs.Cables.{reached-cables}
 use Rattle.world_defs.proofs.Kept.{step-adopted, with-all, step-plan}
 use Rattle.world_defs.specs.EightBits.{IsByteFault}
 use Rattle.port_graph.specs.Routes.{AreShort}
+use Rattle.port_graph.proofs.Possible.{few_cables}
 use Rattle.adopted_routes.specs.Adopting.{IsAdoptable, IsSetOfHosts}
 use Rattle.fab_world.specs.Held.{IsMoment, IsLater}
 use Rattle.adopted_routes.proofs.Sets.{set-of-hosts}
@@ -29,7 +34,7 @@ pub later-adopted : (w v : WorldState) → IsLater w v → v.adopted ≡ w.adopt
 later-adopted w v (es, is) = ap (λ u. u.adopted) is ∙ after-adopted w es
 
 step-hosts : (w : WorldState) (e : Event) → IsMoment w → host_count (step w e).1 ≡ host_count w
-step-hosts w e m = ((step-kept w e).world m.world).hosts ∙ ap (λ n. length n.hosts) (step-kept w e).net ∙ sym m.world.hosts
+step-hosts w e m = ((step-kept w e).world m.world).hosts ∙ ap (λ (h : CableHistory). length h.hosts) (step-kept w e).cables ∙ sym m.world.hosts
 
 -- adopted routes are still of the hosts where both stay as they were
 pub set-stays : (hosts now : ℕ) (o p : Option Adoption) → now ≡ hosts → p ≡ o → IfSome o (IsSetOfHosts hosts) → IfSome p (IsSetOfHosts now)
@@ -37,7 +42,8 @@ set-stays hosts now o p e f is = subst (λ k. IfSome p (IsSetOfHosts k)) (sym e)
 
 pub step-moment : (w : WorldState) (e : Event) → IsMoment w → IsMoment (step w e).1
 step-moment w e m = record {
-  fabric = subst IsFabric (sym (step-kept w e).net) m.fabric;
+  history = subst IsHistory (sym (step-kept w e).cables) m.history;
+  fabric = subst IsFabric (ap fabric_now (sym (step-kept w e).cables)) m.fabric;
   world = (step-kept w e).world m.world;
   senders = (step-kept w e).senders m.senders;
   plan = step-plan w e m.plan;
@@ -51,8 +57,11 @@ after-moment w (e ∷ es) m = after-moment (step w e).1 es (step-moment w e m)
 pub later-moment : (w v : WorldState) → IsMoment w → IsLater w v → IsMoment v
 later-moment w v m (es, is) = subst IsMoment (sym is) (after-moment w es m)
 
+later-cables : (w v : WorldState) → IsLater w v → v.links.cables ≡ w.links.cables
+later-cables w v (es, is) = ap (λ u. u.links.cables) is ∙ (after_all-kept w es).cables
+
 pub later-fabric : (w v : WorldState) → IsLater w v → fabric_of v ≡ fabric_of w
-later-fabric w v (es, is) = ap fabric_of is ∙ (after_all-kept w es).net
+later-fabric w v l = ap fabric_now (later-cables w v l)
 
 pub later-hosts : (w v : WorldState) → IsMoment w → IsLater w v → host_count v ≡ host_count w
 later-hosts w v m l =
@@ -60,18 +69,28 @@ later-hosts w v m l =
 
 pub later-channels : (w v : WorldState) → IsMoment w → IsLater w v → length v.links.channels ≡ length w.links.channels
 later-channels w v m l =
-    (later-moment w v m l).world.links.slots ∙ ap channel_count (later-fabric w v l) ∙ sym m.world.links.slots
+    (later-moment w v m l).world.links.slots ∙ ap life_channels (later-cables w v l) ∙ sym m.world.links.slots
 
 -- the world after a step, or after one that ran out of memory
 pub step-later : {E : Type 0} (w v : WorldState) (e : Event) (r : Result Effect E) → IfOk r (λ x. step w e ≡ (x, v)) → OnErr r (v ≡ w) → IsLater w v
 step-later w v e (Ok x) is err = (e ∷ [], sym (ap (λ p. p.1) is))
 step-later w v e (Err y) is err = ([], err)
 
+new-history : (n : Network) → IsFabric n → IsHistory (first_history n)
+new-history n f = let few = few_cables n f in first_is_history n f (omega (arith, few))
+
+-- a world that is reached has the channels of its fabric
+pub few-channels : (w : WorldState) → IsReached (fabric_of w) w → life_channels w.links.cables ≤ 1152
+few-channels w r =
+    let few = few_cables (fabric_of w) r.fabric in
+    let long = ap (λ (h : CableHistory). length h.wires) (reached-cables (fabric_of w) w r) ∙ length-map (fabric_of w).cables first_wire in
+    omega (arith, few, long)
+
 pub new-moment : (n : Network) → IsFabric n → IsMoment (new_world n)
-new-moment n f = record { fabric = f; world = new-world n; senders = new-senders n; plan = tt; adopted = tt }
+new-moment n f = record { history = new-history n f; fabric = subst IsFabric (sym (first_stands n 0).0) f; world = new-world n; senders = new-senders n; plan = tt; adopted = tt }
 
 pub planned-moment : (w : WorldState) (ahead : ℕ) (fault : Fault) → IsByteFault fault → IsMoment w → IsMoment (planned w ahead fault).1
-planned-moment w ahead fault low m = record { fabric = m.fabric; world = planned-world w ahead fault m.world; senders = planned-senders w ahead fault m.senders; plan = with-all (w.injected + ahead) fault w.plan low m.plan; adopted = m.adopted }
+planned-moment w ahead fault low m = record { history = m.history; fabric = m.fabric; world = planned-world w ahead fault m.world; senders = planned-senders w ahead fault m.senders; plan = with-all (w.injected + ahead) fault w.plan low m.plan; adopted = m.adopted }
 
 -- the world after a plan, or after one that ran out of memory
 pub plan-later : {E : Type 0} (w v : WorldState) (ahead : ℕ) (fault : Fault) (r : Result ℕ E) → IsByteFault fault → IsMoment w → IfOk r (λ number. planned w ahead fault ≡ (number, v)) → OnErr r (v ≡ w) → IsMoment v × (fabric_of v ≡ fabric_of w)
@@ -85,6 +104,7 @@ adopted-hosts w mapper routes = length-set w.nodes mapper (record (node_at w map
 
 adopted-moment : (w : WorldState) (mapper : ℕ) (routes : List Route) → IsMoment w → mapper < host_count w → AreRising routes → AreShort routes → IsAdoptable (fabric_of w) mapper routes → IsMoment (adopted_by w mapper routes)
 adopted-moment w mapper routes m low up short may = record {
+  history = m.history;
   fabric = m.fabric;
   world = adopted-world w mapper routes m.world;
   senders = adopted-senders w mapper routes m.senders;

@@ -10,6 +10,7 @@ use Rattle.world_defs.specs.Node.{NodeState, new_node}
 use Rattle.world_defs.specs.Client.{ClientState, Called}
 use Rattle.world_defs.specs.World.{WorldState, fabric_of, host_count, node_at, client_at, with_node}
 use Rattle.world_defs.specs.Step.{of_call}
+use Rattle.cable_history.specs.History.{fabric_now}
 use Rattle.faulty_links.specs.Held.{LinksAndPlan}
 use Rattle.client_host.specs.Held.{ServedHost, in_state, client_in, after_call}
 use Rattle.client_host.specs.Hosts.{states, clients_of, no_host, AreHosts}
@@ -28,7 +29,7 @@ pub count-is : (p : LinksAndPlan) (ss : List ServedHost) (o : Option Adoption) (
 count-is p ss o w is = sym (length-map ss (λ s. s.state)) ∙ ap host_count is
 
 -- a host that the fabric has is one of the world's, where these are as many
-pub below-is : (w : WorldState) (p : LinksAndPlan) (ss : List ServedHost) (o : Option Adoption) (h : ℕ) → world_of p ss o ≡ w → host_count w ≡ length (fabric_of w).hosts → h < length p.links.net.hosts → h < host_count w
+pub below-is : (w : WorldState) (p : LinksAndPlan) (ss : List ServedHost) (o : Option Adoption) (h : ℕ) → world_of p ss o ≡ w → host_count w ≡ length (fabric_of w).hosts → h < length (fabric_now p.links.cables).hosts → h < host_count w
 below-is w p ss o h is count low =
     let inside : h < length (fabric_of w).hosts = subst (λ v. h < length (fabric_of v).hosts) is low in
     subst (λ n. h < n) (sym count) inside

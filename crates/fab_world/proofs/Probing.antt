@@ -2,11 +2,12 @@
 use Rattle.std.proofs.Common.{◌≡◌, ◌<◌, ◌+◌, ℕ, ℤ, Bool, true, false, List, length, Option, Some, None, refl, sym, ap, subst, ◌∙◌}
 use Rattle.std.specs.Prelude.{slice_set}
 use Rattle.std.proofs.lemmas.List.{set-set, get_or-set_same}
-use Rattle.net_defs.specs.Route.{host_port, channel_from}
+use Rattle.net_defs.specs.Route.{host_port}
+use Rattle.cable_history.specs.Crossed.{leaving}
 use Rattle.world_defs.specs.declared.effect.Effect.TheVariants.{Injected, Idle}
 use Rattle.world_defs.specs.Table.{Adoption}
 use Rattle.world_defs.specs.Node.{NodeState, Outgoing, StagedProbe, Probe, new_node, to_send, probe_packet, packet_for, after_sending}
-use Rattle.world_defs.specs.World.{WorldState, fabric_of, host_count, node_at, with_node}
+use Rattle.world_defs.specs.World.{WorldState, host_count, node_at, with_node}
 use Rattle.world_defs.specs.Step.{asked, injected, inject_into, inject_one, planned_strikes}
 use Rattle.faulty_links.specs.Held.{LinksAndPlan, of_world, with_part, can_inject, put_under_next}
 use Rattle.faulty_links.proofs.Parts.{injection_is_put, injection_is_idle}
@@ -19,7 +20,7 @@ idle-any w h c None full = refl
 idle-any w h c (Some out) full = injection_is_idle w h c out full
 
 -- where a host has no channel, or one that can't take a packet, its probe stays staged
-pub stays-staged : (w : WorldState) (h : ℕ) (walk : List ℤ) (looped : Bool) (o : Option ℕ) → o ≡ channel_from (fabric_of w) (host_port h) → ((c : ℕ) → o ≡ Some c → can_inject (of_world w) c ≡ false)
+pub stays-staged : (w : WorldState) (h : ℕ) (walk : List ℤ) (looped : Bool) (o : Option ℕ) → o ≡ leaving w.links.cables (host_port h) → ((c : ℕ) → o ≡ Some c → can_inject (of_world w) c ≡ false)
     → injected (asked w h walk looped).1 h ≡ (Idle, (asked w h walk looped).1)
 unfolding injected asked
 stays-staged w h walk looped None e full = ap (inject_into (asked w h walk looped).1 h) (sym e)
@@ -44,12 +45,12 @@ asked-is : (w : WorldState) (h : ℕ) (walk : List ℤ) (looped : Bool) → (ask
 unfolding asked
 asked-is w h walk looped = refl
 
-injected-by : (w : WorldState) (h c : ℕ) → channel_from (fabric_of w) (host_port h) ≡ Some c → injected w h ≡ inject_one w h c (to_send h (node_at w h))
+injected-by : (w : WorldState) (h c : ℕ) → leaving w.links.cables (host_port h) ≡ Some c → injected w h ≡ inject_one w h c (to_send h (node_at w h))
 unfolding injected
 injected-by w h c e = ap (inject_into w h) e
 
 -- the same where the host's channel takes the probe's packet
-probed-in : (w : WorldState) (h c : ℕ) (walk : List ℤ) (looped : Bool) (packet : List ℕ) → h < length w.nodes → channel_from (fabric_of w) (host_port h) ≡ Some c → can_inject (of_world w) c ≡ true
+probed-in : (w : WorldState) (h c : ℕ) (walk : List ℤ) (looped : Bool) (packet : List ℕ) → h < length w.nodes → leaving w.links.cables (host_port h) ≡ Some c → can_inject (of_world w) c ≡ true
     → packet ≡ probe_packet h (w.injected + 1) walk looped
     → injected (asked w h walk looped).1 h ≡ (Injected (w.injected + 1), planned_strikes (put_under_next (with_node w h (record (node_at w h) { staged = None })) c packet) c)
 probed-in w h c walk looped packet below own free made =
@@ -68,7 +69,7 @@ probed-in w h c walk looped packet below own free made =
 
 -- one host's probe enters its channel
 pub probed-is : {p : LinksAndPlan} {ss : List ServedHost} {o : Option Adoption} {w : WorldState} {h i : ℕ} {x : ServedHost} (c : ℕ) (walk : List ℤ) (looped : Bool) (packet : List ℕ) (q : ServedHost) (v : LinksAndPlan) → IsAt p ss o w h i x
-    → channel_from (fabric_of w) (host_port h) ≡ Some c → can_inject (of_world w) c ≡ true → packet ≡ probe_packet h (w.injected + 1) walk looped
+    → leaving w.links.cables (host_port h) ≡ Some c → can_inject (of_world w) c ≡ true → packet ≡ probe_packet h (w.injected + 1) walk looped
     → ((u : WorldState) → planned_strikes (put_under_next (with_part u p) c packet) c ≡ with_part u v) → q ≡ in_state x (record x.state { staged = None })
     → injected (asked w h walk looped).1 h ≡ (Injected (w.injected + 1), world_of v (slice_set ss i q) o)
 probed-is {p} {ss} {o} {w} {h} {i} {x} c walk looped packet q v a own free made strikes e =
@@ -80,7 +81,7 @@ probed-is {p} {ss} {o} {w} {h} {i} {x} c walk looped packet q v a own free made 
     let below : h < length inside.nodes = subst (λ (u : WorldState). h < host_count u) (sym a.is) a.below in
     subst (λ u. injected (asked u h walk looped).1 h ≡ (Injected (u.injected + 1), world_of v (slice_set ss i q) o)) a.is
     (probed-in inside h c walk looped packet below
-    (subst (λ u. channel_from (fabric_of u) (host_port h) ≡ Some c) (sym a.is) own)
+    (subst (λ u. leaving u.links.cables (host_port h) ≡ Some c) (sym a.is) own)
     (subst (λ u. can_inject (of_world u) c ≡ true) (sym a.is) free)
     (subst (λ u. packet ≡ probe_packet h (u.injected + 1) walk looped) (sym a.is) made)
     ∙ ap (λ u. (Injected (p.injected + 1), u)) (strikes (with_node inside h sent) ∙ sym (changed-under q sent v o a new)))

@@ -2,6 +2,7 @@
 use Rattle.std.proofs.Common.{◌≡◌, ◌≤◌, ℕ, Bool, true, false, Option, Some, None, List, refl, sym, ap, subst}
 use Rattle.std.specs.Prelude.{Result, Ok, Err, OnOk, OnErr, IfOk, if◌then◌else◌}
 use Rattle.net_defs.specs.declared.route.Route.{Route}
+use Rattle.cable_history.specs.History.{fabric_now}
 use Rattle.world_defs.specs.declared.event.Event.{Event}
 use Rattle.world_defs.specs.declared.event.Event.TheVariants.{Advance}
 use Rattle.world_defs.specs.declared.effect.Effect.{Effect}
@@ -33,7 +34,7 @@ IsReachedNow w = IsReached (fabric_of w) w
 event-reached : (w v : WorldState) (e : Event) (x : Effect) → IsByteEvent e → IsReachedNow w → step w e ≡ (x, v) → IsReachedNow v
 event-reached w v e x low is now =
     let next : IsReached (fabric_of w) (step w e).1 = reached-next (fabric_of w) w (Happens e) is low in
-    subst IsReachedNow (ap (λ p. p.1) now) (subst (λ n. IsReached n (step w e).1) (sym (step-kept w e).net) next)
+    subst IsReachedNow (ap (λ p. p.1) now) (subst (λ n. IsReached n (step w e).1) (ap fabric_now (sym (step-kept w e).cables)) next)
 
 pub step-reached : {E : Type 0} (w v : WorldState) (e : Event) (r : Result Effect E) → IsByteEvent e → IsReachedNow w → IfOk r (λ x. step w e ≡ (x, v)) → OnErr r (v ≡ w) → IsReachedNow v
 step-reached w v e (Ok x) low is ok err = event-reached w v e x low is ok

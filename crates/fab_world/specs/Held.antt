@@ -1,6 +1,7 @@
 -- The world that its links and its hosts make.
 use Rattle.std.specs.Prelude.{◌≡◌, ℕ, ◌<◌, Bool, false, List, Option, IfSome}
 use Rattle.net_defs.specs.Network.{IsFabric}
+use Rattle.cable_history.specs.History.{IsHistory}
 use Rattle.world_defs.specs.declared.event.Event.{Event}
 use Rattle.world_defs.specs.declared.event.Event.TheVariants.{Poll}
 use Rattle.world_defs.specs.declared.effect.Effect.{Effect}
@@ -30,9 +31,10 @@ world_of p hosts adopted = record {
   harmed = p.harmed;
 }
 
--- What a world keeps: its fabric is one, it is a world of that, the numbers of each connection are in order, planned
--- flips have patterns of eight bits, and adopted routes are of its hosts.
+-- What a world keeps: its cables have a history, its fabric is one, it is a world of that, the numbers of each
+-- connection are in order, planned flips have patterns of eight bits, and adopted routes are of its hosts.
 pub record IsMoment (w : WorldState) : Type 0 where
+  pub history : IsHistory w.links.cables
   pub fabric : IsFabric (fabric_of w)
   pub world : IsWorld w
   pub senders : HasSenders w

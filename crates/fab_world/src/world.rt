@@ -2,8 +2,7 @@
 
 ghost use Rattle.std.specs.Prelude.{◌≡◌, ◌≢◌, ◌≤◌, ◌<◌, ◌^◌, ℕ, length, true, is_some, option_map, Some, None, IfOk};
 ghost use Rattle.std.specs.Prelude.{false, IfSome, IfNone, OnOk, OnErr};
-ghost use Rattle.net_defs.specs.Route.{channel_from};
-ghost use Rattle.link_defs.specs.Channel.{channel_count, channel_tail, channel_head};
+ghost use Rattle.cable_history.specs.Crossed.{leaving, life_channels, life_tail, life_head};
 ghost use Rattle.link_defs.specs.Hops.{total_hops};
 ghost use Rattle.link_defs.specs.Links.{packet_in, is_idle};
 ghost use Rattle.link_defs.specs.declared.moved.Moved.TheVariants.{To};
@@ -70,7 +69,8 @@ impl Model for World {
 impl World {
     /// The world of a fabric before anything happened: empty, and without faults.
     pub fn new(alloc: Global, fabric: Fabric) -> Result<World, AllocError>
-        ensures { IfOk result (λ w. w ≡ new_world fabric) }
+        ensures new { IfOk result (λ w. w ≡ new_world fabric) }
+        ensures fabric { IfOk result (λ w. fabric_of w ≡ fabric) }
     {
         match Machine::new(alloc, &fabric) {
             Ok(machine) => Ok(World { fabric, machine }),
@@ -266,7 +266,7 @@ impl World {
     /// The number of channels.
     pub fn channels(&self) -> u16
         ensures count { result ≡ length self.now.links.channels }
-        ensures same { result ≡ channel_count (fabric_of self.now) }
+        ensures same { result ≡ life_channels self.now.links.cables }
         ensures few { result ≤ 1152 }
     {
         self.machine.links.channels()
@@ -274,7 +274,7 @@ impl World {
 
     /// The channel that leaves by an end; none where no cable ends there.
     pub fn channel_from(&self, e: End) -> Option<u16>
-        ensures channel { result ≡ channel_from (fabric_of self.now) e }
+        ensures channel { result ≡ leaving self.now.links.cables e }
         ensures there { IfSome result (IsChannelOf self.now) }
     {
         self.machine.links.channel_from(e)
@@ -283,8 +283,8 @@ impl World {
     /// The ends that a channel leaves and enters.
     pub fn ends(&self, c: u16) -> (End, End)
         requires { IsChannelOf self.now c }
-        ensures tail { channel_tail (fabric_of self.now) c ≡ Some result.0 }
-        ensures head { channel_head (fabric_of self.now) c ≡ Some result.1 }
+        ensures tail { life_tail self.now.links.cables c ≡ Some result.0 }
+        ensures head { life_head self.now.links.cables c ≡ Some result.1 }
     {
         self.machine.links.ends(c)
     }
@@ -317,7 +317,7 @@ impl World {
     /// none does.
     pub fn hops_bound(&self) -> u64
         ensures enough { total_hops self.now.links ≤ result }
-        ensures few { result ≤ 1275264 }
+        ensures few { result ≤ 9068544 }
     {
         self.machine.links.hops_bound()
     }

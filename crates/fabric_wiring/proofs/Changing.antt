@@ -180,15 +180,16 @@ module _ (h : CableHistory) (k : ℕ) (w : Wire) (is : IsHistory h) (there : sli
         (λ s t. table.channels e i ∙ sym (others-stay 0 h.wires k gone w e there refl s t));
   }
 
-  pub pulled-wiring : (ports : List ℕ) (entries : List Entry) (out hops : List (Option ℕ)) → IsWiring h ports entries out hops
-      → IsWiring after ports entries (with_ends w.cable None None out) (with_hop w.cable.a.v w.cable.a.p None (with_hop w.cable.b.v w.cable.b.p None hops))
-  pulled-wiring ports entries out hops wired =
+  pub pulled-wiring : (hosts : ℕ) (ports : List ℕ) (entries : List Entry) (out hops : List (Option ℕ)) → IsWiring h hosts ports entries out hops
+      → IsWiring after hosts ports entries (with_ends w.cable None None out) (with_hop w.cable.a.v w.cable.a.p None (with_hop w.cable.b.v w.cable.b.p None hops))
+  pulled-wiring hosts ports entries out hops wired =
       let f = now_is_fabric h is in
       let ends = ends_are_there h k w is there in
       let size = wired.leaving.size in
       let one = hop-port h w.cable.b.v w.cable.b.p None out hops f ends.1 size wired.hopping in
       record {
         history = history;
+        same_hosts = wired.same_hosts;
         same_ports = wired.same_ports;
         entered = wired.entered ∙ sym (entries-set ports h.wires k gone w there refl);
         leaving = pulled-table out wired.leaving (has_port-possible (fabric_now h) w.cable.a f ends.0) (has_port-possible (fabric_now h) w.cable.b f ends.1);
@@ -259,10 +260,10 @@ no-refusal : (o : Option GraphFault) → is_none o ≡ true → o ≡ None
 no-refusal None t = refl
 no-refusal (Some x) t = absurd (true≢false (sym t))
 
-pub plugged-wiring : (h : CableHistory) (a b : End) (ports : List ℕ) (entries : List Entry) (out hops : List (Option ℕ)) → IsWiring h ports entries out hops → may_plug h a b ≡ true
-    → IsWiring (with_plugged h a b) ports ((entries ++ entry_by ports b ∷ []) ++ entry_by ports a ∷ []) (with_cable (length h.wires) (record { a = a; b = b }) out)
+pub plugged-wiring : (h : CableHistory) (a b : End) (hosts : ℕ) (ports : List ℕ) (entries : List Entry) (out hops : List (Option ℕ)) → IsWiring h hosts ports entries out hops → may_plug h a b ≡ true
+    → IsWiring (with_plugged h a b) hosts ports ((entries ++ entry_by ports b ∷ []) ++ entry_by ports a ∷ []) (with_cable (length h.wires) (record { a = a; b = b }) out)
     (with_hop a.v a.p (Some (2 * length h.wires)) (with_hop b.v b.p (Some (2 * length h.wires + 1)) hops))
-plugged-wiring h a b ports entries out hops wired may =
+plugged-wiring h a b hosts ports entries out hops wired may =
     let new : Wire = record { cable = record { a = a; b = b }; plugged = h.changes + 1; pulled = None } in
     let f = now_is_fabric h wired.history in
     let free = cable-free (fabric_now h) a b (no-refusal (cable_refusal (fabric_now h) a b) (both (is_none (cable_refusal (fabric_now h) a b)) _ may).0) in
@@ -271,6 +272,7 @@ plugged-wiring h a b ports entries out hops wired may =
     let one = hop-port h b.v b.p back out hops f free.has_b size wired.hopping in
     record {
       history = plug_keeps h a b wired.history may;
+      same_hosts = wired.same_hosts;
       same_ports = wired.same_ports;
       entered = append_assoc entries (entry_by ports b ∷ []) (entry_by ports a ∷ []) ∙ ap (λ l. l ++ entry_by ports b ∷ entry_by ports a ∷ []) wired.entered ∙ entries-push ports h.wires new;
       leaving = plugged-table h a b (none-leaves h a free.far_a) (none-leaves h b free.far_b) free.two out wired.leaving (has_port-possible (fabric_now h) a f free.has_a) (has_port-possible (fabric_now h) b f free.has_b);
@@ -278,6 +280,27 @@ plugged-wiring h a b ports entries out hops wired may =
     }
 
 -- ---- whether two ports may be joined
+-- a fabric takes a cable between ports that it has
+pub plug-ends : (h : CableHistory) (a b : End) → may_plug h a b ≡ true → (has_port (fabric_now h) a ≡ true) × (has_port (fabric_now h) b ≡ true)
+plug-ends h a b may =
+    let free = cable-free (fabric_now h) a b (no-refusal (cable_refusal (fabric_now h) a b) (both (is_none (cable_refusal (fabric_now h) a b)) _ may).0) in
+    (free.has_a, free.has_b)
+
+-- and between no others
+pub no-first : (h : CableHistory) (a b : End) → has_port (fabric_now h) a ≡ false → may_plug h a b ≡ false
+no-first h a b gone = by (may_plug h a b) refl
+  where
+    by : (t : Bool) → may_plug h a b ≡ t → t ≡ false
+    by true e = absurd (true≢false (sym (plug-ends h a b e).0 ∙ gone))
+    by false e = refl
+
+pub no-second : (h : CableHistory) (a b : End) → has_port (fabric_now h) b ≡ false → may_plug h a b ≡ false
+no-second h a b gone = by (may_plug h a b) refl
+  where
+    by : (t : Bool) → may_plug h a b ≡ t → t ≡ false
+    by true e = absurd (true≢false (sym (plug-ends h a b e).1 ∙ gone))
+    by false e = refl
+
 vertex-there : (h : CableHistory) (v : Vertex) (p : ℕ) → has_port (fabric_now h) (record { v = v; p = p }) ≡ true → has_vertex (fabric_now h) v ≡ true
 vertex-there h (Host a) p there = by (nat_lt a (length h.hosts)) there
   where
@@ -308,9 +331,10 @@ may-plug-is h a b pa pb =
     by false = refl
 
 -- ---- acceptance, and the count of changes
-pub accepted-wiring : (h : CableHistory) (ports : List ℕ) (entries : List Entry) (out hops : List (Option ℕ)) → IsWiring h ports entries out hops → IsWiring (with_accepted h) ports entries out hops
-accepted-wiring h ports entries out hops wired = record {
+pub accepted-wiring : (h : CableHistory) (hosts : ℕ) (ports : List ℕ) (entries : List Entry) (out hops : List (Option ℕ)) → IsWiring h hosts ports entries out hops → IsWiring (with_accepted h) hosts ports entries out hops
+accepted-wiring h hosts ports entries out hops wired = record {
   history = accept_keeps h wired.history;
+  same_hosts = wired.same_hosts;
   same_ports = wired.same_ports;
   entered = wired.entered;
   leaving = wired.leaving;

@@ -132,6 +132,10 @@ count-is h (Host a) p there = by (nat_lt a (length h.hosts)) there
     by false t = absurd (grind (arith, nat_tests))
 count-is h (Switch s) p there = count-switch h.switches s
 
+-- a switch's port by the counts of ports
+pub switch-port-there : (h : CableHistory) (s p : ℕ) (ports : List ℕ) → ports ≡ map (λ w. w.ports) h.switches → nat_lt p (get_or ports s 0) ≡ has_port (fabric_now h) (record { v = Switch s; p = p })
+switch-port-there h s p ports same = ap (λ l. nat_lt p (get_or l s 0)) same ∙ ap (nat_lt p) (count-switch h.switches s)
+
 -- what an entry says of its channel
 pub record IsEntry (h : CableHistory) (c : ℕ) (e : Entry) : Type 0 where
   pub end : life_head h c ≡ Some e.end
@@ -144,7 +148,7 @@ pub length-ports : (ws : List NamedSwitch) → length (map (λ w. w.ports) ws) �
 length-ports [] = refl
 length-ports (w ∷ ws) = let rest = length-ports ws in omega (arith, rest)
 
-pub entry-there : (h m : CableHistory) (ports : List ℕ) (entries there : List Entry) (out hops : List (Option ℕ)) (c at : ℕ) (e : Entry) → IsWiring h ports entries out hops → h ≡ m → there ≡ entries → at ≡ c → slice_get there at ≡ Some e → IsEntry m c e
+pub entry-there : {hosts : ℕ} (h m : CableHistory) (ports : List ℕ) (entries there : List Entry) (out hops : List (Option ℕ)) (c at : ℕ) (e : Entry) → IsWiring h hosts ports entries out hops → h ≡ m → there ≡ entries → at ≡ c → slice_get there at ≡ Some e → IsEntry m c e
 entry-there h m ports entries there out hops c at e is view whole place got =
     let counts : List ℕ = map (λ w. w.ports) h.switches in
     let entered : there ≡ entries_of counts h.wires = whole ∙ is.entered ∙ ap (λ l. entries_of l h.wires) is.same_ports in
@@ -262,10 +266,11 @@ pub nones-next : {X : Type 0} (n : ℕ) (x : X) → replicate n x ++ x ∷ [] �
 nones-next n x = replicate-append-replicate n 1 x
 
 -- the tables of a fabric, before any change
-pub first-wiring : (n : Network) (ports : List ℕ) (wires : List Wire) (entries : List Entry) (out hops : List (Option ℕ)) → IsFabric n → ports ≡ map (λ s. s.ports) n.switches → wires ≡ map first_wire n.cables
-    → entries ≡ entries_of ports wires → IsOutTable 0 n.cables out → hops ≡ hop_table out (length n.switches) → IsWiring (record { hosts = n.hosts; switches = n.switches; wires = wires; changes = 0; accepted = 0 }) ports entries out hops
-first-wiring n ports wires entries out hops f counts all entered table jumps = record {
+pub first-wiring : (n : Network) (hosts : ℕ) (ports : List ℕ) (wires : List Wire) (entries : List Entry) (out hops : List (Option ℕ)) → IsFabric n → hosts ≡ length n.hosts → ports ≡ map (λ s. s.ports) n.switches → wires ≡ map first_wire n.cables
+    → entries ≡ entries_of ports wires → IsOutTable 0 n.cables out → hops ≡ hop_table out (length n.switches) → IsWiring (record { hosts = n.hosts; switches = n.switches; wires = wires; changes = 0; accepted = 0 }) hosts ports entries out hops
+first-wiring n hosts ports wires entries out hops f many counts all entered table jumps = record {
   history = subst (λ l. IsHistory (record { hosts = n.hosts; switches = n.switches; wires = l; changes = 0; accepted = 0 })) (sym all) (let few = few_cables n f in first_is_history n f (omega (arith, few)));
+  same_hosts = many;
   same_ports = counts;
   entered = entered;
   leaving = record {

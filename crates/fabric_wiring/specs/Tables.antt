@@ -57,9 +57,10 @@ entries_of ports [] = []
 entries_of ports (w ∷ ws) = entry_by ports w.cable.b ∷ entry_by ports w.cable.a ∷ entries_of ports ws
 
 -- The tables are those of a history.
-pub record IsWiring (h : CableHistory) (ports : List ℕ) (entries : List Entry)
+pub record IsWiring (h : CableHistory) (hosts : ℕ) (ports : List ℕ) (entries : List Entry)
     (out hops : List (Option ℕ)) : Type 0 where
   pub history : IsHistory h
+  pub same_hosts : hosts ≡ length h.hosts
   pub same_ports : ports ≡ map (λ s. s.ports) h.switches
   pub entered : entries ≡ entries_of ports h.wires
   pub leaving : IsPortTable h.wires out

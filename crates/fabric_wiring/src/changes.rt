@@ -34,11 +34,9 @@ impl Wiring {
         Some(k)
     }
 
-    /// Joins two ports by a new cable: false exactly where one of them has a cable, the two are equal, or 4,096 cables
-    /// were named. Where memory runs out nothing has changed.
+    /// Joins two ports by a new cable: false exactly where one of them isn't there or has a cable, the two are equal, or
+    /// 4,096 cables were named. Where memory runs out nothing has changed.
     pub fn plug(&mut self, a: End, b: End) -> Result<bool, AllocError>
-        requires port_a { has_port (fabric_now self.old) a ≡ true }
-        requires port_b { has_port (fabric_now self.old) b ≡ true }
         ensures plugged { IfOk result (λ plugged. plugged ≡ may_plug self.old a b) }
         ensures history { OnOk result (self.new ≡ (if may_plug self.old a b then with_plugged self.old a b
             else self.old)) }
@@ -66,8 +64,16 @@ impl Wiring {
         self.accepted = self.changes;
     }
 
-    // Whether two ports may be joined.
-    fn may_plug(&self, a: End, b: End) -> bool
+    /// Whether two ports may be joined: both are there, neither has a cable, they aren't one, and fewer than 4,096
+    /// cables were named.
+    pub fn may_plug(&self, a: End, b: End) -> bool
+        ensures { result ≡ may_plug self.now a b }
+    {
+        self.has_port(a) && self.has_port(b) && self.may_join(a, b)
+    }
+
+    // Whether two ports that are there may be joined.
+    fn may_join(&self, a: End, b: End) -> bool
         requires port_a { has_port (fabric_now self.now) a ≡ true }
         requires port_b { has_port (fabric_now self.now) b ≡ true }
         ensures { result ≡ may_plug self.now a b }

@@ -99,8 +99,8 @@ fn count_at(ports: &[u8], v: Vertex) -> u8
     }
 }
 
-// How many ports a switch has.
-fn port_count(ports: &[u8], s: usize) -> u8
+/// How many ports a switch has.
+pub(crate) fn port_count(ports: &[u8], s: usize) -> u8
     ensures { result ≡ slice_index_or ports.now s 0 }
 {
     if s < ports.len() { ports[s] } else { 0 }

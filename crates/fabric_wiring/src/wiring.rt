@@ -2,14 +2,14 @@
 
 ghost use Rattle.std.specs.Prelude.{◌≡◌, ◌<◌, ◌≤◌, ℕ, ◌*◌, ◌/◌, length, true, Some, None, IfOk, IfSome};
 ghost use Rattle.net_defs.specs.Network.{has_port, is_port_count, ports_of, IsFabric};
-ghost use Rattle.cable_history.specs.History.{first_history, fabric_now};
+ghost use Rattle.cable_history.specs.History.{first_history, fabric_now, IsHistory};
 ghost use Rattle.cable_history.specs.Crossed.{leaving, life_channels, life_tail, life_head, is_new};
 ghost use Rattle.fabric_wiring.specs.Hops.{next_channel};
 
 use crate::hops::{hop_table, last_six};
 use crate::tables::{
-    channel_at, entries_of, entry_at, out_table, ports_of, possible_place, switch_place, wire_at,
-    wires_of,
+    channel_at, entries_of, entry_at, out_table, port_count, ports_of, possible_place,
+    switch_place, wire_at, wires_of,
 };
 use cable_history::Wire;
 use net_defs::{End, Vertex};
@@ -35,6 +35,7 @@ pub struct Entry {
 pub struct Wiring {
     // The fabric before any change, whose hosts and switches stay. It has no bytes: contracts alone read it.
     pub(crate) first: Snapshot<Fabric>,
+    pub(crate) hosts: u16,
     // How many ports each switch has.
     pub(crate) ports: Vec<u8>,
     pub(crate) wires: Vec<Wire>,
@@ -56,7 +57,7 @@ impl Model for Wiring {
     ghost view = { λ w. history_of w.first.value w.wires.items w.changes w.accepted };
 
     ghost invariant = { λ w. IsWiring (history_of w.first.value w.wires.items w.changes w.accepted)
-        w.ports.items w.entries.items w.out.items w.hops.items };
+        w.hosts w.ports.items w.entries.items w.out.items w.hops.items };
 }
 
 impl Wiring {
@@ -64,7 +65,7 @@ impl Wiring {
     pub fn new(alloc: Global, f: &Fabric) -> Result<Wiring, AllocError>
         ensures { IfOk result (λ w. w ≡ first_history f.now) }
     {
-        let _hosts = f.hosts();
+        let hosts = f.hosts();
         let ports = ports_of(alloc, f)?;
         let wires = wires_of(alloc, f)?;
         let entries = entries_of(alloc, &ports, &wires)?;
@@ -72,6 +73,7 @@ impl Wiring {
         let hops = hop_table(alloc, &out, f.switches())?;
         Ok(Wiring {
             first: Snapshot::of(f),
+            hosts,
             ports,
             wires,
             changes: 0,
@@ -80,6 +82,16 @@ impl Wiring {
             out,
             hops,
         })
+    }
+
+    /// Whether the fabric has the vertex, and the vertex the port.
+    pub(crate) fn has_port(&self, e: End) -> bool
+        ensures { result ≡ has_port (fabric_now self.now) e }
+    {
+        match e.v {
+            Vertex::Host(h) => h < self.hosts && e.p < 1,
+            Vertex::Switch(s) => e.p < port_count(&self.ports, usize::from(s)),
+        }
     }
 
     /// The number of channels, those of pulled cables too.
@@ -108,11 +120,15 @@ impl Wiring {
         self.entry(c).end
     }
 
-    /// Whether a channel's cable was plugged since the cables were accepted.
+    /// Whether a channel's cable was plugged since the cables were accepted. It looks at no cable where nothing has
+    /// changed since.
     pub fn is_new(&self, c: u16) -> bool
         requires { c < life_channels self.now }
         ensures { result ≡ is_new self.now c }
     {
+        if self.changes == self.accepted {
+            return false;
+        }
         self.accepted < wire_at(&self.wires, usize::from(c / 2)).plugged
     }
 
@@ -132,6 +148,7 @@ impl Wiring {
         ensures channel { result ≡ leaving self.now e }
         ensures there { IfSome result (λ c. c < life_channels self.now) }
         ensures fabric { IsFabric (fabric_now self.now) }
+        ensures history { IsHistory self.now }
     {
         match possible_place(e) {
             Some(place) => channel_at(&self.out, place),

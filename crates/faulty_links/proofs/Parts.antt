@@ -180,7 +180,7 @@ put_by s c held t = if t then (false, s) else (true, with_packet s c held)
 -- a packet that was put into an empty channel, and lost again
 pub put_and_lost : (s : LinkState) (c : ℕ) (wire : List ℕ) → packet_in s c ≡ None → (lose (put s c wire).1 c).1 ≡ s
 put_and_lost s c wire none =
-    let held : Option HeldPacket = Some (record { wire = wire; marked = false }) in
+    let held : Option HeldPacket = Some (record { wire = wire; marked = false; born = s.epoch }) in
     ap (λ o. (lose (put_by s c held (is_some o)).1 c).1) none
     ∙ ap (λ l. record s { channels = l }) (set-set s.channels c held None ∙ set-same s.channels c None none)
 

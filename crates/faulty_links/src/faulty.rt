@@ -1,9 +1,9 @@
 //! Links with a plan of faults and counts: reading them.
 
-ghost use Rattle.std.specs.Prelude.{◌≡◌, ◌≢◌, ◌<◌, ◌≤◌, ◌^◌, ℕ, length, Some, None, option_map, IfOk, IfSome, IfNone};
-ghost use Rattle.net_defs.specs.Network.{IsFabric};
-ghost use Rattle.net_defs.specs.Route.{channel_from};
-ghost use Rattle.link_defs.specs.Channel.{channel_count, channel_tail, channel_head};
+ghost use Rattle.std.specs.Prelude.{◌≡◌, ◌≢◌, ◌<◌, ◌≤◌, ◌^◌, ℕ, true, length, Some, None, IfOk, IfSome, IfNone};
+ghost use Rattle.net_defs.specs.Network.{IsFabric, has_port};
+ghost use Rattle.cable_history.specs.History.{fabric_now, IsHistory};
+ghost use Rattle.cable_history.specs.Crossed.{leaving, life_channels, life_tail, life_head};
 ghost use Rattle.link_defs.specs.Hops.{total_hops};
 ghost use Rattle.link_defs.specs.Links.{packet_in, is_idle};
 ghost use Rattle.link_defs.specs.Fault.{next_limbo};
@@ -57,16 +57,17 @@ impl FaultyLinks {
     /// The number of channels.
     pub fn channels(&self) -> u16
         ensures count { result ≡ length self.now.links.channels }
-        ensures same { result ≡ channel_count self.now.links.net }
-        ensures few { result ≤ 1152 }
+        ensures same { result ≡ life_channels self.now.links.cables }
+        ensures few { result ≤ 8192 }
     {
         self.links.channels()
     }
 
     /// The channel that leaves by an end; none where no cable ends there.
     pub fn channel_from(&self, e: End) -> Option<u16>
-        ensures channel { result ≡ channel_from self.now.links.net e }
-        ensures fabric { IsFabric self.now.links.net }
+        ensures channel { result ≡ leaving self.now.links.cables e }
+        ensures fabric { IsFabric (fabric_now self.now.links.cables) }
+        ensures history { IsHistory self.now.links.cables }
         ensures there { IfSome result (λ c. c < length self.now.links.channels) }
     {
         self.links.channel_from(e)
@@ -75,8 +76,9 @@ impl FaultyLinks {
     /// The ends that a channel leaves and enters.
     pub fn ends(&self, c: u16) -> (End, End)
         requires { c < length self.now.links.channels }
-        ensures tail { channel_tail self.now.links.net c ≡ Some result.0 }
-        ensures head { channel_head self.now.links.net c ≡ Some result.1 }
+        ensures tail { life_tail self.now.links.cables c ≡ Some result.0 }
+        ensures head { life_head self.now.links.cables c ≡ Some result.1 }
+        ensures there { has_port (fabric_now self.now.links.cables) result.1 ≡ true }
     {
         self.links.ends(c)
     }
@@ -163,7 +165,7 @@ impl FaultyLinks {
     /// none does.
     pub fn hops_bound(&self) -> u64
         ensures enough { total_hops self.now.links ≤ result }
-        ensures few { result ≤ 1275264 }
+        ensures few { result ≤ 9068544 }
     {
         hops_bound(&self.links)
     }

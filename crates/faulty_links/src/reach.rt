@@ -10,7 +10,7 @@ use link_model::Links;
 /// channels alone.
 pub(crate) fn hops_bound(links: &Links) -> u64
     ensures enough { total_hops links.now ≤ result }
-    ensures few { result ≤ 1275264 }
+    ensures few { result ≤ 9068544 }
 {
     let _few = links.channels();
     let mut bound = 0;

@@ -1,11 +1,11 @@
 -- Every act: what was injected and what is in store rise by no more than the act's cost.
-use Rattle.std.proofs.Common.{◌≡◌, ◌≤◌, ◌<◌, ◌+◌, ℕ, zero, suc, Bool, true, false, List, [], ◌∷◌, map, length, set, nat_eq, Option, Some, None, Ordering, Less, Equal, Greater, refl, ap, arith, if◌then◌else◌}
+use Rattle.std.proofs.Common.{◌≡◌, ◌≤◌, ◌+◌, ℕ, Bool, true, false, List, [], ◌∷◌, map, length, set, nat_eq, Some, None, Ordering, Less, Equal, Greater, refl, ap, arith, if◌then◌else◌}
 use Rattle.std.specs.Map.{lookup}
 use Rattle.std.specs.Ordering.{match_ordering, nat_cmp}
 use Rattle.net_defs.specs.Network.{Network}
-use Rattle.net_defs.specs.declared.route.Route.{Route}
-use Rattle.link_defs.specs.Channel.{channel_count}
-use Rattle.link_defs.specs.Links.{Held, packet_in, emptied, put}
+use Rattle.cable_history.specs.History.{first_history}
+use Rattle.cable_history.specs.Crossed.{life_channels}
+use Rattle.link_defs.specs.Links.{emptied, put}
 use Rattle.link_defs.specs.Step.{Put as PutLinks, Advance as AdvanceLinks, Lose as LoseLinks, Reset as ResetLinks, Repeat as RepeatLinks, Hold as HoldLinks, Flip as FlipLinks, Replay as ReplayLinks, stepped}
 use Rattle.world_defs.specs.declared.event.Event.{Event}
 use Rattle.world_defs.specs.declared.effect.Effect.{Effect}
@@ -13,18 +13,18 @@ use Rattle.world_defs.specs.declared.fault.Fault.{Fault}
 use Rattle.world_defs.specs.declared.fault.Fault.TheVariants.{Lose as LoseFault, Repeat as RepeatFault, Hold as HoldFault, Flip as FlipFault}
 use Rattle.world_defs.specs.Table.{whole_table}
 use Rattle.world_defs.specs.Lane.{new_lane}
-use Rattle.world_defs.specs.Node.{NodeState, StagedProbe, StagedPart, Outgoing, lane_of, lane_count, new_node, to_send, packet_for, after_sending, given_up, node_expired}
+use Rattle.world_defs.specs.Node.{NodeState, Outgoing, lane_count, new_node, to_send, packet_for, after_sending}
 use Rattle.world_defs.specs.Hearing.{hear}
-use Rattle.world_defs.specs.Client.{Called, begun, closed, provided_by, sent_by, polled_by}
-use Rattle.world_defs.specs.World.{WorldState, host_count, new_world, node_at, with_node, client_at, without_fault, with_fault, sum_of}
-use Rattle.world_defs.specs.Step.{planned_strikes, sent_out, of_call, wanted, step}
+use Rattle.world_defs.specs.Client.{Called}
+use Rattle.world_defs.specs.World.{WorldState, host_count, new_world, node_at, client_at, without_fault, with_fault, sum_of}
+use Rattle.world_defs.specs.Step.{sent_out, wanted}
 use Rattle.world_defs.proofs.Views.{LinksChange, HostChange, CallChange, Change, view}
 use Rattle.world_defs.proofs.Strikes.{fault_step, Strike, strike_view}
-use Rattle.act_defs.specs.Acts.{Act, Happens, Plans, Adopts, acted, acted_all}
-use Rattle.injection_bounds.specs.Credit.{wire_credit, slot_credit, links_credit, lane_credit, node_credit, credit}
-use Rattle.injection_bounds.specs.Paid.{event_cost, cost, costs, account, InjectionsArePaid, InjectionsAreOfActs}
+use Rattle.act_defs.specs.Acts.{Act, Happens, Plans, Adopts, acted}
+use Rattle.injection_bounds.specs.Credit.{slot_credit, links_credit, lane_credit, node_credit, credit}
+use Rattle.injection_bounds.specs.Paid.{event_cost, cost, account, InjectionsArePaid, InjectionsAreOfActs}
 use Rattle.injection_bounds.proofs.Sums.{set-sum, none-sum}
-use Rattle.injection_bounds.proofs.Packets.{out_asks, sent-credit}
+use Rattle.injection_bounds.proofs.Packets.{sent-credit}
 use Rattle.injection_bounds.proofs.Lanes.{expired-credit}
 use Rattle.injection_bounds.proofs.Hosts.{hear-credit, out-paid}
 use Rattle.injection_bounds.proofs.Calls.{begun-free, closed-free, provided_by-free, polled_by-free, sent_by-bought}
@@ -170,7 +170,7 @@ new-credit n =
     let lanes = none-sum lane_credit (lane_count k) new_lane refl in
     let host : node_credit (new_node k) ≡ 0 = omega (arith, lanes) in
     let hosts = none-sum node_credit k (new_node k) host in
-    let channels = none-sum slot_credit (channel_count n) None refl in
+    let channels = none-sum slot_credit (life_channels (first_history n)) None refl in
     omega (arith, hosts, channels)
 
 pub acts-pay : InjectionsAreOfActs

@@ -1,5 +1,5 @@
 -- What asks and installations cost: two for each try.
-use Rattle.std.proofs.Common.{◌≡◌, ◌≤◌, ◌+◌, ◌*◌, ℕ, zero, suc, Bool, true, false, ℤ, List, [], ◌∷◌, map, length, Option, Some, None, is_some, refl, ap, arith, if◌then◌else◌}
+use Rattle.std.proofs.Common.{◌≡◌, ◌≤◌, ◌+◌, ◌*◌, ℕ, zero, suc, Bool, true, false, ℤ, List, [], ◌∷◌, map, length, Option, Some, None, is_some, refl, arith}
 use Rattle.world_defs.specs.declared.event.Event.{Event}
 use Rattle.world_defs.specs.declared.event.Event.TheVariants.{Ask, Part, Inject, GiveUp}
 use Rattle.world_defs.specs.Table.{Adoption}
@@ -10,7 +10,7 @@ use Rattle.world_defs.specs.Install.{has_staged_answer, parts_of}
 use Rattle.world_defs.specs.Log.{Log}
 use Rattle.world_defs.specs.Logs as log
 use Rattle.world_defs.proofs.LogRows.{all-map}
-use Rattle.world_defs.proofs.LogViews.{drain, Sent, sends, heard_by, host_try, loop_try, Tried, tries_of, tries-by, host_tries, asked_hosts, part_sent_if, part_try, part_tries, parts_installed, parts-by, host_counted, hosts_installed}
+use Rattle.world_defs.proofs.LogViews.{drain, Sent, sends, heard_by, host_try, loop_try, Tried, tries_of, tries-by, host_tries, asked_hosts, part_sent_if, part_try, part_tries, parts_installed, parts-by, hosts_installed}
 use Rattle.world_laws.proofs.Along.{Along, after_all-along, drain-along}
 use Rattle.world_laws.proofs.Leaves.{IsNoCall}
 use Rattle.world_laws.proofs.Rounds.{Going, along-going, fragments-fewer}

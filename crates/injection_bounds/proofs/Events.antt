@@ -1,5 +1,5 @@
 -- What any act costs, that of a script's client among them.
-use Rattle.std.proofs.Common.{◌≡◌, ◌≤◌, ◌+◌, ◌*◌, ℕ, Bool, true, false, List, length, nat_lt, Option, refl, ap, arith, if◌then◌else◌}
+use Rattle.std.proofs.Common.{◌≡◌, ◌≤◌, ◌+◌, ◌*◌, ℕ, Bool, true, false, List, length, refl, ap, arith, if◌then◌else◌}
 use Rattle.std.proofs.lemmas.Bool.Decides.{nat_tests}
 use Rattle.net_defs.specs.Network.{Network}
 use Rattle.net_defs.specs.declared.route.Route.{Route}
@@ -15,7 +15,7 @@ use Rattle.world_defs.specs.World.{WorldState, node_at, client_at}
 use Rattle.world_defs.specs.Settle.{unacknowledged_in}
 use Rattle.world_defs.specs.Step.{of_call, wanted, step}
 use Rattle.world_laws.proofs.Leaves.{IsNoCall}
-use Rattle.act_defs.specs.Acts.{Act, Happens, Plans, Adopts, acted, IsReached}
+use Rattle.act_defs.specs.Acts.{Happens, Plans, Adopts, acted, IsReached}
 use Rattle.injection_bounds.specs.Paid.{send_cost, event_cost, account}
 use Rattle.injection_bounds.specs.Settled.{pledged}
 use Rattle.injection_bounds.specs.Commands.{act_cost, ActCostsFew}

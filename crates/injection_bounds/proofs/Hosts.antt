@@ -1,5 +1,5 @@
 -- What a host hears brings it no more than was asked for, and what it sends is paid for.
-use Rattle.std.proofs.Common.{◌≡◌, ◌≤◌, ◌+◌, ◌*◌, ◌&&◌, ℕ, zero, suc, Bool, true, false, ℤ, List, [], ◌∷◌, nat_eq, Option, Some, None, option_map, is_some, Result, Ok, Err, refl, ap, subst, arith, if◌then◌else◌}
+use Rattle.std.proofs.Common.{◌≡◌, ◌≤◌, ◌+◌, ◌&&◌, ℕ, zero, suc, Bool, true, false, ℤ, List, [], ◌∷◌, nat_eq, Option, Some, None, option_map, is_some, Result, Ok, Err, refl, ap, subst, arith, if◌then◌else◌}
 use Rattle.std.specs.List.{range_with_len}
 use Rattle.std.proofs.lemmas.Option.{same_Some}
 use Rattle.packet_defs.specs.declared.kind.Kind.{Kind}
@@ -25,9 +25,9 @@ use Rattle.world_defs.specs.declared.applied.Applied.TheVariants.{Part as OnePar
 use Rattle.world_defs.specs.declared.heard.Heard.{Heard}
 use Rattle.world_defs.specs.Table.{TableState, applied}
 use Rattle.world_defs.specs.Lane.{LaneState, Ticket, lane_acknowledged, tickets_finished, lane_after, lane_answered, lane_sent_one}
-use Rattle.world_defs.specs.Node.{NodeState, Staged, StagedReply, StagedAck, StagedProbe, StagedPart, Outgoing, Probe, TablePart, Reply, PartAnswer, FrameAnswer, Fragment, sends_on, lane_at, with_lane, port_at, with_port, lane_route, outgoing_staged, owed_on, due_on, due_frame, either, first_some, lanes_of, to_send, after_sending}
-use Rattle.world_defs.specs.Hearing.{is_host, heard_if, is_part_for, part_heard, hear_mapping, hear_mapping_body, message_of, delivered_after, frame_lane, ack_lane, frame_heard, frame_took, all_finished, ack_heard, hear_gm, hear_gm_body, hear_body, hear_decoded, hear}
-use Rattle.injection_bounds.specs.Credit.{body_asks, mapping_asks, gm_asks, kind_asks, asking, wire_credit, lane_credit, node_credit}
+use Rattle.world_defs.specs.Node.{NodeState, Staged, StagedReply, StagedAck, StagedProbe, StagedPart, Outgoing, Reply, PartAnswer, FrameAnswer, Fragment, sends_on, lane_at, with_lane, port_at, with_port, lane_route, outgoing_staged, owed_on, due_on, due_frame, either, first_some, lanes_of, to_send, after_sending}
+use Rattle.world_defs.specs.Hearing.{is_host, heard_if, is_part_for, part_heard, hear_mapping, hear_mapping_body, message_of, delivered_after, frame_lane, ack_lane, frame_heard, frame_took, all_finished, ack_heard, hear_gm_body, hear_body, hear_decoded, hear}
+use Rattle.injection_bounds.specs.Credit.{body_asks, mapping_asks, gm_asks, kind_asks, asking, wire_credit, node_credit}
 use Rattle.injection_bounds.proofs.Lanes.{lane-set, answered-lane, sent-lane, acknowledged-lane, heard-lane}
 use Rattle.injection_bounds.proofs.Packets.{read-credit, out_asks}
 

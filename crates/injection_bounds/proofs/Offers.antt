@@ -1,12 +1,11 @@
 -- What a client's call leaves unacknowledged: as much as before it, and the pieces of a message that it accepts.
-use Rattle.std.proofs.Common.{◌≡◌, ◌≢◌, ◌≤◌, ◌+◌, ◌*◌, ℕ, zero, suc, Bool, true, false, List, [], ◌∷◌, map, length, min, get_or, set, nat_eq, Option, refl, ap, ◌∙◌, subst, arith, length-set, if◌then◌else◌}
+use Rattle.std.proofs.Common.{◌≡◌, ◌≢◌, ◌≤◌, ◌+◌, ℕ, zero, suc, Bool, true, false, List, [], ◌∷◌, map, length, get_or, set, nat_eq, refl, ap, subst, arith, length-set, if◌then◌else◌}
 use Rattle.std.specs.List.{range_with_len}
 use Rattle.std.proofs.lemmas.Bool.Decides.{nat_tests}
 use Rattle.gm_defs.specs.Connection.{unacknowledged}
 use Rattle.world_defs.specs.Lane.{LaneState, new_lane}
-use Rattle.world_defs.specs.Node.{NodeState, lane_of, new_node, unacknowledged_to}
-use Rattle.world_defs.specs.Client.{ClientState}
-use Rattle.world_defs.specs.World.{WorldState, host_count, node_at, with_node, with_client, sum_of}
+use Rattle.world_defs.specs.Node.{NodeState, lane_of, new_node}
+use Rattle.world_defs.specs.World.{WorldState, host_count, node_at, with_node, sum_of}
 use Rattle.world_defs.specs.Settle.{unacknowledged_in}
 
 -- a write elsewhere, and one here

@@ -24,7 +24,7 @@ use Rattle.gm_defs.proofs.Bodies.{read_frame}
 use Rattle.mapping_defs.specs.Mapping.{MappingBody, Front, mapping_bytes, is_mapping, by_the_rules, whole, two_front, byte_front, decode_mapping}
 use Rattle.mapping_defs.specs.Mapping.MappingBody.{HostProbe, HostReply, Loopback, Part, PartAck}
 use Rattle.world_defs.specs.Node.{Outgoing, Probe, TablePart, Reply, PartAnswer, FrameAnswer, Fragment, takes_from, packet_for}
-use Rattle.world_defs.specs.Traffic.{unrouted}
+use Rattle.link_defs.specs.Kinds.{unrouted}
 use Rattle.injection_bounds.specs.Credit.{body_asks, mapping_asks, gm_asks, kind_asks, asking, wire_credit}
 
 -- one answer at most

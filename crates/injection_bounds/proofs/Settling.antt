@@ -1,16 +1,16 @@
 -- The rounds of a settle: a pass costs nothing, a round its expiries, and each round but the last finishes something.
-use Rattle.std.proofs.Common.{◌≡◌, ◌≤◌, ◌<◌, ◌+◌, ◌*◌, ℕ, zero, suc, Bool, true, false, List, [], ◌∷◌, ◌++◌, map, length, nat_lt, refl, sym, ap, ◌∙◌, subst, arith, if◌then◌else◌}
-use Rattle.std.specs.List.{filter, range_with_len}
+use Rattle.std.proofs.Common.{◌≡◌, ◌≤◌, ◌+◌, ◌*◌, ℕ, Bool, true, false, List, [], ◌∷◌, ◌++◌, map, length, nat_lt, refl, sym, ap, subst, arith, if◌then◌else◌}
+use Rattle.std.specs.List.{filter}
 use Rattle.std.proofs.lemmas.List.FromFn.{length-range_with_len}
 use Rattle.net_defs.specs.Network.{Network}
 use Rattle.gm_defs.specs.Connection.{connection}
 use Rattle.world_defs.specs.declared.event.Event.{Event}
-use Rattle.world_defs.specs.declared.event.Event.TheVariants.{Inject, Advance, Flip, Replay, Reset, Expire, GiveUp}
+use Rattle.world_defs.specs.declared.event.Event.TheVariants.{Inject, Flip, Replay, Expire, GiveUp}
 use Rattle.world_defs.specs.EightBits.{IsByteEvent}
 use Rattle.world_defs.specs.Node.{lane_of, unacknowledged_to}
 use Rattle.world_defs.specs.World.{WorldState, host_count, node_at, addresses}
 use Rattle.world_defs.specs.Step.{step, steps, after_all}
-use Rattle.world_defs.specs.Settle.{unacknowledged_in, expiries_of, expiries_of_all, expiries, serials, pass_bound, round_bound}
+use Rattle.world_defs.specs.Settle.{expiries_of_all, expiries, serials, pass_bound, round_bound}
 use Rattle.world_defs.specs.Log.{Log}
 use Rattle.world_defs.specs.Logs.{Rounds, clear, replays, round_pass, is_last_pass, moved_both, unmoved, round_passes, round, rounds, settle}
 use Rattle.world_defs.proofs.LogRows.{Clears, all-map}
@@ -27,7 +27,7 @@ use Rattle.act_defs.proofs.Reaching.{reached-next}
 use Rattle.message_laws.proofs.Windows.{reached-windowed, windows-hold}
 use Rattle.message_laws.proofs.Known.{reached-count}
 use Rattle.injection_bounds.specs.Paid.{sent_ahead, event_cost, account}
-use Rattle.injection_bounds.specs.Settled.{round_cost, pledged, SettleCostsOneRound}
+use Rattle.injection_bounds.specs.Settled.{round_cost, SettleCostsOneRound}
 use Rattle.injection_bounds.proofs.Acting.{acted-pays}
 
 -- events that bring nothing

@@ -1,5 +1,6 @@
 -- Sums over lists in which one element changes.
-use Rattle.std.proofs.Common.{◌≡◌, ◌≤◌, ◌+◌, ℕ, zero, suc, Bool, true, false, List, [], ◌∷◌, ◌++◌, map, replicate, get_or, set, Option, Some, refl, arith, if◌then◌else◌}
+use Rattle.std.proofs.Common.{◌≡◌, ◌≤◌, ◌+◌, ℕ, zero, suc, Bool, true, false, List, [], ◌∷◌, ◌++◌, map, replicate, get_or, set, Some, refl, arith, if◌then◌else◌}
+use Rattle.std.specs.List.{filter}
 use Rattle.std.specs.Map.{lookup, remove_entry}
 use Rattle.world_defs.specs.World.{sum_of}
 
@@ -26,6 +27,15 @@ removed-sum f test (d ∷ es) x e = by (test d.0) (removed-sum f test es x) e
         → sum_of (map (λ e. f e.1) (if b then es else d ∷ remove_entry test es)) + f x ≡ sum_of (map (λ e. f e.1) (d ∷ es))
     by true rest g = let h = same d.1 g in omega (arith, h)
     by false rest g = let h = rest g in omega (arith, h)
+
+-- what is left out takes its value along
+pub filtered-sum : {X : Type 0} (f : X → ℕ) (test : X → Bool) (xs : List X) → sum_of (map f (filter test xs)) ≤ sum_of (map f xs)
+filtered-sum f test [] = omega arith
+filtered-sum f test (x ∷ xs) = by (test x) (filtered-sum f test xs)
+  where
+    by : (b : Bool) → sum_of (map f (filter test xs)) ≤ sum_of (map f xs) → sum_of (map f (if b then x ∷ filter test xs else filter test xs)) ≤ sum_of (map f (x ∷ xs))
+    by true rest = omega (arith, rest)
+    by false rest = omega (arith, rest)
 
 -- the same value again and again
 pub none-sum : {X : Type 0} (f : X → ℕ) (k : ℕ) (x : X) → f x ≡ 0 → sum_of (map f (replicate k x)) ≡ 0

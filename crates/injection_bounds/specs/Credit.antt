@@ -14,7 +14,7 @@ use Rattle.mapping_defs.specs.Mapping.MappingBody.{HostProbe, HostReply, Loopbac
 use Rattle.world_defs.specs.Lane.{LaneState}
 use Rattle.world_defs.specs.Node.{NodeState}
 use Rattle.world_defs.specs.World.{WorldState, sum_of}
-use Rattle.world_defs.specs.Traffic.{unrouted}
+use Rattle.link_defs.specs.Kinds.{unrouted}
 
 -- the answers that a body of the mapper's protocol asks for: a host probe and a part ask for one
 abbrev pub body_asks : MappingBody → ℕ

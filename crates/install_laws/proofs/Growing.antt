@@ -1,11 +1,10 @@
 -- From world to world hosts keep what their tables have of the adopted set.
-use Rattle.std.proofs.Common.{◌≡◌, ◌<◌, ◌≤◌, ℕ, zero, suc, true, Bool, false, nat_eq, List, [], ◌∷◌, length, set, get_or, Some, is_some, refl, sym, ap, ◌∙◌, subst, arith, true≢false, if◌then◌else◌}
+use Rattle.std.proofs.Common.{◌≡◌, ◌<◌, ℕ, zero, suc, true, Bool, false, nat_eq, List, [], ◌∷◌, length, get_or, Some, refl, sym, ap, ◌∙◌, subst, arith, if◌then◌else◌}
 use Rattle.std.specs.Prelude.{slice_get}
 use Rattle.std.proofs.lemmas.Bool.Decides.{nat_tests}
 use Rattle.net_defs.specs.declared.route.Route.{Route}
 use Rattle.net_defs.specs.RouteSet.{HasRoute}
-use Rattle.mapping_defs.specs.Mapping.{RouteEntry}
-use Rattle.world_defs.specs.Table.{Adoption, TableState, entries_from, part_count}
+use Rattle.world_defs.specs.Table.{Adoption, entries_from, part_count}
 use Rattle.world_defs.specs.Node.{NodeState, Outgoing, new_node, after_sending}
 use Rattle.world_defs.specs.World.{WorldState, node_at, with_node}
 use Rattle.world_defs.proofs.Lists.{each-set}

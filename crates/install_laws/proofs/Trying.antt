@@ -1,5 +1,5 @@
 -- One try of a part: it is acknowledged, or a planned fault that harms struck in it, or the injections are used up.
-use Rattle.std.proofs.Common.{◌≡◌, ◌≢◌, ◌<◌, ◌≤◌, ℕ, Bool, true, false, ◌&&◌, nat_lt, List, [], ◌∷◌, Some, is_some, ◌⊎◌, inl, inr, refl, sym, ap, ◌∙◌, subst, arith, true≢false, if◌then◌else◌}
+use Rattle.std.proofs.Common.{◌≡◌, ◌≢◌, ◌<◌, ◌≤◌, ℕ, Bool, true, false, ◌&&◌, nat_lt, List, [], ◌∷◌, Some, is_some, ◌⊎◌, inl, inr, refl, sym, ap, ◌∙◌, subst, arith, true≢false}
 use Rattle.std.specs.Prelude.{ℤ}
 use Rattle.std.specs.List.{list_all}
 use Rattle.std.proofs.lemmas.List.{get_or-set_same}
@@ -19,7 +19,7 @@ use Rattle.world_defs.specs.Logs as log
 use Rattle.world_defs.proofs.LogViews.{part_sent_if, Tried, Sent, sends, acknowledged, part_sent, part_try}
 use Rattle.ask_laws.proofs.Drained.{told}
 use Rattle.ask_laws.proofs.Parcels.{hears_in, Delivery, deliver}
-use Rattle.ask_laws.proofs.Tries.{stuck-place, one-host, small-host}
+use Rattle.ask_laws.proofs.Tries.{one-host, small-host}
 use Rattle.install_laws.specs.Kept.{IsInstallKept}
 use Rattle.install_laws.proofs.Between.{same-ports, Between, between-node, between-sent, kept-both, kept-node, kept-sent}
 use Rattle.install_laws.proofs.Parts.{IsSent}
@@ -71,7 +71,7 @@ has-part : {n : Network} (a : Adoption) (dst part : ℕ) (x : IsSent n a dst par
 has-part a dst part x v h = subst (λ q. HasPart a dst q v) x.number h
 
 answered-so : (n : Network) (a : Adoption) (dst part : ℕ) (w : WorldState) (x : IsSent n a dst part) (s r : Sent) → IsFabric n → Taken n a dst x.sent w s.world → Delivery n s.world dst (PartAnswer (ack_of x.sent)) x.sent.back (PartAck x.sent.epoch dst x.sent.part) r → IsPartTry n a dst part w (acknowledged w a.mapper dst part s r)
-answered-so n a dst part w x s r f k (Delivery.no_cable none used num heard same) = absurd (stuck-place n dst a.mapper x.sent.back none x.home)
+answered-so n a dst part w x s r f k (Delivery.no_cable none used num heard same) = absurd (none a.mapper x.home)
 answered-so n a dst part w x s r f k (Delivery.none_left most used num heard same) = record {
   between = subst (Between n a) (sym same) k.between;
   kept = subst (IsInstallKept w) (sym same) k.kept;
@@ -126,7 +126,7 @@ answer-sent n a dst part w x s f other k =
     (λ low. answer-parcel s.world dst (ack_of x.sent) x.home_turns (omega (arith, one)) (small-host n dst f x.host) (omega (arith, few, number))))
 
 sent-so : (n : Network) (a : Adoption) (dst part : ℕ) (w : WorldState) (x : IsSent n a dst part) (u : WorldState) (s : Sent) → IsFabric n → dst ≢ a.mapper → Between n a u → IsInstallKept w u → Grows a w u → Delivery n u a.mapper (TablePart x.sent x.way) x.way (PartBody x.sent) s → IsPartTry n a dst part w (part_sent w a.mapper dst part s)
-sent-so n a dst part w x u s f other b k grown (Delivery.no_cable none used num heard same) = absurd (stuck-place n a.mapper dst x.way none x.there)
+sent-so n a dst part w x u s f other b k grown (Delivery.no_cable none used num heard same) = absurd (none dst x.there)
 sent-so n a dst part w x u s f other b k grown (Delivery.none_left most used num heard same) =
     silent-so n a dst part w s heard (subst (Between n a) (sym same) b) (subst (IsInstallKept w) (sym same) k) (inr (subst (λ v. last_count ≤ v.injected) (sym same) most)) (subst (Grows a w) (sym same) grown)
 sent-so n a dst part w x u s f other b k grown (Delivery.struck used num heard c more planned) =

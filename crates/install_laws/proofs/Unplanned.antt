@@ -1,5 +1,5 @@
 -- Where no fault is planned for an injection of an installation, none harms.
-use Rattle.std.proofs.Common.{◌≡◌, ◌<◌, ◌≤◌, ◌+◌, ℕ, Bool, true, false, nat_eq, List, [], ◌∷◌, Some, None, cond, refl, sym, ap, ◌∙◌, subst, arith}
+use Rattle.std.proofs.Common.{◌≡◌, ◌<◌, ◌≤◌, ◌+◌, ℕ, Bool, true, false, nat_eq, List, [], ◌∷◌, Some, None, cond, refl, sym, ap, ◌∙◌, arith}
 use Rattle.std.specs.Map.{lookup, remove_entry}
 use Rattle.world_defs.specs.declared.fault.Fault.{Fault}
 use Rattle.world_defs.specs.Node.{Outgoing}
@@ -68,7 +68,7 @@ follows-so : Follows Unharmed
 follows-so = record {
   same = λ w. unharmed-same w w refl refl refl;
   both = unharmed-both;
-  links = λ w x. unharmed-same w _ refl refl refl;
+  links = λ w x packets. unharmed-same w _ refl refl refl;
   node = λ w h n k. unharmed-same w _ refl refl refl;
   drop = λ w. unharmed-same w _ refl refl refl;
   injection = λ w h c out low e. injection-so w h c out;

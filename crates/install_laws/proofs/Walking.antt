@@ -1,5 +1,5 @@
 -- From try to try, part to part and host to host.
-use Rattle.std.proofs.Common.{◌≡◌, ◌≢◌, ◌<◌, ◌≤◌, ◌+◌, ◌*◌, ℕ, zero, suc, Bool, true, false, nat_eq, List, [], ◌∷◌, length, inl, inr, refl, sym, ap, ◌∙◌, subst, arith, true≢false, if◌then◌else◌}
+use Rattle.std.proofs.Common.{◌≡◌, ◌≢◌, ◌<◌, ◌≤◌, ◌+◌, ◌*◌, ℕ, zero, suc, Bool, true, false, nat_eq, List, [], ◌∷◌, length, inl, inr, refl, sym, ◌∙◌, subst, arith, true≢false, if◌then◌else◌}
 use Rattle.std.specs.List.{AllByRecursion, range_with_len}
 use Rattle.std.proofs.lemmas.Bool.Decides.{Decides-eqb}
 use Rattle.net_defs.specs.Network.{Network, IsFabric}
@@ -8,16 +8,16 @@ use Rattle.world_defs.specs.Table.{Adoption, part_count, entries_from}
 use Rattle.world_defs.specs.World.{WorldState, last_count, node_at}
 use Rattle.world_defs.specs.Install.{parts_of}
 use Rattle.world_defs.specs.Logs as log
-use Rattle.world_defs.proofs.LogViews.{tries-by, parts-by, Tried, also_harmed, part_try, part_tries, parts_installed, host_counted, hosts_installed}
+use Rattle.world_defs.proofs.LogViews.{tries-by, parts-by, Tried, part_try, part_tries, parts_installed, hosts_installed}
 use Rattle.install_laws.specs.Premises.{IsJoined}
 use Rattle.install_laws.specs.Kept.{IsInstallKept}
-use Rattle.install_laws.specs.Cause.{EachTryWasHarmed, HasHarmedPart, host_installed, EachMissedWasHarmed}
+use Rattle.install_laws.specs.Cause.{EachTryWasHarmed, HasHarmedPart, EachMissedWasHarmed}
 use Rattle.install_laws.specs.Tables.{has_table, EachCountedHasTable}
 use Rattle.install_laws.proofs.Between.{Between, kept-same, kept-both}
 use Rattle.install_laws.proofs.Parts.{IsWay, IsSent, sent-part}
 use Rattle.install_laws.proofs.Collecting.{whole-active}
 use Rattle.install_laws.proofs.Growing.{HasPart, Grows, grows-same, grows-both, parts_for, parts-some}
-use Rattle.install_laws.proofs.Trying.{IsMissed, IsPartTry, part-tried}
+use Rattle.install_laws.proofs.Trying.{IsMissed, part-tried}
 
 -- injections are left
 abbrev HasLeft : WorldState → Type 0

@@ -1,6 +1,7 @@
 -- What events, plans, settles and installations keep of a world: the fabric, that it is one of it, and that planned flips have eight bits.
-use Rattle.std.proofs.Common.{◌≡◌, ◌+◌, ℕ, ℤ, List, refl, sym, ◌∙◌, subst}
+use Rattle.std.proofs.Common.{◌≡◌, ◌+◌, ℕ, ℤ, List, refl, sym, ap, ◌∙◌, subst}
 use Rattle.net_defs.specs.declared.route.Route.{Route}
+use Rattle.cable_history.specs.History.{fabric_now}
 use Rattle.world_defs.specs.declared.event.Event.{Event}
 use Rattle.world_defs.specs.declared.fault.Fault.{Fault}
 use Rattle.world_defs.specs.Table.{Adoption}
@@ -28,7 +29,7 @@ pub stays-both : (u v w : WorldState) → Stays u v → Stays v w → Stays u w
 stays-both u v w a b = record { fabric = b.fabric ∙ a.fabric; world = λ is. b.world (a.world is); bytes = λ all. b.bytes (a.bytes all) }
 
 pub stays-event : (w : WorldState) (e : Event) → Stays w (step w e).1
-stays-event w e = let k = step-kept w e in record { fabric = k.net; world = k.world; bytes = step-plan w e }
+stays-event w e = let k = step-kept w e in record { fabric = ap fabric_now k.cables; world = k.world; bytes = step-plan w e }
 
 stays-along : (Q : Event → Type 0) → Along Stays Q
 stays-along Q = record { same = stays-same; both = stays-both; event = λ w e q. stays-event w e }

@@ -1,7 +1,8 @@
 -- Lawful traffic stays lawful while packets go on, and runs out.
 use Rattle.std.proofs.Common.{◌≡◌, ◌<◌, ℕ, zero, suc, Bool, true, false, List, [], ◌∷◌, ◌++◌, get_or, set, ⊎_elim, Option, Some, None, IfSome, refl, sym, ap, ◌∙◌, subst, true≢false}
 use Rattle.net_defs.specs.declared.route.Route.{Route}
-use Rattle.net_defs.specs.Network.{Network, IsFabric}
+use Rattle.net_defs.specs.Network.{Network}
+use Rattle.cable_history.specs.History.{CableHistory}
 use Rattle.packet_defs.specs.Packet.{stripped}
 use Rattle.net_defs.specs.Dependencies.{IsBefore}
 use Rattle.link_defs.specs.declared.moved.Moved.{Moved}
@@ -11,8 +12,6 @@ use Rattle.link_defs.specs.declared.moved.Course.TheVariants.{Arrives, Enters, D
 use Rattle.link_defs.specs.Links.{Held, LinkState, packet_in, with_packet, emptied}
 use Rattle.link_defs.specs.Advance.{course, entered, gone_on, advance_of, advance}
 use Rattle.link_defs.specs.Fault.{reset}
-use Rattle.link_defs.specs.Step.{Advance as AdvanceLinks}
-use Rattle.link_defs.proofs.Shapes.{stepped-net}
 use Rattle.world_defs.specs.declared.event.Event.{Event}
 use Rattle.world_defs.specs.declared.event.Event.TheVariants.{Advance, Reset}
 use Rattle.world_defs.specs.declared.effect.Effect.TheVariants.{Reset as WasReset}
@@ -22,7 +21,7 @@ use Rattle.world_defs.specs.EightBits.{IsByteEvent}
 use Rattle.world_defs.specs.Table.{Adoption}
 use Rattle.world_defs.specs.Node.{NodeState}
 use Rattle.world_defs.specs.Hearing.{hear}
-use Rattle.world_defs.specs.World.{WorldState, fabric_of, host_count, new_world, node_at, with_links}
+use Rattle.world_defs.specs.World.{WorldState, host_count, new_world, node_at, with_links}
 use Rattle.world_defs.specs.Step.{of_links, was_reset, arrived, advanced_by, advanced, step}
 use Rattle.world_defs.specs.Logs.{drain}
 use Rattle.world_defs.specs.Traffic.{routes_in, adopted_routes, IsLawful, IsLawfulTraffic}
@@ -35,9 +34,11 @@ use Rattle.net_defs.specs.RouteSet.{channels_of_all}
 use Rattle.table_laws.proofs.Dependencies.{adopted-adoptable}
 use Rattle.lawful_laws.specs.Lawful.{AdvanceKeepsLawful}
 use Rattle.lawful_laws.specs.Stuck.{LawfulIsNotStuck, LawfulDrainsIdle, LawfulNeedsNoReset}
+use Rattle.world_defs.proofs.Kept.{step-cables}
+use Rattle.act_defs.proofs.Cables.{reached-cables}
+use Rattle.lawful_laws.proofs.FirstEnds.{LeavesItsTail, first-tail}
 use Rattle.lawful_laws.proofs.Ahead.{IsLedBy, led-next}
 use Rattle.lawful_laws.proofs.Stuck.{led-flows}
-use Rattle.table_laws.proofs.Dependencies.{reached-of}
 use Rattle.lawful_laws.proofs.Lawful.{led-lawful}
 
 -- what holds of the packet in each channel holds so after an advance
@@ -59,28 +60,28 @@ entered-in_each F s c held next None is here = with_packet-in_each F (emptied s 
 entered-in_each F s c held next (Some other) is here = is
 
 -- what a move keeps
-abbrev IsCarried : Network → (ℕ → Held → Type 0) → Type 0
-IsCarried n F = (c next : ℕ) (held : Held) → course n c held.wire ≡ Enters next → F c held → F next (record held { wire = stripped held.wire })
+abbrev IsCarried : CableHistory → (ℕ → Held → Type 0) → Type 0
+IsCarried h F = (c next : ℕ) (held : Held) → course h c held.wire ≡ Enters next → F c held → F next (record held { wire = stripped held.wire })
 
-gone_on-in_each : (F : ℕ → Held → Type 0) (s : LinkState) (c : ℕ) (held : Held) (to : Course) → IsCarried s.net F → IsInEach F s → F c held → course s.net c held.wire ≡ to → IsInEach F (gone_on s c held to).1
+gone_on-in_each : (F : ℕ → Held → Type 0) (s : LinkState) (c : ℕ) (held : Held) (to : Course) → IsCarried s.cables F → IsInEach F s → F c held → course s.cables c held.wire ≡ to → IsInEach F (gone_on s c held to).1
 gone_on-in_each F s c held (Arrives h) k is here e = with_packet-in_each F s c None is tt
 gone_on-in_each F s c held (Enters next) k is here e = entered-in_each F s c held next (packet_in (emptied s c) next) is (k c next held e here)
 gone_on-in_each F s c held (Drops why) k is here e = with_packet-in_each F s c None is tt
 
-advance_of-in_each : (F : ℕ → Held → Type 0) (s : LinkState) (c : ℕ) (o : Option Held) → IsCarried s.net F → IsInEach F s → IfSome o (F c) → IsInEach F (advance_of s c o).1
+advance_of-in_each : (F : ℕ → Held → Type 0) (s : LinkState) (c : ℕ) (o : Option Held) → IsCarried s.cables F → IsInEach F s → IfSome o (F c) → IsInEach F (advance_of s c o).1
 advance_of-in_each F s c None k is here = is
-advance_of-in_each F s c (Some held) k is here = gone_on-in_each F s c held (course s.net c held.wire) k is here refl
+advance_of-in_each F s c (Some held) k is here = gone_on-in_each F s c held (course s.cables c held.wire) k is here refl
 
 -- a packet that no flip has met, led by a route of a set
-record IsPlain (n : Network) (routes : List Route) (c : ℕ) (held : Held) : Type 0 where
+record IsPlain (h : CableHistory) (routes : List Route) (c : ℕ) (held : Held) : Type 0 where
   unmarked : held.marked ≡ false
-  led : IsLedBy n routes c held.wire
+  led : IsLedBy h routes c held.wire
 
 if-each : {X : Type 0} (o : Option X) (P : X → Type 0) → ((x : X) → o ≡ Some x → P x) → IfSome o P
 if-each None P f = tt
 if-each (Some x) P f = f x refl
 
-lawful-plain : (w : WorldState) (c : ℕ) (held : Held) → IsLawful w c held → IsPlain (fabric_of w) (adopted_routes w) c held
+lawful-plain : (w : WorldState) (c : ℕ) (held : Held) → IsLawful w c held → IsPlain w.links.cables (adopted_routes w) c held
 lawful-plain w c held l = record { unmarked = l.unmarked; led = record { place = l.place; route = l.route; behind = l.behind; there = l.there; ends_it = l.ends_it } }
 
 -- an advance adopts nothing
@@ -100,41 +101,36 @@ advance-adopted : (w : WorldState) (c : ℕ) → (step w (Advance c)).1.adopted 
 unfolding advanced
 advance-adopted w c = advanced_by-adopted w (advance w.links c)
 
-advance-fabric : (w : WorldState) (c : ℕ) → fabric_of (step w (Advance c)).1 ≡ fabric_of w
-advance-fabric w c = ap (λ l. l.net) (advance-links w c) ∙ stepped-net w.links (AdvanceLinks c)
+reached-tail : (n : Network) (w : WorldState) (c : ℕ) → IsReached n w → LeavesItsTail w.links.cables c
+reached-tail n w c r = subst (λ h. LeavesItsTail h c) (sym (reached-cables n w r)) (first-tail n c r.fabric)
 
-reached-fabric : (n : Network) (w : WorldState) → IsReached n w → IsFabric (fabric_of w)
-reached-fabric n w r = let of = reached-of n w r in subst IsFabric (sym of.net) r.fabric
+plain-now : (w : WorldState) → IsLawfulTraffic w → IsInEach (IsPlain w.links.cables (adopted_routes w)) w.links
+plain-now w t j = if-each (packet_in w.links j) (IsPlain w.links.cables (adopted_routes w) j) (λ held e. lawful-plain w j held (t.packets j held e))
 
-plain-now : (w : WorldState) → IsLawfulTraffic w → IsInEach (IsPlain (fabric_of w) (adopted_routes w)) w.links
-plain-now w t j = if-each (packet_in w.links j) (IsPlain (fabric_of w) (adopted_routes w) j) (λ held e. lawful-plain w j held (t.packets j held e))
-
--- what leaves fabric and set alone leaves lawful traffic, where each packet is led by the set
-plain-then : (w v : WorldState) → fabric_of v ≡ fabric_of w → v.adopted ≡ w.adopted → IsInEach (IsPlain (fabric_of w) (adopted_routes w)) v.links → IsLawfulTraffic v
-plain-then w v fabric adopted then =
-    let same : IsInEach (IsPlain (fabric_of v) (adopted_routes v)) v.links =
-    subst (λ k. IsInEach (IsPlain k (adopted_routes v)) v.links) (sym fabric) (subst (λ o. IsInEach (IsPlain (fabric_of w) (routes_in o)) v.links) (sym adopted) then) in
-    record { packets = λ j held e. let p : IsPlain (fabric_of v) (adopted_routes v) j held = subst (λ o. IfSome o (IsPlain (fabric_of v) (adopted_routes v) j)) e (same j) in led-lawful v j held p.unmarked p.led }
+-- what leaves cables and set alone leaves lawful traffic, where each packet is led by the set
+plain-then : (w v : WorldState) → v.links.cables ≡ w.links.cables → v.adopted ≡ w.adopted → IsInEach (IsPlain w.links.cables (adopted_routes w)) v.links → IsLawfulTraffic v
+plain-then w v cables adopted then =
+    let same : IsInEach (IsPlain v.links.cables (adopted_routes v)) v.links =
+    subst (λ k. IsInEach (IsPlain k (adopted_routes v)) v.links) (sym cables) (subst (λ o. IsInEach (IsPlain w.links.cables (routes_in o)) v.links) (sym adopted) then) in
+    record { packets = λ j held e. let p : IsPlain v.links.cables (adopted_routes v) j held = subst (λ o. IfSome o (IsPlain v.links.cables (adopted_routes v) j)) e (same j) in led-lawful v j held p.unmarked p.led }
 
 pub advance-lawful : AdvanceKeepsLawful
 advance-lawful n w c r t =
     let v : WorldState = (step w (Advance c)).1 in
-    let m : Network = fabric_of w in
-    let F : ℕ → Held → Type 0 = IsPlain m (adopted_routes w) in
-    let f = reached-fabric n w r in
+    let F : ℕ → Held → Type 0 = IsPlain w.links.cables (adopted_routes w) in
     let now : IsInEach F w.links = plain-now w t in
-    let carried : IsCarried m F = λ d next held e is. record { unmarked = is.unmarked; led = led-next m (adopted_routes w) d held.wire next f e is.led } in
+    let carried : IsCarried w.links.cables F = λ d next held e is. record { unmarked = is.unmarked; led = led-next w.links.cables (adopted_routes w) d held.wire next (reached-tail n w d r) e is.led } in
     let then : IsInEach F v.links = subst (IsInEach F) (sym (advance-links w c)) (advance_of-in_each F w.links c (packet_in w.links c) carried now (now c)) in
-    plain-then w v (advance-fabric w c) (advance-adopted w c) then
+    plain-then w v (step-cables w (Advance c)) (advance-adopted w c) then
 
 -- a reset takes a packet away at most
-reset_by-lawful : (w : WorldState) (o : Bool × LinkState) → o.1.net ≡ fabric_of w → IsInEach (IsPlain (fabric_of w) (adopted_routes w)) o.1 → IsLawfulTraffic w → IsLawfulTraffic (of_links w WasReset o).1
-reset_by-lawful w (true, l) net is t = plain-then w (with_links w l) net refl is
-reset_by-lawful w (false, l) net is t = t
+reset_by-lawful : (w : WorldState) (o : Bool × LinkState) → o.1.cables ≡ w.links.cables → IsInEach (IsPlain w.links.cables (adopted_routes w)) o.1 → IsLawfulTraffic w → IsLawfulTraffic (of_links w WasReset o).1
+reset_by-lawful w (true, l) same is t = plain-then w (with_links w l) same refl is
+reset_by-lawful w (false, l) same is t = t
 
 pub reset-lawful : (w : WorldState) (c : ℕ) → IsLawfulTraffic w → IsLawfulTraffic (step w (Reset c)).1
 unfolding was_reset
-reset-lawful w c t = reset_by-lawful w (reset w.links c) refl (with_packet-in_each (IsPlain (fabric_of w) (adopted_routes w)) w.links c None (plain-now w t) tt) t
+reset-lawful w c t = reset_by-lawful w (reset w.links c) refl (with_packet-in_each (IsPlain w.links.cables (adopted_routes w)) w.links c None (plain-now w t) tt) t
 
 -- numbers that rise along the adopted routes
 record HasNumbers (n : Network) (routes : List Route) : Type 0 where
@@ -150,9 +146,8 @@ numbers-of n w (Some a) r e = let may = (adopted-adoptable n w a r e).1 in recor
 
 pub lawful-flows : LawfulIsNotStuck
 lawful-flows n w r t =
-    let of = reached-of n w r in
-    let x : HasNumbers (fabric_of w) (adopted_routes w) = subst (λ m. HasNumbers m (adopted_routes w)) (sym of.net) (numbers-of n w w.adopted r refl) in
-    led-flows w.links (adopted_routes w) x.number (reached-fabric n w r) x.rises (λ c held e. (lawful-plain w c held (t.packets c held e)).led)
+    let x : HasNumbers n (adopted_routes w) = numbers-of n w w.adopted r refl in
+    led-flows n w.links (adopted_routes w) x.number (reached-cables n w r) r.fabric x.rises (λ c held e. (lawful-plain w c held (t.packets c held e)).led)
 
 -- events lead from reached worlds to reached worlds
 may-last : (w : WorldState) (acts : List Act) (a : Act) → MayActAll w acts → MayAct (acted_all w acts) a → MayActAll w (acts ++ a ∷ [])

@@ -5,10 +5,11 @@ use Rattle.net_defs.specs.declared.route.Route.{Route}
 use Rattle.net_defs.specs.Network.{Network, IsFabric}
 use Rattle.packet_defs.specs.declared.kind.Kind.{Kind}
 use Rattle.packet_defs.specs.Packet.{packet_of}
+use Rattle.cable_history.specs.History.{CableHistory, first_history}
 use Rattle.link_defs.specs.Links.{Held, Caught, packet_in}
 use Rattle.world_defs.specs.Table.{Adoption, whole_table}
 use Rattle.world_defs.specs.Node.{NodeState, Staged, StagedProbe, StagedPart, StagedAck, new_node}
-use Rattle.world_defs.specs.World.{WorldState, fabric_of, new_world, node_at, adopted_by}
+use Rattle.world_defs.specs.World.{WorldState, new_world, node_at, adopted_by}
 use Rattle.world_defs.specs.Traffic.{routes_in, adopted_routes, IsLawful}
 use Rattle.act_defs.specs.Acts.{Act, Happens, Plans, Adopts, acted, acted_all, IsSameSet, MayAct, MayActAll, IsReached}
 use Rattle.table_laws.proofs.Medium.{weaker-holds, empty-holds}
@@ -28,8 +29,8 @@ same-within : (o : Option Adoption) (routes : List Route) → IsSameSet routes o
 same-within None routes same place r e = cc
 same-within (Some a) routes same place r e = ap (λ rs. slice_get rs place) (sym same) ∙ e
 
-sent-within : (Fair : Type 0) (n : Network) (routes more : List Route) (c : ℕ) (held : Held) → IsWithin routes more → IsSent Fair n routes c held → IsSent Fair n more c held
-sent-within Fair n routes more c held f is = record {
+sent-within : (Fair : Type 0) (cables : CableHistory) (routes more : List Route) (c : ℕ) (held : Held) → IsWithin routes more → IsSent Fair cables routes c held → IsSent Fair cables more c held
+sent-within Fair cables routes more c held f is = record {
   unflipped = λ m.
       let b = is.unflipped m in
       record {
@@ -38,7 +39,7 @@ sent-within Fair n routes more c held f is = record {
         payload = b.payload;
         written = b.written;
         good = record { part = λ p k d. walk-within routes more p.dst p.back f (b.good.part p k d) };
-        way = ⊎_elim (λ p. inl p) (λ l. inr (led-within n routes more c held.wire f l)) b.way;
+        way = ⊎_elim (λ p. inl p) (λ l. inr (led-within cables routes more c held.wire f l)) b.way;
       };
 }
 
@@ -59,9 +60,9 @@ adopted-led Fair n routes w mapper more f is =
     let m : NodeState = record (node_at w mapper) { table = whole_table more mapper 1 } in
     let here : IsOwn Fair more mapper m = let o = own-within Fair routes more mapper (node_at w mapper) f (is.hosts mapper) in record { staged = o.staged; reply = o.reply; ack = o.ack } in
     record {
-      net = is.net;
+      cables = is.cables;
       adopted = refl;
-      links = weaker-holds (IsSent Fair n routes) (IsSent Fair n more) w.links (λ c held. sent-within Fair n routes more c held f) is.links;
+      links = weaker-holds (IsSent Fair (first_history n) routes) (IsSent Fair (first_history n) more) w.links (λ c held. sent-within Fair (first_history n) routes more c held f) is.links;
       hosts = λ j. each-set (IsOwn Fair more) w.nodes mapper j m (new_node 0) here (λ k. own-within Fair routes more k (node_at w k) f (is.hosts k));
       plan = is.plan;
     }
@@ -75,7 +76,7 @@ acted-led : (Fair : Type 0) (n : Network) (w : WorldState) (a : Act) → IsFabri
 acted-led Fair n w (Happens e) f may asks of is = record { routes = is.routes; led = step-led Fair n is.routes w e f may asks of is.led }
 acted-led Fair n w (Plans ahead fault) f may asks of is =
     let l = is.led in
-    record { routes = is.routes; led = record { net = l.net; adopted = l.adopted; links = l.links; hosts = l.hosts; plan = with-all (w.injected + ahead) fault w.plan may.1 l.plan } }
+    record { routes = is.routes; led = record { cables = l.cables; adopted = l.adopted; links = l.links; hosts = l.hosts; plan = with-all (w.injected + ahead) fault w.plan may.1 l.plan } }
 acted-led Fair n w (Adopts mapper more) f may asks of is =
     let within : IsWithin is.routes more = subst (λ rs. IsWithin rs more) is.led.adopted (same-within w.adopted more may.1) in
     record { routes = more; led = adopted-led Fair n is.routes w mapper more within is.led }
@@ -92,7 +93,7 @@ new-led Fair n =
     let k : ℕ = length n.hosts in
     record {
       routes = [];
-      led = record { net = refl; adopted = refl; links = empty-holds (IsSent Fair n []) n; hosts = λ h. each-replicate (IsOwn Fair [] h) k h (new_node k) (new_node 0) (new-own Fair h k) (new-own Fair h 0); plan = tt };
+      led = record { cables = refl; adopted = refl; links = empty-holds (IsSent Fair (first_history n) []) n; hosts = λ h. each-replicate (IsOwn Fair [] h) k h (new_node k) (new_node 0) (new-own Fair h k) (new-own Fair h 0); plan = tt };
     }
 
 -- every reached world
@@ -102,7 +103,7 @@ reached-led Fair n w r asks =
     subst (λ rs. IsLed Fair n rs w) (sym x.led.adopted) x.led
 
 -- what is led by the adopted routes is lawful
-pub led-lawful : (w : WorldState) (c : ℕ) (held : Held) → held.marked ≡ false → IsLedBy (fabric_of w) (adopted_routes w) c held.wire → IsLawful w c held
+pub led-lawful : (w : WorldState) (c : ℕ) (held : Held) → held.marked ≡ false → IsLedBy w.links.cables (adopted_routes w) c held.wire → IsLawful w c held
 led-lawful w c held m l = record { unmarked = m; place = l.place; route = l.route; behind = l.behind; there = l.there; ends_it = l.ends_it }
 
 -- what no flip has met is a probe's packet, or lawful
@@ -110,15 +111,15 @@ data IsEither (Fair : Type 0) (w : WorldState) (c : ℕ) (held : Held) : Type 0 
   of_probe : {turns : List ℤ} {kind : Kind} {payload : List ℕ} → held.wire ≡ packet_of turns kind payload → IsProbeBody Fair turns kind payload → IsEither Fair w c held
   of_route : IsLawful w c held → IsEither Fair w c held
 
-sent-either : (Fair : Type 0) (n : Network) (w : WorldState) (c : ℕ) (held : Held) → fabric_of w ≡ n → IsSent Fair n (adopted_routes w) c held → held.marked ≡ false → IsEither Fair w c held
-sent-either Fair n w c held net is m =
+sent-either : (Fair : Type 0) (n : Network) (w : WorldState) (c : ℕ) (held : Held) → w.links.cables ≡ first_history n → IsSent Fair (first_history n) (adopted_routes w) c held → held.marked ≡ false → IsEither Fair w c held
+sent-either Fair n w c held same is m =
     let b = is.unflipped m in
-    ⊎_elim (λ p. IsEither.of_probe b.written p) (λ l. IsEither.of_route (led-lawful w c held m (subst (λ k. IsLedBy k (adopted_routes w) c held.wire) (sym net) l))) b.way
+    ⊎_elim (λ p. IsEither.of_probe b.written p) (λ l. IsEither.of_route (led-lawful w c held m (subst (λ h. IsLedBy h (adopted_routes w) c held.wire) (sym same) l))) b.way
 
 channel-either : (Fair : Type 0) (n : Network) (w : WorldState) (c : ℕ) (held : Held) (r : IsReached n w) → (Fair → AllByRecursion IsWalkAct r.acts) → packet_in w.links c ≡ Some held → held.marked ≡ false → IsEither Fair w c held
 channel-either Fair n w c held r asks e m =
     let l = reached-led Fair n w r asks in
-    sent-either Fair n w c held l.net (subst (λ o. IfSome o (IsSent Fair n (adopted_routes w) c)) e (l.links.in_channels c)) m
+    sent-either Fair n w c held l.cables (subst (λ o. IfSome o (IsSent Fair (first_history n) (adopted_routes w) c)) e (l.links.in_channels c)) m
 
 either-lawful : (Fair : Type 0) (w : WorldState) (c : ℕ) (held : Held) → IsEither Fair w c held → IsProbe held.wire ⊎ IsLawful w c held
 either-lawful Fair w c held (IsEither.of_probe {turns = turns} e p) = inl (record { route = turns; body = p.body; written = e ∙ (λ i. packet_of turns (p.of_mapping i) (p.bytes i)); probe = p.probe })
@@ -141,8 +142,8 @@ unflipped-read n w c held r asks e m = either-read w c held (channel-either (Uni
 limbo-either : (Fair : Type 0) (n : Network) (w : WorldState) (place serial : ℕ) (caught : Caught) (r : IsReached n w) → (Fair → AllByRecursion IsWalkAct r.acts) → slice_get w.links.limbo place ≡ Some (serial, caught) → caught.held.marked ≡ false → IsEither Fair w caught.channel caught.held
 limbo-either Fair n w place serial caught r asks e m =
     let l = reached-led Fair n w r asks in
-    let F : ℕ × Caught → Type 0 = λ x. IsSent Fair n (adopted_routes w) x.1.channel x.1.held in
-    sent-either Fair n w caught.channel caught.held l.net (all-at F w.links.limbo place (serial, caught) l.links.in_limbo e) m
+    let F : ℕ × Caught → Type 0 = λ x. IsSent Fair (first_history n) (adopted_routes w) x.1.channel x.1.held in
+    sent-either Fair n w caught.channel caught.held l.cables (all-at F w.links.limbo place (serial, caught) l.links.in_limbo e) m
 
 pub limbo-lawful : LimboIsLawful
 limbo-lawful n w place serial caught r e m = either-lawful ⊥ w caught.channel caught.held (limbo-either ⊥ n w place serial caught r (λ x. absurd x) e m)

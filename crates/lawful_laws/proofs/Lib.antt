@@ -1,4 +1,5 @@
 pub mod Ahead
+pub mod FirstEnds
 pub mod Stuck
 pub mod Bodies
 pub mod Turns

@@ -5,8 +5,9 @@ use Rattle.std.specs.List.{AllByRecursion}
 use Rattle.std.proofs.lemmas.Option.{same_Some}
 use Rattle.net_defs.specs.declared.route.Route.{Route}
 use Rattle.net_defs.specs.Turn.{IsTurn}
-use Rattle.net_defs.specs.Network.{Network}
-use Rattle.net_defs.specs.Route.{host_port, channel_from}
+use Rattle.net_defs.specs.Route.{host_port}
+use Rattle.cable_history.specs.History.{CableHistory}
+use Rattle.cable_history.specs.Crossed.{leaving}
 use Rattle.packet_defs.specs.declared.kind.Kind.{Kind}
 use Rattle.packet_defs.specs.declared.kind.Kind.TheVariants.{Mapping, Gm}
 use Rattle.packet_defs.specs.Packet.{packet_of}
@@ -40,17 +41,17 @@ pub record IsProbeBody (Fair : Type 0) (turns : List ℤ) (kind : Kind) (payload
   pub reads : Fair → AllByRecursion IsTurn turns × (is_mapping body ≡ true)
 
 -- a packet on its way, as it was built: of a probe, or led by a route of the set
-pub record IsOnWay (Fair : Type 0) (n : Network) (routes : List Route) (c : ℕ) (wire : List ℕ) : Type 0 where
+pub record IsOnWay (Fair : Type 0) (cables : CableHistory) (routes : List Route) (c : ℕ) (wire : List ℕ) : Type 0 where
   pub turns : List ℤ
   pub kind : Kind
   pub payload : List ℕ
   pub written : wire ≡ packet_of turns kind payload
   pub good : HasWayBack routes kind payload
-  pub way : IsProbeBody Fair turns kind payload ⊎ IsLedBy n routes c wire
+  pub way : IsProbeBody Fair turns kind payload ⊎ IsLedBy cables routes c wire
 
 -- so is each that no flip has met
-pub record IsSent (Fair : Type 0) (n : Network) (routes : List Route) (c : ℕ) (held : Held) : Type 0 where
-  pub unflipped : held.marked ≡ false → IsOnWay Fair n routes c held.wire
+pub record IsSent (Fair : Type 0) (cables : CableHistory) (routes : List Route) (c : ℕ) (held : Held) : Type 0 where
+  pub unflipped : held.marked ≡ false → IsOnWay Fair cables routes c held.wire
 
 -- a staged part goes by a walk of the set, and has one as its way back; a staged probe has a fair walk, if all are
 abbrev pub IsOwnStaged : Type 0 → List Route → ℕ → Staged → Type 0
@@ -132,8 +133,8 @@ gm_body routes payload = record { part = λ p e. absurd (apart e) }
     apart : Gm ≡ Mapping → ⊥
     apart e = cc
 
-probe-on_way : (Fair : Type 0) (n : Network) (routes : List Route) (c : ℕ) (turns : List ℤ) (body : MappingBody) → is_probe body ≡ true → (Fair → AllByRecursion IsTurn turns × (is_mapping body ≡ true)) → IsOnWay Fair n routes c (packet_of turns Mapping (mapping_bytes body))
-probe-on_way Fair n routes c turns body is reads = record {
+probe-on_way : (Fair : Type 0) (cables : CableHistory) (routes : List Route) (c : ℕ) (turns : List ℤ) (body : MappingBody) → is_probe body ≡ true → (Fair → AllByRecursion IsTurn turns × (is_mapping body ≡ true)) → IsOnWay Fair cables routes c (packet_of turns Mapping (mapping_bytes body))
+probe-on_way Fair cables routes c turns body is reads = record {
   turns = turns;
   kind = Mapping;
   payload = mapping_bytes body;
@@ -142,21 +143,21 @@ probe-on_way Fair n routes c turns body is reads = record {
   way = inl (record { of_mapping = refl; body = body; bytes = refl; probe = is; reads = reads });
 }
 
-led-on_way : (Fair : Type 0) (n : Network) (routes : List Route) (c host : ℕ) (walk : List ℤ) (kind : Kind) (payload : List ℕ) → AllByRecursion RouteFits routes → channel_from n (host_port host) ≡ Some c → IsWalkFrom routes host walk → HasWayBack routes kind payload → IsOnWay Fair n routes c (packet_of walk kind payload)
-led-on_way Fair n routes c host walk kind payload fit e x good =
-    record { turns = walk; kind = kind; payload = payload; written = refl; good = good; way = inr (led-start n routes c host walk kind payload fit e x) }
+led-on_way : (Fair : Type 0) (cables : CableHistory) (routes : List Route) (c host : ℕ) (walk : List ℤ) (kind : Kind) (payload : List ℕ) → AllByRecursion RouteFits routes → leaving cables (host_port host) ≡ Some c → IsWalkFrom routes host walk → HasWayBack routes kind payload → IsOnWay Fair cables routes c (packet_of walk kind payload)
+led-on_way Fair cables routes c host walk kind payload fit e x good =
+    record { turns = walk; kind = kind; payload = payload; written = refl; good = good; way = inr (led-start cables routes c host walk kind payload fit e x) }
 
-pub packet-on_way : (Fair : Type 0) (n : Network) (routes : List Route) (c host number : ℕ) (x : Outgoing) → AllByRecursion RouteFits routes → channel_from n (host_port host) ≡ Some c → host < 2 ^ 16 → number < 2 ^ 64 → IsOut Fair routes host x → IsOnWay Fair n routes c (packet_for host number x)
+pub packet-on_way : (Fair : Type 0) (cables : CableHistory) (routes : List Route) (c host number : ℕ) (x : Outgoing) → AllByRecursion RouteFits routes → leaving cables (host_port host) ≡ Some c → host < 2 ^ 16 → number < 2 ^ 64 → IsOut Fair routes host x → IsOnWay Fair cables routes c (packet_for host number x)
 unfolding packet_for
-packet-on_way Fair n routes c host number (Probe walk true) fit e near low is = probe-on_way Fair n routes c (walk ++ pos 0 ∷ way_back walk) (Loopback number host) refl (λ f. (loop-turns walk (is f), two-fit number host low near))
-packet-on_way Fair n routes c host number (Probe walk false) fit e near low is =
-    probe-on_way Fair n routes c walk (HostProbe number host (way_back walk)) refl (λ f. (route-turns walk (is f), both-true _ (is_route (way_back walk)) (two-fit number host low near) (back-route walk (is f))))
-packet-on_way Fair n routes c host number (TablePart p by) fit e near low is =
-    led-on_way Fair n routes c host by Mapping (mapping_bytes (Part p)) fit e is.0 (record { part = λ q k d. subst (λ (r : RoutePart). IsWalkFrom routes r.dst r.back) (part-read p q is.2 d) is.1 })
-packet-on_way Fair n routes c host number (Reply r) fit e near low is = probe-on_way Fair n routes c r.back (HostReply r.number host) refl (λ f. (route-turns r.back is.back, two-fit r.number host is.number near))
-packet-on_way Fair n routes c host number (PartAnswer a) fit e near low is =
-    led-on_way Fair n routes c host a.back Mapping (mapping_bytes (PartAck a.epoch host a.part)) fit e is (record { part = λ p k d. absurd (ack-no_part a.epoch host a.part p d) })
-packet-on_way Fair n routes c host number (FrameAnswer lane next by) fit e near low is =
-    let bytes : List ℕ = ack_bytes (ack_on (takes_from host lane) next) in led-on_way Fair n routes c host by Gm bytes fit e is (gm_body routes bytes)
-packet-on_way Fair n routes c host number (Fragment lane head part by) fit e near low is =
-    led-on_way Fair n routes c host by Gm (frame_bytes head part) fit e is (gm_body routes (frame_bytes head part))
+packet-on_way Fair cables routes c host number (Probe walk true) fit e near low is = probe-on_way Fair cables routes c (walk ++ pos 0 ∷ way_back walk) (Loopback number host) refl (λ f. (loop-turns walk (is f), two-fit number host low near))
+packet-on_way Fair cables routes c host number (Probe walk false) fit e near low is =
+    probe-on_way Fair cables routes c walk (HostProbe number host (way_back walk)) refl (λ f. (route-turns walk (is f), both-true _ (is_route (way_back walk)) (two-fit number host low near) (back-route walk (is f))))
+packet-on_way Fair cables routes c host number (TablePart p by) fit e near low is =
+    led-on_way Fair cables routes c host by Mapping (mapping_bytes (Part p)) fit e is.0 (record { part = λ q k d. subst (λ (r : RoutePart). IsWalkFrom routes r.dst r.back) (part-read p q is.2 d) is.1 })
+packet-on_way Fair cables routes c host number (Reply r) fit e near low is = probe-on_way Fair cables routes c r.back (HostReply r.number host) refl (λ f. (route-turns r.back is.back, two-fit r.number host is.number near))
+packet-on_way Fair cables routes c host number (PartAnswer a) fit e near low is =
+    led-on_way Fair cables routes c host a.back Mapping (mapping_bytes (PartAck a.epoch host a.part)) fit e is (record { part = λ p k d. absurd (ack-no_part a.epoch host a.part p d) })
+packet-on_way Fair cables routes c host number (FrameAnswer lane next by) fit e near low is =
+    let bytes : List ℕ = ack_bytes (ack_on (takes_from host lane) next) in led-on_way Fair cables routes c host by Gm bytes fit e is (gm_body routes bytes)
+packet-on_way Fair cables routes c host number (Fragment lane head part by) fit e near low is =
+    led-on_way Fair cables routes c host by Gm (frame_bytes head part) fit e is (gm_body routes (frame_bytes head part))

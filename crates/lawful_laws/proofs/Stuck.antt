@@ -5,7 +5,8 @@ use Rattle.std.proofs.lemmas.Bool.{cases_lt}
 use Rattle.std.proofs.lemmas.Option.{same_Some}
 use Rattle.net_defs.specs.declared.route.Route.{Route}
 use Rattle.net_defs.specs.Network.{Network, IsFabric}
-use Rattle.net_defs.specs.Route.{channels_of}
+use Rattle.net_defs.specs.Route.{host_port, channels_of}
+use Rattle.cable_history.specs.History.{first_history}
 use Rattle.net_defs.specs.Dependencies.{IsNext, IsBefore}
 use Rattle.link_defs.specs.declared.moved.Course.{Course}
 use Rattle.link_defs.specs.declared.moved.Course.TheVariants.{Arrives, Enters, Drops}
@@ -15,12 +16,14 @@ use Rattle.link_defs.specs.Hops.{changes, is_stuck}
 use Rattle.link_defs.proofs.HopsLeft.{still-advance}
 use Rattle.link_defs.proofs.Idling.{stuck-still}
 use Rattle.net_defs.specs.RouteSet.{channels_of_all}
+use Rattle.act_defs.proofs.Cables.{first-crossed}
+use Rattle.lawful_laws.proofs.FirstEnds.{first-tail}
 use Rattle.lawful_laws.proofs.Ahead.{IsLedBy, ahead-two}
 
 -- a packet that can't go on: the channel that it wants next is full
 record IsBlocked (s : LinkState) (c : ℕ) (held : Held) : Type 0 where
   next : ℕ
-  wants : course s.net c held.wire ≡ Enters next
+  wants : course s.cables c held.wire ≡ Enters next
   other : Held
   full : packet_in s next ≡ Some other
 
@@ -31,17 +34,17 @@ was_full (p ∷ ps) zero (suc d) held e = e
 was_full (p ∷ ps) (suc c) zero held e = e
 was_full (p ∷ ps) (suc c) (suc d) held e = was_full ps c d held e
 
-entered-blocked : (s : LinkState) (c : ℕ) (held : Held) (next : ℕ) (o : Option Held) → course s.net c held.wire ≡ Enters next → packet_in (emptied s c) next ≡ o → changes (entered s c held next o).0 ≡ false → IsBlocked s c held
+entered-blocked : (s : LinkState) (c : ℕ) (held : Held) (next : ℕ) (o : Option Held) → course s.cables c held.wire ≡ Enters next → packet_in (emptied s c) next ≡ o → changes (entered s c held next o).0 ≡ false → IsBlocked s c held
 entered-blocked s c held next None e d m = absurd (true≢false m)
 entered-blocked s c held next (Some other) e d m = record { next = next; wants = e; other = other; full = was_full s.channels c next other d }
 
-gone_on-blocked : (s : LinkState) (c : ℕ) (held : Held) (to : Course) → course s.net c held.wire ≡ to → changes (gone_on s c held to).0 ≡ false → IsBlocked s c held
+gone_on-blocked : (s : LinkState) (c : ℕ) (held : Held) (to : Course) → course s.cables c held.wire ≡ to → changes (gone_on s c held to).0 ≡ false → IsBlocked s c held
 gone_on-blocked s c held (Arrives h) e m = absurd (true≢false m)
 gone_on-blocked s c held (Enters next) e m = entered-blocked s c held next (packet_in (emptied s c) next) e refl m
 gone_on-blocked s c held (Drops why) e m = absurd (true≢false m)
 
 still-blocked : (s : LinkState) (c : ℕ) (held : Held) → packet_in s c ≡ Some held → changes (advance s c).0 ≡ false → IsBlocked s c held
-still-blocked s c held e m = gone_on-blocked s c held (course s.net c held.wire) refl (ap (λ o. changes (advance_of s c o).0) (sym e) ∙ m)
+still-blocked s c held e m = gone_on-blocked s c held (course s.cables c held.wire) refl (ap (λ o. changes (advance_of s c o).0) (sym e) ∙ m)
 
 -- two channels next to each other ahead of a packet are so in its route
 next-in : (c d : ℕ) (behind more : List ℕ) → IsNext c d (behind ++ c ∷ d ∷ more)
@@ -53,14 +56,15 @@ channels-at n [] place r e = cc
 channels-at n (x ∷ routes) zero r e = ap (λ y. Some (channels_of n y.from y.walk)) (same_Some x r e)
 channels-at n (x ∷ routes) (suc place) r e = channels-at n routes place r e
 
-led-before : (n : Network) (routes : List Route) (c : ℕ) (wire : List ℕ) (next : ℕ) → IsFabric n → IsLedBy n routes c wire → course n c wire ≡ Enters next → IsBefore (channels_of_all n routes) c next
+led-before : (n : Network) (routes : List Route) (c : ℕ) (wire : List ℕ) (next : ℕ) → IsFabric n → IsLedBy (first_history n) routes c wire → course (first_history n) c wire ≡ Enters next → IsBefore (channels_of_all n routes) c next
 led-before n routes c wire next f l e =
-    let two = ahead-two n c wire next f e in
+    let two = ahead-two (first_history n) c wire next (first-tail n c f) e in
+    let crossed = first-crossed n (Some (host_port l.route.from)) l.route.walk in
     record {
       place = l.place;
       route = channels_of n l.route.from l.route.walk;
       there = channels-at n routes l.place l.route l.there;
-      next = subst (IsNext c next) (sym (l.ends_it ∙ ap (λ x. l.behind ++ x) two.1)) (next-in c next l.behind two.0);
+      next = subst (IsNext c next) (sym (sym crossed ∙ l.ends_it ∙ ap (λ x. l.behind ++ x) two.1)) (next-in c next l.behind two.0);
     }
 
 -- a number that no channel below a bound goes beyond
@@ -102,9 +106,9 @@ some-packet None is = absurd (true≢false (sym is))
 some-packet (Some held) is = (held, refl)
 
 -- links whose packets are led by routes along which numbers rise
-pub led-flows : (s : LinkState) (routes : List Route) (number : ℕ → ℕ) → IsFabric s.net → ((c d : ℕ) → IsBefore (channels_of_all s.net routes) c d → number c < number d)
-    → ((c : ℕ) (held : Held) → packet_in s c ≡ Some held → IsLedBy s.net routes c held.wire) → is_stuck s ≡ false
-led-flows s routes number f rises led = by (is_stuck s) refl
+pub led-flows : (n : Network) (s : LinkState) (routes : List Route) (number : ℕ → ℕ) → s.cables ≡ first_history n → IsFabric n → ((c d : ℕ) → IsBefore (channels_of_all n routes) c d → number c < number d)
+    → ((c : ℕ) (held : Held) → packet_in s c ≡ Some held → IsLedBy s.cables routes c held.wire) → is_stuck s ≡ false
+led-flows n s routes number same f rises led = by (is_stuck s) refl
   where
     by : (t : Bool) → is_stuck s ≡ t → is_stuck s ≡ false
     by false e = e
@@ -113,5 +117,5 @@ led-flows s routes number f rises led = by (is_stuck s) refl
         let p = some-packet (packet_in s x.0.0) x.0.1 in
         let step : (c : ℕ) (held : Held) → packet_in s c ≡ Some held → IsFurther s number c = λ c held full.
         let b = still-blocked s c held full (still-advance s c (x.1 c)) in
-        record { next = b.next; other = b.other; full = b.full; above = rises c b.next (led-before s.net routes c held.wire b.next f (led c held full) b.wants) } in
+        record { next = b.next; other = b.other; full = b.full; above = rises c b.next (led-before n routes c held.wire b.next f (subst (λ h. IsLedBy h routes c held.wire) same (led c held full)) (subst (λ h. course h c held.wire ≡ Enters b.next) same b.wants)) } in
         absurd (no_climb s number step (top number (length s.channels)) x.0.0 p.0 p.1 (omega arith))

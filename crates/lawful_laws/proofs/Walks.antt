@@ -6,12 +6,12 @@ use Rattle.std.proofs.lemmas.Bool.Decides.{nat_tests}
 use Rattle.std.proofs.lemmas.Option.{same_Some}
 use Rattle.net_defs.specs.declared.route.Route.{Route}
 use Rattle.net_defs.specs.Turn.{is_turn}
-use Rattle.net_defs.specs.Network.{Network}
-use Rattle.net_defs.specs.Route.{host_port, channel_from, channels_after}
+use Rattle.net_defs.specs.Route.{host_port}
 use Rattle.packet_defs.specs.declared.kind.Kind.{Kind}
 use Rattle.packet_defs.specs.Packet.{packet_of}
-use Rattle.link_defs.specs.Channel.{channel_tail}
-use Rattle.link_defs.proofs.Ends.{channel_from-ends}
+use Rattle.cable_history.specs.History.{CableHistory, is_in_place}
+use Rattle.cable_history.specs.Crossed.{leaving, channels_by, life_tail}
+use Rattle.cable_history.proofs.ForLife.{leaving_has_its_end}
 use Rattle.mapping_defs.specs.Mapping.{RouteEntry, RoutePart}
 use Rattle.gm_defs.proofs.Choices.{both, map-some, then-some}
 use Rattle.world_defs.specs.Table.{Adoption, ActiveTable, TableState, entries_from, part_count, part_with, part_for, route_of, table_route}
@@ -102,17 +102,17 @@ table-walk o host to walk t is e =
     active-walk o host to walk m.0 (subst (λ x. IfSome x (IsActive o host)) m.1.0 is.active) m.1.1
 
 -- a packet that a host puts into its channel is led by the route whose walk it has
-pub led-start : (n : Network) (routes : List Route) (c host : ℕ) (walk : List ℤ) (kind : Kind) (payload : List ℕ) → AllByRecursion RouteFits routes → channel_from n (host_port host) ≡ Some c → IsWalkFrom routes host walk → IsLedBy n routes c (packet_of walk kind payload)
-led-start n routes c host walk kind payload fit e x =
+pub led-start : (h : CableHistory) (routes : List Route) (c host : ℕ) (walk : List ℤ) (kind : Kind) (payload : List ℕ) → AllByRecursion RouteFits routes → leaving h (host_port host) ≡ Some c → IsWalkFrom routes host walk → IsLedBy h routes c (packet_of walk kind payload)
+led-start h routes c host walk kind payload fit e x =
     let turns : list_all is_turn walk ≡ true = ap (list_all is_turn) (sym x.is) ∙ (all-at RouteFits routes x.place x.route fit x.there).turns in
     let front = front-built walk kind payload turns in
-    let tail : channel_tail n c ≡ Some (host_port host) = (channel_from-ends n (host_port host) c e).0 in
+    let tail : life_tail h c ≡ Some (host_port host) = (leaving_has_its_end h (host_port host) c e).tail in
     record {
       place = x.place;
       route = x.route;
       behind = [];
       there = x.there;
-      ends_it = (λ i. channels_after n (Some (host_port (x.from i))) (x.is i)) ∙ (λ i. channels_after n (sym tail i) (sym front i));
+      ends_it = (λ i. channels_by h is_in_place (Some (host_port (x.from i))) (x.is i)) ∙ (λ i. channels_by h is_in_place (sym tail i) (sym front i));
     }
 
 -- what one set has another has at the same places
@@ -122,5 +122,5 @@ IsWithin routes more = (place : ℕ) (r : Route) → slice_get routes place ≡ 
 pub walk-within : (routes more : List Route) (host : ℕ) (walk : List ℤ) → IsWithin routes more → IsWalkFrom routes host walk → IsWalkFrom more host walk
 walk-within routes more host walk f x = record { place = x.place; route = x.route; there = f x.place x.route x.there; from = x.from; is = x.is }
 
-pub led-within : (n : Network) (routes more : List Route) (c : ℕ) (wire : List ℕ) → IsWithin routes more → IsLedBy n routes c wire → IsLedBy n more c wire
-led-within n routes more c wire f x = record { place = x.place; route = x.route; behind = x.behind; there = f x.place x.route x.there; ends_it = x.ends_it }
+pub led-within : (h : CableHistory) (routes more : List Route) (c : ℕ) (wire : List ℕ) → IsWithin routes more → IsLedBy h routes c wire → IsLedBy h more c wire
+led-within h routes more c wire f x = record { place = x.place; route = x.route; behind = x.behind; there = f x.place x.route x.there; ends_it = x.ends_it }

@@ -4,7 +4,9 @@ use Rattle.std.specs.List.{AllByRecursion}
 use Rattle.net_defs.specs.declared.route.Route.{Route}
 use Rattle.net_defs.specs.Turn.{IsTurn}
 use Rattle.net_defs.specs.Network.{Network, IsFabric}
-use Rattle.net_defs.specs.Route.{host_port, channel_from}
+use Rattle.net_defs.specs.Route.{host_port}
+use Rattle.cable_history.specs.History.{CableHistory, first_history}
+use Rattle.cable_history.specs.Crossed.{leaving}
 use Rattle.packet_defs.specs.declared.kind.Kind.{Kind}
 use Rattle.packet_defs.specs.Packet.{front_turn, stripped, packet_of}
 use Rattle.packet_defs.specs.Host.{decode}
@@ -17,13 +19,15 @@ use Rattle.world_defs.specs.declared.effect.Effect.{Effect}
 use Rattle.world_defs.specs.EightBits.{IsByteFault, IsByteEvent}
 use Rattle.world_defs.specs.Table.{Adoption, table_route}
 use Rattle.world_defs.specs.Node.{NodeState, StagedProbe, StagedPart}
-use Rattle.world_defs.specs.World.{WorldState, fabric_of, host_count, node_at}
+use Rattle.world_defs.specs.World.{WorldState, host_count, node_at}
 use Rattle.world_defs.specs.Traffic.{routes_in, adopted_routes}
 use Rattle.table_laws.specs.Set.{IsFitPart}
 use Rattle.table_laws.specs.Packets.{IsHonest}
 use Rattle.table_laws.specs.Bodies.{IsBody}
 use Rattle.table_laws.proofs.Sets.{RouteFits, routes-fit, part_for-fits}
 use Rattle.lawful_laws.specs.Probes.{IsWalkEvent}
+use Rattle.act_defs.proofs.Cables.{first-net}
+use Rattle.lawful_laws.proofs.FirstEnds.{LeavesItsTail, first-tail}
 use Rattle.lawful_laws.proofs.Ahead.{goes_on, host-near, led-next}
 use Rattle.lawful_laws.proofs.Walks.{IsWalkFrom, route_of-walk, part-back, table-walk}
 use Rattle.lawful_laws.proofs.Sends.{HasWayBack, IsProbeBody, IsOnWay, IsSent, IsOwn, to_send-out, packet-on_way}
@@ -33,7 +37,7 @@ use Rattle.act_defs.specs.Acts.{Happens}
 use Rattle.world_defs.proofs.Views.{HostChange, Change, view}
 use Rattle.world_defs.proofs.Calls.{call_view}
 use Rattle.act_defs.proofs.Hosts.{NodeChange, change-nodes, each_node}
-use Rattle.world_defs.proofs.Kept.{change-net, change-adopted, change-plan}
+use Rattle.world_defs.proofs.Kept.{change-cables, change-adopted, change-plan}
 use Rattle.table_laws.proofs.Medium.{Holds, Carries, no_turn, honest-read}
 use Rattle.table_laws.proofs.Keeping.{HoldsOfNew, acted-holds}
 use Rattle.table_laws.proofs.Steps.{IsOfSet, IsAdopted}
@@ -49,36 +53,36 @@ probe-next Fair turns t whole kind payload same p = record {
   reads = λ f. let x = p.reads f in ((subst (AllByRecursion IsTurn) same x.0).1, x.1);
 }
 
-way-next : (Fair : Type 0) (n : Network) (routes : List Route) (c next : ℕ) (wire : List ℕ) (turns : List ℤ) (b : IsOnWay Fair n routes c wire) → IsFabric n → course n c wire ≡ Enters next → b.turns ≡ turns → IsOnWay Fair n routes next (stripped wire)
-way-next Fair n routes c next wire [] b f e same =
-    let x = goes_on n c wire next e in
+way-next : (Fair : Type 0) (cables : CableHistory) (routes : List Route) (c next : ℕ) (wire : List ℕ) (turns : List ℤ) (b : IsOnWay Fair cables routes c wire) → LeavesItsTail cables c → course cables c wire ≡ Enters next → b.turns ≡ turns → IsOnWay Fair cables routes next (stripped wire)
+way-next Fair cables routes c next wire [] b own e same =
+    let x = goes_on cables c wire next e in
     absurd (no_turn b.kind b.payload x.turn (ap (λ r. front_turn (packet_of r b.kind b.payload)) (sym same) ∙ ap front_turn (sym b.written) ∙ x.front))
-way-next Fair n routes c next wire (t ∷ turns) b f e same = record {
+way-next Fair cables routes c next wire (t ∷ turns) b own e same = record {
   turns = turns;
   kind = b.kind;
   payload = b.payload;
   written = ap stripped (b.written ∙ ap (λ r. packet_of r b.kind b.payload) same) ∙ packet_of-stripped t turns b.kind b.payload;
   good = b.good;
-  way = ⊎_elim (λ p. inl (probe-next Fair turns t b.turns b.kind b.payload same p)) (λ l. inr (led-next n routes c wire next f e l)) b.way;
+  way = ⊎_elim (λ p. inl (probe-next Fair turns t b.turns b.kind b.payload same p)) (λ l. inr (led-next cables routes c wire next own e l)) b.way;
 }
 
-carries-sent : (Fair : Type 0) (n : Network) (routes : List Route) → IsFabric n → Carries n (IsSent Fair n routes)
-carries-sent Fair n routes f = record {
-  strip = λ c next held e is. record { unflipped = λ m. let b = is.unflipped m in way-next Fair n routes c next held.wire b.turns b f e refl };
+carries-sent : (Fair : Type 0) (cables : CableHistory) (routes : List Route) → ((c : ℕ) → LeavesItsTail cables c) → Carries cables (IsSent Fair cables routes)
+carries-sent Fair cables routes own = record {
+  strip = λ c next held e is. record { unflipped = λ m. let b = is.unflipped m in way-next Fair cables routes c next held.wire b.turns b (own c) e refl };
   flip = λ c bit pattern held low e is. record { unflipped = λ m. absurd (true≢false m) };
 }
 
 -- The invariant. Fair stands for: each walk that was asked is one.
 pub record IsLed (Fair : Type 0) (n : Network) (routes : List Route) (w : WorldState) : Type 0 where
-  pub net : fabric_of w ≡ n
+  pub cables : w.links.cables ≡ first_history n
   pub adopted : adopted_routes w ≡ routes
-  pub links : Holds (IsSent Fair n routes) w.links
+  pub links : Holds (IsSent Fair (first_history n) routes) w.links
   pub hosts : (h : ℕ) → IsOwn Fair routes h (node_at w h)
   pub plan : AllByRecursion (λ f. IsByteFault f.1) w.plan
 
 -- a packet has its way back, and a true mark
-both-honest : (Fair : Type 0) (n : Network) (o : Option Adoption) (routes : List Route) (c : ℕ) (held : Held) → IsHonest (IsBody o) held → IsSent Fair n routes c held → IsHonest (HasWayBack routes) held
-both-honest Fair n o routes c held a b = record {
+both-honest : (Fair : Type 0) (cables : CableHistory) (o : Option Adoption) (routes : List Route) (c : ℕ) (held : Held) → IsHonest (IsBody o) held → IsSent Fair cables routes c held → IsHonest (HasWayBack routes) held
+both-honest Fair cables o routes c held a b = record {
   mark = a.mark;
   built = λ m. let x = b.unflipped m in record { route = x.turns; kind = x.kind; payload = x.payload; written = x.written; good = x.good };
 }
@@ -87,8 +91,8 @@ both-honest Fair n o routes c held a b = record {
 way-read : (Fair : Type 0) (n : Network) (routes : List Route) (w : WorldState) (c : ℕ) (packet : Held) → IsOfSet n w → IsLed Fair n routes w → packet_in w.links c ≡ Some packet → (k : Kind) (body : List ℕ) → decode packet.wire ≡ Ok (k, body) → HasWayBack routes k body
 way-read Fair n routes w c packet of is e k body d =
     let true_mark = subst (λ o. IfSome o (IsHonest (IsBody w.adopted))) e (of.links.in_channels c) in
-    let sent = subst (λ o. IfSome o (IsSent Fair n routes c)) e (is.links.in_channels c) in
-    honest-read (HasWayBack routes) packet k body (both-honest Fair n w.adopted routes c packet true_mark sent) d
+    let sent = subst (λ o. IfSome o (IsSent Fair (first_history n) routes c)) e (is.links.in_channels c) in
+    honest-read (HasWayBack routes) packet k body (both-honest Fair (first_history n) w.adopted routes c packet true_mark sent) d
 
 -- one host
 host-own : (Fair : Type 0) (n : Network) (routes : List Route) (w : WorldState) {e : Event} {x : Effect} {h : ℕ} {m : NodeState} → IsFabric n → (Fair → IsWalkEvent e) → IsOfSet n w → IsLed Fair n routes w → HostChange w e x h m → IsOwn Fair routes h m
@@ -113,22 +117,22 @@ set-fits : (n : Network) (o : Option Adoption) → IsFabric n → IfSome o (IsAd
 set-fits n None f is = tt
 set-fits n (Some a) f is = routes-fit n a.routes f is.adoptable.lead
 
-new-sent : (Fair : Type 0) (n : Network) (routes : List Route) (w v : WorldState) → IsFabric n → IsOfSet n w → IsLed Fair n routes w → HoldsOfNew (IsSent Fair n routes) w v
+new-sent : (Fair : Type 0) (n : Network) (routes : List Route) (w v : WorldState) → IsFabric n → IsOfSet n w → IsLed Fair n routes w → HoldsOfNew (IsSent Fair (first_history n) routes) w v
 new-sent Fair n routes w v f of is h c out i =
     let fit : AllByRecursion RouteFits routes = subst (AllByRecursion RouteFits) is.adopted (set-fits n w.adopted f of.adopted) in
     let walks : (peer : ℕ) (walk : List ℤ) → table_route (node_at w h).table peer ≡ Some walk → IsWalkFrom routes h walk = λ peer walk x. subst (λ rs. IsWalkFrom rs h walk) is.adopted (table-walk w.adopted h peer walk (node_at w h).table (of.hosts h).table x) in
-    let there : channel_from n (host_port h) ≡ Some c = subst (λ m. channel_from m (host_port h) ≡ Some c) is.net i.cable in
+    let there : leaving (first_history n) (host_port h) ≡ Some c = subst (λ g. leaving g (host_port h) ≡ Some c) is.cables i.cable in
     let left = i.left in
-    record { unflipped = λ m. packet-on_way Fair n routes c h (w.injected + 1) out fit there (host-near n h c f there) (omega (arith, left)) (to_send-out Fair routes h (node_at w h) out (is.hosts h) walks i.sends) }
+    record { unflipped = λ m. packet-on_way Fair (first_history n) routes c h (w.injected + 1) out fit there (host-near (first_history n) h c (subst IsFabric (sym (first-net n)) f) there) (omega (arith, left)) (to_send-out Fair routes h (node_at w h) out (is.hosts h) walks i.sends) }
 
 -- every event
 pub step-led : (Fair : Type 0) (n : Network) (routes : List Route) (w : WorldState) (e : Event) → IsFabric n → IsByteEvent e → (Fair → IsWalkEvent e) → IsOfSet n w → IsLed Fair n routes w → IsLed Fair n routes (step w e).1
 step-led Fair n routes w e f low asks of is =
     let k : Change w e (step w e) = view w e in
     record {
-      net = change-net k ∙ is.net;
+      cables = change-cables k ∙ is.cables;
       adopted = ap routes_in (change-adopted k) ∙ is.adopted;
-      links = acted-holds (IsSent Fair n routes) w (subst (λ m. Carries m (IsSent Fair n routes)) (sym is.net) (carries-sent Fair n routes f)) is.links is.plan (Happens e) low (new-sent Fair n routes w (step w e).1 f of is);
+      links = acted-holds (IsSent Fair (first_history n) routes) w (subst (λ g. Carries g (IsSent Fair (first_history n) routes)) (sym is.cables) (carries-sent Fair (first_history n) routes (λ c. first-tail n c f))) is.links is.plan (Happens e) low (new-sent Fair n routes w (step w e).1 f of is);
       hosts = each_node (IsOwn Fair routes) (change-nodes k) is.hosts (node-own Fair n routes w e f asks of is);
       plan = change-plan k is.plan;
     }

@@ -6,11 +6,12 @@ use Rattle.packet_defs.specs.declared.host_drop.HostDrop.TheVariants.{UnknownTyp
 use Rattle.packet_defs.specs.Host.{body_of}
 use Rattle.link_defs.specs.Links.{packet_in}
 use Rattle.link_defs.specs.Hops.{is_stuck}
+use Rattle.link_defs.specs.Kinds.{unrouted}
 use Rattle.world_defs.specs.declared.event.Event.{Event}
 use Rattle.world_defs.specs.declared.event.Event.TheVariants.{Ask, Inject, Advance, Reset, Begin, Send}
 use Rattle.world_defs.specs.World.{WorldState, new_world}
 use Rattle.world_defs.specs.Step.{after_all}
-use Rattle.world_defs.specs.Traffic.{IsLawfulTraffic, channels_ahead, unrouted}
+use Rattle.world_defs.specs.Traffic.{IsLawfulTraffic, channels_ahead}
 use Rattle.world_defs.specs.Examples.{setup_routes}
 use Rattle.act_defs.specs.Acts.{Act, Happens, Adopts, acted_all, IsReached}
 use Rattle.lawful_laws.specs.Resets.{ClearsBeginLawful}

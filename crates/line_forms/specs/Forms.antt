@@ -200,8 +200,8 @@ is_heard_word w =
 abbrev pub is_cause_word : List ℕ → Bool
 is_cause_word w =
     bytes_eq w (codes "outofrange") || bytes_eq w (codes "notroute") || bytes_eq w (codes "nocable")
-    || bytes_eq w (codes "badcrc") || bytes_eq w (codes "routeleft") || bytes_eq w (codes "unknowntype")
-    || bytes_eq w (codes "malformed") || bytes_eq w (codes "notmine")
+    || bytes_eq w (codes "newcable") || bytes_eq w (codes "badcrc") || bytes_eq w (codes "routeleft")
+    || bytes_eq w (codes "unknowntype") || bytes_eq w (codes "malformed") || bytes_eq w (codes "notmine")
 
 -- effects of one word
 abbrev pub is_bare_effect : List ℕ → Bool

@@ -206,6 +206,7 @@ fn is_cause_word(w: &[u8]) -> bool
     w == b"outofrange".as_slice()
         || w == b"notroute".as_slice()
         || w == b"nocable".as_slice()
+        || w == b"newcable".as_slice()
         || w == b"badcrc".as_slice()
         || w == b"routeleft".as_slice()
         || w == b"unknowntype".as_slice()

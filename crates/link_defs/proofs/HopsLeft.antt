@@ -6,7 +6,9 @@ use Rattle.std.specs.Int.Bits.{bit_xor}
 use Rattle.net_defs.specs.declared.vertex.Vertex.{Vertex}
 use Rattle.net_defs.specs.declared.vertex.Vertex.TheVariants.{Host, Switch}
 use Rattle.net_defs.specs.declared.vertex.End.{End}
-use Rattle.net_defs.specs.Network.{Network, ports_of}
+use Rattle.net_defs.specs.Network.{ports_of}
+use Rattle.cable_history.specs.History.{CableHistory, fabric_now}
+use Rattle.cable_history.specs.Crossed.{life_head}
 use Rattle.packet_defs.specs.Crc.{contribution}
 use Rattle.packet_defs.specs.RouteByte.{turn_of, is_route_byte}
 use Rattle.packet_defs.specs.Packet.{front_turn, stripped}
@@ -15,7 +17,6 @@ use Rattle.link_defs.specs.declared.turned.Turned.{Turned}
 use Rattle.link_defs.specs.declared.turned.Turned.TheVariants.{Out, OutOfRange as TurnedTooFar, NotRoute as NoTurn}
 use Rattle.link_defs.specs.declared.moved.Course.{Course}
 use Rattle.link_defs.specs.declared.moved.Course.TheVariants.{Arrives, Enters, Drops}
-use Rattle.link_defs.specs.Channel.{channel_head}
 use Rattle.link_defs.specs.Switch.{aim, aim_of}
 use Rattle.link_defs.specs.Links.{Held, LinkState, packet_in, with_packet, emptied, is_idle}
 use Rattle.link_defs.specs.Advance.{course, course_out, course_at, course_into, entered, gone_on, advance_of, advance}
@@ -47,20 +48,20 @@ aim_of-out : (ports entry : ℕ) (o : Option ℤ) (port : ℕ) → aim_of ports 
 aim_of-out ports entry None port e = cc
 aim_of-out ports entry (Some turn) port e = (turn, refl)
 
-course_out-enters : (n : Network) (s : ℕ) (t : Turned) (next : ℕ) → course_out n s t ≡ Enters next → (port : ℕ) × (t ≡ Out port)
-course_out-enters n s (Out port) next e = (port, refl)
-course_out-enters n s TurnedTooFar next e = cc
-course_out-enters n s NoTurn next e = cc
+course_out-enters : (h : CableHistory) (s : ℕ) (wire : List ℕ) (t : Turned) (next : ℕ) → course_out h s wire t ≡ Enters next → (port : ℕ) × (t ≡ Out port)
+course_out-enters h s wire (Out port) next e = (port, refl)
+course_out-enters h s wire TurnedTooFar next e = cc
+course_out-enters h s wire NoTurn next e = cc
 
-course_at-enters : (n : Network) (v : Vertex) (entry : ℕ) (wire : List ℕ) (next : ℕ) → course_at n v entry wire ≡ Enters next → (turn : ℤ) × (front_turn wire ≡ Some turn)
-course_at-enters n (Host h) entry wire next e = cc
-course_at-enters n (Switch s) entry wire next e =
-    let out = course_out-enters n s (aim (ports_of n (Switch s)) entry wire) next e in
-    aim_of-out (ports_of n (Switch s)) entry (front_turn wire) out.0 out.1
+course_at-enters : (h : CableHistory) (v : Vertex) (entry : ℕ) (wire : List ℕ) (next : ℕ) → course_at h v entry wire ≡ Enters next → (turn : ℤ) × (front_turn wire ≡ Some turn)
+course_at-enters h (Host a) entry wire next e = cc
+course_at-enters h (Switch s) entry wire next e =
+    let out = course_out-enters h s wire (aim (ports_of (fabric_now h) (Switch s)) entry wire) next e in
+    aim_of-out (ports_of (fabric_now h) (Switch s)) entry (front_turn wire) out.0 out.1
 
-pub course_into-enters : (n : Network) (o : Option End) (wire : List ℕ) (next : ℕ) → course_into n o wire ≡ Enters next → (turn : ℤ) × (front_turn wire ≡ Some turn)
-course_into-enters n None wire next e = cc
-course_into-enters n (Some d) wire next e = course_at-enters n d.v d.p wire next e
+pub course_into-enters : (h : CableHistory) (o : Option End) (wire : List ℕ) (next : ℕ) → course_into h o wire ≡ Enters next → (turn : ℤ) × (front_turn wire ≡ Some turn)
+course_into-enters h None wire next e = cc
+course_into-enters h (Some d) wire next e = course_at-enters h d.v d.p wire next e
 
 -- what a packet gives up that leaves the links
 emptied-hops : (s : LinkState) (c : ℕ) (held : Held) → packet_in s c ≡ Some held → total_hops (emptied s c) + hops_left held.wire ≤ total_hops s
@@ -78,16 +79,16 @@ entered-hops s c held next turn None e t there is =
     omega (arith, gone, less, h)
 entered-hops s c held next turn (Some other) e t there is = absurd (true≢false (sym is))
 
-gone_on-hops : (s : LinkState) (c : ℕ) (held : Held) (to : Course) → packet_in s c ≡ Some held → course s.net c held.wire ≡ to → changes (gone_on s c held to).0 ≡ true → total_hops (gone_on s c held to).1 < total_hops s
+gone_on-hops : (s : LinkState) (c : ℕ) (held : Held) (to : Course) → packet_in s c ≡ Some held → course s.cables c held.wire ≡ to → changes (gone_on s c held to).0 ≡ true → total_hops (gone_on s c held to).1 < total_hops s
 gone_on-hops s c held (Arrives h) e to is = let k = emptied-hops s c held e in omega arith
 gone_on-hops s c held (Enters next) e to is =
-    let t = course_into-enters s.net (channel_head s.net c) held.wire next to in
+    let t = course_into-enters s.cables (life_head s.cables c) held.wire next to in
     entered-hops s c held next t.0 (packet_in (emptied s c) next) e t.1 refl is
 gone_on-hops s c held (Drops why) e to is = let k = emptied-hops s c held e in omega arith
 
 advance_of-hops : (s : LinkState) (c : ℕ) (o : Option Held) → packet_in s c ≡ o → changes (advance_of s c o).0 ≡ true → total_hops (advance_of s c o).1 < total_hops s
 advance_of-hops s c None e is = absurd (true≢false (sym is))
-advance_of-hops s c (Some held) e is = gone_on-hops s c held (course s.net c held.wire) e refl is
+advance_of-hops s c (Some held) e is = gone_on-hops s c held (course s.cables c held.wire) e refl is
 
 -- the law
 pub advance-hops : (s : LinkState) (c : ℕ) → changes (advance s c).0 ≡ true → total_hops (advance s c).1 < total_hops s
@@ -105,7 +106,7 @@ gone_on-still s c held (Drops why) is = absurd (true≢false is)
 
 advance_of-still : (s : LinkState) (c : ℕ) (o : Option Held) → changes (advance_of s c o).0 ≡ false → (advance_of s c o).1 ≡ s
 advance_of-still s c None is = refl
-advance_of-still s c (Some held) is = gone_on-still s c held (course s.net c held.wire) is
+advance_of-still s c (Some held) is = gone_on-still s c held (course s.cables c held.wire) is
 
 pub advance-still : (s : LinkState) (c : ℕ) → changes (advance s c).0 ≡ false → (advance s c).1 ≡ s
 advance-still s c is = advance_of-still s c (packet_in s c) is

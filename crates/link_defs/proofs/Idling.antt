@@ -1,15 +1,18 @@
 -- What isn't possible changes nothing, and what stuck links are.
-use Rattle.std.proofs.Common.{◌≡◌, ◌<◌, ◌≤◌, ℕ, zero, suc, Bool, true, false, not, ◌&&◌, List, [], ◌∷◌, length, get_or, Option, Some, None, is_some, is_none, IsSome, refl, sym, ap, subst, arith, true≢false, if◌then◌else◌, ⊎_elim}
+use Rattle.std.proofs.Common.{◌≡◌, ◌<◌, ◌≤◌, ℕ, zero, suc, Bool, true, false, not, ◌&&◌, List, [], ◌∷◌, ◌++◌, length, get_or, Option, Some, None, is_some, is_none, IsSome, refl, sym, ap, subst, arith, true≢false, if◌then◌else◌, ⊎_elim}
 use Rattle.std.specs.List.{list_all}
 use Rattle.std.proofs.lemmas.List.{get_or_past}
 use Rattle.std.proofs.lemmas.Bool.{cases_lt}
 use Rattle.net_defs.proofs.Ends.{both}
 use Rattle.net_defs.proofs.Growing.{no_some}
+use Rattle.net_defs.specs.declared.vertex.End.{End}
+use Rattle.cable_history.specs.History.{may_plug, with_plugged}
+use Rattle.cable_history.specs.Crossed.{leaving}
 use Rattle.packet_defs.specs.Burst.{flipped, may_flip}
 use Rattle.link_defs.specs.declared.replayed.Replayed.TheVariants.{Back, Busy}
 use Rattle.link_defs.specs.Links.{Held, Caught, LinkState, packet_in, with_packet, emptied, is_idle, put}
 use Rattle.link_defs.specs.Advance.{advance_of, advance}
-use Rattle.link_defs.specs.Fault.{lose, repeat_of, repeat, hold_of, hold, is_used_up, with_caught, flip_of, flip, caught_as, released, replay_of, replay}
+use Rattle.link_defs.specs.Fault.{lose, repeat_of, repeat, hold_of, hold, is_used_up, with_caught, flip_of, flip, caught_as, released, replay_of, replay, pull_by, pull, plug}
 use Rattle.link_defs.specs.Hops.{changes, is_still_below, is_stuck}
 use Rattle.link_defs.specs.Laws.{is_idle_replay}
 use Rattle.link_defs.proofs.Slots.{set-same}
@@ -22,7 +25,7 @@ pick t x y = if t then x else y
 pub put-refused : (s : LinkState) (c : ℕ) (wire : List ℕ) → (put s c wire).0 ≡ false → (put s c wire).1 ≡ s
 put-refused s c wire e = by (is_some (packet_in s c)) e
   where
-    by : (t : Bool) → (pick t (false, s) (true, with_packet s c (Some (record { wire = wire; marked = false })))).0 ≡ false → (pick t (false, s) (true, with_packet s c (Some (record { wire = wire; marked = false })))).1 ≡ s
+    by : (t : Bool) → (pick t (false, s) (true, with_packet s c (Some (record { wire = wire; marked = false; born = s.epoch })))).0 ≡ false → (pick t (false, s) (true, with_packet s c (Some (record { wire = wire; marked = false; born = s.epoch })))).1 ≡ s
     by true e = refl
     by false e = absurd (true≢false e)
 
@@ -56,7 +59,7 @@ flip_of-idle s c bit pattern None e = refl
 flip_of-idle s c bit pattern (Some held) e = by (not held.marked && may_flip held.wire bit pattern) e
   where
     new : LinkState
-    new = with_packet s c (Some (record { wire = flipped held.wire bit pattern; marked = true }))
+    new = with_packet s c (Some (record held { wire = flipped held.wire bit pattern; marked = true }))
 
     by : (t : Bool) → (pick t (true, new) (false, s)).0 ≡ false → (pick t (true, new) (false, s)).1 ≡ s
     by true e = absurd (true≢false e)
@@ -75,6 +78,23 @@ replay_of-idle s serial (Some caught) e = by (is_some (packet_in s caught.channe
 
 pub replay-idle : (s : LinkState) (serial : ℕ) → is_idle_replay (replay s serial).0 ≡ true → (replay s serial).1 ≡ s
 replay-idle s serial e = replay_of-idle s serial (caught_as s serial) e
+
+pull_by-idle : (s : LinkState) (o : Option ℕ) → (pull_by s o).0 ≡ false → (pull_by s o).1 ≡ s
+pull_by-idle s None e = refl
+pull_by-idle s (Some c) e = absurd (true≢false e)
+
+pub pull-idle : (s : LinkState) (e : End) → (pull s e).0 ≡ false → (pull s e).1 ≡ s
+pull-idle s e is = pull_by-idle s (leaving s.cables e) is
+
+pub plug-idle : (s : LinkState) (a b : End) → (plug s a b).0 ≡ false → (plug s a b).1 ≡ s
+plug-idle s a b e = by (may_plug s.cables a b) e
+  where
+    new : LinkState
+    new = record s { cables = with_plugged s.cables a b; channels = s.channels ++ None ∷ None ∷ [] }
+
+    by : (t : Bool) → (pick t (true, new) (false, s)).0 ≡ false → (pick t (true, new) (false, s)).1 ≡ s
+    by true e = absurd (true≢false e)
+    by false e = refl
 
 -- some slot is full
 full_slot : (ps : List (Option Held)) → list_all is_none ps ≡ false → (c : ℕ) × IsSome (get_or ps c None)

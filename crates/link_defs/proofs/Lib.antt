@@ -1,4 +1,3 @@
-pub mod Ends
 pub mod HopsLeft
 pub mod Idling
 pub mod InOrder

@@ -1,10 +1,11 @@
--- Every step keeps the fabric, and leaves links.
-use Rattle.std.proofs.Common.{◌≡◌, ◌<◌, ◌+◌, ◌^◌, ℕ, zero, suc, Bool, true, false, not, ◌&&◌, nat_eq, List, [], ◌∷◌, ◌++◌, length, replicate, slice_index_or, Option, Some, None, is_some, is_none, refl, sym, ◌∙◌, subst, arith, if◌then◌else◌}
-use Rattle.std.specs.List.{AllByRecursion, list_all}
+-- Every step leaves links, and those of packets keep the cables.
+use Rattle.std.proofs.Common.{◌≡◌, ◌<◌, ◌+◌, ◌*◌, ◌/◌, ◌^◌, ℕ, zero, suc, Bool, true, false, not, ◌&&◌, nat_eq, List, [], ◌∷◌, ◌++◌, length, replicate, slice_index_or, Option, Some, None, is_some, is_none, refl, sym, ◌∙◌, subst, arith, if◌then◌else◌, true≢false, length-append, set, ap}
+use Rattle.std.specs.List.{AllByRecursion, list_all, filter, slice_get}
 use Rattle.std.specs.Map.{remove_entry}
 use Rattle.std.proofs.Math.ListN.{length-set}
 use Rattle.std.proofs.lemmas.List.{length-replicate}
 use Rattle.std.proofs.lemmas.Bool.Decides.{nat_tests}
+use Rattle.net_defs.specs.declared.vertex.End.{End}
 use Rattle.net_defs.specs.Network.{Network}
 use Rattle.net_defs.proofs.Distinct.{all-weaker, all-push}
 use Rattle.packet_defs.specs.Packet.{stripped}
@@ -12,29 +13,33 @@ use Rattle.packet_defs.specs.Burst.{flipped, may_flip}
 use Rattle.link_defs.specs.declared.moved.Course.{Course}
 use Rattle.link_defs.specs.declared.moved.Course.TheVariants.{Arrives, Enters, Drops}
 use Rattle.link_defs.specs.declared.replayed.Replayed.TheVariants.{Back, Busy}
-use Rattle.link_defs.specs.Channel.{channel_count}
+use Rattle.cable_history.specs.History.{CableHistory, IsHistory, first_history, may_plug, pulled_by, with_pulled, with_plugged}
+use Rattle.cable_history.specs.Crossed.{leaving, life_channels, pulled_with}
+use Rattle.cable_history.proofs.Kept.{pull_at_keeps, plug_keeps, accept_keeps}
+use Rattle.cable_history.specs.declared.wire.Wire.{Wire}
 use Rattle.link_defs.specs.Links.{Held, Caught, LinkState, empty_links, packet_in, with_packet, emptied, is_idle, put}
 use Rattle.link_defs.specs.Advance.{course, entered, gone_on, advance_of}
-use Rattle.link_defs.specs.Fault.{repeat_of, hold_of, is_used_up, with_caught, flip_of, caught_as, released, replay_of}
+use Rattle.link_defs.specs.Fault.{repeat_of, hold_of, is_used_up, with_caught, flip_of, caught_as, released, replay_of, pulled, pull_by, pull, plug}
 use Rattle.link_defs.specs.Shape.{Rise, IsLinks}
-use Rattle.link_defs.specs.Step.{Step, Put, Advance, Lose, Reset, Repeat, Hold, Flip, Replay, stepped, stepped_all}
+use Rattle.link_defs.specs.Laws.{is_of_cables}
+use Rattle.link_defs.specs.Step.{Step, Put, Advance, Lose, Reset, Repeat, Hold, Flip, Replay, Pull, Plug, Accept, stepped, stepped_all}
 use Rattle.link_defs.proofs.Idling.{pick}
 
--- what a step keeps: the fabric, and links
+-- what a step of packets keeps: the cables, and links
 record Kept (s t : LinkState) : Type 0 where
-  net : t.net ≡ s.net
+  cables : t.cables ≡ s.cables
   links : IsLinks s → IsLinks t
 
 kept_same : (s : LinkState) → Kept s s
-kept_same s = record { net = refl; links = λ is. is }
+kept_same s = record { cables = refl; links = λ is. is }
 
 kept_after : (s t u : LinkState) → Kept s t → Kept t u → Kept s u
-kept_after s t u k m = record { net = m.net ∙ k.net; links = λ is. m.links (k.links is) }
+kept_after s t u k m = record { cables = m.cables ∙ k.cables; links = λ is. m.links (k.links is) }
 
 -- a write to a channel
 with_packet-kept : (s : LinkState) (c : ℕ) (p : Option Held) → Kept s (with_packet s c p)
 with_packet-kept s c p = record {
-  net = refl;
+  cables = refl;
   links = λ is. record {
     slots = length-set s.channels c p ∙ is.slots;
     rising = is.rising;
@@ -62,7 +67,7 @@ gone_on-kept s c held (Drops why) = with_packet-kept s c None
 
 advance_of-kept : (s : LinkState) (c : ℕ) (o : Option Held) → Kept s (advance_of s c o).1
 advance_of-kept s c None = kept_same s
-advance_of-kept s c (Some held) = gone_on-kept s c held (course s.net c held.wire)
+advance_of-kept s c (Some held) = gone_on-kept s c held (course s.cables c held.wire)
 
 -- serials that rise, and one more at the end
 rise-push : (es : List (ℕ × Caught)) (n : ℕ) (x : Caught) → Rise es → AllByRecursion (λ e. e.0 < n) es → Rise (es ++ (n, x) ∷ [])
@@ -92,7 +97,7 @@ there (p ∷ ps) zero held e = omega arith
 there (p ∷ ps) (suc c) held e = let h = there ps c held e in omega arith
 
 with_caught-kept : (s : LinkState) (c : ℕ) (held : Held) → c < length s.channels → is_used_up s ≡ false → Kept s (with_caught s c held)
-with_caught-kept s c held low left = record { net = refl; links = with_caught-links s c held low left }
+with_caught-kept s c held low left = record { cables = refl; links = with_caught-links s c held low left }
 
 repeat_of-kept : (s : LinkState) (c : ℕ) (o : Option Held) → packet_in s c ≡ o → Kept s (repeat_of s c o).1
 repeat_of-kept s c None e = kept_same s
@@ -117,7 +122,7 @@ hold_of-kept s c (Some held) e = by (is_used_up s) refl
 flip_of-kept : (s : LinkState) (c bit pattern : ℕ) (o : Option Held) → Kept s (flip_of s c bit pattern o).1
 flip_of-kept s c bit pattern None = kept_same s
 flip_of-kept s c bit pattern (Some held) =
-    let p : Option Held = Some (record { wire = flipped held.wire bit pattern; marked = true }) in
+    let p : Option Held = Some (record held { wire = flipped held.wire bit pattern; marked = true }) in
     pick-kept s (not held.marked && may_flip held.wire bit pattern) (true, with_packet s c p) (false, s) (with_packet-kept s c p) (kept_same s)
 
 -- what holds of each entry holds of each that is left
@@ -139,7 +144,7 @@ rise-removed test (e ∷ es) rise = by (test e.0) (rise-removed test es rise.1)
 
 without_serial-kept : (s : LinkState) (serial : ℕ) → Kept s (record s { limbo = remove_entry (nat_eq serial) s.limbo })
 without_serial-kept s serial = record {
-  net = refl;
+  cables = refl;
   links = λ is. record {
     slots = is.slots;
     rising = rise-removed (nat_eq serial) s.limbo is.rising;
@@ -161,45 +166,187 @@ replay_of-kept s serial (Some caught) =
 
 put-kept : (s : LinkState) (c : ℕ) (wire : List ℕ) → Kept s (put s c wire).1
 put-kept s c wire =
-    let p : Option Held = Some (record { wire = wire; marked = false }) in
+    let p : Option Held = Some (record { wire = wire; marked = false; born = s.epoch }) in
     pick-kept s (is_some (packet_in s c)) (false, s) (true, with_packet s c p) (kept_same s) (with_packet-kept s c p)
 
--- one step of any kind
-stepped-kept : (s : LinkState) (x : Step) → Kept s (stepped s x)
-stepped-kept s (Put c wire) = put-kept s c wire
-stepped-kept s (Advance c) = advance_of-kept s c (packet_in s c)
-stepped-kept s (Lose c) = with_packet-kept s c None
-stepped-kept s (Reset c) = with_packet-kept s c None
-stepped-kept s (Repeat c) = repeat_of-kept s c (packet_in s c) refl
-stepped-kept s (Hold c) = hold_of-kept s c (packet_in s c) refl
-stepped-kept s (Flip c bit pattern) = flip_of-kept s c bit pattern (packet_in s c)
-stepped-kept s (Replay serial) = replay_of-kept s serial (caught_as s serial)
+-- one step of packets
+stepped-kept : (s : LinkState) (x : Step) → is_of_cables x ≡ false → Kept s (stepped s x)
+stepped-kept s (Put c wire) not = put-kept s c wire
+stepped-kept s (Advance c) not = advance_of-kept s c (packet_in s c)
+stepped-kept s (Lose c) not = with_packet-kept s c None
+stepped-kept s (Reset c) not = with_packet-kept s c None
+stepped-kept s (Repeat c) not = repeat_of-kept s c (packet_in s c) refl
+stepped-kept s (Hold c) not = hold_of-kept s c (packet_in s c) refl
+stepped-kept s (Flip c bit pattern) not = flip_of-kept s c bit pattern (packet_in s c)
+stepped-kept s (Replay serial) not = replay_of-kept s serial (caught_as s serial)
+stepped-kept s (Pull e) not = absurd (true≢false not)
+stepped-kept s (Plug a b) not = absurd (true≢false not)
+stepped-kept s Accept not = absurd (true≢false not)
 
--- and many
-stepped_all-kept : (s : LinkState) (xs : List Step) → Kept s (stepped_all s xs)
-stepped_all-kept s [] = kept_same s
-stepped_all-kept s (x ∷ xs) = kept_after s (stepped s x) (stepped_all (stepped s x) xs) (stepped-kept s x) (stepped_all-kept (stepped s x) xs)
+-- ---- the cables change
+-- limbo without some of it
+all-filtered : (P : ℕ × Caught → Type 0) (test : ℕ × Caught → Bool) (es : List (ℕ × Caught)) → AllByRecursion P es → AllByRecursion P (filter test es)
+all-filtered P test [] all = tt
+all-filtered P test (e ∷ es) all = by (test e) (all-filtered P test es all.1)
+  where
+    by : (t : Bool) → AllByRecursion P (filter test es) → AllByRecursion P (if t then e ∷ filter test es else filter test es)
+    by true rest = (all.0, rest)
+    by false rest = rest
 
--- the laws
-pub stepped-net : (s : LinkState) (x : Step) → (stepped s x).net ≡ s.net
-stepped-net s x = (stepped-kept s x).net
+rise-filtered : (test : ℕ × Caught → Bool) (es : List (ℕ × Caught)) → Rise es → Rise (filter test es)
+rise-filtered test [] rise = tt
+rise-filtered test (e ∷ es) rise = by (test e) (rise-filtered test es rise.1)
+  where
+    by : (t : Bool) → Rise (filter test es) → Rise (if t then e ∷ filter test es else filter test es)
+    by true rest = (all-filtered (λ d. e.0 < d.0) test es rise.0, rest)
+    by false rest = rest
+
+-- as many channels as before
+pulled-channels : (h : CableHistory) (k : ℕ) → life_channels (with_pulled h k) ≡ life_channels h
+pulled-channels h k = by (slice_get h.wires k)
+  where
+    by : (o : Option Wire) → life_channels (pulled_by h k o) ≡ life_channels h
+    by None = refl
+    by (Some w) = ap (λ n. 2 * n) (length-set h.wires k (record w { pulled = Some (h.changes + 1) }))
+
+pulled-links : (s : LinkState) (k : ℕ) → IsLinks s → IsLinks (pulled s k)
+pulled-links s k is =
+    let test : ℕ × Caught → Bool = λ e. not (nat_eq (e.1.channel / 2) k) in
+    let long : length (pulled s k).channels ≡ length s.channels = length-set {A = Option Held} (set s.channels (2 * k) None) (2 * k + 1) None ∙ length-set {A = Option Held} s.channels (2 * k) None in
+    record {
+      slots = long ∙ is.slots ∙ sym (pulled-channels s.cables k);
+      rising = rise-filtered test s.limbo is.rising;
+      below_next = all-filtered (λ e. e.0 < s.next_serial) test s.limbo is.below_next;
+      from_channels = subst (λ n. AllByRecursion (λ e. e.1.channel < n) (filter test s.limbo)) (sym long) (all-filtered (λ e. e.1.channel < length s.channels) test s.limbo is.from_channels);
+      serials = is.serials;
+    }
+
+pull_by-links : (s : LinkState) (o : Option ℕ) → IsLinks s → IsLinks (pull_by s o).1
+pull_by-links s None is = is
+pull_by-links s (Some c) is = pulled-links s (c / 2) is
+
+plug-links : (s : LinkState) (a b : End) → IsLinks s → IsLinks (plug s a b).1
+plug-links s a b is = by (may_plug s.cables a b)
+  where
+    new : LinkState
+    new = record s { cables = with_plugged s.cables a b; channels = s.channels ++ None ∷ None ∷ [] }
+
+    more : length new.channels ≡ length s.channels + 2
+    more = length-append s.channels (None ∷ None ∷ [])
+
+    by : (t : Bool) → IsLinks (pick t (true, new) (false, s)).1
+    by true =
+        let slots = is.slots in
+        let wires = length-append s.cables.wires (record { cable = record { a = a; b = b }; plugged = s.cables.changes + 1; pulled = None } ∷ []) in
+        let m = more in
+        record {
+          slots = omega (arith, slots, wires, m);
+          rising = is.rising;
+          below_next = is.below_next;
+          from_channels = all-weaker (λ e. e.1.channel < length s.channels) (λ e. e.1.channel < length new.channels) s.limbo (λ e low. omega (arith, low, m)) is.from_channels;
+          serials = is.serials;
+        }
+    by false = is
 
 pub stepped-links : (s : LinkState) (x : Step) → IsLinks s → IsLinks (stepped s x)
-stepped-links s x = (stepped-kept s x).links
-
-pub stepped_all-net : (s : LinkState) (xs : List Step) → (stepped_all s xs).net ≡ s.net
-stepped_all-net s xs = (stepped_all-kept s xs).net
+stepped-links s (Put c wire) is = (stepped-kept s (Put c wire) refl).links is
+stepped-links s (Advance c) is = (stepped-kept s (Advance c) refl).links is
+stepped-links s (Lose c) is = (stepped-kept s (Lose c) refl).links is
+stepped-links s (Reset c) is = (stepped-kept s (Reset c) refl).links is
+stepped-links s (Repeat c) is = (stepped-kept s (Repeat c) refl).links is
+stepped-links s (Hold c) is = (stepped-kept s (Hold c) refl).links is
+stepped-links s (Flip c bit pattern) is = (stepped-kept s (Flip c bit pattern) refl).links is
+stepped-links s (Replay serial) is = (stepped-kept s (Replay serial) refl).links is
+stepped-links s (Pull e) is = pull_by-links s (leaving s.cables e) is
+stepped-links s (Plug a b) is = plug-links s a b is
+stepped-links s Accept is = record { slots = is.slots; rising = is.rising; below_next = is.below_next; from_channels = is.from_channels; serials = is.serials }
 
 pub stepped_all-links : (s : LinkState) (xs : List Step) → IsLinks s → IsLinks (stepped_all s xs)
-stepped_all-links s xs = (stepped_all-kept s xs).links
+stepped_all-links s [] is = is
+stepped_all-links s (x ∷ xs) is = stepped_all-links (stepped s x) xs (stepped-links s x is)
+
+-- ---- what stays of the cables
+pub stepped-cables : (s : LinkState) (x : Step) → is_of_cables x ≡ false → (stepped s x).cables ≡ s.cables
+stepped-cables s x not = (stepped-kept s x not).cables
+
+pub stepped_all-cables : (s : LinkState) (xs : List Step) → AllByRecursion (λ x. is_of_cables x ≡ false) xs → (stepped_all s xs).cables ≡ s.cables
+stepped_all-cables s [] all = refl
+stepped_all-cables s (x ∷ xs) all = stepped_all-cables (stepped s x) xs all.1 ∙ stepped-cables s x all.0
+
+-- hosts and switches
+record SameVertices (h g : CableHistory) : Type 0 where
+  hosts : g.hosts ≡ h.hosts
+  switches : g.switches ≡ h.switches
+
+pull_by-vertices : (s : LinkState) (o : Option ℕ) → SameVertices s.cables (pull_by s o).1.cables
+pull_by-vertices s None = record { hosts = refl; switches = refl }
+pull_by-vertices s (Some c) = by (slice_get s.cables.wires (c / 2))
+  where
+    by : (o : Option Wire) → SameVertices s.cables (pulled_by s.cables (c / 2) o)
+    by None = record { hosts = refl; switches = refl }
+    by (Some w) = record { hosts = refl; switches = refl }
+
+plug-vertices : (s : LinkState) (a b : End) → SameVertices s.cables (plug s a b).1.cables
+plug-vertices s a b = by (may_plug s.cables a b)
+  where
+    by : (t : Bool) → SameVertices s.cables (pick t (true, record s { cables = with_plugged s.cables a b; channels = s.channels ++ None ∷ None ∷ [] }) (false, s)).1.cables
+    by true = record { hosts = refl; switches = refl }
+    by false = record { hosts = refl; switches = refl }
+
+kept-vertices : (s t : LinkState) → t.cables ≡ s.cables → SameVertices s.cables t.cables
+kept-vertices s t same = record { hosts = ap (λ h. h.hosts) same; switches = ap (λ h. h.switches) same }
+
+vertices : (s : LinkState) (x : Step) → SameVertices s.cables (stepped s x).cables
+vertices s (Put c wire) = kept-vertices s (stepped s (Put c wire)) (stepped-cables s (Put c wire) refl)
+vertices s (Advance c) = kept-vertices s (stepped s (Advance c)) (stepped-cables s (Advance c) refl)
+vertices s (Lose c) = kept-vertices s (stepped s (Lose c)) (stepped-cables s (Lose c) refl)
+vertices s (Reset c) = kept-vertices s (stepped s (Reset c)) (stepped-cables s (Reset c) refl)
+vertices s (Repeat c) = kept-vertices s (stepped s (Repeat c)) (stepped-cables s (Repeat c) refl)
+vertices s (Hold c) = kept-vertices s (stepped s (Hold c)) (stepped-cables s (Hold c) refl)
+vertices s (Flip c bit pattern) = kept-vertices s (stepped s (Flip c bit pattern)) (stepped-cables s (Flip c bit pattern) refl)
+vertices s (Replay serial) = kept-vertices s (stepped s (Replay serial)) (stepped-cables s (Replay serial) refl)
+vertices s (Pull e) = pull_by-vertices s (leaving s.cables e)
+vertices s (Plug a b) = plug-vertices s a b
+vertices s Accept = record { hosts = refl; switches = refl }
+
+pub stepped-vertices : (s : LinkState) (x : Step) → ((stepped s x).cables.hosts ≡ s.cables.hosts) × ((stepped s x).cables.switches ≡ s.cables.switches)
+stepped-vertices s x = let v = vertices s x in (v.hosts, v.switches)
+
+-- and a history
+pull-history : (s : LinkState) (e : End) → IsHistory s.cables → IsHistory (pull s e).1.cables
+pull-history s e is = by (leaving s.cables e) (pull_at_keeps s.cables e is)
+  where
+    by : (o : Option ℕ) → IsHistory (pulled_with s.cables o) → IsHistory (pull_by s o).1.cables
+    by None k = k
+    by (Some c) k = k
+
+plug-history : (s : LinkState) (a b : End) → IsHistory s.cables → IsHistory (plug s a b).1.cables
+plug-history s a b is = by (may_plug s.cables a b) refl
+  where
+    by : (t : Bool) → may_plug s.cables a b ≡ t → IsHistory (pick t (true, record s { cables = with_plugged s.cables a b; channels = s.channels ++ None ∷ None ∷ [] }) (false, s)).1.cables
+    by true may = plug_keeps s.cables a b is may
+    by false may = is
+
+pub stepped-history : (s : LinkState) (x : Step) → IsHistory s.cables → IsHistory (stepped s x).cables
+stepped-history s (Put c wire) is = subst IsHistory (sym (stepped-cables s (Put c wire) refl)) is
+stepped-history s (Advance c) is = subst IsHistory (sym (stepped-cables s (Advance c) refl)) is
+stepped-history s (Lose c) is = subst IsHistory (sym (stepped-cables s (Lose c) refl)) is
+stepped-history s (Reset c) is = subst IsHistory (sym (stepped-cables s (Reset c) refl)) is
+stepped-history s (Repeat c) is = subst IsHistory (sym (stepped-cables s (Repeat c) refl)) is
+stepped-history s (Hold c) is = subst IsHistory (sym (stepped-cables s (Hold c) refl)) is
+stepped-history s (Flip c bit pattern) is = subst IsHistory (sym (stepped-cables s (Flip c bit pattern) refl)) is
+stepped-history s (Replay serial) is = subst IsHistory (sym (stepped-cables s (Replay serial) refl)) is
+stepped-history s (Pull e) is = pull-history s e is
+stepped-history s (Plug a b) is = plug-history s a b is
+stepped-history s Accept is = accept_keeps s.cables is
 
 -- links without packets
 pub empty-links : (n : Network) → IsLinks (empty_links n)
-empty-links n = record { slots = length-replicate {A = Option Held} (channel_count n) None; rising = tt; below_next = tt; from_channels = tt; serials = omega arith }
+empty-links n = record { slots = length-replicate {A = Option Held} (life_channels (first_history n)) None; rising = tt; below_next = tt; from_channels = tt; serials = omega arith }
 
 no_packets : (k : ℕ) → list_all is_none (replicate {A = Option Held} k None) ≡ true
 no_packets zero = refl
 no_packets (suc k) = no_packets k
 
 pub empty-idle : (n : Network) → is_idle (empty_links n) ≡ true
-empty-idle n = no_packets (channel_count n)
+empty-idle n = no_packets (life_channels (first_history n))

@@ -1,12 +1,12 @@
 -- Packets in links, for worked examples.
 use Rattle.std.specs.Prelude.{ℕ, pos, ℤ, List, [], ◌∷◌}
 use Rattle.net_defs.specs.Network.{Network}
-use Rattle.net_defs.specs.Examples.{two_hosts, self_cabled}
+use Rattle.net_defs.specs.Examples.{two_hosts, self_cabled, host_end, switch_end}
 use Rattle.packet_defs.specs.declared.kind.Kind.TheVariants.{Mapping}
 use Rattle.packet_defs.specs.Packet.{packet_of}
 use Rattle.link_defs.specs.Links.{LinkState, empty_links, put}
 use Rattle.link_defs.specs.Advance.{advance}
-use Rattle.link_defs.specs.Fault.{hold, repeat}
+use Rattle.link_defs.specs.Fault.{hold, repeat, pull, plug}
 
 -- a mapping packet of a route, without payload
 abbrev pub probe : List ℤ → List ℕ
@@ -36,3 +36,15 @@ delayed = (hold (alone two_hosts 0 (pos 3 ∷ [])) 0).1
 -- a copy of that packet in limbo, and its channel full
 abbrev pub copied : LinkState
 copied = (repeat (alone two_hosts 0 (pos 3 ∷ [])) 0).1
+
+-- a packet of host 1 in limbo
+abbrev pub held_on_b : LinkState
+held_on_b = (hold (alone two_hosts 2 []) 2).1
+
+-- the packet of host 0 on its way, and the cable of host 1 pulled
+abbrev pub without_b : LinkState
+without_b = (pull (alone two_hosts 0 (pos 3 ∷ [])) (switch_end 0 5)).1
+
+-- and plugged again
+abbrev pub with_b : LinkState
+with_b = (plug without_b (host_end 1) (switch_end 0 5)).1

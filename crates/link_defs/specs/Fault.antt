@@ -1,7 +1,11 @@
--- What a cable may do to a packet: lose, copy, delay or flip it. Limbo keeps what is copied or delayed, until a replay.
-use Rattle.std.specs.Prelude.{ℕ, ◌+◌, ◌-◌, ◌^◌, Bool, true, false, not, ◌&&◌, nat_eq, nat_le, [], ◌∷◌, ◌++◌, find}
+-- What a cable may do to a packet: lose, copy, delay or flip it. What becomes of packets where a cable is pulled. Limbo keeps what is copied or delayed, until a replay.
+use Rattle.std.specs.Prelude.{ℕ, ◌+◌, ◌-◌, ◌*◌, ◌/◌, ◌^◌, min, Bool, true, false, not, ◌&&◌, nat_eq, nat_le, List, [], ◌∷◌, ◌++◌, find, slice_set}
+use Rattle.std.specs.List.{filter}
 use Rattle.std.specs.Prelude.{if◌then◌else◌, Option, Some, None, option_map, is_some}
 use Rattle.std.specs.Map.{lookup, remove_entry}
+use Rattle.net_defs.specs.declared.vertex.End.{End}
+use Rattle.cable_history.specs.History.{may_plug, with_plugged, with_pulled, with_accepted}
+use Rattle.cable_history.specs.Crossed.{leaving}
 use Rattle.packet_defs.specs.Burst.{flipped, may_flip}
 use Rattle.link_defs.specs.declared.replayed.Replayed.{Replayed}
 use Rattle.link_defs.specs.declared.replayed.Replayed.TheVariants.{Back, Busy, Unknown}
@@ -50,7 +54,7 @@ abbrev pub flip_of : LinkState → ℕ → ℕ → ℕ → Option Held → Bool 
 flip_of s c bit pattern None = (false, s)
 flip_of s c bit pattern (Some held) =
     if not held.marked && may_flip held.wire bit pattern
-    then (true, with_packet s c (Some (record { wire = flipped held.wire bit pattern; marked = true })))
+    then (true, with_packet s c (Some (record held { wire = flipped held.wire bit pattern; marked = true })))
     else (false, s)
 
 -- a burst flips bits of a channel's packet, once at most: true exactly where it does
@@ -80,3 +84,39 @@ replay s serial = replay_of s serial (caught_as s serial)
 -- the least serial in limbo that isn't below a number
 abbrev pub next_limbo : LinkState → ℕ → Option ℕ
 next_limbo s from = option_map (λ e. e.0) (find (λ e. nat_le from e.0) s.limbo)
+
+-- limbo without what was taken from the channels of a cable
+abbrev pub without_cable : ℕ → List (ℕ × Caught) → List (ℕ × Caught)
+without_cable k limbo = filter (λ e. not (nat_eq (e.1.channel / 2) k)) limbo
+
+-- the cable of this number is pulled, with the packets in its channels and those in limbo that were in them
+abbrev pub pulled : LinkState → ℕ → LinkState
+pulled s k = record s {
+  cables = with_pulled s.cables k;
+  channels = slice_set (slice_set s.channels (2 * k) None) (2 * k + 1) None;
+  limbo = without_cable k s.limbo;
+}
+
+-- the cable of the channel that leaves by a port is pulled
+abbrev pub pull_by : LinkState → Option ℕ → Bool × LinkState
+pull_by s None = (false, s)
+pull_by s (Some c) = (true, pulled s (c / 2))
+
+-- The cable at a port is pulled: true exactly where the port has one.
+abbrev pub pull : LinkState → End → Bool × LinkState
+pull s e = pull_by s (leaving s.cables e)
+
+-- Two ports are joined by a new cable with empty channels: true exactly where they may be.
+abbrev pub plug : LinkState → End → End → Bool × LinkState
+plug s a b =
+    if may_plug s.cables a b
+    then (true, record s { cables = with_plugged s.cables a b; channels = s.channels ++ None ∷ None ∷ [] })
+    else (false, s)
+
+-- the most epochs that are counted
+abbrev pub epoch_limit : ℕ
+epoch_limit = 2 ^ 32 - 1
+
+-- No cable is new any more, and the next epoch begins; its count stays at its last value.
+abbrev pub accept : LinkState → LinkState
+accept s = record s { cables = with_accepted s.cables; epoch = min (s.epoch + 1) epoch_limit }

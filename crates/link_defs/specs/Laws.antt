@@ -1,27 +1,17 @@
 -- What holds of every step of the links.
-use Rattle.std.specs.Prelude.{◌≡◌, ℕ, ◌<◌, Bool, true, false, List, IsSome, Some, None}
+use Rattle.std.specs.Prelude.{◌≡◌, ℕ, ◌<◌, Bool, true, false, List, IsSome, None}
+use Rattle.std.specs.List.{AllByRecursion}
 use Rattle.net_defs.specs.declared.vertex.End.{End}
-use Rattle.net_defs.specs.Network.{Network, IsFabric, far}
-use Rattle.net_defs.specs.Route.{channel_from}
+use Rattle.net_defs.specs.Network.{Network}
+use Rattle.cable_history.specs.History.{IsHistory}
 use Rattle.link_defs.specs.declared.replayed.Replayed.{Replayed}
 use Rattle.link_defs.specs.declared.replayed.Replayed.TheVariants.{Back, Busy, Unknown}
-use Rattle.link_defs.specs.Channel.{channel_count, channel_tail, channel_head}
 use Rattle.link_defs.specs.Links.{LinkState, empty_links, is_idle, packet_in, put}
 use Rattle.link_defs.specs.Advance.{advance}
-use Rattle.link_defs.specs.Fault.{lose, reset, repeat, hold, flip, replay}
+use Rattle.link_defs.specs.Fault.{lose, reset, repeat, hold, flip, replay, pull, plug}
 use Rattle.link_defs.specs.Hops.{total_hops, changes, is_stuck}
 use Rattle.link_defs.specs.Shape.{IsLinks}
-use Rattle.link_defs.specs.Step.{Step, stepped, stepped_all}
-
--- the channel that leaves by an end has it as its tail, and its head is the far end
-abbrev pub ChannelLeavesItsEnd : Type 0
-ChannelLeavesItsEnd =
-    (n : Network) (e : End) (c : ℕ) → channel_from n e ≡ Some c
-    → (channel_tail n c ≡ Some e) × (channel_head n c ≡ far n e) × (c < channel_count n)
-
--- in a fabric each channel is the one that leaves by its tail
-abbrev pub TailHasItsChannel : Type 0
-TailHasItsChannel = (n : Network) (c : ℕ) (e : End) → IsFabric n → channel_tail n c ≡ Some e → channel_from n e ≡ Some c
+use Rattle.link_defs.specs.Step.{Step, Pull, Plug, Accept, stepped, stepped_all}
 
 -- an advance that changes something lowers the hops left
 abbrev pub AdvanceLowersHops : Type 0
@@ -78,9 +68,32 @@ is_idle_replay Unknown = true
 abbrev pub IdleReplay : Type 0
 IdleReplay = (s : LinkState) (serial : ℕ) → is_idle_replay (replay s serial).0 ≡ true → (replay s serial).1 ≡ s
 
--- a step keeps the fabric
-abbrev pub StepKeepsFabric : Type 0
-StepKeepsFabric = (s : LinkState) (x : Step) → (stepped s x).net ≡ s.net
+-- a step of packets keeps the cables
+abbrev pub is_of_cables : Step → Bool
+is_of_cables (Pull e) = true
+is_of_cables (Plug a b) = true
+is_of_cables Accept = true
+is_of_cables _ = false
+
+abbrev pub StepKeepsCables : Type 0
+StepKeepsCables = (s : LinkState) (x : Step) → is_of_cables x ≡ false → (stepped s x).cables ≡ s.cables
+
+-- and every step keeps the hosts and the switches
+abbrev pub StepKeepsVertices : Type 0
+StepKeepsVertices = (s : LinkState) (x : Step)
+    → ((stepped s x).cables.hosts ≡ s.cables.hosts) × ((stepped s x).cables.switches ≡ s.cables.switches)
+
+-- and a history
+abbrev pub StepKeepsHistory : Type 0
+StepKeepsHistory = (s : LinkState) (x : Step) → IsHistory s.cables → IsHistory (stepped s x).cables
+
+-- what a pull that isn't possible does
+abbrev pub IdlePull : Type 0
+IdlePull = (s : LinkState) (e : End) → (pull s e).0 ≡ false → (pull s e).1 ≡ s
+
+-- and a plug
+abbrev pub IdlePlug : Type 0
+IdlePlug = (s : LinkState) (a b : End) → (plug s a b).0 ≡ false → (plug s a b).1 ≡ s
 
 -- the links of a fabric without packets are links, and idle
 abbrev pub EmptyIsLinks : Type 0
@@ -98,6 +111,7 @@ StepKeepsLinks = (s : LinkState) (x : Step) → IsLinks s → IsLinks (stepped s
 abbrev pub StepsKeepLinks : Type 0
 StepsKeepLinks = (s : LinkState) (xs : List Step) → IsLinks s → IsLinks (stepped_all s xs)
 
--- and their fabric is the same
-abbrev pub StepsKeepFabric : Type 0
-StepsKeepFabric = (s : LinkState) (xs : List Step) → (stepped_all s xs).net ≡ s.net
+-- after all steps of packets the cables are the same
+abbrev pub StepsKeepCables : Type 0
+StepsKeepCables = (s : LinkState) (xs : List Step) → AllByRecursion (λ x. is_of_cables x ≡ false) xs
+    → (stepped_all s xs).cables ≡ s.cables

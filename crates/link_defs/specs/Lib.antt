@@ -1,8 +1,8 @@
 pub mod Advance
-pub mod Channel
 pub mod Examples
 pub mod Fault
 pub mod Hops
+pub mod Kinds
 pub mod Laws
 pub mod Links
 pub mod Lone

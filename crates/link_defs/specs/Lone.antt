@@ -3,62 +3,71 @@ use Rattle.std.specs.Prelude.{◌≡◌, ℕ, zero, suc, ◌+◌, ◌<◌, false
 use Rattle.std.specs.List.{AllByRecursion}
 use Rattle.net_defs.specs.declared.place.Place.{Place}
 use Rattle.net_defs.specs.declared.place.Place.TheVariants.{Host as AtHostPlace, Nothing as Stuck}
-use Rattle.net_defs.specs.Network.{Network}
 use Rattle.net_defs.specs.Turn.{IsTurn}
-use Rattle.net_defs.specs.Route.{place, place_at, host_port, channel_from}
+use Rattle.net_defs.specs.Route.{place, place_at, host_port}
 use Rattle.packet_defs.specs.declared.kind.Kind.{Kind}
+use Rattle.packet_defs.specs.declared.kind.Kind.TheVariants.{Mapping}
 use Rattle.packet_defs.specs.Packet.{head, stripped, packet_of}
 use Rattle.packet_defs.specs.Host.{has_route}
 use Rattle.link_defs.specs.declared.moved.Why.{Why}
-use Rattle.link_defs.specs.declared.moved.Why.TheVariants.{OutOfRange, NotRoute, NoCable}
+use Rattle.link_defs.specs.declared.moved.Why.TheVariants.{OutOfRange, NotRoute, NoCable, NewCable}
 use Rattle.link_defs.specs.declared.moved.Course.{Course}
 use Rattle.link_defs.specs.declared.moved.Course.TheVariants.{Arrives, Enters, Drops}
 use Rattle.link_defs.specs.declared.moved.Moved.{Moved}
 use Rattle.link_defs.specs.declared.moved.Moved.TheVariants.{To, AtHost, Dropped}
-use Rattle.link_defs.specs.Channel.{channel_count, channel_head}
-use Rattle.link_defs.specs.Links.{LinkState, empty_links, with_packet}
+use Rattle.cable_history.specs.History.{CableHistory, fabric_now}
+use Rattle.cable_history.specs.Crossed.{leaving, life_channels, life_head, is_new}
+use Rattle.link_defs.specs.Links.{LinkState, bare_links, with_packet}
 use Rattle.link_defs.specs.Advance.{course, advance}
 
 -- the links with this packet alone, in a channel
-abbrev pub lone : Network → ℕ → List ℕ → LinkState
-lone n c wire = with_packet (empty_links n) c (Some (record { wire = wire; marked = false }))
+abbrev pub lone : CableHistory → ℕ → List ℕ → LinkState
+lone h c wire = with_packet (bare_links h) c (Some (record { wire = wire; marked = false; born = 0 }))
 
 -- what an advance makes of it
-abbrev pub lone_after : Network → List ℕ → Course → Moved (List ℕ) × LinkState
-lone_after n wire (Arrives h) = (AtHost h wire, empty_links n)
-lone_after n wire (Enters next) = (To next, lone n next (stripped wire))
-lone_after n wire (Drops why) = (Dropped why, empty_links n)
+abbrev pub lone_after : CableHistory → List ℕ → Course → Moved (List ℕ) × LinkState
+lone_after h wire (Arrives a) = (AtHost a wire, bare_links h)
+lone_after h wire (Enters next) = (To next, lone h next (stripped wire))
+lone_after h wire (Drops why) = (Dropped why, bare_links h)
 
 -- a packet that a switch drops since it has no turn ended at that switch
-abbrev pub dropped_place : Network → ℕ → Why → Place
-dropped_place n c NotRoute = place_at (channel_head n c)
-dropped_place n c OutOfRange = Stuck
-dropped_place n c NoCable = Stuck
+abbrev pub dropped_place : CableHistory → ℕ → Why → Place
+dropped_place h c NotRoute = place_at (life_head h c)
+dropped_place h c OutOfRange = Stuck
+dropped_place h c NoCable = Stuck
+dropped_place h c NewCable = Stuck
 
 -- where it ends: at a host it must have no route left, and from the next channel on it goes further
-abbrev pub ended_place : Network → ℕ → List ℕ → (ℕ → Place) → Course → Place
-ended_place n c wire further (Arrives h) = if has_route (head wire) then Stuck else AtHostPlace h
-ended_place n c wire further (Enters next) = further next
-ended_place n c wire further (Drops why) = dropped_place n c why
+abbrev pub ended_place : CableHistory → ℕ → List ℕ → (ℕ → Place) → Course → Place
+ended_place h c wire further (Arrives a) = if has_route (head wire) then Stuck else AtHostPlace a
+ended_place h c wire further (Enters next) = further next
+ended_place h c wire further (Drops why) = dropped_place h c why
 
 -- Where a packet alone ends, from a channel on, within so many advances.
-abbrev pub lone_place : ℕ → Network → ℕ → List ℕ → Place
-lone_place zero n c wire = Stuck
-lone_place (suc k) n c wire = ended_place n c wire (λ next. lone_place k n next (stripped wire)) (course n c wire)
+abbrev pub lone_place : ℕ → CableHistory → ℕ → List ℕ → Place
+lone_place zero h c wire = Stuck
+lone_place (suc k) h c wire = ended_place h c wire (λ next. lone_place k h next (stripped wire)) (course h c wire)
 
 -- an advance of the packet's channel is its course
 abbrev pub LoneAdvance : Type 0
-LoneAdvance = (n : Network) (c : ℕ) (wire : List ℕ) → c < channel_count n
-    → advance (lone n c wire) c ≡ lone_after n wire (course n c wire)
+LoneAdvance = (h : CableHistory) (c : ℕ) (wire : List ℕ) → c < life_channels h
+    → advance (lone h c wire) c ≡ lone_after h wire (course h c wire)
 
--- the packet of a route ends at the place of the walk
+-- a mapper's packet ends at the place of its route in the fabric as it stands
 abbrev pub LonePacketWalks : Type 0
 LonePacketWalks =
-    (n : Network) (host : ℕ) (route : List ℤ) (kind : Kind) (payload : List ℕ) (c : ℕ)
-    → AllByRecursion IsTurn route → channel_from n (host_port host) ≡ Some c
-    → lone_place (length route + 1) n c (packet_of route kind payload) ≡ place n host route
+    (h : CableHistory) (host : ℕ) (route : List ℤ) (payload : List ℕ) (c : ℕ)
+    → AllByRecursion IsTurn route → leaving h (host_port host) ≡ Some c
+    → lone_place (length route + 1) h c (packet_of route Mapping payload) ≡ place (fabric_now h) host route
+
+-- and where no cable in place is new, so does every packet
+abbrev pub LonePacketWalksWhereNoneIsNew : Type 0
+LonePacketWalksWhereNoneIsNew =
+    (h : CableHistory) (host : ℕ) (route : List ℤ) (kind : Kind) (payload : List ℕ) (c : ℕ)
+    → ((d : ℕ) → is_new h d ≡ false) → AllByRecursion IsTurn route → leaving h (host_port host) ≡ Some c
+    → lone_place (length route + 1) h c (packet_of route kind payload) ≡ place (fabric_now h) host route
 
 -- and without a channel the walk is stuck
 abbrev pub NoChannelIsStuck : Type 0
-NoChannelIsStuck = (n : Network) (host : ℕ) (route : List ℤ) → channel_from n (host_port host) ≡ None
-    → place n host route ≡ Stuck
+NoChannelIsStuck = (h : CableHistory) (host : ℕ) (route : List ℤ) → leaving h (host_port host) ≡ None
+    → place (fabric_now h) host route ≡ Stuck

@@ -1,7 +1,7 @@
--- What makes links those of a fabric.
+-- What makes links those of their cables.
 use Rattle.std.specs.Prelude.{◌≡◌, ℕ, ◌<◌, ◌^◌, List, [], ◌∷◌, length}
 use Rattle.std.specs.List.{AllByRecursion}
-use Rattle.link_defs.specs.Channel.{channel_count}
+use Rattle.cable_history.specs.Crossed.{life_channels}
 use Rattle.link_defs.specs.Links.{Caught, LinkState}
 
 -- serials rise
@@ -11,7 +11,7 @@ Rise (e ∷ es) = AllByRecursion (λ d. e.0 < d.0) es × Rise es
 
 -- The channels are those of the cables, and limbo has rising serials below the next, and channels that exist.
 pub record IsLinks (s : LinkState) : Type 0 where
-  pub slots : length s.channels ≡ channel_count s.net
+  pub slots : length s.channels ≡ life_channels s.cables
   pub rising : Rise s.limbo
   pub below_next : AllByRecursion (λ e. e.0 < s.next_serial) s.limbo
   pub from_channels : AllByRecursion (λ e. e.1.channel < length s.channels) s.limbo

@@ -2,30 +2,23 @@
 
 ghost use Rattle.std.specs.Prelude.{◌≡◌, ◌∷◌, [], ◌+◌, pos, negsuc, true, false};
 ghost use Rattle.net_defs.specs.Examples.{two_hosts, self_cabled, host_end, switch_end};
-ghost use Rattle.link_defs.specs.Channel.{channel_count, channel_tail, channel_head};
+ghost use Rattle.cable_history.specs.History.{first_history};
 ghost use Rattle.link_defs.specs.Switch.{aim, after_aim};
 ghost use Rattle.link_defs.specs.Links.{packet_in, empty_links, is_idle, put};
 ghost use Rattle.link_defs.specs.Advance.{advance, course};
-ghost use Rattle.link_defs.specs.Fault.{lose, reset, repeat, hold, flip, replay, next_limbo};
+ghost use Rattle.link_defs.specs.Fault.{lose, reset, repeat, hold, flip, replay, next_limbo, caught_as, pull, plug, accept};
 ghost use Rattle.link_defs.specs.Hops.{hops_left, total_hops, is_stuck};
 ghost use Rattle.link_defs.specs.Lone.{lone_place};
 ghost use Rattle.net_defs.specs.declared.place.Place.{Place};
+ghost use Rattle.packet_defs.specs.declared.kind.Kind.{Kind};
+ghost use Rattle.packet_defs.specs.Packet.{packet_of};
 ghost use Rattle.link_defs.specs.Examples.{probe, alone, advanced, in_the_way, face_to_face, delayed, copied};
+ghost use Rattle.link_defs.specs.Examples.{held_on_b, without_b, with_b};
 ghost use Rattle.link_defs.specs.declared.turned.Turned.{Turned};
 ghost use Rattle.link_defs.specs.declared.moved.Why.{Why};
 ghost use Rattle.link_defs.specs.declared.moved.Course.{Course};
 ghost use Rattle.link_defs.specs.declared.moved.Moved.{Moved};
 ghost use Rattle.link_defs.specs.declared.replayed.Replayed.{Replayed};
-
-/// The four channels of two hosts at a switch.
-pub fn channels_of_two_hosts()
-    ensures four { channel_count two_hosts ≡ 4 }
-    ensures from_the_host { channel_tail two_hosts 0 ≡ Some (host_end 0) }
-    ensures to_the_switch { channel_head two_hosts 0 ≡ Some (switch_end 0 2) }
-    ensures from_the_switch { channel_tail two_hosts 3 ≡ Some (switch_end 0 5) }
-    ensures to_the_host { channel_head two_hosts 3 ≡ Some (host_end 1) }
-    ensures no_more { channel_tail two_hosts 4 ≡ None }
-{}
 
 /// Where a switch of eight ports sends a packet that entered by port 6.
 pub fn aims()
@@ -55,7 +48,7 @@ pub fn dropped_packets()
     ensures out_of_range { (advance (alone two_hosts 0 (pos 6 ∷ [])) 0).0 ≡ Moved.Dropped Why.OutOfRange }
     ensures no_cable { (advance (alone two_hosts 0 (pos 4 ∷ [])) 0).0 ≡ Moved.Dropped Why.NoCable }
     ensures gone { is_idle (advance (alone two_hosts 0 (pos 4 ∷ [])) 0).1 ≡ true }
-    ensures course { course two_hosts 0 (probe (pos 4 ∷ [])) ≡ Course.Drops Why.NoCable }
+    ensures course { course (first_history two_hosts) 0 (probe (pos 4 ∷ [])) ≡ Course.Drops Why.NoCable }
 {}
 
 /// A packet enters again the channel that it leaves; on a full channel it waits, and two that wait for each other are
@@ -75,12 +68,12 @@ pub fn blocked_packets()
 
 /// Where a packet alone ends, from the channel of host 0 on.
 pub fn places_of_lone_packets()
-    ensures other_host { lone_place 2 two_hosts 0 (probe (pos 3 ∷ [])) ≡ Place.Host 1 }
-    ensures switch { lone_place 1 two_hosts 0 (probe []) ≡ Place.Switch 0 2 }
-    ensures back { lone_place 2 two_hosts 0 (probe (pos 0 ∷ [])) ≡ Place.Host 0 }
-    ensures outside { lone_place 2 two_hosts 0 (probe (pos 6 ∷ [])) ≡ Place.Nothing }
-    ensures past_a_host { lone_place 3 two_hosts 0 (probe (pos 3 ∷ pos 1 ∷ [])) ≡ Place.Nothing }
-    ensures self_cabled { lone_place 4 self_cabled 0 (probe (pos 3 ∷ pos 1 ∷ negsuc 0 ∷ [])) ≡ Place.Switch 1 2 }
+    ensures other_host { lone_place 2 (first_history two_hosts) 0 (probe (pos 3 ∷ [])) ≡ Place.Host 1 }
+    ensures switch { lone_place 1 (first_history two_hosts) 0 (probe []) ≡ Place.Switch 0 2 }
+    ensures back { lone_place 2 (first_history two_hosts) 0 (probe (pos 0 ∷ [])) ≡ Place.Host 0 }
+    ensures outside { lone_place 2 (first_history two_hosts) 0 (probe (pos 6 ∷ [])) ≡ Place.Nothing }
+    ensures past_a_host { lone_place 3 (first_history two_hosts) 0 (probe (pos 3 ∷ pos 1 ∷ [])) ≡ Place.Nothing }
+    ensures self_cabled { lone_place 4 (first_history self_cabled) 0 (probe (pos 3 ∷ pos 1 ∷ negsuc 0 ∷ [])) ≡ Place.Switch 1 2 }
 {}
 
 /// What a cable may do to the packet of host 0.
@@ -105,9 +98,28 @@ pub fn faults()
 pub fn flips()
     ensures flipped { (flip (alone two_hosts 0 (pos 3 ∷ [])) 0 6 193).0 ≡ true }
     ensures wire { packet_in (flip (alone two_hosts 0 (pos 3 ∷ [])) 0 6 193).1 0
-        ≡ Some (record { wire = 128 ∷ 4 ∷ 5 ∷ 173 ∷ []; marked = true }) }
+        ≡ Some (record { wire = 128 ∷ 4 ∷ 5 ∷ 173 ∷ []; marked = true; born = 0 }) }
     ensures once { (flip (flip (alone two_hosts 0 (pos 3 ∷ [])) 0 6 193).1 0 6 193).0 ≡ false }
     ensures no_pattern { (flip (alone two_hosts 0 (pos 3 ∷ [])) 0 6 0).0 ≡ false }
     ensures past_the_end { (flip (alone two_hosts 0 (pos 3 ∷ [])) 0 25 1).0 ≡ false }
     ensures no_packet { (flip (empty_links two_hosts) 0 6 193).0 ≡ false }
+{}
+
+/// The cable of host b is pulled with what it holds, and another is plugged: it takes packets of mapping alone until
+/// the cables are accepted.
+pub fn changed_cables()
+    ensures pulled { (pull (alone two_hosts 2 []) (switch_end 0 5)).0 ≡ true }
+    ensures with_its_packet { is_idle (pull (alone two_hosts 2 []) (switch_end 0 5)).1 ≡ true }
+    ensures with_its_limbo { caught_as (pull held_on_b (switch_end 0 5)).1 0 ≡ None }
+    ensures others_stay { packet_in without_b 0 ≡ packet_in (alone two_hosts 0 (pos 3 ∷ [])) 0 }
+    ensures no_cable { (advance without_b 0).0 ≡ Moved.Dropped Why.NoCable }
+    ensures pulled_once { pull without_b (host_end 1) ≡ (false, without_b) }
+    ensures plugged { (plug without_b (host_end 1) (switch_end 0 5)).0 ≡ true }
+    ensures used_port { plug with_b (host_end 1) (switch_end 0 4) ≡ (false, with_b) }
+    ensures probe_enters { (advance with_b 0).0 ≡ Moved.To 5 }
+    ensures message_is_dropped { course with_b.cables 0 (packet_of (pos 3 ∷ []) Kind.Gm []) ≡ Course.Drops Why.NewCable }
+    ensures accepted { course (accept with_b).cables 0 (packet_of (pos 3 ∷ []) Kind.Gm []) ≡ Course.Enters 5 }
+    ensures next_epoch { (accept with_b).epoch ≡ 1 }
+    ensures born_then { packet_in (put (accept with_b) 1 []).1 1
+        ≡ Some (record { wire = []; marked = false; born = 1 }) }
 {}

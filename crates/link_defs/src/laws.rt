@@ -1,20 +1,13 @@
 //! What holds of every step of the links: each function's contract is the law, and its body is empty.
 //! `specs/Laws.antt` has the statements.
 
-ghost use Rattle.link_defs.specs.Laws.{ChannelLeavesItsEnd, TailHasItsChannel, AdvanceLowersHops, StillAdvance};
+ghost use Rattle.link_defs.specs.Laws.{AdvanceLowersHops, StillAdvance};
 ghost use Rattle.link_defs.specs.Laws.{NoHopsIsIdle, StuckIsStill, StillIsStuck, RefusedPut, IdleLose, IdleReset};
-ghost use Rattle.link_defs.specs.Laws.{IdleRepeat, IdleHold, IdleFlip, IdleReplay, EmptyIsLinks, EmptyIsIdle};
-ghost use Rattle.link_defs.specs.Laws.{StepKeepsFabric, StepKeepsLinks, StepsKeepFabric, StepsKeepLinks};
-ghost use Rattle.link_defs.specs.Lone.{LoneAdvance, LonePacketWalks, NoChannelIsStuck};
+ghost use Rattle.link_defs.specs.Laws.{IdleRepeat, IdleHold, IdleFlip, IdleReplay, IdlePull, IdlePlug, EmptyIsLinks, EmptyIsIdle};
+ghost use Rattle.link_defs.specs.Laws.{StepKeepsCables, StepKeepsVertices, StepKeepsHistory, StepKeepsLinks, StepsKeepCables, StepsKeepLinks};
+ghost use Rattle.link_defs.specs.Lone.{LoneAdvance, LonePacketWalks, LonePacketWalksWhereNoneIsNew, NoChannelIsStuck};
 ghost use Rattle.link_defs.specs.Ordered.{NextIsLeast, NoNextIsLeft, NewSerialIsLast, FoundByOrder, TakenByOrder};
 ghost use Rattle.link_defs.specs.Mark.{EmptyHasTrueMarks, MarksStayTrue};
-
-/// A channel leaves by its tail and enters by the far end, and in a fabric each channel is the one that leaves by its
-/// tail.
-pub fn ends_of_channels()
-    ensures ends { ChannelLeavesItsEnd }
-    ensures back { TailHasItsChannel }
-{}
 
 /// An advance lowers the hops left of all packets, or changes nothing.
 pub fn falling_hops()
@@ -38,15 +31,20 @@ pub fn idle_steps()
     ensures hold { IdleHold }
     ensures flip { IdleFlip }
     ensures replay { IdleReplay }
+    ensures pull { IdlePull }
+    ensures plug { IdlePlug }
 {}
 
-/// After every list of steps the fabric is the same, and the links are links.
+/// After every list of steps the links are links. A step of packets keeps the cables; each keeps the hosts and the
+/// switches, and a history.
 pub fn kept_by_steps()
     ensures empty { EmptyIsLinks }
     ensures empty_idle { EmptyIsIdle }
-    ensures fabric { StepKeepsFabric }
+    ensures cables { StepKeepsCables }
+    ensures vertices { StepKeepsVertices }
+    ensures history { StepKeepsHistory }
     ensures links { StepKeepsLinks }
-    ensures fabric_after_all { StepsKeepFabric }
+    ensures cables_after_all { StepsKeepCables }
     ensures links_after_all { StepsKeepLinks }
 {}
 
@@ -54,6 +52,7 @@ pub fn kept_by_steps()
 pub fn lone_packets()
     ensures advance { LoneAdvance }
     ensures place { LonePacketWalks }
+    ensures unchanged { LonePacketWalksWhereNoneIsNew }
     ensures no_channel { NoChannelIsStuck }
 {}
 

@@ -3,8 +3,8 @@
 //!
 //! This crate holds definitions and the small types that they speak of. It moves no packet.
 //! `specs/Links.antt` says what the links of a fabric are, `specs/Switch.antt` where a switch sends a packet,
-//! `specs/Advance.antt` what a step does, `specs/Fault.antt` what a loss, a copy, a delay, a flip and a replay do,
-//! and `specs/Hops.antt` how far packets may still go.
+//! `specs/Advance.antt` what a step does, `specs/Fault.antt` what a loss, a copy, a delay, a flip and a replay do, and what a pulled and a plugged
+//! cable, and `specs/Hops.antt` how far packets may still go.
 //!
 //! ```text
 //!            channel 0 ->            channel 3 ->
@@ -22,12 +22,11 @@ mod replayed;
 mod turned;
 
 pub use examples::{
-    aims, blocked_packets, channels_of_two_hosts, dropped_packets, faults, flips,
+    aims, blocked_packets, changed_cables, dropped_packets, faults, flips,
     packet_to_the_other_host, places_of_lone_packets,
 };
 pub use laws::{
-    ends_of_channels, falling_hops, idle_steps, kept_by_steps, limbo_in_order, lone_packets,
-    stuck_links, true_marks,
+    falling_hops, idle_steps, kept_by_steps, limbo_in_order, lone_packets, stuck_links, true_marks,
 };
 pub use moved::{Course, Moved, Why};
 pub use replayed::Replayed;

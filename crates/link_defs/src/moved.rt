@@ -9,6 +9,8 @@ pub enum Why {
     NotRoute,
     /// The port has no cable.
     NoCable,
+    /// The cable is new, and the packet isn't of mapping.
+    NewCable,
 }
 
 /// Where a packet goes from its channel, whatever the other channels hold.

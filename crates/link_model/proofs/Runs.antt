@@ -4,14 +4,14 @@ use Rattle.std.specs.List.{prefix_len}
 use Rattle.std.proofs.Math.ListN.{length-set}
 use Rattle.std.proofs.lemmas.List.{length-take, get_or-set_same, get_or-set_other}
 use Rattle.std.proofs.lemmas.Bool.Decides.{Decides-eqb}
-use Rattle.net_defs.specs.Network.{Network}
 use Rattle.packet_defs.specs.RouteByte.{is_route_byte}
 use Rattle.packet_defs.specs.Packet.{head, stripped}
 use Rattle.link_defs.specs.declared.moved.Course.{Course}
 use Rattle.link_defs.specs.declared.moved.Course.TheVariants.{Arrives, Enters, Drops}
 use Rattle.link_defs.specs.declared.moved.Moved.{Moved}
 use Rattle.link_defs.specs.declared.moved.Moved.TheVariants.{To, AtHost, Dropped, Blocked, Empty}
-use Rattle.link_defs.specs.Channel.{channel_count, channel_head}
+use Rattle.cable_history.specs.History.{CableHistory}
+use Rattle.cable_history.specs.Crossed.{life_channels, life_head}
 use Rattle.link_defs.specs.Shape.{IsLinks}
 use Rattle.link_defs.specs.Links.{Held, LinkState, packet_in, with_packet, emptied}
 use Rattle.link_defs.specs.Advance.{course, entered, gone_on, advance_of, advance}
@@ -77,7 +77,7 @@ gone_on-leaves s c held (Drops why) = record { others = gone-leaves s c; long = 
 
 advance_of-leaves : (s : LinkState) (c : ℕ) (o : Option Held) → Leaves s c (advance_of s c o)
 advance_of-leaves s c None = record { others = λ others. others; long = refl }
-advance_of-leaves s c (Some held) = gone_on-leaves s c held (course s.net c held.wire)
+advance_of-leaves s c (Some held) = gone_on-leaves s c held (course s.cables c held.wire)
 
 pub advance-leaves : (s : LinkState) (c : ℕ) → Leaves s c (advance s c)
 advance-leaves s c = advance_of-leaves s c (packet_in s c)
@@ -104,9 +104,9 @@ moved-below s t c next went = by (packet_in s c) refl
 
 -- ---- a packet on its way by its own bytes
 -- the channels that it enters are there
-along-below : (n : Network) (c hops at : ℕ) (wire now : List ℕ) → IsSentAlong n c wire hops at now → c < channel_count n → at < channel_count n
-along-below n c hops at wire now IsSentAlong.not_yet low = low
-along-below n c hops at wire now (IsSentAlong.one_more {hops = k} {at = b} {next = d} {now = bytes} before to) low = course-below n b bytes d to
+along-below : (h : CableHistory) (c hops at : ℕ) (wire now : List ℕ) → IsSentAlong h c wire hops at now → c < life_channels h → at < life_channels h
+along-below h c hops at wire now IsSentAlong.not_yet low = low
+along-below h c hops at wire now (IsSentAlong.one_more {hops = k} {at = b} {next = d} {now = bytes} before to) low = course-below h b bytes d to
 
 -- What advances in a row leave.
 pub record RunsOut (s t : LinkState) (c hops at : ℕ) : Type 0 where
@@ -128,7 +128,7 @@ moved-there s c held at wire low =
     get_or-set_same (emptied s c).channels at (Some (record held { wire = wire })) None (omega (arith, low, long))
 
 along-run : (s : LinkState) (c : ℕ) (held : Held) (hops at : ℕ) (now : List ℕ) → IsLinks s → c < length s.channels → packet_in s c ≡ Some held → AreOthersEmpty s c
-    → IsSentAlong s.net c held.wire hops at now → IsRun s c hops at (moved_to s c held at now)
+    → IsSentAlong s.cables c held.wire hops at now → IsRun s c hops at (moved_to s c held at now)
 along-run s c held hops at now links low there others IsSentAlong.not_yet =
     let back : moved_to s c held c held.wire ≡ s = ap (λ l. record s { channels = l }) (set-back s.channels c held there) in
     subst (IsRun s c 0 c) (sym back) IsRun.not_begun
@@ -136,7 +136,7 @@ along-run s c held hops at now links low there others (IsSentAlong.one_more {hop
     let h : Held = record held { wire = bytes } in
     let t : LinkState = moved_to s c held b bytes in
     let slots = links.slots in
-    let below = along-below s.net c n b held.wire bytes before (omega (arith, low, slots)) in
+    let below = along-below s.cables c n b held.wire bytes before (omega (arith, low, slots)) in
     let here : packet_in t b ≡ Some h = moved-there s c held b bytes (omega (arith, below, slots)) in
     let gone : emptied t b ≡ emptied s c =
     ap (λ l. record s { channels = l }) (set-set (emptied s c).channels b (Some h) None ∙ set-same (emptied s c).channels b None (emptied-none s c others b)) in
@@ -146,23 +146,23 @@ along-run s c held hops at now links low there others (IsSentAlong.one_more {hop
     IsRun.further (along-run s c held n b bytes links low there others before) went
 
 -- it goes no further where its course leads into no channel
-run-ends : (s : LinkState) (c : ℕ) (held : Held) → packet_in s c ≡ Some held → ((next : ℕ) → course s.net c held.wire ≢ Enters next) → (next : ℕ) → (advance s c).0 ≢ To next
-run-ends s c held there not next is = by (course s.net c held.wire) refl
+run-ends : (s : LinkState) (c : ℕ) (held : Held) → packet_in s c ≡ Some held → ((next : ℕ) → course s.cables c held.wire ≢ Enters next) → (next : ℕ) → (advance s c).0 ≢ To next
+run-ends s c held there not next is = by (course s.cables c held.wire) refl
   where
-    goes : (to : Course) → course s.net c held.wire ≡ to → (gone_on s c held to).0 ≡ To next
+    goes : (to : Course) → course s.cables c held.wire ≡ to → (gone_on s c held to).0 ≡ To next
     goes to e = sym (ap (λ o. (advance_of s c o).0) there ∙ ap (λ x. (gone_on s c held x).0) e) ∙ is
 
-    by : (to : Course) → course s.net c held.wire ≡ to → ⊥
+    by : (to : Course) → course s.cables c held.wire ≡ to → ⊥
     by (Arrives h) e = let f : AtHost h held.wire ≡ To next = goes (Arrives h) e in cc
     by (Enters d) e = not d e
     by (Drops why) e = let f : Dropped why ≡ To next = goes (Drops why) e in cc
 
 pub runs-out : (s : LinkState) (c : ℕ) (held : Held) (hops at : ℕ) (now : List ℕ) → IsLinks s → IsLone s.channels c → packet_in s c ≡ Some held
-    → IsSentAlong s.net c held.wire hops at now → ((next : ℕ) → course s.net at now ≢ Enters next) → RunsOut s (moved_to s c held at now) c hops at
+    → IsSentAlong s.cables c held.wire hops at now → ((next : ℕ) → course s.cables at now ≢ Enters next) → RunsOut s (moved_to s c held at now) c hops at
 runs-out s c held hops at now links lone there along not =
     let slots = links.slots in
     let low = lone.there in
-    let below = along-below s.net c hops at held.wire now along (omega (arith, low, slots)) in
+    let below = along-below s.cables c hops at held.wire now along (omega (arith, low, slots)) in
     let here = moved-there s c held at now (omega (arith, below, slots)) in
     let long = moved-long s c held at now in
     record {
@@ -196,26 +196,26 @@ pub hops-most : (wire : List ℕ) (size : ℕ) → size ≡ length wire → 0 < 
 hops-most wire size is some few = let h = hops-few wire (omega (arith, is, some)) in omega (arith, h, is, few)
 
 -- A packet under way: where it is, and that each hop took one of those that it had left.
-pub record Following (n : Network) (c : ℕ) (first now : List ℕ) (hops at : ℕ) : Type 0 where
-  pub along : IsSentAlong n c first hops at now
-  pub there : at < channel_count n
+pub record Following (h : CableHistory) (c : ℕ) (first now : List ℕ) (hops at : ℕ) : Type 0 where
+  pub along : IsSentAlong h c first hops at now
+  pub there : at < life_channels h
   pub few : hops + hops_left now ≤ hops_left first
 
-pub following-none : (n : Network) (c : ℕ) (wire : List ℕ) → c < channel_count n → Following n c wire wire 0 c
-following-none n c wire low = record { along = IsSentAlong.not_yet; there = low; few = omega arith }
+pub following-none : (h : CableHistory) (c : ℕ) (wire : List ℕ) → c < life_channels h → Following h c wire wire 0 c
+following-none h c wire low = record { along = IsSentAlong.not_yet; there = low; few = omega arith }
 
 -- a hop takes one
-pub hop-fewer : (n : Network) (at next : ℕ) (now after : List ℕ) → course n at now ≡ Enters next → after ≡ stripped now → hops_left now ≡ 1 + hops_left after
-hop-fewer n at next now after to is =
-    let turn = course_into-enters n (channel_head n at) now next to in
+pub hop-fewer : (h : CableHistory) (at next : ℕ) (now after : List ℕ) → course h at now ≡ Enters next → after ≡ stripped now → hops_left now ≡ 1 + hops_left after
+hop-fewer h at next now after to is =
+    let turn = course_into-enters h (life_head h at) now next to in
     hops_left-stripped now turn.0 turn.1 ∙ ap (λ w. 1 + hops_left w) (sym is)
 
-pub following-on : (n : Network) (c : ℕ) (first now after : List ℕ) (hops at next more : ℕ) → Following n c first now hops at → course n at now ≡ Enters next → after ≡ stripped now → more ≡ hops + 1 → Following n c first after more next
-following-on n c first now after hops at next more f to is count =
+pub following-on : (h : CableHistory) (c : ℕ) (first now after : List ℕ) (hops at next more : ℕ) → Following h c first now hops at → course h at now ≡ Enters next → after ≡ stripped now → more ≡ hops + 1 → Following h c first after more next
+following-on h c first now after hops at next more f to is count =
     let few = f.few in
-    let fewer = hop-fewer n at next now after to is in
+    let fewer = hop-fewer h at next now after to is in
     record {
-      along = subst (λ k. IsSentAlong n c first k next after) (sym count) (subst (IsSentAlong n c first (hops + 1) next) (sym is) (IsSentAlong.one_more f.along to));
-      there = course-below n at now next to;
+      along = subst (λ k. IsSentAlong h c first k next after) (sym count) (subst (IsSentAlong h c first (hops + 1) next) (sym is) (IsSentAlong.one_more f.along to));
+      there = course-below h at now next to;
       few = omega (arith, few, fewer, count);
     }

@@ -2,7 +2,7 @@
 use Rattle.std.specs.Prelude.{◌≡◌, ℕ, List, [], Option, Some, None, if◌then◌else◌}
 use Rattle.net_defs.specs.declared.place.Place.{Place}
 use Rattle.net_defs.specs.declared.place.Place.TheVariants.{Host as AtHostPlace, Nothing as Stuck}
-use Rattle.net_defs.specs.Network.{Network}
+use Rattle.cable_history.specs.History.{CableHistory}
 use Rattle.packet_defs.specs.Packet.{head}
 use Rattle.packet_defs.specs.Host.{has_route}
 use Rattle.link_defs.specs.declared.moved.Moved.{Moved}
@@ -21,12 +21,12 @@ wire_in s c = wire_of (packet_in s c)
 
 -- the links hold the packet of this channel and nothing else
 abbrev pub IsAlone : LinkState → ℕ → Type 0
-IsAlone s c = s ≡ lone s.net c (wire_in s c)
+IsAlone s c = s ≡ lone s.cables c (wire_in s c)
 
 -- where a packet ended that a step of its channel took out of the links
-abbrev pub left_at : Network → ℕ → Moved (List ℕ) → Place
-left_at n c (AtHost h wire) = if has_route (head wire) then Stuck else AtHostPlace h
-left_at n c (Dropped why) = dropped_place n c why
-left_at n c (To next) = Stuck
-left_at n c (Blocked next) = Stuck
-left_at n c Empty = Stuck
+abbrev pub left_at : CableHistory → ℕ → Moved (List ℕ) → Place
+left_at h c (AtHost a wire) = if has_route (head wire) then Stuck else AtHostPlace a
+left_at h c (Dropped why) = dropped_place h c why
+left_at h c (To next) = Stuck
+left_at h c (Blocked next) = Stuck
+left_at h c Empty = Stuck

@@ -1,6 +1,8 @@
 -- A hop: an advance of a packet that another channel takes, or that waits for one.
-use Rattle.std.specs.Prelude.{◌≡◌, ℕ, ◌+◌, Bool, true, false, List, Option, Some, None}
-use Rattle.net_defs.specs.Network.{Network}
+use Rattle.std.specs.Prelude.{◌≡◌, ℕ, ◌+◌, Bool, true, false, List, Option, Some, None, ◌&&◌, not, if◌then◌else◌}
+use Rattle.cable_history.specs.History.{CableHistory}
+use Rattle.cable_history.specs.Crossed.{is_new}
+use Rattle.link_defs.specs.Kinds.{is_mapping}
 use Rattle.packet_defs.specs.Packet.{stripped}
 use Rattle.link_defs.specs.declared.moved.Course.{Course}
 use Rattle.link_defs.specs.declared.moved.Course.TheVariants.{Arrives, Enters, Drops}
@@ -30,16 +32,21 @@ entered_by (Arrives h) = None
 entered_by (Enters next) = Some next
 entered_by (Drops why) = None
 
+-- the channel that a packet may enter of one that its turn leads to: a new one takes packets of mapping alone
+abbrev pub passing : CableHistory → List ℕ → Option ℕ → Option ℕ
+passing h wire None = None
+passing h wire (Some next) = if is_new h next && not (is_mapping wire) then None else Some next
+
 -- a switch sends a channel's packet on into a channel
-abbrev pub IsSentOn : Network → ℕ → List ℕ → Type 0
-IsSentOn n c wire = (next : ℕ) × (course n c wire ≡ Enters next)
+abbrev pub IsSentOn : CableHistory → ℕ → List ℕ → Type 0
+IsSentOn h c wire = (next : ℕ) × (course h c wire ≡ Enters next)
 
 -- Hops of a packet by its own bytes, whatever the channels hold: from a channel with these bytes, in so many hops, to
 -- this channel with those.
-pub data IsSentAlong (n : Network) (c : ℕ) (wire : List ℕ) : ℕ → ℕ → List ℕ → Type 0 where
-  not_yet : IsSentAlong n c wire 0 c wire
-  one_more : {hops at next : ℕ} {now : List ℕ} → IsSentAlong n c wire hops at now → course n at now ≡ Enters next
-      → IsSentAlong n c wire (hops + 1) next (stripped now)
+pub data IsSentAlong (h : CableHistory) (c : ℕ) (wire : List ℕ) : ℕ → ℕ → List ℕ → Type 0 where
+  not_yet : IsSentAlong h c wire 0 c wire
+  one_more : {hops at next : ℕ} {now : List ℕ} → IsSentAlong h c wire hops at now → course h at now ≡ Enters next
+      → IsSentAlong h c wire (hops + 1) next (stripped now)
 
 -- So many advances in a row, the first of this channel and each other of the channel that the packet entered by the one
 -- before, lead to this channel and these links.

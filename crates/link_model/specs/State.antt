@@ -1,8 +1,9 @@
 -- The state of the link machine by its parts.
 use Rattle.std.specs.Prelude.{ℕ, List, Option}
-use Rattle.net_defs.specs.Network.{Network}
+use Rattle.cable_history.specs.History.{CableHistory}
 use Rattle.link_defs.specs.Links.{Held, Caught, LinkState}
 
 -- the links by their parts
-abbrev pub state : Network → List (Option Held) → List (ℕ × Caught) → ℕ → LinkState
-state net channels limbo serial = record { net = net; channels = channels; limbo = limbo; next_serial = serial }
+abbrev pub state : CableHistory → ℕ → List (Option Held) → List (ℕ × Caught) → ℕ → LinkState
+state cables epoch channels limbo serial =
+    record { cables = cables; epoch = epoch; channels = channels; limbo = limbo; next_serial = serial }

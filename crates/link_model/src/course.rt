@@ -1,41 +1,50 @@
 //! Where a channel's packet goes, whatever the other channels hold.
 
-ghost use Rattle.std.specs.Prelude.{◌≡◌, ◌≢◌, ◌<◌, ◌≤◌, ℕ, slice_get, true, IsSome};
+ghost use Rattle.std.specs.Prelude.{◌≡◌, ◌≢◌, ◌<◌, ◌≤◌, ◌&&◌, not, ℕ, slice_get, drop, true, Some, IsSome, IfSome};
+ghost use Rattle.std.specs.List.{prefix_len};
 ghost use Rattle.net_defs.specs.Network.{has_port, is_port_count, ports_of};
 ghost use Rattle.packet_defs.specs.Packet.{front_turn, head, stripped};
+ghost use Rattle.packet_defs.specs.RouteByte.{is_route_byte};
 ghost use Rattle.link_defs.specs.Switch.{aim, after_aim};
-ghost use Rattle.link_defs.specs.Channel.{channel_count};
-ghost use Rattle.link_defs.specs.Advance.{course, course_out};
-ghost use Rattle.link_model.specs.Hop.{IsSentOn, IsSentAlong, entered_by};
+ghost use Rattle.cable_history.specs.History.{fabric_now};
+ghost use Rattle.cable_history.specs.Crossed.{life_channels, is_new};
+ghost use Rattle.link_defs.specs.Kinds.{is_mapping, is_of_mapping, kind_in};
+ghost use Rattle.link_defs.specs.Advance.{course, course_out, course_by_channel};
+ghost use Rattle.link_model.specs.Hop.{IsSentOn, IsSentAlong, entered_by, passing};
 
-use crate::fixed::FixedWiring;
 use crate::hop::Run;
 use channel_slots::Slot;
 use crossbar::{aim_by, turn};
+use fabric_wiring::Wiring;
 use link_defs::{Course, Turned, Why};
 use myri_packet::Packet;
 use net_defs::Vertex;
+use turn_bytes::is_route_byte;
+
+// The type number of packets of mapping.
+const MAPPING: u16 = 5;
 
 /// Over the channel's cable it arrives at a host, or a switch sends it on by its front byte.
-pub(crate) fn course(wiring: &FixedWiring, c: u16, p: &Packet) -> Course
-    requires { c < channel_count wiring.now }
+pub(crate) fn course(wiring: &Wiring, c: u16, p: &Packet) -> Course
+    requires { c < life_channels wiring.now }
     ensures { result ≡ course wiring.now c p.now }
 {
     let entry = wiring.entry(c);
     match entry.end.v {
         Vertex::Host(h) => Course::Arrives(h),
-        Vertex::Switch(s) => course_out(wiring, s, aim_by(entry.ports, entry.end.p, p)),
+        Vertex::Switch(s) => course_out(wiring, s, p, aim_by(entry.ports, entry.end.p, p)),
     }
 }
 
 // Where a packet goes that a switch sends so.
-fn course_out(wiring: &FixedWiring, s: u16, turned: Turned) -> Course
-    requires { (p : ℕ) → turned ≡ Turned.Out p → has_port wiring.now (record { v = Vertex.Switch s; p = p }) ≡ true }
-    ensures { result ≡ course_out wiring.now s turned }
+fn course_out(wiring: &Wiring, s: u16, packet: &Packet, turned: Turned) -> Course
+    requires { (p : ℕ) → turned ≡ Turned.Out p
+        → has_port (fabric_now wiring.now) (record { v = Vertex.Switch s; p = p }) ≡ true }
+    ensures { result ≡ course_out wiring.now s packet.now turned }
 {
     match turned {
         Turned::Out(p) => match wiring.leaving(s, p) {
-            Some(next) => Course::Enters(next),
+            Some(next) => course_by_channel(wiring, next, packet),
             None => Course::Drops(Why::NoCable),
         },
         Turned::OutOfRange => Course::Drops(Why::OutOfRange),
@@ -43,20 +52,68 @@ fn course_out(wiring: &FixedWiring, s: u16, turned: Turned) -> Course
     }
 }
 
+// Where a packet goes that would enter a channel: a new cable takes packets of mapping alone.
+fn course_by_channel(wiring: &Wiring, next: u16, packet: &Packet) -> Course
+    requires { next < life_channels wiring.now }
+    ensures { result ≡ course_by_channel wiring.now packet.now (Some next) }
+{
+    if is_stopped(wiring, next, packet) {
+        Course::Drops(Why::NewCable)
+    } else {
+        Course::Enters(next)
+    }
+}
+
+// Whether a packet may not enter a channel. Its type is asked for only where the channel's cable is new.
+fn is_stopped(wiring: &Wiring, next: u16, packet: &Packet) -> bool
+    requires { next < life_channels wiring.now }
+    ensures { result ≡ (is_new wiring.now next && not (is_mapping packet.now)) }
+{
+    wiring.is_new(next) && !is_mapping(packet)
+}
+
+// Whether a packet is of mapping, by the two bytes after its route bytes.
+fn is_mapping(packet: &Packet) -> bool
+    ensures { result ≡ is_mapping packet.now }
+{
+    is_of_mapping(after_route(packet.head()))
+}
+
+// Whether a head without route bytes begins with the type of packets of mapping.
+fn is_of_mapping(body: &[u8]) -> bool
+    ensures { result ≡ is_of_mapping (kind_in body.now) }
+{
+    match body {
+        [high, low, ..] => u16::from(*high) * 256 + u16::from(*low) == MAPPING,
+        _ => false,
+    }
+}
+
+// A head after its route bytes.
+fn after_route(head: &[u8]) -> &[u8]
+    ensures { result.now ≡ drop (prefix_len is_route_byte head.now) head.now }
+{
+    let mut at = 0;
+    while at < head.len() && is_route_byte(head[at]) {
+        at += 1;
+    }
+    &head[at..]
+}
+
 /// The packet of a channel after the switch ahead, which turns it: it is known to go on into a channel.
-pub(crate) fn turned(wiring: &FixedWiring, c: u16, slot: Slot) -> Slot
-    requires there { c < channel_count wiring.now }
+pub(crate) fn turned(wiring: &Wiring, c: u16, slot: Slot) -> Slot
+    requires there { c < life_channels wiring.now }
     requires goes { IsSentOn wiring.now c slot.wire }
     ensures { result ≡ record slot { wire = stripped slot.wire } }
 {
-    let (mut packet, marked) = slot.into_parts();
+    let (mut packet, marked, born) = slot.into_parts();
     turn_on(wiring, c, &mut packet);
-    Slot::from_parts(packet, marked)
+    Slot::from_parts(packet, marked, born)
 }
 
 // The switch ahead of a channel turns its packet, which is known to go on into a channel.
-fn turn_on(wiring: &FixedWiring, c: u16, packet: &mut Packet)
-    requires there { c < channel_count wiring.now }
+fn turn_on(wiring: &Wiring, c: u16, packet: &mut Packet)
+    requires there { c < life_channels wiring.now }
     requires goes { IsSentOn wiring.now c packet.old }
     ensures { packet.new ≡ stripped packet.old }
 {
@@ -80,12 +137,29 @@ fn turn_at(ports: u8, entry: u8, packet: &mut Packet) -> Turned
 
 /// The channel that the packet of a channel goes into, whatever the channels hold, if it goes into one: by one look
 /// into the table of hops, which asks for no number of ports.
-pub(crate) fn next_channel(wiring: &FixedWiring, c: u16, packet: &Packet) -> Option<u16>
-    requires { c < channel_count wiring.now }
+pub(crate) fn next_channel(wiring: &Wiring, c: u16, packet: &Packet) -> Option<u16>
+    requires { c < life_channels wiring.now }
     ensures { result ≡ entered_by (course wiring.now c packet.now) }
 {
     match front_byte(packet) {
-        Some(byte) => wiring.next(c, byte),
+        Some(byte) => passing(wiring, packet, wiring.next(c, byte)),
+        None => None,
+    }
+}
+
+// The channel that a packet may enter of the one that its turn leads to.
+fn passing(wiring: &Wiring, packet: &Packet, next: Option<u16>) -> Option<u16>
+    requires { IfSome next (λ c. c < life_channels wiring.now) }
+    ensures { result ≡ passing wiring.now packet.now next }
+{
+    match next {
+        Some(c) => {
+            if is_stopped(wiring, c, packet) {
+                None
+            } else {
+                Some(c)
+            }
+        }
         None => None,
     }
 }
@@ -95,9 +169,9 @@ pub(crate) fn without_turn(slot: Slot) -> Slot
     requires { IsSome (front_turn slot.wire) }
     ensures { result ≡ record slot { wire = stripped slot.wire } }
 {
-    let (mut packet, marked) = slot.into_parts();
+    let (mut packet, marked, born) = slot.into_parts();
     packet.strip_turn();
-    Slot::from_parts(packet, marked)
+    Slot::from_parts(packet, marked, born)
 }
 
 // The first byte of a packet's head.
@@ -109,10 +183,10 @@ fn front_byte(packet: &Packet) -> Option<u8>
 
 /// The packet of a channel goes on, whatever the channels hold, until it leaves them: how far. Each switch strips the
 /// turn that it takes.
-pub(crate) fn follow(wiring: &FixedWiring, c: u16, packet: &mut Packet) -> Run
-    requires { c < channel_count wiring.now }
+pub(crate) fn follow(wiring: &Wiring, c: u16, packet: &mut Packet) -> Run
+    requires { c < life_channels wiring.now }
     ensures along { IsSentAlong wiring.now c packet.old result.hops result.at packet.new }
-    ensures there { result.at < channel_count wiring.now }
+    ensures there { result.at < life_channels wiring.now }
     ensures last { (next : ℕ) → course wiring.now result.at packet.new ≢ Course.Enters next }
     ensures few { result.hops ≤ 1107 }
 {

@@ -7,7 +7,6 @@
 //! | module | has |
 //! |---|---|
 //! | `course` | where a channel's packet goes |
-//! | `fixed` | the wiring of cables that stay |
 //! | `hop` | what a hop came to, and a run of hops |
 //! | `limbo` | the packets that a cable keeps back |
 //! | `links` | the links: reading them, filling them, an advance, the faults |
@@ -15,7 +14,6 @@
 #![tactic(auto)]
 
 mod course;
-mod fixed;
 mod hop;
 mod limbo;
 mod links;

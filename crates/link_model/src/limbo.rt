@@ -3,6 +3,7 @@
 ghost use Rattle.std.specs.Prelude.{◌≡◌, ◌<◌, ◌++◌, ◌∷◌, [], nat_eq, nat_le, find, option_map, OnOk, OnErr, IfErr};
 ghost use Rattle.std.specs.List.{AllByRecursion};
 ghost use Rattle.std.specs.Map.{lookup, remove_entry};
+ghost use Rattle.link_defs.specs.Fault.{without_cable};
 
 use channel_slots::Slot;
 use std::alloc::Global;
@@ -86,6 +87,13 @@ impl Limbo {
         ensures rest { self.new ≡ remove_entry (nat_eq serial) self.old }
     {
         self.kept.remove(&serial)
+    }
+
+    /// Lets go of what was taken from the channels of a cable.
+    pub(crate) fn leave_cable(&mut self, k: u16)
+        ensures { self.new ≡ without_cable k self.old }
+    {
+        self.kept.retain(|_, kept| kept.channel / 2 != k);
     }
 
     /// The least serial that isn't below a number.

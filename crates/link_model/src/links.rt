@@ -1,21 +1,22 @@
 //! The links of a fabric: reading them, and putting packets into them.
 
 ghost use Rattle.std.specs.Prelude.{◌≡◌, ◌<◌, ◌≤◌, ℕ, length, Some, None, option_map, option_copied, is_ok, IfOk};
-ghost use Rattle.std.specs.Prelude.{◌≢◌, IfErr, IfSome, IfNone};
-ghost use Rattle.net_defs.specs.Network.{IsFabric};
-ghost use Rattle.net_defs.specs.Route.{channel_from};
-ghost use Rattle.link_defs.specs.Channel.{channel_count, channel_tail, channel_head};
+ghost use Rattle.std.specs.Prelude.{◌≢◌, true, IfErr, IfSome, IfNone};
+ghost use Rattle.net_defs.specs.Network.{IsFabric, has_port};
+ghost use Rattle.cable_history.specs.History.{fabric_now, IsHistory};
+ghost use Rattle.cable_history.specs.Crossed.{leaving, life_channels, life_tail, life_head};
 ghost use Rattle.link_defs.specs.Links.{empty_links, packet_in, is_idle, put};
 ghost use Rattle.link_defs.specs.Fault.{next_limbo};
 ghost use Rattle.channel_slots.specs.Full.{full_count, IsLone};
 ghost use Rattle.link_model.specs.Full.{next_full, IsNextFull};
 
 mod advance;
+mod cables;
 mod faults;
 
-use crate::fixed::FixedWiring;
 use crate::limbo::Limbo;
 use channel_slots::{Slot, Slots};
+use fabric_wiring::Wiring;
 use myri_packet::Packet;
 use net_defs::End;
 use port_graph::Fabric;
@@ -31,7 +32,9 @@ pub struct Occupied;
 /// Cable k has channel 2k, from its first end to its second, and channel 2k + 1 back. A channel in an argument exists.
 #[derive(Drop)]
 pub struct Links {
-    wiring: FixedWiring,
+    wiring: Wiring,
+    // The number of the epoch, with which new packets are marked.
+    epoch: u32,
     slots: Slots,
     limbo: Limbo,
     next_serial: u64,
@@ -44,9 +47,9 @@ impl Model for Links {
 
     ghost Value = { LinkState };
 
-    ghost view = { λ l. state l.wiring l.slots l.limbo l.next_serial };
+    ghost view = { λ l. state l.wiring l.epoch l.slots l.limbo l.next_serial };
 
-    ghost invariant = { λ l. IsLinks (state l.wiring l.slots l.limbo l.next_serial) };
+    ghost invariant = { λ l. IsLinks (state l.wiring l.epoch l.slots l.limbo l.next_serial) };
 }
 
 impl Links {
@@ -54,10 +57,11 @@ impl Links {
     pub fn new(alloc: Global, f: &Fabric) -> Result<Links, AllocError>
         ensures { IfOk result (λ l. l ≡ empty_links f.now) }
     {
-        let wiring = FixedWiring::new(alloc, f)?;
+        let wiring = Wiring::new(alloc, f)?;
         let slots = Slots::new(alloc, wiring.channels())?;
         Ok(Links {
             wiring,
+            epoch: 0,
             slots,
             limbo: Limbo::new(alloc),
             next_serial: 0,
@@ -67,16 +71,17 @@ impl Links {
     /// The number of channels.
     pub fn channels(&self) -> u16
         ensures count { result ≡ length self.now.channels }
-        ensures same { result ≡ channel_count self.now.net }
-        ensures few { result ≤ 1152 }
+        ensures same { result ≡ life_channels self.now.cables }
+        ensures few { result ≤ 8192 }
     {
         self.wiring.channels() as u16
     }
 
     /// The channel that leaves by an end; none where no cable ends there.
     pub fn channel_from(&self, e: End) -> Option<u16>
-        ensures channel { result ≡ channel_from self.now.net e }
-        ensures fabric { IsFabric self.now.net }
+        ensures channel { result ≡ leaving self.now.cables e }
+        ensures fabric { IsFabric (fabric_now self.now.cables) }
+        ensures history { IsHistory self.now.cables }
         ensures there { IfSome result (λ c. c < length self.now.channels) }
     {
         self.wiring.channel_from(e)
@@ -85,8 +90,9 @@ impl Links {
     /// The ends that a channel leaves and enters.
     pub fn ends(&self, c: u16) -> (End, End)
         requires { c < length self.now.channels }
-        ensures tail { channel_tail self.now.net c ≡ Some result.0 }
-        ensures head { channel_head self.now.net c ≡ Some result.1 }
+        ensures tail { life_tail self.now.cables c ≡ Some result.0 }
+        ensures head { life_head self.now.cables c ≡ Some result.1 }
+        ensures there { has_port (fabric_now self.now.cables) result.1 ≡ true }
     {
         (self.wiring.tail(c), self.wiring.head(c))
     }
@@ -146,7 +152,7 @@ impl Links {
         if self.slots.is_full(usize::from(c)) {
             return Err((p, Occupied));
         }
-        self.slots.put(usize::from(c), Slot::new(p));
+        self.slots.put(usize::from(c), Slot::new(p, self.epoch));
         Ok(())
     }
 

@@ -3,7 +3,8 @@
 ghost use Rattle.std.specs.Prelude.{◌≡◌, ◌<◌, ◌≤◌, ◌+◌, length, All, IfOk};
 ghost use Rattle.net_defs.specs.Turn.{IsTurn};
 ghost use Rattle.net_defs.specs.Route.{place, place_at_vertex, IsPlaceOf};
-ghost use Rattle.link_defs.specs.Links.{empty_links};
+ghost use Rattle.cable_history.specs.History.{fabric_now};
+ghost use Rattle.link_defs.specs.Links.{bare_links};
 ghost use Rattle.link_defs.specs.Lone.{lone_place};
 ghost use Rattle.link_model.specs.Alone.{wire_in, left_at, IsAlone};
 
@@ -24,9 +25,9 @@ pub fn walk_alone(
 ) -> Result<Place, AllocError>
     requires few { length turns.now ≤ 64 }
     requires turns { All IsTurn turns.now }
-    requires idle { links.old ≡ empty_links links.old.net }
-    ensures place { IfOk result (λ end. end ≡ place links.old.net host turns.now) }
-    ensures there { IfOk result (λ end. IsPlaceOf links.old.net end) }
+    requires idle { links.old ≡ bare_links links.old.cables }
+    ensures place { IfOk result (λ end. end ≡ place (fabric_now links.old.cables) host turns.now) }
+    ensures there { IfOk result (λ end. IsPlaceOf (fabric_now links.old.cables) end) }
     ensures idle { links.new ≡ links.old }
 {
     let port = End {
@@ -47,8 +48,8 @@ fn run_out(links: &mut Links, at: u16, steps: usize) -> Place
     requires few { steps ≤ 65 }
     requires there { at < length links.old.channels }
     requires alone { IsAlone links.old at }
-    ensures place { result ≡ lone_place steps links.old.net at (wire_in links.old at) }
-    ensures idle { links.new ≡ empty_links links.old.net }
+    ensures place { result ≡ lone_place steps links.old.cables at (wire_in links.old at) }
+    ensures idle { links.new ≡ bare_links links.old.cables }
 {
     if steps == 0 {
         links.reset(at);
@@ -63,7 +64,7 @@ fn run_out(links: &mut Links, at: u16, steps: usize) -> Place
 // Where a packet ended that a step of its channel took out of the links.
 fn place_of(links: &Links, at: u16, moved: Moved<Packet>) -> Place
     requires { at < length links.now.channels }
-    ensures { result ≡ left_at links.now.net at moved }
+    ensures { result ≡ left_at links.now.cables at moved }
 {
     match moved {
         Moved::AtHost(h, packet) => {

@@ -1,5 +1,5 @@
 -- A log leads to its world by events of eight bits.
-use Rattle.std.specs.Prelude.{◌≡◌, ℕ, ℤ, List}
+use Rattle.std.specs.Prelude.{ℕ, ℤ, List}
 use Rattle.world_defs.specs.EightBits.{IsByteEvent}
 use Rattle.world_defs.specs.Table.{Adoption}
 use Rattle.world_defs.specs.World.{WorldState}

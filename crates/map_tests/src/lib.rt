@@ -1,4 +1,4 @@
-//! Tests of probers, maps and certificates in calls that no worked text reaches. Nothing stands on it.
+//! Tests of probers, maps, certificates and links in calls that no worked text reaches. Nothing stands on it.
 //!
 //! | module | has |
 //! |---|---|
@@ -10,9 +10,12 @@
 //! | `sameness` | a map, compared with the mapper's part of a fabric |
 //! | `circuits` | a walk over circuit links, and the paths of a core |
 //! | `texts` | a fabric and a map, read and printed; the bridges of a map |
+//! | `cables` | a cable of the links, pulled, plugged and accepted |
 //! | `fabrics` | the fabrics that these speak of |
 #![tactic(auto)]
 
+#[cfg(test)]
+mod cables;
 #[cfg(test)]
 mod certificates;
 #[cfg(test)]

@@ -2,6 +2,7 @@
 use Rattle.std.proofs.Common.{◌≡◌, ◌<◌, ◌≤◌, ℕ, Bool, true, false, not, List, [], ◌∷◌, length, Option, Some, None, refl, sym, ◌∙◌, ap, subst, if◌then◌else◌}
 use Rattle.std.specs.List.{AllByRecursion}
 use Rattle.net_defs.specs.Network.{Network, IsFabric}
+use Rattle.cable_history.proofs.First.{first_stands}
 use Rattle.link_defs.specs.Links.{is_idle}
 use Rattle.world_defs.specs.declared.event.Event.{Event}
 use Rattle.world_defs.specs.declared.event.Event.TheVariants.{Begin, Close, Provide, Send, Poll}
@@ -130,7 +131,7 @@ runs-stay n f all is ended = is
 runs-stay n f all is (goes_on d r e) = runs-stay n f all.1 (does-stays n f all.0 is d) r
 
 pub new-session : (n : Network) → IsSessionOf n (new_session n)
-new-session n = record { fabric = refl; world = new-world n; byte_flips = tt }
+new-session n = record { fabric = (first_stands n 0).0; world = new-world n; byte_flips = tt }
 
 pub run_keeps_world : RunKeepsWorld
 run_keeps_world n commands out last f all r = runs-stay n f all (new-session n) r

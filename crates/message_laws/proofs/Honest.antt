@@ -12,7 +12,8 @@ use Rattle.packet_defs.proofs.Packets.{head-push}
 use Rattle.link_defs.specs.Links.{Held}
 use Rattle.gm_defs.specs.declared.frame.GmBody.TheVariants.{Ack as Acknowledges}
 use Rattle.world_defs.specs.World.{WorldState}
-use Rattle.world_defs.specs.Traffic.{sent_on, unrouted, IsHonest as IsHonestIn}
+use Rattle.link_defs.specs.Kinds.{unrouted}
+use Rattle.world_defs.specs.Traffic.{sent_on, IsHonest as IsHonestIn}
 use Rattle.table_laws.specs.Packets.{IsHonest}
 use Rattle.message_laws.specs.Says.{SaysTrue}
 use Rattle.message_laws.proofs.Frames.{at-place}

@@ -19,7 +19,7 @@ use Rattle.gm_defs.specs.Connection.{SenderState, connection, key_of, ack_on, wi
 use Rattle.gm_defs.proofs.Choices.{both, chosen}
 use Rattle.world_defs.specs.Lane.{LaneState, new_lane, lane_sent_one}
 use Rattle.world_defs.specs.Node.{NodeState, Outgoing, Probe, TablePart, Reply, PartAnswer, FrameAnswer, Fragment, lane_count, prio_place, lane_of, peer_of, prio_of, sending_lane, taking_lane, sends_on, takes_from, lane_at, with_lane, way_back, packet_for, after_sending, new_node}
-use Rattle.world_defs.specs.World.{WorldState, fabric_of, new_world, node_at}
+use Rattle.world_defs.specs.World.{WorldState, new_world, node_at}
 use Rattle.world_defs.specs.Traffic.{sender_on, taken_on}
 use Rattle.world_laws.specs.Shape.{HasSenders}
 use Rattle.world_laws.proofs.Shapes.{step-kept, new-senders, adopted-senders, planned-senders}
@@ -195,7 +195,7 @@ acted-windowed w a may is =
     record {
       ordered = acted-ordered w a (may-byte w a may) is.ordered;
       senders = acted-senders w a is.senders;
-      links = acted-holds F w (carries-honest (fabric_of w) (numbers_of v)) still is.ordered.plan a (may-byte w a may) new;
+      links = acted-holds F w (carries-honest w.links.cables (numbers_of v)) still is.ordered.plan a (may-byte w a may) new;
       connections = λ c.
           let s = (g.nodes c.src).lanes (sending_lane c) in
           let r = (g.nodes c.dst).lanes (taking_lane c) in

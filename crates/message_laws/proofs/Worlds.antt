@@ -13,7 +13,7 @@ use Rattle.world_defs.specs.EightBits.{IsByteFault}
 use Rattle.world_defs.specs.Lane.{new_lane}
 use Rattle.world_defs.specs.Node.{NodeState, lane_count, prio_place, peer_of, prio_of, lane_of, sending_lane, taking_lane, lane_at, packet_for, new_node}
 use Rattle.world_defs.proofs.Lanes.{facing, facing-taking, prio_of-lane, peer_of-below}
-use Rattle.world_defs.specs.World.{WorldState, fabric_of, host_count, new_world, node_at}
+use Rattle.world_defs.specs.World.{WorldState, host_count, new_world, node_at}
 use Rattle.world_defs.specs.Sound.{IsPrefix}
 use Rattle.world_defs.specs.Traffic.{sent_on, got_on, coming_on, taken_on}
 use Rattle.act_defs.specs.Acts.{Act, acted, IsByteAct, IsReached}
@@ -84,7 +84,7 @@ acted-ordered w a low is =
     let F : ℕ → Held → Type 0 = λ c. IsHonest (SaysTrue (sent_on w)) in
     let g : Goes w v = acted-goes w a is.links in
     let grows : (h lane : ℕ) → IsPrefix (sent_by_lane w h lane) (sent_by_lane v h lane) = λ h lane. ((g.nodes h).lanes lane).grows in
-    let links : Holds F v.links = acted-holds F w (carries-honest (fabric_of w) (SaysTrue (sent_on w))) is.links is.plan a low
+    let links : Holds F v.links = acted-holds F w (carries-honest w.links.cables (SaysTrue (sent_on w))) is.links is.plan a low
     (λ h c out i. new-honest (SaysTrue (sent_on w)) (packet_for h (w.injected + 1) out) (sent-built (sent_by_lane w) h (w.injected + 1) (node_at w h) out (is.hosts h) (λ lane. refl) i.sends)) in
     record {
       links = weaker-holds F (λ c. IsHonest (SaysTrue (sent_on v))) v.links (λ c held. honest-more (SaysTrue (sent_on w)) (SaysTrue (sent_on v)) held (says-more (sent_on w) (sent_on v) (λ k. grows k.src (sending_lane k)))) links;

@@ -6,7 +6,8 @@ use Rattle.gm_defs.specs.declared.message.Message.{Message}
 use Rattle.world_defs.specs.declared.event.Event.TheVariants.{Inject, Advance, Begin, Provide, Send}
 use Rattle.world_defs.specs.World.{WorldState, new_world, node_at, client_at}
 use Rattle.gm_defs.specs.Connection.{connection, ack_on}
-use Rattle.world_defs.specs.Traffic.{sent_on, got_on, sender_on, taken_on, unrouted}
+use Rattle.link_defs.specs.Kinds.{unrouted}
+use Rattle.world_defs.specs.Traffic.{sent_on, got_on, sender_on, taken_on}
 use Rattle.world_defs.specs.Examples.{setup_routes}
 use Rattle.act_defs.specs.Acts.{Act, Happens, Adopts, acted_all, IsReached}
 use Rattle.packet_defs.specs.declared.kind.Kind.{Kind}

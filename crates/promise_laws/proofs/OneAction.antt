@@ -1,6 +1,7 @@
 -- Each act is one action, of one host or of one channel.
 use Rattle.std.proofs.Common.{◌≡◌, ◌≢◌, ℕ, List, [], get_or, set, Option, Some, None, refl, sym, ap, subst, ◌∙◌}
 use Rattle.packet_defs.specs.Packet.{stripped}
+use Rattle.cable_history.specs.History.{fabric_now}
 use Rattle.link_defs.specs.declared.moved.Course.TheVariants.{Arrives, Enters}
 use Rattle.link_defs.specs.Links.{Held, Caught, with_packet, emptied}
 use Rattle.link_defs.specs.Fault.{caught_as, replay_of}
@@ -19,7 +20,7 @@ use Rattle.world_defs.proofs.Views.{Change, LinksChange, HostChange, CallChange,
 use Rattle.world_defs.proofs.Strikes.{injection-nodes, injection-clients}
 use Rattle.world_laws.proofs.Idling.{step-idle}
 use Rattle.act_defs.specs.Acts.{Act, Happens, Plans, Adopts, acted}
-use Rattle.act_defs.proofs.Kept.{acted-net}
+use Rattle.act_defs.proofs.Kept.{acted-cables}
 use Rattle.promise_laws.specs.OneAction.{Actor, OfHost, OfAdopter, OfChannel, OfNone, staged_by, caught_in, actor_of_event, actor_of, port_called, ChannelStays, GoesOn, IsOfHost, IsOfAdopter, IsOfChannel, IsOfNone, IsActionOf, RoutesStay, IdleStays, ActsAreOneAction}
 use Rattle.promise_laws.proofs.OneChannel.{channel-same, SameBut, with_packet-same, repeat-same, hold-same, flip-same, replay-same, injection-same}
 
@@ -169,4 +170,4 @@ act-idle w (Plans ahead fault) = tt
 act-idle w (Adopts mapper routes) = tt
 
 pub acts_are_one_action : ActsAreOneAction
-acts_are_one_action w a = record { action = act-action w a; idle = act-idle w a; routes = act-routes w a; fabric = acted-net w a }
+acts_are_one_action w a = record { action = act-action w a; idle = act-idle w a; routes = act-routes w a; cables = acted-cables w a; fabric = ap fabric_now (acted-cables w a) }

@@ -72,9 +72,9 @@ removed-same (x ∷ es) serial k caught e n = by (nat_eq serial x.0) (nat_eq x.1
 put-same : (s : LinkState) (c : ℕ) (wire : List ℕ) → SameBut s (put s c wire).1 c
 put-same s c wire = by (is_some (packet_in s c))
   where
-    by : (t : Bool) → SameBut s (let r : Bool × LinkState = if t then (false, s) else (true, with_packet s c (Some (record { wire = wire; marked = false }))) in r).1 c
+    by : (t : Bool) → SameBut s (let r : Bool × LinkState = if t then (false, s) else (true, with_packet s c (Some (record { wire = wire; marked = false; born = s.epoch }))) in r).1 c
     by true = all-same s c
-    by false = with_packet-same s c (Some (record { wire = wire; marked = false }))
+    by false = with_packet-same s c (Some (record { wire = wire; marked = false; born = s.epoch }))
 
 -- what a cable does to a channel's packet leaves the others
 pub repeat-same : (s : LinkState) (c : ℕ) → SameBut s (repeat s c).1 c
@@ -102,8 +102,8 @@ hold-same s c = of (packet_in s c)
 pub flip-same : (s : LinkState) (c bit pattern : ℕ) → SameBut s (flip s c bit pattern).1 c
 flip-same s c bit pattern = of (packet_in s c)
   where
-    by : (held : Held) (t : Bool) → SameBut s (let r : Bool × LinkState = if t then (true, with_packet s c (Some (record { wire = flipped held.wire bit pattern; marked = true }))) else (false, s) in r).1 c
-    by held true = with_packet-same s c (Some (record { wire = flipped held.wire bit pattern; marked = true }))
+    by : (held : Held) (t : Bool) → SameBut s (let r : Bool × LinkState = if t then (true, with_packet s c (Some (record held { wire = flipped held.wire bit pattern; marked = true }))) else (false, s) in r).1 c
+    by held true = with_packet-same s c (Some (record held { wire = flipped held.wire bit pattern; marked = true }))
     by held false = all-same s c
 
     of : (o : Option Held) → SameBut s (flip_of s c bit pattern o).1 c

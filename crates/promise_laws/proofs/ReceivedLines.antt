@@ -4,7 +4,7 @@ use Rattle.std.specs.List.{AllByRecursion, filter}
 use Rattle.net_defs.specs.declared.route.Route.{Route}
 use Rattle.net_defs.specs.declared.vertex.End.{End}
 use Rattle.net_defs.specs.Network.{Network, IsFabric}
-use Rattle.net_defs.specs.Route.{channel_from}
+use Rattle.cable_history.specs.Crossed.{leaving}
 use Rattle.net_defs.proofs.Distinct.{all-push}
 use Rattle.link_defs.specs.Links.{is_idle}
 use Rattle.gm_defs.specs.declared.frame.ConnectionKey.{ConnectionKey}
@@ -22,7 +22,7 @@ use Rattle.world_defs.specs.declared.event.Event.TheVariants.{Inject, GiveUp, Ad
 use Rattle.world_defs.specs.Node.{port_at}
 use Rattle.world_defs.specs.Client.{Called, sent_by}
 use Rattle.world_defs.specs.Table.{is_other}
-use Rattle.world_defs.specs.World.{WorldState, fabric_of, new_world, node_at, client_at, adopted_by}
+use Rattle.world_defs.specs.World.{WorldState, new_world, node_at, client_at, adopted_by}
 use Rattle.world_defs.specs.Sound.{IsPrefix}
 use Rattle.world_defs.specs.Step.{wanted, step}
 use Rattle.world_defs.specs.Log.{Log}
@@ -184,7 +184,7 @@ step-shows s line None calm = quiet-shows s.world (Step line) _ refl tt
 step-shows s line (Some e) calm = silent-shows s.world (Step line) (stepped s (step s.world e)).output (Happens e ∷ []) refl (stepped-silent s (step s.world e)) (calm-still s.world (e ∷ []) (calm e refl, tt))
 
 channel-calm : (w : WorldState) (at : End) (event : ℕ → Event) → ((c : ℕ) → IsCalm (event c)) → (e : Event) → on_channel w at event ≡ Some e → IsCalm e
-channel-calm w at event calm e is = by (channel_from (fabric_of w) at) is
+channel-calm w at event calm e is = by (leaving w.links.cables at) is
   where
     by : (o : Option ℕ) → option_map event o ≡ Some e → IsCalm e
     by None p = cc

@@ -12,7 +12,7 @@ use Rattle.gm_defs.specs.Connection.{connection}
 use Rattle.world_defs.specs.declared.client.ClientCause.TheVariants.{NoToken}
 use Rattle.world_defs.specs.declared.effect.Said.TheVariants.{Refused}
 use Rattle.world_defs.specs.declared.event.Event.TheVariants.{Part, Inject, Advance, Hold, Replay, Begin, Send}
-use Rattle.world_defs.specs.World.{WorldState, fabric_of, new_world}
+use Rattle.world_defs.specs.World.{WorldState, new_world}
 use Rattle.world_defs.specs.Examples.{setup_routes}
 use Rattle.act_defs.specs.Acts.{Act, Happens, Adopts, acted_all}
 use Rattle.run_defs.specs.declared.command.Command.{Command}
@@ -35,7 +35,7 @@ sent_world = acted_all (new_world two_hosts) sent_acts
 
 -- where the packet of a channel would go
 abbrev pub course_from : WorldState → ℕ → Option Course
-course_from w c = option_map (λ held. course (fabric_of w) c held.wire) (packet_in w.links c)
+course_from w c = option_map (λ held. course w.links.cables c held.wire) (packet_in w.links c)
 
 -- by an advance it goes from channel 0 into channel 3, and by another one from there to host 1
 abbrev pub PacketGoesOn : Type 0

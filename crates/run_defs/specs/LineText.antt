@@ -28,7 +28,7 @@ use Rattle.duo_defs.specs.declared.effect.DuoEffect.TheVariants.{Received as Duo
 use Rattle.fab_text.specs.Fault.{kind_word}
 use Rattle.fab_text.specs.Written.{line_text as line_of}
 use Rattle.world_defs.specs.declared.effect.Cause.{Cause}
-use Rattle.world_defs.specs.declared.effect.Cause.TheVariants.{OutOfRange, NotRoute, NoCable, BadCrc, RouteLeft}
+use Rattle.world_defs.specs.declared.effect.Cause.TheVariants.{OutOfRange, NotRoute, NoCable, NewCable, BadCrc, RouteLeft}
 use Rattle.world_defs.specs.declared.effect.Cause.TheVariants.{UnknownType, Malformed, NotMine}
 use Rattle.world_defs.specs.declared.effect.Said.{Said}
 use Rattle.world_defs.specs.declared.effect.Said.TheVariants.{Done, Count, Token, Sent, Received, Nothing}
@@ -159,6 +159,7 @@ abbrev pub cause_word : Cause → List ℕ
 cause_word OutOfRange = codes "outofrange"
 cause_word NotRoute = codes "notroute"
 cause_word NoCable = codes "nocable"
+cause_word NewCable = codes "newcable"
 cause_word BadCrc = codes "badcrc"
 cause_word RouteLeft = codes "routeleft"
 cause_word UnknownType = codes "unknowntype"

@@ -4,9 +4,9 @@ use Rattle.std.specs.Prelude.{ℕ, not, List, [], ◌∷◌, map, length, min, i
 use Rattle.std.specs.Prelude.{if◌then◌else◌, Option, Some, None, option_map}
 use Rattle.std.specs.List.{range_with_len}
 use Rattle.net_defs.specs.declared.vertex.End.{End}
-use Rattle.net_defs.specs.Route.{place, channel_from}
+use Rattle.net_defs.specs.Route.{place}
 use Rattle.net_defs.specs.Examples.{host_end}
-use Rattle.link_defs.specs.Channel.{channel_tail}
+use Rattle.cable_history.specs.Crossed.{leaving, life_tail}
 use Rattle.link_defs.specs.Links.{is_idle}
 use Rattle.gm_defs.specs.declared.token.TokenPlace.{TokenPlace}
 use Rattle.gm_defs.specs.Token.{PortState, place_of_send, place_of_recv}
@@ -99,7 +99,7 @@ tail_of None = host_end 0
 
 -- a channel as a report names it, by the end that it leaves
 abbrev pub named_by_tail : WorldState → ℕ → End
-named_by_tail w c = tail_of (channel_tail (fabric_of w) c)
+named_by_tail w c = tail_of (life_tail w.links.cables c)
 
 -- an effect in a report's words
 abbrev pub words_of : WorldState → Effect → StepWords
@@ -122,7 +122,7 @@ words_of w (SaidSo said) = IdleWords
 
 -- an event on the channel that leaves by an end: none without a cable there
 abbrev pub on_channel : WorldState → End → (ℕ → Event) → Option Event
-on_channel w e event = option_map event (channel_from (fabric_of w) e)
+on_channel w e event = option_map event (leaving w.links.cables e)
 
 -- the event of a step's line
 abbrev pub event_of : WorldState → StepLine → Option Event

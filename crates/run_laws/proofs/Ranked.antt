@@ -7,8 +7,10 @@ use Rattle.net_defs.specs.declared.route.Route.{Route}
 use Rattle.net_defs.specs.declared.vertex.End.{End}
 use Rattle.net_defs.specs.Network.{Network, IsFabric}
 use Rattle.net_defs.specs.Route.{channels_of}
-use Rattle.link_defs.specs.Channel.{channel_tail}
-use Rattle.link_defs.proofs.Ends.{channel_from-ends}
+use Rattle.cable_history.specs.History.{first_history}
+use Rattle.cable_history.specs.Crossed.{life_tail}
+use Rattle.cable_history.proofs.First.{first_channels}
+use Rattle.cable_history.proofs.ForLife.{leaving_has_its_end}
 use Rattle.map_defs.specs.declared.rank.RankEntry.{RankEntry}
 use Rattle.map_defs.specs.NetMap.{NetMap, MapPort, IsMap}
 use Rattle.map_defs.specs.Orientation.{order_of}
@@ -88,12 +90,13 @@ module _ (n : Network) (host : ℕ) (m : NetMap) (same : IsMapOfPart n host m) (
 
   -- the number of a channel: the rank of the port of the map that it leaves
   abbrev number_of : ℕ → ℕ
-  number_of c = rank_behind (channel_tail n c)
+  number_of c = rank_behind (life_tail (first_history n) c)
 
   number-is : (x : MapPort) (c : ℕ) → IsChannelOf n host m same x c → number_of c ≡ rank_or_none (rank_of ranks x)
   number-is x c is =
       let at : End = record { v = same.image x.v; p = is.port } in
-      let tail : channel_tail n c ≡ Some at = (channel_from-ends n at c is.number).0 in
+      let leaves = (first_channels n 0 at host []).0 ∙ is.number in
+      let tail : life_tail (first_history n) c ≡ Some at = (leaving_has_its_end (first_history n) at c leaves).tail in
       let v : same.origin (same.image x.v) ≡ x.v = same.origin_image x.v is.in_map in
       let p : pos is.port +ℤ neg_ℤ (same.offset (same.origin (same.image x.v))) ≡ x.p = ap (λ u. pos is.port +ℤ neg_ℤ (same.offset u)) v ∙ port_back (pos is.port) x.p (same.offset x.v) is.moved in
       let one : port_in at ≡ x = same-port (same.origin (same.image x.v)) x.v _ x.p v p in

@@ -4,7 +4,7 @@ use Rattle.std.specs.Prelude.{ℤ}
 use Rattle.std.specs.List.{AllByRecursion}
 use Rattle.net_defs.specs.declared.vertex.End.{End}
 use Rattle.net_defs.specs.Network.{Network, IsFabric}
-use Rattle.net_defs.specs.Route.{channel_from}
+use Rattle.cable_history.specs.Crossed.{leaving}
 use Rattle.link_defs.specs.Links.{is_idle}
 use Rattle.world_defs.specs.declared.event.Event.{Event}
 use Rattle.world_defs.specs.declared.event.Event.TheVariants.{Begin, Close, Provide, Send, Poll}
@@ -68,9 +68,9 @@ step-leads s (Some e) low = stepped-leads s (step s.world e) (leads-event s.worl
 
 -- an event on a channel
 channel-bytes : (w : WorldState) (at : End) (event : ℕ → Event) → ((c : ℕ) → IsByteEvent (event c)) → (e : Event) → on_channel w at event ≡ Some e → IsByteEvent e
-channel-bytes w at event low e is = by (channel_from (fabric_of w) at) refl is
+channel-bytes w at event low e is = by (leaving w.links.cables at) refl is
   where
-    by : (o : Option ℕ) → channel_from (fabric_of w) at ≡ o → option_map event o ≡ Some e → IsByteEvent e
+    by : (o : Option ℕ) → leaving w.links.cables at ≡ o → option_map event o ≡ Some e → IsByteEvent e
     by None p q = cc
     by (Some c) p q = let one : event c ≡ e = cc in subst IsByteEvent one (low c)
 

@@ -37,7 +37,8 @@ impl Model for Session {
 impl Session {
     /// The session of a fabric before its first command.
     pub fn new(alloc: Global, fabric: Fabric) -> Result<Session, AllocError>
-        ensures { IfOk result (λ s. s ≡ new_session fabric) }
+        ensures new { IfOk result (λ s. s ≡ new_session fabric) }
+        ensures fabric { IfOk result (λ s. fabric_of s.world ≡ fabric) }
     {
         let world = World::new(alloc, fabric)?;
         match Links::new(alloc, world.fabric()) {

@@ -2,7 +2,8 @@
 use Rattle.std.proofs.Common.{◌≡◌, ◌<◌, ℕ, Bool, true, false, ◌||◌, List, [], ◌∷◌, map, nat_eq, None, is_some, refl, sym, ap, ◌∙◌, subst, arith, true≢false}
 use Rattle.std.specs.List.{AllByRecursion}
 use Rattle.std.proofs.lemmas.Bool.Decides.{nat_tests}
-use Rattle.net_defs.specs.Route.{host_port, channel_from}
+use Rattle.net_defs.specs.Route.{host_port}
+use Rattle.cable_history.specs.Crossed.{leaving}
 use Rattle.link_defs.specs.declared.replayed.Replayed.{Replayed}
 use Rattle.link_defs.specs.declared.replayed.Replayed.TheVariants.{Back, Busy, Unknown}
 use Rattle.link_defs.specs.Links.{LinkState, is_idle}
@@ -12,7 +13,7 @@ use Rattle.world_defs.specs.declared.effect.Effect.{Effect}
 use Rattle.world_defs.specs.declared.effect.Effect.TheVariants.{Idle}
 use Rattle.world_defs.specs.Node.{to_send}
 use Rattle.world_defs.specs.Logs.{clear, replays, round_pass, is_last_pass}
-use Rattle.world_defs.specs.World.{WorldState, fabric_of, host_count, last_count, node_at, addresses}
+use Rattle.world_defs.specs.World.{WorldState, host_count, last_count, node_at, addresses}
 use Rattle.world_defs.specs.Step.{of_replay, replayed, step, steps, after_all}
 use Rattle.world_defs.specs.Drain.{changed, changes}
 use Rattle.world_defs.specs.Settle.{serials, is_quiet}
@@ -96,7 +97,7 @@ idle-pass w idle e =
     record { given = t; links = links; same = rest ∙ cleared; each = first.each }
 
 -- a host with a cable over idle links, while injections are left
-cannot-inject : (w : WorldState) (h : ℕ) → is_idle w.links ≡ true → is_some (channel_from (fabric_of w) (host_port h)) ≡ true → w.injected < last_count → CannotInject w h → to_send h (node_at w h) ≡ None
+cannot-inject : (w : WorldState) (h : ℕ) → is_idle w.links ≡ true → is_some (leaving w.links.cables (host_port h)) ≡ true → w.injected < last_count → CannotInject w h → to_send h (node_at w h) ≡ None
 cannot-inject w h idle cable left (CannotInject.no_cable e) = absurd (true≢false (sym cable ∙ ap is_some e))
 cannot-inject w h idle cable left (CannotInject.nothing_to_send e) = e
 cannot-inject w h idle cable left (CannotInject.channel_full c e full) = absurd (true≢false (sym full ∙ ap is_some (idle-empty w.links.channels idle c)))
@@ -108,7 +109,7 @@ last-of false b e f = e
 
 -- the last pass
 pub nothing-left : (w : WorldState) (h : ℕ) → is_idle w.links ≡ true → is_last_pass w (round_pass w) ≡ true → h < host_count w → h < host_count (round_pass w).world
-    → is_some (channel_from (fabric_of w) (host_port h)) ≡ true → (round_pass w).world.injected < last_count → to_send h (node_at (round_pass w).world h) ≡ None
+    → is_some (leaving w.links.cables (host_port h)) ≡ true → (round_pass w).world.injected < last_count → to_send h (node_at (round_pass w).world h) ≡ None
 nothing-left w h idle e low below cable left = by (is_quiet z) refl
   where
     z : WorldState
@@ -118,7 +119,7 @@ nothing-left w h idle e low below cable left = by (is_quiet z) refl
     stopped p =
         let here : (step p.given (Inject h)).0 ≡ Idle = range-all (λ j. (step p.given (Inject j)).0 ≡ Idle) (host_count w) p.each h low in
         let still : is_idle p.given.links ≡ true = ap is_idle p.links ∙ idle in
-        let there : is_some (channel_from (fabric_of p.given) (host_port h)) ≡ true = ap (λ l. is_some (channel_from l.net (host_port h))) p.links ∙ cable in
+        let there : is_some (leaving p.given.links.cables (host_port h)) ≡ true = ap (λ l. is_some (leaving l.cables (host_port h))) p.links ∙ cable in
         ap (λ v. to_send h (node_at v h)) p.same ∙ cannot-inject p.given h still there (subst (λ v. v.injected < last_count) p.same left) ((step-idle p.given (Inject h)).from here)
 
     by : (t : Bool) → is_quiet z ≡ t → to_send h (node_at z h) ≡ None

@@ -4,7 +4,8 @@ use Rattle.std.specs.Prelude.{slice_get}
 use Rattle.std.specs.List.{AllByRecursion}
 use Rattle.std.proofs.lemmas.Option.{same_Some}
 use Rattle.net_defs.specs.Network.{Network}
-use Rattle.link_defs.specs.Channel.{channel_count}
+use Rattle.cable_history.specs.History.{first_history}
+use Rattle.cable_history.specs.Crossed.{life_channels}
 use Rattle.gm_defs.specs.declared.message.Message.{Message}
 use Rattle.gm_defs.specs.declared.frame.ConnectionKey.{ConnectionKey}
 use Rattle.gm_defs.specs.Body.{message_limit, prio_limit}
@@ -17,6 +18,7 @@ use Rattle.world_defs.specs.Node.{prio_place, lane_of, prio_of, sending_lane, ta
 use Rattle.world_defs.proofs.Lanes.{peer_of-lane, prio_of-lane, lane_of-below}
 use Rattle.world_laws.specs.Shape.{IsWorld}
 use Rattle.act_defs.specs.Acts.{IsReached}
+use Rattle.act_defs.proofs.Cables.{reached-cables}
 use Rattle.message_laws.proofs.Worlds.{reached-ordered}
 use Rattle.message_laws.specs.Windows.{IsWindow}
 use Rattle.message_laws.proofs.Windows.{windows-hold}
@@ -81,8 +83,12 @@ module _ (n : Network) (key : ConnectionKey) (k : ℕ) (fragment : FragmentOf) (
   pub lane-of : lane_of key.src fragment.message.prio ≡ taking_lane key
   lane-of = ap (λ p. prio_limit * key.src + p) prio-of
 
-  pub slots-of : length w.links.channels ≡ channel_count n
-  slots-of = world-of.links.slots ∙ ap channel_count f.net
+  -- its cables are those of its fabric before any change
+  pub cables-of : w.links.cables ≡ first_history n
+  cables-of = reached-cables n w f.reached
+
+  pub slots-of : length w.links.channels ≡ life_channels w.links.cables
+  slots-of = world-of.links.slots
 
   pub rules-of : IsReadable fragment.message → IsByRules key k fragment
   rules-of r =

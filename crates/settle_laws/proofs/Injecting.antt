@@ -4,11 +4,12 @@ use Rattle.std.proofs.lemmas.Bool.Decides.{nat_tests}
 use Rattle.std.proofs.lemmas.List.{get_or-set_other}
 use Rattle.std.proofs.lemmas.Option.{same_Some}
 use Rattle.net_defs.specs.Network.{Network}
-use Rattle.net_defs.specs.Route.{host_port, channel_from}
+use Rattle.net_defs.specs.Route.{host_port}
+use Rattle.cable_history.specs.Crossed.{leaving}
+use Rattle.cable_history.proofs.ForLife.{leaving_has_its_end}
 use Rattle.packet_defs.specs.declared.kind.Kind.TheVariants.{Gm}
 use Rattle.packet_defs.specs.Packet.{packet_of}
 use Rattle.link_defs.specs.Links.{Held, packet_in, with_packet}
-use Rattle.link_defs.proofs.Ends.{channel_from-ends}
 use Rattle.gm_defs.specs.declared.frame.FrameHead.{FrameHead}
 use Rattle.gm_defs.specs.declared.frame.ConnectionKey.{ConnectionKey}
 use Rattle.gm_defs.specs.Body.{frame_bytes, ack_bytes}
@@ -19,7 +20,7 @@ use Rattle.world_defs.specs.Table.{table_route}
 use Rattle.world_defs.specs.Lane.{LaneState, new_lane, lane_sent_one, lane_answered}
 use Rattle.world_defs.specs.Node.{NodeState, peer_of, prio_of, prio_place, lane_of, sending_lane, taking_lane, sends_on, takes_from, lane_route, Outgoing, Probe, TablePart, Reply, PartAnswer, FrameAnswer, Fragment, lane_at, with_lane, port_at, new_node, packet_for, after_sending}
 use Rattle.world_defs.specs.Hearing.{port_fits}
-use Rattle.world_defs.specs.World.{WorldState, fabric_of, node_at}
+use Rattle.world_defs.specs.World.{WorldState, node_at}
 use Rattle.world_defs.specs.Traffic.{sender_on, sent_on, taken_on}
 use Rattle.world_defs.proofs.Lanes.{peer_of-lane, prio_of-lane}
 use Rattle.world_defs.specs.Step.{planned_strikes, sent_out}
@@ -32,7 +33,7 @@ use Rattle.settle_laws.proofs.Staged.{IsOwed, IsDueOn, IsToPeer, to_send-peer, I
 use Rattle.world_defs.proofs.Strikes.{injection-nodes}
 use Rattle.settle_laws.proofs.Routes.{route-leads}
 use Rattle.settle_laws.proofs.Still.{Still}
-use Rattle.settle_laws.proofs.Facts.{Facts, slots-of}
+use Rattle.settle_laws.proofs.Facts.{Facts, cables-of, slots-of}
 use Rattle.settle_laws.proofs.Lively.{Lively, frame_payload, ack_payload}
 
 -- what sending leaves of a host
@@ -89,9 +90,9 @@ same-number x y e = grind (arith, nat_tests)
 other-number : (x y : ℕ) → nat_eq x y ≡ false → y ≢ x
 other-number x y e = grind (arith, nat_tests)
 
-module _ (n : Network) (key : ConnectionKey) (k : ℕ) (fragment : FragmentOf) (w v : WorldState) (f : Facts n key k fragment w) (h c : ℕ) (out : Outgoing) (chan : channel_from (fabric_of w) (host_port h) ≡ Some c) (none : packet_in w.links c ≡ None) (nodes : v.nodes ≡ set w.nodes h (after_sending (node_at w h) out)) (links : v.links ≡ with_packet w.links c (Some (record { wire = packet_for h (w.injected + 1) out; marked = false }))) where
-  net : fabric_of v ≡ fabric_of w
-  net = ap (λ l. l.net) links
+module _ (n : Network) (key : ConnectionKey) (k : ℕ) (fragment : FragmentOf) (w v : WorldState) (f : Facts n key k fragment w) (h c : ℕ) (out : Outgoing) (chan : leaving w.links.cables (host_port h) ≡ Some c) (none : packet_in w.links c ≡ None) (nodes : v.nodes ≡ set w.nodes h (after_sending (node_at w h) out)) (links : v.links ≡ with_packet w.links c (Some (record { wire = packet_for h (w.injected + 1) out; marked = false; born = w.links.epoch }))) where
+  kept : v.links.cables ≡ w.links.cables
+  kept = ap (λ l. l.cables) links
 
   -- each host
   over : (P : NodeState → NodeState → Type 0) → ((x : NodeState) → P x x) → P (node_at w h) (after_sending (node_at w h) out) → (j : ℕ) → P (node_at w j) (node_at v j)
@@ -106,24 +107,23 @@ module _ (n : Network) (key : ConnectionKey) (k : ℕ) (fragment : FragmentOf) (
   -- another packet
   other-way : (payload : List ℕ) (to : ℕ) → OnWay payload to w → OnWay payload to v
   other-way payload to o =
-      still-way payload to w v o net (ap (λ l. packet_in l o.channel) links ∙ keep-there w.links c o.channel o.held (Some (record { wire = packet_for h (w.injected + 1) out; marked = false })) none o.there)
+      still-way payload to w v o kept (ap (λ l. packet_in l o.channel) links ∙ keep-there w.links c o.channel o.held (Some (record { wire = packet_for h (w.injected + 1) out; marked = false; born = w.links.epoch })) none o.there)
 
   -- the new packet
   new-way : (payload : List ℕ) (to : ℕ) (walk : List ℤ) → packet_for h (w.injected + 1) out ≡ packet_of walk Gm payload → table_route (node_at w h).table to ≡ Some walk → OnWay payload to v
   new-way payload to walk wire route =
       let led = route-leads n w h to walk f.reached route in
-      let at : channel_from n (host_port h) ≡ Some c = subst (λ x. channel_from x (host_port h) ≡ Some c) f.net chan in
-      let leads : LeadsTo n payload to walk c = place-leads n h to c walk payload led.1 at led.0 in
-      let low = (channel_from-ends n (host_port h) c at).2 in
+      let leads : LeadsTo w.links.cables payload to walk c = place-leads n w.links.cables h to c walk payload (cables-of n key k fragment w f) led.1 chan led.0 in
+      let low = (leaving_has_its_end w.links.cables (host_port h) c chan).there in
       let slots = slots-of n key k fragment w f in
-      let new : Held = record { wire = packet_for h (w.injected + 1) out; marked = false } in
+      let new : Held = record { wire = packet_for h (w.injected + 1) out; marked = false; born = w.links.epoch } in
       record {
         channel = c;
         turns = walk;
         held = new;
         there = ap (λ l. packet_in l c) links ∙ new-there w.links c new (omega (arith, low, slots));
         wire = wire;
-        leads = subst (λ x. LeadsTo x payload to walk c) (sym (net ∙ f.net)) leads;
+        leads = subst (λ x. LeadsTo x payload to walk c) (sym kept) leads;
       }
 
   taken-same : taken_on v key ≡ taken_on w key

@@ -1,6 +1,7 @@
 -- The events of a settle keep what is known of a connection.
-use Rattle.std.proofs.Common.{ℕ, ◌∙◌, arith}
+use Rattle.std.proofs.Common.{ℕ, ap, ◌∙◌, arith}
 use Rattle.net_defs.specs.Network.{Network}
+use Rattle.cable_history.specs.History.{fabric_now}
 use Rattle.gm_defs.specs.Fragment.{Fragment as FragmentOf}
 use Rattle.gm_defs.specs.declared.frame.ConnectionKey.{ConnectionKey}
 use Rattle.world_defs.specs.declared.event.Event.{Event}
@@ -48,7 +49,7 @@ event-facts n key k fragment w e q f =
     let up = ((g.nodes.each key.src).senders (sending_lane key)).base in
     record {
       reached = reached-next n w (Happens e) f.reached (settle-byte e q).0;
-      net = (step-kept w e).net ∙ f.net;
+      net = ap fabric_now (step-kept w e).cables ∙ f.net;
       host = omega (arith, h, count);
       peer = omega (arith, p, count);
       low = omega (arith, low, up);

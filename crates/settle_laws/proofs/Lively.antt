@@ -15,7 +15,7 @@ use Rattle.gm_defs.specs.Connection.{SenderState, connection, ack_on, is_taken, 
 use Rattle.world_defs.specs.Lane.{LaneState, new_lane, lane_acknowledged, tickets_finished, lane_after}
 use Rattle.world_defs.specs.Node.{NodeState, prio_place, lane_of, sending_lane, taking_lane, lane_at, with_lane, port_at, new_node}
 use Rattle.world_defs.specs.Hearing.{port_takes, port_fits, message_of, frame_heard, frame_took, ack_heard, hear}
-use Rattle.world_defs.specs.World.{WorldState, fabric_of, host_count, node_at}
+use Rattle.world_defs.specs.World.{WorldState, host_count, node_at}
 use Rattle.world_defs.specs.Traffic.{sender_on, taken_on}
 use Rattle.message_laws.proofs.Numbers.{all_finished-lanes, delivered_after-lanes}
 use Rattle.settle_laws.proofs.Views.{AdvanceOf}
@@ -179,14 +179,14 @@ module _ (n : Network) (key : ConnectionKey) (k : ℕ) (fragment : FragmentOf) (
       by false g = let no = refused (nat_lt s.base next) (nat_le next s.top) g known in let high : next ≤ s.base = grind (arith, nat_tests) in omega (arith, more, high)
 
   -- an advance
-  pub advance-lively : IsReadable fragment.message → (c : ℕ) → AdvanceOf w c v → WorldCalm w v → fabric_of v ≡ fabric_of w → Lively key k fragment w → Lively key k fragment v
-  advance-lively r c d calm net (Lively.still s) = Lively.still (calm-still key k fragment w v calm f.low s)
-  advance-lively r c d calm net (Lively.frame o) = by (advance-way (frame_payload key k fragment) key.dst w v c (world-of n key k fragment w f).links net o d)
+  pub advance-lively : IsReadable fragment.message → (c : ℕ) → AdvanceOf w c v → WorldCalm w v → v.links.cables ≡ w.links.cables → Lively key k fragment w → Lively key k fragment v
+  advance-lively r c d calm same (Lively.still s) = Lively.still (calm-still key k fragment w v calm f.low s)
+  advance-lively r c d calm same (Lively.frame o) = by (advance-way (frame_payload key k fragment) key.dst w v c (world-of n key k fragment w f).links same o d)
     where
       by : WentOn (frame_payload key k fragment) key.dst w v → Lively key k fragment v
       by (WentOn.on x) = Lively.frame x
       by (WentOn.heard e) = Lively.still (frame-lands r e)
-  advance-lively r c d calm net (Lively.ack next more most o) = by (advance-way (ack_payload key next) key.src w v c (world-of n key k fragment w f).links net o d)
+  advance-lively r c d calm same (Lively.ack next more most o) = by (advance-way (ack_payload key next) key.src w v c (world-of n key k fragment w f).links same o d)
     where
       by : WentOn (ack_payload key next) key.src w v → Lively key k fragment v
       by (WentOn.on x) = let up = calm-taken w v key calm in Lively.ack next more (omega (arith, most, up)) x

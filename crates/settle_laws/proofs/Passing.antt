@@ -72,7 +72,7 @@ module _ (flows : PlainDrainsIdle) (n : Network) (key : ConnectionKey) (k : ℕ)
   advance-draining : (w : WorldState) (e : Event) → IsOfDrain e → Draining n key k fragment w → Draining n key k fragment (step w e).1
   advance-draining w (Advance c) q d = record {
     facts = (along-facts n key k fragment).event w (Advance c) tt d.facts;
-    lively = advance-lively n key k fragment w (step w (Advance c)).1 d.facts readable c (advance-is w c) (event-calm w (Advance c) tt) (step-kept w (Advance c)).net d.lively;
+    lively = advance-lively n key k fragment w (step w (Advance c)).1 d.facts readable c (advance-is w c) (event-calm w (Advance c) tt) (step-kept w (Advance c)).cables d.lively;
   }
   advance-draining w _ q d = absurd q
 

@@ -43,7 +43,7 @@ set-plain s c p is new = record {
 }
 
 -- an injection
-sent-plain : (host h number : ℕ) (w : WorldState) (out : Outgoing) → IsToPeer host (node_at w host) out → IsPlainPacket (record { wire = packet_for h number out; marked = false })
+sent-plain : (host h number : ℕ) (w : WorldState) (out : Outgoing) → IsToPeer host (node_at w host) out → IsPlainPacket (record { wire = packet_for h number out; marked = false; born = w.links.epoch })
 unfolding packet_for
 sent-plain host h number w (FrameAnswer lane next by) is = record { unmarked = refl; turns = by; payload = ack_bytes (ack_on (takes_from h lane) next); wire = refl }
 sent-plain host h number w (Fragment lane head part by) is = record { unmarked = refl; turns = by; payload = frame_bytes head part; wire = refl }
@@ -57,6 +57,6 @@ inject-plain w h r bare (InjectOf.idle e s) t is = subst (λ x. IsPlain x.links)
 inject-plain w h r bare (InjectOf.sends c out chan e none x s) t is =
     let v : WorldState = planned_strikes (sent_out w h c out) c in
     let few : v.struck ≤ w.struck = subst (λ z. z.struck ≤ w.struck) s t in
-    let new : Held = record { wire = packet_for h (w.injected + 1) out; marked = false } in
+    let new : Held = record { wire = packet_for h (w.injected + 1) out; marked = false; born = w.links.epoch } in
     let plain : IsPlainPacket new = sent-plain h h (w.injected + 1) w out (to_send-peer h (node_at w h) (bare.each h) out e) in
     subst (λ x. IsPlain x.links) (sym s) (subst IsPlain (sym (unstruck-links w h c out none few)) (set-plain w.links c (Some new) is (λ y q. subst IsPlainPacket (same_Some new y q) plain)))

@@ -5,7 +5,9 @@ use Rattle.std.proofs.lemmas.Bool.Decides.{nat_tests}
 use Rattle.net_defs.specs.declared.place.Place.TheVariants.{Host as AtHostPlace, Nothing as Stuck}
 use Rattle.net_defs.specs.declared.route.Route.{Route}
 use Rattle.net_defs.specs.Network.{Network}
-use Rattle.net_defs.specs.Route.{place, host_port, channel_from}
+use Rattle.net_defs.specs.Route.{place, host_port}
+use Rattle.cable_history.specs.History.{first_history, fabric_now}
+use Rattle.cable_history.specs.Crossed.{leaving}
 use Rattle.link_defs.specs.Links.{is_idle}
 use Rattle.link_defs.proofs.LonePackets.{no_channel-place}
 use Rattle.gm_defs.specs.Fragment.{Fragment as FragmentOf, fragments, whole_below}
@@ -32,6 +34,7 @@ use Rattle.world_laws.proofs.Meanings.{base-test, none_left-settled}
 use Rattle.world_laws.proofs.Along.{Along, clear-along, expiries-along, round_pass-along, round-along, settle-along}
 use Rattle.world_laws.proofs.Reached.{settles-of}
 use Rattle.act_defs.specs.Acts.{IsReached}
+use Rattle.act_defs.proofs.Cables.{first-net}
 use Rattle.message_laws.proofs.Worlds.{reached-ordered}
 use Rattle.message_laws.proofs.Windows.{reached-windowed}
 use Rattle.settle_laws.specs.Premises.{CanSettle, HasRoutesBack}
@@ -39,7 +42,7 @@ use Rattle.settle_laws.specs.Settles.{SentHasRoute, SettleEndsSettled}
 use Rattle.world_defs.proofs.Kept.{step-adopted}
 use Rattle.settle_laws.proofs.Routes.{table-route, has-active, route-leads, route-in, in-route}
 use Rattle.settle_laws.proofs.Still.{Still}
-use Rattle.settle_laws.proofs.Facts.{Facts, IsReadable, at-place, place-below, comes-of, peer-low}
+use Rattle.settle_laws.proofs.Facts.{Facts, IsReadable, at-place, place-below, comes-of, peer-low, cables-of}
 use Rattle.settle_laws.proofs.Sents.{reached-said}
 use Rattle.settle_laws.proofs.Kept.{along-going, along-reached, along-facts}
 use Rattle.settle_laws.proofs.Passing.{PlainDrainsIdle, pass-facts, pass-still, pass-idle}
@@ -67,9 +70,9 @@ record Ended (n : Network) (key : ConnectionKey) (k : ℕ) (fragment : FragmentO
   host_done : to_send key.src (node_at z key.src) ≡ None
   peer_done : to_send key.dst (node_at z key.dst) ≡ None
 
-module _ (flows : PlainDrainsIdle) (n : Network) (key : ConnectionKey) (k : ℕ) (fragment : FragmentOf) (readable : IsReadable fragment.message) (from : is_some (channel_from n (host_port key.src)) ≡ true) (to : is_some (channel_from n (host_port key.dst)) ≡ true) where
-  cable : (h : ℕ) (w : WorldState) → fabric_of w ≡ n → is_some (channel_from n (host_port h)) ≡ true → is_some (channel_from (fabric_of w) (host_port h)) ≡ true
-  cable h w net e = ap (λ x. is_some (channel_from x (host_port h))) net ∙ e
+module _ (flows : PlainDrainsIdle) (n : Network) (key : ConnectionKey) (k : ℕ) (fragment : FragmentOf) (readable : IsReadable fragment.message) (from : is_some (leaving (first_history n) (host_port key.src)) ≡ true) (to : is_some (leaving (first_history n) (host_port key.dst)) ≡ true) where
+  cable : (h : ℕ) (w : WorldState) → Facts n key k fragment w → is_some (leaving (first_history n) (host_port h)) ≡ true → is_some (leaving w.links.cables (host_port h)) ≡ true
+  cable h w f e = ap (λ x. is_some (leaving x (host_port h))) (cables-of n key k fragment w f) ∙ e
 
   passes-end : (w : WorldState) (l : Log Moved) → RoundPasses w l → is_idle w.links ≡ true → l.world.struck ≤ w.struck → l.world.injected < last_count → Facts n key k fragment w → Still key k fragment w → Ended n key k fragment l.world
   passes-end w l (Repeats.last e) idle few left f still =
@@ -77,8 +80,8 @@ module _ (flows : PlainDrainsIdle) (n : Network) (key : ConnectionKey) (k : ℕ)
       record {
         facts = then_f;
         still = pass-still flows n key k fragment readable w idle few f still;
-        host_done = nothing-left w key.src idle e f.host then_f.host (cable key.src w f.net from) left;
-        peer_done = nothing-left w key.dst idle e f.peer then_f.peer (cable key.dst w f.net to) left;
+        host_done = nothing-left w key.src idle e f.host then_f.host (cable key.src w f from) left;
+        peer_done = nothing-left w key.dst idle e f.peer then_f.peer (cable key.dst w f to) left;
       }
   passes-end w l (Repeats.another {l = rest} e more d) idle few left f still =
       let mid : WorldState = (round_pass w).world in
@@ -97,17 +100,17 @@ module _ (flows : PlainDrainsIdle) (n : Network) (key : ConnectionKey) (k : ℕ)
       passes-end u (round_passes (pass_bound w) u) (round-ends w) (ap is_idle (expiries-links w) ∙ idle) (omega (arith, few, up)) left f still
 
 -- a route from a host needs its cable
-has-cable : (n : Network) (h to : ℕ) (walk : List ℤ) → place n h walk ≡ AtHostPlace to → is_some (channel_from n (host_port h)) ≡ true
-has-cable n h to walk e = by (channel_from n (host_port h)) refl
+has-cable : (n : Network) (h to : ℕ) (walk : List ℤ) → place n h walk ≡ AtHostPlace to → is_some (leaving (first_history n) (host_port h)) ≡ true
+has-cable n h to walk e = by (leaving (first_history n) (host_port h)) refl
   where
-    by : (o : Option ℕ) → channel_from n (host_port h) ≡ o → is_some o ≡ true
+    by : (o : Option ℕ) → leaving (first_history n) (host_port h) ≡ o → is_some o ≡ true
     by (Some c) g = refl
-    by None g = let bad : Stuck ≡ AtHostPlace to = sym (no_channel-place n h walk g) ∙ e in cc
+    by None g = let bad : Stuck ≡ AtHostPlace to = sym (no_channel-place (first_history n) h walk g) ∙ (ap (λ x. place x h walk) (first-net n) ∙ e) in cc
 
-table-cable : (n : Network) (w : WorldState) (h to : ℕ) → IsReached n w → is_some (table_route (node_at w h).table to) ≡ true → is_some (channel_from n (host_port h)) ≡ true
+table-cable : (n : Network) (w : WorldState) (h to : ℕ) → IsReached n w → is_some (table_route (node_at w h).table to) ≡ true → is_some (leaving (first_history n) (host_port h)) ≡ true
 table-cable n w h to is e = by (table_route (node_at w h).table to) refl e
   where
-    by : (o : Option (List ℤ)) → table_route (node_at w h).table to ≡ o → is_some o ≡ true → is_some (channel_from n (host_port h)) ≡ true
+    by : (o : Option (List ℤ)) → table_route (node_at w h).table to ≡ o → is_some o ≡ true → is_some (leaving (first_history n) (host_port h)) ≡ true
     by None g d = absurd (true≢false (sym d))
     by (Some walk) g d = has-cable n h to walk (route-leads n w h to walk is g).0
 
@@ -235,7 +238,7 @@ round-settled flows n w e is net idle left joined = by (nat_eq (unacknowledged_i
 
 -- all rounds
 along-net : Along (λ w v. fabric_of v ≡ fabric_of w) IsOfSettle
-along-net = record { same = λ w. refl; both = λ u v w k l. l ∙ k; event = λ w e q. (step-kept w e).net }
+along-net = record { same = λ w. refl; both = λ u v w k l. l ∙ k; event = λ w e q. ap fabric_now (step-kept w e).cables }
 
 along-adopted : Along (λ w v. v.adopted ≡ w.adopted) IsOfSettle
 along-adopted = record { same = λ w. refl; both = λ u v w k l. l ∙ k; event = λ w e q. step-adopted w e }

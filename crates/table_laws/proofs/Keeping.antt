@@ -1,20 +1,21 @@
 -- What holds of each packet, and stays with moves and flips, holds after every act, if it holds of what is injected once that counts as sent.
-use Rattle.std.proofs.Common.{◌≡◌, ◌<◌, ◌+◌, ℕ, false, List, set, Some, None, IfSome, Ok, sym, ap, ◌∙◌, subst}
-use Rattle.net_defs.specs.Route.{host_port, channel_from}
+use Rattle.std.proofs.Common.{◌≡◌, ◌<◌, ◌+◌, ℕ, false, List, set, Some, None, IfSome, Ok, refl, sym, ap, ◌∙◌, subst}
+use Rattle.net_defs.specs.Route.{host_port}
+use Rattle.cable_history.specs.Crossed.{leaving}
 use Rattle.packet_defs.specs.declared.kind.Kind.{Kind}
 use Rattle.packet_defs.specs.Packet.{difference}
 use Rattle.packet_defs.specs.Host.{decode}
 use Rattle.packet_defs.proofs.Packets.{packet_of-difference}
 use Rattle.link_defs.specs.Links.{Held, LinkState, packet_in}
 use Rattle.link_defs.specs.Step.{Step, Put as PutLinks, Advance as AdvanceLinks}
-use Rattle.link_defs.proofs.Shapes.{stepped-net}
+use Rattle.link_defs.proofs.Shapes.{stepped-cables}
 use Rattle.world_defs.specs.declared.event.Event.{Event}
 use Rattle.world_defs.specs.declared.effect.Effect.{Effect}
 use Rattle.world_defs.specs.declared.fault.Fault.{Fault}
 use Rattle.world_defs.specs.declared.fault.Fault.TheVariants.{Lose as LoseFault, Repeat as RepeatFault, Hold as HoldFault, Flip as FlipFault}
 use Rattle.world_defs.specs.EightBits.{IsByteFault, IsByteEvent, HasByteFaults}
 use Rattle.world_defs.specs.Node.{Outgoing, to_send, packet_for, after_sending}
-use Rattle.world_defs.specs.World.{WorldState, fabric_of, last_count, node_at}
+use Rattle.world_defs.specs.World.{WorldState, last_count, node_at}
 use Rattle.world_defs.specs.Step.{planned_strikes, sent_out}
 use Rattle.act_defs.specs.Acts.{Act, Happens, Plans, Adopts, acted, IsByteAct}
 use Rattle.world_defs.proofs.Views.{LinksChange, Change, view}
@@ -28,7 +29,7 @@ pub holds-read : (G : Kind → List ℕ → Type 0) (s : LinkState) (c : ℕ) (h
 holds-read G s c held is e k body d = honest-read G held k body (subst (λ o. IfSome o (IsHonest G)) e (is.in_channels c)) d
 
 -- a packet as it was built
-pub new-honest : (G : Kind → List ℕ → Type 0) (wire : List ℕ) → Built G wire → IsHonest G (record { wire = wire; marked = false })
+pub new-honest : (G : Kind → List ℕ → Type 0) (wire : List ℕ) {epoch : ℕ} → Built G wire → IsHonest G (record { wire = wire; marked = false; born = epoch })
 new-honest G wire b = record { mark = ap difference b.written ∙ packet_of-difference b.route b.kind b.payload; built = λ e. b }
 
 -- what holds of what is read may be less
@@ -39,24 +40,24 @@ honest-more G H held more is = record {
 }
 
 -- the steps of the links
-links-good : (F : ℕ → Held → Type 0) {w : WorldState} {e : Event} {x : Effect} {s : Step} → LinksChange w e x s → IsByteEvent e → IsGoodStep F s
-links-good F (LinksChange.moves packet next d e f g) low = tt
-links-good F (LinksChange.loses k) low = tt
-links-good F (LinksChange.resets k) low = tt
-links-good F (LinksChange.repeats k) low = tt
-links-good F (LinksChange.holds k) low = tt
-links-good F (LinksChange.flips k) low = low
-links-good F (LinksChange.replays k) low = tt
+links-good : (F : ℕ → Held → Type 0) (epoch : ℕ) {w : WorldState} {e : Event} {x : Effect} {s : Step} → LinksChange w e x s → IsByteEvent e → IsGoodStep F epoch s
+links-good F epoch (LinksChange.moves packet next d e f g) low = tt
+links-good F epoch (LinksChange.loses k) low = tt
+links-good F epoch (LinksChange.resets k) low = tt
+links-good F epoch (LinksChange.repeats k) low = tt
+links-good F epoch (LinksChange.holds k) low = tt
+links-good F epoch (LinksChange.flips k) low = low
+links-good F epoch (LinksChange.replays k) low = tt
 
-fault-good : (F : ℕ → Held → Type 0) (c : ℕ) (f : Fault) → IsByteFault f → IsGoodStep F (fault_step c f)
-fault-good F c LoseFault low = tt
-fault-good F c RepeatFault low = tt
-fault-good F c HoldFault low = tt
-fault-good F c (FlipFault bit pattern) low = low
+fault-good : (F : ℕ → Held → Type 0) (epoch c : ℕ) (f : Fault) → IsByteFault f → IsGoodStep F epoch (fault_step c f)
+fault-good F epoch c LoseFault low = tt
+fault-good F epoch c RepeatFault low = tt
+fault-good F epoch c HoldFault low = tt
+fault-good F epoch c (FlipFault bit pattern) low = low
 
 -- a host's packet enters its empty channel, and counts as sent
 pub record Enters (w v : WorldState) (h c : ℕ) (out : Outgoing) : Type 0 where
-  pub cable : channel_from (fabric_of w) (host_port h) ≡ Some c
+  pub cable : leaving w.links.cables (host_port h) ≡ Some c
   pub sends : to_send h (node_at w h) ≡ Some out
   pub room : packet_in w.links c ≡ None
   pub left : w.injected < last_count
@@ -64,25 +65,25 @@ pub record Enters (w v : WorldState) (h c : ℕ) (out : Outgoing) : Type 0 where
 
 -- what holds of a new packet, once it counts as sent
 abbrev pub HoldsOfNew : (ℕ → Held → Type 0) → WorldState → WorldState → Type 0
-HoldsOfNew F w v = (h c : ℕ) (out : Outgoing) → Enters w v h c out → F c (record { wire = packet_for h (w.injected + 1) out; marked = false })
+HoldsOfNew F w v = (h c : ℕ) (out : Outgoing) → Enters w v h c out → F c (record { wire = packet_for h (w.injected + 1) out; marked = false; born = w.links.epoch })
 
-strike-holds : (F : ℕ → Held → Type 0) {w v : WorldState} {c : ℕ} → Carries (fabric_of w) F → Holds F w.links → HasByteFaults w → Strike w c v → Holds F v.links
+strike-holds : (F : ℕ → Held → Type 0) {w v : WorldState} {c : ℕ} → Carries w.links.cables F → Holds F w.links → HasByteFaults w → Strike w c v → Holds F v.links
 strike-holds F carries is low (Strike.spares e) = is
 strike-holds F carries is low (Strike.misses f e k) = is
 strike-holds F {w = w} {c = c} carries is low (Strike.strikes f e k) =
-    stepped-holds F w.links (fault_step c f) carries (fault-good F c f (subst (λ o. IfSome o IsByteFault) e (planned_one w.injected w.plan low))) is
+    stepped-holds F w.links (fault_step c f) carries (fault-good F w.links.epoch c f (subst (λ o. IfSome o IsByteFault) e (planned_one w.injected w.plan low))) is
 
-module _ (F : ℕ → Held → Type 0) (w : WorldState) (carries : Carries (fabric_of w) F) (links : Holds F w.links) (plan : HasByteFaults w) where
-  injection-holds : (h c : ℕ) (out : Outgoing) → F c (record { wire = packet_for h (w.injected + 1) out; marked = false }) → Holds F (planned_strikes (sent_out w h c out) c).links
+module _ (F : ℕ → Held → Type 0) (w : WorldState) (carries : Carries w.links.cables F) (links : Holds F w.links) (plan : HasByteFaults w) where
+  injection-holds : (h c : ℕ) (out : Outgoing) → F c (record { wire = packet_for h (w.injected + 1) out; marked = false; born = w.links.epoch }) → Holds F (planned_strikes (sent_out w h c out) c).links
   unfolding sent_out
   injection-holds h c out new =
       let x : Step = PutLinks c (packet_for h (w.injected + 1) out) in
-      strike-holds F (subst (λ n. Carries n F) (sym (stepped-net w.links x)) carries) (stepped-holds F w.links x carries new links) plan (strike_view (sent_out w h c out) c)
+      strike-holds F (subst (λ h. Carries h F) (sym (stepped-cables w.links x refl)) carries) (stepped-holds F w.links x carries new links) plan (strike_view (sent_out w h c out) c)
 
   change-holds : {e : Event} {r : Effect × WorldState} → Change w e r → IsByteEvent e → HoldsOfNew F w r.1 → Holds F r.1.links
   change-holds Change.idle low new = links
   change-holds (Change.blocked packet next d e) low new = links
-  change-holds (Change.links {s = s} k) low new = stepped-holds F w.links s carries (links-good F k low) links
+  change-holds (Change.links {s = s} k) low new = stepped-holds F w.links s carries (links-good F w.links.epoch k low) links
   change-holds (Change.drops {c = c} packet why d e f) low new = stepped-holds F w.links (AdvanceLinks c) carries tt links
   change-holds (Change.arrives {c = c} packet h d e f g) low new = stepped-holds F w.links (AdvanceLinks c) carries tt links
   change-holds (Change.host k) low new = links

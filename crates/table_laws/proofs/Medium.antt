@@ -1,6 +1,6 @@
 -- What holds of each packet, wherever it is, holds after every step of the links.
-use Rattle.std.proofs.Common.{◌≡◌, ◌<◌, ◌≤◌, ◌+◌, ◌*◌, ℕ, zero, suc, Bool, true, false, not, ◌&&◌, nat_lt, nat_le, nat_eq, ℤ, List, [], ◌∷◌, length, get_or, set, Option, Some, None, is_some, IfSome, Result, Ok, Err, refl, sym, ap, ◌∙◌, subst, arith, true≢false, if◌then◌else◌}
-use Rattle.std.specs.List.{AllByRecursion, slice_get}
+use Rattle.std.proofs.Common.{◌≡◌, ◌<◌, ◌≤◌, ◌+◌, ◌*◌, ◌/◌, ◌++◌, ℕ, zero, suc, Bool, true, false, not, ◌&&◌, nat_lt, nat_le, nat_eq, ℤ, List, [], ◌∷◌, length, get_or, set, Option, Some, None, is_some, IfSome, Result, Ok, Err, refl, sym, ap, ◌∙◌, subst, arith, true≢false, if◌then◌else◌}
+use Rattle.std.specs.List.{AllByRecursion, slice_get, filter}
 use Rattle.std.specs.Prelude.{option_and_then}
 use Rattle.std.specs.Map.{lookup}
 use Rattle.std.proofs.lemmas.Bool.Decides.{nat_tests}
@@ -21,11 +21,13 @@ use Rattle.packet_defs.proofs.Hosts.{decode-packet_of, decode-difference}
 use Rattle.link_defs.specs.declared.moved.Course.{Course}
 use Rattle.link_defs.specs.declared.moved.Course.TheVariants.{Arrives, Enters, Drops}
 use Rattle.link_defs.specs.declared.replayed.Replayed.TheVariants.{Back, Busy}
-use Rattle.link_defs.specs.Channel.{channel_count, channel_head}
+use Rattle.net_defs.specs.declared.vertex.End.{End}
+use Rattle.cable_history.specs.History.{CableHistory, first_history, may_plug, with_plugged}
+use Rattle.cable_history.specs.Crossed.{leaving, life_channels, life_head}
 use Rattle.link_defs.specs.Links.{Held, Caught, LinkState, empty_links, packet_in, with_packet, emptied, put}
 use Rattle.link_defs.specs.Advance.{course, entered, gone_on, advance_of}
-use Rattle.link_defs.specs.Fault.{repeat_of, hold_of, is_used_up, with_caught, flip_of, caught_as, released, replay_of}
-use Rattle.link_defs.specs.Step.{Step, Put, Advance, Lose, Reset, Repeat, Hold, Flip, Replay, stepped}
+use Rattle.link_defs.specs.Fault.{repeat_of, hold_of, is_used_up, with_caught, flip_of, caught_as, released, replay_of, pull_by, plug}
+use Rattle.link_defs.specs.Step.{Step, Put, Advance, Lose, Reset, Repeat, Hold, Flip, Replay, Pull, Plug, Accept, stepped}
 use Rattle.link_defs.specs.Mark.{Tells}
 use Rattle.link_defs.proofs.Idling.{pick}
 use Rattle.link_defs.proofs.HopsLeft.{course_into-enters}
@@ -34,9 +36,9 @@ use Rattle.link_defs.proofs.Shapes.{all-removed}
 use Rattle.table_laws.specs.Packets.{Built, IsHonest, IsGoodStep}
 
 -- what a move and a flip keep
-pub record Carries (n : Network) (F : ℕ → Held → Type 0) : Type 0 where
-  pub strip : (c next : ℕ) (held : Held) → course n c held.wire ≡ Enters next → F c held → F next (record held { wire = stripped held.wire })
-  pub flip : (c bit pattern : ℕ) (held : Held) → pattern < 256 → (not held.marked && may_flip held.wire bit pattern) ≡ true → F c held → F c (record { wire = flipped held.wire bit pattern; marked = true })
+pub record Carries (h : CableHistory) (F : ℕ → Held → Type 0) : Type 0 where
+  pub strip : (c next : ℕ) (held : Held) → course h c held.wire ≡ Enters next → F c held → F next (record held { wire = stripped held.wire })
+  pub flip : (c bit pattern : ℕ) (held : Held) → pattern < 256 → (not held.marked && may_flip held.wire bit pattern) ≡ true → F c held → F c (record held { wire = flipped held.wire bit pattern; marked = true })
 
 -- what holds of each packet in a channel and in limbo
 pub record Holds (F : ℕ → Held → Type 0) (s : LinkState) : Type 0 where
@@ -75,14 +77,14 @@ entered-holds : (F : ℕ → Held → Type 0) (s : LinkState) (c : ℕ) (held : 
 entered-holds F s c held next None is here = with_packet-holds F (emptied s c) next (Some (record held { wire = stripped held.wire })) (with_packet-holds F s c None is tt) here
 entered-holds F s c held next (Some other) is here = is
 
-gone_on-holds : (F : ℕ → Held → Type 0) (s : LinkState) (c : ℕ) (held : Held) (to : Course) → Carries s.net F → Holds F s → F c held → course s.net c held.wire ≡ to → Holds F (gone_on s c held to).1
+gone_on-holds : (F : ℕ → Held → Type 0) (s : LinkState) (c : ℕ) (held : Held) (to : Course) → Carries s.cables F → Holds F s → F c held → course s.cables c held.wire ≡ to → Holds F (gone_on s c held to).1
 gone_on-holds F s c held (Arrives h) k is here e = with_packet-holds F s c None is tt
 gone_on-holds F s c held (Enters next) k is here e = entered-holds F s c held next (packet_in (emptied s c) next) is (k.strip c next held e here)
 gone_on-holds F s c held (Drops why) k is here e = with_packet-holds F s c None is tt
 
-advance_of-holds : (F : ℕ → Held → Type 0) (s : LinkState) (c : ℕ) (o : Option Held) → Carries s.net F → Holds F s → IfSome o (F c) → Holds F (advance_of s c o).1
+advance_of-holds : (F : ℕ → Held → Type 0) (s : LinkState) (c : ℕ) (o : Option Held) → Carries s.cables F → Holds F s → IfSome o (F c) → Holds F (advance_of s c o).1
 advance_of-holds F s c None k is here = is
-advance_of-holds F s c (Some held) k is here = gone_on-holds F s c held (course s.net c held.wire) k is here refl
+advance_of-holds F s c (Some held) k is here = gone_on-holds F s c held (course s.cables c held.wire) k is here refl
 
 repeat_of-holds : (F : ℕ → Held → Type 0) (s : LinkState) (c : ℕ) (o : Option Held) → Holds F s → IfSome o (F c) → Holds F (repeat_of s c o).1
 repeat_of-holds F s c None is here = is
@@ -93,12 +95,12 @@ hold_of-holds F s c None is here = is
 hold_of-holds F s c (Some held) is here =
     pick-holds F (is_used_up s) (None, s) (Some s.next_serial, with_caught (emptied s c) c held) is (with_caught-holds F (emptied s c) c held (with_packet-holds F s c None is tt) here)
 
-flip_of-holds : (F : ℕ → Held → Type 0) (s : LinkState) (c bit pattern : ℕ) (o : Option Held) → Carries s.net F → pattern < 256 → Holds F s → IfSome o (F c) → Holds F (flip_of s c bit pattern o).1
+flip_of-holds : (F : ℕ → Held → Type 0) (s : LinkState) (c bit pattern : ℕ) (o : Option Held) → Carries s.cables F → pattern < 256 → Holds F s → IfSome o (F c) → Holds F (flip_of s c bit pattern o).1
 flip_of-holds F s c bit pattern None k low is here = is
 flip_of-holds F s c bit pattern (Some held) k low is here = by (not held.marked && may_flip held.wire bit pattern) refl
   where
     new : Held
-    new = record { wire = flipped held.wire bit pattern; marked = true }
+    new = record held { wire = flipped held.wire bit pattern; marked = true }
 
     by : (t : Bool) → (not held.marked && may_flip held.wire bit pattern) ≡ t → Holds F (pick t (true, with_packet s c (Some new)) (false, s)).1
     by true e = with_packet-holds F s c (Some new) is (k.flip c bit pattern held low e here)
@@ -113,12 +115,43 @@ replay_of-holds F s serial (Some caught) is here =
       in_limbo = all-removed (λ e. F e.1.channel e.1.held) (nat_eq serial) s.limbo is.in_limbo;
     })
 
-put-holds : (F : ℕ → Held → Type 0) (s : LinkState) (c : ℕ) (wire : List ℕ) → Holds F s → F c (record { wire = wire; marked = false }) → Holds F (put s c wire).1
+put-holds : (F : ℕ → Held → Type 0) (s : LinkState) (c : ℕ) (wire : List ℕ) → Holds F s → F c (record { wire = wire; marked = false; born = s.epoch }) → Holds F (put s c wire).1
 put-holds F s c wire is here =
-    let p : Option Held = Some (record { wire = wire; marked = false }) in
+    let p : Option Held = Some (record { wire = wire; marked = false; born = s.epoch }) in
     pick-holds F (is_some (packet_in s c)) (false, s) (true, with_packet s c p) is (with_packet-holds F s c p is here)
 
-pub stepped-holds : (F : ℕ → Held → Type 0) (s : LinkState) (x : Step) → Carries s.net F → IsGoodStep F x → Holds F s → Holds F (stepped s x)
+-- a pull takes packets away, and a plug brings empty channels
+all-of_some : {X : Type 0} (P : X → Type 0) (test : X → Bool) (xs : List X) → AllByRecursion P xs → AllByRecursion P (filter test xs)
+all-of_some P test [] all = tt
+all-of_some P test (x ∷ xs) all = by (test x) (all-of_some P test xs all.1)
+  where
+    by : (t : Bool) → AllByRecursion P (filter test xs) → AllByRecursion P (if t then x ∷ filter test xs else filter test xs)
+    by true rest = (all.0, rest)
+    by false rest = rest
+
+pull_by-holds : (F : ℕ → Held → Type 0) (s : LinkState) (o : Option ℕ) → Holds F s → Holds F (pull_by s o).1
+pull_by-holds F s None is = is
+pull_by-holds F s (Some c) is =
+    let k : ℕ = c / 2 in
+    let one : LinkState = with_packet s (2 * k) None in
+    record {
+      in_channels = λ d. set-all F one.channels (2 * k + 1) d None tt (λ j. set-all F s.channels (2 * k) j None tt is.in_channels);
+      in_limbo = all-of_some (λ e. F e.1.channel e.1.held) (λ e. not (nat_eq (e.1.channel / 2) k)) s.limbo is.in_limbo;
+    }
+
+pushed-all : (F : ℕ → Held → Type 0) (ps : List (Option Held)) (d : ℕ) → ((j : ℕ) → IfSome (get_or ps j None) (F j)) → IfSome (get_or (ps ++ None ∷ None ∷ []) d None) (F d)
+pushed-all F [] zero all = tt
+pushed-all F [] (suc zero) all = tt
+pushed-all F [] (suc (suc d)) all = tt
+pushed-all F (p ∷ ps) zero all = all zero
+pushed-all F (p ∷ ps) (suc d) all = pushed-all (λ j. F (suc j)) ps d (λ j. all (suc j))
+
+plug-holds : (F : ℕ → Held → Type 0) (s : LinkState) (a b : End) → Holds F s → Holds F (plug s a b).1
+plug-holds F s a b is =
+    let more : LinkState = record s { cables = with_plugged s.cables a b; channels = s.channels ++ None ∷ None ∷ [] } in
+    pick-holds F (may_plug s.cables a b) (true, more) (false, s) (record { in_channels = λ d. pushed-all F s.channels d is.in_channels; in_limbo = is.in_limbo }) is
+
+pub stepped-holds : (F : ℕ → Held → Type 0) (s : LinkState) (x : Step) → Carries s.cables F → IsGoodStep F s.epoch x → Holds F s → Holds F (stepped s x)
 stepped-holds F s (Put c wire) k good is = put-holds F s c wire is good
 stepped-holds F s (Advance c) k good is = advance_of-holds F s c (packet_in s c) k is (is.in_channels c)
 stepped-holds F s (Lose c) k good is = with_packet-holds F s c None is tt
@@ -127,6 +160,9 @@ stepped-holds F s (Repeat c) k good is = repeat_of-holds F s c (packet_in s c) i
 stepped-holds F s (Hold c) k good is = hold_of-holds F s c (packet_in s c) is (is.in_channels c)
 stepped-holds F s (Flip c bit pattern) k good is = flip_of-holds F s c bit pattern (packet_in s c) k good is (is.in_channels c)
 stepped-holds F s (Replay serial) k good is = replay_of-holds F s serial (caught_as s serial) is (looked_up (λ caught. F caught.channel caught.held) (nat_eq serial) s.limbo is.in_limbo)
+stepped-holds F s (Pull e) k good is = pull_by-holds F s (leaving s.cables e) is
+stepped-holds F s (Plug a b) k good is = plug-holds F s a b is
+stepped-holds F s Accept k good is = record { in_channels = is.in_channels; in_limbo = is.in_limbo }
 
 if-weaker : (F G : Held → Type 0) (o : Option Held) → ((held : Held) → F held → G held) → IfSome o F → IfSome o G
 if-weaker F G None f is = tt
@@ -140,7 +176,7 @@ weaker-holds F G s f is = record {
 
 pub empty-holds : (F : ℕ → Held → Type 0) (n : Network) → Holds F (empty_links n)
 empty-holds F n = record {
-  in_channels = λ c. subst (λ o. IfSome o (F c)) (sym (get-empty (channel_count n) c None)) tt;
+  in_channels = λ c. subst (λ o. IfSome o (F c)) (sym (get-empty (life_channels (first_history n)) c None)) tt;
   in_limbo = tt;
 }
 
@@ -172,10 +208,10 @@ built-stripped : (G : Kind → List ℕ → Type 0) (wire : List ℕ) (turn : �
 built-stripped G wire turn [] kind payload e same good = absurd (no_turn kind payload turn (ap front_turn (sym same) ∙ e))
 built-stripped G wire turn (t ∷ route) kind payload e same good = record { route = route; kind = kind; payload = payload; written = ap stripped same ∙ packet_of-stripped t route kind payload; good = good }
 
-pub carries-honest : (n : Network) (G : Kind → List ℕ → Type 0) → Carries n (λ c. IsHonest G)
-carries-honest n G = record {
+pub carries-honest : (h : CableHistory) (G : Kind → List ℕ → Type 0) → Carries h (λ c. IsHonest G)
+carries-honest h G = record {
   strip = λ c next held e is.
-      let t = course_into-enters n (channel_head n c) held.wire next e in
+      let t = course_into-enters h (life_head h c) held.wire next e in
       record {
         mark = tells-stripped held.marked held.wire t.0 t.1 is.mark;
         built = λ m. let b = is.built m in built-stripped G held.wire t.0 b.route b.kind b.payload t.1 b.written b.good;

@@ -1,9 +1,10 @@
 -- Every act keeps the tables, the staged parts and the parts on their way parts of the adopted set.
-use Rattle.std.proofs.Common.{◌≡◌, ◌+◌, ℕ, List, length, Option, Some, None, IfSome, refl, sym, ◌∙◌, subst}
+use Rattle.std.proofs.Common.{◌≡◌, ◌+◌, ℕ, List, length, Option, Some, None, IfSome, refl, sym, ap, ◌∙◌, subst}
 use Rattle.std.specs.List.{AllByRecursion}
 use Rattle.net_defs.specs.declared.route.Route.{Route}
 use Rattle.net_defs.specs.Network.{Network, IsFabric}
 use Rattle.net_defs.proofs.Distinct.{all-weaker}
+use Rattle.cable_history.specs.History.{fabric_now}
 use Rattle.link_defs.specs.Links.{Held}
 use Rattle.mapping_defs.specs.Mapping.{RouteEntry, RoutePart}
 use Rattle.world_defs.specs.declared.event.Event.{Event}
@@ -21,8 +22,9 @@ use Rattle.world_defs.specs.Step.{step}
 use Rattle.world_defs.proofs.Lists.{each-set, each-replicate}
 use Rattle.world_defs.proofs.Views.{HostChange, Change, view}
 use Rattle.world_defs.proofs.Calls.{call_view}
+use Rattle.act_defs.proofs.Cables.{first-net}
 use Rattle.act_defs.proofs.Hosts.{NodeChange, change-nodes, each_node}
-use Rattle.world_defs.proofs.Kept.{change-net, change-adopted, change-plan, with-all}
+use Rattle.world_defs.proofs.Kept.{change-cables, change-adopted, change-plan, with-all}
 use Rattle.table_laws.proofs.Hosts.{hear-host, sent-built, after_sending-host, given_up-host, staged-host, node_expired-host, call-host}
 use Rattle.table_laws.proofs.Medium.{Holds, weaker-holds, empty-holds, carries-honest}
 use Rattle.table_laws.proofs.Keeping.{holds-read, new-honest, honest-more, acted-holds}
@@ -66,9 +68,9 @@ step-of n w e f low is =
     let k : Change w e (step w e) = view w e in
     let same : w.adopted ≡ v.adopted = sym (change-adopted k) in
     record {
-      net = change-net k ∙ is.net;
+      net = ap fabric_now (change-cables k) ∙ is.net;
       links = subst (λ o. Holds (Good o) v.links) same
-          (acted-holds (Good w.adopted) w (carries-honest (fabric_of w) (IsBody w.adopted)) is.links is.plan (Happens e) low
+          (acted-holds (Good w.adopted) w (carries-honest w.links.cables (IsBody w.adopted)) is.links is.plan (Happens e) low
           (λ h c out i. new-honest (IsBody w.adopted) (packet_for h (w.injected + 1) out) (sent-built w.adopted h (w.injected + 1) (node_at w h) out (is.hosts h) i.sends)));
       hosts = λ h. subst (λ o. IsHostOf o h (node_at v h)) same (each_node (IsHostOf w.adopted) (change-nodes k) is.hosts (node-of n w e f is) h);
       adopted = subst (λ o. IfSome o (IsAdopted n)) same is.adopted;
@@ -134,7 +136,7 @@ pub new-of : (n : Network) → IsOfSet n (new_world n)
 new-of n =
     let k : ℕ = length n.hosts in
     record {
-      net = refl;
+      net = first-net n;
       links = empty-holds (Good None) n;
       hosts = λ h. each-replicate (IsHostOf None h) k h (new_node k) (new_node 0) (new-host h k) (new-host h 0);
       adopted = tt;

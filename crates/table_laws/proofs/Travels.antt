@@ -10,11 +10,12 @@ use Rattle.packet_defs.proofs.Packets.{packet_of-difference, packet_of-stripped}
 use Rattle.packet_defs.proofs.Hosts.{decode-difference}
 use Rattle.link_defs.specs.Links.{Held}
 use Rattle.link_defs.proofs.HopsLeft.{course_into-enters}
-use Rattle.link_defs.specs.Channel.{channel_head}
+use Rattle.cable_history.specs.History.{CableHistory}
+use Rattle.cable_history.specs.Crossed.{life_head}
 use Rattle.link_defs.specs.Mark.{Tells, HasTrueMark}
 use Rattle.std.proofs.lemmas.List.{append-nil}
 use Rattle.world_defs.specs.Node.{Outgoing, to_send, packet_for}
-use Rattle.world_defs.specs.World.{WorldState, fabric_of, new_world, node_at}
+use Rattle.world_defs.specs.World.{WorldState, new_world, node_at}
 use Rattle.act_defs.specs.Acts.{Act, acted, acted_all, IsByteAct}
 use Rattle.table_laws.specs.Provenance.{moment, IsLeftOf, ChannelsHoldWhatWasBuilt, LimboHoldsWhatWasBuilt, FlippedIsDropped}
 use Rattle.table_laws.proofs.Medium.{Holds, Carries, weaker-holds, empty-holds, tells-stripped, flipped-tells, no_turn}
@@ -46,10 +47,10 @@ from-stripped n acts wire turn (t ∷ left) b e l = record {
   rest = ap stripped (b.rest ∙ ap (λ r. packet_of r b.kind b.payload) l) ∙ packet_of-stripped t left b.kind b.payload;
 }
 
-carries-from : (m n : Network) (acts : List Act) → Carries m (λ c. IsFrom n acts)
-carries-from m n acts = record {
+carries-from : (h : CableHistory) (n : Network) (acts : List Act) → Carries h (λ c. IsFrom n acts)
+carries-from h n acts = record {
   strip = λ c next held e is.
-      let t = course_into-enters m (channel_head m c) held.wire next e in
+      let t = course_into-enters h (life_head h c) held.wire next e in
       record { mark = tells-stripped held.marked held.wire t.0 t.1 is.mark; built = λ k. let b = is.built k in from-stripped n acts held.wire t.0 b.left b t.1 refl };
   flip = λ c bit pattern held low e is. record { mark = flipped-tells held.marked held.wire bit pattern low is.mark e; built = λ k. absurd (true≢false k) };
 }
@@ -68,7 +69,7 @@ record IsPast (n : Network) (acts : List Act) (w : WorldState) : Type 0 where
   links : Holds (λ c. IsFrom n acts) w.links
   plan : AllByRecursion (λ f. IsByteFault f.1) w.plan
 
-new-from : (n : Network) (acts : List Act) (a : Act) (w : WorldState) → w ≡ moment n acts → (h c : ℕ) (out : Outgoing) → to_send h (node_at w h) ≡ Some out → IsFrom n (acts ++ a ∷ []) (record { wire = packet_for h (w.injected + 1) out; marked = false })
+new-from : (n : Network) (acts : List Act) (a : Act) (w : WorldState) → w ≡ moment n acts → (h c : ℕ) (out : Outgoing) → to_send h (node_at w h) ≡ Some out → IsFrom n (acts ++ a ∷ []) (record { wire = packet_for h (w.injected + 1) out; marked = false; born = w.links.epoch })
 new-from n acts a w e h c out d =
     let b = packet-shape h (w.injected + 1) out in
     record {
@@ -94,7 +95,7 @@ past-one n acts a w low p =
     let F : ℕ → Held → Type 0 = λ c. IsFrom n (acts ++ a ∷ []) in
     record {
       is = ap (λ v. acted v a) p.is ∙ sym (acted_all-last (new_world n) acts a);
-      links = acted-holds F w (carries-from (fabric_of w) n (acts ++ a ∷ [])) (weaker-holds (λ c. IsFrom n acts) F w.links (λ c held. from-more n acts (a ∷ []) held) p.links) p.plan a low (λ h c out i. new-from n acts a w p.is h c out i.sends);
+      links = acted-holds F w (carries-from w.links.cables n (acts ++ a ∷ [])) (weaker-holds (λ c. IsFrom n acts) F w.links (λ c held. from-more n acts (a ∷ []) held) p.links) p.plan a low (λ h c out i. new-from n acts a w p.is h c out i.sends);
       plan = acted-plan w a low p.plan;
     }
 

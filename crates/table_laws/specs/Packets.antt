@@ -20,8 +20,8 @@ pub record IsHonest (G : Kind → List ℕ → Type 0) (held : Held) : Type 0 wh
   pub mark : HasTrueMark held
   pub built : held.marked ≡ false → Built G held.wire
 
--- a step of the links that puts in only what this holds of, and whose flips have patterns of eight bits
-abbrev pub IsGoodStep : (ℕ → Held → Type 0) → Step → Type 0
-IsGoodStep F (Put c wire) = F c (record { wire = wire; marked = false })
-IsGoodStep F (Flip c bit pattern) = pattern < 256
-IsGoodStep F _ = Unit {0}
+-- a step of the links of an epoch that puts in only what this holds of, and whose flips have patterns of eight bits
+abbrev pub IsGoodStep : (ℕ → Held → Type 0) → ℕ → Step → Type 0
+IsGoodStep F epoch (Put c wire) = F c (record { wire = wire; marked = false; born = epoch })
+IsGoodStep F epoch (Flip c bit pattern) = pattern < 256
+IsGoodStep F epoch _ = Unit {0}

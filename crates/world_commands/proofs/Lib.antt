@@ -5,3 +5,4 @@ pub mod Duos
 pub mod Naming
 pub mod Steps
 pub mod TableLines
+pub mod Walks

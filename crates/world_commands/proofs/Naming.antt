@@ -27,8 +27,8 @@ use Rattle.fab_world.specs.Held.{IsMoment}
 use Rattle.world_commands.specs.Named.{IsNaming}
 
 -- the channel that a packet enters is there
-next-there : (w : WorldState) (c next : ℕ) (wire : List ℕ) → IsMoment w → course (fabric_of w) c wire ≡ Enters next → next < length w.links.channels
-next-there w c next wire m e = subst (λ count. next < count) (sym m.world.links.slots) (course-below (fabric_of w) c wire next e)
+next-there : (w : WorldState) (c next : ℕ) (wire : List ℕ) → IsMoment w → course w.links.cables c wire ≡ Enters next → next < length w.links.channels
+next-there w c next wire m e = subst (λ count. next < count) (sym m.world.links.slots) (course-below w.links.cables c wire next e)
 
 -- and so is the one that a packet comes back to from limbo
 back-there : (s : LinkState) (serial c : ℕ) → IsLinks s → (replay s serial).0 ≡ Back c → c < length s.channels
@@ -72,7 +72,7 @@ change-naming Change.idle m = tt
 change-naming {w = w} (Change.blocked {c = c} packet next d e) m = next-there w c next packet.wire m e
 change-naming (Change.links k) m = links-naming k m
 change-naming (Change.drops packet why d e f) m = tt
-change-naming {w = w} (Change.arrives {c = c} packet h d e f k) m = arrival-naming (course-host (fabric_of w) c packet.wire h m.fabric e) k
+change-naming {w = w} (Change.arrives {c = c} packet h d e f k) m = arrival-naming (course-host w.links.cables c packet.wire h m.history e) k
 change-naming (Change.host k) m = host-naming k
 change-naming (Change.injects c out d e f g) m = tt
 change-naming (Change.calls k) m = tt

@@ -5,17 +5,17 @@ use Rattle.std.specs.Option.{option_map, option_map_or}
 use Rattle.std.proofs.lemmas.Bool.Decides.{nat_tests}
 use Rattle.net_defs.specs.declared.vertex.Vertex.{Vertex}
 use Rattle.net_defs.specs.declared.vertex.Vertex.TheVariants.{Host, Switch}
-use Rattle.net_defs.specs.declared.vertex.Cable.{Cable}
 use Rattle.net_defs.specs.declared.vertex.End.{End}
 use Rattle.net_defs.specs.Network.{Network, has_vertex, has_port}
-use Rattle.link_defs.specs.Channel.{channel_tail}
-use Rattle.fabric_wiring.proofs.Wirings.{cable_ports}
+use Rattle.cable_history.specs.declared.wire.Wire.{Wire}
+use Rattle.cable_history.specs.Crossed.{life_tail}
+use Rattle.cable_history.proofs.There.{ends_are_there}
 use Rattle.world_defs.specs.World.{WorldState, fabric_of}
 use Rattle.run_defs.specs.Outcome.{named_by_tail, tail_of}
 use Rattle.fab_world.specs.Held.{IsMoment}
 
 -- a channel is named by the end that it leaves
-pub tail_named : (w : WorldState) (c : ℕ) (e : End) → channel_tail (fabric_of w) c ≡ Some e → e ≡ named_by_tail w c
+pub tail_named : (w : WorldState) (c : ℕ) (e : End) → life_tail w.links.cables c ≡ Some e → e ≡ named_by_tail w c
 tail_named w c e is = sym (ap tail_of is)
 
 -- what has a port stands in its list
@@ -39,18 +39,18 @@ port-vertex n e is = of e.v is
     of (Switch s) is = switch-there (λ w. w.ports) n.switches s e.p is
 
 -- it is an end of the fabric
-pub tail_there : (w : WorldState) (c : ℕ) (e : End) → IsMoment w → channel_tail (fabric_of w) c ≡ Some e → has_vertex (fabric_of w) e.v ≡ true
-tail_there w c e m is = by (slice_get n.cables (c / 2)) refl is
+pub tail_there : (w : WorldState) (c : ℕ) (e : End) → IsMoment w → life_tail w.links.cables c ≡ Some e → has_vertex (fabric_of w) e.v ≡ true
+tail_there w c e m is = by (slice_get w.links.cables.wires (c / 2)) refl is
   where
     n : Network
     n = fabric_of w
 
-    side : (cable : Cable) (t : Bool) → (has_port n cable.a ≡ true) × (has_port n cable.b ≡ true) → has_vertex n (if t then cable.a else cable.b).v ≡ true
-    side cable true ports = port-vertex n cable.a ports.0
-    side cable false ports = port-vertex n cable.b ports.1
+    side : (wire : Wire) (t : Bool) → (has_port n wire.cable.a ≡ true) × (has_port n wire.cable.b ≡ true) → has_vertex n (if t then wire.cable.a else wire.cable.b).v ≡ true
+    side wire true ports = port-vertex n wire.cable.a ports.0
+    side wire false ports = port-vertex n wire.cable.b ports.1
 
-    by : (o : Option Cable) → slice_get n.cables (c / 2) ≡ o → option_map (λ cable. if nat_eq (c % 2) 0 then cable.a else cable.b) o ≡ Some e → has_vertex n e.v ≡ true
+    by : (o : Option Wire) → slice_get w.links.cables.wires (c / 2) ≡ o → option_map (λ wire. if nat_eq (c % 2) 0 then wire.cable.a else wire.cable.b) o ≡ Some e → has_vertex n e.v ≡ true
     by None got f = cc
-    by (Some cable) got f =
-        let same : (if nat_eq (c % 2) 0 then cable.a else cable.b) ≡ e = cc in
-        subst (λ (x : End). has_vertex n x.v ≡ true) same (side cable (nat_eq (c % 2) 0) (cable_ports n (c / 2) cable m.fabric got))
+    by (Some wire) got f =
+        let same : (if nat_eq (c % 2) 0 then wire.cable.a else wire.cable.b) ≡ e = cc in
+        subst (λ (x : End). has_vertex n x.v ≡ true) same (side wire (nat_eq (c % 2) 0) (ends_are_there w.links.cables (c / 2) wire m.history got))

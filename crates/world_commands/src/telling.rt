@@ -15,7 +15,6 @@ use run_defs::{Line, PlanKind};
 use std::alloc::{AllocError, Global};
 
 /// Where a walk ends: a packet takes its turns alone over these links, which are empty before and after.
-#[tactic(auto, using(crate::proofs::Done::walked))]
 pub fn walk(
     alloc: Global,
     w: &World,

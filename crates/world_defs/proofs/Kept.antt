@@ -1,42 +1,59 @@
--- What every event keeps: the fabric, the adopted routes, and a plan of flips of eight bits.
+-- What every event keeps: the cables, the adopted routes, and a plan of flips of eight bits.
 use Rattle.std.proofs.Common.{◌≡◌, ◌+◌, ℕ, Bool, true, false, List, [], ◌∷◌, nat_eq, Some, IfSome, Ordering, Less, Equal, Greater, refl, ◌∙◌, if◌then◌else◌}
 use Rattle.std.specs.List.{AllByRecursion}
 use Rattle.std.specs.Map.{lookup}
 use Rattle.std.specs.Ordering.{match_ordering, nat_cmp}
-use Rattle.link_defs.specs.Step.{Put as PutLinks, Advance as AdvanceLinks}
-use Rattle.link_defs.proofs.Shapes.{stepped-net}
+use Rattle.link_defs.specs.Laws.{is_of_cables}
+use Rattle.link_defs.specs.Step.{Step, Put as PutLinks, Advance as AdvanceLinks}
+use Rattle.link_defs.proofs.Shapes.{stepped-cables}
 use Rattle.world_defs.specs.declared.event.Event.{Event}
 use Rattle.world_defs.specs.declared.effect.Effect.{Effect}
 use Rattle.world_defs.specs.declared.fault.Fault.{Fault}
+use Rattle.world_defs.specs.declared.fault.Fault.TheVariants.{Lose as LoseFault, Repeat as RepeatFault, Hold as HoldFault, Flip as FlipFault}
 use Rattle.world_defs.specs.EightBits.{IsByteFault, HasByteFaults}
 use Rattle.world_defs.specs.Node.{Outgoing, packet_for}
-use Rattle.world_defs.specs.World.{WorldState, fabric_of, without_fault, with_fault}
+use Rattle.world_defs.specs.World.{WorldState, without_fault, with_fault}
 use Rattle.world_defs.specs.Step.{planned_strikes, sent_out, step}
-use Rattle.world_defs.proofs.Views.{Change, view}
+use Rattle.world_defs.proofs.Views.{Change, LinksChange, view}
 use Rattle.world_defs.proofs.Strikes.{fault_step, Strike, strike_view, injection-adopted}
 
--- the fabric
-strike-net : {w v : WorldState} {c : ℕ} → Strike w c v → fabric_of v ≡ fabric_of w
-strike-net (Strike.spares e) = refl
-strike-net (Strike.misses f e k) = refl
-strike-net {w = w} {c = c} (Strike.strikes f e k) = stepped-net w.links (fault_step c f)
+-- the cables: each step of the links that an event makes is one of packets
+pub links-of_packets : {w : WorldState} {e : Event} {x : Effect} {s : Step} → LinksChange w e x s → is_of_cables s ≡ false
+links-of_packets (LinksChange.moves packet next d e f g) = refl
+links-of_packets (LinksChange.loses e) = refl
+links-of_packets (LinksChange.resets e) = refl
+links-of_packets (LinksChange.repeats e) = refl
+links-of_packets (LinksChange.holds e) = refl
+links-of_packets (LinksChange.flips e) = refl
+links-of_packets (LinksChange.replays e) = refl
 
-injection-net : (w : WorldState) (h c : ℕ) (out : Outgoing) → fabric_of (planned_strikes (sent_out w h c out) c) ≡ fabric_of w
+pub fault-of_packets : (c : ℕ) (f : Fault) → is_of_cables (fault_step c f) ≡ false
+fault-of_packets c LoseFault = refl
+fault-of_packets c RepeatFault = refl
+fault-of_packets c HoldFault = refl
+fault-of_packets c (FlipFault bit pattern) = refl
+
+pub strike-cables : {w v : WorldState} {c : ℕ} → Strike w c v → v.links.cables ≡ w.links.cables
+strike-cables (Strike.spares e) = refl
+strike-cables (Strike.misses f e k) = refl
+strike-cables {w = w} {c = c} (Strike.strikes f e k) = stepped-cables w.links (fault_step c f) (fault-of_packets c f)
+
+pub injection-cables : (w : WorldState) (h c : ℕ) (out : Outgoing) → (planned_strikes (sent_out w h c out) c).links.cables ≡ w.links.cables
 unfolding sent_out
-injection-net w h c out = strike-net (strike_view (sent_out w h c out) c) ∙ stepped-net w.links (PutLinks c (packet_for h (w.injected + 1) out))
+injection-cables w h c out = strike-cables (strike_view (sent_out w h c out) c) ∙ stepped-cables w.links (PutLinks c (packet_for h (w.injected + 1) out)) refl
 
-pub change-net : {w : WorldState} {e : Event} {r : Effect × WorldState} → Change w e r → fabric_of r.1 ≡ fabric_of w
-change-net Change.idle = refl
-change-net (Change.blocked packet next d e) = refl
-change-net {w = w} (Change.links {s = s} k) = stepped-net w.links s
-change-net {w = w} (Change.drops {c = c} packet why d e f) = stepped-net w.links (AdvanceLinks c)
-change-net {w = w} (Change.arrives {c = c} packet h d e f g) = stepped-net w.links (AdvanceLinks c)
-change-net (Change.host k) = refl
-change-net {w = w} (Change.injects {h = h} c out d e f g) = injection-net w h c out
-change-net (Change.calls k) = refl
+pub change-cables : {w : WorldState} {e : Event} {r : Effect × WorldState} → Change w e r → r.1.links.cables ≡ w.links.cables
+change-cables Change.idle = refl
+change-cables (Change.blocked packet next d e) = refl
+change-cables {w = w} (Change.links {s = s} k) = stepped-cables w.links s (links-of_packets k)
+change-cables {w = w} (Change.drops {c = c} packet why d e f) = stepped-cables w.links (AdvanceLinks c) refl
+change-cables {w = w} (Change.arrives {c = c} packet h d e f g) = stepped-cables w.links (AdvanceLinks c) refl
+change-cables (Change.host k) = refl
+change-cables {w = w} (Change.injects {h = h} c out d e f g) = injection-cables w h c out
+change-cables (Change.calls k) = refl
 
-pub step-net : (w : WorldState) (e : Event) → fabric_of (step w e).1 ≡ fabric_of w
-step-net w e = change-net (view w e)
+pub step-cables : (w : WorldState) (e : Event) → (step w e).1.links.cables ≡ w.links.cables
+step-cables w e = change-cables (view w e)
 
 -- the adopted routes
 pub change-adopted : {w : WorldState} {e : Event} {r : Effect × WorldState} → Change w e r → r.1.adopted ≡ w.adopted

@@ -2,12 +2,13 @@
 use Rattle.std.proofs.Common.{◌≡◌, ◌<◌, ℕ, zero, suc, true, false, List, [], ◌∷◌, ◌++◌, length, replicate, get_or, Option, Some, None, Result, Ok, Err, refl, sym, ◌∙◌, ap, subst, arith, rules, ◌||◌, nat_eq, if◌then◌else◌}
 use Rattle.std.specs.Prelude.{pos, codes, slice_get}
 use Rattle.std.specs.List.{AllByRecursion}
-use Rattle.net_defs.specs.Route.{channels_of}
+use Rattle.net_defs.specs.Route.{host_port}
 use Rattle.net_defs.specs.Examples.{two_hosts}
 use Rattle.packet_defs.specs.declared.kind.Kind.{Kind}
 use Rattle.packet_defs.specs.declared.kind.Kind.TheVariants.{Gm}
 use Rattle.packet_defs.specs.declared.host_drop.HostDrop.{HostDrop}
 use Rattle.packet_defs.specs.Host.{body_of}
+use Rattle.link_defs.specs.Kinds.{unrouted}
 use Rattle.link_defs.specs.Links.{Held, Caught, packet_in}
 use Rattle.net_defs.specs.Dependencies.{IsNext, IsBefore, HasNoCycle}
 use Rattle.net_defs.specs.Dependencies.IsNext.{here, later}
@@ -27,12 +28,12 @@ use Rattle.world_defs.specs.Lane.{LaneState, new_lane}
 use Rattle.world_defs.specs.Node.{lane_of, sending_lane, taking_lane, lane_at, to_send, packet_for, after_sending, port_at}
 use Rattle.world_defs.specs.Hearing.{hear, port_fits}
 use Rattle.world_defs.specs.Client.{ClientState, begun, closed, provided_by, sent_by, polled_by}
-use Rattle.world_defs.specs.World.{new_world, fabric_of, host_count, node_at, client_at}
+use Rattle.world_defs.specs.World.{new_world, host_count, node_at, client_at}
 use Rattle.world_defs.specs.Step.{lost, was_reset, repeated, held, flipped, replayed, asked, part_staged, planned_strikes, sent_out, injected, advanced, expired, gave_up}
 use Rattle.world_defs.specs.Settled.{IsSettled, IsSettledConnection, IsWaiting}
 use Rattle.world_defs.specs.Settled.IsSettledConnection.{all_acknowledged, no_table, waiting}
 use Rattle.world_defs.specs.Logs.{drain, clear, round_pass, round, settle, sends, host_try, loop_try, ask, part_try, install}
-use Rattle.world_defs.specs.Traffic.{IsLawful, IsLawfulTraffic, IsHonest, IsHonestTraffic, adopted_routes, channels_ahead, sender_on, sent_on, got_on, taken_on, unrouted}
+use Rattle.world_defs.specs.Traffic.{IsLawful, IsLawfulTraffic, IsHonest, IsHonestTraffic, adopted_routes, channels_crossed, channels_ahead, sender_on, sent_on, got_on, taken_on}
 use Rattle.world_defs.specs.Sound.{IsSound, IsPrefix, AreOwned, installed_channels}
 use Rattle.world_defs.specs.Examples.{on_its_way, abc_frame, further_on, abc_further_on, spoiled, forged, unserved}
 
@@ -163,7 +164,7 @@ pub frame_is_there : packet_in on_its_way.links 0 ≡ Some abc_frame
 unfolding sends host_try loop_try ask begun closed provided_by sent_by polled_by drain clear hear part_try install to_send packet_for after_sending round_pass round settle lost was_reset repeated held flipped replayed asked part_staged planned_strikes sent_out injected advanced expired gave_up applied
 frame_is_there = refl
 
-way_whole : channels_of (fabric_of on_its_way) 0 (pos 3 ∷ []) ≡ 0 ∷ 3 ∷ []
+way_whole : channels_crossed on_its_way (Some (host_port 0)) (pos 3 ∷ []) ≡ 0 ∷ 3 ∷ []
 unfolding sends host_try loop_try ask begun closed provided_by sent_by polled_by drain clear hear part_try install to_send packet_for after_sending round_pass round settle lost was_reset repeated held flipped replayed asked part_staged planned_strikes sent_out injected advanced expired gave_up applied
 way_whole = refl
 
@@ -200,11 +201,22 @@ pub frame_is_further_on : packet_in further_on.links 3 ≡ Some abc_further_on
 unfolding sends host_try loop_try ask begun closed provided_by sent_by polled_by drain clear hear part_try install to_send packet_for after_sending round_pass round settle lost was_reset repeated held flipped replayed asked part_staged planned_strikes sent_out injected advanced expired gave_up applied
 frame_is_further_on = refl
 
-pub further_is_lawful : IsLawful further_on 3 abc_further_on
+further_whole : channels_crossed further_on (Some (host_port 0)) (pos 3 ∷ []) ≡ 0 ∷ 3 ∷ []
 unfolding sends host_try loop_try ask begun closed provided_by sent_by polled_by drain clear hear part_try install to_send packet_for after_sending round_pass round settle lost was_reset repeated held flipped replayed asked part_staged planned_strikes sent_out injected advanced expired gave_up applied
-further_is_lawful = record { unmarked = refl; place = 0; route = record { from = 0; to = 1; walk = pos 3 ∷ [] }; behind = 0 ∷ []; there = refl; ends_it = refl }
+further_whole = refl
 
-spoiled_frame : packet_in spoiled.links 0 ≡ Some (record { wire = 128 ∷ 4 ∷ 8 ∷ frame_bytes abc (codes "ABC") ++ 146 ∷ []; marked = true })
+further_ahead : channels_ahead further_on 3 abc_further_on.wire ≡ 3 ∷ []
+unfolding sends host_try loop_try ask begun closed provided_by sent_by polled_by drain clear hear part_try install to_send packet_for after_sending round_pass round settle lost was_reset repeated held flipped replayed asked part_staged planned_strikes sent_out injected advanced expired gave_up applied
+further_ahead = refl
+
+further_route : slice_get (adopted_routes further_on) 0 ≡ Some (record { from = 0; to = 1; walk = pos 3 ∷ [] })
+unfolding sends host_try loop_try ask begun closed provided_by sent_by polled_by drain clear hear part_try install to_send packet_for after_sending round_pass round settle lost was_reset repeated held flipped replayed asked part_staged planned_strikes sent_out injected advanced expired gave_up applied
+further_route = refl
+
+pub further_is_lawful : IsLawful further_on 3 abc_further_on
+further_is_lawful = record { unmarked = refl; place = 0; route = record { from = 0; to = 1; walk = pos 3 ∷ [] }; behind = 0 ∷ []; there = further_route; ends_it = further_whole ∙ sym (ap (λ cs. 0 ∷ cs) further_ahead) }
+
+spoiled_frame : packet_in spoiled.links 0 ≡ Some (record { wire = 128 ∷ 4 ∷ 8 ∷ frame_bytes abc (codes "ABC") ++ 146 ∷ []; marked = true; born = 0 })
 unfolding sends host_try loop_try ask begun closed provided_by sent_by polled_by drain clear hear part_try install to_send packet_for after_sending round_pass round settle lost was_reset repeated held flipped replayed asked part_staged planned_strikes sent_out injected advanced expired gave_up applied
 spoiled_frame = refl
 

@@ -1,7 +1,8 @@
 -- Each event as one of a few changes of a world: it rests, the links make a step, a packet is dropped or arrives, a host changes by itself, a packet is injected, or a client calls.
 use Rattle.std.proofs.Common.{◌≡◌, ◌<◌, ◌+◌, ℕ, Bool, true, false, ◌||◌, ℤ, List, nat_lt, nat_le, Option, Some, None, is_some, refl, ap, ◌∙◌, subst, arith, if◌then◌else◌}
 use Rattle.std.proofs.lemmas.Bool.Decides.{nat_tests}
-use Rattle.net_defs.specs.Route.{host_port, channel_from}
+use Rattle.net_defs.specs.Route.{host_port}
+use Rattle.cable_history.specs.Crossed.{leaving}
 use Rattle.net_defs.proofs.Growing.{no_some}
 use Rattle.packet_defs.specs.declared.host_drop.HostDrop.{HostDrop}
 use Rattle.packet_defs.specs.Packet.{stripped}
@@ -27,12 +28,12 @@ use Rattle.world_defs.specs.Table.{Adoption, part_for, route_of}
 use Rattle.world_defs.specs.Node.{NodeState, StagedProbe, StagedPart, Outgoing, to_send, has_staged, given_up, node_expired, unacknowledged_to}
 use Rattle.world_defs.specs.Hearing.{hear}
 use Rattle.world_defs.specs.Client.{Called, begun, closed, provided_by, sent_by, polled_by}
-use Rattle.world_defs.specs.World.{WorldState, fabric_of, host_count, last_count, counted, node_at, with_node, with_links, client_at, with_drop}
+use Rattle.world_defs.specs.World.{WorldState, host_count, last_count, counted, node_at, with_node, with_links, client_at, with_drop}
 use Rattle.world_defs.specs.Step.{of_links, of_limbo, of_replay, lost, was_reset, repeated, held, flipped, replayed, asked, stage_at, stage_part, part_staged, planned_strikes, sent_out, inject_one, inject_into, injected, cause_at_switch, cause_at_host, arrived, advanced_by, advanced, expired, gave_up, of_call, wanted, step}
 
 -- The step of the links that an event made, with its effect.
 pub data LinksChange (w : WorldState) : Event → Effect → Step → Type 0 where
-  moves : {c : ℕ} (packet : Held) (next : ℕ) → packet_in w.links c ≡ Some packet → course (fabric_of w) c packet.wire ≡ Enters next → packet_in (emptied w.links c) next ≡ None
+  moves : {c : ℕ} (packet : Held) (next : ℕ) → packet_in w.links c ≡ Some packet → course w.links.cables c packet.wire ≡ Enters next → packet_in (emptied w.links c) next ≡ None
       → stepped w.links (AdvanceLinks c) ≡ with_packet (emptied w.links c) next (Some (record packet { wire = stripped packet.wire })) → LinksChange w (Advance c) (MovedTo next) (AdvanceLinks c)
   loses : {c : ℕ} → (lose w.links c).0 ≡ true → LinksChange w (Lose c) Lost (LoseLinks c)
   resets : {c : ℕ} → (reset w.links c).0 ≡ true → LinksChange w (Reset c) WasReset (ResetLinks c)
@@ -66,15 +67,15 @@ pub data ArrivalChange (w : WorldState) (h : ℕ) : Arrival → Effect → ℕ �
 -- What an event makes of a world.
 pub data Change (w : WorldState) : Event → Effect × WorldState → Type 0 where
   idle : {e : Event} → Change w e (Idle, w)
-  blocked : {c : ℕ} (packet : Held) (next : ℕ) → packet_in w.links c ≡ Some packet → course (fabric_of w) c packet.wire ≡ Enters next → Change w (Advance c) (Blocked next, w)
+  blocked : {c : ℕ} (packet : Held) (next : ℕ) → packet_in w.links c ≡ Some packet → course w.links.cables c packet.wire ≡ Enters next → Change w (Advance c) (Blocked next, w)
   links : {e : Event} {x : Effect} {s : Step} → LinksChange w e x s → Change w e (x, with_links w (stepped w.links s))
-  drops : {c : ℕ} (packet : Held) (why : Why) → packet_in w.links c ≡ Some packet → course (fabric_of w) c packet.wire ≡ Drops why → stepped w.links (AdvanceLinks c) ≡ emptied w.links c
+  drops : {c : ℕ} (packet : Held) (why : Why) → packet_in w.links c ≡ Some packet → course w.links.cables c packet.wire ≡ Drops why → stepped w.links (AdvanceLinks c) ≡ emptied w.links c
       → Change w (Advance c) (Dropped (cause_at_switch why), with_drop (with_links w (stepped w.links (AdvanceLinks c))))
-  arrives : {c : ℕ} {x : Effect} {count : ℕ} (packet : Held) (h : ℕ) → packet_in w.links c ≡ Some packet → course (fabric_of w) c packet.wire ≡ Arrives h → stepped w.links (AdvanceLinks c) ≡ emptied w.links c
+  arrives : {c : ℕ} {x : Effect} {count : ℕ} (packet : Held) (h : ℕ) → packet_in w.links c ≡ Some packet → course w.links.cables c packet.wire ≡ Arrives h → stepped w.links (AdvanceLinks c) ≡ emptied w.links c
       → ArrivalChange w h (hear h (host_count w) (node_at w h) packet.wire).0 x count
       → Change w (Advance c) (x, record (with_node (with_links w (stepped w.links (AdvanceLinks c))) h (hear h (host_count w) (node_at w h) packet.wire).1) { dropped = count })
   host : {e : Event} {x : Effect} {h : ℕ} {m : NodeState} → HostChange w e x h m → Change w e (x, with_node w h m)
-  injects : {h : ℕ} (c : ℕ) (out : Outgoing) → channel_from (fabric_of w) (host_port h) ≡ Some c → to_send h (node_at w h) ≡ Some out → packet_in w.links c ≡ None → w.injected < last_count
+  injects : {h : ℕ} (c : ℕ) (out : Outgoing) → leaving w.links.cables (host_port h) ≡ Some c → to_send h (node_at w h) ≡ Some out → packet_in w.links c ≡ None → w.injected < last_count
       → Change w (Inject h) (Injected (w.injected + 1), planned_strikes (sent_out w h c out) c)
   calls : {e : Event} {h port : ℕ} {call : Called} → CallChange w e h port call → Change w e (of_call w h port call)
 
@@ -94,7 +95,7 @@ of_replay-change w e (Unknown, l) k = Change.idle
 
 -- an advance
 module _ (w : WorldState) (c : ℕ) where
-  course-links : (packet : Held) (to : Course) → packet_in w.links c ≡ Some packet → course (fabric_of w) c packet.wire ≡ to → stepped w.links (AdvanceLinks c) ≡ (gone_on w.links c packet to).1
+  course-links : (packet : Held) (to : Course) → packet_in w.links c ≡ Some packet → course w.links.cables c packet.wire ≡ to → stepped w.links (AdvanceLinks c) ≡ (gone_on w.links c packet to).1
   course-links packet to e g = ap (λ o. (advance_of w.links c o).1) e ∙ ap (λ t. (gone_on w.links c packet t).1) g
 
   arrived-change : (l : LinkState) (h : ℕ) (o : Arrival × NodeState) → ((x : Effect) (count : ℕ) → ArrivalChange w h o.0 x count → Change w (Advance c) (x, record (with_node (with_links w l) h o.1) { dropped = count })) → Change w (Advance c) (arrived (with_links w l) h o)
@@ -102,13 +103,13 @@ module _ (w : WorldState) (c : ℕ) where
   arrived-change l h (HostDropped x, n) k = k (Dropped (cause_at_host x)) (counted w.dropped) ArrivalChange.dropped
   arrived-change l h (ArrivalNotMine, n) k = k (Dropped NotMine) (counted w.dropped) ArrivalChange.not_mine
 
-  entered-change : (packet : Held) (next : ℕ) (o : Option Held) → packet_in w.links c ≡ Some packet → course (fabric_of w) c packet.wire ≡ Enters next → packet_in (emptied w.links c) next ≡ o → Change w (Advance c) (advanced_by w (entered w.links c packet next o))
+  entered-change : (packet : Held) (next : ℕ) (o : Option Held) → packet_in w.links c ≡ Some packet → course w.links.cables c packet.wire ≡ Enters next → packet_in (emptied w.links c) next ≡ o → Change w (Advance c) (advanced_by w (entered w.links c packet next o))
   entered-change packet next None e g k =
       let d : stepped w.links (AdvanceLinks c) ≡ (entered w.links c packet next None).1 = course-links packet (Enters next) e g ∙ ap (λ o. (entered w.links c packet next o).1) k in
       subst (λ l. Change w (Advance c) (MovedTo next, with_links w l)) d (Change.links (LinksChange.moves packet next e g k d))
   entered-change packet next (Some other) e g k = Change.blocked packet next e g
 
-  gone-change : (packet : Held) (to : Course) → packet_in w.links c ≡ Some packet → course (fabric_of w) c packet.wire ≡ to → Change w (Advance c) (advanced_by w (gone_on w.links c packet to))
+  gone-change : (packet : Held) (to : Course) → packet_in w.links c ≡ Some packet → course w.links.cables c packet.wire ≡ to → Change w (Advance c) (advanced_by w (gone_on w.links c packet to))
   gone-change packet (Arrives h) e g =
       let d = course-links packet (Arrives h) e g in
       let o : Arrival × NodeState = hear h (host_count w) (node_at w h) packet.wire in
@@ -120,7 +121,7 @@ module _ (w : WorldState) (c : ℕ) where
 
   advanced-change : (o : Option Held) → packet_in w.links c ≡ o → Change w (Advance c) (advanced_by w (advance_of w.links c o))
   advanced-change None e = Change.idle
-  advanced-change (Some packet) e = gone-change packet (course (fabric_of w) c packet.wire) e refl
+  advanced-change (Some packet) e = gone-change packet (course w.links.cables c packet.wire) e refl
 
 -- a host by itself
 stage_at-change : (w : WorldState) (dst part : ℕ) (a : Adoption) (o : Option RoutePart) (r : Option (List ℤ)) → w.adopted ≡ Some a → part_for a dst part ≡ o → route_of a.routes a.mapper dst ≡ r → Change w (Part dst part) (stage_at w a.mapper o r)
@@ -141,7 +142,7 @@ gave_up-change w h true e = Change.host (HostChange.gives_up e)
 gave_up-change w h false e = Change.idle
 
 -- an injection
-inject_one-change : (w : WorldState) (h c : ℕ) (o : Option Outgoing) → channel_from (fabric_of w) (host_port h) ≡ Some c → to_send h (node_at w h) ≡ o → Change w (Inject h) (inject_one w h c o)
+inject_one-change : (w : WorldState) (h c : ℕ) (o : Option Outgoing) → leaving w.links.cables (host_port h) ≡ Some c → to_send h (node_at w h) ≡ o → Change w (Inject h) (inject_one w h c o)
 inject_one-change w h c None d e = Change.idle
 inject_one-change w h c (Some out) d e = by (is_some (packet_in w.links c)) (nat_le last_count w.injected) refl refl
   where
@@ -150,7 +151,7 @@ inject_one-change w h c (Some out) d e = by (is_some (packet_in w.links c)) (nat
     by false true f g = Change.idle
     by false false f g = Change.injects c out d e (no_some (packet_in w.links c) f) (grind (arith, nat_tests))
 
-inject_into-change : (w : WorldState) (h : ℕ) (o : Option ℕ) → channel_from (fabric_of w) (host_port h) ≡ o → Change w (Inject h) (inject_into w h o)
+inject_into-change : (w : WorldState) (h : ℕ) (o : Option ℕ) → leaving w.links.cables (host_port h) ≡ o → Change w (Inject h) (inject_into w h o)
 inject_into-change w h None d = Change.idle
 inject_into-change w h (Some c) d = inject_one-change w h c (to_send h (node_at w h)) d refl
 
@@ -159,7 +160,7 @@ pub view : (w : WorldState) (e : Event) → Change w e (step w e)
 unfolding lost was_reset repeated held flipped replayed asked part_staged injected advanced expired gave_up
 view w (Ask h walk looped) = Change.host HostChange.asks
 view w (Part dst part) = stage_part-change w dst part w.adopted refl
-view w (Inject h) = inject_into-change w h (channel_from (fabric_of w) (host_port h)) refl
+view w (Inject h) = inject_into-change w h (leaving w.links.cables (host_port h)) refl
 view w (Advance c) = advanced-change w c (packet_in w.links c) refl
 view w (Lose c) = of_links-change w (Lose c) Lost (lose w.links c) (λ k. Change.links (LinksChange.loses k))
 view w (Repeat c) = of_limbo-change w (Repeat c) Repeated (repeat w.links c) (λ serial k. Change.links (LinksChange.repeats k))

@@ -3,12 +3,13 @@ use Rattle.std.specs.Prelude.{ℕ, Bool, true, false, ◌&&◌, ◌||◌, List, 
 use Rattle.std.specs.Prelude.{nat_le, is_some, if◌then◌else◌, Option, Some, None}
 use Rattle.net_defs.specs.declared.place.Answer.{Answer}
 use Rattle.net_defs.specs.declared.place.Answer.TheVariants.{Switch, Nothing}
-use Rattle.net_defs.specs.Route.{host_port, channel_from}
+use Rattle.net_defs.specs.Route.{host_port}
+use Rattle.cable_history.specs.Crossed.{leaving}
 use Rattle.world_defs.specs.declared.event.Event.TheVariants.{GiveUp}
 use Rattle.world_defs.specs.declared.effect.Effect.{Effect}
 use Rattle.world_defs.specs.declared.effect.Effect.TheVariants.{Arrived, Injected}
 use Rattle.world_defs.specs.declared.heard.Heard.TheVariants.{Probe, Reply, Loop}
-use Rattle.world_defs.specs.World.{WorldState, fabric_of, last_count, addresses}
+use Rattle.world_defs.specs.World.{WorldState, last_count, addresses}
 use Rattle.world_defs.specs.Step.{after_all}
 
 -- the host that heard a host probe
@@ -33,7 +34,7 @@ has_returned mapper number (_ ∷ xs) = has_returned mapper number xs
 
 -- a host has a cable, but no injection is left
 abbrev pub is_used_up : WorldState → ℕ → Bool
-is_used_up w h = is_some (channel_from (fabric_of w) (host_port h)) && nat_le last_count w.injected
+is_used_up w h = is_some (leaving w.links.cables (host_port h)) && nat_le last_count w.injected
 
 -- the number under which a packet was injected
 abbrev pub number_of : Effect → Option ℕ

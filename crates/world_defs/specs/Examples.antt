@@ -1,7 +1,6 @@
 -- Worlds for worked examples: the two hosts at one switch, mapped, routed and set up.
 use Rattle.std.specs.Prelude.{ℕ, ℤ, pos, negsuc, false, List, [], ◌∷◌, ◌++◌, map, codes}
 use Rattle.std.specs.List.{range_with_len}
-use Rattle.net_defs.specs.declared.place.Answer.{Answer}
 use Rattle.net_defs.specs.declared.route.Route.{Route}
 use Rattle.net_defs.specs.Examples.{two_hosts}
 use Rattle.link_defs.specs.Links.{Held}
@@ -176,7 +175,7 @@ on_its_way = after_all ready (opened 1 1 (provide 0 ∷ send 3 65 ∷ Inject 0 �
 
 -- that frame: a route byte, the type, the body, and the CRC byte
 abbrev pub abc_frame : Held
-abc_frame = record { wire = 131 ∷ 0 ∷ 8 ∷ frame_bytes abc (codes "ABC") ++ 146 ∷ []; marked = false }
+abc_frame = record { wire = 131 ∷ 0 ∷ 8 ∷ frame_bytes abc (codes "ABC") ++ 146 ∷ []; marked = false; born = 0 }
 
 -- the frame has gone on to the second channel of its route
 abbrev pub further_on : WorldState
@@ -184,7 +183,7 @@ further_on = (step on_its_way (Advance 0)).1
 
 -- the frame there, without its route byte
 abbrev pub abc_further_on : Held
-abc_further_on = record { wire = 0 ∷ 8 ∷ frame_bytes abc (codes "ABC") ++ 6 ∷ []; marked = false }
+abc_further_on = record { wire = 0 ∷ 8 ∷ frame_bytes abc (codes "ABC") ++ 6 ∷ []; marked = false; born = 0 }
 
 -- the frame was flipped in its route byte and in its type
 abbrev pub spoiled : WorldState

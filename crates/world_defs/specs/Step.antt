@@ -2,14 +2,15 @@
 use Rattle.std.specs.Prelude.{ℕ, ◌+◌, ℤ, Bool, true, false, ◌||◌, List, [], ◌∷◌, nat_eq, nat_lt, nat_le, is_some}
 use Rattle.std.specs.Prelude.{slice_set, if◌then◌else◌, Option, Some, None}
 use Rattle.std.specs.Map.{lookup}
-use Rattle.net_defs.specs.Route.{host_port, channel_from}
+use Rattle.net_defs.specs.Route.{host_port}
+use Rattle.cable_history.specs.Crossed.{leaving}
 use Rattle.packet_defs.specs.declared.host_drop.HostDrop.{HostDrop}
 use Rattle.packet_defs.specs.declared.host_drop.HostDrop.TheVariants.{BadCrc as HostBadCrc, RouteLeft as HostRouteLeft}
 use Rattle.packet_defs.specs.declared.host_drop.HostDrop.TheVariants.{UnknownType as HostUnknownType}
 use Rattle.packet_defs.specs.declared.host_drop.HostDrop.TheVariants.{Malformed as HostMalformed}
 use Rattle.link_defs.specs.declared.moved.Why.{Why}
 use Rattle.link_defs.specs.declared.moved.Why.TheVariants.{OutOfRange as AwayOutOfRange, NotRoute as AwayNotRoute}
-use Rattle.link_defs.specs.declared.moved.Why.TheVariants.{NoCable as AwayNoCable}
+use Rattle.link_defs.specs.declared.moved.Why.TheVariants.{NoCable as AwayNoCable, NewCable as AwayNewCable}
 use Rattle.link_defs.specs.declared.moved.Moved.{Moved}
 use Rattle.link_defs.specs.declared.moved.Moved.TheVariants.{To, AtHost, Dropped as MovedDropped}
 use Rattle.link_defs.specs.declared.moved.Moved.TheVariants.{Blocked as MovedBlocked, Empty}
@@ -29,7 +30,7 @@ use Rattle.world_defs.specs.declared.effect.Effect.TheVariants.{Dropped, Lost, R
 use Rattle.world_defs.specs.declared.effect.Effect.TheVariants.{GaveUp, Repeated, Held, Replayed as ReplayedTo, Staged}
 use Rattle.world_defs.specs.declared.effect.Effect.TheVariants.{Said}
 use Rattle.world_defs.specs.declared.effect.Cause.{Cause}
-use Rattle.world_defs.specs.declared.effect.Cause.TheVariants.{OutOfRange, NotRoute, NoCable, BadCrc, RouteLeft}
+use Rattle.world_defs.specs.declared.effect.Cause.TheVariants.{OutOfRange, NotRoute, NoCable, NewCable, BadCrc, RouteLeft}
 use Rattle.world_defs.specs.declared.effect.Cause.TheVariants.{UnknownType, Malformed, NotMine}
 use Rattle.world_defs.specs.declared.fault.Fault.{Fault}
 use Rattle.world_defs.specs.declared.fault.Fault.TheVariants.{Lose as LoseFault, Repeat as RepeatFault}
@@ -42,7 +43,7 @@ use Rattle.world_defs.specs.Node.{NodeState, StagedProbe, StagedPart, Outgoing, 
 use Rattle.world_defs.specs.Node.{has_staged, given_up, node_expired, unacknowledged_to}
 use Rattle.world_defs.specs.Hearing.{hear}
 use Rattle.world_defs.specs.Client.{Called, Wanted, begun, closed, provided_by, sent_by, polled_by}
-use Rattle.world_defs.specs.World.{WorldState, fabric_of, host_count, last_count, node_at, with_node, with_links}
+use Rattle.world_defs.specs.World.{WorldState, host_count, last_count, node_at, with_node, with_links}
 use Rattle.world_defs.specs.World.{client_at, with_client, with_drop, without_fault}
 
 -- an event that may change the links alone: idle where it isn't possible
@@ -162,13 +163,14 @@ inject_into w h (Some c) = inject_one w h c (to_send h (node_at w h))
 -- A host puts what it has to send first into its channel, where it has a cable and that channel is empty; then the
 -- planned fault strikes.
 unfoldable pub injected : WorldState → ℕ → Effect × WorldState
-injected w h = inject_into w h (channel_from (fabric_of w) (host_port h))
+injected w h = inject_into w h (leaving w.links.cables (host_port h))
 
 -- why a switch dropped a packet
 abbrev pub cause_at_switch : Why → Cause
 cause_at_switch AwayOutOfRange = OutOfRange
 cause_at_switch AwayNotRoute = NotRoute
 cause_at_switch AwayNoCable = NoCable
+cause_at_switch AwayNewCable = NewCable
 
 -- why a host dropped a packet
 abbrev pub cause_at_host : HostDrop → Cause

@@ -1,13 +1,15 @@
 -- Packets on their way: which go by an adopted route, and which say only what is true.
-use Rattle.std.specs.Prelude.{◌≡◌, ℕ, ℤ, false, List, [], ◌∷◌, ◌++◌, drop, slice_get, Option, Some, None, Ok}
-use Rattle.std.specs.List.{prefix_len}
+use Rattle.std.specs.Prelude.{◌≡◌, ℕ, ℤ, false, List, [], ◌∷◌, ◌++◌, slice_get, Option, Some, None, Ok}
 use Rattle.net_defs.specs.declared.route.Route.{Route}
-use Rattle.net_defs.specs.Route.{channels_of, channels_after}
+use Rattle.net_defs.specs.declared.vertex.End.{End}
+use Rattle.net_defs.specs.Route.{host_port}
 use Rattle.packet_defs.specs.declared.kind.Kind.TheVariants.{Gm}
-use Rattle.packet_defs.specs.RouteByte.{turn_of, is_route_byte}
+use Rattle.packet_defs.specs.RouteByte.{turn_of}
 use Rattle.packet_defs.specs.Packet.{head}
 use Rattle.packet_defs.specs.Host.{body_of}
-use Rattle.link_defs.specs.Channel.{channel_tail}
+use Rattle.cable_history.specs.History.{is_in_place}
+use Rattle.cable_history.specs.Crossed.{channels_by, life_tail}
+use Rattle.link_defs.specs.Kinds.{unrouted}
 use Rattle.link_defs.specs.Links.{Held, Caught, packet_in}
 use Rattle.gm_defs.specs.declared.message.Message.{Message}
 use Rattle.gm_defs.specs.declared.frame.FrameHead.{FrameHead}
@@ -19,7 +21,7 @@ use Rattle.gm_defs.specs.Fragment.{IsHonestFrame, IsHonestAck}
 use Rattle.world_defs.specs.Table.{Adoption}
 use Rattle.gm_defs.specs.Connection.{SenderState}
 use Rattle.world_defs.specs.Node.{sending_lane, taking_lane, lane_at}
-use Rattle.world_defs.specs.World.{WorldState, fabric_of, node_at}
+use Rattle.world_defs.specs.World.{WorldState, node_at}
 
 -- the routes of an adopted set; none where nothing is adopted
 abbrev pub routes_in : Option Adoption → List Route
@@ -40,9 +42,13 @@ abbrev pub front_turns : List ℕ → List ℤ
 front_turns [] = []
 front_turns (byte ∷ bytes) = front_turn_then (turn_of byte) (front_turns bytes)
 
+-- the channels that turns cross from an exit on, over the cables in place
+abbrev pub channels_crossed : WorldState → Option End → List ℤ → List ℕ
+channels_crossed w exit turns = channels_by w.links.cables is_in_place exit turns
+
 -- the channel of a packet, and the channels to which its route bytes lead
 abbrev pub channels_ahead : WorldState → ℕ → List ℕ → List ℕ
-channels_ahead w c wire = channels_after (fabric_of w) (channel_tail (fabric_of w) c) (front_turns (head wire))
+channels_ahead w c wire = channels_crossed w (life_tail w.links.cables c) (front_turns (head wire))
 
 -- A packet is lawful where no flip has met it, and what lies ahead of it is the last part of an adopted route.
 pub record IsLawful (w : WorldState) (c : ℕ) (held : Held) : Type 0 where
@@ -51,7 +57,7 @@ pub record IsLawful (w : WorldState) (c : ℕ) (held : Held) : Type 0 where
   pub route : Route
   pub behind : List ℕ
   pub there : slice_get (adopted_routes w) place ≡ Some route
-  pub ends_it : channels_of (fabric_of w) route.from route.walk ≡ behind ++ channels_ahead w c held.wire
+  pub ends_it : channels_crossed w (Some (host_port route.from)) route.walk ≡ behind ++ channels_ahead w c held.wire
 
 -- traffic is lawful where every packet in every channel is
 pub record IsLawfulTraffic (w : WorldState) : Type 0 where
@@ -76,10 +82,6 @@ coming_on w c = (lane_at (node_at w c.dst) (taking_lane c)).coming
 -- how many fragments were taken from a connection
 abbrev pub taken_on : WorldState → ConnectionKey → ℕ
 taken_on w c = (lane_at (node_at w c.dst) (taking_lane c)).taken
-
--- a packet's head without the route bytes in front
-abbrev pub unrouted : List ℕ → List ℕ
-unrouted wire = drop (prefix_len is_route_byte (head wire)) (head wire)
 
 -- A packet is honest where it carries a frame that is the fragment of its number, or an acknowledgement that says no
 -- more than was taken, or neither; a flip may have made anything of it.

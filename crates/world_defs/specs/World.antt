@@ -7,13 +7,14 @@ use Rattle.std.specs.BTreeMap.{insert_entry}
 use Rattle.std.specs.Ordering.{nat_cmp}
 use Rattle.net_defs.specs.declared.route.Route.{Route}
 use Rattle.net_defs.specs.Network.{Network}
+use Rattle.cable_history.specs.History.{fabric_now}
 use Rattle.link_defs.specs.Links.{LinkState, empty_links}
 use Rattle.world_defs.specs.declared.fault.Fault.{Fault}
 use Rattle.world_defs.specs.Table.{Adoption, whole_table}
 use Rattle.world_defs.specs.Node.{NodeState, new_node, port_count}
 use Rattle.world_defs.specs.Client.{ClientState}
 
--- A world has the links with their fabric, the hosts by address, the clients by host and port, where it is open, the
+-- A world has the links with their cables, the hosts by address, the clients by host and port, where it is open, the
 -- adopted routes, and the planned faults by injection. It counts injections, dropped packets and planned faults that
 -- struck, and of these those that lost, held or flipped their packet.
 pub record WorldState : Type 0 where
@@ -27,9 +28,9 @@ pub record WorldState : Type 0 where
   pub struck : ℕ
   pub harmed : ℕ
 
--- the fabric of a world
+-- the fabric of a world, as it stands
 abbrev pub fabric_of : WorldState → Network
-fabric_of w = w.links.net
+fabric_of w = fabric_now w.links.cables
 
 -- the number of hosts
 abbrev pub host_count : WorldState → ℕ

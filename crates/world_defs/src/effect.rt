@@ -13,6 +13,8 @@ pub enum Cause {
     NotRoute,
     /// The port has no cable.
     NoCable,
+    /// The cable is new, and the packet isn't of mapping.
+    NewCable,
     /// The CRC isn't the one due to the head.
     BadCrc,
     /// The packet reached a host with a route left.

@@ -65,6 +65,7 @@ pub fn flipped_route_byte()
           wire = 131 ∷ 0 ∷ 8 ∷ 1 ∷ 2 ∷ 0 ∷ 0 ∷ 0 ∷ 1 ∷ 0 ∷ 1 ∷ 0 ∷ replicate 4 0
               ++ 0 ∷ 0 ∷ 0 ∷ 3 ∷ replicate 4 0 ++ 0 ∷ 3 ∷ 65 ∷ 66 ∷ 67 ∷ 146 ∷ [];
           marked = false;
+          born = 0;
         }) }
     ensures rounds { abc_settled.value.rounds ≡ 2 }
     ensures resets { abc_settled.value.resets ≡ 0 }

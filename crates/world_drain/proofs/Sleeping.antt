@@ -9,7 +9,7 @@ use Rattle.link_defs.specs.declared.moved.Course.{Course}
 use Rattle.link_defs.specs.declared.moved.Course.TheVariants.{Arrives, Enters, Drops}
 use Rattle.link_defs.specs.declared.moved.Moved.{Moved as Went}
 use Rattle.link_defs.specs.declared.moved.Moved.TheVariants.{To, AtHost, Dropped, Blocked as Waits, Empty}
-use Rattle.link_defs.specs.Channel.{channel_count}
+use Rattle.cable_history.specs.Crossed.{life_channels}
 use Rattle.link_defs.specs.Links.{Held, LinkState, packet_in, emptied}
 use Rattle.link_defs.specs.Advance.{course, entered, gone_on, advance_of, advance}
 use Rattle.link_defs.specs.Hops.{changes as moves}
@@ -58,16 +58,16 @@ waits-below s c next x = none-below s.channels next x.full
 
 -- A packet has gone on from a channel into another, or into the same.
 pub record IsOn (s : LinkState) (c next : ℕ) (t : LinkState) : Type 0 where
-  pub net : t.net ≡ s.net
+  pub cables : t.cables ≡ s.cables
   pub long : length t.channels ≡ length s.channels
   pub others : (k : ℕ) → k ≢ c → k ≢ next → packet_in t k ≡ packet_in s k
   pub gone : c ≢ next → packet_in t c ≡ None
   pub free : next ≢ c → packet_in s next ≡ None
-  pub there : next < channel_count s.net
+  pub there : next < life_channels s.cables
 
 -- A channel is empty, and all else is as before.
 pub record IsOut (s : LinkState) (c : ℕ) (t : LinkState) : Type 0 where
-  pub net : t.net ≡ s.net
+  pub cables : t.cables ≡ s.cables
   pub long : length t.channels ≡ length s.channels
   pub others : (k : ℕ) → k ≢ c → packet_in t k ≡ packet_in s k
   pub gone : packet_in t c ≡ None
@@ -87,21 +87,21 @@ hop_in Empty = Untried
 
 out-gone : (s : LinkState) (c : ℕ) → IsOut s c (emptied s c)
 out-gone s c = record {
-  net = refl;
+  cables = refl;
   long = length-set {A = Option Held} s.channels c None;
   others = λ k other. get_or-set_other s.channels c k None None other;
   gone = none-at s.channels c;
 }
 
-entered-gone : (s : LinkState) (c : ℕ) (held : Held) (next : ℕ) (o : Option Held) → packet_in s c ≡ Some held → course s.net c held.wire ≡ Enters next
+entered-gone : (s : LinkState) (c : ℕ) (held : Held) (next : ℕ) (o : Option Held) → packet_in s c ≡ Some held → course s.cables c held.wire ≡ Enters next
     → packet_in (emptied s c) next ≡ o → IsGone s c (hop_in (entered s c held next o).0) (entered s c held next o).1
 entered-gone s c held next None there to free = record {
-  net = refl;
+  cables = refl;
   long = length-set {A = Option Held} (emptied s c).channels next _ ∙ length-set {A = Option Held} s.channels c None;
   others = λ k a b. get_or-set_other (emptied s c).channels next k _ None b ∙ get_or-set_other s.channels c k None None a;
   gone = λ apart. get_or-set_other (emptied s c).channels next c _ None apart ∙ none-at s.channels c;
   free = λ apart. sym (get_or-set_other s.channels c next None None apart) ∙ free;
-  there = course-below s.net c held.wire next to;
+  there = course-below s.cables c held.wire next to;
 }
 entered-gone s c held next (Some p) there to full =
     let other : next ≢ c = λ same. (let f : None ≡ Some p = sym (ap (packet_in (emptied s c)) same ∙ none-at s.channels c) ∙ full in cc) in (
@@ -115,15 +115,15 @@ entered-gone s c held next (Some p) there to full =
       },
     )
 
-gone_on-gone : (s : LinkState) (c : ℕ) (held : Held) (to : Course) → packet_in s c ≡ Some held → course s.net c held.wire ≡ to
+gone_on-gone : (s : LinkState) (c : ℕ) (held : Held) (to : Course) → packet_in s c ≡ Some held → course s.cables c held.wire ≡ to
     → IsGone s c (hop_in (gone_on s c held to).0) (gone_on s c held to).1
 gone_on-gone s c held (Arrives h) there is = out-gone s c
 gone_on-gone s c held (Enters next) there is = entered-gone s c held next (packet_in (emptied s c) next) there is refl
 gone_on-gone s c held (Drops why) there is = out-gone s c
 
 advance_of-gone : (s : LinkState) (c : ℕ) (o : Option Held) → packet_in s c ≡ o → IsGone s c (hop_in (advance_of s c o).0) (advance_of s c o).1
-advance_of-gone s c None there = record { net = refl; long = refl; others = λ k other. refl; gone = there }
-advance_of-gone s c (Some held) there = gone_on-gone s c held (course s.net c held.wire) there refl
+advance_of-gone s c None there = record { cables = refl; long = refl; others = λ k other. refl; gone = there }
+advance_of-gone s c (Some held) there = gone_on-gone s c held (course s.cables c held.wire) there refl
 
 advance-gone : (s : LinkState) (c : ℕ) → IsGone s c (hop_in (advance s c).0) (advance s c).1
 advance-gone s c = advance_of-gone s c (packet_in s c) refl
@@ -341,7 +341,7 @@ woken s c count m m' p n n' a there is size kept marked made = record {
     by k none (inr l) = let bad = gone k l none in cc
 
 -- ---- an advance of a channel that is awake
-waits-on : (s t : LinkState) (k g : ℕ) → WaitsFor s k g → t.net ≡ s.net → packet_in t k ≡ packet_in s k → packet_in t g ≡ packet_in s g → WaitsFor t k g
+waits-on : (s t : LinkState) (k g : ℕ) → WaitsFor s k g → t.cables ≡ s.cables → packet_in t k ≡ packet_in s k → packet_in t g ≡ packet_in s g → WaitsFor t k g
 waits-on s t k g x net one two = record {
   held = x.held;
   there = one ∙ x.there;
@@ -364,7 +364,7 @@ on-awake s t c next m p n a o = record {
 
     goes : (k g : ℕ) → k ≢ c → k ≢ next → WaitsFor s k g → IsListed p n k g → (g ≡ c) ⊎ (g ≢ c) → Sleeps t p n k ⊎ IsListed p n k c
     goes k g other apart x l (inl same) = inr (subst (λ j. IsListed p n k j) same l)
-    goes k g other apart x l (inr else) = inl (inr (g, waits-on s t k g x o.net (o.others k other apart) (o.others g else (other-goal k g x else)), l))
+    goes k g other apart x l (inr else) = inl (inr (g, waits-on s t k g x o.cables (o.others k other apart) (o.others g else (other-goal k g x else)), l))
 
     by : (k : ℕ) → k ≢ next → (k ≡ c) ⊎ (k ≢ c) → Sleeps s p n k → Sleeps t p n k ⊎ IsListed p n k c
     by k apart (inl same) before = inl (inl (ap (packet_in t) same ∙ o.gone (λ e. apart (same ∙ e))))
@@ -376,7 +376,7 @@ out-awake s t c m p n a o = record { rows = subst (λ k. HasRows k m p n) (sym o
   where
     goes : (k g : ℕ) → k ≢ c → WaitsFor s k g → IsListed p n k g → (g ≡ c) ⊎ (g ≢ c) → Sleeps t p n k ⊎ IsListed p n k c
     goes k g other x l (inl same) = inr (subst (λ j. IsListed p n k j) same l)
-    goes k g other x l (inr else) = inl (inr (g, waits-on s t k g x o.net (o.others k other) (o.others g else), l))
+    goes k g other x l (inr else) = inl (inr (g, waits-on s t k g x o.cables (o.others k other) (o.others g else), l))
 
     by : (k : ℕ) → (k ≡ c) ⊎ (k ≢ c) → Sleeps s p n k → Sleeps t p n k ⊎ IsListed p n k c
     by k (inl same) before = inl (inl (ap (packet_in t) same ∙ o.gone))
@@ -384,17 +384,17 @@ out-awake s t c m p n a o = record { rows = subst (λ k. HasRows k m p n) (sym o
     by k (inr other) (inr (g, x, l)) = goes k g other x l (cases_eq g c)
 
 -- after an advance, whatever its hop reports
-gone-behind : (s t : LinkState) (c : ℕ) (h : Hop) (m p n : List ℕ) → length s.channels ≡ channel_count s.net → AreAwake s m p n → IsGone s c h t → AreAwakeBehind h t c m p n
+gone-behind : (s t : LinkState) (c : ℕ) (h : Hop) (m p n : List ℕ) → length s.channels ≡ life_channels s.cables → AreAwake s m p n → IsGone s c h t → AreAwakeBehind h t c m p n
 gone-behind s t c (Moved next) m p n long a o = let there = o.there in let same = o.long in (on-awake s t c next m p n a o, omega (arith, there, same, long))
 gone-behind s t c (Blocked next) m p n long a (same, x) = (subst (λ l. AreAwake l m p n) (sym same) a, subst (λ l. WaitsFor l c next) (sym same) x)
 gone-behind s t c Untried m p n long a o = (out-awake s t c m p n a o, o.gone)
 
-step-behind : (w v : WorldState) (c : ℕ) (x : Effect) (h : Hop) (m p n : List ℕ) → length w.links.channels ≡ channel_count (fabric_of w) → AreAwake w.links m p n
+step-behind : (w v : WorldState) (c : ℕ) (x : Effect) (h : Hop) (m p n : List ℕ) → length w.links.channels ≡ life_channels w.links.cables → AreAwake w.links m p n
     → step w (Advance c) ≡ (x, v) → hop_of x ≡ h → AreAwakeBehind h v.links c m p n
 step-behind w v c x h m p n long a is told = gone-behind w.links v.links c h m p n long a (step-gone w v c x h is told)
 
 -- of a note, where there is one
-pub step-noted : (w v : WorldState) (c : ℕ) (x : Effect) (h : Hop) (o : Option Awake) → length w.links.channels ≡ channel_count (fabric_of w)
+pub step-noted : (w v : WorldState) (c : ℕ) (x : Effect) (h : Hop) (o : Option Awake) → length w.links.channels ≡ life_channels w.links.cables
     → IfSome o (λ a. AreAwake w.links a.marks a.places.items a.counts.items) → step w (Advance c) ≡ (x, v) → hop_of x ≡ h
     → IfSome o (λ a. AreAwakeBehind h v.links c a.marks a.places.items a.counts.items)
 step-noted w v c x h None long a is told = tt

@@ -19,7 +19,7 @@ use Rattle.world_defs.specs.Drain.{changed}
 pub record WaitsFor (s : LinkState) (c next : ℕ) : Type 0 where
   pub held : Held
   pub there : packet_in s c ≡ Some held
-  pub to : course s.net c held.wire ≡ Enters next
+  pub to : course s.cables c held.wire ≡ Enters next
   pub full : is_some (packet_in s next) ≡ true
   pub other : next ≢ c
 

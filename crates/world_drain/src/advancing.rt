@@ -26,7 +26,7 @@ pub(crate) fn drain_by_passes(
     watch: &Watch,
 ) -> Result<Seen, AllocError>
     ensures seen { IfOk result (λ s. s ≡ seen_in watch.now (log.drain w.old).value) }
-    ensures few { IfOk result (λ s. s.changes ≤ 1275264) }
+    ensures few { IfOk result (λ s. s.changes ≤ 9068544) }
     ensures after { OnOk result (w.new ≡ (log.drain w.old).world) }
     ensures err { OnErr result (IsPartWay w.old (log.drain w.old).events w.new) }
 {
@@ -43,7 +43,7 @@ fn all_passes(
 ) -> Result<Seen, AllocError>
     requires { IfSome noted.old (λ a. AreAwake w.old.links a.marks a.places.items a.counts.items) }
     ensures seen { IfOk result (λ s. s ≡ seen_in watch.now (log.drain w.old).value) }
-    ensures few { IfOk result (λ s. s.changes ≤ 1275264) }
+    ensures few { IfOk result (λ s. s.changes ≤ 9068544) }
     ensures after { OnOk result (w.new ≡ (log.drain w.old).world) }
     ensures err { OnErr result (IsPartWay w.old (log.drain w.old).events w.new) }
 {

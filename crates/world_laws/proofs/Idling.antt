@@ -1,7 +1,8 @@
 -- An event is idle exactly in its cases, and then leaves the world as it was.
 use Rattle.std.proofs.Common.{◌≡◌, ◌≤◌, ◌+◌, ◌*◌, ℕ, Bool, true, false, not, ◌&&◌, ◌||◌, ℤ, List, length, nat_lt, nat_le, Option, Some, None, is_some, refl, sym, ◌∙◌, ap, arith, true≢false, if◌then◌else◌}
 use Rattle.std.proofs.lemmas.Bool.Decides.{nat_tests}
-use Rattle.net_defs.specs.Route.{host_port, channel_from}
+use Rattle.net_defs.specs.Route.{host_port}
+use Rattle.cable_history.specs.Crossed.{leaving}
 use Rattle.net_defs.proofs.Growing.{no_some}
 use Rattle.packet_defs.specs.Burst.{flipped as flipped_bytes, may_flip}
 use Rattle.link_defs.specs.declared.moved.Course.{Course}
@@ -25,7 +26,7 @@ use Rattle.world_defs.specs.Table.{Adoption, part_for, route_of}
 use Rattle.world_defs.specs.Node.{NodeState, Outgoing, to_send, given_up, node_expired, unacknowledged_to}
 use Rattle.world_defs.specs.Hearing.{hear}
 use Rattle.world_defs.specs.Client.{Called, begun, closed, provided_by, sent_by, polled_by}
-use Rattle.world_defs.specs.World.{WorldState, fabric_of, host_count, last_count, node_at, with_node, with_links, client_at}
+use Rattle.world_defs.specs.World.{WorldState, host_count, last_count, node_at, with_node, with_links, client_at}
 use Rattle.world_defs.specs.Step.{of_links, of_limbo, of_replay, lost, was_reset, repeated, held, flipped, replayed, asked, stage_at, stage_part, part_staged, planned_strikes, sent_out, inject_one, inject_into, injected, cause_at_switch, arrived, advanced_by, advanced, expired, gave_up, of_call, wanted, step}
 use Rattle.world_laws.specs.Idle.{has_part, HasNoPart, CannotInject, IsEmpty, CannotCatch, CannotFlip, CannotReplay, HasNothingStaged, IsIdleCase}
 
@@ -148,7 +149,7 @@ flip-idle : (w : WorldState) (c bit pattern : ℕ) (o : Option Held) → packet_
 flip-idle w c bit pattern None e = ((λ _. refl), (λ _. CannotFlip.empty e))
 flip-idle w c bit pattern (Some held) e = by (not held.marked && may_flip held.wire bit pattern) refl
   where
-    by : (t : Bool) → (not held.marked && may_flip held.wire bit pattern) ≡ t → (CannotFlip w c bit pattern → (if t then (let r : Bool × LinkState = (true, with_packet w.links c (Some (record { wire = flipped_bytes held.wire bit pattern; marked = true }))) in r) else (false, w.links)).0 ≡ false) × ((if t then (let r : Bool × LinkState = (true, with_packet w.links c (Some (record { wire = flipped_bytes held.wire bit pattern; marked = true }))) in r) else (false, w.links)).0 ≡ false → CannotFlip w c bit pattern)
+    by : (t : Bool) → (not held.marked && may_flip held.wire bit pattern) ≡ t → (CannotFlip w c bit pattern → (if t then (let r : Bool × LinkState = (true, with_packet w.links c (Some (record held { wire = flipped_bytes held.wire bit pattern; marked = true }))) in r) else (false, w.links)).0 ≡ false) × ((if t then (let r : Bool × LinkState = (true, with_packet w.links c (Some (record held { wire = flipped_bytes held.wire bit pattern; marked = true }))) in r) else (false, w.links)).0 ≡ false → CannotFlip w c bit pattern)
     by true u = ((λ k. absurd (true≢false (sym u ∙ flip_case w c bit pattern held e k))), (λ d. absurd (true≢false d)))
     by false u = ((λ _. refl), (λ _. flip_from w c bit pattern held e held.marked (nat_lt 0 pattern) (nat_lt (bit + 7) (8 * length held.wire)) refl refl refl u))
 
@@ -192,7 +193,7 @@ gone_on_not_empty s c held (Drops why) e = cc
 
 advance_empty : (s : LinkState) (c : ℕ) (o : Option Held) → (o ≡ None → (advance_of s c o).0 ≡ Empty) × ((advance_of s c o).0 ≡ Empty → o ≡ None)
 advance_empty s c None = ((λ _. refl), (λ _. refl))
-advance_empty s c (Some held) = ((λ e. absurd (some_none held e)), (λ e. absurd (gone_on_not_empty s c held (course s.net c held.wire) e)))
+advance_empty s c (Some held) = ((λ e. absurd (some_none held e)), (λ e. absurd (gone_on_not_empty s c held (course s.cables c held.wire) e)))
 
 -- a part
 part_case : (w : WorldState) (dst part : ℕ) (a : Adoption) (p : RoutePart) (by : List ℤ) → w.adopted ≡ Some a → part_for a dst part ≡ Some p → route_of a.routes a.mapper dst ≡ Some by → HasNoPart w dst part → ⊥
@@ -212,7 +213,7 @@ adopted-idle w dst part None e = idle_case w (HasNoPart w dst part) (HasNoPart.n
 adopted-idle w dst part (Some a) e = part-idle w dst part a e (part_for a dst part) (route_of a.routes a.mapper dst) refl refl
 
 -- an injection
-inject_case : (w : WorldState) (h c : ℕ) (out : Outgoing) → channel_from (fabric_of w) (host_port h) ≡ Some c → to_send h (node_at w h) ≡ Some out → is_some (packet_in w.links c) ≡ false → nat_le last_count w.injected ≡ false → CannotInject w h → ⊥
+inject_case : (w : WorldState) (h c : ℕ) (out : Outgoing) → leaving w.links.cables (host_port h) ≡ Some c → to_send h (node_at w h) ≡ Some out → is_some (packet_in w.links c) ≡ false → nat_le last_count w.injected ≡ false → CannotInject w h → ⊥
 inject_case w h c out there e f g (CannotInject.no_cable is) = some_none c (sym there ∙ is)
 inject_case w h c out there e f g (CannotInject.nothing_to_send is) = some_none out (sym e ∙ is)
 inject_case w h c out there e f g (CannotInject.channel_full d is full) =
@@ -220,7 +221,7 @@ inject_case w h c out there e f g (CannotInject.channel_full d is full) =
     true≢false (sym full ∙ (ap (λ x. is_some (packet_in w.links x)) (sym same) ∙ f))
 inject_case w h c out there e f g (CannotInject.used_up is) = grind (arith, nat_tests)
 
-inject_one-idle : (w : WorldState) (h c : ℕ) (o : Option Outgoing) → channel_from (fabric_of w) (host_port h) ≡ Some c → to_send h (node_at w h) ≡ o → IdleBy w (CannotInject w h) (inject_one w h c o)
+inject_one-idle : (w : WorldState) (h c : ℕ) (o : Option Outgoing) → leaving w.links.cables (host_port h) ≡ Some c → to_send h (node_at w h) ≡ o → IdleBy w (CannotInject w h) (inject_one w h c o)
 inject_one-idle w h c None there e = idle_case w (CannotInject w h) (CannotInject.nothing_to_send e)
 inject_one-idle w h c (Some out) there e = by (is_some (packet_in w.links c)) (nat_le last_count w.injected) refl refl
   where
@@ -229,7 +230,7 @@ inject_one-idle w h c (Some out) there e = by (is_some (packet_in w.links c)) (n
     by false true f g = idle_case w (CannotInject w h) (CannotInject.used_up (grind (arith, nat_tests)))
     by false false f g = busy_case w (CannotInject w h) (Injected (w.injected + 1), planned_strikes (sent_out w h c out) c) (inject_case w h c out there e f g) (injected_busy (w.injected + 1))
 
-inject_into-idle : (w : WorldState) (h : ℕ) (o : Option ℕ) → channel_from (fabric_of w) (host_port h) ≡ o → IdleBy w (CannotInject w h) (inject_into w h o)
+inject_into-idle : (w : WorldState) (h : ℕ) (o : Option ℕ) → leaving w.links.cables (host_port h) ≡ o → IdleBy w (CannotInject w h) (inject_into w h o)
 inject_into-idle w h None e = idle_case w (CannotInject w h) (CannotInject.no_cable e)
 inject_into-idle w h (Some c) e = inject_one-idle w h c (to_send h (node_at w h)) e refl
 
@@ -261,7 +262,7 @@ pub step-idle : (w : WorldState) (e : Event) → IdleBy w (IsIdleCase w e) (step
 unfolding lost was_reset repeated held flipped replayed asked part_staged injected advanced expired gave_up
 step-idle w (Ask h walk looped) = busy_case w ⊥ (step w (Ask h walk looped)) (λ c. c) staged_busy
 step-idle w (Part dst part) = adopted-idle w dst part w.adopted refl
-step-idle w (Inject h) = inject_into-idle w h (channel_from (fabric_of w) (host_port h)) refl
+step-idle w (Inject h) = inject_into-idle w h (leaving w.links.cables (host_port h)) refl
 step-idle w (Advance c) =
     let k = advance_empty w.links c (packet_in w.links c) in advanced_by-idle w (IsEmpty w c) (advance w.links c) k.0 k.1
 step-idle w (Lose c) = empty-idle w c Lost lost_busy

@@ -2,7 +2,8 @@
 use Rattle.std.proofs.Common.{◌≡◌, ◌≢◌, ◌<◌, ◌≤◌, ◌+◌, ◌-◌, ◌*◌, ℕ, Bool, true, false, ◌||◌, List, [], ◌∷◌, map, length, nat_eq, nat_le, Option, Some, None, is_some, cond, refl, ◌∙◌, ap, arith, true≢false, if◌then◌else◌}
 use Rattle.std.specs.Map.{lookup, remove_entry}
 use Rattle.std.proofs.lemmas.Bool.Decides.{nat_tests}
-use Rattle.net_defs.specs.Route.{host_port, channel_from}
+use Rattle.net_defs.specs.Route.{host_port}
+use Rattle.cable_history.specs.Crossed.{leaving}
 use Rattle.link_defs.specs.declared.replayed.Replayed.{Replayed}
 use Rattle.link_defs.specs.declared.replayed.Replayed.TheVariants.{Back, Busy}
 use Rattle.link_defs.specs.Links.{Caught, LinkState, packet_in, with_packet}
@@ -12,7 +13,7 @@ use Rattle.world_defs.specs.declared.event.Event.TheVariants.{Inject, Advance, R
 use Rattle.world_defs.specs.declared.effect.Effect.{Effect}
 use Rattle.world_defs.specs.declared.effect.Effect.TheVariants.{Idle, Injected}
 use Rattle.world_defs.specs.Node.{Outgoing, to_send, packet_for}
-use Rattle.world_defs.specs.World.{WorldState, fabric_of, last_count, node_at, addresses}
+use Rattle.world_defs.specs.World.{WorldState, last_count, node_at, addresses}
 use Rattle.world_defs.specs.Step.{of_replay, replayed, planned_strikes, sent_out, inject_one, inject_into, injected, step, steps, after_all}
 use Rattle.world_defs.specs.Drain.{changed, changes}
 use Rattle.world_defs.specs.Settle.{serials, is_quiet, pass_bound, expiries}
@@ -92,7 +93,7 @@ pub clear-measure : (w : WorldState) → measure (clear w).world ≡ measure w
 clear-measure w = calm-measure w (clear w).world (row-along along-calm (clear-row clears-calm w))
 
 -- an injection
-put-limbo : (s : LinkState) (c : ℕ) (wire : List ℕ) (b : Bool) → (if b then (let r : Bool × LinkState = (false, s) in r) else (true, with_packet s c (Some (record { wire = wire; marked = false })))).1.limbo ≡ s.limbo
+put-limbo : (s : LinkState) (c : ℕ) (wire : List ℕ) (b : Bool) → (if b then (let r : Bool × LinkState = (false, s) in r) else (true, with_packet s c (Some (record { wire = wire; marked = false; born = s.epoch })))).1.limbo ≡ s.limbo
 put-limbo s c wire true = refl
 put-limbo s c wire false = refl
 
@@ -129,7 +130,7 @@ inject_into-cost w h (Some c) = inject_one-cost w h c (to_send h (node_at w h))
 
 pub inject-cost : (w : WorldState) (h : ℕ) → one_if (changed (step w (Inject h)).0) + measure (step w (Inject h)).1 ≤ measure w
 unfolding injected
-inject-cost w h = inject_into-cost w h (channel_from (fabric_of w) (host_port h))
+inject-cost w h = inject_into-cost w h (leaving w.links.cables (host_port h))
 
 pub injects-cost : (w : WorldState) (hs : List ℕ) → changes (steps w (map Inject hs)).0 + measure (steps w (map Inject hs)).1 ≤ measure w
 injects-cost w [] = omega arith

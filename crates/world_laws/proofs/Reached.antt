@@ -1,7 +1,7 @@
 -- A drain, a clear and a settle are events in a row, and keep what those keep.
 use Rattle.std.proofs.Common.{List, sym, ◌∙◌, ap, subst}
 use Rattle.world_defs.specs.declared.event.Event.{Event}
-use Rattle.world_defs.specs.World.{WorldState, fabric_of}
+use Rattle.world_defs.specs.World.{WorldState}
 use Rattle.world_laws.specs.Shape.{IsWorld, HasSenders}
 use Rattle.world_defs.specs.Row.{IsRow}
 use Rattle.world_laws.specs.Reached.{IsOfClear, IsOfSettle, DrainIsRow, ClearIsRow, SettleIsRow, IsKept, DrainKeeps, ClearKeeps, SettleKeeps}
@@ -26,7 +26,7 @@ settle-is_row = settle-row settles-of
 pub row-kept : {kind : Event → Type 0} {w v : WorldState} {es : List Event} → IsRow kind w es v → IsKept w v
 row-kept {w = w} {es = es} r =
     let k = after_all-kept w es in
-    record { fabric = ap fabric_of r.there ∙ k.net; world = λ is. subst IsWorld (sym r.there) (k.world is); senders = λ is. subst HasSenders (sym r.there) (k.senders is) }
+    record { cables = ap (λ u. u.links.cables) r.there ∙ k.cables; world = λ is. subst IsWorld (sym r.there) (k.world is); senders = λ is. subst HasSenders (sym r.there) (k.senders is) }
 
 pub drain-kept : DrainKeeps
 drain-kept w = row-kept (drain-is_row w)

@@ -1,12 +1,13 @@
--- Every event leaves a world of the same fabric, with the numbers of each connection in order.
-use Rattle.std.proofs.Common.{◌≡◌, ◌<◌, ◌≤◌, ◌+◌, ◌^◌, ℕ, zero, suc, List, [], ◌∷◌, length, replicate, get_or, set, Option, Some, None, is_some, refl, sym, ◌∙◌, ap, subst, arith}
+-- Every event leaves a world of the same cables, with the numbers of each connection in order.
+use Rattle.std.proofs.Common.{◌≡◌, ◌<◌, ◌≤◌, ◌+◌, ◌^◌, ℕ, zero, suc, false, List, [], ◌∷◌, length, replicate, get_or, set, Option, Some, None, is_some, refl, sym, ◌∙◌, ap, subst, arith}
 use Rattle.std.proofs.Math.ListN.{length-set}
 use Rattle.std.proofs.lemmas.List.{length-replicate}
 use Rattle.net_defs.specs.declared.route.Route.{Route}
 use Rattle.net_defs.specs.Network.{Network}
 use Rattle.link_defs.specs.Shape.{IsLinks}
+use Rattle.link_defs.specs.Laws.{is_of_cables}
 use Rattle.link_defs.specs.Step.{Step, Put, stepped}
-use Rattle.link_defs.proofs.Shapes.{empty-links, stepped-net, stepped-links}
+use Rattle.link_defs.proofs.Shapes.{empty-links, stepped-cables, stepped-links}
 use Rattle.gm_defs.specs.Connection.{IsSender, starting}
 use Rattle.gm_defs.specs.Token.{PortState}
 use Rattle.world_defs.specs.declared.event.Event.{Event}
@@ -15,7 +16,7 @@ use Rattle.world_defs.specs.Table.{TableState, whole_table}
 use Rattle.world_defs.specs.Lane.{LaneState, new_lane}
 use Rattle.world_defs.specs.Node.{NodeState, Outgoing, to_send, packet_for, after_sending, lane_count, new_node, lane_at, port_at, port_count}
 use Rattle.world_defs.specs.Client.{ClientState, Called}
-use Rattle.world_defs.specs.World.{WorldState, fabric_of, host_count, new_world, last_count, counted, node_at, with_node, with_links, client_at, with_client, with_drop, adopted_by, planned}
+use Rattle.world_defs.specs.World.{WorldState, host_count, new_world, last_count, counted, node_at, with_node, with_links, client_at, with_client, with_drop, adopted_by, planned}
 use Rattle.world_defs.specs.Step.{planned_strikes, sent_out, step, after_all}
 use Rattle.world_laws.specs.Shape.{IsNode, IsWorld, HasSenders}
 use Rattle.world_laws.proofs.Lists.{at-set, two-set}
@@ -26,7 +27,7 @@ use Rattle.world_laws.proofs.Leaves.{Follows, FollowsCalls, step-leaves}
 
 -- what every event keeps
 pub record Kept (w v : WorldState) : Type 0 where
-  pub net : fabric_of v ≡ fabric_of w
+  pub cables : v.links.cables ≡ w.links.cables
   pub world : IsWorld w → IsWorld v
   pub senders : HasSenders w → HasSenders v
 
@@ -49,10 +50,10 @@ with_node-kept w h n k = record {
 }
 
 -- a world whose hosts are kept, and whose clients are as they were
-made_world : (w v : WorldState) → IsWorld w → IsLinks v.links → fabric_of v ≡ fabric_of w → NodesKept w v → v.clients ≡ w.clients → v.injected < 2 ^ 64 → v.dropped < 2 ^ 64 → v.struck ≤ v.injected → v.harmed ≤ v.struck → IsWorld v
-made_world w v is links net k clients injections drops strikes harms = record {
+made_world : (w v : WorldState) → IsWorld w → IsLinks v.links → v.links.cables ≡ w.links.cables → NodesKept w v → v.clients ≡ w.clients → v.injected < 2 ^ 64 → v.dropped < 2 ^ 64 → v.struck ≤ v.injected → v.harmed ≤ v.struck → IsWorld v
+made_world w v is links cables k clients injections drops strikes harms = record {
   links = links;
-  hosts = k.count ∙ (is.hosts ∙ ap (λ n. length n.hosts) (sym net));
+  hosts = k.count ∙ (is.hosts ∙ ap (λ h. length h.hosts) (sym cables));
   clients = ap length clients ∙ (is.clients ∙ sym k.count);
   each_node = λ h low.
       let was : IsNode (host_count w) (node_at w h) = is.each_node h (subst (λ n. h < n) k.count low) in
@@ -68,16 +69,16 @@ made_world w v is links net k clients injections drops strikes harms = record {
 pub made_senders : (w v : WorldState) → NodesKept w v → HasSenders w → HasSenders v
 made_senders w v k is = record { in_order = λ h lane. ((k.each h).senders lane).in_order (is.in_order h lane) }
 
-kept_links : (w : WorldState) (x : Step) → Kept w (with_links w (stepped w.links x))
-kept_links w x = record {
-  net = stepped-net w.links x;
-  world = λ is. made_world w (with_links w (stepped w.links x)) is (stepped-links w.links x is.links) (stepped-net w.links x) (nodes_same w (with_links w (stepped w.links x)) refl) refl is.injections is.drops is.strikes is.harms;
+kept_links : (w : WorldState) (x : Step) → is_of_cables x ≡ false → Kept w (with_links w (stepped w.links x))
+kept_links w x packets = record {
+  cables = stepped-cables w.links x packets;
+  world = λ is. made_world w (with_links w (stepped w.links x)) is (stepped-links w.links x is.links) (stepped-cables w.links x packets) (nodes_same w (with_links w (stepped w.links x)) refl) refl is.injections is.drops is.strikes is.harms;
   senders = made_senders w (with_links w (stepped w.links x)) (nodes_same w (with_links w (stepped w.links x)) refl);
 }
 
 kept_node : (w : WorldState) (h : ℕ) (n : NodeState) → NodeKept (node_at w h) n → Kept w (with_node w h n)
 kept_node w h n k = record {
-  net = refl;
+  cables = refl;
   world = λ is. made_world w (with_node w h n) is is.links refl (with_node-kept w h n k) refl is.injections is.drops is.strikes is.harms;
   senders = made_senders w (with_node w h n) (with_node-kept w h n k);
 }
@@ -87,7 +88,7 @@ counted-below n = omega arith
 
 kept_drop : (w : WorldState) → Kept w (with_drop w)
 kept_drop w = record {
-  net = refl;
+  cables = refl;
   world = λ is. made_world w (with_drop w) is is.links refl (nodes_same w (with_drop w) refl) refl is.injections (counted-below w.dropped) is.strikes is.harms;
   senders = made_senders w (with_drop w) (nodes_same w (with_drop w) refl);
 }
@@ -95,7 +96,7 @@ kept_drop w = record {
 -- what an injection leaves before the planned fault strikes
 pub record SentOut (w v : WorldState) : Type 0 where
   pub links : IsLinks w.links → IsLinks v.links
-  pub net : fabric_of v ≡ fabric_of w
+  pub cables : v.links.cables ≡ w.links.cables
   pub nodes : NodesKept w v
   pub clients : v.clients ≡ w.clients
   pub injected : v.injected ≡ w.injected + 1
@@ -111,7 +112,7 @@ sent_out-kept w h c out e =
     let k : NodesKept w (with_node w h (after_sending (node_at w h) out)) = with_node-kept w h (after_sending (node_at w h) out) (sent-kept h (node_at w h) out e) in
     record {
       links = stepped-links w.links x;
-      net = stepped-net w.links x;
+      cables = stepped-cables w.links x refl;
       nodes = record { count = k.count; each = k.each };
       clients = refl;
       injected = refl;
@@ -132,7 +133,7 @@ injected-kept w u v low s t =
     let nodes : NodesKept w v = struck_nodes w u v s.nodes t.nodes in
     let now : v.injected ≡ w.injected + 1 = t.injected ∙ s.injected in
     record {
-      net = t.links.net ∙ s.net;
+      cables = t.links.cables ∙ s.cables;
       world = λ is.
           let a = is.strikes in
           let b = is.harms in
@@ -141,7 +142,7 @@ injected-kept w u v low s t =
           let e = s.struck in
           let f = s.harmed in
           let g = t.rises in
-          made_world w v is (t.links.links (s.links is.links)) (t.links.net ∙ s.net) nodes (t.clients ∙ s.clients) (omega (arith, low, now)) (subst (λ n. n < 2 ^ 64) (sym (t.dropped ∙ s.dropped)) is.drops) (omega (arith, a, c, e, now)) (omega (arith, b, d, e, f, g));
+          made_world w v is (t.links.links (s.links is.links)) (t.links.cables ∙ s.cables) nodes (t.clients ∙ s.clients) (omega (arith, low, now)) (subst (λ n. n < 2 ^ 64) (sym (t.dropped ∙ s.dropped)) is.drops) (omega (arith, a, c, e, now)) (omega (arith, b, d, e, f, g));
       senders = made_senders w v nodes;
     }
 
@@ -151,8 +152,8 @@ kept_injection w h c out low e =
 
 pub follows-kept : Follows Kept
 follows-kept = record {
-  same = λ w. record { net = refl; world = λ is. is; senders = λ is. is };
-  both = λ u v w k l. record { net = l.net ∙ k.net; world = λ is. l.world (k.world is); senders = λ is. l.senders (k.senders is) };
+  same = λ w. record { cables = refl; world = λ is. is; senders = λ is. is };
+  both = λ u v w k l. record { cables = l.cables ∙ k.cables; world = λ is. l.world (k.world is); senders = λ is. l.senders (k.senders is) };
   links = kept_links;
   node = kept_node;
   drop = kept_drop;
@@ -205,7 +206,7 @@ called_senders w h port call k is = record {
 }
 
 pub follows_calls-kept : FollowsCalls Kept
-follows_calls-kept w h port call k = record { net = refl; world = called_world w h port call k; senders = called_senders w h port call k }
+follows_calls-kept w h port call k = record { cables = refl; world = called_world w h port call k; senders = called_senders w h port call k }
 
 -- the laws
 pub step-kept : (w : WorldState) (e : Event) → Kept w (step w e).1

@@ -3,7 +3,7 @@ use Rattle.std.specs.Prelude.{◌≡◌, false, List, [], ◌∷◌}
 use Rattle.link_defs.specs.Hops.{is_stuck}
 use Rattle.world_defs.specs.declared.event.Event.{Event}
 use Rattle.world_defs.specs.declared.event.Event.TheVariants.{Inject, Advance, Replay, Reset, Expire, GiveUp}
-use Rattle.world_defs.specs.World.{WorldState, fabric_of}
+use Rattle.world_defs.specs.World.{WorldState}
 use Rattle.world_defs.specs.Step.{step}
 use Rattle.world_defs.specs.Logs.{drain, clear, settle}
 use Rattle.world_defs.specs.Row.{IsRow}
@@ -52,9 +52,9 @@ abbrev pub NeverStuckHasNoResets : Type 0
 NeverStuckHasNoResets = (w : WorldState) → EachStep (λ v e. is_stuck v.links ≡ false) w (settle w).events
     → (settle w).value.resets ≡ 0
 
--- What events keep: the fabric, a world, and the numbers of each connection in order.
+-- What events keep: the cables, a world, and the numbers of each connection in order.
 pub record IsKept (w v : WorldState) : Type 0 where
-  pub fabric : fabric_of v ≡ fabric_of w
+  pub cables : v.links.cables ≡ w.links.cables
   pub world : IsWorld w → IsWorld v
   pub senders : HasSenders w → HasSenders v
 

@@ -1,7 +1,8 @@
 //! A host stages a probe and puts it into its channel at once.
 
 ghost use Rattle.std.specs.Prelude.{◌≡◌, ◌≤◌, length, true, Some, IfOk, OnOk, OnErr};
-ghost use Rattle.net_defs.specs.Route.{host_port, channel_from};
+ghost use Rattle.net_defs.specs.Route.{host_port};
+ghost use Rattle.cable_history.specs.Crossed.{leaving};
 ghost use Rattle.world_defs.specs.World.{fabric_of};
 ghost use Rattle.world_defs.specs.Step.{asked, injected};
 ghost use Rattle.faulty_links.specs.Held.{of_world, can_inject};
@@ -53,7 +54,7 @@ impl Machine {
     ) -> Result<Effect, AllocError>
         requires there { IsHostOf self.old host }
         requires short { looped ≡ true → length walk.now ≤ 31 }
-        requires its_own { channel_from (fabric_of self.old) (host_port host) ≡ Some c }
+        requires its_own { leaving self.old.links.cables (host_port host) ≡ Some c }
         requires channel { IsChannelOf self.old c }
         requires free { can_inject (of_world self.old) c ≡ true }
         ensures ok { IfOk result (λ x. injected (asked self.old host walk.now looped).1 host ≡ (x, self.new)) }

@@ -11,16 +11,9 @@ use super::FaultyLinks;
 use link_defs::{Moved, Why};
 use link_model::{Hop, Run};
 use myri_packet::Packet;
-use net_defs::{End, Vertex};
+use net_defs::Vertex;
 use packet_defs::HostDrop;
 use world_defs::{Arrival, Cause, Effect};
-
-// A port to read: the answer, whatever it is, shows that the links are those of a fabric, whose cables end at hosts
-// that it has.
-const FIRST_PORT: End = End {
-    v: Vertex::Host(0),
-    p: 0,
-};
 
 impl FaultyLinks {
     /// The host that a channel's packet reaches by its next advance, and the packet, which stays where it is. None
@@ -29,10 +22,9 @@ impl FaultyLinks {
     pub fn reaching(&self, c: u16) -> Option<(u16, &Packet)>
         requires { c < length self.now.links.channels }
         ensures reaching { option_map (λ t. (t.0, t.1.now)) result ≡ reaching self.now.links c }
-        ensures host { IfSome result (λ t. t.0 < length self.now.links.net.hosts) }
+        ensures host { IfSome result (λ t. t.0 < length self.now.links.cables.hosts) }
         ensures heard { IfSome result (λ t. IsHeardAt self.now c t.0 t.1.now) }
     {
-        let _fabric = self.links.channel_from(FIRST_PORT);
         let Vertex::Host(host) = self.links.ends(c).1.v else {
             return None;
         };
@@ -114,6 +106,7 @@ const fn cause_at_switch(why: Why) -> Cause
         Why::OutOfRange => Cause::OutOfRange,
         Why::NotRoute => Cause::NotRoute,
         Why::NoCable => Cause::NoCable,
+        Why::NewCable => Cause::NewCable,
     }
 }
 

@@ -56,9 +56,9 @@ impl Links {
         ensures few { result.hops ≤ 1107 }
     {
         let slot = self.slots.take(usize::from(c)).unwrap();
-        let (mut packet, marked) = slot.into_parts();
+        let (mut packet, marked, born) = slot.into_parts();
         let run = follow(&self.wiring, c, &mut packet);
-        let slot = Slot::from_parts(packet, marked);
+        let slot = Slot::from_parts(packet, marked, born);
         self.slots.put(usize::from(run.at), slot);
         run
     }
@@ -66,7 +66,7 @@ impl Links {
     // Where a channel's packet goes.
     fn course_of(&self, c: u16) -> Option<Course>
         requires { c < length self.now.channels }
-        ensures { result ≡ option_map (λ held. course self.now.net c held.wire) (packet_in self.now c) }
+        ensures { result ≡ option_map (λ held. course self.now.cables c held.wire) (packet_in self.now c) }
     {
         match self.slots.peek(usize::from(c)) {
             Some(slot) => Some(course(&self.wiring, c, slot.packet())),
@@ -78,7 +78,7 @@ impl Links {
     fn next_of(&self, c: u16) -> Option<u16>
         requires { c < length self.now.channels }
         ensures { result
-            ≡ option_and_then (λ held. entered_by (course self.now.net c held.wire)) (packet_in self.now c) }
+            ≡ option_and_then (λ held. entered_by (course self.now.cables c held.wire)) (packet_in self.now c) }
     {
         match self.slots.peek(usize::from(c)) {
             Some(slot) => next_channel(&self.wiring, c, slot.packet()),
@@ -89,7 +89,7 @@ impl Links {
     // A channel's packet goes there.
     fn go(&mut self, c: u16, to: Course) -> Moved<Packet>
         requires there { c < length self.old.channels }
-        requires course { option_map (λ held. course self.old.net c held.wire) (packet_in self.old c) ≡ Some to }
+        requires course { option_map (λ held. course self.old.cables c held.wire) (packet_in self.old c) ≡ Some to }
         ensures moved { result ≡ (advance self.old c).0 }
         ensures links { self.new ≡ (advance self.old c).1 }
     {
@@ -113,7 +113,7 @@ impl Links {
     // turns it only then, since a packet that waits is as it came.
     fn enter(&mut self, c: u16, next: u16) -> bool
         requires there { c < length self.old.channels }
-        requires course { option_map (λ held. course self.old.net c held.wire) (packet_in self.old c)
+        requires course { option_map (λ held. course self.old.cables c held.wire) (packet_in self.old c)
             ≡ Some (Course.Enters next) }
         ensures { advance self.old c ≡ (if result then Moved.To next else Moved.Blocked next, self.new) }
     {
@@ -129,7 +129,7 @@ impl Links {
     // The same of a packet whose next channel was found by its front turn, which is stripped without being aimed anew.
     fn pass(&mut self, c: u16, next: u16) -> bool
         requires there { c < length self.old.channels }
-        requires course { option_map (λ held. course self.old.net c held.wire) (packet_in self.old c)
+        requires course { option_map (λ held. course self.old.cables c held.wire) (packet_in self.old c)
             ≡ Some (Course.Enters next) }
         ensures { advance self.old c ≡ (if result then Moved.To next else Moved.Blocked next, self.new) }
     {

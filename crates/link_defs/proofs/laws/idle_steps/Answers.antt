@@ -1,4 +1,4 @@
-use Rattle.link_defs.proofs.Idling.{put-refused, lose-idle, repeat-idle, hold-idle, flip-idle, replay-idle}
+use Rattle.link_defs.proofs.Idling.{put-refused, lose-idle, repeat-idle, hold-idle, flip-idle, replay-idle, pull-idle, plug-idle}
 use Rattle.link_defs.proofs.laws.idle_steps.Goals as goal
 
 pub returns-clause-put : goal.returns-clause-put
@@ -21,3 +21,9 @@ returns-clause-flip c = flip-idle
 
 pub returns-clause-replay : goal.returns-clause-replay
 returns-clause-replay c = replay-idle
+
+pub returns-clause-pull : goal.returns-clause-pull
+returns-clause-pull c = pull-idle
+
+pub returns-clause-plug : goal.returns-clause-plug
+returns-clause-plug c = plug-idle

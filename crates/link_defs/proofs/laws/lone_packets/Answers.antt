@@ -1,4 +1,4 @@
-use Rattle.link_defs.proofs.LonePackets.{lone-advance, lone-place, no_channel-place}
+use Rattle.link_defs.proofs.LonePackets.{lone-advance, lone-place, lone-place_of_old, no_channel-place}
 use Rattle.link_defs.proofs.laws.lone_packets.Goals as goal
 
 pub returns-clause-advance : goal.returns-clause-advance
@@ -9,3 +9,6 @@ returns-clause-place c = lone-place
 
 pub returns-clause-no_channel : goal.returns-clause-no_channel
 returns-clause-no_channel c = no_channel-place
+
+pub returns-clause-unchanged : goal.returns-clause-unchanged
+returns-clause-unchanged c = lone-place_of_old

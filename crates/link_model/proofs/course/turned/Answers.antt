@@ -10,4 +10,4 @@ turn_on-requires-clause-goes c = subst (IsSentOn c.args.wiring.now c.args.c) (sy
 pub returns : goal.returns
 returns c =
     let behind : c.turn_on.new.packet ≡ stripped c.args.slot.wire = c.turn_on.ensures ∙ ap (λ p. stripped p.0) c.into_parts-packet.ensures in
-    c.from_parts.ensures ∙ (λ j. let h : Held = record { wire = behind j; marked = (c.into_parts-packet.ensures j).1 } in h)
+    c.from_parts.ensures ∙ (λ j. let h : Held = record { wire = behind j; marked = (c.into_parts-packet.ensures j).1; born = (c.into_parts-packet.ensures j).2 } in h)

@@ -23,9 +23,9 @@ returns-in-To-clause-place t c =
     let some = c.if-steps-eq0.false in
     let e : suc k ≡ c.args.steps = omega (arith, some) in
     c.run_out.ensures.place
-    ∙ ap (λ n. lone_place k n c.in-To.next (wire_in after c.in-To.next)) g.net
+    ∙ ap (λ n. lone_place k n c.in-To.next (wire_in after c.in-To.next)) g.cables
     ∙ sym g.place
-    ∙ ap (λ i. lone_place i s.net c.args.at (wire_in s c.args.at)) e
+    ∙ ap (λ i. lone_place i s.cables c.args.at (wire_in s c.args.at)) e
 
 pub returns-in_default : goal.returns-in_default
 returns-in_default t c =
@@ -35,6 +35,6 @@ returns-in_default t c =
     let e : suc k ≡ c.args.steps = omega (arith, some) in
     let g : Ends s c.advance.new.self c.args.at k c.advance.result = ends s c.advance.new.self c.args.at k c.advance.result c.requires.alone c.requires.there c.advance.ensures.moved c.advance.ensures.links (elsewhere c.advance.result c.in_default.not-To) in
     record {
-      place = c.place_of.ensures ∙ ap (λ w. left_at w.net c.args.at c.advance.result) g.idle ∙ sym g.place ∙ ap (λ i. lone_place i s.net c.args.at (wire_in s c.args.at)) e;
+      place = c.place_of.ensures ∙ ap (λ w. left_at w.cables c.args.at c.advance.result) g.idle ∙ sym g.place ∙ ap (λ i. lone_place i s.cables c.args.at (wire_in s c.args.at)) e;
       idle = g.idle;
     }

@@ -1,9 +1,10 @@
 use Rattle.std.proofs.Common.{ap, sym, ◌∙◌}
 use Rattle.std.specs.Option.{unwrap_or}
-use Rattle.net_defs.specs.Route.{host_port, channel_from}
+use Rattle.net_defs.specs.Route.{host_port}
+use Rattle.cable_history.specs.Crossed.{leaving}
 use Rattle.world_defs.specs.declared.effect.Effect.{Effect}
 use Rattle.world_defs.specs.declared.effect.Effect.TheVariants.{Idle}
-use Rattle.world_defs.specs.World.{WorldState, fabric_of}
+use Rattle.world_defs.specs.World.{WorldState}
 use Rattle.faulty_links.specs.Held.{of_world, can_inject}
 use Rattle.fab_world.proofs.Probing.{stays-staged}
 use Rattle.fab_world.proofs.machine.Machine.probe.Goals.{in_default-via-in-Some+else-can_inject, in_default-via-in_default}
@@ -11,7 +12,7 @@ use Rattle.fab_world.proofs.machine.Machine.probe.Goals as goal
 
 pub returns-in_ok-stage_probe-in_default-clause-ok : goal.returns-in_ok-stage_probe-in_default-clause-ok
 returns-in_ok-stage_probe-in_default-clause-ok c =
-    stays-staged c.args.self.now c.args.host c.args.walk.now c.args.looped c.channel_from.result (c.channel_from.ensures.channel ∙ ap (λ w. channel_from (fabric_of w) (host_port c.args.host)) c.self.view_is)
+    stays-staged c.args.self.now c.args.host c.args.walk.now c.args.looped c.channel_from.result (c.channel_from.ensures.channel ∙ ap (λ w. leaving w.links.cables (host_port c.args.host)) c.self.view_is)
     (elim c.in_default.branch [
       | in_default-via-in-Some+else-can_inject w ↦ λ k is.
           ap (λ v. can_inject (of_world v) k) (sym c.self.view_is) ∙ ap (can_inject c.self.inside.links) (sym (ap (λ o. unwrap_or o w.in-Some.c) (sym w.in-Some.is ∙ is)))

@@ -1,5 +1,6 @@
-use Rattle.std.proofs.Common.{ap, sym, subst}
-use Rattle.world_defs.specs.World.{fabric_of}
+use Rattle.std.proofs.Common.{ap, sym, subst, ◌∙◌}
+use Rattle.cable_history.proofs.First.{first_stands}
+use Rattle.world_defs.specs.World.{fabric_of, new_world}
 use Rattle.fab_world.specs.Held.{IsMoment}
 use Rattle.act_defs.specs.Acts.{IsReached}
 use Rattle.act_defs.proofs.Reaching.{reached-new}
@@ -9,6 +10,10 @@ use Rattle.fab_world.proofs.world.World.new.Goals as goal
 pub invariant_of-result : goal.invariant_of-result
 invariant_of-result c = (
   subst IsMoment (sym c.in-Ok.ensures.new) (new-moment c.args.fabric c.in-Ok.ensures.fabric),
-  sym (ap fabric_of c.in-Ok.ensures.new),
-  subst (λ w. IsReached (fabric_of w) w) (sym c.in-Ok.ensures.new) (reached-new c.args.fabric c.in-Ok.ensures.fabric),
+  sym (ap fabric_of c.in-Ok.ensures.new ∙ (first_stands c.args.fabric 0).0),
+  subst (λ w. IsReached (fabric_of w) w) (sym c.in-Ok.ensures.new)
+      (subst (λ n. IsReached n (new_world c.args.fabric)) (sym (first_stands c.args.fabric 0).0) (reached-new c.args.fabric c.in-Ok.ensures.fabric)),
 )
+
+pub returns-in-Ok-clause-fabric : goal.returns-in-Ok-clause-fabric
+returns-in-Ok-clause-fabric c = ap fabric_of c.in-Ok.ensures.new ∙ (first_stands c.args.fabric 0).0

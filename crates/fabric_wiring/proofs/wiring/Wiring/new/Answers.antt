@@ -21,6 +21,6 @@ invariant_of-result c =
     let ports = c.in_ok-ports.ports.items in
     let wires = c.in_ok-wires.wires.items in
     let entered : c.in_ok-entries.entries.items ≡ entries_of ports wires = c.in_ok-entries.ensures ∙ (λ i. entries_of (c.deref.ensures.value i) (c.deref-2.ensures.value i)) in
-    subst (λ m. IsWiring (history_of m wires 0 0) ports c.in_ok-entries.entries.items c.in_ok-out.out.items c.in_ok-hops.hops.items) (sym c.of.ensures)
-    (first-wiring n ports wires c.in_ok-entries.entries.items c.in_ok-out.out.items c.in_ok-hops.hops.items c.hosts-hosts.ensures.fabric c.in_ok-ports.ensures c.in_ok-wires.ensures entered c.in_ok-out.ensures
+    subst (λ m. IsWiring (history_of m wires 0 0) c.hosts-hosts.result ports c.in_ok-entries.entries.items c.in_ok-out.out.items c.in_ok-hops.hops.items) (sym c.of.ensures)
+    (first-wiring n c.hosts-hosts.result ports wires c.in_ok-entries.entries.items c.in_ok-out.out.items c.in_ok-hops.hops.items c.hosts-hosts.ensures.fabric c.hosts-hosts.ensures.count c.in_ok-ports.ensures c.in_ok-wires.ensures entered c.in_ok-out.ensures
     (c.in_ok-hops.ensures ∙ ap (λ l. hop_table l c.switches.result) c.deref-3.ensures.value ∙ ap (hop_table c.in_ok-out.out.items) c.switches.ensures.count))

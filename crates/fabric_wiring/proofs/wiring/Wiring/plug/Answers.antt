@@ -1,5 +1,4 @@
 use Rattle.std.proofs.Common.{rules, ◌≡◌, ◌≤◌, ◌+◌, ◌*◌, ◌∙◌, ◌∷◌, ◌++◌, [], ℕ, List, Option, Some, None, sym, ap, subst, length, set, arith, vec_len}
-use Rattle.net_defs.specs.Network.{has_port}
 use Rattle.cable_history.specs.declared.wire.Wire.{Wire}
 use Rattle.cable_history.specs.History.{fabric_now, may_plug}
 use Rattle.cable_history.proofs.Now.{now_is_fabric}
@@ -9,7 +8,7 @@ use Rattle.fabric_wiring.specs.declared.wiring.Entry.{Entry}
 use Rattle.fabric_wiring.specs.Hops.{with_hop}
 use Rattle.fabric_wiring.specs.Tables.{IsWiring, history_of, with_cable, entry_by}
 use Rattle.fabric_wiring.proofs.Wirings.{length-ports}
-use Rattle.fabric_wiring.proofs.Changing.{few-changes, plugged-wiring, hop-room, hop-size}
+use Rattle.fabric_wiring.proofs.Changing.{few-changes, plugged-wiring, plug-ends, hop-room, hop-size}
 use Rattle.fabric_wiring.proofs.wiring.Wiring.plug.Goals as goal
 
 pub overflow_add-self : goal.overflow_add-self
@@ -36,17 +35,17 @@ entry_by-requires-2 c =
     omega (arith, same, items, long, most)
 
 pub put_port-requires-clause-possible : goal.put_port-requires-clause-possible
-put_port-requires-clause-possible c = has_port-possible (fabric_now (history_of c.self.inside.first.value c.self.inside.wires.items c.self.inside.changes c.self.inside.accepted)) c.args.b (now_is_fabric (history_of c.self.inside.first.value c.self.inside.wires.items c.self.inside.changes c.self.inside.accepted) c.self.invariant.history) (ap (λ h. has_port (fabric_now h) c.args.b) c.self.view_is ∙ c.requires.port_b)
+put_port-requires-clause-possible c = has_port-possible (fabric_now (history_of c.self.inside.first.value c.self.inside.wires.items c.self.inside.changes c.self.inside.accepted)) c.args.b (now_is_fabric (history_of c.self.inside.first.value c.self.inside.wires.items c.self.inside.changes c.self.inside.accepted) c.self.invariant.history) (plug-ends (history_of c.self.inside.first.value c.self.inside.wires.items c.self.inside.changes c.self.inside.accepted) c.args.a c.args.b (ap (λ h. may_plug h c.args.a c.args.b) c.self.view_is ∙ sym c.may_plug.ensures ∙ c.if-not-may_plug.false)).1
 
 pub put_port-requires-clause-room : goal.put_port-requires-clause-room
-put_port-requires-clause-room c = λ s is. hop-room (history_of c.self.inside.first.value c.self.inside.wires.items c.self.inside.changes c.self.inside.accepted) c.self.inside.out.items c.self.inside.hops.items c.args.b s (now_is_fabric (history_of c.self.inside.first.value c.self.inside.wires.items c.self.inside.changes c.self.inside.accepted) c.self.invariant.history) c.self.invariant.hopping (ap (λ h. has_port (fabric_now h) c.args.b) c.self.view_is ∙ c.requires.port_b) is
+put_port-requires-clause-room c = λ s is. hop-room (history_of c.self.inside.first.value c.self.inside.wires.items c.self.inside.changes c.self.inside.accepted) c.self.inside.out.items c.self.inside.hops.items c.args.b s (now_is_fabric (history_of c.self.inside.first.value c.self.inside.wires.items c.self.inside.changes c.self.inside.accepted) c.self.invariant.history) c.self.invariant.hopping (plug-ends (history_of c.self.inside.first.value c.self.inside.wires.items c.self.inside.changes c.self.inside.accepted) c.args.a c.args.b (ap (λ h. may_plug h c.args.a c.args.b) c.self.view_is ∙ sym c.may_plug.ensures ∙ c.if-not-may_plug.false)).1 is
 
 pub put_port-requires-2-clause-possible : goal.put_port-requires-2-clause-possible
-put_port-requires-2-clause-possible c = has_port-possible (fabric_now (history_of c.self.inside.first.value c.self.inside.wires.items c.self.inside.changes c.self.inside.accepted)) c.args.a (now_is_fabric (history_of c.self.inside.first.value c.self.inside.wires.items c.self.inside.changes c.self.inside.accepted) c.self.invariant.history) (ap (λ h. has_port (fabric_now h) c.args.a) c.self.view_is ∙ c.requires.port_a)
+put_port-requires-2-clause-possible c = has_port-possible (fabric_now (history_of c.self.inside.first.value c.self.inside.wires.items c.self.inside.changes c.self.inside.accepted)) c.args.a (now_is_fabric (history_of c.self.inside.first.value c.self.inside.wires.items c.self.inside.changes c.self.inside.accepted) c.self.invariant.history) (plug-ends (history_of c.self.inside.first.value c.self.inside.wires.items c.self.inside.changes c.self.inside.accepted) c.args.a c.args.b (ap (λ h. may_plug h c.args.a c.args.b) c.self.view_is ∙ sym c.may_plug.ensures ∙ c.if-not-may_plug.false)).0
 
 pub put_port-requires-2-clause-room : goal.put_port-requires-2-clause-room
 put_port-requires-2-clause-room c = λ s is.
-    let low = hop-room (history_of c.self.inside.first.value c.self.inside.wires.items c.self.inside.changes c.self.inside.accepted) c.self.inside.out.items c.self.inside.hops.items c.args.a s (now_is_fabric (history_of c.self.inside.first.value c.self.inside.wires.items c.self.inside.changes c.self.inside.accepted) c.self.invariant.history) c.self.invariant.hopping (ap (λ h. has_port (fabric_now h) c.args.a) c.self.view_is ∙ c.requires.port_a) is in
+    let low = hop-room (history_of c.self.inside.first.value c.self.inside.wires.items c.self.inside.changes c.self.inside.accepted) c.self.inside.out.items c.self.inside.hops.items c.args.a s (now_is_fabric (history_of c.self.inside.first.value c.self.inside.wires.items c.self.inside.changes c.self.inside.accepted) c.self.invariant.history) c.self.invariant.hopping (plug-ends (history_of c.self.inside.first.value c.self.inside.wires.items c.self.inside.changes c.self.inside.accepted) c.args.a c.args.b (ap (λ h. may_plug h c.args.a c.args.b) c.self.view_is ∙ sym c.may_plug.ensures ∙ c.if-not-may_plug.false)).0 is in
     let size = ap length c.put_port.ensures.hops ∙ hop-size c.args.b.v c.args.b.p (Some (2 * c.len-k.result + 1)) c.self.inside.hops.items in
     omega (arith, low, size)
 
@@ -72,6 +71,6 @@ invariant_of-self-2 c =
     let hops : c.put_port-2.new.hops.items ≡ with_hop a.v a.p (Some (2 * n)) (with_hop b.v b.p (Some (2 * n + 1)) c.self.inside.hops.items) =
     c.put_port-2.ensures.hops ∙ ap (with_hop a.v a.p (Some (2 * c.len-k.result))) c.put_port.ensures.hops
     ∙ ap (λ m. with_hop a.v a.p (Some (2 * m)) (with_hop b.v b.p (Some (2 * m + 1)) c.self.inside.hops.items)) number in
-    subst (λ (t : List Wire × List Entry × List (Option ℕ) × List (Option ℕ)). IsWiring (history_of c.self.inside.first.value t.0 (c.self.inside.changes + 1) c.self.inside.accepted) c.self.inside.ports.items t.1 t.2 t.3)
+    subst (λ (t : List Wire × List Entry × List (Option ℕ) × List (Option ℕ)). IsWiring (history_of c.self.inside.first.value t.0 (c.self.inside.changes + 1) c.self.inside.accepted) c.self.inside.hosts c.self.inside.ports.items t.1 t.2 t.3)
     (λ i. (sym wires i, sym entries i, sym out i, sym hops i))
-    (plugged-wiring (history_of c.self.inside.first.value c.self.inside.wires.items c.self.inside.changes c.self.inside.accepted) a b c.self.inside.ports.items c.self.inside.entries.items c.self.inside.out.items c.self.inside.hops.items c.self.invariant (ap (λ h. may_plug h c.args.a c.args.b) c.self.view_is ∙ sym c.may_plug.ensures ∙ c.if-not-may_plug.false))
+    (plugged-wiring (history_of c.self.inside.first.value c.self.inside.wires.items c.self.inside.changes c.self.inside.accepted) a b c.self.inside.hosts c.self.inside.ports.items c.self.inside.entries.items c.self.inside.out.items c.self.inside.hops.items c.self.invariant (ap (λ h. may_plug h c.args.a c.args.b) c.self.view_is ∙ sym c.may_plug.ensures ∙ c.if-not-may_plug.false))

@@ -44,5 +44,5 @@ invariant_of-self c =
     let out : c.put_port-2.new.out.items ≡ with_ends w.cable None None c.self.inside.out.items = c.put_port-2.ensures.ports ∙ ap (λ l. set l (place_of_end w.cable.a) None) c.put_port.ensures.ports in
     let hops : c.put_port-2.new.hops.items ≡ with_hop w.cable.a.v w.cable.a.p None (with_hop w.cable.b.v w.cable.b.p None c.self.inside.hops.items) =
     c.put_port-2.ensures.hops ∙ ap (with_hop w.cable.a.v w.cable.a.p None) c.put_port.ensures.hops in
-    subst (λ (t : List Wire × List (Option ℕ) × List (Option ℕ)). IsWiring (history_of c.self.inside.first.value t.0 (c.self.inside.changes + 1) c.self.inside.accepted) c.self.inside.ports.items c.self.inside.entries.items t.1 t.2) (λ i. (sym wires i, sym out i, sym hops i))
-    (pulled-wiring (history_of c.self.inside.first.value c.self.inside.wires.items c.self.inside.changes c.self.inside.accepted) k w c.self.invariant.history there (pulled-none (history_of c.self.inside.first.value c.self.inside.wires.items c.self.inside.changes c.self.inside.accepted) c.args.e c.in-Some.c w (ap (λ h. leaving h c.args.e) c.self.view_is ∙ sym c.in-Some.ensures.channel) there) c.self.inside.ports.items c.self.inside.entries.items c.self.inside.out.items c.self.inside.hops.items c.self.invariant)
+    subst (λ (t : List Wire × List (Option ℕ) × List (Option ℕ)). IsWiring (history_of c.self.inside.first.value t.0 (c.self.inside.changes + 1) c.self.inside.accepted) c.self.inside.hosts c.self.inside.ports.items c.self.inside.entries.items t.1 t.2) (λ i. (sym wires i, sym out i, sym hops i))
+    (pulled-wiring (history_of c.self.inside.first.value c.self.inside.wires.items c.self.inside.changes c.self.inside.accepted) k w c.self.invariant.history there (pulled-none (history_of c.self.inside.first.value c.self.inside.wires.items c.self.inside.changes c.self.inside.accepted) c.args.e c.in-Some.c w (ap (λ h. leaving h c.args.e) c.self.view_is ∙ sym c.in-Some.ensures.channel) there) c.self.inside.hosts c.self.inside.ports.items c.self.inside.entries.items c.self.inside.out.items c.self.inside.hops.items c.self.invariant)

@@ -1,10 +1,10 @@
 use Rattle.std.proofs.Common.{ap, ◌∙◌, sym, subst, ◌<◌, length}
 use Rattle.std.specs.Option.{IfSome}
-use Rattle.net_defs.specs.Route.{channel_from}
+use Rattle.cable_history.specs.Crossed.{leaving}
 use Rattle.link_defs.specs.Shape.{IsLinks}
 use Rattle.link_model.proofs.Stepping.{from-below}
 use Rattle.link_model.proofs.links.Links.channel_from.Goals as goal
 
 pub returns-clause-there : goal.returns-clause-there
 returns-clause-there c =
-    subst (λ o. IfSome o (λ x. x < length c.args.self.now.channels)) (sym (c.channel_from.ensures.channel ∙ ap (λ s. channel_from s.net c.args.e) c.self.view_is)) (from-below c.args.self.now c.args.e (subst IsLinks c.self.view_is c.self.invariant))
+    subst (λ o. IfSome o (λ x. x < length c.args.self.now.channels)) (sym (c.channel_from.ensures.channel ∙ ap (λ s. leaving s.cables c.args.e) c.self.view_is)) (from-below c.args.self.now c.args.e (subst IsLinks c.self.view_is c.self.invariant))

@@ -7,7 +7,7 @@ use Rattle.link_model.proofs.links.Links.flip.Goals as goal
 
 pub returns-clause-links : goal.returns-clause-links
 returns-clause-links c =
-    let s = state c.self.inside.wiring c.self.inside.slots c.self.inside.limbo c.self.inside.next_serial in
+    let s = state c.self.inside.wiring c.self.inside.epoch c.self.inside.slots c.self.inside.limbo c.self.inside.next_serial in
     let after = c.flip-slot.result.0 in
     ap (λ l. record s { channels = l })
     (c.put.ensures ∙ ap (λ i. set c.take.new.self i (Some after)) c.from-2.ensures ∙ ap (λ l. set l c.args.c (Some after)) (c.take.ensures.slots ∙ ap (λ i. set c.self.inside.slots i None) c.from.ensures)

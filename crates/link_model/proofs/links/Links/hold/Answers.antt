@@ -6,8 +6,8 @@ use Rattle.link_model.proofs.links.Links.hold.Goals as goal
 
 pub returns-in-Err-clause-err : goal.returns-in-Err-clause-err
 returns-in-Err-clause-err c =
-    let s = state c.self.inside.wiring c.self.inside.slots c.self.inside.limbo c.self.inside.next_serial in
-    let later = state c.self-2.inside.wiring c.self-2.inside.slots c.self-2.inside.limbo c.self-2.inside.next_serial in
+    let s = state c.self.inside.wiring c.self.inside.epoch c.self.inside.slots c.self.inside.limbo c.self.inside.next_serial in
+    let later = state c.self-2.inside.wiring c.self-2.inside.epoch c.self-2.inside.slots c.self-2.inside.limbo c.self-2.inside.next_serial in
     let slot = c.in-Some.slot in
     ap (λ l. record later { channels = l })
     (c.put.ensures ∙ ap (λ i. set c.self-2.inside.slots i (Some c.in-Err.slot)) c.from-in-Err.ensures ∙ ap (λ h. set c.self-2.inside.slots c.args.c (Some h)) c.in-Err.ensures.back)

@@ -20,13 +20,13 @@ is_full-requires c =
 
 pub without_turn-slot-requires : goal.without_turn-slot-requires
 without_turn-slot-requires c =
-    let s : LinkState = state c.self.inside.wiring c.self.inside.slots c.self.inside.limbo c.self.inside.next_serial in
+    let s : LinkState = state c.self.inside.wiring c.self.inside.epoch c.self.inside.slots c.self.inside.limbo c.self.inside.next_serial in
     let held : Held = c.unwrap-slot.result in
     let there : packet_in s c.args.c ≡ Some held = ap (λ i. get_or c.self.inside.slots i None) (sym c.from-2.ensures) ∙ sym c.take.ensures.slot ∙ c.unwrap-slot.ensures in
-    let goes : option_map (λ (h : Held). course s.net c.args.c h.wire) (packet_in s c.args.c) ≡ Some (Enters c.args.next) =
-    subst (λ (t : LinkState). option_map (λ (h : Held). course t.net c.args.c h.wire) (packet_in t c.args.c) ≡ Some (Enters c.args.next)) (sym c.self.view_is) c.requires.course in
-    turn-there s.net c.args.c c.args.next held.wire
-    (goes_on s.net c.args.c c.args.next held (subst (λ (o : Option Held). option_map (λ (h : Held). course s.net c.args.c h.wire) o ≡ Some (Enters c.args.next)) there goes))
+    let goes : option_map (λ (h : Held). course s.cables c.args.c h.wire) (packet_in s c.args.c) ≡ Some (Enters c.args.next) =
+    subst (λ (t : LinkState). option_map (λ (h : Held). course t.cables c.args.c h.wire) (packet_in t c.args.c) ≡ Some (Enters c.args.next)) (sym c.self.view_is) c.requires.course in
+    turn-there s.cables c.args.c c.args.next held.wire
+    (goes_on s.cables c.args.c c.args.next held (subst (λ (o : Option Held). option_map (λ (h : Held). course s.cables c.args.c h.wire) o ≡ Some (Enters c.args.next)) there goes))
 
 pub put-requires-clause-there : goal.put-requires-clause-there
 put-requires-clause-there c =
@@ -40,7 +40,7 @@ put-requires-clause-there c =
 
 pub invariant_of-self : goal.invariant_of-self
 invariant_of-self c =
-    let s = state c.self.inside.wiring c.self.inside.slots c.self.inside.limbo c.self.inside.next_serial in
+    let s = state c.self.inside.wiring c.self.inside.epoch c.self.inside.slots c.self.inside.limbo c.self.inside.next_serial in
     written-links s c.put.new.self
     (ap length c.put.ensures ∙ length-set {A = Option Held} c.take.new.self c.from-3.result _
     ∙ ap length c.take.ensures.slots ∙ length-set {A = Option Held} c.self.inside.slots c.from-2.result None) c.self.invariant

@@ -26,22 +26,22 @@ put-requires-clause-there c =
 
 pub put-requires-clause-empty : goal.put-requires-clause-empty
 put-requires-clause-empty c =
-    let s : LinkState = state c.self.inside.wiring c.self.inside.slots c.self.inside.limbo c.self.inside.next_serial in
+    let s : LinkState = state c.self.inside.wiring c.self.inside.epoch c.self.inside.slots c.self.inside.limbo c.self.inside.next_serial in
     let lone : IsLone s.channels c.args.c = subst (λ t. IsLone t.channels c.args.c) (sym c.self.view_is) c.requires in
     ap (λ l. get_or l c.from-2.result None) (c.take.ensures.slots ∙ ap (λ i. set c.self.inside.slots i None) c.from.ensures) ∙ emptied-none s c.args.c lone.others c.from-2.result
 
 -- what the run leaves
-out : (c : goal.After-put) → RunsOut (state c.self.inside.wiring c.self.inside.slots c.self.inside.limbo c.self.inside.next_serial)
-    (state c.self.inside.wiring c.put.new.self c.self.inside.limbo c.self.inside.next_serial) c.args.c c.follow-run.result.hops c.follow-run.result.at
+out : (c : goal.After-put) → RunsOut (state c.self.inside.wiring c.self.inside.epoch c.self.inside.slots c.self.inside.limbo c.self.inside.next_serial)
+    (state c.self.inside.wiring c.self.inside.epoch c.put.new.self c.self.inside.limbo c.self.inside.next_serial) c.args.c c.follow-run.result.hops c.follow-run.result.at
 out c =
-    let s : LinkState = state c.self.inside.wiring c.self.inside.slots c.self.inside.limbo c.self.inside.next_serial in
+    let s : LinkState = state c.self.inside.wiring c.self.inside.epoch c.self.inside.slots c.self.inside.limbo c.self.inside.next_serial in
     let held : Held = c.unwrap-slot.result in
     let r = c.follow-run.result in
     let wire : List ℕ = c.follow-run.new.packet in
     let there : packet_in s c.args.c ≡ Some held = ap (λ i. get_or c.self.inside.slots i None) (sym c.from.ensures) ∙ sym c.take.ensures.slot ∙ c.unwrap-slot.ensures in
     let lone : IsLone s.channels c.args.c = subst (λ t. IsLone t.channels c.args.c) (sym c.self.view_is) c.requires in
-    let along : IsSentAlong s.net c.args.c held.wire r.hops r.at wire = subst (λ b. IsSentAlong s.net c.args.c b r.hops r.at wire) (ap (λ p. p.0) c.into_parts-packet.ensures) c.follow-run.ensures.along in
-    let put : c.from_parts-slot.result ≡ record held { wire = wire } = c.from_parts-slot.ensures ∙ ap (λ m. let h : Held = record { wire = wire; marked = m } in h) (ap (λ p. p.1) c.into_parts-packet.ensures) in
+    let along : IsSentAlong s.cables c.args.c held.wire r.hops r.at wire = subst (λ b. IsSentAlong s.cables c.args.c b r.hops r.at wire) (ap (λ p. p.0) c.into_parts-packet.ensures) c.follow-run.ensures.along in
+    let put : c.from_parts-slot.result ≡ record held { wire = wire } = c.from_parts-slot.ensures ∙ (λ j. let h : Held = record { wire = wire; marked = (c.into_parts-packet.ensures j).1; born = (c.into_parts-packet.ensures j).2 } in h) in
     let same : c.put.new.self ≡ (moved_to s c.args.c held r.at wire).channels =
     c.put.ensures ∙ ap (λ i. set c.take.new.self i (Some c.from_parts-slot.result)) c.from-2.ensures
     ∙ ap (λ h. set c.take.new.self r.at (Some h)) put
@@ -53,7 +53,7 @@ invariant_of-self c = (out c).links
 
 pub returns-clause-run : goal.returns-clause-run
 returns-clause-run c =
-    subst (λ s. IsRun s c.args.c c.follow-run.result.hops c.follow-run.result.at (state c.self.inside.wiring c.put.new.self c.self.inside.limbo c.self.inside.next_serial)) c.self.view_is (out c).run
+    subst (λ s. IsRun s c.args.c c.follow-run.result.hops c.follow-run.result.at (state c.self.inside.wiring c.self.inside.epoch c.put.new.self c.self.inside.limbo c.self.inside.next_serial)) c.self.view_is (out c).run
 
 pub returns-clause-lone : goal.returns-clause-lone
 returns-clause-lone c = (out c).lone

@@ -2,7 +2,7 @@ use Rattle.std.proofs.Common.{◌≡◌, ◌∙◌, ap, sym, true, false, not, �
 use Rattle.net_defs.specs.Network.{same_end}
 use Rattle.cable_history.specs.Crossed.{leaving}
 use Rattle.fabric_wiring.proofs.Changing.{may-plug-is}
-use Rattle.fabric_wiring.proofs.wiring.Wiring.may_plug.Goals as goal
+use Rattle.fabric_wiring.proofs.wiring.Wiring.may_join.Goals as goal
 
 when : (used low : Bool) → not used ≡ true → low ≡ (not used && low)
 when used low is = ap (λ t. t && low) (sym is)

@@ -1,0 +1,9 @@
+-- Links that are empty before a walk: their cables are those of the fabric.
+use Rattle.std.proofs.Common.{◌≡◌, ◌∙◌, ap}
+use Rattle.net_defs.specs.Network.{Network}
+use Rattle.link_defs.specs.Links.{LinkState, empty_links}
+use Rattle.cable_history.specs.History.{fabric_now}
+use Rattle.cable_history.proofs.First.{first_stands}
+
+pub now-empty : (l : LinkState) (n : Network) → l ≡ empty_links n → fabric_now l.cables ≡ n
+now-empty l n empty = ap (λ (x : LinkState). fabric_now x.cables) empty ∙ (first_stands n 0).0
