@@ -88,6 +88,16 @@ impl AdoptedRoutes {
         }
     }
 
+    /// Whether other routes are adopted: these are refused then. Takes no memory.
+    pub fn has_other(&self, set: &RouteSet) -> bool
+        ensures { result ≡ is_other set.now self.now }
+    {
+        match &self.adopted {
+            Some(adopted) => !adopted.is_of(set),
+            None => false,
+        }
+    }
+
     /// The adopter of the adopted routes. None exactly where none are adopted.
     pub fn adopter(&self) -> Option<u16>
         ensures { result ≡ option_map (λ a. a.mapper) self.now }
@@ -120,16 +130,6 @@ impl AdoptedRoutes {
         match &self.adopted {
             Some(adopted) => part_by(alloc, adopted, dst, part),
             None => Ok(None),
-        }
-    }
-
-    // Whether other routes are adopted.
-    fn has_other(&self, set: &RouteSet) -> bool
-        ensures { result ≡ is_other set.now self.now }
-    {
-        match &self.adopted {
-            Some(adopted) => !adopted.is_of(set),
-            None => false,
         }
     }
 }

@@ -15,7 +15,7 @@ ghost use Rattle.gm_defs.specs.Body.{is_prio};
 ghost use Rattle.gm_defs.specs.Connection.{connection};
 ghost use Rattle.world_defs.specs.Node.{has_staged, to_send, port_at};
 ghost use Rattle.world_defs.specs.Traffic.{sent_on, got_on, IsHonestTraffic};
-ghost use Rattle.world_defs.specs.Table.{active_epoch};
+ghost use Rattle.world_defs.specs.Table.{active_epoch, is_other};
 ghost use Rattle.world_defs.specs.World.{fabric_of, host_count, new_world, node_at, planned, adopted_by};
 ghost use Rattle.world_defs.specs.declared.event.Event.TheVariants.{Ask, Inject, Advance};
 ghost use Rattle.world_defs.specs.Step.{step};
@@ -197,6 +197,13 @@ impl World {
     {
         let _rising = set.list();
         self.machine.adopt(alloc, mapper, set)
+    }
+
+    /// Whether other routes are adopted: [`World::adopt`] refuses these then. Takes no memory.
+    pub fn has_other(&self, set: &RouteSet) -> bool
+        ensures { result ≡ is_other set.now self.now.adopted }
+    {
+        self.machine.adopted.has_other(set)
     }
 
     /// The adopter of the adopted routes. None exactly where none are adopted.

@@ -106,9 +106,9 @@ fn run_command(
 {
     match session.perform(alloc, command) {
         Ok((next, printed)) => keep_figure(next, printed.figure(), figures),
-        Err((wanting, error)) => {
+        Err((wanting, _)) => {
             wanting.end();
-            Err(error)
+            Err(AllocError)
         }
     }
 }

@@ -27,6 +27,6 @@ mod status;
 mod top;
 
 pub use ran::Ran;
-pub use run_session::{Session, World};
+pub use run_session::{OutOfMemory, Session, World};
 pub use status::Status;
 pub use top::run;

@@ -73,7 +73,7 @@ duo_lines_keep_the_rest s next e out does =
     a.left ∙ ap (beside s) (sym (ap (λ (x : SessionState). x.duo) a.left))
 
 -- an outcome beside other two hosts
-abbrev with-duo : Option DuoState → Outcome → Outcome
+abbrev pub with-duo : Option DuoState → Outcome → Outcome
 with-duo d o = record { output = o.output; after = beside o.after d }
 
 map-beside : (s : SessionState) (host : ℕ) (d : Option DuoState) → map_refused (beside s d) host ≡ option_map (with-duo d) (map_refused s host)
@@ -101,7 +101,7 @@ step-beside : (s : SessionState) (o : Option Event) (d : Option DuoState) → st
 step-beside s None d = refl
 step-beside s (Some e) d = refl
 
-outcome-beside : (s : SessionState) (c : Command) (d : Option DuoState) → IsOther c → outcome (beside s d) c ≡ option_map (with-duo d) (outcome s c)
+pub outcome-beside : (s : SessionState) (c : Command) (d : Option DuoState) → IsOther c → outcome (beside s d) c ≡ option_map (with-duo d) (outcome s c)
 outcome-beside s (Walk host walk) d other = refl
 outcome-beside s (Map host depth tries) d other = map-beside s host d
 outcome-beside s (Circuit host depth) d other = refl

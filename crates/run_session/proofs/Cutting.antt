@@ -1,5 +1,5 @@
 -- That a command is cut short, by what of it was done.
-use Rattle.std.proofs.Common.{◌≡◌, ℕ, ◌≤◌, true, false, inl, inr, Option, refl}
+use Rattle.std.proofs.Common.{◌≡◌, ℕ, ◌≤◌, true, false, Option, refl}
 use Rattle.net_defs.specs.declared.vertex.Vertex.TheVariants.{Host}
 use Rattle.net_defs.specs.Network.{has_vertex}
 use Rattle.link_defs.specs.Links.{is_idle}
@@ -11,7 +11,11 @@ use Rattle.run_defs.specs.Session.{LastMap, LastRoutes}
 use Rattle.promise_laws.specs.CutShort.{IsCutShort, IsBegunMap}
 use Rattle.promise_laws.proofs.CutShort.{cut_unchanged, cut_done, cut_mapped, begun_maps_are_cut_short}
 use Rattle.fab_world.specs.Held.{IsMoment}
-use Rattle.world_commands.specs.Done.{IsAllOrNothing, session_of}
+use Rattle.world_commands.specs.declared.out_of_memory.OutOfMemory.{OutOfMemory}
+use Rattle.world_commands.specs.declared.out_of_memory.OutOfMemory.TheVariants.{InDoing, InLine}
+use Rattle.world_commands.specs.Cut.{IsLeft}
+use Rattle.world_commands.specs.Cut.IsLeft.{undone, unprinted}
+use Rattle.world_commands.specs.Done.{session_of}
 use Rattle.run_session.specs.declared.mapping.MapOrder.{MapOrder}
 use Rattle.run_session.specs.Told.{IsMadeOver, map_of}
 use Rattle.map_making.specs.declared.making.MadeMap.{MadeMap}
@@ -22,9 +26,9 @@ abbrev pub IsBusy : WorldState → Command → Type 0
 IsBusy w c = (host depth tries : ℕ) → c ≡ Map host depth tries → is_idle w.links ≡ false
 
 -- a command of one event at most
-pub cut_one : (w v : WorldState) (made : Option LastMap) (found : Option LastRoutes) (c : Command) → IsBusy w c → IsAllOrNothing c w v → IsCutShort (session_of w made found) c v
-cut_one w v made found c busy (inl still) = cut_unchanged (session_of w made found) c v busy still
-cut_one w v made found c busy (inr (told, done)) =
+pub cut_one : (w v : WorldState) (made : Option LastMap) (found : Option LastRoutes) (c : Command) → IsBusy w c → (e : OutOfMemory) → IsLeft c w v e → IsCutShort (session_of w made found) c v
+cut_one w v made found c busy InDoing (undone same kept) = cut_unchanged (session_of w made found) c v busy same
+cut_one w v made found c busy InLine (unprinted told done) =
     let o : Outcome = record { output = done.output; after = session_of v made found } in
     cut_done (session_of w made found) c o v (done.determined made found) refl
 

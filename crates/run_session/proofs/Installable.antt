@@ -36,15 +36,7 @@ use Rattle.fab_world.specs.Held.{IsMoment}
 use Rattle.table_installing.specs.Installing.{CanInstall}
 use Rattle.run_session.specs.Kept.{AreKeptRoutes}
 
--- routes that the world does not refuse are no others
-pub none-other : (rs set : List Route) (o : Option Adoption) → set ≡ rs → adopt_refusal set o ≡ None → is_other rs o ≡ false
-none-other rs set o same e = ap (λ (x : List Route). is_other x o) (sym same) ∙ by (is_other set o) e
-  where
-    by : (b : Bool) → (if b then Some Another else None) ≡ None → b ≡ false
-    by true p = cc
-    by false p = refl
-
--- and they are refused as another set where others are
+-- routes are refused as another set where others are adopted
 pub others-are : (rs set : List Route) (o : Option Adoption) (cause : AdoptRefusal) → set ≡ rs → cause ≡ Another → (adopt_refusal set o ≡ Some cause) ⊎ ((adopt_refusal set o ≡ None) × (cause ≡ NoMemory)) → is_other rs o ≡ true
 others-are rs set o cause same is why = ap (λ (x : List Route). is_other x o) (sym same) ∙ told why
   where

@@ -18,9 +18,7 @@ use Rattle.run_defs.specs.Outcome.{Outcome, says, adoption_of, install, install_
 use Rattle.run_defs.specs.Run.{Does}
 use Rattle.run_defs.specs.Session.{SessionState, LastMap, LastRoutes}
 use Rattle.fab_report.specs.Printed.{PrintedState, printed_of}
-use Rattle.promise_laws.specs.CommandActs.{install_acts}
-use Rattle.promise_laws.specs.CutShort.{IsPartActed}
-use Rattle.promise_laws.proofs.CutShort.{part-none, part-installed, way-whole}
+use Rattle.promise_laws.proofs.CutShort.{way-whole}
 use Rattle.world_commands.specs.Done.{session_of}
 use Rattle.run_session.specs.Obeyed.{IsObeyed}
 use Rattle.run_session.specs.Told.{AreInstalledTold, IsInstallTold}
@@ -75,11 +73,10 @@ installed_told w mid after l tries p idle other is told = record {
         ∙ ap (of_count (session_of w made (Some l)) l.hosts) counted
 
 -- so it is of what ran out of memory or was made, where the last routes were adopted
-pub adopted-told : {E : Type 0} → (w mid after : WorldState) (l : LastRoutes) (tries : ℕ) (adopted : Bool) (r : Result PrintedState E) → adopted ≡ true → is_idle w.links ≡ true → is_other l.routes w.adopted ≡ not adopted → mid ≡ (if adopted then adopted_by w l.mapper l.routes else w)
+pub adopted-told : {E : Type 0} → (w mid after : WorldState) (l : LastRoutes) (tries : ℕ) (r : Result PrintedState E) → is_idle w.links ≡ true → is_other l.routes w.adopted ≡ false → mid ≡ adopted_by w l.mapper l.routes
     → IfOk r (AreInstalledTold mid l tries after) → IfOk r (IsInstallTold w (Some l) tries after)
-adopted-told w mid after l tries true (Ok p) is idle other led told = installed_told w mid after l tries p idle other led told
-adopted-told w mid after l tries true (Err e) is idle other led told = tt
-adopted-told w mid after l tries false r is idle other led told = cc
+adopted-told w mid after l tries (Ok p) idle other led told = installed_told w mid after l tries p idle other led told
+adopted-told w mid after l tries (Err e) idle other led told = tt
 
 -- what holds of the adopted routes and of these hosts holds of the last routes
 of_last : (w : WorldState) (l : LastRoutes) (P : Adoption → List ℕ → Type 0) (hosts : List ℕ) → w.adopted ≡ Some (adoption_of l) → IfSome w.adopted (λ a. P a hosts) → hosts ≡ l.hosts → P (adoption_of l) l.hosts
@@ -119,13 +116,3 @@ pub installed-whole : (w after : WorldState) (l : LastRoutes) (tries : ℕ) (hos
 installed-whole w after l tries hosts adopted led same =
     let there : after ≡ (log.install (adoption_of l) l.hosts tries w).world = of_last w l (λ a hs. after ≡ (log.install a hs tries w).world) hosts adopted led same in
     way-whole w after (log.install (adoption_of l) l.hosts tries w).events (there ∙ (install-row {Q = IsByteEvent} byte_asks (λ dst part. tt) (adoption_of l) l.hosts tries w).there)
-
--- where the last routes were adopted, and where others were
-pub adopted-cut : (w mid v : WorldState) (l : LastRoutes) (tries : ℕ) (adopted : Bool) → adopted ≡ true → is_idle w.links ≡ true → is_other l.routes w.adopted ≡ not adopted → mid ≡ (if adopted then adopted_by w l.mapper l.routes else w)
-    → IsPartWay mid (log.install (adoption_of l) l.hosts tries mid).events v → IsPartActed w (install_acts w tries (Some l)) v
-adopted-cut w mid v l tries true is idle other led p = part-installed w mid v l tries idle other led p
-adopted-cut w mid v l tries false is idle other led p = cc
-
-pub refused-cut : (w mid : WorldState) (l : LastRoutes) (tries : ℕ) (adopted : Bool) → adopted ≡ false → mid ≡ (if adopted then adopted_by w l.mapper l.routes else w) → IsPartActed w (install_acts w tries (Some l)) mid
-refused-cut w mid l tries true refused led = cc
-refused-cut w mid l tries false refused led = part-none w mid (install_acts w tries (Some l)) led

@@ -6,4 +6,5 @@ pub mod Cutting
 pub mod Installable
 pub mod Installs
 pub mod Keeping
+pub mod Leaving
 pub mod Obeying

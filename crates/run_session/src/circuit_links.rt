@@ -1,6 +1,6 @@
 //! The circuit links of a world's fabric, and their text.
 
-ghost use Rattle.std.specs.Prelude.{◌≤◌, IfOk};
+ghost use Rattle.std.specs.Prelude.{◌≡◌, ◌≤◌, IfOk, IfErr};
 ghost use Rattle.world_defs.specs.World.{fabric_of};
 ghost use Rattle.fab_report.specs.There.{IsHost};
 ghost use Rattle.map_making.specs.Circuit.{IsCircuitPrinted};
@@ -8,13 +8,23 @@ ghost use Rattle.map_making.specs.Circuit.{IsCircuitPrinted};
 use fab_report::Printed;
 use fab_world::World;
 use map_making::print_circuit;
-use std::alloc::{AllocError, Global};
+use std::alloc::Global;
+use world_commands::OutOfMemory;
 
 /// Maps the circuit links of the fabric as it stands: nothing is injected, and the world is only read.
-pub(crate) fn circuit(alloc: Global, w: &World, host: u16, depth: u8) -> Result<Printed, AllocError>
+pub(crate) fn circuit(
+    alloc: Global,
+    w: &World,
+    host: u16,
+    depth: u8,
+) -> Result<Printed, OutOfMemory>
     requires there { IsHost (fabric_of w.now) host }
     requires shallow { depth ≤ 32 }
-    ensures { IfOk result (λ p. IsCircuitPrinted (fabric_of w.now) host depth p) }
+    ensures printed { IfOk result (λ p. IsCircuitPrinted (fabric_of w.now) host depth p) }
+    ensures doing { IfErr result (λ e. e ≡ OutOfMemory.InDoing) }
 {
-    print_circuit(alloc, w.fabric(), host, depth)
+    match print_circuit(alloc, w.fabric(), host, depth) {
+        Ok(printed) => Ok(printed),
+        Err(_) => Err(OutOfMemory::InDoing),
+    }
 }

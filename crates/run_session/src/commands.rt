@@ -1,12 +1,13 @@
 //! Every command of the fabric that makes no map, over the parts of a session.
 
-ghost use Rattle.std.specs.Prelude.{◌≡◌, ℕ, false, IfOk, OnErr};
+ghost use Rattle.std.specs.Prelude.{◌≡◌, ℕ, false, IfOk, IfErr, OnErr};
 ghost use Rattle.link_defs.specs.Links.{empty_links, is_idle};
 ghost use Rattle.world_defs.specs.World.{fabric_of};
 ghost use Rattle.run_defs.specs.declared.command.Command.TheVariants.{Map};
 ghost use Rattle.run_defs.specs.Duos.{IsOther};
 ghost use Rattle.fab_script.specs.Ranges.{IsCommandOf};
 ghost use Rattle.promise_laws.specs.CutShort.{IsCutShort};
+ghost use Rattle.world_commands.specs.Cut.{HidesNoRefusal};
 ghost use Rattle.world_commands.specs.Done.{session_of};
 ghost use Rattle.run_session.specs.Kept.{IsLastMap, AreLastRoutes};
 ghost use Rattle.run_session.specs.Obeyed.{IsObeyed};
@@ -21,11 +22,11 @@ use fab_report::Printed;
 use fab_world::World;
 use link_model::Links;
 use run_defs::Command;
-use std::alloc::{AllocError, Global};
-use world_commands::do_one;
+use std::alloc::Global;
+use world_commands::{OutOfMemory, do_one};
 
 /// Does a command that makes no map: `map` only where that is refused. Where memory runs out, the world is one that a
-/// prefix of its acts leads to.
+/// prefix of its acts leads to, and a refused command lacks only its line's text.
 #[tactic(auto, using(crate::proofs::ByCommand::commands_obeyed))]
 pub(crate) fn obey_here(
     alloc: Global,
@@ -34,7 +35,7 @@ pub(crate) fn obey_here(
     last_map: &Option<LastMade>,
     last_routes: &mut Option<LastFound>,
     c: &Command,
-) -> Result<Printed, AllocError>
+) -> Result<Printed, OutOfMemory>
     requires command { IsCommandOf (fabric_of w.old) c.now }
     requires other { IsOther c.now }
     requires busy { (host depth tries : ℕ) → c.now ≡ Map host depth tries → is_idle w.old.links ≡ false }
@@ -48,6 +49,7 @@ pub(crate) fn obey_here(
     ensures fabric { fabric_of w.new ≡ fabric_of w.old }
     ensures err { OnErr result (last_routes.new ≡ last_routes.old) }
     ensures cut { OnErr result (IsCutShort (session_of w.old last_map.now last_routes.old) c.now w.new) }
+    ensures unrefused { IfErr result (HidesNoRefusal (session_of w.old last_map.now last_routes.old) c.now w.new) }
 {
     match c {
         Command::Map { host, .. } => busy_text(alloc, w, *host),

@@ -1,6 +1,6 @@
 //! What a session holds, behind its box.
 
-ghost use Rattle.std.specs.Prelude.{◌≡◌, true, Option, Some, None, option_map, IfOk, OnErr};
+ghost use Rattle.std.specs.Prelude.{◌≡◌, true, Option, Some, None, option_map, IfOk, IfErr, OnErr};
 ghost use Rattle.link_defs.specs.Links.{empty_links, is_idle};
 ghost use Rattle.world_defs.specs.World.{fabric_of};
 ghost use Rattle.run_defs.specs.Duos.{beside, IsOther};
@@ -9,6 +9,7 @@ ghost use Rattle.run_defs.specs.declared.command.Command.{Command};
 ghost use Rattle.fab_script.specs.Ranges.{IsDuoOf, IsCommandOf};
 ghost use Rattle.promise_laws.specs.CutShort.{IsCutShort};
 ghost use Rattle.promise_laws.specs.Duos.{IsDuoLeft};
+ghost use Rattle.world_commands.specs.Cut.{HidesNoRefusal};
 ghost use Rattle.world_commands.specs.Done.{session_of};
 ghost use Rattle.world_commands.specs.Duos.{IsDuoDone, IsDuoCut};
 ghost use Rattle.run_session.specs.Holding.{world_in};
@@ -24,9 +25,9 @@ use fab_world::World;
 use gm_restart::{Duo, DuoEvent};
 use link_model::Links;
 use run_defs::Command;
-use std::alloc::{AllocError, Global};
+use std::alloc::Global;
 use std::marker::Model;
-use world_commands::{duo, end_duo};
+use world_commands::{OutOfMemory, duo, end_duo};
 
 /// The world, the links of walks, the last map, the last routes, and the two hosts that restart, once they have begun.
 ///
@@ -77,13 +78,14 @@ impl Held {
 
     /// Does a command. Where memory runs out, the world is one that a prefix of the command's acts leads to, and the
     /// last map and the last routes are as they were.
-    pub(crate) fn obey(&mut self, alloc: Global, c: &Command) -> Result<Printed, AllocError>
+    pub(crate) fn obey(&mut self, alloc: Global, c: &Command) -> Result<Printed, OutOfMemory>
         requires command { IsCommandOf (fabric_of self.old.world) c.now }
         ensures obeyed { IfOk result (λ p. IsObeyed self.old c.now self.new p) }
         ensures fabric { fabric_of self.new.world ≡ fabric_of self.old.world }
         ensures kept_map { OnErr result (self.new.last_map ≡ self.old.last_map) }
         ensures kept_routes { OnErr result (self.new.last_routes ≡ self.old.last_routes) }
         ensures cut { OnErr result (IsCutShort self.old c.now self.new.world) }
+        ensures unrefused { IfErr result (HidesNoRefusal self.old c.now self.new.world) }
         ensures duo { OnErr result (IsDuoLeft self.old c.now self.new.duo) }
     {
         match c {
@@ -94,7 +96,7 @@ impl Held {
 
     // Does a command that is none of the two hosts that restart: these stay.
     #[tactic(auto, using(crate::proofs::Beside::beside_obeyed, crate::proofs::Beside::beside_cut))]
-    fn obey_other(&mut self, alloc: Global, c: &Command) -> Result<Printed, AllocError>
+    fn obey_other(&mut self, alloc: Global, c: &Command) -> Result<Printed, OutOfMemory>
         requires command { IsCommandOf (fabric_of self.old.world) c.now }
         requires other { IsOther c.now }
         ensures obeyed { IfOk result (λ p. IsObeyed self.old c.now self.new p) }
@@ -102,6 +104,7 @@ impl Held {
         ensures kept_map { OnErr result (self.new.last_map ≡ self.old.last_map) }
         ensures kept_routes { OnErr result (self.new.last_routes ≡ self.old.last_routes) }
         ensures cut { OnErr result (IsCutShort self.old c.now self.new.world) }
+        ensures unrefused { IfErr result (HidesNoRefusal self.old c.now self.new.world) }
         ensures duo { self.new.duo ≡ self.old.duo }
     {
         obey_parts(
@@ -116,11 +119,12 @@ impl Held {
 
     // Does one event of the two hosts that restart: all else stays.
     #[tactic(auto, using(crate::proofs::Beside::duo_obeyed, crate::proofs::Beside::duo_left))]
-    fn obey_duo(&mut self, alloc: Global, e: DuoEvent) -> Result<Printed, AllocError>
+    fn obey_duo(&mut self, alloc: Global, e: DuoEvent) -> Result<Printed, OutOfMemory>
         requires event { IsDuoOf e }
         ensures obeyed { IfOk result (λ p. IsObeyed self.old (Command.Duo e) self.new p) }
         ensures rest { self.new ≡ beside self.old self.new.duo }
         ensures duo { OnErr result (IsDuoLeft self.old (Command.Duo e) self.new.duo) }
+        ensures doing { IfErr result (λ e. e ≡ OutOfMemory.InDoing) }
     {
         duo_text(alloc, &self.world, &mut self.duo, e)
     }
@@ -165,14 +169,18 @@ fn duo_text(
     slot: &Option<World>,
     hosts: &mut Option<Duo>,
     e: DuoEvent,
-) -> Result<Printed, AllocError>
+) -> Result<Printed, OutOfMemory>
     requires there { slot.now ≡ Some (world_in slot.now) }
     requires event { IsDuoOf e }
     ensures done { IfOk result (λ p. IsDuoDone (fabric_of (world_in slot.now)) e hosts.old hosts.new p) }
     ensures err { OnErr result (IsDuoCut e hosts.old hosts.new) }
+    ensures doing { IfErr result (λ e. e ≡ OutOfMemory.InDoing) }
 {
     match slot {
-        Some(world) => duo(alloc, world.fabric(), hosts, e),
+        Some(world) => match duo(alloc, world.fabric(), hosts, e) {
+            Ok(printed) => Ok(printed),
+            Err(_) => Err(OutOfMemory::InDoing),
+        },
         None => unreachable!(),
     }
 }
@@ -185,7 +193,7 @@ fn obey_parts(
     last_map: &mut Option<LastMade>,
     last_routes: &mut Option<LastFound>,
     c: &Command,
-) -> Result<Printed, AllocError>
+) -> Result<Printed, OutOfMemory>
     requires there { slot.old ≡ Some (world_in slot.old) }
     requires kept { IsKept (session_of (world_in slot.old) last_map.old last_routes.old) }
     requires links { links.old ≡ empty_links (fabric_of (world_in slot.old)) }
@@ -200,6 +208,8 @@ fn obey_parts(
     ensures kept_map { OnErr result (last_map.new ≡ last_map.old) }
     ensures kept_routes { OnErr result (last_routes.new ≡ last_routes.old) }
     ensures cut { OnErr result (IsCutShort (session_of (world_in slot.old) last_map.old last_routes.old) c.now
+        (world_in slot.new)) }
+    ensures unrefused { IfErr result (HidesNoRefusal (session_of (world_in slot.old) last_map.old last_routes.old) c.now
         (world_in slot.new)) }
 {
     let Some(world) = &mut *slot else {
@@ -229,7 +239,7 @@ fn map_slot(
     slot: &mut Option<World>,
     last_map: &mut Option<LastMade>,
     order: MapOrder,
-) -> Result<Printed, AllocError>
+) -> Result<Printed, OutOfMemory>
     requires there { slot.old ≡ Some (world_in slot.old) }
     requires idle { is_idle (world_in slot.old).links ≡ true }
     requires order { IsCommandOf (fabric_of (world_in slot.old)) (map_of order) }
@@ -243,6 +253,7 @@ fn map_slot(
     ensures err { OnErr result (last_map.new ≡ last_map.old) }
     ensures cut { OnErr result ((found : Option LastRoutes)
         → IsCutShort (session_of (world_in slot.old) last_map.old found) (map_of order) (world_in slot.new)) }
+    ensures doing { IfErr result (λ e. e ≡ OutOfMemory.InDoing) }
 {
     let Some(world) = slot.take() else {
         unreachable!()

@@ -48,3 +48,4 @@ pub use fab_report::Printed;
 pub use fab_world::{Fabric, World};
 pub use run_defs::Command;
 pub use session::Session;
+pub use world_commands::OutOfMemory;

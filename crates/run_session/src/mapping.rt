@@ -1,7 +1,7 @@
 //! A map made over a world, and what it prints.
 
 ghost use Rattle.std.specs.Prelude.{◌≡◌, ◌<◌, ◌^◌, ◌∷◌, [], ℕ, true, false, Option, Some, IfOk, IfSome, IfNone};
-ghost use Rattle.std.specs.Prelude.{OnOk, OnErr};
+ghost use Rattle.std.specs.Prelude.{IfErr, OnOk, OnErr};
 ghost use Rattle.link_defs.specs.Links.{is_idle};
 ghost use Rattle.world_defs.specs.World.{fabric_of};
 ghost use Rattle.map_canon.specs.Printing.{AreOfFabric};
@@ -27,6 +27,7 @@ use map_making::{MadeMap, make_map, print_made};
 use run_defs::{Command, Line};
 use std::alloc::{AllocError, Global};
 use world_asking::WorldProber;
+use world_commands::{OutOfMemory, one_line};
 
 /// A map to be made: from which host, to how many cables, and how often a probe of each kind is tried.
 #[derive(Clone, Copy)]
@@ -57,11 +58,12 @@ pub(crate) fn map_ordered(w: &World, c: &Command) -> Option<MapOrder>
 }
 
 /// The refusal of a map while a channel holds a packet.
-pub(crate) fn busy_text(alloc: Global, w: &World, host: u16) -> Result<Printed, AllocError>
+pub(crate) fn busy_text(alloc: Global, w: &World, host: u16) -> Result<Printed, OutOfMemory>
     requires { IsHost (fabric_of w.now) host }
-    ensures { IfOk result (λ p. p ≡ printed_of (fabric_of w.now) (OneLine (MapBusy host) ∷ [])) }
+    ensures text { IfOk result (λ p. p ≡ printed_of (fabric_of w.now) (OneLine (MapBusy host) ∷ [])) }
+    ensures err { IfErr result (λ e. e ≡ OutOfMemory.InLine) }
 {
-    Printed::of_line(alloc, Line::MapBusy(host), w.fabric())
+    one_line(alloc, Line::MapBusy(host), w.fabric())
 }
 
 /// Maps from a host of an idle world: the world then, and the text, unless memory ran out. The map is the last
@@ -71,7 +73,7 @@ pub(crate) fn map(
     world: World,
     last_map: &mut Option<LastMade>,
     order: MapOrder,
-) -> (World, Result<Printed, AllocError>)
+) -> (World, Result<Printed, OutOfMemory>)
     requires idle { is_idle world.links ≡ true }
     requires order { IsCommandOf (fabric_of world) (map_of order) }
     requires kept { IsLastMap (fabric_of world) last_map.old }
@@ -83,6 +85,7 @@ pub(crate) fn map(
     ensures err { OnErr result.1 (last_map.new ≡ last_map.old) }
     ensures cut { OnErr result.1 ((found : Option LastRoutes)
         → IsCutShort (session_of world last_map.old found) (map_of order) result.0) }
+    ensures doing { IfErr result.1 (λ e. e ≡ OutOfMemory.InDoing) }
 {
     world.moment();
     let (world, mapping) = map_world(alloc, world, order);
@@ -91,7 +94,7 @@ pub(crate) fn map(
             let text = keep_map(alloc, world.fabric(), order.host, mapping, last_map);
             (world, text)
         }
-        Err(wanting) => (world, Err(wanting)),
+        Err(_) => (world, Err(OutOfMemory::InDoing)),
     }
 }
 
@@ -138,7 +141,7 @@ fn keep_map(
     host: u16,
     mapping: Mapping,
     last_map: &mut Option<LastMade>,
-) -> Result<Printed, AllocError>
+) -> Result<Printed, OutOfMemory>
     requires there { IsHost f.now host }
     requires hosts { AreOfFabric f.now mapping.made.map }
     requires right { mapping.made.words ≡ Complete → IsKeptMap f.now host mapping.made.map }
@@ -148,8 +151,11 @@ fn keep_map(
         (record { mapper = host; words = mapping.made.words; made = mapping.made.map })) }
     ensures kept { IsLastMap f.now last_map.new }
     ensures err { OnErr result (last_map.new ≡ last_map.old) }
+    ensures doing { IfErr result (λ e. e ≡ OutOfMemory.InDoing) }
 {
-    let text = print_made(alloc, f, host, &mapping.made, mapping.packets)?;
+    let Ok(text) = print_made(alloc, f, host, &mapping.made, mapping.packets) else {
+        return Err(OutOfMemory::InDoing);
+    };
     *last_map = Some(LastMade {
         mapper: host,
         words: mapping.made.words,

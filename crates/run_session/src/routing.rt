@@ -1,8 +1,9 @@
 //! The routes of the last map, and their text.
 
-ghost use Rattle.std.specs.Prelude.{◌≡◌, IfOk, OnErr};
+ghost use Rattle.std.specs.Prelude.{◌≡◌, IfOk, IfErr, OnErr};
 ghost use Rattle.world_defs.specs.World.{fabric_of};
 ghost use Rattle.run_defs.specs.declared.command.Command.TheVariants.{Routes};
+ghost use Rattle.world_commands.specs.Cut.{HidesNoRefusal};
 ghost use Rattle.world_commands.specs.Done.{session_of};
 ghost use Rattle.run_session.specs.Kept.{IsKeptMap, IsLastMap, AreLastRoutes};
 ghost use Rattle.run_session.specs.Obeyed.{IsObeyed};
@@ -13,7 +14,8 @@ use fab_report::Printed;
 use fab_world::World;
 use route_making::{hosts_of_map, make_routes};
 use run_defs::Line;
-use std::alloc::{AllocError, Global};
+use std::alloc::Global;
+use world_commands::{OutOfMemory, one_line};
 
 /// Computes the routes of the last map, which are the last ones then; refused unless that map says complete.
 #[tactic(auto, using(crate::proofs::Obeying::no_map_so, crate::proofs::Obeying::routed_so))]
@@ -22,17 +24,19 @@ pub(crate) fn routes(
     w: &World,
     last_map: &Option<LastMade>,
     last_routes: &mut Option<LastFound>,
-) -> Result<Printed, AllocError>
+) -> Result<Printed, OutOfMemory>
     requires map { IsLastMap (fabric_of w.now) last_map.now }
     requires kept { AreLastRoutes (fabric_of w.now) last_routes.old }
     ensures obeyed { IfOk result (λ p. IsObeyed (session_of w.now last_map.now last_routes.old) Routes
         (session_of w.now last_map.now last_routes.new) p) }
     ensures kept { AreLastRoutes (fabric_of w.now) last_routes.new }
     ensures err { OnErr result (last_routes.new ≡ last_routes.old) }
+    ensures unrefused { IfErr result
+        (HidesNoRefusal (session_of w.now last_map.now last_routes.old) Routes w.now) }
 {
     match complete(last_map) {
         Some(last) => keep_routes(alloc, w, last, last_routes),
-        None => Printed::of_line(alloc, Line::NoMap, w.fabric()),
+        None => one_line(alloc, Line::NoMap, w.fabric()),
     }
 }
 
@@ -43,16 +47,21 @@ fn keep_routes(
     w: &World,
     last: &LastMade,
     last_routes: &mut Option<LastFound>,
-) -> Result<Printed, AllocError>
+) -> Result<Printed, OutOfMemory>
     requires right { IsKeptMap (fabric_of w.now) last.now.mapper last.now.made }
     requires kept { AreLastRoutes (fabric_of w.now) last_routes.old }
     ensures told { IfOk result (λ p. AreRoutesTold w.now last.now last_routes.new p) }
     ensures kept { AreLastRoutes (fabric_of w.now) last_routes.new }
     ensures err { OnErr result (last_routes.new ≡ last_routes.old) }
+    ensures doing { IfErr result (λ e. e ≡ OutOfMemory.InDoing) }
 {
     w.moment();
-    let hosts = hosts_of_map(alloc, &last.made, w.hosts())?;
-    let made = make_routes(alloc, &last.made, w.fabric())?;
+    let Ok(hosts) = hosts_of_map(alloc, &last.made, w.hosts()) else {
+        return Err(OutOfMemory::InDoing);
+    };
+    let Ok(made) = make_routes(alloc, &last.made, w.fabric()) else {
+        return Err(OutOfMemory::InDoing);
+    };
     *last_routes = Some(LastFound {
         mapper: last.mapper,
         hosts,

@@ -6,6 +6,7 @@ ghost use Rattle.run_defs.specs.Session.{new_session};
 ghost use Rattle.fab_script.specs.Ranges.{IsCommandOf};
 ghost use Rattle.promise_laws.specs.CutShort.{IsCutShort};
 ghost use Rattle.promise_laws.specs.Duos.{IsDuoLeft};
+ghost use Rattle.world_commands.specs.Cut.{HidesNoRefusal};
 ghost use Rattle.run_session.specs.Obeyed.{IsObeyed, IsObeyedIn};
 
 use crate::held::Held;
@@ -16,6 +17,7 @@ use link_model::Links;
 use run_defs::Command;
 use std::alloc::{AllocError, Global};
 use std::marker::Model;
+use world_commands::OutOfMemory;
 
 /// What a run holds from command to command: its world, the last map and the last routes, and the two hosts that
 /// restart, once they have begun.
@@ -66,7 +68,8 @@ impl Session {
     /// Does a command over its fabric: the session then, and the text of what it printed. Where memory runs out, the
     /// session comes back with a world that a prefix of the command's acts leads to, and with the last map and the last
     /// routes as they were; the two hosts that restart are as they were, or new, where the command is their first
-    /// event, or as it leaves them. A command `circuit` leaves the session as it is.
+    /// event, or as it leaves them. A command `circuit` leaves the session as it is. A refused command runs out of
+    /// memory in its line alone; where it ran out, [`Session::perform`] says.
     pub fn exec(
         self,
         alloc: Global,
@@ -79,11 +82,12 @@ impl Session {
         ensures kept_map { IfErr result (λ r. r.0.last_map ≡ self.last_map) }
         ensures kept_routes { IfErr result (λ r. r.0.last_routes ≡ self.last_routes) }
         ensures cut { IfErr result (λ r. IsCutShort self c.now r.0.world) }
+        ensures unrefused { IfErr result (λ r. (e : OutOfMemory) × HidesNoRefusal self c.now r.0.world e) }
         ensures duo { IfErr result (λ r. IsDuoLeft self c.now r.0.duo) }
     {
         match self.perform(alloc, c) {
             Ok((session, printed)) => Ok((session, printed.into_text())),
-            Err(wanting) => Err(wanting),
+            Err((session, _)) => Err((session, AllocError)),
         }
     }
 
@@ -93,7 +97,7 @@ impl Session {
         self,
         alloc: Global,
         c: &Command,
-    ) -> Result<(Session, Printed), (Session, AllocError)>
+    ) -> Result<(Session, Printed), (Session, OutOfMemory)>
         requires command { IsCommandOf (fabric_of self.world) c.now }
         ensures ok { IfOk result (λ r. IsObeyed self c.now r.0 r.1) }
         ensures fabric { IfOk result (λ r. fabric_of r.0.world ≡ fabric_of self.world) }
@@ -101,6 +105,7 @@ impl Session {
         ensures kept_map { IfErr result (λ r. r.0.last_map ≡ self.last_map) }
         ensures kept_routes { IfErr result (λ r. r.0.last_routes ≡ self.last_routes) }
         ensures cut { IfErr result (λ r. IsCutShort self c.now r.0.world) }
+        ensures unrefused { IfErr result (λ r. HidesNoRefusal self c.now r.0.world r.1) }
         ensures duo { IfErr result (λ r. IsDuoLeft self c.now r.0.duo) }
     {
         let Session { mut held } = self;

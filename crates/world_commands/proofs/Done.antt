@@ -1,5 +1,5 @@
 -- That commands are done over a world, by what they print.
-use Rattle.std.proofs.Common.{◌≡◌, ◌⊎◌, ℕ, ℤ, inl, inr, List, [], ◌∷◌, Option, Some, None, refl, sym, ◌∙◌, ap, subst}
+use Rattle.std.proofs.Common.{◌≡◌, ℕ, ℤ, List, [], ◌∷◌, Option, Some, None, refl, sym, ◌∙◌, ap, subst}
 use Rattle.net_defs.specs.Route.{place}
 use Rattle.world_defs.specs.declared.event.Event.{Event}
 use Rattle.world_defs.specs.declared.effect.Effect.{Effect}
@@ -20,7 +20,7 @@ use Rattle.run_defs.specs.Duos.{IsOther}
 use Rattle.run_defs.specs.Session.{LastMap, LastRoutes}
 use Rattle.fab_report.specs.Printed.{PrintedState, printed_of}
 use Rattle.world_commands.specs.declared.requests.PortAt.{PortAt}
-use Rattle.world_commands.specs.Done.{IsCall, IsDone, IsAllOrNothing, IsOneEvent, session_of}
+use Rattle.world_commands.specs.Done.{IsCall, IsDone, IsOneEvent, session_of}
 
 -- a command whose outcome is one line
 pub one : (c : Command) (l : Line) (w v : WorldState) (told : PrintedState)
@@ -78,30 +78,6 @@ idle_so w line told none e = one (Step line) (StepOutput Idle) w w told (λ made
 -- what was done by the command that it is
 pub done_as : (c d : Command) (w v : WorldState) (told : PrintedState) → IsDone d w v told → d ≡ c → IsDone c w v told
 done_as c d w v told done same = subst (λ x. IsDone x w v told) same done
-
--- where only its text is missing
-pub called_anyway : (c : Command) (call : ClientCall) (at : PortAt) (event : Event) (x : Effect × WorldState) (w v : WorldState) → IsCall c call at event → step w event ≡ x → v ≡ x.1 → IsAllOrNothing c w v
-called_anyway c call at event x w v is happened same =
-    let told : PrintedState = printed_of (fabric_of w) (lines (client_lines call at.host at.port x.0)) in
-    inr (told, called_so c call at event x w v told is happened same refl)
-
-pub planned_anyway : (w v : WorldState) (ahead : ℕ) (kind : PlanKind) → v ≡ (planned w ahead (fault_of kind)).1 → IsAllOrNothing (Plan ahead kind) w v
-planned_anyway w v ahead kind same =
-    let told : PrintedState = printed_of (fabric_of w) (OneLine (PlanAt (planned w ahead (fault_of kind)).0) ∷ []) in
-    inr (told, planned_so w v ahead kind told same refl)
-
-pub stepped_anyway : (w v : WorldState) (line : StepLine) (event : Event) → event_of w line ≡ Some event → (v ≡ w) ⊎ (v ≡ (step w event).1) → IsAllOrNothing (Step line) w v
-stepped_anyway w v line event is (inl still) = inl still
-stepped_anyway w v line event is (inr same) =
-    let told : PrintedState = printed_of (fabric_of w) (OneLine (StepOutput (words_of (step w event).1 (step w event).0)) ∷ []) in
-    inr (told, stepped_so w v line event told is same refl)
-
--- the same by the command that it is
-pub all_as : (c d : Command) (w v : WorldState) → IsAllOrNothing d w v → d ≡ c → IsAllOrNothing c w v
-all_as c d w v done same = subst (λ x. IsAllOrNothing x w v) same done
-
-pub nothing_done : (c : Command) (w : WorldState) → IsAllOrNothing c w w
-nothing_done c w = inl refl
 
 -- a command that is none of the others is of one event at most
 pub one-event : (c : Command) → ((host depth tries : ℕ) → c ≡ Map host depth tries → ⊥) → ((host depth : ℕ) → c ≡ Circuit host depth → ⊥) → (c ≡ Routes → ⊥) → ((tries : ℕ) → c ≡ Install tries → ⊥) → (c ≡ Settle → ⊥) → IsOther c → IsOneEvent c

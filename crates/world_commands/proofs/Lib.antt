@@ -1,5 +1,6 @@
 pub mod Answered
 pub mod Calls
+pub mod Cut
 pub mod Done
 pub mod Duos
 pub mod Naming

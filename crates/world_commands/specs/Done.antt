@@ -1,5 +1,5 @@
 -- That a command was done over a world, whatever else a session holds, and what it printed.
-use Rattle.std.specs.Prelude.{◌≡◌, ◌⊎◌, List, Option, Some, None}
+use Rattle.std.specs.Prelude.{◌≡◌, List, Option, Some, None}
 use Rattle.world_defs.specs.declared.event.Event.{Event}
 use Rattle.world_defs.specs.Step.{step}
 use Rattle.world_defs.specs.World.{WorldState, fabric_of}
@@ -26,10 +26,6 @@ pub record IsDone (c : Command) (before after : WorldState) (told : PrintedState
       → outcome (session_of before made found) c ≡ Some
       (record { output = output; after = session_of after made found })
   pub printed : told ≡ printed_of (fabric_of before) output
-
--- Nothing of a command was done over a world, or all of it, and then only its text is missing.
-abbrev pub IsAllOrNothing : Command → WorldState → WorldState → Type 0
-IsAllOrNothing c before after = (after ≡ before) ⊎ ((told : PrintedState) × IsDone c before after told)
 
 -- a command is this call of a client, by its event
 abbrev pub IsCall : Command → ClientCall → PortAt → Event → Type 0

@@ -1,6 +1,6 @@
 //! One event of a client, and the text of what it was answered.
 
-ghost use Rattle.std.specs.Prelude.{◌≡◌, length, IfOk, OnErr};
+ghost use Rattle.std.specs.Prelude.{◌≡◌, length, IfOk, IfErr};
 ghost use Rattle.world_defs.specs.World.{fabric_of};
 ghost use Rattle.world_defs.specs.declared.effect.Effect.TheVariants.{Said as SaidSo};
 ghost use Rattle.run_defs.specs.Outcome.{client_lines};
@@ -10,32 +10,36 @@ ghost use Rattle.fab_report.specs.Printed.{printed_of};
 ghost use Rattle.fab_report.specs.There.{IsHost};
 ghost use Rattle.fab_world.specs.Events.{IsGiven};
 ghost use Rattle.fab_world.specs.Held.{IsOfHosts};
-ghost use Rattle.world_commands.specs.Done.{IsCall, IsDone, IsAllOrNothing};
+ghost use Rattle.world_commands.specs.Cut.{IsLeft};
+ghost use Rattle.world_commands.specs.Done.{IsCall, IsDone};
 
+use crate::out_of_memory::{OutOfMemory, one_line};
 use crate::requests::PortAt;
 use fab_report::Printed;
 use fab_world::{Effect, Event, Fabric, World};
 use run_defs::{ClientCall, Line};
-use std::alloc::{AllocError, Global};
+use std::alloc::Global;
 use world_defs::Said;
 
 /// A client's call at a port, by its event: the command that this call is was done. Where memory runs out, nothing of
-/// it was done, or all of it but its line.
+/// it was done and it isn't refused, or all of it was done but its line.
 pub(crate) fn call(
     alloc: Global,
     w: &mut World,
     call: ClientCall,
     at: PortAt,
     event: Event,
-) -> Result<Printed, AllocError>
+) -> Result<Printed, OutOfMemory>
     requires there { IsHost (fabric_of w.old) at.host }
     requires given { IsGiven w.old event }
     ensures done { (c : Command) → IsCall c call at event → IfOk result (λ p. IsDone c w.old w.new p) }
-    ensures err { (c : Command) → IsCall c call at event → OnErr result (IsAllOrNothing c w.old w.new) }
+    ensures err { (c : Command) → IsCall c call at event → IfErr result (λ e. IsLeft c w.old w.new e) }
     ensures fabric { fabric_of w.new ≡ fabric_of w.old }
 {
     w.moment();
-    let effect = w.step(alloc, event)?;
+    let Ok(effect) = w.step(alloc, event) else {
+        return Err(OutOfMemory::InDoing);
+    };
     effect_text(alloc, w.fabric(), call, at, effect)
 }
 
@@ -46,10 +50,11 @@ fn effect_text(
     call: ClientCall,
     at: PortAt,
     effect: Effect,
-) -> Result<Printed, AllocError>
+) -> Result<Printed, OutOfMemory>
     requires there { IsHost f.now at.host }
     requires sender { IsOfHosts (length f.now.hosts) effect }
-    ensures { IfOk result (λ p. p ≡ printed_of f.now (lines (client_lines call at.host at.port effect))) }
+    ensures text { IfOk result (λ p. p ≡ printed_of f.now (lines (client_lines call at.host at.port effect))) }
+    ensures err { IfErr result (λ e. e ≡ OutOfMemory.InLine) }
 {
     match effect {
         Effect::Said(said) => answer_text(alloc, f, call, at, said),
@@ -65,10 +70,11 @@ pub(crate) fn answer_text(
     call: ClientCall,
     at: PortAt,
     said: Said,
-) -> Result<Printed, AllocError>
+) -> Result<Printed, OutOfMemory>
     requires there { IsHost f.now at.host }
     requires sender { IsOfHosts (length f.now.hosts) (SaidSo said) }
-    ensures { IfOk result (λ p. p ≡ printed_of f.now (lines (client_lines call at.host at.port (SaidSo said)))) }
+    ensures text { IfOk result (λ p. p ≡ printed_of f.now (lines (client_lines call at.host at.port (SaidSo said)))) }
+    ensures err { IfErr result (λ e. e ≡ OutOfMemory.InLine) }
 {
     let line = Line::Client {
         call,
@@ -76,5 +82,5 @@ pub(crate) fn answer_text(
         port: at.port,
         said,
     };
-    Printed::of_line(alloc, line, f)
+    one_line(alloc, line, f)
 }

@@ -1,18 +1,20 @@
-//! The calls of clients, each one event. Where memory runs out, nothing of a call was done, or all of it but its
-//! line.
+//! The calls of clients, each one event. Where memory runs out, nothing of a call was done and it isn't refused, or all
+//! of it was done but its line.
 
-ghost use Rattle.std.specs.Prelude.{◌≡◌, ◌≤◌, IfOk, OnErr};
+ghost use Rattle.std.specs.Prelude.{◌≡◌, ◌≤◌, IfOk, IfErr};
 ghost use Rattle.world_defs.specs.World.{fabric_of};
 ghost use Rattle.run_defs.specs.declared.command.Command.TheVariants.{Begin, Close, Poll, Provide};
 ghost use Rattle.fab_report.specs.There.{IsHost};
-ghost use Rattle.world_commands.specs.Done.{IsDone, IsAllOrNothing, sending};
+ghost use Rattle.world_commands.specs.Cut.{IsLeft};
+ghost use Rattle.world_commands.specs.Done.{IsDone, sending};
 
 use crate::answers::call;
+use crate::out_of_memory::OutOfMemory;
 use crate::requests::{PortAt, SendRequest};
 use fab_report::Printed;
 use fab_world::{Event, World};
 use run_defs::ClientCall;
-use std::alloc::{AllocError, Global};
+use std::alloc::Global;
 
 /// Opens a port with so many tokens for sends and for receives.
 #[tactic(auto, using(crate::proofs::Calls::port_given))]
@@ -22,11 +24,11 @@ pub fn open(
     at: PortAt,
     sends: u16,
     recvs: u16,
-) -> Result<Printed, AllocError>
+) -> Result<Printed, OutOfMemory>
     requires there { IsHost (fabric_of w.old) at.host }
     requires port { at.port ≤ 7 }
     ensures done { IfOk result (λ p. IsDone (Begin at.host at.port sends recvs) w.old w.new p) }
-    ensures err { OnErr result (IsAllOrNothing (Begin at.host at.port sends recvs) w.old w.new) }
+    ensures err { IfErr result (λ e. IsLeft (Begin at.host at.port sends recvs) w.old w.new e) }
     ensures fabric { fabric_of w.new ≡ fabric_of w.old }
 {
     w.moment();
@@ -41,11 +43,11 @@ pub fn open(
 
 /// Closes a port.
 #[tactic(auto, using(crate::proofs::Calls::port_given))]
-pub fn close(alloc: Global, w: &mut World, at: PortAt) -> Result<Printed, AllocError>
+pub fn close(alloc: Global, w: &mut World, at: PortAt) -> Result<Printed, OutOfMemory>
     requires there { IsHost (fabric_of w.old) at.host }
     requires port { at.port ≤ 7 }
     ensures done { IfOk result (λ p. IsDone (Close at.host at.port) w.old w.new p) }
-    ensures err { OnErr result (IsAllOrNothing (Close at.host at.port) w.old w.new) }
+    ensures err { IfErr result (λ e. IsLeft (Close at.host at.port) w.old w.new e) }
     ensures fabric { fabric_of w.new ≡ fabric_of w.old }
 {
     w.moment();
@@ -58,11 +60,11 @@ pub fn close(alloc: Global, w: &mut World, at: PortAt) -> Result<Printed, AllocE
 
 /// Takes the next event of a port.
 #[tactic(auto, using(crate::proofs::Calls::port_given))]
-pub fn poll(alloc: Global, w: &mut World, at: PortAt) -> Result<Printed, AllocError>
+pub fn poll(alloc: Global, w: &mut World, at: PortAt) -> Result<Printed, OutOfMemory>
     requires there { IsHost (fabric_of w.old) at.host }
     requires port { at.port ≤ 7 }
     ensures done { IfOk result (λ p. IsDone (Poll at.host at.port) w.old w.new p) }
-    ensures err { OnErr result (IsAllOrNothing (Poll at.host at.port) w.old w.new) }
+    ensures err { IfErr result (λ e. IsLeft (Poll at.host at.port) w.old w.new e) }
     ensures fabric { fabric_of w.new ≡ fabric_of w.old }
 {
     w.moment();
@@ -81,11 +83,11 @@ pub fn provide(
     at: PortAt,
     size: u8,
     prio: u8,
-) -> Result<Printed, AllocError>
+) -> Result<Printed, OutOfMemory>
     requires there { IsHost (fabric_of w.old) at.host }
     requires port { at.port ≤ 7 }
     ensures done { IfOk result (λ p. IsDone (Provide at.host at.port size prio) w.old w.new p) }
-    ensures err { OnErr result (IsAllOrNothing (Provide at.host at.port size prio) w.old w.new) }
+    ensures err { IfErr result (λ e. IsLeft (Provide at.host at.port size prio) w.old w.new e) }
     ensures fabric { fabric_of w.new ≡ fabric_of w.old }
 {
     w.moment();
@@ -100,14 +102,19 @@ pub fn provide(
 
 /// Sends a message from a port.
 #[tactic(auto, using(crate::proofs::Calls::message_given))]
-pub fn send(alloc: Global, w: &mut World, at: PortAt, m: SendRequest) -> Result<Printed, AllocError>
+pub fn send(
+    alloc: Global,
+    w: &mut World,
+    at: PortAt,
+    m: SendRequest,
+) -> Result<Printed, OutOfMemory>
     requires there { IsHost (fabric_of w.old) at.host }
     requires port { at.port ≤ 7 }
     requires dest { IsHost (fabric_of w.old) m.to.host }
     requires dport { m.to.port ≤ 7 }
     requires prio { m.prio ≤ 1 }
     ensures done { IfOk result (λ p. IsDone (sending at m) w.old w.new p) }
-    ensures err { OnErr result (IsAllOrNothing (sending at m) w.old w.new) }
+    ensures err { IfErr result (λ e. IsLeft (sending at m) w.old w.new e) }
     ensures fabric { fabric_of w.new ≡ fabric_of w.old }
 {
     w.moment();

@@ -1,12 +1,14 @@
 //! Every command of one event at most.
 
-ghost use Rattle.std.specs.Prelude.{◌≡◌, IfOk, OnErr};
+ghost use Rattle.std.specs.Prelude.{◌≡◌, IfOk, IfErr};
 ghost use Rattle.link_defs.specs.Links.{empty_links};
 ghost use Rattle.world_defs.specs.World.{fabric_of};
 ghost use Rattle.fab_script.specs.Ranges.{IsCommandOf};
-ghost use Rattle.world_commands.specs.Done.{IsDone, IsAllOrNothing, IsOneEvent, IsPortCommand, IsMessageCommand};
+ghost use Rattle.world_commands.specs.Cut.{IsLeft};
+ghost use Rattle.world_commands.specs.Done.{IsDone, IsOneEvent, IsPortCommand, IsMessageCommand};
 
 use crate::clients::{close, open, poll, provide, send};
+use crate::out_of_memory::OutOfMemory;
 use crate::places::tokens;
 use crate::requests::{PortAt, SendRequest};
 use crate::stepping::step;
@@ -15,21 +17,22 @@ use fab_report::Printed;
 use fab_world::World;
 use link_model::Links;
 use run_defs::Command;
-use std::alloc::{AllocError, Global};
+use std::alloc::Global;
 
-/// Does a command of one event at most. Where memory runs out, nothing of it was done, or all of it but its line.
-#[tactic(auto, using(crate::proofs::Done::done_as, crate::proofs::Done::all_as, crate::proofs::Done::nothing_done))]
+/// Does a command of one event at most. Where memory runs out, nothing of it was done and it isn't refused, or all of
+/// it was done but its line.
+#[tactic(auto, using(crate::proofs::Done::done_as, crate::proofs::Cut::left_as))]
 pub fn do_one(
     alloc: Global,
     w: &mut World,
     links: &mut Links,
     c: &Command,
-) -> Result<Printed, AllocError>
+) -> Result<Printed, OutOfMemory>
     requires one_event { IsOneEvent c.now }
     requires command { IsCommandOf (fabric_of w.old) c.now }
     requires links { links.old ≡ empty_links (fabric_of w.old) }
     ensures done { IfOk result (λ p. IsDone c.now w.old w.new p) }
-    ensures err { OnErr result (IsAllOrNothing c.now w.old w.new) }
+    ensures err { IfErr result (λ e. IsLeft c.now w.old w.new e) }
     ensures links { links.new ≡ links.old }
     ensures fabric { fabric_of w.new ≡ fabric_of w.old }
 {
@@ -46,12 +49,12 @@ pub fn do_one(
 }
 
 // Opens a port, closes it, or says where its tokens are.
-#[tactic(auto, using(crate::proofs::Done::done_as, crate::proofs::Done::all_as, crate::proofs::Done::nothing_done))]
-fn do_port(alloc: Global, w: &mut World, c: &Command) -> Result<Printed, AllocError>
+#[tactic(auto, using(crate::proofs::Done::done_as, crate::proofs::Cut::left_as))]
+fn do_port(alloc: Global, w: &mut World, c: &Command) -> Result<Printed, OutOfMemory>
     requires port { IsPortCommand c.now }
     requires command { IsCommandOf (fabric_of w.old) c.now }
     ensures done { IfOk result (λ p. IsDone c.now w.old w.new p) }
-    ensures err { OnErr result (IsAllOrNothing c.now w.old w.new) }
+    ensures err { IfErr result (λ e. IsLeft c.now w.old w.new e) }
     ensures fabric { fabric_of w.new ≡ fabric_of w.old }
 {
     match c {
@@ -68,12 +71,12 @@ fn do_port(alloc: Global, w: &mut World, c: &Command) -> Result<Printed, AllocEr
 }
 
 // Provides a buffer, sends a message, or takes what came of these.
-#[tactic(auto, using(crate::proofs::Done::done_as, crate::proofs::Done::all_as))]
-fn do_message(alloc: Global, w: &mut World, c: &Command) -> Result<Printed, AllocError>
+#[tactic(auto, using(crate::proofs::Done::done_as, crate::proofs::Cut::left_as))]
+fn do_message(alloc: Global, w: &mut World, c: &Command) -> Result<Printed, OutOfMemory>
     requires message { IsMessageCommand c.now }
     requires command { IsCommandOf (fabric_of w.old) c.now }
     ensures done { IfOk result (λ p. IsDone c.now w.old w.new p) }
-    ensures err { OnErr result (IsAllOrNothing c.now w.old w.new) }
+    ensures err { IfErr result (λ e. IsLeft c.now w.old w.new e) }
     ensures fabric { fabric_of w.new ≡ fabric_of w.old }
 {
     match c {

@@ -17,6 +17,7 @@
 //! | module | has |
 //! |---|---|
 //! | `requests` | a port of a host, and a message to be sent |
+//! | `out_of_memory` | where memory ran out in a command: while it was done, or in the text of its line alone |
 //! | `clients` | the calls of clients, by their events |
 //! | `answers` | one event of a client, and what it was answered |
 //! | `places` | where each token of a port is |
@@ -31,6 +32,7 @@ mod answers;
 mod clients;
 mod doing;
 mod duo_events;
+mod out_of_memory;
 mod places;
 mod requests;
 mod stepping;
@@ -40,6 +42,7 @@ mod telling;
 pub use clients::{close, open, poll, provide, send};
 pub use doing::do_one;
 pub use duo_events::{duo, end_duo};
+pub use out_of_memory::{OutOfMemory, in_line, one_line};
 pub use places::tokens;
 pub use requests::{PortAt, SendRequest};
 pub use stepping::step;

@@ -1,6 +1,6 @@
 //! Where each token of a port is.
 
-ghost use Rattle.std.specs.Prelude.{◌≡◌, ◌<◌, ◌≤◌, ◌∷◌, [], true, false, IfOk};
+ghost use Rattle.std.specs.Prelude.{◌≡◌, ◌<◌, ◌≤◌, ◌∷◌, [], true, false, IfOk, IfErr};
 ghost use Rattle.world_defs.specs.Node.{port_at};
 ghost use Rattle.world_defs.specs.World.{fabric_of, node_at};
 ghost use Rattle.run_defs.specs.Outcome.{places};
@@ -10,10 +10,12 @@ ghost use Rattle.host_ports.specs.Held.{place_at};
 ghost use Rattle.fab_report.specs.Printed.{printed_of};
 ghost use Rattle.fab_report.specs.There.{IsHost};
 ghost use Rattle.fab_world.specs.Events.{IsHostOf};
+ghost use Rattle.world_commands.specs.Cut.{IsLeft};
 ghost use Rattle.world_commands.specs.Done.{IsDone};
 ghost use Rattle.world_commands.specs.Places.{tokens_line};
 
 use crate::answers::answer_text;
+use crate::out_of_memory::{OutOfMemory, in_line};
 use crate::requests::PortAt;
 use fab_report::Printed;
 use fab_world::World;
@@ -22,14 +24,15 @@ use std::alloc::{AllocError, Global};
 use world_defs::{ClientCause, Said};
 
 /// Where each token of a port is, by number; or that the port isn't open.
-pub fn tokens(alloc: Global, w: &World, at: PortAt) -> Result<Printed, AllocError>
+pub fn tokens(alloc: Global, w: &World, at: PortAt) -> Result<Printed, OutOfMemory>
     requires there { IsHost (fabric_of w.now) at.host }
     requires port { at.port ≤ 7 }
-    ensures { IfOk result (λ p. IsDone (Tokens at.host at.port) w.now w.now p) }
+    ensures done { IfOk result (λ p. IsDone (Tokens at.host at.port) w.now w.now p) }
+    ensures err { IfErr result (λ e. IsLeft (Tokens at.host at.port) w.now w.now e) }
 {
     w.moment();
     match w.minted(at.host, at.port) {
-        Some(counts) => places_text(alloc, w, at, counts.0, counts.1),
+        Some(counts) => in_line(places_text(alloc, w, at, counts.0, counts.1)),
         None => {
             let refused = Said::Refused(ClientCause::NotOpen);
             answer_text(alloc, w.fabric(), ClientCall::Tokens, at, refused)

@@ -1,6 +1,6 @@
 //! A single event, in a report's words.
 
-ghost use Rattle.std.specs.Prelude.{◌≡◌, ◌⊎◌, ◌∷◌, [], IfOk, IfSome, IsTrue, OnOk, OnErr};
+ghost use Rattle.std.specs.Prelude.{◌≡◌, ◌∷◌, [], IfOk, IfErr, IfSome, IsTrue, OnOk};
 ghost use Rattle.net_defs.specs.Network.{has_vertex};
 ghost use Rattle.world_defs.specs.Step.{step};
 ghost use Rattle.world_defs.specs.World.{fabric_of};
@@ -12,27 +12,29 @@ ghost use Rattle.fab_report.specs.Printed.{printed_of};
 ghost use Rattle.fab_report.specs.There.{AreWordsOf};
 ghost use Rattle.fab_script.specs.Ranges.{IsStepOf};
 ghost use Rattle.fab_world.specs.Events.{IsChannelOf, IsGiven};
-ghost use Rattle.world_commands.specs.Done.{IsDone, IsAllOrNothing};
+ghost use Rattle.world_commands.specs.Cut.{IsLeft, IsEventLeft};
+ghost use Rattle.world_commands.specs.Done.{IsDone};
 ghost use Rattle.world_commands.specs.Named.{IsNaming};
 
+use crate::out_of_memory::{OutOfMemory, one_line};
 use fab_report::Printed;
 use fab_world::{Effect, Event, World};
 use net_defs::End;
 use run_defs::{Line, StepLine, StepWords};
-use std::alloc::{AllocError, Global};
+use std::alloc::Global;
 
 /// One event, and what it did; no event where the port that the line names has no cable. Where memory runs out,
 /// nothing was done, or all but the line.
 #[tactic(auto, using(crate::proofs::Done::stepped_so, crate::proofs::Done::idle_so))]
-pub fn step(alloc: Global, w: &mut World, line: StepLine) -> Result<Printed, AllocError>
+pub fn step(alloc: Global, w: &mut World, line: StepLine) -> Result<Printed, OutOfMemory>
     requires { IsStepOf (fabric_of w.old) line }
     ensures done { IfOk result (λ p. IsDone (StepCommand line) w.old w.new p) }
-    ensures err { OnErr result (IsAllOrNothing (StepCommand line) w.old w.new) }
+    ensures err { IfErr result (λ e. IsLeft (StepCommand line) w.old w.new e) }
     ensures fabric { fabric_of w.new ≡ fabric_of w.old }
 {
     match event_of(w, line) {
         Some(event) => event_text(alloc, w, event),
-        None => Printed::of_line(alloc, Line::Step(StepWords::Idle), w.fabric()),
+        None => one_line(alloc, Line::Step(StepWords::Idle), w.fabric()),
     }
 }
 
@@ -62,18 +64,20 @@ fn event_of(w: &World, line: StepLine) -> Option<Event>
 }
 
 // An event, and the line of what it did. Where memory runs out, the event may have happened.
-fn event_text(alloc: Global, w: &mut World, event: Event) -> Result<Printed, AllocError>
+fn event_text(alloc: Global, w: &mut World, event: Event) -> Result<Printed, OutOfMemory>
     requires { IsGiven w.old event }
     ensures text { IfOk result (λ p. p ≡ printed_of (fabric_of w.old)
         (OneLine (Step (words_of (step w.old event).1 (step w.old event).0)) ∷ [])) }
     ensures after { OnOk result (w.new ≡ (step w.old event).1) }
-    ensures err { OnErr result ((w.new ≡ w.old) ⊎ (w.new ≡ (step w.old event).1)) }
+    ensures err { IfErr result (IsEventLeft event w.old w.new) }
     ensures fabric { fabric_of w.new ≡ fabric_of w.old }
 {
     w.moment();
-    let effect = w.step(alloc, event)?;
+    let Ok(effect) = w.step(alloc, event) else {
+        return Err(OutOfMemory::InDoing);
+    };
     let words = words_of(w, &effect);
-    Printed::of_line(alloc, Line::Step(words), w.fabric())
+    one_line(alloc, Line::Step(words), w.fabric())
 }
 
 // An effect in a report's words.

@@ -1,18 +1,20 @@
 //! The commands of one line that is no event's: a walk, a plan, and the end.
 
-ghost use Rattle.std.specs.Prelude.{◌≡◌, ◌≤◌, length, All, IfOk, OnErr};
+ghost use Rattle.std.specs.Prelude.{◌≡◌, ◌≤◌, length, All, IfOk, IfErr};
 ghost use Rattle.net_defs.specs.Turn.{IsTurn};
 ghost use Rattle.link_defs.specs.Links.{empty_links};
 ghost use Rattle.world_defs.specs.World.{fabric_of};
 ghost use Rattle.run_defs.specs.Outcome.{fault_of};
 ghost use Rattle.run_defs.specs.declared.command.Command.TheVariants.{Walk, Plan, Finish};
-ghost use Rattle.world_commands.specs.Done.{IsDone, IsAllOrNothing};
+ghost use Rattle.world_commands.specs.Cut.{IsLeft};
+ghost use Rattle.world_commands.specs.Done.{IsDone};
 
+use crate::out_of_memory::{OutOfMemory, one_line};
 use fab_report::Printed;
 use fab_world::{Fault, World};
 use link_model::{Links, walk_alone};
 use run_defs::{Line, PlanKind};
-use std::alloc::{AllocError, Global};
+use std::alloc::Global;
 
 /// Where a walk ends: a packet takes its turns alone over these links, which are empty before and after.
 pub fn walk(
@@ -21,27 +23,37 @@ pub fn walk(
     links: &mut Links,
     host: u16,
     turns: &[i8],
-) -> Result<Printed, AllocError>
+) -> Result<Printed, OutOfMemory>
     requires short { length turns.now ≤ 64 }
     requires turns { All IsTurn turns.now }
     requires empty { links.old ≡ empty_links (fabric_of w.now) }
     ensures done { IfOk result (λ p. IsDone (Walk host turns.now) w.now w.now p) }
+    ensures err { IfErr result (λ e. IsLeft (Walk host turns.now) w.now w.now e) }
     ensures links { links.new ≡ links.old }
 {
-    let end = walk_alone(alloc, links, host, turns)?;
-    Printed::of_line(alloc, Line::Walk(end), w.fabric())
+    let Ok(end) = walk_alone(alloc, links, host, turns) else {
+        return Err(OutOfMemory::InDoing);
+    };
+    one_line(alloc, Line::Walk(end), w.fabric())
 }
 
 /// Plans a fault for the injection so far ahead. Where memory runs out, nothing was done, or all but the line.
 #[tactic(auto, using(crate::proofs::Done::planned_so))]
-pub fn plan(alloc: Global, w: &mut World, ahead: u64, kind: PlanKind) -> Result<Printed, AllocError>
+pub fn plan(
+    alloc: Global,
+    w: &mut World,
+    ahead: u64,
+    kind: PlanKind,
+) -> Result<Printed, OutOfMemory>
     requires { 1 ≤ ahead }
     ensures done { IfOk result (λ p. IsDone (Plan ahead kind) w.old w.new p) }
-    ensures err { OnErr result (IsAllOrNothing (Plan ahead kind) w.old w.new) }
+    ensures err { IfErr result (λ e. IsLeft (Plan ahead kind) w.old w.new e) }
     ensures fabric { fabric_of w.new ≡ fabric_of w.old }
 {
-    let number = w.plan(ahead, fault_of(kind))?;
-    Printed::of_line(alloc, Line::PlanAt(number), w.fabric())
+    let Ok(number) = w.plan(ahead, fault_of(kind)) else {
+        return Err(OutOfMemory::InDoing);
+    };
+    one_line(alloc, Line::PlanAt(number), w.fabric())
 }
 
 // The fault that a line of a plan means.
@@ -58,12 +70,13 @@ fn fault_of(kind: PlanKind) -> Fault
 
 /// The injections and the drops of the whole run.
 #[tactic(auto, using(crate::proofs::Done::finished))]
-pub fn finish(alloc: Global, w: &World) -> Result<Printed, AllocError>
-    ensures { IfOk result (λ p. IsDone Finish w.now w.now p) }
+pub fn finish(alloc: Global, w: &World) -> Result<Printed, OutOfMemory>
+    ensures done { IfOk result (λ p. IsDone Finish w.now w.now p) }
+    ensures err { IfErr result (λ e. IsLeft Finish w.now w.now e) }
 {
     let line = Line::Finish {
         injected: w.injected(),
         dropped: w.dropped(),
     };
-    Printed::of_line(alloc, line, w.fabric())
+    one_line(alloc, line, w.fabric())
 }

@@ -1,14 +1,20 @@
-use Rattle.std.proofs.Common.{OnErr, refl, sym, subst}
+use Rattle.std.proofs.Common.{Option, OnErr, refl, sym, ap, subst}
+use Rattle.std.specs.Prelude.{IfErr}
 use Rattle.world_defs.specs.World.{WorldState}
-use Rattle.run_defs.specs.Session.{SessionState}
+use Rattle.run_defs.specs.Outcome.{outcome}
+use Rattle.run_defs.specs.declared.command.Command.TheVariants.{Install, Settle}
+use Rattle.run_defs.specs.Session.{SessionState, LastMap, LastRoutes}
 use Rattle.promise_laws.specs.CutShort.{IsCutShort}
 use Rattle.promise_laws.proofs.CutShort.{cut_unchanged, cut_settled, cut_installed}
+use Rattle.world_commands.specs.Cut.{HidesNoRefusal, IsLeft}
 use Rattle.world_commands.specs.Done.{IsDone, session_of}
-use Rattle.world_commands.proofs.Answered.{if-ok}
+use Rattle.world_commands.proofs.Answered.{if-ok, if-err, if-err-on}
+use Rattle.world_commands.proofs.Cut.{in-doing, in-line}
 use Rattle.world_commands.proofs.Done.{one-event}
 use Rattle.world_drain.proofs.Later.{on-any, on-err}
 use Rattle.run_session.specs.Obeyed.{IsObeyed}
 use Rattle.run_session.proofs.Cutting.{cut_one}
+use Rattle.run_session.proofs.Leaving.{none-unrefused, one-unrefused, busy-missing}
 use Rattle.run_session.proofs.Obeying.{done_so}
 use Rattle.run_session.proofs.commands.obey_here.Goals as goal
 
@@ -36,6 +42,37 @@ returns-in-Settle-clause-cut c =
     subst (λ d. OnErr c.settle_text.result (IsCutShort s d c.settle_text.new.w)) (sym c.in-Settle.is)
     (on-err c.settle_text.result (cut_settled s c.settle_text.new.w) c.settle_text.ensures.err)
 
+pub returns-in-Map-clause-unrefused : goal.returns-in-Map-clause-unrefused
+returns-in-Map-clause-unrefused c =
+    let s : SessionState = session_of c.args.w.now c.args.last_map.now c.args.last_routes.now in
+    in-line c.busy_text.result (HidesNoRefusal s c.args.c.now c.args.w.now)
+    (busy-missing c.args.w.now c.args.last_map.now c.args.last_routes.now c.args.c.now _ _ _ c.in-Map.is c.requires.busy) c.busy_text.ensures.err
+
+pub returns-in-Circuit-clause-unrefused : goal.returns-in-Circuit-clause-unrefused
+returns-in-Circuit-clause-unrefused c =
+    let s : SessionState = session_of c.args.w.now c.args.last_map.now c.args.last_routes.now in
+    in-doing c.circuit.result (HidesNoRefusal s c.args.c.now c.args.w.now) (none-unrefused s c.args.c.now c.args.w.now (ap (outcome s) c.in-Circuit.is)) c.circuit.ensures.doing
+
+pub returns-in-Routes-clause-unrefused : goal.returns-in-Routes-clause-unrefused
+returns-in-Routes-clause-unrefused c =
+    let s : SessionState = session_of c.args.w.now c.args.last_map.now c.args.last_routes.now in
+    subst (λ d. IfErr c.routes.result (HidesNoRefusal s d c.args.w.now)) (sym c.in-Routes.is) c.routes.ensures.unrefused
+
+pub returns-in-Install-clause-unrefused : goal.returns-in-Install-clause-unrefused
+returns-in-Install-clause-unrefused c =
+    let made = c.args.last_map.now in
+    let s : SessionState = session_of c.args.w.now made c.args.last_routes.now in
+    subst (λ d. IfErr c.install_text.result (HidesNoRefusal s d c.install_text.new.w)) (sym c.in-Install.is)
+    (if-err c.install_text.result (λ e. (m : Option LastMap) → HidesNoRefusal (session_of c.args.w.now m c.args.last_routes.now) (Install c.in-Install.tries) c.install_text.new.w e) (HidesNoRefusal s (Install c.in-Install.tries) c.install_text.new.w) (λ e k. k made) c.install_text.ensures.unrefused)
+
+pub returns-in-Settle-clause-unrefused : goal.returns-in-Settle-clause-unrefused
+returns-in-Settle-clause-unrefused c =
+    let made = c.args.last_map.now in
+    let found = c.args.last_routes.now in
+    let s : SessionState = session_of c.args.w.now made found in
+    subst (λ d. IfErr c.settle_text.result (HidesNoRefusal s d c.settle_text.new.w)) (sym c.in-Settle.is)
+    (if-err c.settle_text.result (λ e. (m : Option LastMap) → (f : Option LastRoutes) → HidesNoRefusal (session_of c.args.w.now m f) Settle c.settle_text.new.w e) (HidesNoRefusal s Settle c.settle_text.new.w) (λ e k. k made found) c.settle_text.ensures.unrefused)
+
 pub returns-in_default : goal.returns-in_default
 returns-in_default c =
     let w : WorldState = c.args.w.now in
@@ -49,5 +86,6 @@ returns-in_default c =
       links = c.do_one.ensures.links;
       fabric = c.do_one.ensures.fabric;
       err = on-any c.do_one.result refl;
-      cut = on-err c.do_one.result (cut_one w v made found c.args.c.now c.requires.busy) c.do_one.ensures.err;
+      cut = if-err-on c.do_one.result (IsLeft c.args.c.now w v) (IsCutShort (session_of w made found) c.args.c.now v) (cut_one w v made found c.args.c.now c.requires.busy) c.do_one.ensures.err;
+      unrefused = if-err c.do_one.result (IsLeft c.args.c.now w v) (HidesNoRefusal (session_of w made found) c.args.c.now v) (one-unrefused w v made found c.args.c.now) c.do_one.ensures.err;
     }

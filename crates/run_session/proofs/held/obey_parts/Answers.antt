@@ -1,13 +1,17 @@
 use Rattle.std.proofs.Common.{◌≡◌, ◌∙◌, IfOk, OnErr, sym, ap, subst}
-use Rattle.link_defs.specs.Links.{empty_links}
+use Rattle.std.specs.Prelude.{IfErr}
+use Rattle.link_defs.specs.Links.{empty_links, is_idle}
 use Rattle.world_defs.specs.World.{WorldState, fabric_of}
 use Rattle.run_defs.specs.Session.{SessionState}
 use Rattle.promise_laws.specs.CutShort.{IsCutShort}
+use Rattle.world_commands.specs.Cut.{HidesNoRefusal}
 use Rattle.world_commands.specs.Done.{session_of}
+use Rattle.world_commands.proofs.Cut.{in-doing}
 use Rattle.run_session.specs.Holding.{world_in}
 use Rattle.run_session.specs.Kept.{IsLastMap}
 use Rattle.run_session.specs.Obeyed.{IsObeyed}
 use Rattle.run_session.proofs.Keeping.{kept-over}
+use Rattle.run_session.proofs.Leaving.{map-unrefused}
 use Rattle.run_session.proofs.held.obey_parts.Goals as goal
 
 pub returns-in-None-clause-kept : goal.returns-in-None-clause-kept
@@ -31,6 +35,20 @@ pub returns-in-None-clause-fabric : goal.returns-in-None-clause-fabric
 returns-in-None-clause-fabric c =
     let there : world_in c.args.slot.now ≡ c.in-Some.world = cc (c.requires.there) in
     c.obey_here.ensures.fabric ∙ ap fabric_of (sym there)
+
+pub returns-in-None-clause-unrefused : goal.returns-in-None-clause-unrefused
+returns-in-None-clause-unrefused c =
+    let there : world_in c.args.slot.now ≡ c.in-Some.world = cc (c.requires.there) in
+    subst (λ (w : WorldState). IfErr c.obey_here.result (HidesNoRefusal (session_of w c.args.last_map.now c.args.last_routes.now) c.args.c.now c.obey_here.new.w)) (sym there) c.obey_here.ensures.unrefused
+
+pub returns-in-Some-map_ordered-clause-unrefused : goal.returns-in-Some-map_ordered-clause-unrefused
+returns-in-Some-map_ordered-clause-unrefused c =
+    let there : world_in c.args.slot.now ≡ c.in-Some.world = cc (c.requires.there) in
+    let w : WorldState = world_in c.args.slot.now in
+    let v : WorldState = world_in c.map_slot.new.slot in
+    let made = c.in-Some-map_ordered.ensures.made in
+    in-doing c.map_slot.result (HidesNoRefusal (session_of w c.args.last_map.now c.args.last_routes.now) c.args.c.now v)
+    (map-unrefused w v c.args.last_map.now c.args.last_routes.now c.args.c.now c.in-Some-map_ordered.order made.0 (ap (λ (u : WorldState). is_idle u.links) there ∙ made.1)) c.map_slot.ensures.doing
 
 pub returns-in-None-clause-cut : goal.returns-in-None-clause-cut
 returns-in-None-clause-cut c =

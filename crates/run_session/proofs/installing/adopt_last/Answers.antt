@@ -1,15 +1,15 @@
-use Rattle.std.proofs.Common.{◌≡◌, sym, subst, ◌∙◌}
+use Rattle.std.proofs.Common.{◌≡◌, true, false, sym, subst, ◌∙◌}
 use Rattle.std.specs.Prelude.{ℕ}
 use Rattle.world_defs.specs.World.{fabric_of}
 use Rattle.adopted_routes.specs.Adopting.{IsAdoptable}
 use Rattle.fab_world.specs.Events.{IsHostOf}
-use Rattle.run_session.proofs.Installable.{kept-adoptable, mapper-there, none-other, others-are}
+use Rattle.run_session.proofs.Installable.{kept-adoptable, mapper-there, others-are}
 use Rattle.run_session.proofs.installing.adopt_last.Goals as goal
 
 pub adopt-requires-clause-there : goal.adopt-requires-clause-there
 adopt-requires-clause-there c =
     let same : c.l.inside.mapper ≡ c.args.l.now.mapper = cc in
-    subst (IsHostOf c.args.w.now) (sym same) (mapper-there c.args.w.now c.args.l.now c.moment.ensures.kept c.requires)
+    subst (IsHostOf c.args.w.now) (sym same) (mapper-there c.args.w.now c.args.l.now c.moment.ensures.kept c.requires.kept)
 
 pub adopt-requires-clause-adoptable : goal.adopt-requires-clause-adoptable
 adopt-requires-clause-adoptable c =
@@ -17,15 +17,12 @@ adopt-requires-clause-adoptable c =
     let routes : c.l.inside.routes ≡ c.args.l.now.routes = cc in
     let n = fabric_of c.args.w.now in
     subst (λ (m : ℕ). IsAdoptable n m c.in_ok-set.set) (sym mapper)
-    (subst (IsAdoptable n c.args.l.now.mapper) (sym (c.in_ok-set.ensures ∙ routes)) (kept-adoptable n c.args.l.now c.moment.ensures.kept.fabric c.requires))
+    (subst (IsAdoptable n c.args.l.now.mapper) (sym (c.in_ok-set.ensures ∙ routes)) (kept-adoptable n c.args.l.now c.moment.ensures.kept.fabric c.requires.kept))
 
-pub returns-in-Ok-clause-other : goal.returns-in-Ok-clause-other
-returns-in-Ok-clause-other c =
-    let routes : c.l.inside.routes ≡ c.args.l.now.routes = cc in
-    none-other c.args.l.now.routes c.in_ok-set.set c.args.w.now.adopted (c.in_ok-set.ensures ∙ routes) c.in-Ok.ensures.refused
-
-pub returns-in-Err-default-Another-clause-other : goal.returns-in-Err-default-Another-clause-other
-returns-in-Err-default-Another-clause-other c =
+pub unreachable-requires : goal.unreachable-requires
+unreachable-requires c =
     let routes : c.l.inside.routes ≡ c.args.l.now.routes = cc in
     let why = c.in-Err-default-Another.ensures.refused in
-    others-are c.args.l.now.routes c.in_ok-set.set c.args.w.now.adopted c.in-Err-default-Another.field-0-1 (c.in_ok-set.ensures ∙ routes) c.in-Err-default-Another.field-0-1-is why.1
+    let other = others-are c.args.l.now.routes c.in_ok-set.set c.args.w.now.adopted c.in-Err-default-Another.field-0-1 (c.in_ok-set.ensures ∙ routes) c.in-Err-default-Another.field-0-1-is why.1 in
+    let bad : false ≡ true = sym c.requires.other ∙ other in
+    cc

@@ -7,10 +7,7 @@ use Rattle.run_defs.specs.Output.{lines}
 use Rattle.run_defs.specs.Outcome.{table_line}
 use Rattle.fab_world.specs.Events.{IsHostOf}
 use Rattle.fab_report.specs.Printed.{printed_of}
-use Rattle.run_session.specs.Told.{AreInstalledTold}
-use Rattle.world_commands.proofs.Answered.{if-ok}
 use Rattle.run_session.proofs.Installable.{kept-installable, hosts-there}
-use Rattle.world_drain.proofs.Later.{on-any}
 use Rattle.run_session.proofs.Installs.{counted-told, installed-part, installed-whole}
 use Rattle.run_session.proofs.installing.install_adopted.Goals as goal
 
@@ -25,7 +22,7 @@ print_tables-requires c =
     let hosts : c.l.inside.hosts.items ≡ c.args.l.now.hosts = cc in
     let there = hosts-there c.args.w.now c.args.l.now c.moment.ensures.kept c.requires.kept in
     record {
-      hosts = subst (λ (count : ℕ). AllByRecursion (λ h. h < count) c.deref-2.result.now) (sym c.in_ok-installed.ensures.hosts)
+      hosts = subst (λ (count : ℕ). AllByRecursion (λ h. h < count) c.deref-2.result.now) (sym c.in-Ok.ensures.hosts)
           (subst (AllByRecursion (IsHostOf c.args.w.now)) (sym (c.deref-2.ensures.value ∙ hosts)) there);
     }
 
@@ -33,25 +30,20 @@ pub returns-clause-told : goal.returns-clause-told
 returns-clause-told c =
     let w = c.args.w.now in
     let after = c.install.new.w in
-    let x = c.in_ok-installed.installed in
+    let x = c.in-Ok.installed in
     let hosts : c.l.inside.hosts.items ≡ c.args.l.now.hosts = cc in
     let one : c.deref.result.now ≡ c.deref-2.result.now = c.deref.ensures.value ∙ sym c.deref-2.ensures.value in
-    if-ok c.print_tables.result
-    (λ p. p ≡ printed_of (fabric_of after) (lines (Installed x.acked x.of ∷ map (table_line after) c.deref-2.result.now)))
-    (λ p. AreInstalledTold w c.args.l.now c.args.tries after p)
-    (λ p e. counted-told w after c.args.l.now c.args.tries x.acked x.of c.deref.result.now p c.requires.adopted c.in_ok-installed.ensures.acked c.in_ok-installed.ensures.after c.in_ok-installed.ensures.of
-    (c.deref.ensures.value ∙ hosts) c.in_ok-installed.ensures.fabric
-    (subst (λ (hs : List ℕ). p ≡ printed_of (fabric_of after) (lines (Installed x.acked x.of ∷ map (table_line after) hs))) (sym one) e))
-    c.print_tables.ensures
+    let p = c.in-Ok-print_tables.text in
+    counted-told w after c.args.l.now c.args.tries x.acked x.of c.deref.result.now p c.requires.adopted c.in-Ok.ensures.acked c.in-Ok.ensures.after c.in-Ok.ensures.of
+    (c.deref.ensures.value ∙ hosts) c.in-Ok.ensures.fabric
+    (subst (λ (hs : List ℕ). p ≡ printed_of (fabric_of after) (lines (Installed x.acked x.of ∷ map (table_line after) hs))) (sym one) c.in-Ok-print_tables.ensures)
 
-pub returns-in_err-installed-clause-err : goal.returns-in_err-installed-clause-err
-returns-in_err-installed-clause-err c =
+pub returns-in_default-clause-err : goal.returns-in_default-clause-err
+returns-in_default-clause-err c =
     let hosts : c.l.inside.hosts.items ≡ c.args.l.now.hosts = cc in
-    on-any c.from_residual.result
-    (installed-part c.args.w.now c.install.new.w c.args.l.now c.args.tries c.deref.result.now c.requires.adopted c.in_err-installed.ensures.err (c.deref.ensures.value ∙ hosts))
+    installed-part c.args.w.now c.install.new.w c.args.l.now c.args.tries c.deref.result.now c.requires.adopted c.in_default.ensures.err (c.deref.ensures.value ∙ hosts)
 
-pub returns-clause-err : goal.returns-clause-err
-returns-clause-err c =
+pub returns-in_default-print_tables-clause-err : goal.returns-in_default-print_tables-clause-err
+returns-in_default-print_tables-clause-err c =
     let hosts : c.l.inside.hosts.items ≡ c.args.l.now.hosts = cc in
-    on-any c.print_tables.result
-    (installed-whole c.args.w.now c.install.new.w c.args.l.now c.args.tries c.deref.result.now c.requires.adopted c.in_ok-installed.ensures.after (c.deref.ensures.value ∙ hosts))
+    installed-whole c.args.w.now c.install.new.w c.args.l.now c.args.tries c.deref.result.now c.requires.adopted c.in-Ok.ensures.after (c.deref.ensures.value ∙ hosts)

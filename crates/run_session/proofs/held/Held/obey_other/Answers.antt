@@ -1,13 +1,16 @@
 use Rattle.std.proofs.Common.{IfOk, OnErr, subst}
+use Rattle.std.specs.Prelude.{IfErr}
 use Rattle.run_defs.specs.Duos.{beside}
 use Rattle.run_defs.specs.Session.{SessionState}
 use Rattle.promise_laws.specs.CutShort.{IsCutShort}
+use Rattle.world_commands.specs.Cut.{HidesNoRefusal}
 use Rattle.world_commands.specs.Done.{session_of}
-use Rattle.world_commands.proofs.Answered.{if-ok}
+use Rattle.world_commands.proofs.Answered.{if-ok, if-err}
 use Rattle.world_drain.proofs.Later.{on-err}
 use Rattle.run_session.specs.Holding.{world_in}
 use Rattle.run_session.specs.Obeyed.{IsObeyed}
 use Rattle.run_session.proofs.Beside.{beside_obeyed, beside_cut}
+use Rattle.run_session.proofs.Leaving.{beside-unrefused}
 use Rattle.run_session.proofs.held.Held.obey_other.Goals as goal
 
 pub returns-clause-obeyed : goal.returns-clause-obeyed
@@ -18,6 +21,13 @@ returns-clause-obeyed c =
     subst (λ (x : SessionState). IfOk c.obey_parts.result (λ p. IsObeyed x c.args.c.now (beside next hosts) p)) c.self.view_is
     (if-ok c.obey_parts.result (λ p. IsObeyed s c.args.c.now next p) (λ p. IsObeyed (beside s hosts) c.args.c.now (beside next hosts) p)
     (λ p is. beside_obeyed s next c.args.c.now p hosts c.requires.other is) c.obey_parts.ensures.obeyed)
+
+pub returns-clause-unrefused : goal.returns-clause-unrefused
+returns-clause-unrefused c =
+    let s : SessionState = session_of (world_in c.self.inside.world) c.self.inside.last_map c.self.inside.last_routes in
+    let v = world_in c.obey_parts.new.slot in
+    subst (λ (x : SessionState). IfErr c.obey_parts.result (HidesNoRefusal x c.args.c.now v)) c.self.view_is
+    (if-err c.obey_parts.result (HidesNoRefusal s c.args.c.now v) (HidesNoRefusal (beside s c.self.inside.duo) c.args.c.now v) (beside-unrefused s c.args.c.now v c.self.inside.duo c.requires.other) c.obey_parts.ensures.unrefused)
 
 pub returns-clause-cut : goal.returns-clause-cut
 returns-clause-cut c =

@@ -1,7 +1,15 @@
 use Rattle.std.proofs.Common.{◌≡◌, ◌∙◌, subst}
 use Rattle.run_defs.specs.Session.{SessionState}
 use Rattle.promise_laws.specs.Duos.{IsDuoLeft}
+use Rattle.world_commands.specs.Cut.{HidesNoRefusal}
 use Rattle.run_session.proofs.session.Session.perform.Goals as goal
+
+pub returns-in-Err-clause-unrefused : goal.returns-in-Err-clause-unrefused
+returns-in-Err-clause-unrefused c =
+    let held = c.deref_mut.ensures.value in
+    let seen = c.self.view_is in
+    let same : c.deref_mut.result.now ≡ c.args.self = cc in
+    subst (λ (x : SessionState). HidesNoRefusal x c.args.c.now c.obey-printed.new.self.world c.in-Err.wanting) same c.in-Err.ensures.unrefused
 
 pub returns-in-Err-clause-duo : goal.returns-in-Err-clause-duo
 returns-in-Err-clause-duo c =

@@ -1,0 +1,129 @@
+-- Where memory runs out in a session no refusal is hidden: a refused command lacks only its line's text.
+use Rattle.std.proofs.Common.{◌≡◌, ℕ, List, ◌∷◌, [], true, false, not, Bool, Option, Some, None, option_map, refl, sym, ◌∙◌, ap, if◌then◌else◌}
+use Rattle.std.specs.Prelude.{min, length, map}
+use Rattle.link_defs.specs.Links.{is_idle}
+use Rattle.duo_defs.specs.declared.effect.DuoEffect.{DuoEffect}
+use Rattle.duo_defs.specs.declared.event.DuoEvent.{DuoEvent}
+use Rattle.duo_defs.specs.Duo.{DuoState}
+use Rattle.duo_defs.specs.Step.{step as duo_step}
+use Rattle.world_defs.specs.Table.{is_other}
+use Rattle.world_defs.specs.World.{WorldState, last_count}
+use Rattle.world_defs.specs.Settle.{unacknowledged_in}
+use Rattle.world_defs.specs.Log.{Log}
+use Rattle.world_defs.specs.Logs as log
+use Rattle.run_defs.specs.declared.command.Command.{Command}
+use Rattle.run_defs.specs.declared.command.Command.TheVariants.{Map, Routes, Install, Settle, Duo}
+use Rattle.run_defs.specs.declared.line.Line.{Line}
+use Rattle.run_defs.specs.declared.line.Line.TheVariants.{MapBusy, NoMap, InstallRefused, Installed, Settle as SettleLine, Duo as DuoLine}
+use Rattle.run_defs.specs.declared.line.InstallCause.TheVariants.{NoRoutes, Busy, Installed as OtherInstalled}
+use Rattle.run_defs.specs.Duos.{begun, beside, IsOther}
+use Rattle.run_defs.specs.Output.{OneLine, lines}
+use Rattle.run_defs.specs.Outcome.{Outcome, says_only, settled, table_line, installation, install_done, install_now, routes_refused, duo_done, outcome}
+use Rattle.run_defs.specs.Session.{SessionState, LastMap, LastRoutes, complete_map}
+use Rattle.promise_laws.proofs.Duos.{with-duo, outcome-beside}
+use Rattle.world_commands.specs.declared.out_of_memory.OutOfMemory.{OutOfMemory}
+use Rattle.world_commands.specs.declared.out_of_memory.OutOfMemory.TheVariants.{InDoing, InLine}
+use Rattle.world_commands.specs.Cut.{is_refusal_line, IsRefused, HidesNoRefusal, IsLeft}
+use Rattle.world_commands.specs.Done.{session_of}
+use Rattle.world_commands.specs.Cut.IsLeft.{undone, unprinted}
+use Rattle.world_commands.proofs.Cut.{output-of, first-line, not-refused}
+use Rattle.run_session.specs.declared.mapping.MapOrder.{MapOrder}
+use Rattle.run_session.specs.Told.{map_of}
+use Rattle.run_session.proofs.Cutting.{IsBusy}
+
+-- a command whose outcome isn't determined isn't refused
+pub none-unrefused : (s : SessionState) (c : Command) (v : WorldState) → outcome s c ≡ None → HidesNoRefusal s c v InDoing
+none-unrefused s c v none r =
+    let printed : [] ≡ OneLine r.line ∷ [] = ap output-of (sym none ∙ r.prints) in
+    cc
+
+-- only the line's text is missing
+pub line-missing : (s : SessionState) (c : Command) (v : WorldState) (o : Outcome) → outcome s c ≡ Some o → v ≡ o.after.world → HidesNoRefusal s c v InLine
+line-missing s c v o is same = (o, is, same)
+
+-- a command of one event at most
+pub one-unrefused : (w v : WorldState) (made : Option LastMap) (found : Option LastRoutes) (c : Command) (e : OutOfMemory) → IsLeft c w v e → HidesNoRefusal (session_of w made found) c v e
+one-unrefused w v made found c InDoing (undone same kept) = kept made found
+one-unrefused w v made found c InLine (unprinted told done) = (record { output = done.output; after = session_of v made found }, done.determined made found, refl)
+
+-- a map while a channel holds a packet, and one that is made
+pub busy-missing : (w : WorldState) (made : Option LastMap) (found : Option LastRoutes) (c : Command) (host depth tries : ℕ) → c ≡ Map host depth tries → IsBusy w c → HidesNoRefusal (session_of w made found) c w InLine
+busy-missing w made found c host depth tries is busy =
+    let s : SessionState = session_of w made found in
+    let o : Outcome = says_only s (MapBusy host ∷ []) in
+    (o, ap (outcome s) is ∙ ap (λ b. if b then None else Some o) (busy host depth tries is), refl)
+
+pub map-unrefused : (w v : WorldState) (made : Option LastMap) (found : Option LastRoutes) (c : Command) (order : MapOrder) → c ≡ map_of order → is_idle w.links ≡ true → HidesNoRefusal (session_of w made found) c v InDoing
+map-unrefused w v made found c order is idle =
+    let s : SessionState = session_of w made found in
+    none-unrefused s c v (ap (outcome s) is ∙ ap (λ b. if b then None else Some (says_only s (MapBusy order.host ∷ []))) idle)
+
+-- routes
+pub routes-unrefused : (s : SessionState) (l : LastMap) (v : WorldState) → complete_map s.last_map ≡ Some l → HidesNoRefusal s Routes v InDoing
+routes-unrefused s l v is = none-unrefused s Routes v (ap (routes_refused s) is)
+
+pub no-map-missing : (s : SessionState) → complete_map s.last_map ≡ None → HidesNoRefusal s Routes s.world InLine
+no-map-missing s none = (says_only s (NoMap ∷ []), ap (routes_refused s) none, refl)
+
+-- a settle
+pub settle-unrefused : (s : SessionState) (v : WorldState) → HidesNoRefusal s Settle v InDoing
+settle-unrefused s v =
+    let l : Log log.Rounds = log.settle s.world in
+    not-refused s (settled s l).after Settle (SettleLine l.value.rounds (min l.value.resets last_count) (unacknowledged_in l.world)) refl refl
+
+pub settle-missing : (s : SessionState) (v : WorldState) → v ≡ (log.settle s.world).world → HidesNoRefusal s Settle v InLine
+settle-missing s v same = (settled s (log.settle s.world), refl, same)
+
+-- an installation
+abbrev choice : SessionState → LastRoutes → ℕ → Bool → Bool → Outcome
+choice s l tries idle other =
+    if not idle then says_only s (InstallRefused Busy ∷ [])
+    else if other then says_only s (InstallRefused OtherInstalled ∷ [])
+    else install_now s l tries
+
+pub no-routes-missing : (w : WorldState) (last : Option LastRoutes) (tries : ℕ) → last ≡ None → (made : Option LastMap) → HidesNoRefusal (session_of w made last) (Install tries) w InLine
+no-routes-missing w None tries none made = (says_only (session_of w made None) (InstallRefused NoRoutes ∷ []), refl, refl)
+no-routes-missing w (Some l) tries none made = cc
+
+pub busy-install-missing : (w : WorldState) (l : LastRoutes) (tries : ℕ) → is_idle w.links ≡ false → (made : Option LastMap) → HidesNoRefusal (session_of w made (Some l)) (Install tries) w InLine
+busy-install-missing w l tries busy made =
+    let s : SessionState = session_of w made (Some l) in
+    (says_only s (InstallRefused Busy ∷ []), ap (λ b. Some (choice s l tries b (is_other l.routes w.adopted))) busy, refl)
+
+pub other-missing : (w : WorldState) (l : LastRoutes) (tries : ℕ) → is_idle w.links ≡ true → is_other l.routes w.adopted ≡ true → (made : Option LastMap) → HidesNoRefusal (session_of w made (Some l)) (Install tries) w InLine
+other-missing w l tries idle other made =
+    let s : SessionState = session_of w made (Some l) in
+    (says_only s (InstallRefused OtherInstalled ∷ []), ap (λ b. Some (choice s l tries b (is_other l.routes w.adopted))) idle ∙ ap (λ b. Some (choice s l tries true b)) other, refl)
+
+-- what is printed of a count is no refusal
+counted-unrefused : (s : SessionState) (c : Command) (hosts : List ℕ) (l : Log ℕ) → outcome s c ≡ Some (install_done s hosts l) → IsRefused s c → ⊥
+counted-unrefused s c hosts l is r =
+    let same : Installed l.value (length hosts) ≡ r.line = ap (λ o. first-line (output-of o)) (sym is ∙ r.prints) in
+    let bad : false ≡ true = ap is_refusal_line same ∙ r.refuses in
+    cc
+
+pub install-unrefused : (w v : WorldState) (l : LastRoutes) (tries : ℕ) → is_idle w.links ≡ true → is_other l.routes w.adopted ≡ false → (made : Option LastMap) → HidesNoRefusal (session_of w made (Some l)) (Install tries) v InDoing
+install-unrefused w v l tries idle other made =
+    let s : SessionState = session_of w made (Some l) in
+    counted-unrefused s (Install tries) l.hosts (installation s l tries) (ap (λ b. Some (choice s l tries b (is_other l.routes w.adopted))) idle ∙ ap (λ b. Some (choice s l tries true b)) other)
+
+-- an event of the two hosts that restart
+duo-kept : (s : SessionState) (e : DuoEvent) (x : DuoEffect × DuoState) → outcome s (Duo e) ≡ Some (duo_done s x) → IsRefused s (Duo e) → ⊥
+duo-kept s e (effect, d) is = not-refused s (beside s (Some d)) (Duo e) (DuoLine effect) is refl
+
+pub duo-unrefused : (s : SessionState) (e : DuoEvent) (v : WorldState) → HidesNoRefusal s (Duo e) v InDoing
+duo-unrefused s e v = duo-kept s e (duo_step (begun s.duo) e) refl
+
+-- another command beside these two
+refused-alone : (s : SessionState) (c : Command) (d : Option DuoState) → outcome (beside s d) c ≡ option_map (with-duo d) (outcome s c) → IsRefused (beside s d) c → IsRefused s c
+refused-alone s c d is r = by (outcome s c) refl (sym is ∙ r.prints)
+  where
+    by : (o : Option Outcome) → outcome s c ≡ o → option_map (with-duo d) o ≡ Some (record { output = OneLine r.line ∷ []; after = r.after }) → IsRefused s c
+    by None p q = cc
+    by (Some o) p q =
+        let same : o.output ≡ OneLine r.line ∷ [] = ap output-of q in
+        record { line = r.line; after = o.after; prints = p ∙ ap (λ x. Some (record { output = x; after = o.after })) same; refuses = r.refuses }
+
+pub beside-unrefused : (s : SessionState) (c : Command) (v : WorldState) (d : Option DuoState) → IsOther c → (e : OutOfMemory) → HidesNoRefusal s c v e → HidesNoRefusal (beside s d) c v e
+beside-unrefused s c v d other InDoing kept = λ r. kept (refused-alone s c d (outcome-beside s c d other) r)
+beside-unrefused s c v d other InLine (o, is, same) = (with-duo d o, outcome-beside s c d other ∙ ap (option_map (with-duo d)) is, same)
