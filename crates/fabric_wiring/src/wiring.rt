@@ -1,6 +1,6 @@
 //! The wiring of a fabric in flat tables.
 
-ghost use Rattle.std.specs.Prelude.{◌≡◌, ◌<◌, ◌≤◌, ℕ, ◌*◌, ◌/◌, length, true, Some, None, IfOk, IfSome};
+ghost use Rattle.std.specs.Prelude.{◌≡◌, ◌<◌, ◌≤◌, ℕ, ◌*◌, ◌/◌, length, true, false, not, nat_eq, Some, None, IfOk, IfSome};
 ghost use Rattle.net_defs.specs.Network.{has_port, is_port_count, ports_of, IsFabric};
 ghost use Rattle.cable_history.specs.History.{first_history, fabric_now, IsHistory};
 ghost use Rattle.cable_history.specs.Crossed.{leaving, life_channels, life_tail, life_head, is_new};
@@ -120,13 +120,21 @@ impl Wiring {
         self.entry(c).end
     }
 
+    /// Whether a cable was pulled or plugged since the cables were accepted: where none was, no cable is new.
+    pub fn has_changed(&self) -> bool
+        ensures changed { result ≡ not (nat_eq self.now.changes self.now.accepted) }
+        ensures old { result ≡ false → (c : ℕ) → is_new self.now c ≡ false }
+    {
+        self.changes != self.accepted
+    }
+
     /// Whether a channel's cable was plugged since the cables were accepted. It looks at no cable where nothing has
     /// changed since.
     pub fn is_new(&self, c: u16) -> bool
         requires { c < life_channels self.now }
         ensures { result ≡ is_new self.now c }
     {
-        if self.changes == self.accepted {
+        if !self.has_changed() {
             return false;
         }
         self.accepted < wire_at(&self.wires, usize::from(c / 2)).plugged

@@ -59,6 +59,11 @@ byte-enters h c wire byte is = by (life_head h c)
     by None = refl
     by (Some e) = at e.v e.p
 
+-- where no cable is new each channel may be entered
+pub passing-old : (h : CableHistory) (wire : List ℕ) (o : Option ℕ) → ((d : ℕ) → is_new h d ≡ false) → passing h wire o ≡ o
+passing-old h wire None old = refl
+passing-old h wire (Some d) old = ap (λ t. if t && not (is_mapping wire) then None else Some d) (old d)
+
 -- which is there
 leaving-below : (h : CableHistory) (o : Option End) → IfSome (option_and_then (leaving h) o) (λ d. d < life_channels h)
 leaving-below h None = tt

@@ -1,6 +1,6 @@
 //! Where a channel's packet goes, whatever the other channels hold.
 
-ghost use Rattle.std.specs.Prelude.{◌≡◌, ◌≢◌, ◌<◌, ◌≤◌, ◌&&◌, not, ℕ, slice_get, drop, true, Some, IsSome, IfSome};
+ghost use Rattle.std.specs.Prelude.{◌≡◌, ◌≢◌, ◌<◌, ◌≤◌, ◌&&◌, not, ℕ, slice_get, drop, true, false, Some, IsSome, IfSome};
 ghost use Rattle.std.specs.List.{prefix_len};
 ghost use Rattle.net_defs.specs.Network.{has_port, is_port_count, ports_of};
 ghost use Rattle.packet_defs.specs.Packet.{front_turn, head, stripped};
@@ -135,14 +135,34 @@ fn turn_at(ports: u8, entry: u8, packet: &mut Packet) -> Turned
     }
 }
 
-/// The channel that the packet of a channel goes into, whatever the channels hold, if it goes into one: by one look
-/// into the table of hops, which asks for no number of ports.
-pub(crate) fn next_channel(wiring: &Wiring, c: u16, packet: &Packet) -> Option<u16>
-    requires { c < life_channels wiring.now }
+/// The channel that the packet of a channel goes into, whatever the channels hold, if it goes into one. Whether that is
+/// new need not be asked where no cable is.
+pub(crate) fn next_channel<const ASKS: bool>(
+    wiring: &Wiring,
+    c: u16,
+    packet: &Packet,
+) -> Option<u16>
+    requires there { c < life_channels wiring.now }
+    requires old { ASKS ≡ false → (d : ℕ) → is_new wiring.now d ≡ false }
     ensures { result ≡ entered_by (course wiring.now c packet.now) }
 {
+    let ahead = channel_ahead(wiring, c, packet);
+    if ASKS {
+        passing(wiring, packet, ahead)
+    } else {
+        ahead
+    }
+}
+
+// The channel that the packet of a channel would go into if no cable were new: by one look into the table of hops, which
+// asks for no number of ports.
+fn channel_ahead(wiring: &Wiring, c: u16, packet: &Packet) -> Option<u16>
+    requires { c < life_channels wiring.now }
+    ensures passing { passing wiring.now packet.now result ≡ entered_by (course wiring.now c packet.now) }
+    ensures there { IfSome result (λ d. d < life_channels wiring.now) }
+{
     match front_byte(packet) {
-        Some(byte) => passing(wiring, packet, wiring.next(c, byte)),
+        Some(byte) => wiring.next(c, byte),
         None => None,
     }
 }
@@ -182,9 +202,25 @@ fn front_byte(packet: &Packet) -> Option<u8>
 }
 
 /// The packet of a channel goes on, whatever the channels hold, until it leaves them: how far. Each switch strips the
-/// turn that it takes.
+/// turn that it takes. Whether a cable may be new is asked once.
 pub(crate) fn follow(wiring: &Wiring, c: u16, packet: &mut Packet) -> Run
     requires { c < life_channels wiring.now }
+    ensures along { IsSentAlong wiring.now c packet.old result.hops result.at packet.new }
+    ensures there { result.at < life_channels wiring.now }
+    ensures last { (next : ℕ) → course wiring.now result.at packet.new ≢ Course.Enters next }
+    ensures few { result.hops ≤ 1107 }
+{
+    if wiring.has_changed() {
+        follow_by::<true>(wiring, c, packet)
+    } else {
+        follow_by::<false>(wiring, c, packet)
+    }
+}
+
+// The same, with the question for a new cable at each hop or at none.
+fn follow_by<const ASKS: bool>(wiring: &Wiring, c: u16, packet: &mut Packet) -> Run
+    requires there { c < life_channels wiring.now }
+    requires old { ASKS ≡ false → (d : ℕ) → is_new wiring.now d ≡ false }
     ensures along { IsSentAlong wiring.now c packet.old result.hops result.at packet.new }
     ensures there { result.at < life_channels wiring.now }
     ensures last { (next : ℕ) → course wiring.now result.at packet.new ≢ Course.Enters next }
@@ -193,7 +229,7 @@ pub(crate) fn follow(wiring: &Wiring, c: u16, packet: &mut Packet) -> Run
     let _few = packet.size();
     let mut at = c;
     let mut hops = 0;
-    while let Some(next) = next_channel(wiring, at, packet) {
+    while let Some(next) = next_channel::<ASKS>(wiring, at, packet) {
         packet.strip_turn();
         at = next;
         hops += 1;

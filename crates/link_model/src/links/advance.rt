@@ -81,7 +81,7 @@ impl Links {
             ≡ option_and_then (λ held. entered_by (course self.now.cables c held.wire)) (packet_in self.now c) }
     {
         match self.slots.peek(usize::from(c)) {
-            Some(slot) => next_channel(&self.wiring, c, slot.packet()),
+            Some(slot) => next_channel::<true>(&self.wiring, c, slot.packet()),
             None => None,
         }
     }

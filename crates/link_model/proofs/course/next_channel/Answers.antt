@@ -1,18 +1,9 @@
-use Rattle.std.proofs.Common.{◌<◌, sym, ap, ◌∙◌, subst}
-use Rattle.std.specs.Option.{IfSome}
-use Rattle.cable_history.specs.Crossed.{life_channels}
-use Rattle.link_model.specs.Hop.{passing}
-use Rattle.link_model.proofs.Turning.{byte-enters, none-enters, next-below}
+use Rattle.std.proofs.Common.{not, sym, ap, ◌∙◌}
+use Rattle.std.specs.Prelude.{nat_eq}
+use Rattle.link_model.proofs.Turning.{passing-old}
 use Rattle.link_model.proofs.course.next_channel.Goals as goal
 
-pub passing-requires : goal.passing-requires
-passing-requires c =
-    subst (λ o. IfSome o (λ d. d < life_channels c.args.wiring.now)) (sym c.next.ensures) (next-below c.args.wiring.now c.args.c c.in-Some.byte)
-
-pub returns-in-Some : goal.returns-in-Some
-returns-in-Some c =
-    c.passing.ensures ∙ ap (passing c.args.wiring.now c.args.packet.now) c.next.ensures
-    ∙ sym (byte-enters c.args.wiring.now c.args.c c.args.packet.now c.in-Some.byte (sym c.in-Some.ensures))
-
-pub returns-in-None : goal.returns-in-None
-returns-in-None c = sym (none-enters c.args.wiring.now c.args.c c.args.packet.now (sym c.in-None.ensures))
+pub returns-else-this-ne0 : goal.returns-else-this-ne0
+returns-else-this-ne0 g c =
+    let old = c.requires.old (ap (λ k. not (nat_eq k 0)) c.if-this-ne0.false) in
+    sym (passing-old c.args.wiring.now c.args.packet.now c.channel_ahead-ahead.result old) ∙ c.channel_ahead-ahead.ensures.passing

@@ -1,10 +1,10 @@
 -- The packet has gone some of its way.
 use Rattle.link_defs.specs.Hops.{hops_left}
 use Rattle.link_model.proofs.Runs.{Following}
-use Rattle.link_model.proofs.course.follow.Given as goal
+use Rattle.link_model.proofs.course.follow_by.Given as goal
 
 abbrev pub invariant-loop-next : goal.invariant-loop-next
-invariant-loop-next l = Following l.wiring l.c l.fn.packet l.packet l.hops l.at
+invariant-loop-next g l = Following l.wiring l.c l.fn.packet l.packet l.hops l.at
 
 abbrev pub decreases-loop-next : goal.decreases-loop-next
-decreases-loop-next l = hops_left l.packet
+decreases-loop-next g l = hops_left l.packet
