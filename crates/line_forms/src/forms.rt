@@ -87,7 +87,10 @@ fn is_install_refused(args: Words) -> bool
 fn is_install_cause(w: &[u8]) -> bool
     ensures { result ≡ is_install_cause w.now }
 {
-    w == b"noroutes".as_slice() || w == b"busy".as_slice() || w == b"installed".as_slice()
+    w == b"noroutes".as_slice()
+        || w == b"busy".as_slice()
+        || w == b"installed".as_slice()
+        || w == b"epochs".as_slice()
 }
 
 // `at N`

@@ -1,2 +1,4 @@
 mod Counts
+mod Digits
+mod Keywords
 pub mod Turns

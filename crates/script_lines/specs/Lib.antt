@@ -1,3 +1,4 @@
 pub mod Commands
+pub mod Leading
 pub mod Lists
 pub mod Values

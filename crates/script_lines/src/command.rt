@@ -7,6 +7,7 @@ ghost use Rattle.run_defs.specs.Script.{command_as, command_by, command_of, line
 ghost use Rattle.script_lines.specs.Values.{command_but_walk};
 
 use crate::duo_lines::duo;
+use crate::leading::after_keyword;
 use crate::map_lines::{circuit, install, map, routes, settle};
 use crate::plan_lines::plan;
 use crate::port_lines::{PortCall, at_port, open, provide, send};
@@ -20,14 +21,46 @@ use std::alloc::Global;
 /// The command that a line says over a fabric, or the line's first fault: the first word (with `plan`, `step` and `duo`
 /// the second word too), the number of words, each further word's form from left to right, and then the rules of the
 /// fabric. A line that has a fault takes no memory.
+///
+/// The words that most lines of a long script begin with are looked for first.
 pub fn read_command(alloc: Global, fabric: &Fabric, line: &[u8]) -> Result<Command, LineFault>
     ensures reading { LineGives (command_of fabric.now (words_of line.now)) result }
     ensures memory { IsErrOf result LineFault.NoMemory → IsOk (command_of fabric.now (words_of line.now)) }
 {
-    let mut args = words(line);
+    let args = words(line);
+    if let Some(left) = after_keyword(&args, b"walk") {
+        walk(alloc, fabric, left)
+    } else if let Some(left) = after_keyword(&args, b"duo") {
+        in_line(duo(fabric, left))
+    } else if let Some(left) = after_keyword(&args, b"plan") {
+        in_line(plan(fabric, left))
+    } else if let Some(left) = after_keyword(&args, b"poll") {
+        in_line(at_port(fabric, PortCall::Poll, left))
+    } else {
+        read_words(alloc, fabric, args)
+    }
+}
+
+// The command of a line by its first word, wherever that ends. It is no part of its caller, which each line pays for.
+#[inline(never)]
+fn read_words(alloc: Global, fabric: &Fabric, mut args: Words) -> Result<Command, LineFault>
+    ensures reading { LineGives (command_of fabric.now (words_of args.entry)) result }
+    ensures memory { IsErrOf result LineFault.NoMemory → IsOk (command_of fabric.now (words_of args.entry)) }
+{
     match args.next_word() {
         Some(first) => read_as(alloc, fabric, first, args),
         None => Err(LineFault::Wrong(FaultKind::BadWord)),
+    }
+}
+
+// What a line says that takes no memory.
+fn in_line(said: Result<Command, FaultKind>) -> Result<Command, LineFault>
+    ensures reading { LineGives said result }
+    ensures memory { IsErrOf result LineFault.NoMemory → IsOk said }
+{
+    match said {
+        Ok(command) => Ok(command),
+        Err(kind) => Err(LineFault::Wrong(kind)),
     }
 }
 
@@ -39,10 +72,7 @@ fn read_as(alloc: Global, fabric: &Fabric, first: &[u8], args: Words) -> Result<
     if is_keyword(first, b"walk") {
         return walk(alloc, fabric, args);
     }
-    match read_but_walk(fabric, first, args) {
-        Ok(command) => Ok(command),
-        Err(kind) => Err(LineFault::Wrong(kind)),
-    }
+    in_line(read_but_walk(fabric, first, args))
 }
 
 // The same, where the word isn't `walk`.

@@ -9,6 +9,7 @@ ghost use Rattle.run_defs.specs.Script.{duo_kinds, by_second, command_by};
 ghost use Rattle.script_lines.specs.Commands.{duo_event};
 
 use crate::counted::{one, three, two};
+use crate::leading::after_keyword;
 use crate::port_lines::{MAX_LEN, MAX_SIZE};
 use crate::values::{byte, number};
 use fab_text::{FaultKind, Words, is_keyword};
@@ -27,8 +28,32 @@ enum AtEnd {
     Restart,
 }
 
-/// `duo`, and what follows it.
-pub(crate) fn duo(fabric: &Fabric, mut args: Words) -> Result<Command, FaultKind>
+/// `duo`, and what follows it. Long scripts have such lines above all, so it stands in its caller, and the readers of
+/// each word stand in it: what they answer isn't moved from one to the other.
+#[inline(always)]
+pub(crate) fn duo(fabric: &Fabric, args: Words) -> Result<Command, FaultKind>
+    ensures { result ≡ by_second fabric.now duo_kinds (words_of args.entry) }
+{
+    if let Some(left) = after_keyword(&args, b"send") {
+        send(fabric, left)
+    } else if let Some(left) = after_keyword(&args, b"emit") {
+        at_end(fabric, AtEnd::Emit, left)
+    } else if let Some(left) = after_keyword(&args, b"deliver") {
+        deliver(fabric, left)
+    } else if let Some(left) = after_keyword(&args, b"provide") {
+        provide(fabric, left)
+    } else if let Some(left) = after_keyword(&args, b"restart") {
+        at_end(fabric, AtEnd::Restart, left)
+    } else if let Some(left) = after_keyword(&args, b"poll") {
+        at_end(fabric, AtEnd::Poll, left)
+    } else {
+        duo_by_word(fabric, args)
+    }
+}
+
+// The same by the second word, wherever it ends.
+#[inline(never)]
+fn duo_by_word(fabric: &Fabric, mut args: Words) -> Result<Command, FaultKind>
     ensures { result ≡ by_second fabric.now duo_kinds (words_of args.entry) }
 {
     match args.next_word() {
@@ -61,6 +86,7 @@ fn duo_by(fabric: &Fabric, second: &[u8], args: Words) -> Result<Command, FaultK
 }
 
 // `X LEN SEED`
+#[inline(always)]
 fn send(fabric: &Fabric, args: Words) -> Result<Command, FaultKind>
     ensures { result ≡ and_then (said_by (of_end ∷ OfNumber 0 1000000 ∷ OfNumber 0 255 ∷ []) (words_of args.entry))
         (duo_send_meant fabric.now) }
@@ -75,6 +101,7 @@ fn send(fabric: &Fabric, args: Words) -> Result<Command, FaultKind>
 }
 
 // `X SIZE`
+#[inline(always)]
 fn provide(fabric: &Fabric, args: Words) -> Result<Command, FaultKind>
     ensures { result ≡ and_then (said_by (of_end ∷ OfNumber 0 31 ∷ []) (words_of args.entry))
         (duo_provide_meant fabric.now) }
@@ -88,6 +115,7 @@ fn provide(fabric: &Fabric, args: Words) -> Result<Command, FaultKind>
 }
 
 // `X`
+#[inline(always)]
 fn at_end(fabric: &Fabric, event: AtEnd, args: Words) -> Result<Command, FaultKind>
     ensures { result ≡ and_then (said_by (of_end ∷ []) (words_of args.entry))
         (duo_meant (duo_event event) fabric.now) }
@@ -105,6 +133,7 @@ fn at_end(fabric: &Fabric, event: AtEnd, args: Words) -> Result<Command, FaultKi
 }
 
 // `K`
+#[inline(always)]
 fn deliver(fabric: &Fabric, args: Words) -> Result<Command, FaultKind>
     ensures { result ≡ and_then (said_by (OfNumber 0 4294967295 ∷ []) (words_of args.entry))
         (duo_meant Deliver fabric.now) }

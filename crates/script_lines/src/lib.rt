@@ -16,12 +16,14 @@
 //! | `map_lines` | `map`, `circuit`, `routes`, `install`, `settle` |
 //! | `port_lines` | `open`, `close`, `poll`, `tokens`, `provide`, `send` |
 //! | `plan_lines`, `step_lines`, `duo_lines` | `plan`, `step` and `duo`, by their second word |
+//! | `leading` | a keyword with a space after it |
 //! | `counted`, `values` | exactly so many words; what one word says |
 #![tactic(auto)]
 
 mod command;
 mod counted;
 mod duo_lines;
+mod leading;
 mod map_lines;
 mod plan_lines;
 mod port_lines;

@@ -8,6 +8,7 @@ ghost use Rattle.run_defs.specs.Script.{of_ahead, of_bit, of_pattern, said_by, p
 ghost use Rattle.run_defs.specs.Script.{by_second, command_by};
 
 use crate::counted::{one, three};
+use crate::leading::after_keyword;
 use crate::values::{byte, number};
 use fab_text::{FaultKind, Words, is_keyword};
 use port_graph::Fabric;
@@ -19,8 +20,23 @@ const MAX_AHEAD: u32 = 1_000_000_000;
 /// The greatest first bit of a flip.
 pub(crate) const MAX_BIT: u32 = 10_000;
 
-/// `plan`, and what follows it.
-pub(crate) fn plan(fabric: &Fabric, mut args: Words) -> Result<Command, FaultKind>
+/// `plan`, and what follows it. It stands in its caller, as the readers of lines `duo` do.
+#[inline(always)]
+pub(crate) fn plan(fabric: &Fabric, args: Words) -> Result<Command, FaultKind>
+    ensures { result ≡ by_second fabric.now plan_kinds (words_of args.entry) }
+{
+    if let Some(left) = after_keyword(&args, b"lose") {
+        plan_for(fabric, PlanKind::Lose, left)
+    } else if let Some(left) = after_keyword(&args, b"repeat") {
+        plan_for(fabric, PlanKind::Repeat, left)
+    } else {
+        plan_by_word(fabric, args)
+    }
+}
+
+// The same by the second word, wherever it ends.
+#[inline(never)]
+fn plan_by_word(fabric: &Fabric, mut args: Words) -> Result<Command, FaultKind>
     ensures { result ≡ by_second fabric.now plan_kinds (words_of args.entry) }
 {
     match args.next_word() {
@@ -47,6 +63,7 @@ fn plan_by(fabric: &Fabric, second: &[u8], args: Words) -> Result<Command, Fault
 }
 
 // `N`
+#[inline(always)]
 fn plan_for(fabric: &Fabric, kind: PlanKind, args: Words) -> Result<Command, FaultKind>
     ensures { result ≡ and_then (said_by (of_ahead ∷ []) (words_of args.entry)) (plan_meant kind fabric.now) }
 {

@@ -57,7 +57,8 @@ pub(crate) fn open(fabric: &Fabric, args: Words) -> Result<Command, FaultKind>
     })
 }
 
-/// `close H PORT`, `poll H PORT`, `tokens H PORT`
+/// `close H PORT`, `poll H PORT`, `tokens H PORT`. It stands in its callers, as the readers of lines `duo` do.
+#[inline(always)]
 pub(crate) fn at_port(fabric: &Fabric, call: PortCall, args: Words) -> Result<Command, FaultKind>
     ensures { result ≡ and_then (said_by (OfName ∷ of_port ∷ []) (words_of args.entry))
         (at_port_meant (port_command call) fabric.now) }

@@ -2,10 +2,11 @@
 
 ghost use Rattle.std.specs.Prelude.{◌≡◌, ◌≤◌, IfOk};
 ghost use Rattle.net_defs.specs.Building.{vertex_named};
+ghost use Rattle.fab_text.specs.Word.{u32_of};
 ghost use Rattle.run_defs.specs.Script.{OfName, OfNumber, value_of, address_of, end_at};
 ghost use Rattle.script_lines.specs.Values.{named, number_value};
 
-use fab_text::{FaultKind, is_name, read_u32};
+use fab_text::{FaultKind, NumFault, is_name, read_u32};
 use port_graph::{End, Fabric, Vertex};
 
 /// The word, where it is a name.
@@ -24,10 +25,21 @@ pub(crate) fn number(word: &[u8], least: u32, most: u32) -> Result<u32, FaultKin
     ensures value { number_value result ≡ value_of (OfNumber least most) word.now }
     ensures within { IfOk result (λ v. v ≤ most) }
 {
-    match read_u32(word) {
+    match value(word) {
         Ok(v) if least <= v && v <= most => Ok(v),
         Ok(_) => Err(FaultKind::TooLarge),
         Err(fault) => Err(FaultKind::from(fault)),
+    }
+}
+
+// The number that a word says. Most have one digit, which no loop needs.
+#[tactic(auto, using(crate::proofs::Digits::one_digit))]
+fn value(word: &[u8]) -> Result<u32, NumFault>
+    ensures { result ≡ u32_of word.now }
+{
+    match word {
+        [digit] if b'0' <= *digit && *digit <= b'9' => Ok(u32::from(*digit - b'0')),
+        _ => read_u32(word),
     }
 }
 
