@@ -11,6 +11,7 @@ REFUSALS = [
     ("install refused noroutes", ("install",), "noroutes", "no routes were computed", "`routes`, after a complete map"),
     ("install refused busy", ("install",), "busy", "a channel holds a packet, as one that a `step` left there", "let it settle: `settle`"),
     ("install refused installed", ("install",), "installed", "other routes are installed, and a run installs one set", "send the same set again, or begin another run"),
+    ("install refused epochs", ("install",), "epochs", "the epoch of the installed routes is the last: no run gets there", "begin another run"),
     ("open H P refused already", ("open",), "already", "the port is open", "`close` it first"),
     (".. refused notopen", AT_A_PORT, "notopen", "the port isn't open", "`open` it first"),
     (".. refused notoken", ("provide", "send"), "notoken", "the client holds no token of that kind", "`poll` for those that are due back, or open the port with more"),

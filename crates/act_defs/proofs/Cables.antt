@@ -1,12 +1,12 @@
 -- In a world that is reached from the new one of a fabric, the cables are those of the fabric: none was pulled or plugged.
-use Rattle.std.proofs.Common.{◌≡◌, ℕ, zero, suc, ℤ, false, List, [], ◌∷◌, map, Option, refl, ap, ◌∙◌}
+use Rattle.std.proofs.Common.{◌≡◌, ℕ, zero, suc, ℤ, false, List, [], ◌∷◌, map, Option, refl, sym, ap, ◌∙◌}
 use Rattle.std.specs.Prelude.{slice_get, ◌/◌}
 use Rattle.std.specs.Option.{option_map_or}
 use Rattle.net_defs.specs.declared.vertex.End.{End}
 use Rattle.net_defs.specs.declared.vertex.Cable.{Cable}
 use Rattle.net_defs.specs.Network.{Network}
 use Rattle.net_defs.specs.Route.{channel_from, channels_after}
-use Rattle.cable_history.specs.History.{first_wire, first_history, fabric_now, is_in_place, is_new_wire}
+use Rattle.cable_history.specs.History.{first_wire, first_history, fabric_now, is_in_place, is_new_wire, with_accepted}
 use Rattle.cable_history.specs.Crossed.{leaving, channels_by, is_new}
 use Rattle.cable_history.proofs.First.{fabric-first, out-first, channels-first}
 use Rattle.world_defs.specs.World.{WorldState, fabric_of}
@@ -36,7 +36,7 @@ first-old n c = old n.cables (c / 2)
 
 -- so in every world that is reached
 pub reached-cables : (n : Network) (w : WorldState) → IsReached n w → w.links.cables ≡ first_history n
-reached-cables n w r = reached-has (λ v. v.links.cables ≡ first_history n) n refl (λ v a reached may is. acted-cables v a ∙ is) w r
+reached-cables n w r = reached-has (λ v. v.links.cables ≡ first_history n) n refl (λ v a reached may is. acted-cables v a (ap with_accepted is ∙ sym is) ∙ is) w r
 
 pub reached-net : (n : Network) (w : WorldState) → IsReached n w → fabric_of w ≡ n
 reached-net n w r = ap fabric_now (reached-cables n w r) ∙ first-net n

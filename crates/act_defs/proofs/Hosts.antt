@@ -14,7 +14,7 @@ use Rattle.world_defs.specs.Table.{whole_table}
 use Rattle.world_defs.specs.Node.{NodeState, Outgoing, to_send, after_sending, new_node}
 use Rattle.world_defs.specs.Hearing.{hear}
 use Rattle.world_defs.specs.Client.{Called}
-use Rattle.world_defs.specs.World.{WorldState, host_count, node_at}
+use Rattle.world_defs.specs.World.{WorldState, host_count, node_at, adoption_of}
 use Rattle.act_defs.specs.Acts.{Act, Happens, Plans, Adopts, acted}
 use Rattle.world_defs.proofs.Lists.{each-set}
 use Rattle.world_defs.proofs.Views.{HostChange, CallChange, Change, view}
@@ -26,7 +26,7 @@ pub data NodeChange (w : WorldState) : Act → ℕ → NodeState → Type 0 wher
   hears : {c : ℕ} (packet : Held) (h : ℕ) → packet_in w.links c ≡ Some packet → course w.links.cables c packet.wire ≡ Arrives h → NodeChange w (Happens (Advance c)) h (hear h (host_count w) (node_at w h) packet.wire).1
   sends : {h : ℕ} (c : ℕ) (out : Outgoing) → leaving w.links.cables (host_port h) ≡ Some c → to_send h (node_at w h) ≡ Some out → NodeChange w (Happens (Inject h)) h (after_sending (node_at w h) out)
   calls : {e : Event} {h port : ℕ} {call : Called} → CallChange w e h port call → NodeChange w (Happens e) h call.node
-  adopts : {mapper : ℕ} {routes : List Route} → NodeChange w (Adopts mapper routes) mapper (record (node_at w mapper) { table = whole_table routes mapper 1 })
+  adopts : {mapper : ℕ} {routes : List Route} → NodeChange w (Adopts mapper routes) mapper (record (node_at w mapper) { table = whole_table routes mapper (adoption_of w mapper routes).epoch })
 
 -- All hosts as an act leaves them.
 pub data NodesChange (w : WorldState) (a : Act) (v : WorldState) : Type 0 where

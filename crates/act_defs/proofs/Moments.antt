@@ -29,7 +29,7 @@ pub adoptable : AreAdoptable two_hosts setup_routes
 adoptable = record { lead = (refl, (refl, tt)); number = rank; rises = rises }
 
 pub acts_may_happen : MayActAll (new_world two_hosts) adopting
-acts_may_happen = ((omega arith, tt), ((adoptable, tt), (tt, tt)))
+acts_may_happen = ((omega arith, tt), ((adoptable, refl), (tt, tt)))
 
 -- flips of eight bits may happen, and of nine may not
 pub eight_bits_are_planned : MayActAll (new_world two_hosts) (planned_flip 255)
@@ -46,7 +46,7 @@ nine_bits_do_not_flip m = let low : 256 < 256 = m.0 in omega arith
 
 -- a message that came once, though its frame came twice
 pub delivering_may_happen : MayActAll (new_world two_hosts) delivering
-delivering_may_happen = ((omega arith, tt), ((adoptable, tt), (tt, (tt, (tt, (tt, (tt, (tt, (tt, (tt, (tt, (tt, tt))))))))))))
+delivering_may_happen = ((omega arith, tt), ((adoptable, refl), (tt, (tt, (tt, (tt, (tt, (tt, (tt, (tt, (tt, (tt, tt))))))))))))
 
 pub delivered_got : got_on delivered_world (connection 0 1 0) ≡ message (codes "ABC") ∷ []
 unfolding sends host_try loop_try ask begun closed provided_by sent_by polled_by drain clear hear part_try install to_send packet_for after_sending round_pass round settle lost was_reset repeated held flipped replayed asked part_staged planned_strikes sent_out injected advanced expired gave_up applied

@@ -1,14 +1,14 @@
--- Routes that aren't another set than the adopted one are the same list.
-use Rattle.std.proofs.Common.{◌≡◌, ℕ, Bool, true, false, not, ◌&&◌, List, [], ◌∷◌, nat_eq, Option, Some, None, refl, sym, true≢false, arith}
+-- Routes whose adoption keeps the epoch are those that are adopted, no host has given the epoch up, and no cable came or went since it began.
+use Rattle.std.proofs.Common.{◌≡◌, ℕ, Bool, true, false, not, ◌&&◌, List, [], ◌∷◌, nat_eq, refl, sym, true≢false, arith}
 use Rattle.std.specs.Prelude.{ℤ}
 use Rattle.std.proofs.lemmas.Bool.{and_parts}
 use Rattle.std.proofs.lemmas.Bool.Decides.{nat_tests}
 use Rattle.net_defs.specs.declared.route.Route.{Route}
 use Rattle.net_defs.specs.Turn.{same_turns}
 use Rattle.net_defs.proofs.Turns.{same_turns-true}
-use Rattle.world_defs.specs.Table.{Adoption, is_other}
+use Rattle.world_defs.specs.declared.standing.Standing.{Standing}
+use Rattle.world_defs.specs.Table.{Adoption, is_kept_in}
 use Rattle.net_defs.specs.RouteSet.{same_route, same_routes}
-use Rattle.act_defs.specs.Acts.{IsSameSet}
 
 route-same : (a b c d : ℕ) (v w : List ℤ) → a ≡ b → c ≡ d → v ≡ w → (let r : Route = record { from = a; to = c; walk = v } in r) ≡ record { from = b; to = d; walk = w }
 route-same a b c d v w e f g = cc
@@ -31,10 +31,21 @@ one-list (r ∷ rs) (s ∷ ss) e =
     let first = one-route r s parts.0 in
     let rest = one-list rs ss parts.1 in cc
 
-pub not-other : (rs : List Route) (o : Option Adoption) → is_other rs o ≡ false → IsSameSet rs o
-not-other rs None e = tt
-not-other rs (Some a) e = by (same_routes rs a.routes) refl e
+-- What holds of a set whose epoch is kept.
+pub record IsKeptSet (s : Standing) (rs : List Route) (a : Adoption) : Type 0 where
+  pub same : rs ≡ a.routes
+  pub unrevoked : s.revoked ≡ false
+  pub still : s.changes ≡ a.at
+
+pub kept-set : (s : Standing) (rs : List Route) (a : Adoption) → is_kept_in s rs a ≡ true → IsKeptSet s rs a
+kept-set s rs a e =
+    let outer = and_parts (same_routes rs a.routes && not s.revoked) (nat_eq s.changes a.at) e in
+    let inner = and_parts (same_routes rs a.routes) (not s.revoked) outer.0 in
+    record { same = one-list rs a.routes inner.0; unrevoked = negated s.revoked inner.1; still = number s.changes a.at outer.1 }
   where
-    by : (b : Bool) → same_routes rs a.routes ≡ b → not b ≡ false → a.routes ≡ rs
-    by true p q = sym (one-list rs a.routes p)
-    by false p q = absurd (true≢false q)
+    number : (a b : ℕ) → nat_eq a b ≡ true → a ≡ b
+    number a b e = grind (arith, nat_tests)
+
+    negated : (b : Bool) → not b ≡ true → b ≡ false
+    negated true e = absurd (true≢false (sym e))
+    negated false e = refl

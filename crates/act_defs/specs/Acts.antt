@@ -1,5 +1,5 @@
 -- What may happen to a world, and the worlds that are reached so.
-use Rattle.std.specs.Prelude.{◌≡◌, ℕ, ◌<◌, ◌≤◌, List, [], ◌∷◌, Option, Some, None}
+use Rattle.std.specs.Prelude.{◌≡◌, ℕ, ◌<◌, ◌≤◌, true, List, [], ◌∷◌}
 use Rattle.std.specs.List.{AllByRecursion}
 use Rattle.net_defs.specs.declared.place.Place.TheVariants.{Host as AtHost}
 use Rattle.net_defs.specs.declared.route.Route.{Route}
@@ -9,8 +9,7 @@ use Rattle.net_defs.specs.RouteSet.{channels_of_all}
 use Rattle.net_defs.specs.Dependencies.{IsBefore}
 use Rattle.world_defs.specs.declared.event.Event.{Event}
 use Rattle.world_defs.specs.declared.fault.Fault.{Fault}
-use Rattle.world_defs.specs.Table.{Adoption}
-use Rattle.world_defs.specs.World.{WorldState, fabric_of, new_world, planned, adopted_by}
+use Rattle.world_defs.specs.World.{WorldState, fabric_of, new_world, planned, may_adopt, adopted_by}
 use Rattle.world_defs.specs.Step.{step}
 use Rattle.world_defs.specs.EightBits.{IsByteFault, IsByteEvent}
 use Rattle.world_defs.specs.Sound.{IsSound}
@@ -32,11 +31,6 @@ abbrev pub acted_all : WorldState → List Act → WorldState
 acted_all w [] = w
 acted_all w (a ∷ acts) = acted_all (acted w a) acts
 
--- only one set is ever adopted
-abbrev pub IsSameSet : List Route → Option Adoption → Type 0
-IsSameSet routes None = Unit {0}
-IsSameSet routes (Some a) = a.routes ≡ routes
-
 -- routes may be adopted where each leads to its host, and some numbering of channels rises along every route
 pub record AreAdoptable (n : Network) (routes : List Route) : Type 0 where
   pub lead : AllByRecursion (λ r. place n r.from r.walk ≡ AtHost r.to) routes
@@ -50,11 +44,12 @@ IsByteAct (Plans ahead fault) = IsByteFault fault
 IsByteAct (Adopts mapper routes) = Unit {0}
 
 -- An event may always happen, and a plan names an injection to come, with flips of eight bits; routes may be adopted
--- where they are adoptable and no other set is.
+-- where they are adoptable in the fabric as it stands, and nothing is adopted, the epoch is kept, or each host has
+-- given it up and there is a next one.
 abbrev pub MayAct : WorldState → Act → Type 0
 MayAct w (Happens e) = IsByteEvent e
 MayAct w (Plans ahead fault) = (1 ≤ ahead) × IsByteFault fault
-MayAct w (Adopts mapper routes) = AreAdoptable (fabric_of w) routes × IsSameSet routes w.adopted
+MayAct w (Adopts mapper routes) = AreAdoptable (fabric_of w) routes × (may_adopt w routes ≡ true)
 
 -- each act may happen in the world that those before it leave
 abbrev pub MayActAll : WorldState → List Act → Type 0

@@ -81,9 +81,9 @@ few-entries h hosts rs up ends =
     let few = few-from h 0 hosts rs (omega arith) up (all-weaker (λ r. (r.from < hosts) × (r.to < hosts)) (above h 0) rs (λ s e t. omega arith) ends) ends in
     omega (arith, count, few)
 
-pub set-of-hosts : (n : Network) (hosts mapper epoch : ℕ) (routes : List Route) → IsFabric n → hosts ≡ length n.hosts → mapper < hosts → AreRising routes → AreShort routes → IsAdoptable n mapper routes
-    → IsSetOfHosts hosts (record { mapper = mapper; epoch = epoch; routes = routes })
-set-of-hosts n hosts mapper epoch routes f count low up short may =
+pub set-of-hosts : (n : Network) (hosts mapper epoch at : ℕ) (routes : List Route) → IsFabric n → hosts ≡ length n.hosts → mapper < hosts → AreRising routes → AreShort routes → IsAdoptable n mapper routes
+    → IsSetOfHosts hosts (record { mapper = mapper; epoch = epoch; at = at; routes = routes })
+set-of-hosts n hosts mapper epoch at routes f count low up short may =
     let ends = ends-there n hosts routes f count may.lead in
     let small : length n.hosts ≤ 128 = f.few_hosts in
     record { mapper = low; ends = ends; in_order = up; short = short; whole = may.whole; apart = may.apart; few = λ h. let few = few-entries h hosts routes up ends in omega (arith, few, small, count) }

@@ -1,6 +1,6 @@
 -- When a mapper may adopt routes, what a world keeps of them, and when other routes are adopted.
 use Rattle.std.specs.Prelude.{◌≡◌, ◌≢◌, ℕ, ◌≤◌, ◌<◌, ℤ, Bool, true, ◌||◌, List, length, nat_eq, if◌then◌else◌, Option}
-use Rattle.std.specs.Prelude.{Some, None, IfSome}
+use Rattle.std.specs.Prelude.{Some, None, is_none, IfSome}
 use Rattle.std.specs.List.{AllByRecursion, list_any}
 use Rattle.net_defs.specs.declared.place.Place.TheVariants.{Host as AtHost}
 use Rattle.net_defs.specs.declared.route.Route.{Route}
@@ -10,9 +10,10 @@ use Rattle.net_defs.specs.RouteSet.{HasRoute, AreRising, channels_of_all}
 use Rattle.net_defs.specs.Dependencies.{IsBefore}
 use Rattle.mapping_defs.specs.Mapping.{RoutePart}
 use Rattle.port_graph.specs.Routes.{AreShort}
-use Rattle.world_defs.specs.Table.{Adoption, is_other, part_count, entries_from, part_for, route_of}
+use Rattle.world_defs.specs.declared.standing.Standing.{Standing}
+use Rattle.world_defs.specs.Table.{Adoption, last_epoch, is_kept_in, may_adopt_in, part_count, entries_from, part_for, route_of}
 use Rattle.adopted_routes.specs.declared.routes.AdoptRefusal.{AdoptRefusal}
-use Rattle.adopted_routes.specs.declared.routes.AdoptRefusal.TheVariants.{Another}
+use Rattle.adopted_routes.specs.declared.routes.AdoptRefusal.TheVariants.{Unrevoked, Epochs}
 use Rattle.adopted_routes.specs.declared.routes.PartToSend.{PartToSend}
 
 -- a host is the mapper, or a route of the set goes from it or to it
@@ -46,13 +47,25 @@ pub record IsSetOfHosts (hosts : ℕ) (a : Adoption) : Type 0 where
 -- routes that a host may adopt in a fabric are a set of its hosts
 abbrev pub AdoptableIsOfHosts : Type 0
 AdoptableIsOfHosts =
-    (n : Network) (hosts mapper epoch : ℕ) (routes : List Route) → IsFabric n → hosts ≡ length n.hosts
+    (n : Network) (hosts mapper epoch at : ℕ) (routes : List Route) → IsFabric n → hosts ≡ length n.hosts
     → mapper < hosts → AreRising routes → AreShort routes → IsAdoptable n mapper routes
-    → IsSetOfHosts hosts (record { mapper = mapper; epoch = epoch; routes = routes })
+    → IsSetOfHosts hosts (record { mapper = mapper; epoch = epoch; at = at; routes = routes })
 
--- why routes aren't adopted: another set is
-abbrev pub adopt_refusal : List Route → Option Adoption → Option AdoptRefusal
-adopt_refusal routes o = if is_other routes o then Some Another else None
+-- why an epoch isn't followed by another: some host hasn't given it up, of which this is the first, or it is the last
+abbrev pub refusal_of : Option ℕ → ℕ → Option AdoptRefusal
+refusal_of (Some h) epoch = Some (Unrevoked h)
+refusal_of None epoch = if nat_eq epoch last_epoch then Some Epochs else None
+
+-- why routes aren't adopted
+abbrev pub adopt_refusal : Standing → List Route → Option Adoption → Option AdoptRefusal
+adopt_refusal s routes None = None
+adopt_refusal s routes (Some a) = if is_kept_in s routes a then None else refusal_of s.unrevoked a.epoch
+
+-- routes are refused exactly where they may not be adopted
+abbrev pub RefusedExactly : Type 0
+RefusedExactly =
+    (s : Standing) (routes : List Route) (o : Option Adoption)
+    → is_none (adopt_refusal s routes o) ≡ may_adopt_in s routes o
 
 -- how many parts the adopted set has for a host's table; its adopter has none
 abbrev pub part_count_for : Option Adoption → ℕ → ℕ

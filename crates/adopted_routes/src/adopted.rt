@@ -3,7 +3,7 @@
 ghost use Rattle.std.specs.Prelude.{◌≡◌, ◌≤◌, length, true, Some, IfOk, IfSome};
 ghost use Rattle.mapping_defs.specs.Mapping.{is_part};
 ghost use Rattle.net_defs.specs.RouteSet.{same_routes};
-ghost use Rattle.world_defs.specs.Table.{entries_from, part_for, route_of};
+ghost use Rattle.world_defs.specs.Table.{entries_from, part_for, route_of, is_kept_in};
 ghost use Rattle.adopted_routes.specs.Adopting.{part_count_for};
 
 use crate::same::are_same;
@@ -12,12 +12,14 @@ use port_graph::RouteSet;
 use route_install::{RoutePart, part_for, parts_of};
 use std::alloc::{AllocError, Global};
 use std::marker::Model;
+use world_defs::Standing;
 
-/// A set of routes with its adopter and its epoch.
+/// A set of routes with its adopter, its epoch, and how many cables had come and gone when that began.
 #[derive(Drop)]
 pub(crate) struct Adopted {
     mapper: u16,
     epoch: u32,
+    at: u16,
     set: RouteSet,
 }
 
@@ -26,14 +28,19 @@ impl Model for Adopted {
 
     ghost Value = { Adoption };
 
-    ghost view = { λ a. record { mapper = a.mapper; epoch = a.epoch; routes = a.set } };
+    ghost view = { λ a. record { mapper = a.mapper; epoch = a.epoch; at = a.at; routes = a.set } };
 }
 
 impl Adopted {
-    pub(crate) fn new(mapper: u16, epoch: u32, set: RouteSet) -> Adopted
-        ensures { result ≡ record { mapper = mapper; epoch = epoch; routes = set } }
+    pub(crate) fn new(mapper: u16, epoch: u32, at: u16, set: RouteSet) -> Adopted
+        ensures { result ≡ record { mapper = mapper; epoch = epoch; at = at; routes = set } }
     {
-        Adopted { mapper, epoch, set }
+        Adopted {
+            mapper,
+            epoch,
+            at,
+            set,
+        }
     }
 
     /// Its adopter.
@@ -43,8 +50,37 @@ impl Adopted {
         self.mapper
     }
 
-    /// Whether its routes are these.
-    pub(crate) fn is_of(&self, set: &RouteSet) -> bool
+    /// Its epoch.
+    pub(crate) fn epoch(&self) -> u32
+        ensures { result ≡ self.now.epoch }
+    {
+        self.epoch
+    }
+
+    /// How many cables had come and gone when its epoch began.
+    pub(crate) fn at(&self) -> u16
+        ensures { result ≡ self.now.at }
+    {
+        self.at
+    }
+
+    /// Its routes.
+    pub(crate) fn set(&self) -> &RouteSet
+        ensures { result.now ≡ self.now.routes }
+    {
+        &self.set
+    }
+
+    /// Whether it stands as it is where these routes are adopted: they are its own, no host gave its epoch up, and no
+    /// cable came or went since it began.
+    pub(crate) fn is_kept(&self, set: &RouteSet, standing: Standing) -> bool
+        ensures { result ≡ is_kept_in standing set.now self.now }
+    {
+        self.is_of(set) && !standing.revoked && standing.changes == self.at
+    }
+
+    // Whether its routes are these.
+    fn is_of(&self, set: &RouteSet) -> bool
         ensures { result ≡ same_routes set.now self.now.routes }
     {
         are_same(set.list(), self.set.list())

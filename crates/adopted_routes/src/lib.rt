@@ -4,7 +4,8 @@
 //! they travel by. `specs/Adopting.antt` says which routes may be adopted, and when they are refused.
 //!
 //! ```text
-//!   routes --> adopt --> the adopter's table          the same routes may be adopted again, others are handed back
+//!   routes --> adopt --> the adopter's table          the same routes keep their epoch; others begin the next, once
+//!                                                     each host gave up the one that stands, and else are handed back
 //!              part  --> a part of another host's table, and the adopter's route to that host
 //! ```
 //!
@@ -21,7 +22,8 @@ mod laws;
 mod routes;
 mod same;
 
-pub use laws::adoptable_routes_are_of_hosts;
+pub use laws::{adoptable_routes_are_of_hosts, refused_routes};
 pub use port_graph::RouteSet;
 pub use route_install::{RoutePart, Table};
 pub use routes::{AdoptRefusal, AdoptedRoutes, PartToSend};
+pub use world_defs::Standing;

@@ -1,10 +1,11 @@
 //! The routes that are adopted, if any are.
 
-ghost use Rattle.std.specs.Prelude.{◌≡◌, true, Some, None, option_map, IfOk, IfSome, OnOk, OnErr};
+ghost use Rattle.std.specs.Prelude.{◌≡◌, ◌+◌, true, Some, None, option_map, option_copied, IfOk, IfErr, IfSome, OnOk, OnErr};
+ghost use Rattle.std.specs.Prelude.{if◌then◌else◌};
 ghost use Rattle.mapping_defs.specs.Mapping.{is_part};
 ghost use Rattle.port_graph.specs.Routes.{HandsBack};
-ghost use Rattle.world_defs.specs.Table.{is_other, whole_table};
-ghost use Rattle.adopted_routes.specs.Adopting.{HasFewFor, adopt_refusal, part_count_for, part_to_send};
+ghost use Rattle.world_defs.specs.Table.{whole_table, epoch_in, keeps_in, adopted_in, may_adopt_in};
+ghost use Rattle.adopted_routes.specs.Adopting.{HasFewFor, refusal_of, adopt_refusal, part_count_for, part_to_send};
 
 use crate::adopted::Adopted;
 use net_defs::Walk;
@@ -13,16 +14,17 @@ use route_install::{RoutePart, Table};
 use std::alloc::{AllocError, Global};
 use std::marker::Model;
 use thiserror::Error;
+use world_defs::Standing;
 
-// The epoch of a set of routes.
-const FIRST_EPOCH: u32 = 1;
-
-/// Why routes aren't adopted.
+/// Why routes aren't adopted. The first that holds is named.
 #[derive(Clone, Copy, Debug, PartialEq, Eq, Error)]
 pub enum AdoptRefusal {
-    /// Other routes are adopted.
-    #[error("other routes are adopted")]
-    Another,
+    /// This host, and none before it, hasn't given up the epoch of the routes that are adopted.
+    #[error("host {0} hasn't given up the epoch")]
+    Unrevoked(u16),
+    /// The epoch is the last.
+    #[error("there is no next epoch")]
+    Epochs,
     /// Memory ran out.
     #[error("out of memory")]
     NoMemory,
@@ -39,7 +41,7 @@ pub struct PartToSend {
     pub by: Walk,
 }
 
-/// What is adopted: nothing, or one set of routes with its adopter and its epoch.
+/// What is adopted: nothing, or one set of routes with its adopter, its epoch, and the changes of cables before that.
 #[derive(Drop)]
 pub struct AdoptedRoutes {
     adopted: Option<Adopted>,
@@ -62,39 +64,84 @@ impl AdoptedRoutes {
         AdoptedRoutes { adopted: None }
     }
 
-    /// Adopts routes, and answers their adopter's table, which is theirs at once.
+    /// Adopts routes, and answers their adopter's table, which is theirs at once. Where the same stand already, no host
+    /// gave their epoch up, and no cable came or went since that began, the epoch is kept; else the next begins.
     ///
-    /// Refused routes are handed back, and nothing has changed: `Another` exactly where other routes are adopted.
+    /// Refused routes are handed back, and nothing has changed: `Unrevoked` and `Epochs` exactly where an epoch isn't
+    /// kept and, in this order, some host hasn't given it up, or it is the last.
     pub fn adopt(
         &mut self,
         alloc: Global,
         mapper: u16,
         set: RouteSet,
+        standing: Standing,
     ) -> Result<Table, (RouteSet, AdoptRefusal)>
-        ensures table { IfOk result (λ t. t ≡ record { host = mapper; state = whole_table set mapper 1 }) }
-        ensures adopted { OnOk result (self.new ≡ Some (record { mapper = mapper; epoch = 1; routes = set })) }
-        ensures refused { HandsBack (adopt_refusal set self.old) AdoptRefusal.NoMemory set result }
+        ensures table { IfOk result (λ t. t
+            ≡ record { host = mapper; state = whole_table set mapper (adopted_in standing mapper set self.old).epoch }) }
+        ensures adopted { OnOk result (self.new ≡ Some (adopted_in standing mapper set self.old)) }
+        ensures refused { HandsBack (adopt_refusal standing set self.old) AdoptRefusal.NoMemory set result }
         ensures unchanged { OnErr result (self.new ≡ self.old) }
     {
-        if self.has_other(&set) {
-            return Err((set, AdoptRefusal::Another));
-        }
-        match Table::whole(alloc, mapper, &set, FIRST_EPOCH) {
-            Ok(table) => {
-                self.adopted = Some(Adopted::new(mapper, FIRST_EPOCH, set));
-                Ok(table)
-            }
-            Err(_) => Err((set, AdoptRefusal::NoMemory)),
+        match self.refusal(&set, standing) {
+            Some(refusal) => Err((set, refusal)),
+            None => self.take(alloc, mapper, set, standing),
         }
     }
 
-    /// Whether other routes are adopted: these are refused then. Takes no memory.
-    pub fn has_other(&self, set: &RouteSet) -> bool
-        ensures { result ≡ is_other set.now self.now }
+    /// Why [`AdoptedRoutes::adopt`] refuses routes, unless memory runs out. It takes no memory.
+    pub fn refusal(&self, set: &RouteSet, standing: Standing) -> Option<AdoptRefusal>
+        ensures { result ≡ adopt_refusal standing set.now self.now }
     {
         match &self.adopted {
-            Some(adopted) => !adopted.is_of(set),
+            Some(adopted) => {
+                if adopted.is_kept(set, standing) {
+                    None
+                } else {
+                    refusal_of(adopted.epoch(), standing.unrevoked)
+                }
+            }
+            None => None,
+        }
+    }
+
+    /// Whether an adoption of routes keeps the epoch; else it begins one.
+    pub fn keeps(&self, set: &RouteSet, standing: Standing) -> bool
+        ensures { result ≡ keeps_in standing set.now self.now }
+    {
+        match &self.adopted {
+            Some(adopted) => adopted.is_kept(set, standing),
             None => false,
+        }
+    }
+
+    /// The epoch of the adopted routes, 0 before the first.
+    pub fn epoch(&self) -> u32
+        ensures { result ≡ epoch_in self.now }
+    {
+        match &self.adopted {
+            Some(adopted) => adopted.epoch(),
+            None => 0,
+        }
+    }
+
+    /// The adopted routes. None exactly where none are adopted.
+    pub fn routes(&self) -> Option<&RouteSet>
+        ensures { option_copied result ≡ option_map (λ a. a.routes) self.now }
+    {
+        match &self.adopted {
+            Some(adopted) => Some(adopted.set()),
+            None => None,
+        }
+    }
+
+    /// How many cables had come and gone when the epoch of the adopted routes began. None exactly where none are
+    /// adopted.
+    pub fn adopted_at(&self) -> Option<u16>
+        ensures { result ≡ option_map (λ a. a.at) self.now }
+    {
+        match &self.adopted {
+            Some(adopted) => Some(adopted.at()),
+            None => None,
         }
     }
 
@@ -130,6 +177,59 @@ impl AdoptedRoutes {
         match &self.adopted {
             Some(adopted) => part_by(alloc, adopted, dst, part),
             None => Ok(None),
+        }
+    }
+
+    // Adopts routes that aren't refused, unless memory runs out.
+    fn take(
+        &mut self,
+        alloc: Global,
+        mapper: u16,
+        set: RouteSet,
+        standing: Standing,
+    ) -> Result<Table, (RouteSet, AdoptRefusal)>
+        requires { adopt_refusal standing set self.old ≡ None }
+        ensures table { IfOk result (λ t. t
+            ≡ record { host = mapper; state = whole_table set mapper (adopted_in standing mapper set self.old).epoch }) }
+        ensures adopted { OnOk result (self.new ≡ Some (adopted_in standing mapper set self.old)) }
+        ensures back { IfErr result (λ e. (e.0 ≡ set) × (e.1 ≡ AdoptRefusal.NoMemory)) }
+        ensures unchanged { OnErr result (self.new ≡ self.old) }
+    {
+        let epoch = self.epoch_then(&set, standing);
+        match Table::whole(alloc, mapper, &set, epoch) {
+            Ok(table) => {
+                self.adopted = Some(Adopted::new(mapper, epoch, standing.changes, set));
+                Ok(table)
+            }
+            Err(_) => Err((set, AdoptRefusal::NoMemory)),
+        }
+    }
+
+    // The epoch of routes once they are adopted.
+    fn epoch_then(&self, set: &RouteSet, standing: Standing) -> u32
+        requires { adopt_refusal standing set.now self.now ≡ None }
+        ensures { result ≡ (if keeps_in standing set.now self.now then epoch_in self.now else epoch_in self.now + 1) }
+    {
+        if self.keeps(set, standing) {
+            self.epoch()
+        } else {
+            self.epoch() + 1
+        }
+    }
+}
+
+// Why an epoch isn't followed by another: some host hasn't given it up, or it is the last.
+fn refusal_of(epoch: u32, unrevoked: Option<u16>) -> Option<AdoptRefusal>
+    ensures { result ≡ refusal_of unrevoked epoch }
+{
+    match unrevoked {
+        Some(host) => Some(AdoptRefusal::Unrevoked(host)),
+        None => {
+            if epoch == u32::MAX {
+                Some(AdoptRefusal::Epochs)
+            } else {
+                None
+            }
         }
     }
 }

@@ -4,7 +4,7 @@ ghost use Rattle.std.specs.Prelude.{◌≡◌, ◌<◌, ◌≤◌, ℕ, nat_lt, 
 ghost use Rattle.std.specs.Prelude.{None, option_map, false, IfOk, OnOk, OnErr};
 ghost use Rattle.gm_defs.specs.Body.{is_prio};
 ghost use Rattle.mapping_defs.specs.Mapping.{is_part};
-ghost use Rattle.world_defs.specs.Table.{active_epoch};
+ghost use Rattle.world_defs.specs.Table.{active_epoch, revoked_table, has_revoked};
 ghost use Rattle.world_defs.specs.Node.{StagedProbe, StagedPart, port_count, to_send, packet_for, has_staged, given_up};
 ghost use Rattle.world_defs.specs.Node.{node_expired, unacknowledged_on, unacknowledged_to, lane_count, lane_of};
 ghost use Rattle.world_defs.specs.Node.{lane_at, probe_packet};
@@ -132,11 +132,26 @@ impl ClientHost {
         self.node.take_table(table);
     }
 
+    /// Gives up an epoch: nothing of it is active or collected then, and its parts are old. Where the table has seen a
+    /// later one nothing changes. What is staged stays.
+    pub fn revoke(&mut self, epoch: u32)
+        ensures { self.new ≡ in_state self.old (record self.old.state { table = revoked_table self.old.state.table epoch }) }
+    {
+        self.node.revoke(epoch);
+    }
+
+    /// Whether the host gave up an epoch, and has seen no later one.
+    pub fn has_revoked(&self, epoch: u32) -> bool
+        ensures { result ≡ has_revoked epoch self.now.state.table }
+    {
+        self.node.has_revoked(epoch)
+    }
+
     /// Whether a probe, a part, the reply to a probe or the acknowledgement of a part is staged.
     pub fn has_staged(&self) -> bool
         ensures { result ≡ has_staged self.now.state }
     {
-        self.node.has_staged()
+        self.node.has_mapping()
     }
 
     /// Drops the staged probe or part, the reply to a probe and the acknowledgement of a part. False exactly where

@@ -6,7 +6,7 @@ use Rattle.cable_history.specs.Crossed.{leaving}
 use Rattle.cable_history.proofs.ForLife.{leaving_has_its_end}
 use Rattle.link_defs.specs.Links.{LinkState, packet_in, put}
 use Rattle.link_defs.specs.Shape.{IsLinks}
-use Rattle.link_defs.specs.Step.{Step, Put as PutLinks, Advance as AdvanceLinks, Lose as LoseLinks, Reset as ResetLinks, Repeat as RepeatLinks, Hold as HoldLinks, Flip as FlipLinks, Replay as ReplayLinks, stepped}
+use Rattle.link_defs.specs.Step.{Step, Put as PutLinks, Advance as AdvanceLinks, Lose as LoseLinks, Reset as ResetLinks, Repeat as RepeatLinks, Hold as HoldLinks, Flip as FlipLinks, Replay as ReplayLinks, Accept as AcceptLinks, stepped}
 use Rattle.link_defs.proofs.Shapes.{stepped-links}
 use Rattle.packet_defs.specs.Packet.{stripped}
 use Rattle.world_defs.specs.declared.event.Event.{Event}
@@ -19,13 +19,15 @@ use Rattle.world_defs.specs.declared.fault.Fault.{Fault}
 use Rattle.world_defs.specs.declared.fault.Fault.TheVariants.{Lose as LoseFault, Repeat as RepeatFault, Hold as HoldFault, Flip as FlipFault}
 use Rattle.world_defs.specs.Node.{NodeState, Outgoing, to_send, packet_for}
 use Rattle.world_defs.specs.Hearing.{hear}
-use Rattle.world_defs.specs.World.{WorldState, host_count, node_at, counted, last_count, with_node, with_links, with_drop, without_fault}
+use Rattle.world_defs.specs.World.{WorldState, host_count, node_at, counted, last_count, with_node, with_links, with_drop, without_fault, keeps_epoch}
 use Rattle.world_defs.specs.Step.{fault_on, is_harm, planned_strikes, sent_out, cause_at_switch, cause_at_host, of_call}
 use Rattle.world_defs.proofs.Views.{LinksChange, HostChange, ArrivalChange, Change, view}
 use Rattle.world_defs.proofs.Strikes.{fault_step, Strike, strike_view}
 use Rattle.act_defs.specs.Acts.{Act, Happens, Plans, Adopts, acted}
 use Rattle.counter_laws.specs.Counts.{effect_of, possible_on, strike_at, strike_by, strike_of, injections, copies, arrivals, drops, losses, resets}
 use Rattle.counter_laws.proofs.Present.{present, emptied-present, put-present, lose-present, repeat-present, hold-present, flip-present, replay-present, moved-present}
+use Rattle.world_defs.specs.declared.effect.Said.TheVariants.{Done}
+use Rattle.link_defs.specs.Fault.{accept}
 
 -- the packets that came into being, and those that ended
 abbrev pub came : List Effect → List Fault → ℕ
@@ -116,6 +118,7 @@ host-tells {w = w} {h = h} {m = m} HostChange.asks = host-still w h m Staged ref
 host-tells {w = w} {h = h} {m = m} (HostChange.stages a p by d e f) = host-still w h m Staged refl refl refl refl
 host-tells {w = w} {h = h} {m = m} (HostChange.expires d) = host-still w h m Expired refl refl refl refl
 host-tells {w = w} {h = h} {m = m} (HostChange.gives_up d) = host-still w h m GaveUp refl refl refl refl
+host-tells {w = w} {h = h} {m = m} (HostChange.revokes a d) = host-still w h m (Says Done) refl refl refl refl
 
 -- what a planned fault does to its packet
 fault-balance : (s : LinkState) (c : ℕ) (f : Fault) (number : ℕ) → (fault_on s c f).0 ≡ true
@@ -226,7 +229,19 @@ change-tells {w = w} (Change.calls {h = h} {port = port} {call = call} k) =
     let v : WorldState = (of_call w h port call).1 in
     still-tells w v (Says call.said ∷ []) refl refl refl refl refl refl (rests w v refl refl refl)
 
+-- an adoption may accept the cables
+accepted-links : (s : LinkState) (keeps : Bool) → IsLinks s → IsLinks (if keeps then s else accept s)
+accepted-links s true is = is
+accepted-links s false is = stepped-links s AcceptLinks is
+
+accepted-present : (s : LinkState) (keeps : Bool) → present (if keeps then s else accept s) ≡ present s
+accepted-present s true = refl
+accepted-present s false = refl
+
 pub acted-tells : (w : WorldState) (a : Act) → Tells w (acted w a) (effect_of w a) (strike_of w a)
 acted-tells w (Happens e) = change-tells (view w e)
 acted-tells w (Plans ahead fault) = still-tells w (acted w (Plans ahead fault)) [] refl refl refl refl refl refl (rests w (acted w (Plans ahead fault)) refl refl refl)
-acted-tells w (Adopts mapper routes) = still-tells w (acted w (Adopts mapper routes)) [] refl refl refl refl refl refl (rests w (acted w (Adopts mapper routes)) refl refl refl)
+acted-tells w (Adopts mapper routes) =
+    let v : WorldState = acted w (Adopts mapper routes) in
+    let same : present v.links ≡ present w.links = accepted-present w.links (keeps_epoch w routes) in
+    quiet-tells w v [] 0 0 refl refl refl (accepted-links w.links (keeps_epoch w routes)) (λ is. ap (λ k. k + 0) (sym same)) (none-dropped w v [] refl refl) (rests w v refl refl refl)

@@ -1,5 +1,5 @@
 -- Where there are as many tokens as are wanted no message waits for one, so a settle leaves nothing unacknowledged.
-use Rattle.std.proofs.Common.{◌≡◌, ◌≢◌, ◌<◌, ◌≤◌, ◌+◌, ℕ, Bool, true, false, ◌&&◌, List, [], ◌∷◌, length, nat_eq, nat_le, nat_lt, Option, Some, None, option_map, is_some, is_none, refl, sym, ap, ◌∙◌, subst, arith, true≢false}
+use Rattle.std.proofs.Common.{◌≡◌, ◌≢◌, ◌<◌, ◌≤◌, ◌+◌, ℕ, Bool, true, false, ◌&&◌, List, [], ◌∷◌, length, nat_eq, nat_le, nat_lt, Option, Some, None, is_some, is_none, refl, sym, ap, ◌∙◌, subst, arith, true≢false}
 use Rattle.std.specs.Prelude.{slice_get, IfSome}
 use Rattle.std.specs.List.{AllByRecursion, filter}
 use Rattle.std.proofs.lemmas.Bool.Decides.{nat_tests}
@@ -13,14 +13,13 @@ use Rattle.gm_defs.specs.Connection.{connection}
 use Rattle.gm_defs.specs.Token.{Provided, PortState, room, sizes, is_size, size_for_length, fits, is_from, is_filling_for, is_free_for}
 use Rattle.gm_defs.proofs.Choices.{both}
 use Rattle.gm_defs.proofs.Takers.{finds}
-use Rattle.world_defs.specs.Table.{ActiveTable, TableState, active_epoch}
 use Rattle.world_defs.specs.Lane.{new_lane}
 use Rattle.world_defs.specs.Node.{prio_place, lane_of, sending_lane, lane_at, port_at, unacknowledged_to}
 use Rattle.world_defs.specs.Hearing.{port_fits, port_has_begun}
 use Rattle.world_defs.specs.World.{WorldState, fabric_of, host_count, node_at}
 use Rattle.world_defs.specs.Traffic.{sender_on, sent_on, got_on, coming_on}
 use Rattle.world_defs.specs.Settle.{unacknowledged_from, unacknowledged_in}
-use Rattle.world_defs.specs.Settled.{IsWaiting, IsSettledConnection, IsSettled, all_acknowledged, no_table, waiting}
+use Rattle.world_defs.specs.Settled.{IsWaiting, IsSettledConnection, IsSettled, all_acknowledged, no_route, no_route_back, waiting}
 use Rattle.world_laws.specs.Reached.{IsOfSettle}
 use Rattle.world_laws.proofs.Along.{settle-along}
 use Rattle.world_laws.proofs.Reached.{settles-of}
@@ -261,13 +260,6 @@ module _ (n : Network) (z : WorldState) (is : IsReached n z) (has : HasTokens z)
           let fills : is_filling_for f.0.src prio r ≡ true = (λ i. from i && two.1 i) in
           record { group = f.0.src; low = source-low c.dst port size prio dst small r place f.0.src at fills; passes = (λ i. of i && fills i) })
 
-active-is : (t : TableState) → is_some (active_epoch t) ≡ is_some t.active
-active-is t = by t.active
-  where
-    by : (o : Option _) → is_some (option_map (λ (a : ActiveTable). a.epoch) o) ≡ is_some o
-    by None = refl
-    by (Some a) = refl
-
 -- where no connection of two hosts has something unacknowledged, nothing is
 all-done : (z : WorldState) → ((c : ConnectionKey) → c.src < host_count z → c.dst < host_count z → (sender_on z c).base ≡ (sender_on z c).next) → unacknowledged_in z ≡ 0
 all-done z done = total-zero (unacknowledged_from z) 0 (host_count z) (λ h low. total-zero (unacknowledged_to (node_at z (0 + h))) 0 (host_count z) (λ peer below. at h peer low below))
@@ -305,10 +297,8 @@ settle-delivers w can left enough = (none, none-got n z k.reached none)
     done : (c : ConnectionKey) → c.src < host_count z → c.dst < host_count z → (sender_on z c).base ≡ (sender_on z c).next
     done c src dst = by (settled.connections c src dst) (nat_eq (sender_on z c).base (sender_on z c).next) refl
       where
-        by : IsSettledConnection z c → (b : Bool) → nat_eq (sender_on z c).base (sender_on z c).next ≡ b → (sender_on z c).base ≡ (sender_on z c).next
-        by kind true e = grind (arith, nat_tests)
-        by (all_acknowledged d) false e = d
-        by (no_table d) false e =
+        was : nat_eq (sender_on z c).base (sender_on z c).next ≡ false → (sender_on w c).base < (sender_on w c).next
+        was e =
             let kept = (going.nodes.each c.src).senders (sending_lane c) in
             let base = kept.base in
             let next = kept.next in
@@ -317,9 +307,13 @@ settle-delivers w can left enough = (none, none-got n z k.reached none)
             let y = order.cursor_below in
             let t = order.top_below in
             let other : (sender_on z c).base ≢ (sender_on z c).next = (λ same. grind (arith, nat_tests)) in
-            let was : (sender_on w c).base < (sender_on w c).next = omega (arith, base, next, x, y, t, other) in
-            let active : is_some (node_at z c.dst).table.active ≡ true = k.tables.each c.dst (sym (active-is (node_at w c.dst).table) ∙ enough.tables c was) in
-            absurd (true≢false (sym active ∙ sym (active-is (node_at z c.dst).table) ∙ ap is_some d))
+            omega (arith, base, next, x, y, t, other)
+
+        by : IsSettledConnection z c → (b : Bool) → nat_eq (sender_on z c).base (sender_on z c).next ≡ b → (sender_on z c).base ≡ (sender_on z c).next
+        by kind true e = grind (arith, nat_tests)
+        by (all_acknowledged d) false e = d
+        by (no_route d) false e = absurd (true≢false (sym (k.routes c.src c.dst (enough.tables c (was e)).0) ∙ ap is_some d))
+        by (no_route_back d) false e = absurd (true≢false (sym (k.routes c.dst c.src (enough.tables c (was e)).1) ∙ ap is_some d))
         by (waiting wait) false e = absurd (none-waits n z k.reached tokens c src dst wait)
 
     none : unacknowledged_in z ≡ 0

@@ -4,7 +4,7 @@ use Rattle.std.proofs.lemmas.Bool.Decides.{nat_tests}
 use Rattle.gm_defs.specs.declared.frame.ConnectionKey.{ConnectionKey}
 use Rattle.gm_defs.specs.Connection.{connection}
 use Rattle.gm_defs.specs.Token.{fits}
-use Rattle.world_defs.specs.Table.{active_epoch}
+use Rattle.world_defs.specs.Table.{table_route}
 use Rattle.world_defs.specs.Lane.{LaneState, new_lane}
 use Rattle.world_defs.specs.Node.{to_send, packet_for, after_sending, lane_of, lane_at}
 use Rattle.world_defs.specs.Hearing.{hear}
@@ -40,19 +40,19 @@ past-new : (h j : ℕ) → lane_at (node_at lost_world (suc (suc h))) j ≡ new_
 unfolding to_send packet_for after_sending hear begun provided_by sent_by lost planned_strikes sent_out injected advanced
 past-new h j = refl
 
-both-active : (is_some (active_epoch (node_at lost_world 0).table) ≡ true) × (is_some (active_epoch (node_at lost_world 1).table) ≡ true)
+both-routed : (is_some (table_route (node_at lost_world 0).table 1) ≡ true) × (is_some (table_route (node_at lost_world 1).table 0) ≡ true)
 unfolding to_send packet_for after_sending hear begun provided_by sent_by lost planned_strikes sent_out injected advanced
-both-active = (refl, refl)
+both-routed = (refl, refl)
 
 idle : (l : LaneState) → l ≡ new_lane → l.sender.base < l.sender.next → ⊥
 idle l e low = let a = ap (λ (x : LaneState). x.sender.base) e in let b = ap (λ (x : LaneState). x.sender.next) e in absurd (omega (arith, low, a, b))
 
-active : (src dst prio : ℕ) → (lane_at (node_at lost_world src) (lane_of dst prio)).sender.base < (lane_at (node_at lost_world src) (lane_of dst prio)).sender.next → is_some (active_epoch (node_at lost_world dst).table) ≡ true
-active src zero prio low = both-active.0
-active src (suc zero) prio low = both-active.1
-active zero (suc (suc d)) prio low = absurd (idle (lane_at (node_at lost_world 0) (lane_of (suc (suc d)) prio)) (others-new (lane_of (suc (suc d)) prio) (λ e. absurd (omega (arith, e)))) low)
-active (suc zero) (suc (suc d)) prio low = absurd (idle (lane_at (node_at lost_world 1) (lane_of (suc (suc d)) prio)) (one-new (lane_of (suc (suc d)) prio)) low)
-active (suc (suc s)) (suc (suc d)) prio low = absurd (idle (lane_at (node_at lost_world (suc (suc s))) (lane_of (suc (suc d)) prio)) (past-new s (lane_of (suc (suc d)) prio)) low)
+routed : (src dst prio : ℕ) → (lane_at (node_at lost_world src) (lane_of dst prio)).sender.base < (lane_at (node_at lost_world src) (lane_of dst prio)).sender.next → (is_some (table_route (node_at lost_world src).table dst) ≡ true) × (is_some (table_route (node_at lost_world dst).table src) ≡ true)
+routed zero zero prio low = absurd (idle (lane_at (node_at lost_world 0) (lane_of 0 prio)) (others-new (lane_of 0 prio) (λ e. absurd (omega (arith, e)))) low)
+routed zero (suc zero) prio low = both-routed
+routed zero (suc (suc d)) prio low = absurd (idle (lane_at (node_at lost_world 0) (lane_of (suc (suc d)) prio)) (others-new (lane_of (suc (suc d)) prio) (λ e. absurd (omega (arith, e)))) low)
+routed (suc zero) dst prio low = absurd (idle (lane_at (node_at lost_world 1) (lane_of dst prio)) (one-new (lane_of dst prio)) low)
+routed (suc (suc s)) dst prio low = absurd (idle (lane_at (node_at lost_world (suc (suc s))) (lane_of dst prio)) (past-new s (lane_of dst prio)) low)
 
 none-left : {A : Type 0} (test : A → Bool) (n : ℕ) → count_of test (drop n []) ≡ 0
 none-left test zero = refl
@@ -132,4 +132,4 @@ enough-at (suc zero) port size (suc prio) low =
 enough-at (suc (suc h)) port size prio low = let two = few-hosts in absurd (omega (arith, low, two))
 
 pub lost-enough : LostWorldHasEnough
-lost-enough = record { tables = λ c. active c.src c.dst c.prio; tokens = enough-at }
+lost-enough = record { tables = λ c. routed c.src c.dst c.prio; tokens = enough-at }

@@ -1,5 +1,5 @@
 -- The events of a settle leave as many tokens as are wanted, where there were.
-use Rattle.std.proofs.Common.{◌≡◌, ◌<◌, ◌≤◌, ℕ, suc, List, [], ◌∷◌, ◌++◌, length, drop, Some, refl, sym, ap, ◌∙◌, subst, arith, length-append}
+use Rattle.std.proofs.Common.{◌≡◌, ◌<◌, ◌≤◌, ℕ, suc, List, [], ◌∷◌, ◌++◌, length, drop, Some, refl, sym, ap, ◌∙◌, subst, arith, length-append, true, is_some}
 use Rattle.std.proofs.lemmas.List.{append-nil}
 use Rattle.net_defs.specs.Network.{Network}
 use Rattle.packet_defs.specs.declared.kind.Kind.TheVariants.{Gm}
@@ -16,7 +16,7 @@ use Rattle.world_defs.specs.EightBits.{IsByteEvent}
 use Rattle.world_defs.specs.Node.{NodeState, taking_lane, lane_at, StagedProbe, StagedPart, given_up, node_expired}
 use Rattle.world_defs.specs.Hearing.{frame_lane}
 use Rattle.world_defs.specs.World.{WorldState, host_count, node_at}
-use Rattle.world_defs.specs.Step.{step}
+use Rattle.world_defs.specs.Step.{step, gives_up_epoch}
 use Rattle.world_defs.specs.Traffic.{sent_on, got_on}
 use Rattle.world_defs.proofs.Views.{HostChange, CallChange}
 use Rattle.world_defs.proofs.Lanes.{facing-taking}
@@ -35,11 +35,13 @@ use Rattle.message_laws.proofs.Worlds.{sent_by_lane, reached-ordered}
 use Rattle.message_laws.proofs.Buffers.{provided-untouched}
 use Rattle.message_laws.proofs.Windows.{reached-windowed}
 use Rattle.message_laws.proofs.Known.{reached-count, reached-known}
-use Rattle.settle_laws.proofs.ActiveTables.{TablesStay, acted-stay}
+use Rattle.settle_laws.proofs.ActiveTables.{IsNoRevoke}
+use Rattle.settle_laws.proofs.Routes.{route-stays}
 use Rattle.delivery_laws.specs.Delivery.{is_wanted, wanted_from, wanted_at, provided_at}
 use Rattle.seen_laws.proofs.Accepted.{IsNoSend, none-accepted, calm-grows}
 use Rattle.delivery_laws.proofs.Counts.{total, total-less, total-strict, count_of, drop-fewer, drop-strict}
 use Rattle.delivery_laws.proofs.Frees.{FreesAt, Frees, frees-same, IsNextOf, next-of, heard-frees, sending-frees}
+use Rattle.world_defs.specs.Table.{table_route}
 
 -- an act that is an event of a settle
 abbrev IsCalm : Act → Type 0
@@ -74,6 +76,7 @@ host-frees {w = w} (HostChange.asks {h = h} {walk = walk} {looped = looped}) = f
 host-frees {w = w} (HostChange.stages a p by d e f) = frees-same (sent_to w a.mapper) (host_count w) (node_at w a.mapper) (record (node_at w a.mapper) { staged = Some (StagedPart p by) }) (λ port. refl)
 host-frees {w = w} (HostChange.expires {h = h} {peer = peer} k) = frees-same (sent_to w h) (host_count w) (node_at w h) (node_expired (node_at w h) peer) (λ port. refl)
 host-frees {w = w} (HostChange.gives_up {h = h} k) = frees-same (sent_to w h) (host_count w) (node_at w h) (given_up (node_at w h)) (λ port. refl)
+host-frees {w = w} (HostChange.revokes {h = h} a d) = frees-same (sent_to w h) (host_count w) (node_at w h) (gives_up_epoch (node_at w h) a.epoch) (λ port. refl)
 
 order-of : (n : Network) (w : WorldState) → IsReached n w → (c : ConnectionKey) → InOrder (sent_on w c) (lane_at (node_at w c.dst) (taking_lane c))
 order-of n w is c = subst (λ ms. InOrder ms (lane_at (node_at w c.dst) (taking_lane c))) (facing-taking (sent_by_lane w) c) ((reached-ordered n w is).order c.dst (taking_lane c))
@@ -153,19 +156,29 @@ module _ (n : Network) (w : WorldState) (r : IsReached n w) (e : Event) (q : IsO
               let less = total-strict (wanted_from v h port size prio) (wanted_from w h port size prio) 0 (host_count w) src src (omega arith) there (λ i low. fewer h port size prio i) (omega (arith, one, now)) in
               omega (arith, before, count, few, less)
 
+-- by no event of a settle a host gives up an epoch
+settle-no_revoke : (e : Event) → IsOfSettle e → IsNoRevoke (Happens e)
+settle-no_revoke (Advance c) q = tt
+settle-no_revoke (Reset c) q = tt
+settle-no_revoke (Inject h) q = tt
+settle-no_revoke (Replay serial) q = tt
+settle-no_revoke (Expire h peer) q = tt
+settle-no_revoke (GiveUp h) q = tt
+settle-no_revoke _ q = absurd q
+
 -- What the events of a settle keep.
 pub record Keeps (n : Network) (w v : WorldState) : Type 0 where
   pub reached : IsReached n v
   pub sent : (c : ConnectionKey) → sent_on v c ≡ sent_on w c
-  pub tables : TablesStay w v
+  pub routes : (h dest : ℕ) → is_some (table_route (node_at w h).table dest) ≡ true → is_some (table_route (node_at v h).table dest) ≡ true
   pub tokens : HasTokens w → HasTokens v
 
 pub along-keeps : (n : Network) → Along (λ w v. IsReached n w → Keeps n w v) IsOfSettle
 along-keeps n = record {
-  same = λ w r. record { reached = r; sent = λ c. refl; tables = record { each = λ h a. a }; tokens = λ t. t };
+  same = λ w r. record { reached = r; sent = λ c. refl; routes = λ h dest a. a; tokens = λ t. t };
   both = λ u v w f g r.
       let a : Keeps n u v = f r in
       let b : Keeps n v w = g a.reached in
-      record { reached = b.reached; sent = λ c. b.sent c ∙ a.sent c; tables = record { each = λ h x. b.tables.each h (a.tables.each h x) }; tokens = λ t. b.tokens (a.tokens t) };
-  event = λ w e q r. record { reached = reached n w r e q; sent = sent-same n w r e q; tables = acted-stay w (Happens e); tokens = event-tokens n w r e q };
+      record { reached = b.reached; sent = λ c. b.sent c ∙ a.sent c; routes = λ h dest x. b.routes h dest (a.routes h dest x); tokens = λ t. b.tokens (a.tokens t) };
+  event = λ w e q r. record { reached = reached n w r e q; sent = sent-same n w r e q; routes = λ h dest. route-stays n w e h dest r (settle-no_revoke e q) (reached n w r e q); tokens = event-tokens n w r e q };
 }

@@ -6,7 +6,7 @@ use Rattle.gm_defs.specs.declared.frame.ConnectionKey.{ConnectionKey}
 use Rattle.gm_defs.specs.Body.{prio_limit}
 use Rattle.gm_defs.specs.Connection.{connection}
 use Rattle.gm_defs.specs.Token.{Provided, fits}
-use Rattle.world_defs.specs.Table.{active_epoch}
+use Rattle.world_defs.specs.Table.{table_route}
 use Rattle.world_defs.specs.Node.{port_at}
 use Rattle.world_defs.specs.World.{WorldState, fabric_of, host_count, last_count, new_world, node_at, addresses, sum_of}
 use Rattle.world_defs.specs.Traffic.{sender_on, sent_on, got_on}
@@ -42,16 +42,16 @@ is_of size prio r = nat_eq r.size size && nat_eq r.prio prio
 abbrev pub provided_at : WorldState → ℕ → ℕ → ℕ → ℕ → ℕ
 provided_at w h port size prio = length (filter (is_of size prio) (provided_in (port_at (node_at w h) port)))
 
--- A world has enough for what isn't got. Whoever is sent something that isn't acknowledged has an active table, and at
--- each port of each host there are as many provided tokens of each size and priority as there are messages for that
--- port which such a token fits and which aren't got. So each such message's port is open. A filling token counts: its
--- message isn't got.
+-- A world has enough for what isn't got. Where something isn't acknowledged its sender and its receiver have active
+-- tables with a route to each other, and at each port of each host there are as many provided tokens of each size and
+-- priority as there are messages for that port which such a token fits and which aren't got. So each such message's
+-- port is open. A filling token counts: its message isn't got.
 pub record HasEnough (w : WorldState) : Type 0 where
   pub tables : (c : ConnectionKey) → (sender_on w c).base < (sender_on w c).next
-      → IsSome (active_epoch (node_at w c.dst).table)
+      → IsSome (table_route (node_at w c.src).table c.dst) × IsSome (table_route (node_at w c.dst).table c.src)
   pub tokens : (h port size prio : ℕ) → h < host_count w → wanted_at w h port size prio ≤ provided_at w h port size prio
 
--- Then a settle whose routes go both ways gets all that was sent, and all is acknowledged after it, whatever faults are
+-- Then a settle gets all that was sent, and all is acknowledged after it, whatever faults are
 -- planned, where the count of injections hasn't reached its last value then.
 abbrev pub SettleDelivers : Type 0
 SettleDelivers =

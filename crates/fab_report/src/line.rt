@@ -188,6 +188,7 @@ fn install_word(cause: InstallCause) -> &'static [u8]
         InstallCause::NoRoutes => b"noroutes",
         InstallCause::Busy => b"busy",
         InstallCause::Installed => b"installed",
+        InstallCause::Epochs => b"epochs",
     }
 }
 

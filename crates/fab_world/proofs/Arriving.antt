@@ -34,6 +34,7 @@ host-hosts n HostChange.asks = tt
 host-hosts n (HostChange.stages a p by d e f) = tt
 host-hosts n (HostChange.expires k) = tt
 host-hosts n (HostChange.gives_up k) = tt
+host-hosts n (HostChange.revokes a e) = tt
 
 arrival-hosts : (n : ℕ) {w : WorldState} {h : ℕ} {a : Arrival} {x : Effect} {count : ℕ} → h < n → ArrivalChange w h a x count → IsOfHosts n x
 arrival-hosts n low ArrivalChange.heard = low

@@ -1,17 +1,19 @@
 -- What the events of one host are in the world.
-use Rattle.std.proofs.Common.{◌≡◌, ◌<◌, ℕ, ℤ, Bool, true, false, ◌||◌, nat_lt, List, Option, Some, None, is_some, refl, sym, ap, subst, ◌∙◌, if◌then◌else◌}
+use Rattle.std.proofs.Common.{◌≡◌, ◌<◌, ℕ, ℤ, Bool, true, false, ◌||◌, nat_lt, List, Option, Some, None, is_some, option_map, refl, sym, ap, subst, ◌∙◌, if◌then◌else◌}
 use Rattle.std.specs.Prelude.{slice_set, IfSome}
 use Rattle.std.proofs.lemmas.Option.{same_Some}
 use Rattle.net_defs.specs.declared.route.Route.{Route}
+use Rattle.link_defs.specs.Fault.{accept}
 use Rattle.mapping_defs.specs.Mapping.{RoutePart}
 use Rattle.world_defs.specs.declared.effect.Effect.{Effect}
-use Rattle.world_defs.specs.declared.effect.Effect.TheVariants.{Idle, Expired, GaveUp, Staged as IsStaged}
+use Rattle.world_defs.specs.declared.effect.Effect.TheVariants.{Idle, Expired, GaveUp, Staged as IsStaged, Said}
+use Rattle.world_defs.specs.declared.effect.Said.TheVariants.{Done}
 use Rattle.world_defs.specs.declared.arrival.Arrival.{Arrival}
-use Rattle.world_defs.specs.Table.{Adoption, whole_table, part_for, route_of}
+use Rattle.world_defs.specs.Table.{Adoption, whole_table, part_for, route_of, epoch_in, revoked_table}
 use Rattle.world_defs.specs.Node.{NodeState, Staged, StagedPart, StagedReply, StagedAck, has_staged, given_up, node_expired, unacknowledged_to}
 use Rattle.world_defs.specs.Hearing.{hear}
-use Rattle.world_defs.specs.World.{WorldState, host_count, node_at, with_node, adopted_by}
-use Rattle.world_defs.specs.Step.{arrived, lost, advanced, expired, gave_up, stage_at, stage_part, part_staged}
+use Rattle.world_defs.specs.World.{WorldState, host_count, node_at, with_node, with_links, keeps_epoch, adoption_of, adopted_by}
+use Rattle.world_defs.specs.Step.{arrived, lost, advanced, expired, gave_up, gives_up_epoch, revoke_of, revoked, stage_at, stage_part, part_staged}
 use Rattle.route_install.specs.Collecting.{HostTable}
 use Rattle.adopted_routes.specs.declared.routes.PartToSend.{PartToSend}
 use Rattle.adopted_routes.specs.Adopting.{IsSetOfHosts, sent_by_route, part_to_send}
@@ -76,17 +78,41 @@ heard-is {p} {ss} {o} {w} {h} {i} {x} c q wire arrival effect now a at heard e t
     ap (λ v. advanced v c) (sym a.is) ∙ at (world_of p ss o) ∙ ap (λ v. arrived behind h (hear h (host_count v) (node_at v h) wire)) a.is
     ∙ ap (arrived behind h) (sym pair) ∙ told (world_of p ss o) n ∙ ap (λ v. (effect, v)) (sym (changed-under q n now o a e))
 
+-- the links of a world in which a set is adopted
+abbrev pub links-then : Bool → LinksAndPlan → LinksAndPlan
+links-then keeps p = if keeps then p else record p { links = accept p.links }
+
+links-are : (keeps : Bool) (p : LinksAndPlan) (ss : List ServedHost) (o : Option Adoption) → world_of (links-then keeps p) ss o ≡ with_links (world_of p ss o) (if keeps then p.links else accept p.links)
+links-are true p ss o = refl
+links-are false p ss o = refl
+
 -- a set is adopted, and its adopter has its table
-pub adopted-is : {p : LinksAndPlan} {ss : List ServedHost} {o : Option Adoption} {w : WorldState} {h i : ℕ} {x : ServedHost} (q : ServedHost) (routes : List Route) (table : HostTable) (now : Option Adoption) → IsAt p ss o w h i x
-    → table ≡ record { host = h; state = whole_table routes h 1 } → now ≡ Some (record { mapper = h; epoch = 1; routes = routes }) → q ≡ in_state x (record x.state { table = table.state })
-    → world_of p (slice_set ss i q) now ≡ adopted_by w h routes
-adopted-is {p} {ss} {o} {w} {h} {i} {x} q routes table now a made takes e =
+pub adopted-is : {p : LinksAndPlan} {ss : List ServedHost} {o : Option Adoption} {w : WorldState} {h i : ℕ} {x : ServedHost} (q : ServedHost) (routes : List Route) (keeps : Bool) (table : HostTable) (now : Option Adoption) (links : LinksAndPlan) → IsAt p ss o w h i x
+    → keeps ≡ keeps_epoch w routes → table ≡ record { host = h; state = whole_table routes h (adoption_of w h routes).epoch } → now ≡ Some (adoption_of w h routes) → links ≡ links-then keeps p → q ≡ in_state x (record x.state { table = table.state })
+    → world_of links (slice_set ss i q) now ≡ adopted_by w h routes
+adopted-is {p} {ss} {o} {w} {h} {i} {x} q routes keeps table now links a kept made takes accepts e =
     let here = found a in
-    let n : NodeState = record x.state { table = whole_table routes h 1 } in
+    let adoption : Adoption = adoption_of w h routes in
+    let n : NodeState = record x.state { table = whole_table routes h adoption.epoch } in
     let new : q ≡ in_state x n = e ∙ ap (λ t. in_state x (record x.state { table = t.state })) made in
-    ap (world_of p (slice_set ss i q)) takes ∙ changed-under q n p (Some (record { mapper = h; epoch = 1; routes = routes })) a new
-    ∙ ap (λ v. record (with_node v h n) { adopted = Some (record { mapper = h; epoch = 1; routes = routes }) }) a.is
-    ∙ ap (λ m. record (with_node w h (record m { table = whole_table routes h 1 })) { adopted = Some (record { mapper = h; epoch = 1; routes = routes }) }) here.state
+    ap (world_of links (slice_set ss i q)) takes ∙ changed-under q n links (Some adoption) a new
+    ∙ ap (λ l. with_node (world_of l ss (Some adoption)) h n) (accepts ∙ ap (λ b. links-then b p) kept)
+    ∙ ap (λ v. with_node v h n) (links-are (keeps_epoch w routes) p ss (Some adoption))
+    ∙ ap (λ v. record (with_node v h n) { links = if keeps_epoch w routes then v.links else accept v.links; adopted = Some adoption }) a.is
+    ∙ ap (λ m. record (with_node w h (record m { table = whole_table routes h adoption.epoch })) { links = if keeps_epoch w routes then w.links else accept w.links; adopted = Some adoption }) here.state
+
+-- one host gives up the epoch of the adopted set, where there is one
+pub revoked-is : {p : LinksAndPlan} {ss : List ServedHost} {o : Option Adoption} {w : WorldState} {h i : ℕ} {x : ServedHost} (q : ServedHost) (epoch : ℕ) (s : Option Adoption) → IsAt p ss o w h i x → w.adopted ≡ s
+    → is_some (option_map (λ a. a.mapper) s) ≡ true → epoch ≡ epoch_in s → q ≡ in_state x (record x.state { table = revoked_table x.state.table epoch }) → revoked w h ≡ (Said Done, world_of p (slice_set ss i q) o)
+unfolding revoked
+revoked-is {w = w} {h = h} q epoch None at is some seen e = cc
+revoked-is {w = w} {h = h} {x = x} q epoch (Some a) at is some seen e =
+    ap (revoke_of w h) is ∙ ap (λ v. (Said Done, v)) (sym (changed q (λ n. gives_up_epoch n a.epoch) at (e ∙ ap (λ k. in_state x (gives_up_epoch x.state k)) seen)))
+
+pub revoked-none : (w : WorldState) (h : ℕ) (s : Option Adoption) → w.adopted ≡ s → is_some (option_map (λ a. a.mapper) s) ≡ false → revoked w h ≡ (Idle, w)
+unfolding revoked
+revoked-none w h None is none = ap (revoke_of w h) is
+revoked-none w h (Some a) is none = cc
 
 -- what a part to send is in the world
 abbrev pub part-of : WorldState → Option PartToSend → Effect × WorldState

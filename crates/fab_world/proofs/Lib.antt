@@ -1,8 +1,8 @@
 pub mod Answers
 pub mod Arriving
 pub mod Calling
-pub mod Hopping
 pub mod Hearing
+pub mod Hopping
 pub mod HostEvents
 pub mod Injecting
 pub mod Moments
@@ -12,6 +12,7 @@ pub mod Probing
 pub mod Reaching
 pub mod Refusing
 pub mod Resting
+pub mod Revoking
 pub mod Stepped
 pub mod Summing
 pub mod Waiting

@@ -1,5 +1,5 @@
 -- Every event, and every plan of a fault with a pattern of eight bits, leads from one moment of a world to another.
-use Rattle.std.proofs.Common.{◌≡◌, ◌<◌, ◌≤◌, ◌+◌, ℕ, List, [], ◌∷◌, length, Option, refl, sym, ◌∙◌, ap, subst, arith}
+use Rattle.std.proofs.Common.{◌≡◌, ◌<◌, ◌≤◌, ◌+◌, ℕ, Bool, true, false, List, [], ◌∷◌, length, Option, refl, sym, ◌∙◌, ap, subst, arith, if◌then◌else◌}
 use Rattle.std.specs.Prelude.{Result, Ok, Err, OnOk, OnErr, IfOk, IfSome}
 use Rattle.std.proofs.lemmas.List.{length-set, length-map}
 use Rattle.net_defs.specs.declared.route.Route.{Route}
@@ -7,16 +7,20 @@ use Rattle.net_defs.specs.Network.{Network, IsFabric}
 use Rattle.cable_history.specs.History.{CableHistory, IsHistory, first_wire, first_history, fabric_now}
 use Rattle.cable_history.specs.Crossed.{life_channels}
 use Rattle.cable_history.proofs.First.{first_is_history, first_stands}
+use Rattle.cable_history.proofs.Kept.{accept_keeps}
+use Rattle.link_defs.specs.Links.{LinkState}
+use Rattle.link_defs.specs.Fault.{accept}
 use Rattle.net_defs.specs.RouteSet.{AreRising}
 use Rattle.world_defs.specs.declared.event.Event.{Event}
 use Rattle.world_defs.specs.declared.effect.Effect.{Effect}
 use Rattle.world_defs.specs.declared.fault.Fault.{Fault}
 use Rattle.world_defs.specs.Table.{Adoption, whole_table}
-use Rattle.world_defs.specs.World.{WorldState, fabric_of, host_count, node_at, new_world, planned, adopted_by}
+use Rattle.world_defs.specs.World.{WorldState, fabric_of, host_count, node_at, new_world, planned, keeps_epoch, adoption_of, adopted_by}
 use Rattle.world_defs.specs.Step.{step, after_all}
 use Rattle.world_laws.proofs.Shapes.{step-kept, after_all-kept, new-world, new-senders, planned-world, planned-senders, adopted-world, adopted-senders}
-use Rattle.act_defs.specs.Acts.{IsReached}
+use Rattle.act_defs.specs.Acts.{Adopts, IsReached}
 use Rattle.act_defs.proofs.Cables.{reached-cables}
+use Rattle.act_defs.proofs.Kept.{acted-net}
 use Rattle.world_defs.proofs.Kept.{step-adopted, with-all, step-plan}
 use Rattle.world_defs.specs.EightBits.{IsByteFault}
 use Rattle.port_graph.specs.Routes.{AreShort}
@@ -100,17 +104,27 @@ plan-later w v ahead fault (Ok number) low m is err =
 plan-later w v ahead fault (Err e) low m is err = (subst IsMoment (sym err) m, ap fabric_of err)
 
 adopted-hosts : (w : WorldState) (mapper : ℕ) (routes : List Route) → host_count (adopted_by w mapper routes) ≡ host_count w
-adopted-hosts w mapper routes = length-set w.nodes mapper (record (node_at w mapper) { table = whole_table routes mapper 1 })
+adopted-hosts w mapper routes = length-set w.nodes mapper (record (node_at w mapper) { table = whole_table routes mapper (adoption_of w mapper routes).epoch })
+
+accepted-history : (s : LinkState) (b : Bool) → IsHistory s.cables → IsHistory (if b then s else accept s).cables
+accepted-history s true is = is
+accepted-history s false is = accept_keeps s.cables is
+
+accepted-channels : (s : LinkState) (b : Bool) → length (if b then s else accept s).channels ≡ length s.channels
+accepted-channels s true = refl
+accepted-channels s false = refl
 
 adopted-moment : (w : WorldState) (mapper : ℕ) (routes : List Route) → IsMoment w → mapper < host_count w → AreRising routes → AreShort routes → IsAdoptable (fabric_of w) mapper routes → IsMoment (adopted_by w mapper routes)
-adopted-moment w mapper routes m low up short may = record {
-  history = m.history;
-  fabric = m.fabric;
-  world = adopted-world w mapper routes m.world;
-  senders = adopted-senders w mapper routes m.senders;
-  plan = m.plan;
-  adopted = subst (λ k. IsSetOfHosts k (record { mapper = mapper; epoch = 1; routes = routes })) (sym (adopted-hosts w mapper routes)) (set-of-hosts (fabric_of w) (host_count w) mapper 1 routes m.fabric m.world.hosts low up short may);
-}
+adopted-moment w mapper routes m low up short may =
+    let a : Adoption = adoption_of w mapper routes in
+    record {
+      history = accepted-history w.links (keeps_epoch w routes) m.history;
+      fabric = subst IsFabric (sym (acted-net w (Adopts mapper routes))) m.fabric;
+      world = adopted-world w mapper routes m.world;
+      senders = adopted-senders w mapper routes m.senders;
+      plan = m.plan;
+      adopted = subst (λ k. IsSetOfHosts k a) (sym (adopted-hosts w mapper routes)) (set-of-hosts (fabric_of w) (host_count w) mapper a.epoch a.at routes m.fabric m.world.hosts low up short may);
+    }
 
 -- What an adoption leaves, refused or not: a moment of the same fabric.
 pub record IsAdopting (w v : WorldState) : Type 0 where
@@ -123,9 +137,9 @@ pub adopt-leaves : {A E : Type 0} (w v : WorldState) (mapper : ℕ) (routes : Li
     → OnOk r (v ≡ adopted_by w mapper routes) → OnErr r (v ≡ w) → IsAdopting w v
 adopt-leaves w v mapper routes (Ok a) m low up short may is err = record {
   moment = subst IsMoment (sym is) (adopted-moment w mapper routes m low up short may);
-  fabric = ap fabric_of is;
+  fabric = ap fabric_of is ∙ acted-net w (Adopts mapper routes);
   hosts = ap host_count is ∙ adopted-hosts w mapper routes;
-  channels = ap (λ u. length u.links.channels) is;
+  channels = ap (λ u. length u.links.channels) is ∙ accepted-channels w.links (keeps_epoch w routes);
 }
 adopt-leaves w v mapper routes (Err e) m low up short may is err =
     record { moment = subst IsMoment (sym err) m; fabric = ap fabric_of err; hosts = ap host_count err; channels = ap (λ u. length u.links.channels) err }

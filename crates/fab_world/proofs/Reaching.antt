@@ -1,6 +1,6 @@
 -- Each call leads from a world that is reached to one that is.
-use Rattle.std.proofs.Common.{◌≡◌, ◌≤◌, ℕ, Bool, true, false, Option, Some, None, List, refl, sym, ap, subst}
-use Rattle.std.specs.Prelude.{Result, Ok, Err, OnOk, OnErr, IfOk, if◌then◌else◌}
+use Rattle.std.proofs.Common.{◌≡◌, ◌≤◌, ℕ, true, Option, is_none, List, sym, ap, ◌∙◌, subst}
+use Rattle.std.specs.Prelude.{Result, Ok, Err, OnOk, OnErr, IfOk}
 use Rattle.net_defs.specs.declared.route.Route.{Route}
 use Rattle.cable_history.specs.History.{fabric_now}
 use Rattle.world_defs.specs.declared.event.Event.{Event}
@@ -8,14 +8,13 @@ use Rattle.world_defs.specs.declared.event.Event.TheVariants.{Advance}
 use Rattle.world_defs.specs.declared.effect.Effect.{Effect}
 use Rattle.world_defs.specs.declared.effect.Effect.TheVariants.{Moved as MovedTo, Blocked as StaysFor}
 use Rattle.world_defs.specs.declared.fault.Fault.{Fault}
-use Rattle.world_defs.specs.Table.{Adoption, is_other}
-use Rattle.world_defs.specs.World.{WorldState, fabric_of, with_links, planned, adopted_by}
+use Rattle.world_defs.specs.World.{WorldState, fabric_of, with_links, planned, standing_of, may_adopt, adopted_by}
 use Rattle.world_defs.specs.Step.{step}
 use Rattle.world_defs.specs.EightBits.{IsByteFault, IsByteEvent}
 use Rattle.world_laws.proofs.Shapes.{step-kept}
-use Rattle.act_defs.specs.Acts.{Happens, Plans, Adopts, IsSameSet, IsReached}
+use Rattle.act_defs.specs.Acts.{Happens, Plans, Adopts, IsReached}
 use Rattle.act_defs.proofs.Reaching.{reached-next}
-use Rattle.act_defs.proofs.Routes.{not-other}
+use Rattle.act_defs.proofs.Kept.{acted-net}
 use Rattle.link_defs.specs.Links.{LinkState}
 use Rattle.link_model.specs.Hop.{IsRun}
 use Rattle.link_model.specs.declared.hop.Hop.{Hop}
@@ -23,7 +22,7 @@ use Rattle.link_model.specs.declared.hop.Hop.TheVariants.{Moved, Blocked, Untrie
 use Rattle.port_graph.specs.Routes.{HandsBack}
 use Rattle.adopted_routes.specs.Adopting.{IsAdoptable, adopt_refusal}
 use Rattle.adopted_routes.specs.declared.routes.AdoptRefusal.{AdoptRefusal}
-use Rattle.adopted_routes.specs.declared.routes.AdoptRefusal.TheVariants.{Another}
+use Rattle.adopted_routes.proofs.Refusals.{refused_exactly}
 use Rattle.fab_world.specs.Hop.{IsHopIn, IsRunIn}
 use Rattle.fab_world.proofs.Hopping.{moved-in}
 
@@ -59,18 +58,11 @@ plan-reached w v ahead fault (Ok number) far low is ok err =
     subst IsReachedNow (ap (λ p. p.1) ok) next
 plan-reached w v ahead fault (Err e) far low is ok err = subst IsReachedNow (sym err) is
 
--- routes that aren't refused as others are the adopted ones, where any are
-no-other : (routes : List Route) (o : Option Adoption) → adopt_refusal routes o ≡ None → IsSameSet routes o
-no-other routes o none = not-other routes o (by (is_other routes o) none)
-  where
-    by : (b : Bool) → (if b then Some Another else None) ≡ None → b ≡ false
-    by true p = cc
-    by false p = refl
-
 pub adopt-reached : {A : Type 0} (w v : WorldState) (mapper : ℕ) (routes : List Route) (r : Result A (List Route × AdoptRefusal)) → IsReachedNow w → IsAdoptable (fabric_of w) mapper routes
-    → HandsBack (adopt_refusal routes w.adopted) AdoptRefusal.NoMemory routes r → OnOk r (v ≡ adopted_by w mapper routes) → OnErr r (v ≡ w) → IsReachedNow v
+    → HandsBack (adopt_refusal (standing_of w) routes w.adopted) AdoptRefusal.NoMemory routes r → OnOk r (v ≡ adopted_by w mapper routes) → OnErr r (v ≡ w) → IsReachedNow v
 adopt-reached w v mapper routes (Ok a) is may refused ok err =
-    let next : IsReachedNow (adopted_by w mapper routes) =
-    reached-next (fabric_of w) w (Adopts mapper routes) is (record { lead = may.lead; number = may.number; rises = may.rises }, no-other routes w.adopted refused) in
-    subst IsReachedNow (sym ok) next
+    let free : may_adopt w routes ≡ true = sym (refused_exactly (standing_of w) routes w.adopted) ∙ ap (λ (o : Option AdoptRefusal). is_none o) refused in
+    let next : IsReached (fabric_of w) (adopted_by w mapper routes) =
+    reached-next (fabric_of w) w (Adopts mapper routes) is (record { lead = may.lead; number = may.number; rises = may.rises }, free) in
+    subst IsReachedNow (sym ok) (subst (λ n. IsReached n (adopted_by w mapper routes)) (sym (acted-net w (Adopts mapper routes))) next)
 adopt-reached w v mapper routes (Err e) is may refused ok err = subst IsReachedNow (sym err) is

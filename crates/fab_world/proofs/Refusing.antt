@@ -27,6 +27,7 @@ host-unrefused HostChange.asks = refl
 host-unrefused (HostChange.stages a p by d e f) = refl
 host-unrefused (HostChange.expires k) = refl
 host-unrefused (HostChange.gives_up k) = refl
+host-unrefused (HostChange.revokes a e) = refl
 
 arrival-unrefused : {w : WorldState} {h : ℕ} {a : Arrival} {x : Effect} {count : ℕ} → ArrivalChange w h a x count → is_refusal x ≡ false
 arrival-unrefused ArrivalChange.heard = refl

@@ -3,8 +3,8 @@
 //!
 //! [`World::step`] answers exactly the effect and leaves exactly the world of the definition `step` of `world_defs`.
 //! So each law of worlds after every list of events is a law of this one. `specs/Events.antt` says which events may
-//! be given. Routes are adopted once: no others after them. `specs/Adopting.antt` of `adopted_routes` says which may
-//! be.
+//! be given. Routes are adopted by epochs: others only once each host gave up the epoch that stands.
+//! `specs/Adopting.antt` of `adopted_routes` says which may be.
 //!
 //! ```text
 //!             World                      hosts and links, each at its own

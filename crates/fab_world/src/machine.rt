@@ -9,6 +9,7 @@ ghost use Rattle.fab_world.specs.Resting.{IsNextAwake, IsNextBusy, IsSilentIn, R
 mod adopting;
 mod calls;
 mod dispatch;
+mod epochs;
 mod injection;
 mod probing;
 mod staging;
@@ -65,6 +66,13 @@ impl Machine {
                 Err(wanting)
             }
         }
+    }
+
+    /// The number of hosts.
+    pub(crate) fn count(&self) -> u16
+        ensures { result ≡ host_count self.now }
+    {
+        self.hosts.len() as u16
     }
 
     /// The host at an address.

@@ -1,7 +1,7 @@
 //! The world.
 
 ghost use Rattle.std.specs.Prelude.{◌≡◌, ◌≢◌, ◌≤◌, ◌<◌, ◌^◌, ℕ, length, true, is_some, option_map, Some, None, IfOk};
-ghost use Rattle.std.specs.Prelude.{false, IfSome, IfNone, OnOk, OnErr};
+ghost use Rattle.std.specs.Prelude.{false, option_copied, IfSome, IfNone, OnOk, OnErr};
 ghost use Rattle.cable_history.specs.Crossed.{leaving, life_channels, life_tail, life_head};
 ghost use Rattle.link_defs.specs.Hops.{total_hops};
 ghost use Rattle.link_defs.specs.Links.{packet_in, is_idle};
@@ -15,8 +15,9 @@ ghost use Rattle.gm_defs.specs.Body.{is_prio};
 ghost use Rattle.gm_defs.specs.Connection.{connection};
 ghost use Rattle.world_defs.specs.Node.{has_staged, to_send, port_at};
 ghost use Rattle.world_defs.specs.Traffic.{sent_on, got_on, IsHonestTraffic};
-ghost use Rattle.world_defs.specs.Table.{active_epoch, is_other};
+ghost use Rattle.world_defs.specs.Table.{active_epoch};
 ghost use Rattle.world_defs.specs.World.{fabric_of, host_count, new_world, node_at, planned, adopted_by};
+ghost use Rattle.world_defs.specs.World.{epoch_of, standing_of};
 ghost use Rattle.world_defs.specs.declared.event.Event.TheVariants.{Ask, Inject, Advance};
 ghost use Rattle.world_defs.specs.Step.{step};
 ghost use Rattle.act_defs.specs.Acts.{IsReached};
@@ -176,10 +177,12 @@ impl World {
         self.machine.run(c)
     }
 
-    /// Adopts routes: a host is their adopter from now on, and its table is theirs at once. The same routes may be
-    /// adopted again, by any host.
+    /// Adopts routes: a host is their adopter from now on, and its table is theirs at once. Where they are the adopted
+    /// ones, no host gave their epoch up, and no cable came or went since that began, it is kept, and nothing else
+    /// changes. Else the next begins, and no cable is new any more.
     ///
-    /// Refused routes are handed back, and nothing has changed: `Another` exactly where other routes are adopted.
+    /// Refused routes are handed back, and nothing has changed: `Unrevoked` and `Epochs` exactly where the epoch isn't
+    /// kept and, in this order, some host hasn't given it up, or it is the last.
     pub fn adopt(
         &mut self,
         alloc: Global,
@@ -189,7 +192,8 @@ impl World {
         requires there { IsHostOf self.old mapper }
         requires adoptable { IsAdoptable (fabric_of self.old) mapper set }
         ensures adopted { OnOk result (self.new ≡ adopted_by self.old mapper set) }
-        ensures refused { HandsBack (adopt_refusal set self.old.adopted) AdoptRefusal.NoMemory set result }
+        ensures refused { HandsBack (adopt_refusal (standing_of self.old) set self.old.adopted)
+            AdoptRefusal.NoMemory set result }
         ensures unchanged { OnErr result (self.new ≡ self.old) }
         ensures fabric { fabric_of self.new ≡ fabric_of self.old }
         ensures hosts { host_count self.new ≡ host_count self.old }
@@ -199,11 +203,43 @@ impl World {
         self.machine.adopt(alloc, mapper, set)
     }
 
-    /// Whether other routes are adopted: [`World::adopt`] refuses these then. Takes no memory.
-    pub fn has_other(&self, set: &RouteSet) -> bool
-        ensures { result ≡ is_other set.now self.now.adopted }
+    /// Why [`World::adopt`] refuses routes, unless memory runs out. It takes no memory.
+    pub fn adopt_refusal(&self, set: &RouteSet) -> Option<AdoptRefusal>
+        ensures { result ≡ adopt_refusal (standing_of self.now) set.now self.now.adopted }
     {
-        self.machine.adopted.has_other(set)
+        self.machine.adopted.refusal(set, self.machine.standing())
+    }
+
+    /// The adopted routes. None exactly where none are adopted.
+    pub fn adopted(&self) -> Option<&RouteSet>
+        ensures { option_copied result ≡ option_map (λ a. a.routes) self.now.adopted }
+    {
+        self.machine.adopted.routes()
+    }
+
+    /// The epoch of the adopted routes, 0 before the first.
+    pub fn epoch(&self) -> u32
+        ensures { result ≡ epoch_of self.now }
+    {
+        self.machine.adopted.epoch()
+    }
+
+    /// How many changes of cables there had been when the epoch of the adopted routes began. None exactly where none
+    /// are adopted.
+    pub fn adopted_at(&self) -> Option<u64>
+        ensures { result ≡ option_map (λ a. a.at) self.now.adopted }
+    {
+        match self.machine.adopted.adopted_at() {
+            Some(at) => Some(u64::from(at)),
+            None => None,
+        }
+    }
+
+    /// How many times a cable was pulled or plugged.
+    pub fn changes(&self) -> u64
+        ensures { result ≡ self.now.links.cables.changes }
+    {
+        u64::from(self.machine.links.changes())
     }
 
     /// The adopter of the adopted routes. None exactly where none are adopted.
@@ -267,7 +303,7 @@ impl World {
     pub fn hosts(&self) -> u16
         ensures { result ≡ host_count self.now }
     {
-        self.machine.hosts.len() as u16
+        self.machine.count()
     }
 
     /// The number of channels.

@@ -12,7 +12,7 @@ use Rattle.run_defs.specs.declared.line.Line.TheVariants.{Map as MapLine, Instal
 use Rattle.run_defs.specs.declared.line.MapWords.TheVariants.{Doubtful}
 use Rattle.run_defs.specs.Output.{Piece, OneLine}
 use Rattle.run_defs.specs.Session.{SessionState, LastRoutes}
-use Rattle.run_defs.specs.Outcome.{adoption_of}
+use Rattle.run_defs.specs.Outcome.{set_of}
 use Rattle.run_defs.specs.Run.{Does, IsRun}
 use Rattle.input_texts.specs.Reading.{AcceptedText}
 
@@ -37,7 +37,7 @@ MissedHostsMetFaults a =
     → IsRun a.network (take count a.commands) out s → slice_get a.commands count ≡ Some (Install tries)
     → Does s (Install tries) (OneLine (Installed acked total) ∷ rest) next
     → (l : LastRoutes) × (s.last_routes ≡ Some l)
-    × EachMissedWasHarmed (adoption_of l) tries l.hosts (all_given_up (adopted_by s.world l.mapper l.routes))
+    × EachMissedWasHarmed (set_of s.world l) tries l.hosts (all_given_up (adopted_by s.world l.mapper l.routes))
     × (next.world.harmed ≡ s.world.harmed → acked ≡ total)
 
 -- every settle ends settled; and where there were tokens enough before it, all that was sent is got

@@ -64,6 +64,13 @@ impl Wiring {
         self.accepted = self.changes;
     }
 
+    /// How many times a cable was pulled or plugged.
+    pub fn changes(&self) -> u16
+        ensures { result ≡ self.now.changes }
+    {
+        self.changes
+    }
+
     /// Whether two ports may be joined: both are there, neither has a cable, they aren't one, and fewer than 4,096
     /// cables were named.
     pub fn may_plug(&self, a: End, b: End) -> bool

@@ -13,6 +13,7 @@ ghost use Rattle.world_defs.specs.World.{new_world};
 ghost use Rattle.faulty_links.specs.Held.{of_world, can_inject};
 
 mod advance;
+mod cables;
 mod faults;
 mod injection;
 

@@ -5,7 +5,7 @@ use Rattle.std.specs.Ordering.{match_ordering, nat_cmp}
 use Rattle.net_defs.specs.Network.{Network}
 use Rattle.cable_history.specs.History.{first_history}
 use Rattle.cable_history.specs.Crossed.{life_channels}
-use Rattle.link_defs.specs.Links.{emptied, put}
+use Rattle.link_defs.specs.Links.{LinkState, emptied, put}
 use Rattle.link_defs.specs.Step.{Put as PutLinks, Advance as AdvanceLinks, Lose as LoseLinks, Reset as ResetLinks, Repeat as RepeatLinks, Hold as HoldLinks, Flip as FlipLinks, Replay as ReplayLinks, stepped}
 use Rattle.world_defs.specs.declared.event.Event.{Event}
 use Rattle.world_defs.specs.declared.effect.Effect.{Effect}
@@ -16,7 +16,7 @@ use Rattle.world_defs.specs.Lane.{new_lane}
 use Rattle.world_defs.specs.Node.{NodeState, Outgoing, lane_count, new_node, to_send, packet_for, after_sending}
 use Rattle.world_defs.specs.Hearing.{hear}
 use Rattle.world_defs.specs.Client.{Called}
-use Rattle.world_defs.specs.World.{WorldState, host_count, new_world, node_at, client_at, without_fault, with_fault, sum_of}
+use Rattle.world_defs.specs.World.{WorldState, host_count, new_world, node_at, client_at, without_fault, with_fault, sum_of, keeps_epoch, adoption_of}
 use Rattle.world_defs.specs.Step.{sent_out, wanted}
 use Rattle.world_defs.proofs.Views.{LinksChange, HostChange, CallChange, Change, view}
 use Rattle.world_defs.proofs.Strikes.{fault_step, Strike, strike_view}
@@ -29,6 +29,7 @@ use Rattle.injection_bounds.proofs.Lanes.{expired-credit}
 use Rattle.injection_bounds.proofs.Hosts.{hear-credit, out-paid}
 use Rattle.injection_bounds.proofs.Calls.{begun-free, closed-free, provided_by-free, polled_by-free, sent_by-bought}
 use Rattle.injection_bounds.proofs.Links.{step_cost, emptied-credit, stepped-credit}
+use Rattle.link_defs.specs.Fault.{accept}
 
 -- the credit of all hosts
 abbrev hosts_credit : List NodeState → ℕ
@@ -80,6 +81,7 @@ host-pays HostChange.asks = omega arith
 host-pays (HostChange.stages a p by d e f) = omega arith
 host-pays {w = w} {h = h} (HostChange.expires {peer = peer} d) = expired-credit (node_at w h) peer
 host-pays (HostChange.gives_up d) = omega arith
+host-pays (HostChange.revokes a d) = omega arith
 
 -- a client's call
 call-pays : {w : WorldState} {e : Event} {h port : ℕ} {call : Called} → CallChange w e h port call → node_credit call.node ≤ node_credit (node_at w h) + event_cost w e
@@ -149,11 +151,19 @@ change-pays {w = w} (Change.injects {h = h} c out d e f g) =
     omega (arith, o, s)
 change-pays {w = w} (Change.calls {h = h} {port = port} {call = call} k) = let n = node-set w h call.node in let o = call-pays k in omega (arith, n, o)
 
+-- an adoption may accept the cables
+accepted-credit : (s : LinkState) (keeps : Bool) → links_credit (if keeps then s else accept s) ≡ links_credit s
+accepted-credit s true = refl
+accepted-credit s false = refl
+
 -- each act
 pub acted-pays : (w : WorldState) (a : Act) → account (acted w a) ≤ account w + cost w a
 acted-pays w (Happens e) = change-pays (view w e)
 acted-pays w (Plans ahead fault) = let h = with-more (w.injected + ahead) fault w.plan in omega (arith, h)
-acted-pays w (Adopts mapper routes) = let n = node-set w mapper (record (node_at w mapper) { table = whole_table routes mapper 1 }) in omega (arith, n)
+acted-pays w (Adopts mapper routes) =
+    let n = node-set w mapper (record (node_at w mapper) { table = whole_table routes mapper (adoption_of w mapper routes).epoch }) in
+    let l = accepted-credit w.links (keeps_epoch w routes) in
+    omega (arith, n, l)
 
 -- all acts
 pub acts-paid : InjectionsArePaid

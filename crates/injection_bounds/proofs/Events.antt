@@ -7,11 +7,11 @@ use Rattle.gm_defs.specs.Body.{message_limit}
 use Rattle.gm_defs.specs.Fragment.{piece_count}
 use Rattle.gm_defs.specs.Port.{is_too_long}
 use Rattle.world_defs.specs.declared.event.Event.{Event}
-use Rattle.world_defs.specs.declared.event.Event.TheVariants.{Ask, Part, Inject, Advance, Lose, Repeat, Hold, Flip, Replay, Reset, Expire, GiveUp, Begin, Close, Provide, Send, Poll}
+use Rattle.world_defs.specs.declared.event.Event.TheVariants.{Ask, Part, Inject, Advance, Lose, Repeat, Hold, Flip, Replay, Reset, Expire, GiveUp, Begin, Close, Provide, Send, Poll, Revoke}
 use Rattle.world_defs.specs.Table.{whole_table}
 use Rattle.world_defs.specs.Node.{NodeState}
 use Rattle.world_defs.specs.Client.{Called, begun, closed, provided_by, sent_by, polled_by}
-use Rattle.world_defs.specs.World.{WorldState, node_at, client_at}
+use Rattle.world_defs.specs.World.{WorldState, node_at, client_at, adoption_of}
 use Rattle.world_defs.specs.Settle.{unacknowledged_in}
 use Rattle.world_defs.specs.Step.{of_call, wanted, step}
 use Rattle.world_laws.proofs.Leaves.{IsNoCall}
@@ -86,12 +86,13 @@ event-few n w (Close h port) r = free w (Close h port) (free-pledged w (Close h 
 event-few n w (Provide h port size prio) r =
     free w (Provide h port size prio) (free-pledged w (Provide h port size prio) h port (provided_by (node_at w h) port size prio (client_at w h port)) refl refl (provided_by-free (node_at w h) port size prio (client_at w h port)).1)
 event-few n w (Send h port dest dport prio len seed) r = send-pledged w h port dest dport prio len seed
+event-few n w (Revoke h) r = quiet w (Revoke h) tt (omega arith)
 event-few n w (Poll h port) r = free w (Poll h port) (free-pledged w (Poll h port) h port (polled_by (node_at w h) port (client_at w h port)) refl refl (polled_by-free (node_at w h) port (client_at w h port)).1)
 
 pub adopts-pledged : (w : WorldState) (mapper : ℕ) (routes : List Route) → pledged (acted w (Adopts mapper routes)) ≤ pledged w
 adopts-pledged w mapper routes =
     let a = acted-pays w (Adopts mapper routes) in
-    let m : NodeState = record (node_at w mapper) { table = whole_table routes mapper 1 } in
+    let m : NodeState = record (node_at w mapper) { table = whole_table routes mapper (adoption_of w mapper routes).epoch } in
     let b = host-offers w mapper m 0 (lanes-stay w mapper m refl) in
     omega (arith, a, b)
 

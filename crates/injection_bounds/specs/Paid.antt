@@ -5,7 +5,7 @@ use Rattle.gm_defs.specs.Fragment.{piece_count}
 use Rattle.gm_defs.specs.Port.{is_too_long}
 use Rattle.world_defs.specs.declared.event.Event.{Event}
 use Rattle.world_defs.specs.declared.event.Event.TheVariants.{Ask, Part, Inject, Advance, Lose, Repeat, Hold, Flip, Replay}
-use Rattle.world_defs.specs.declared.event.Event.TheVariants.{Reset, Expire, GiveUp, Begin, Close, Provide, Send, Poll}
+use Rattle.world_defs.specs.declared.event.Event.TheVariants.{Reset, Expire, GiveUp, Begin, Close, Provide, Send, Poll, Revoke}
 use Rattle.world_defs.specs.Node.{NodeState, lane_of, lane_at}
 use Rattle.world_defs.specs.World.{WorldState, new_world, node_at}
 use Rattle.act_defs.specs.Acts.{Act, Happens, Plans, Adopts, acted, acted_all}
@@ -40,6 +40,7 @@ event_cost w (Close h port) = 0
 event_cost w (Provide h port size prio) = 0
 event_cost w (Send h port dest dport prio len seed) = send_cost len
 event_cost w (Poll h port) = 0
+event_cost w (Revoke h) = 0
 
 -- the most credit that an act brings: a plan brings its fault
 abbrev pub cost : WorldState → Act → ℕ

@@ -1,4 +1,4 @@
--- Between the sends of an installation: idle links, nothing staged but at the adopter, no reply to a probe, and no epoch above 1.
+-- Between the sends of an installation: idle links, nothing staged but at the adopter, no reply to a probe, and no host for which a part of the set is old.
 use Rattle.std.proofs.Common.{◌≡◌, ◌≢◌, ◌≤◌, ◌<◌, ◌+◌, ℕ, zero, suc, Bool, true, false, ◌||◌, List, [], ◌∷◌, map, length, get_or, set, Some, None, is_some, ⊎_elim, refl, sym, ap, ◌∙◌, subst, arith, true≢false, if◌then◌else◌}
 use Rattle.std.specs.List.{range_with_len}
 use Rattle.std.proofs.Math.ListN.{length-set}
@@ -9,7 +9,7 @@ use Rattle.net_defs.proofs.Growing.{no_some}
 use Rattle.link_defs.specs.Links.{is_idle}
 use Rattle.world_defs.specs.declared.event.Event.TheVariants.{GiveUp}
 use Rattle.world_defs.specs.declared.effect.Effect.{Effect}
-use Rattle.world_defs.specs.Table.{Adoption}
+use Rattle.world_defs.specs.Table.{Adoption, is_old}
 use Rattle.world_defs.specs.Node.{NodeState, Outgoing, new_node, has_staged, given_up, after_sending}
 use Rattle.world_defs.specs.World.{WorldState, fabric_of, host_count, node_at, with_node, addresses}
 use Rattle.world_defs.specs.Step.{gave_up, step, after_all}
@@ -131,10 +131,10 @@ kept-sent w h out t same k =
     }
 
 -- a host between sends
-pub record IsBetween (mapper h : ℕ) (n : NodeState) : Type 0 where
+pub record IsBetween (number mapper h : ℕ) (n : NodeState) : Type 0 where
   pub unstaged : h ≢ mapper → n.staged ≡ None
   pub no_reply : n.reply ≡ None
-  pub low : n.table.epoch ≤ 1
+  pub due : is_old n.table number ≡ false
 
 -- and a world
 pub record Between (n : Network) (a : Adoption) (w : WorldState) : Type 0 where
@@ -142,20 +142,20 @@ pub record Between (n : Network) (a : Adoption) (w : WorldState) : Type 0 where
   pub bare : IsBare w.links
   pub hosts : host_count w ≡ length n.hosts
   pub adopted : w.adopted ≡ Some a
-  pub nodes : (h : ℕ) → IsBetween a.mapper h (node_at w h)
+  pub nodes : (h : ℕ) → IsBetween a.epoch a.mapper h (node_at w h)
   pub flips : HasByteFaults w
 
-pub between-node : (n : Network) (a : Adoption) (w : WorldState) (h : ℕ) (m : NodeState) → Between n a w → IsBetween a.mapper h m → Between n a (with_node w h m)
+pub between-node : (n : Network) (a : Adoption) (w : WorldState) (h : ℕ) (m : NodeState) → Between n a w → IsBetween a.epoch a.mapper h m → Between n a (with_node w h m)
 between-node n a w h m b here = record {
   net = b.net;
   bare = b.bare;
   hosts = length-set w.nodes h m ∙ b.hosts;
   adopted = b.adopted;
-  nodes = λ j. each-set (IsBetween a.mapper) w.nodes h j m (new_node 0) here b.nodes;
+  nodes = λ j. each-set (IsBetween a.epoch a.mapper) w.nodes h j m (new_node 0) here b.nodes;
   flips = b.flips;
 }
 
-pub between-sent : (n : Network) (a : Adoption) (w : WorldState) (h : ℕ) (out : Outgoing) (t : WorldState) → Between n a w → IsBetween a.mapper h (after_sending (node_at w h) out) → SendKeeps w h out t → Between n a t
+pub between-sent : (n : Network) (a : Adoption) (w : WorldState) (h : ℕ) (out : Outgoing) (t : WorldState) → Between n a w → IsBetween a.epoch a.mapper h (after_sending (node_at w h) out) → SendKeeps w h out t → Between n a t
 between-sent n a w h out t b here k =
     let m : NodeState = after_sending (node_at w h) out in
     record {
@@ -163,7 +163,7 @@ between-sent n a w h out t b here k =
       bare = k.bare;
       hosts = ap length k.nodes ∙ length-set w.nodes h m ∙ b.hosts;
       adopted = k.adopted ∙ b.adopted;
-      nodes = λ j. subst (IsBetween a.mapper j) (sym (nodes-at w t h j m k.nodes)) (each-set (IsBetween a.mapper) w.nodes h j m (new_node 0) here b.nodes);
+      nodes = λ j. subst (IsBetween a.epoch a.mapper j) (sym (nodes-at w t h j m k.nodes)) (each-set (IsBetween a.epoch a.mapper) w.nodes h j m (new_node 0) here b.nodes);
       flips = k.byte_flips b.flips;
     }
 
@@ -244,8 +244,8 @@ all-blank w h =
     (cases_lt h (host_count w))
 
 -- the start of an installation
-pub between-start : (n : Network) (a : Adoption) (w : WorldState) → fabric_of w ≡ n → IsWorld w → is_idle w.links ≡ true → w.adopted ≡ Some a → HasByteFaults w → ((h : ℕ) → (node_at w h).table.epoch ≤ 1) → Between n a (all_given_up w)
-between-start n a w net is idle adopted flips low =
+pub between-start : (n : Network) (a : Adoption) (w : WorldState) → fabric_of w ≡ n → IsWorld w → is_idle w.links ≡ true → w.adopted ≡ Some a → HasByteFaults w → ((h : ℕ) → is_old (node_at w h).table a.epoch ≡ false) → Between n a (all_given_up w)
+between-start n a w net is idle adopted flips due =
     let k = kept-start w in
     let start : WorldState = all_given_up w in
     record {
@@ -253,6 +253,6 @@ between-start n a w net is idle adopted flips low =
       bare = given_up-of (λ u v. IsBare u.links → IsBare v.links) asks-bare w (addresses w) (idle-bare w.links is.links.slots idle);
       hosts = k.hosts ∙ is.hosts ∙ ap (λ m. length m.hosts) net;
       adopted = k.adopted ∙ adopted;
-      nodes = λ h. let b = all-blank w h in let e = k.table h in record { unstaged = λ other. b.staged; no_reply = b.reply; low = subst (λ t. t.epoch ≤ 1) (sym e) (low h) };
+      nodes = λ h. let b = all-blank w h in let e = k.table h in record { unstaged = λ other. b.staged; no_reply = b.reply; due = subst (λ t. is_old t a.epoch ≡ false) (sym e) (due h) };
       flips = k.byte_flips flips;
     }

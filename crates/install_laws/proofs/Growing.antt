@@ -18,14 +18,14 @@ parts_for a h = part_count (length (entries_from a.routes h))
 
 -- a host has a part of its table
 abbrev pub HasPart : Adoption → ℕ → ℕ → WorldState → Type 0
-HasPart a h part w = Has (parts_for a h) part (node_at w h).table
+HasPart a h part w = Has a.epoch (parts_for a h) part (node_at w h).table
 
 -- each host keeps what it has
 pub record Grows (a : Adoption) (w v : WorldState) : Type 0 where
-  pub each : (h : ℕ) → TableGrows (parts_for a h) (node_at w h).table (node_at v h).table
+  pub each : (h : ℕ) → TableGrows a.epoch (parts_for a h) (node_at w h).table (node_at v h).table
 
 pub grows-same : (a : Adoption) (w : WorldState) → Grows a w w
-grows-same a w = record { each = λ h. grows-same-table (parts_for a h) (node_at w h).table (node_at w h).table refl }
+grows-same a w = record { each = λ h. grows-same-table a.epoch (parts_for a h) (node_at w h).table (node_at w h).table refl }
 
 pub grows-both : (a : Adoption) (u v w : WorldState) → Grows a u v → Grows a v w → Grows a u w
 grows-both a u v w g k = record {
@@ -37,23 +37,23 @@ grows-both a u v w g k = record {
 
 -- tables stay
 pub grows-still : (a : Adoption) (w v : WorldState) → ((h : ℕ) → (node_at v h).table ≡ (node_at w h).table) → Grows a w v
-grows-still a w v same = record { each = λ h. grows-same-table (parts_for a h) (node_at w h).table (node_at v h).table (same h) }
+grows-still a w v same = record { each = λ h. grows-same-table a.epoch (parts_for a h) (node_at w h).table (node_at v h).table (same h) }
 
 -- one host's table grows
 abbrev From : Adoption → WorldState → ℕ → NodeState → Type 0
-From a w h n = TableGrows (parts_for a h) (node_at w h).table n.table
+From a w h n = TableGrows a.epoch (parts_for a h) (node_at w h).table n.table
 
 from-same : (a : Adoption) (w : WorldState) (h : ℕ) → From a w h (node_at w h)
-from-same a w h = grows-same-table (parts_for a h) (node_at w h).table (node_at w h).table refl
+from-same a w h = grows-same-table a.epoch (parts_for a h) (node_at w h).table (node_at w h).table refl
 
-pub grows-node : (a : Adoption) (w : WorldState) (h : ℕ) (n : NodeState) → TableGrows (parts_for a h) (node_at w h).table n.table → Grows a w (with_node w h n)
+pub grows-node : (a : Adoption) (w : WorldState) (h : ℕ) (n : NodeState) → TableGrows a.epoch (parts_for a h) (node_at w h).table n.table → Grows a w (with_node w h n)
 grows-node a w h n g = record { each = λ j. each-set (From a w) w.nodes h j n (new_node 0) g (from-same a w) }
 
 -- a host has sent
 pub grows-sent : (a : Adoption) (w : WorldState) (h : ℕ) (out : Outgoing) (t : WorldState) → SendKeeps w h out t → Grows a w t
 grows-sent a w h out t k =
     let m : NodeState = after_sending (node_at w h) out in
-    let still : From a w h m = grows-same-table (parts_for a h) (node_at w h).table m.table (sent-table (node_at w h) out) in
+    let still : From a w h m = grows-same-table a.epoch (parts_for a h) (node_at w h).table m.table (sent-table (node_at w h) out) in
     record {
       each = λ j. subst (λ ns. From a w j (get_or ns j (new_node 0))) (sym k.nodes) (each-set (From a w) w.nodes h j m (new_node 0) still (from-same a w));
     }

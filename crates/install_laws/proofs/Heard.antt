@@ -1,8 +1,7 @@
 -- What hosts make of the packets of an installation: the part's host takes it and answers, and the adopter hears that.
-use Rattle.std.proofs.Common.{◌≡◌, ◌<◌, ◌≤◌, ◌^◌, ℕ, Bool, true, false, ◌&&◌, ◌||◌, nat_eq, nat_lt, List, [], ◌∷◌, Option, Some, None, refl, ap, ◌∙◌, arith, if◌then◌else◌}
+use Rattle.std.proofs.Common.{◌≡◌, ◌<◌, ◌^◌, ℕ, Bool, true, false, ◌&&◌, ◌||◌, nat_eq, nat_lt, List, [], ◌∷◌, Option, Some, None, refl, sym, ap, ◌∙◌, true≢false, if◌then◌else◌}
 use Rattle.std.specs.Prelude.{ℤ}
 use Rattle.std.specs.List.{AllByRecursion, list_all}
-use Rattle.std.proofs.lemmas.Bool.Decides.{nat_tests}
 use Rattle.net_defs.specs.Turn.{IsTurn}
 use Rattle.mapping_defs.specs.Mapping.{RouteEntry, RoutePart, is_part}
 use Rattle.mapping_defs.specs.Mapping.MappingBody.{Part as PartBody, PartAck}
@@ -12,7 +11,7 @@ use Rattle.world_defs.specs.declared.effect.Effect.{Effect}
 use Rattle.world_defs.specs.declared.effect.Effect.TheVariants.{Arrived}
 use Rattle.world_defs.specs.declared.heard.Heard.{Heard}
 use Rattle.world_defs.specs.declared.heard.Heard.TheVariants.{Routes, RoutesAck}
-use Rattle.world_defs.specs.Table.{TableState, of_epoch, collected_with, joined_or, joined_below, is_epoch, active_epoch, applied}
+use Rattle.world_defs.specs.Table.{TableState, of_epoch, collected_with, joined_or, joined_below, is_epoch, active_epoch, is_old, applied}
 use Rattle.world_defs.specs.Node.{NodeState, StagedAck, StagedPart, TablePart, PartAnswer, to_send, packet_for, after_sending}
 use Rattle.world_defs.specs.Hearing.{heard_if, is_part_for, part_heard}
 use Rattle.world_defs.specs.World.{WorldState, host_count, node_at, with_node}
@@ -22,7 +21,7 @@ use Rattle.ask_laws.proofs.Drained.{told}
 use Rattle.ask_laws.proofs.Parcels.{IsParcel, hears_in}
 use Rattle.ask_laws.proofs.Tries.{equal, below}
 use Rattle.install_laws.proofs.Between.{IsBetween, SamePorts}
-use Rattle.install_laws.proofs.Tables.{applied-low}
+use Rattle.install_laws.proofs.Tables.{applied-due}
 
 -- what an installation reads of effects is what hosts heard
 come_in : ℕ → List (ℕ × Heard) → Bool
@@ -75,13 +74,13 @@ unfolding to_send
 answer-first h n x e f g = rw (e, f, g) refl
 
 -- what is left of the host after it
-pub part-left : (mapper h : ℕ) (n : NodeState) (p : RoutePart) (by : List ℤ) → IsBetween mapper h n → IsBetween mapper h (after_sending n (TablePart p by)) × SamePorts n (after_sending n (TablePart p by))
+pub part-left : (epoch mapper h : ℕ) (n : NodeState) (p : RoutePart) (by : List ℤ) → IsBetween epoch mapper h n → IsBetween epoch mapper h (after_sending n (TablePart p by)) × SamePorts n (after_sending n (TablePart p by))
 unfolding after_sending
-part-left mapper h n p by b = (record { unstaged = λ other. refl; no_reply = b.no_reply; low = b.low }, record { lanes = refl; ports = refl })
+part-left epoch mapper h n p by b = (record { unstaged = λ other. refl; no_reply = b.no_reply; due = b.due }, record { lanes = refl; ports = refl })
 
-pub answer-left : (mapper h : ℕ) (n : NodeState) (x : StagedAck) → IsBetween mapper h n → IsBetween mapper h (after_sending n (PartAnswer x)) × SamePorts n (after_sending n (PartAnswer x))
+pub answer-left : (epoch mapper h : ℕ) (n : NodeState) (x : StagedAck) → IsBetween epoch mapper h n → IsBetween epoch mapper h (after_sending n (PartAnswer x)) × SamePorts n (after_sending n (PartAnswer x))
 unfolding after_sending
-answer-left mapper h n x b = (record { unstaged = b.unstaged; no_reply = b.no_reply; low = b.low }, record { lanes = refl; ports = refl })
+answer-left epoch mapper h n x b = (record { unstaged = b.unstaged; no_reply = b.no_reply; due = b.due }, record { lanes = refl; ports = refl })
 
 -- packets by the rules
 pub part-parcel : (w : WorldState) (h : ℕ) (p : RoutePart) (by : List ℤ) → AllByRecursion IsTurn by → is_part p ≡ true → IsParcel w h (TablePart p by) by (PartBody p)
@@ -99,10 +98,10 @@ ack_of p = record { epoch = p.epoch; part = p.part; back = p.back }
 abbrev pub with_taken : NodeState → RoutePart → NodeState
 with_taken n p = record n { table = (applied n.table p).1; part_ack = Some (ack_of p) }
 
--- no part of epoch 1 is old where no epoch above 1 was seen
-pub taken : (n : NodeState) (p : RoutePart) → p.epoch ≡ 1 → n.table.epoch ≤ 1 → part_heard n p (applied n.table p) ≡ with_taken n p
+-- a part that isn't old is taken
+pub taken : (n : NodeState) (p : RoutePart) → is_old n.table p.epoch ≡ false → part_heard n p (applied n.table p) ≡ with_taken n p
 unfolding applied
-taken n p one low = by (nat_lt p.epoch n.table.epoch) (is_epoch p.epoch (active_epoch n.table)) refl
+taken n p due = by (is_old n.table p.epoch) (is_epoch p.epoch (active_epoch n.table)) refl
   where
     v : TableState
     v = collected_with (of_epoch n.table p.epoch) p
@@ -114,21 +113,21 @@ taken n p one low = by (nat_lt p.epoch n.table.epoch) (is_epoch p.epoch (active_
     result : Bool → Bool → Applied × TableState
     result b c = if b then (Old, n.table) else if c then (Active, n.table) else joined_or v (joined_below p.parts v.collected)
 
-    by : (b c : Bool) → nat_lt p.epoch n.table.epoch ≡ b → part_heard n p (result b c) ≡ record n { table = (result b c).1; part_ack = Some (ack_of p) }
-    by true c e = absurd (grind (arith, nat_tests))
+    by : (b c : Bool) → is_old n.table p.epoch ≡ b → part_heard n p (result b c) ≡ record n { table = (result b c).1; part_ack = Some (ack_of p) }
+    by true c e = absurd (true≢false (sym e ∙ due))
     by false true e = refl
     by false false e = joins (joined_below p.parts v.collected)
 
-pub taken-between : (mapper h : ℕ) (n : NodeState) (p : RoutePart) → p.epoch ≡ 1 → IsBetween mapper h n → IsBetween mapper h (with_taken n p)
-taken-between mapper h n p one b = record { unstaged = b.unstaged; no_reply = b.no_reply; low = applied-low n.table p one b.low }
+pub taken-between : (epoch mapper h : ℕ) (n : NodeState) (p : RoutePart) → p.epoch ≡ epoch → IsBetween epoch mapper h n → IsBetween epoch mapper h (with_taken n p)
+taken-between epoch mapper h n p one b = record { unstaged = b.unstaged; no_reply = b.no_reply; due = applied-due n.table p epoch one b.due }
 
 -- the part is heard at its host
-pub part-heard : (base : WorldState) (g : ℕ) (p : RoutePart) → p.dst ≡ g → p.mapper < host_count base → list_all (λ e. nat_lt e.to (host_count base)) p.entries ≡ true → p.epoch ≡ 1 → (node_at base g).table.epoch ≤ 1 → hears_in base g (PartBody p) ≡ (Arrived g Routes, with_node base g (with_taken (node_at base g) p))
-part-heard base g p to mapper known one low =
+pub part-heard : (base : WorldState) (g : ℕ) (p : RoutePart) → p.dst ≡ g → p.mapper < host_count base → list_all (λ e. nat_lt e.to (host_count base)) p.entries ≡ true → is_old (node_at base g).table p.epoch ≡ false → hears_in base g (PartBody p) ≡ (Arrived g Routes, with_node base g (with_taken (node_at base g) p))
+part-heard base g p to mapper known due =
     let n : NodeState = node_at base g in
     let mine : nat_eq p.dst g ≡ true = ap (λ h. nat_eq h g) to ∙ equal g in
     let fits : is_part_for g (host_count base) p ≡ true = rw (mine, below p.mapper (host_count base) mapper, known) refl in
-    ap (λ b. arrived base g (heard_if b n (Routes, part_heard n p (applied n.table p)))) fits ∙ ap (λ m. (Arrived g Routes, with_node base g m)) (taken n p one low)
+    ap (λ b. arrived base g (heard_if b n (Routes, part_heard n p (applied n.table p)))) fits ∙ ap (λ m. (Arrived g Routes, with_node base g m)) (taken n p due)
 
 -- and its acknowledgement
 pub answer-heard : (base : WorldState) (g epoch from part : ℕ) → from < host_count base → hears_in base g (PartAck epoch from part) ≡ (Arrived g (RoutesAck epoch from part), with_node base g (node_at base g))

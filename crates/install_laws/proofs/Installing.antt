@@ -1,9 +1,10 @@
 -- An installation from its start to its end: the cause of each host that isn't counted, and what is kept.
-use Rattle.std.proofs.Common.{ℕ, List, [], ◌∷◌, IfSome, is_some, refl, sym, ap, ◌∙◌, subst, arith}
+use Rattle.std.proofs.Common.{◌≡◌, ℕ, Bool, true, false, ◌&&◌, ◌||◌, nat_eq, nat_lt, List, [], ◌∷◌, IfSome, is_some, refl, sym, ap, ◌∙◌, subst, arith, true≢false}
+use Rattle.std.proofs.lemmas.Bool.Decides.{nat_tests}
 use Rattle.net_defs.specs.Network.{Network}
 use Rattle.link_defs.specs.Links.{LinkState, is_idle}
-use Rattle.world_defs.specs.Table.{Adoption, TableState}
-use Rattle.world_defs.specs.World.{WorldState, fabric_of, new_world}
+use Rattle.world_defs.specs.Table.{Adoption, TableState, has_revoked, is_old}
+use Rattle.world_defs.specs.World.{WorldState, fabric_of, new_world, node_at}
 use Rattle.world_defs.specs.Asking.{all_given_up}
 use Rattle.world_laws.specs.Shape.{IsWorld}
 use Rattle.world_laws.proofs.Shapes.{step-kept, new-world, planned-world, adopted-world}
@@ -12,7 +13,7 @@ use Rattle.world_defs.proofs.LogViews.{hosts_installed, installed}
 use Rattle.ask_laws.proofs.Lone.{IsBare, is-bare, bare-idle}
 use Rattle.ask_laws.proofs.Ready.{kept-start}
 use Rattle.act_defs.specs.Acts.{Act, Happens, Plans, Adopts, acted, acted_all, IsReached}
-use Rattle.table_laws.proofs.Steps.{IsAdopted}
+use Rattle.table_laws.proofs.Steps.{IsAdopted, adopted-fits}
 use Rattle.install_laws.proofs.Worlds.{installed-of}
 use Rattle.install_laws.proofs.Leads.{Leads, along-leads, reached-further}
 use Rattle.install_laws.specs.Premises.{CanInstall}
@@ -21,7 +22,7 @@ use Rattle.install_laws.specs.Cause.{MissedHostsWereHarmed}
 use Rattle.install_laws.specs.Tables.{CountedHostsHaveTables}
 use Rattle.install_laws.specs.Counts.{EachMissCostsFaults}
 use Rattle.table_laws.proofs.Dependencies.{reached-of}
-use Rattle.install_laws.proofs.Epochs.{reached-low}
+use Rattle.install_laws.proofs.Epochs.{reached-due}
 use Rattle.install_laws.proofs.Between.{Between, kept-ask, kept-both, between-start}
 use Rattle.install_laws.proofs.Parts.{are-ways}
 use Rattle.install_laws.proofs.Walking.{IsInstallable, AreInstalled, hosts-so}
@@ -44,12 +45,12 @@ record IsInstallation (n : Network) (a : Adoption) (tries : ℕ) (hosts : List �
 installable : (a : Adoption) (hosts : List ℕ) (w : WorldState) → CanInstall a hosts w → IsInstallable (fabric_of w) a
 installable a hosts w can =
     let it : IsAdopted (fabric_of w) a = subst (λ o. IfSome o (IsAdopted (fabric_of w))) can.adopted (reached-of (fabric_of w) w can.reached).adopted in
-    record { fabric = can.reached.fabric; epoch = it.epoch; in_order = can.set.in_order; ways = are-ways (fabric_of w) a.routes can.reached.fabric it.adoptable.lead can.set.few_turns }
+    record { fabric = can.reached.fabric; epoch = adopted-fits (fabric_of w) a it; in_order = can.set.in_order; ways = are-ways (fabric_of w) a.routes can.reached.fabric it.adoptable.lead can.set.few_turns }
 
 pub start-between : (a : Adoption) (hosts : List ℕ) (w : WorldState) → CanInstall a hosts w → Between (fabric_of w) a (all_given_up w)
 start-between a hosts w can =
     let n : Network = fabric_of w in
-    between-start n a w refl (reached-world n w can.reached) can.idle can.adopted (reached-of n w can.reached).plan (reached-low n w can.reached).each
+    between-start n a w refl (reached-world n w can.reached) can.idle can.adopted (reached-of n w can.reached).plan (reached-due n w a can.reached can.adopted can.unrevoked)
 
 installation : (a : Adoption) (hosts : List ℕ) (tries : ℕ) (w : WorldState) → CanInstall a hosts w → IsInstallation (fabric_of w) a tries hosts w (installed a hosts tries w)
 unfolding log.install
@@ -81,6 +82,17 @@ installing-idle a hosts tries w can =
     let e : IsBare l = (installation a hosts tries w can).hosts_are.between.bare in
     ap is_idle (is-bare l e) ∙ bare-idle l
 
+-- a host for which a part of an epoch isn't old hasn't given that up
+due-unrevoked : (t : TableState) (number : ℕ) → is_old t number ≡ false → has_revoked number t ≡ false
+due-unrevoked t number e = by (nat_lt number t.epoch) (nat_eq number t.epoch) (nat_eq t.epoch number) t.revoked refl refl e
+  where
+    by : (a b c m : Bool) → nat_eq number t.epoch ≡ b → nat_eq t.epoch number ≡ c → (a || (b && m)) ≡ false → (c && m) ≡ false
+    by true b c m p q r = absurd (true≢false r)
+    by false true true m p q r = r
+    by false true false m p q r = refl
+    by false false true m p q r = absurd (grind (arith, nat_tests))
+    by false false false m p q r = refl
+
 -- and again
 pub install-again : CanInstallAgain
 install-again a hosts tries w can =
@@ -91,5 +103,6 @@ install-again a hosts tries w can =
       reached = subst (λ n. IsReached n v) (sym k.fabric) on;
       idle = installing-idle a hosts tries w can;
       adopted = k.adopted ∙ can.adopted;
+      unrevoked = λ h low. due-unrevoked (node_at v h).table a.epoch ((installation a hosts tries w can).hosts_are.between.nodes h).due;
       set = can.set;
     }

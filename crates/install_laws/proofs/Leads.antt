@@ -1,14 +1,14 @@
 -- Acts that may happen lead from a world to another: each event, a plan, an adoption; so a world that they lead to from a reached one is reached.
-use Rattle.std.proofs.Common.{◌≡◌, ◌≤◌, ℕ, List, [], ◌∷◌, ◌++◌, refl, sym, ◌∙◌, ap, subst}
+use Rattle.std.proofs.Common.{◌≡◌, ◌≤◌, ℕ, true, List, [], ◌∷◌, ◌++◌, refl, sym, ◌∙◌, ap, subst}
 use Rattle.net_defs.specs.declared.route.Route.{Route}
 use Rattle.net_defs.specs.Network.{Network}
 use Rattle.world_defs.specs.declared.event.Event.{Event}
 use Rattle.world_defs.specs.declared.fault.Fault.{Fault}
-use Rattle.world_defs.specs.World.{WorldState, fabric_of, new_world, planned, adopted_by}
+use Rattle.world_defs.specs.World.{WorldState, fabric_of, new_world, planned, may_adopt, adopted_by}
 use Rattle.world_defs.specs.Step.{step}
 use Rattle.world_defs.specs.EightBits.{IsByteFault, IsByteEvent}
 use Rattle.world_laws.proofs.Along.{Along}
-use Rattle.act_defs.specs.Acts.{Act, Happens, Plans, Adopts, acted, acted_all, AreAdoptable, IsSameSet, MayActAll, IsReached}
+use Rattle.act_defs.specs.Acts.{Act, Happens, Plans, Adopts, acted, acted_all, AreAdoptable, MayActAll, IsReached}
 
 pub record Leads (w v : WorldState) : Type 0 where
   pub acts : List Act
@@ -39,7 +39,7 @@ leads-event w e q = record { acts = Happens e ∷ []; may = (q, tt); there = ref
 pub leads-plan : (w : WorldState) (ahead : ℕ) (fault : Fault) → 1 ≤ ahead → IsByteFault fault → Leads w (planned w ahead fault).1
 leads-plan w ahead fault some low = record { acts = Plans ahead fault ∷ []; may = ((some, low), tt); there = refl }
 
-pub leads-adoption : (w : WorldState) (mapper : ℕ) (routes : List Route) → AreAdoptable (fabric_of w) routes → IsSameSet routes w.adopted → Leads w (adopted_by w mapper routes)
+pub leads-adoption : (w : WorldState) (mapper : ℕ) (routes : List Route) → AreAdoptable (fabric_of w) routes → may_adopt w routes ≡ true → Leads w (adopted_by w mapper routes)
 leads-adoption w mapper routes may same = record { acts = Adopts mapper routes ∷ []; may = ((may, same), tt); there = refl }
 
 pub along-leads : Along Leads IsByteEvent

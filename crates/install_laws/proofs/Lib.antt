@@ -1,7 +1,7 @@
 pub mod Worlds
 pub mod Leads
 mod Tables
-mod Epochs
+pub mod Epochs
 mod Parts
 mod Between
 mod Collecting

@@ -192,7 +192,8 @@ pub record IsSent (n : Network) (a : Adoption) (dst part : ℕ) : Type 0 where
   pub way : List ℤ
   pub is : part_for a dst part ≡ Some sent
   pub way_is : route_of a.routes a.mapper dst ≡ Some way
-  pub epoch : sent.epoch ≡ 1
+  pub epoch : sent.epoch ≡ a.epoch
+  pub fits : a.epoch < 2 ^ 32
   pub mapper : sent.mapper ≡ a.mapper
   pub to : sent.dst ≡ dst
   pub number : sent.part ≡ part
@@ -211,8 +212,8 @@ are-turns : (walk : List ℤ) → list_all is_turn walk ≡ true → AllByRecurs
 are-turns [] all = tt
 are-turns (t ∷ walk) all = let two = and_parts (is_turn t) (list_all is_turn walk) all in (two.0, are-turns walk two.1)
 
-pub sent-part : (n : Network) (a : Adoption) (dst part : ℕ) → IsFabric n → a.epoch ≡ 1 → AreRising a.routes → AllByRecursion (IsWay n) a.routes → dst ≢ a.mapper → IsJoined a dst → part < part_count (length (entries_from a.routes dst)) → IsSent n a dst part
-sent-part n a dst part f one up all other joined low =
+pub sent-part : (n : Network) (a : Adoption) (dst part : ℕ) → IsFabric n → a.epoch < 2 ^ 32 → AreRising a.routes → AllByRecursion (IsWay n) a.routes → dst ≢ a.mapper → IsJoined a dst → part < part_count (length (entries_from a.routes dst)) → IsSent n a dst part
+sent-part n a dst part f fit up all other joined low =
     let es : List RouteEntry = entries_from a.routes dst in
     let mine : List RouteEntry = part_entries es part in
     let there = way-of n a.routes a.mapper dst all joined.there in
@@ -231,7 +232,7 @@ sent-part n a dst part f one up all other joined low =
     let hosts = f.few_hosts in
     let dst_low = there.host in
     let mapper_low = back.host in
-    let x : nat_lt a.epoch (2 ^ 32) ≡ true = below a.epoch (2 ^ 32) (omega (arith, one)) in
+    let x : nat_lt a.epoch (2 ^ 32) ≡ true = below a.epoch (2 ^ 32) fit in
     let y : nat_lt a.mapper (2 ^ 16) ≡ true = below a.mapper (2 ^ 16) (omega (arith, mapper_low, hosts)) in
     let z : nat_lt dst (2 ^ 16) ≡ true = below dst (2 ^ 16) (omega (arith, dst_low, hosts)) in
     let q : nat_le (part_count (length es)) 16 ≡ true = grind (arith, nat_tests) in
@@ -242,7 +243,8 @@ sent-part n a dst part f one up all other joined low =
       way = there.walk;
       is = rw (away, inside, back.is) refl;
       way_is = there.is;
-      epoch = one;
+      epoch = refl;
+      fits = fit;
       mapper = refl;
       to = refl;
       number = refl;

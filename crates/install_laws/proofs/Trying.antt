@@ -9,7 +9,7 @@ use Rattle.mapping_defs.specs.Mapping.MappingBody.{Part as PartBody, PartAck}
 use Rattle.world_defs.specs.declared.event.Event.TheVariants.{Part}
 use Rattle.world_defs.specs.declared.effect.Effect.TheVariants.{Arrived}
 use Rattle.world_defs.specs.declared.heard.Heard.TheVariants.{Routes, RoutesAck}
-use Rattle.world_defs.specs.Table.{Adoption, part_for, route_of}
+use Rattle.world_defs.specs.Table.{Adoption, part_for, route_of, is_old}
 use Rattle.world_defs.specs.Node.{NodeState, StagedPart, Outgoing, TablePart, PartAnswer, new_node}
 use Rattle.world_defs.specs.World.{WorldState, host_count, last_count, node_at, with_node}
 use Rattle.world_defs.specs.Step.{stage_at, stage_part, part_staged, step}
@@ -81,7 +81,7 @@ answered-so n a dst part w x s r f k (Delivery.none_left most used num heard sam
 }
 answered-so n a dst part w x s r f k (Delivery.struck used num heard c more planned) =
     let out : Outgoing = PartAnswer (ack_of x.sent) in
-    let l = answer-left a.mapper dst (node_at s.world dst) (ack_of x.sent) (k.between.nodes dst) in
+    let l = answer-left a.epoch a.mapper dst (node_at s.world dst) (ack_of x.sent) (k.between.nodes dst) in
     let h = k.kept.harmed in
     record {
       between = between-sent n a s.world dst out r.world k.between l.0 c;
@@ -93,7 +93,7 @@ answered-so n a dst part w x s r f k (Delivery.struck used num heard c more plan
 answered-so n a dst part w x s r f k (Delivery.astray used num heard c same away) = absurd (away a.mapper x.home)
 answered-so n a dst part w x s r f k (Delivery.delivered g base left used num at c same world heard) =
     let out : Outgoing = PartAnswer (ack_of x.sent) in
-    let l = answer-left a.mapper dst (node_at s.world dst) (ack_of x.sent) (k.between.nodes dst) in
+    let l = answer-left a.epoch a.mapper dst (node_at s.world dst) (ack_of x.sent) (k.between.nodes dst) in
     let home : g ≡ a.mapper = one-host g a.mapper (sym at ∙ x.home) in
     let b = between-sent n a s.world dst out base k.between l.0 c in
     let kept = kept-both w s.world base k.kept (kept-sent s.world dst out base l.1 c) in
@@ -118,12 +118,13 @@ answer-sent n a dst part w x s f other k =
     let b = k.between in
     let here = b.nodes dst in
     let one = x.epoch in
+    let fits = x.fits in
     let few = x.few_parts in
     let number = x.number in
     let first = answer-first dst (node_at s.world dst) (ack_of x.sent) (here.unstaged other) here.no_reply k.ack in
     answered-so n a dst part w x s (sends s.world dst) f k
     (deliver n s.world dst (PartAnswer (ack_of x.sent)) x.sent.back (PartAck x.sent.epoch dst x.sent.part) b.bare b.flips b.net first
-    (λ low. answer-parcel s.world dst (ack_of x.sent) x.home_turns (omega (arith, one)) (small-host n dst f x.host) (omega (arith, few, number))))
+    (λ low. answer-parcel s.world dst (ack_of x.sent) x.home_turns (omega (arith, one, fits)) (small-host n dst f x.host) (omega (arith, few, number))))
 
 sent-so : (n : Network) (a : Adoption) (dst part : ℕ) (w : WorldState) (x : IsSent n a dst part) (u : WorldState) (s : Sent) → IsFabric n → dst ≢ a.mapper → Between n a u → IsInstallKept w u → Grows a w u → Delivery n u a.mapper (TablePart x.sent x.way) x.way (PartBody x.sent) s → IsPartTry n a dst part w (part_sent w a.mapper dst part s)
 sent-so n a dst part w x u s f other b k grown (Delivery.no_cable none used num heard same) = absurd (none dst x.there)
@@ -131,13 +132,13 @@ sent-so n a dst part w x u s f other b k grown (Delivery.none_left most used num
     silent-so n a dst part w s heard (subst (Between n a) (sym same) b) (subst (IsInstallKept w) (sym same) k) (inr (subst (λ v. last_count ≤ v.injected) (sym same) most)) (subst (Grows a w) (sym same) grown)
 sent-so n a dst part w x u s f other b k grown (Delivery.struck used num heard c more planned) =
     let out : Outgoing = TablePart x.sent x.way in
-    let l = part-left a.mapper a.mapper (node_at u a.mapper) x.sent x.way (b.nodes a.mapper) in
+    let l = part-left a.epoch a.mapper a.mapper (node_at u a.mapper) x.sent x.way (b.nodes a.mapper) in
     let h = k.harmed in
     silent-so n a dst part w s heard (between-sent n a u a.mapper out s.world b l.0 c) (kept-both w u s.world k (kept-sent u a.mapper out s.world l.1 c)) (inl (omega (arith, more, h))) (grows-both a w u s.world grown (grows-sent a u a.mapper out s.world c))
 sent-so n a dst part w x u s f other b k grown (Delivery.astray used num heard c same away) = absurd (away dst x.there)
 sent-so n a dst part w x u s f other b k grown (Delivery.delivered g base left used num at c same world heard) =
     let out : Outgoing = TablePart x.sent x.way in
-    let l = part-left a.mapper a.mapper (node_at u a.mapper) x.sent x.way (b.nodes a.mapper) in
+    let l = part-left a.epoch a.mapper a.mapper (node_at u a.mapper) x.sent x.way (b.nodes a.mapper) in
     let arrives : g ≡ dst = one-host g dst (sym at ∙ x.there) in
     let now = between-sent n a u a.mapper out base b l.0 c in
     let kept = kept-both w u base k (kept-sent u a.mapper out base l.1 c) in
@@ -147,18 +148,18 @@ sent-so n a dst part w x u s f other b k grown (Delivery.delivered g base left u
     let there = x.host in
     let m : NodeState = with_taken (node_at base dst) x.sent in
     let known : list_all (λ e. nat_lt e.to (host_count base)) x.sent.entries ≡ true = subst (λ count. list_all (λ e. nat_lt e.to count) x.sent.entries ≡ true) (sym hosts) x.known in
-    let heard_so : hears_in base g (PartBody x.sent) ≡ (Arrived dst Routes, with_node base dst m) = ap (λ h. hears_in base h (PartBody x.sent)) arrives ∙ part-heard base dst x.sent x.to (omega (arith, hosts, adopter, mapper)) known x.epoch (now.nodes dst).low in
+    let heard_so : hears_in base g (PartBody x.sent) ≡ (Arrived dst Routes, with_node base dst m) = ap (λ h. hears_in base h (PartBody x.sent)) arrives ∙ part-heard base dst x.sent x.to (omega (arith, hosts, adopter, mapper)) known (ap (is_old (node_at base dst).table) x.epoch ∙ (now.nodes dst).due) in
     let is : s.world ≡ with_node base dst m = world ∙ ap (λ y. y.1) heard_so in
     let come : has_part_come dst s.effects ≡ true = one_part dst s.effects (heard ∙ ap (λ y. told (y.0 ∷ [])) heard_so) in
     let low : dst < host_count base = omega (arith, hosts, there) in
     let ack : (node_at s.world dst).part_ack ≡ Some (ack_of x.sent) = ap (λ v. (node_at v dst).part_ack) is ∙ ap (λ (y : NodeState). y.part_ack) (get_or-set_same base.nodes dst m (new_node 0) low) in
     let staged : has_staged_answer s.world dst s.effects ≡ true = ap (λ c. c && is_some (node_at s.world dst).part_ack) come ∙ ap is_some ack in
     let taken : Taken n a dst x.sent w s.world = record {
-      between = subst (Between n a) (sym is) (between-node n a base dst m now (taken-between a.mapper dst (node_at base dst) x.sent x.epoch (now.nodes dst)));
+      between = subst (Between n a) (sym is) (between-node n a base dst m now (taken-between a.epoch a.mapper dst (node_at base dst) x.sent x.epoch (now.nodes dst)));
       kept = subst (IsInstallKept w) (sym is) (kept-both w base (with_node base dst m) kept (kept-node base dst m (record { lanes = refl; ports = refl })));
       ack = ack;
-      grows = subst (Grows a w) (sym is) (grows-both a w base (with_node base dst m) (grows-both a w u base grown (grows-sent a u a.mapper out base c)) (grows-node a base dst m (applied-grows (parts_for a dst) (node_at base dst).table x.sent x.epoch x.parts (now.nodes dst).low)));
-      has = subst (HasPart a dst x.sent.part) (sym is) (subst (λ (y : NodeState). Has (parts_for a dst) x.sent.part y.table) (sym (get_or-set_same base.nodes dst m (new_node 0) low)) (applied-takes (parts_for a dst) (node_at base dst).table x.sent x.epoch x.parts (now.nodes dst).low));
+      grows = subst (Grows a w) (sym is) (grows-both a w base (with_node base dst m) (grows-both a w u base grown (grows-sent a u a.mapper out base c)) (grows-node a base dst m (applied-grows a.epoch (parts_for a dst) (node_at base dst).table x.sent x.epoch x.parts)));
+      has = subst (HasPart a dst x.sent.part) (sym is) (subst (λ (y : NodeState). Has a.epoch (parts_for a dst) x.sent.part y.table) (sym (get_or-set_same base.nodes dst m (new_node 0) low)) (applied-takes a.epoch (parts_for a dst) (node_at base dst).table x.sent x.epoch x.parts (now.nodes dst).due));
     } in
     subst (λ c. IsPartTry n a dst part w (part_sent_if w a.mapper dst part s c)) (sym staged) (answer-sent n a dst part w x s f other taken)
 
@@ -170,7 +171,7 @@ part-tried n a dst part w f other x b =
     let here = b.nodes a.mapper in
     let hosts = b.hosts in
     let adopter = x.adopter in
-    let now = between-node n a w a.mapper m b (record { unstaged = λ away. absurd (away refl); no_reply = here.no_reply; low = here.low }) in
+    let now = between-node n a w a.mapper m b (record { unstaged = λ away. absurd (away refl); no_reply = here.no_reply; due = here.due }) in
     let kept = kept-node w a.mapper m (record { lanes = refl; ports = refl }) in
     let staged : (node_at u a.mapper).staged ≡ Some (StagedPart x.sent x.way) = ap (λ (y : NodeState). y.staged) (get_or-set_same w.nodes a.mapper m (new_node 0) (omega (arith, hosts, adopter))) in
     let first = part-first a.mapper (node_at u a.mapper) x.sent x.way staged in

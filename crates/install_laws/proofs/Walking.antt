@@ -1,5 +1,5 @@
 -- From try to try, part to part and host to host.
-use Rattle.std.proofs.Common.{◌≡◌, ◌≢◌, ◌<◌, ◌≤◌, ◌+◌, ◌*◌, ℕ, zero, suc, Bool, true, false, nat_eq, List, [], ◌∷◌, length, inl, inr, refl, sym, ◌∙◌, subst, arith, true≢false, if◌then◌else◌}
+use Rattle.std.proofs.Common.{◌≡◌, ◌≢◌, ◌<◌, ◌≤◌, ◌+◌, ◌*◌, ℕ, zero, suc, Bool, true, false, nat_eq, List, [], ◌∷◌, length, inl, inr, refl, sym, ◌∙◌, subst, arith, true≢false, if◌then◌else◌, ◌^◌}
 use Rattle.std.specs.List.{AllByRecursion, range_with_len}
 use Rattle.std.proofs.lemmas.Bool.Decides.{Decides-eqb}
 use Rattle.net_defs.specs.Network.{Network, IsFabric}
@@ -108,7 +108,7 @@ parts-so n a dst tries (p ∷ ps) w f all b =
 -- What is known of a set.
 pub record IsInstallable (n : Network) (a : Adoption) : Type 0 where
   pub fabric : IsFabric n
-  pub epoch : a.epoch ≡ 1
+  pub epoch : a.epoch < 2 ^ 32
   pub in_order : AreRising a.routes
   pub ways : AllByRecursion (IsWay n) a.routes
 
@@ -145,7 +145,7 @@ parts-active n a tries h w r joined one adopter all = by (nat_eq h a.mapper) ref
     by true e each = subst (λ g. has_table r.1 g ≡ true) (sym ((Decides-eqb h a.mapper).0 e)) ((one.grows.each a.mapper).active adopter)
     by false e each =
         let other : h ≢ a.mapper = λ same. true≢false (sym ((Decides-eqb h a.mapper).1 same) ∙ e) in
-        whole-active (parts_for a h) (node_at r.1 h).table (parts-some a h a.mapper (joined other).back) each
+        whole-active a.epoch (parts_for a h) (node_at r.1 h).table (parts-some a h a.mapper (joined other).back) each
 
 counted-so : (n : Network) (a : Adoption) (tries h : ℕ) (hs : List ℕ) (w : WorldState) → (h ≢ a.mapper → IsJoined a h) → AreParts n a h tries (parts_of a h) w (parts_installed a.mapper h tries (parts_of a h) w)
     → AreInstalled n a tries hs (parts_installed a.mapper h tries (parts_of a h) w).1 (hosts_installed a tries hs (parts_installed a.mapper h tries (parts_of a h) w).1) → AreInstalled n a tries (h ∷ hs) w (hosts_installed a tries (h ∷ hs) w)

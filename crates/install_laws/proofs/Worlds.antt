@@ -5,7 +5,8 @@ use Rattle.cable_history.specs.History.{fabric_now}
 use Rattle.world_defs.specs.declared.event.Event.{Event}
 use Rattle.world_defs.specs.declared.fault.Fault.{Fault}
 use Rattle.world_defs.specs.Table.{Adoption}
-use Rattle.world_defs.specs.World.{WorldState, fabric_of, planned, adopted_by}
+use Rattle.world_defs.specs.World.{WorldState, fabric_of, planned, keeps_epoch, adopted_by}
+use Rattle.act_defs.proofs.Kept.{accepted-net}
 use Rattle.world_defs.specs.Step.{step}
 use Rattle.world_defs.proofs.Kept.{step-adopted, with-all, step-plan}
 use Rattle.world_defs.specs.EightBits.{IsByteFault, IsByteEvent, HasByteFaults}
@@ -38,7 +39,7 @@ pub stays-plan : (w : WorldState) (ahead : ℕ) (fault : Fault) → IsByteFault 
 stays-plan w ahead fault low = record { fabric = refl; world = planned-world w ahead fault; bytes = with-all (w.injected + ahead) fault w.plan low }
 
 pub stays-adopted : (w : WorldState) (mapper : ℕ) (routes : List Route) → Stays w (adopted_by w mapper routes)
-stays-adopted w mapper routes = record { fabric = refl; world = adopted-world w mapper routes; bytes = λ all. all }
+stays-adopted w mapper routes = record { fabric = accepted-net w.links (keeps_epoch w routes); world = adopted-world w mapper routes; bytes = λ all. all }
 
 -- what holds from a world to the next at every event holds along settles, asks and installations
 module _ (R : WorldState → WorldState → Type 0) (g : Along R IsByteEvent) where

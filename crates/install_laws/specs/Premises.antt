@@ -1,10 +1,10 @@
 -- What an installation is made over.
-use Rattle.std.specs.Prelude.{◌≡◌, ◌≢◌, ℕ, ◌≤◌, true, List, length, Some}
+use Rattle.std.specs.Prelude.{◌≡◌, ◌≢◌, ℕ, ◌≤◌, ◌<◌, true, false, List, length, Some}
 use Rattle.std.specs.List.{AllByRecursion}
 use Rattle.link_defs.specs.Links.{is_idle}
 use Rattle.net_defs.specs.RouteSet.{AreRising, HasRoute}
-use Rattle.world_defs.specs.Table.{Adoption}
-use Rattle.world_defs.specs.World.{WorldState, fabric_of}
+use Rattle.world_defs.specs.Table.{Adoption, has_revoked}
+use Rattle.world_defs.specs.World.{WorldState, fabric_of, host_count, node_at}
 use Rattle.act_defs.specs.Acts.{IsReached}
 
 -- a set has a route from its adopter to a host, and one back
@@ -24,9 +24,10 @@ pub record IsForHosts (a : Adoption) (hosts : List ℕ) : Type 0 where
   pub joined : AllByRecursion (λ h. h ≢ a.mapper → IsJoined a h) hosts
 
 -- An installation of the adopted set on these hosts, in a world that acts which may happen lead to: the links are
--- idle.
+-- idle, and no host has given up the set's epoch.
 pub record CanInstall (a : Adoption) (hosts : List ℕ) (w : WorldState) : Type 0 where
   pub reached : IsReached (fabric_of w) w
   pub idle : is_idle w.links ≡ true
   pub adopted : w.adopted ≡ Some a
+  pub unrevoked : (h : ℕ) → h < host_count w → has_revoked a.epoch (node_at w h).table ≡ false
   pub set : IsForHosts a hosts

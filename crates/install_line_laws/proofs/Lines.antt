@@ -6,7 +6,8 @@ use Rattle.std.proofs.lemmas.Option.{same_Some}
 use Rattle.std.proofs.lemmas.List.{get_or-set_same}
 use Rattle.net_defs.specs.declared.vertex.Vertex.TheVariants.{Host}
 use Rattle.net_defs.specs.Network.{Network, IsFabric, has_vertex}
-use Rattle.link_defs.specs.Links.{is_idle}
+use Rattle.link_defs.specs.Links.{LinkState, is_idle}
+use Rattle.link_defs.specs.Fault.{accept}
 use Rattle.journal_defs.specs.Part.{Path, IsInPart}
 use Rattle.journal_defs.proofs.Members.{IsMember}
 use Rattle.map_defs.specs.NetMap.{host_of_vertex, hosts_of}
@@ -15,7 +16,7 @@ use Rattle.map_laws.proofs.Listed.{member-host}
 use Rattle.world_defs.specs.declared.event.Event.{Event}
 use Rattle.world_defs.specs.declared.effect.Effect.{Effect}
 use Rattle.world_defs.specs.Node.{NodeState, new_node}
-use Rattle.world_defs.specs.World.{WorldState, fabric_of, host_count, last_count, node_at, addresses, adopted_by}
+use Rattle.world_defs.specs.World.{WorldState, fabric_of, host_count, last_count, node_at, addresses, adopted_by, may_adopt, keeps_epoch}
 use Rattle.world_defs.specs.Step.{step}
 use Rattle.world_defs.proofs.LogViews.{installed}
 use Rattle.world_defs.specs.Logs as log
@@ -24,22 +25,24 @@ use Rattle.run_defs.specs.declared.command.Command.{Command}
 use Rattle.run_defs.specs.declared.command.Command.TheVariants.{Walk, Map, Circuit, Routes, Install, Begin as BeginCommand, Close as CloseCommand, Poll as PollCommand, Tokens, Provide as ProvideCommand, Send as SendCommand, Plan, Step, Settle, Finish, Duo}
 use Rattle.run_defs.specs.declared.line.Line.TheVariants.{MapBusy, Installed, InstallRefused}
 use Rattle.run_defs.specs.declared.line.InstallCause.{InstallCause}
-use Rattle.run_defs.specs.declared.line.InstallCause.TheVariants.{NoRoutes, Busy, Installed as OtherInstalled}
+use Rattle.run_defs.specs.declared.line.InstallCause.TheVariants.{NoRoutes, Busy}
 use Rattle.run_defs.specs.Output.{Piece, OneLine, lines}
 use Rattle.run_defs.specs.Session.{SessionState, LastMap, LastRoutes, new_session, is_complete, complete_map}
-use Rattle.run_defs.specs.Outcome.{Outcome, says_only, event_of, stepped, step_or_idle, table_line, adoption_of, install_done, install_now, install, map_refused, routes_refused, outcome}
-use Rattle.world_defs.specs.Table.{Adoption, ActiveTable, whole_table, is_other}
+use Rattle.run_defs.specs.Outcome.{Outcome, says_only, event_of, stepped, step_or_idle, table_line, install_done, install_now, install, map_refused, routes_refused, outcome, set_of, adopt_cause}
+use Rattle.world_defs.specs.Table.{Adoption, ActiveTable, whole_table}
 use Rattle.run_defs.specs.Run.{Does, Runs}
 use Rattle.run_defs.specs.Run.Does.{determined, maps, circuits, routes}
 use Rattle.run_defs.specs.Run.Runs.{ended, goes_on}
 use Rattle.run_defs.specs.Headline.{IsCommandOf}
-use Rattle.act_defs.specs.Acts.{AreAdoptable, IsReached}
+use Rattle.act_defs.specs.Acts.{Adopts, AreAdoptable, IsReached}
+use Rattle.act_defs.proofs.Kept.{acted-net}
 use Rattle.mapping_laws.specs.Runs.{IsSessionOf}
 use Rattle.mapping_laws.specs.Held.{HoldsRight}
 use Rattle.mapping_laws.proofs.Sessions.{does-stays, new-session}
 use Rattle.mapping_laws.proofs.Holding.{does-hold, new-holds}
 use Rattle.run_laws.specs.Acts.{IsActOf}
 use Rattle.install_laws.proofs.Leads.{leads-adoption, reached-further}
+use Rattle.install_laws.proofs.Epochs.{adopted-unrevoked}
 use Rattle.run_laws.proofs.Ranked.{right_routes_are_adoptable}
 use Rattle.run_laws.proofs.Reaching.{run_is_reached}
 use Rattle.install_laws.specs.Premises.{IsJoined, CanInstall}
@@ -49,7 +52,6 @@ use Rattle.install_laws.proofs.Installing.{missed-harmed, install-again}
 use Rattle.install_laws.proofs.Counting.{counts-most, counts-tables, unharmed-all}
 use Rattle.table_laws.specs.Set.{IsActive, IsActiveOfSet}
 use Rattle.table_laws.proofs.Dependencies.{active-of_set}
-use Rattle.act_defs.proofs.Routes.{not-other}
 use Rattle.install_line_laws.proofs.Shortest.{least-all-short}
 
 host-there : (n : Network) (h : ℕ) → h < length n.hosts → has_vertex n (Host h) ≡ true
@@ -75,12 +77,12 @@ done-last s hosts r = (refl, refl)
 
 install-last : (s : SessionState) (tries : ℕ) (o : Option LastRoutes) → LastIn s (Some (install s tries o))
 install-last s tries None = (refl, refl)
-install-last s tries (Some l) = by (not (is_idle s.world.links)) (is_other l.routes s.world.adopted)
+install-last s tries (Some l) = by (not (is_idle s.world.links)) (not (may_adopt s.world l.routes))
   where
-    by : (busy other : Bool) → LastIn s (Some (if busy then says_only s (InstallRefused Busy ∷ []) else if other then says_only s (InstallRefused OtherInstalled ∷ []) else install_now s l tries))
+    by : (busy other : Bool) → LastIn s (Some (if busy then says_only s (InstallRefused Busy ∷ []) else if other then says_only s (InstallRefused (adopt_cause s.world) ∷ []) else install_now s l tries))
     by true other = (refl, refl)
     by false true = (refl, refl)
-    by false false = done-last s l.hosts (log.install (adoption_of l) l.hosts tries (adopted_by s.world l.mapper l.routes))
+    by false false = done-last s l.hosts (log.install (set_of s.world l) l.hosts tries (adopted_by s.world l.mapper l.routes))
 
 refused-last : (s : SessionState) (o : Option LastMap) → LastIn s (routes_refused s o)
 refused-last s None = (refl, refl)
@@ -195,9 +197,9 @@ any-member h (g ∷ gs) e = by (nat_eq h g) refl e (any-member h gs)
     by true p q rest = inl ((Decides-eqb h g).0 p)
     by false p q rest = inr (rest q)
 
-all-joined : (n : Network) (l : LastRoutes) (k : IsSetOfMap n l) (hs : List ℕ) → AllByRecursion (λ h. list_any (nat_eq h) (hosts_of k.made.vertices) ≡ true) hs → AllByRecursion (λ h. h ≢ l.mapper → IsJoined (adoption_of l) h) hs
-all-joined n l k [] all = tt
-all-joined n l k (h ∷ hs) all = (joined, all-joined n l k hs all.1)
+all-joined : (n : Network) (w : WorldState) (l : LastRoutes) (k : IsSetOfMap n l) (hs : List ℕ) → AllByRecursion (λ h. list_any (nat_eq h) (hosts_of k.made.vertices) ≡ true) hs → AllByRecursion (λ h. h ≢ l.mapper → IsJoined (set_of w l) h) hs
+all-joined n w l k [] all = tt
+all-joined n w l k (h ∷ hs) all = (joined, all-joined n w l k hs all.1)
   where
     own : IsInPart n l.mapper (Host l.mapper)
     own = record { cables = 0; path = Path.here }
@@ -205,11 +207,16 @@ all-joined n l k (h ∷ hs) all = (joined, all-joined n l k hs all.1)
     mapper : host_of_vertex k.made (k.right.origin (Host l.mapper)) ≡ Some l.mapper
     mapper = sym (k.right.addresses (k.right.origin (Host l.mapper)) (k.right.origin_in (Host l.mapper) own)) ∙ ap address_of (k.right.image_origin (Host l.mapper) own)
 
-    joined : h ≢ l.mapper → IsJoined (adoption_of l) h
+    joined : h ≢ l.mapper → IsJoined (set_of w l) h
     joined other =
         let v = member-host k.made.vertices h (any-member h (hosts_of k.made.vertices) all.0) in
         let u : ℕ = k.right.origin (Host l.mapper) in
         record { there = k.routes.whole u v.0 l.mapper h mapper v.1 (λ e. other (sym e)); back = k.routes.whole v.0 u h l.mapper v.1 mapper other }
+
+-- an epoch that begins puts no packet into a channel
+accepted-idle : (s : LinkState) (b : Bool) → is_idle (if b then s else accept s) ≡ is_idle s
+accepted-idle s true = refl
+accepted-idle s false = refl
 
 -- the last routes are adopted
 pub run-can_install : RunCanInstall
@@ -219,15 +226,16 @@ run-can_install n commands out s l f all r are idle other =
     let w : WorldState = adopted_by s.world l.mapper l.routes in
     let net = led.session.fabric in
     let may = right_routes_are_adoptable n l.mapper k.made l.routes f k.rules k.right k.routes in
-    let adopts = leads-adoption s.world l.mapper l.routes (subst (λ m. AreAdoptable m l.routes) (sym net) may) (not-other l.routes s.world.adopted other) in
+    let adopts = leads-adoption s.world l.mapper l.routes (subst (λ m. AreAdoptable m l.routes) (sym net) may) other in
     record {
-      reached = subst (λ m. IsReached m w) (sym net) (reached-further n s.world w (run_is_reached n commands out s f all r) adopts);
-      idle = idle;
+      reached = subst (λ m. IsReached m w) (sym (acted-net s.world (Adopts l.mapper l.routes) ∙ net)) (reached-further n s.world w (run_is_reached n commands out s f all r) adopts);
+      idle = accepted-idle s.world.links (keeps_epoch s.world l.routes) ∙ idle;
       adopted = refl;
+      unrevoked = adopted-unrevoked n s.world l.mapper l.routes (run_is_reached n commands out s f all r) other;
       set = record {
         in_order = k.routes.in_order;
         few_turns = right-short n l.mapper k.made l.routes f k.is_host k.right k.routes;
-        joined = all-joined n l k l.hosts k.hosts;
+        joined = all-joined n s.world l k l.hosts k.hosts;
       };
     }
 
@@ -236,14 +244,14 @@ record Prints (s next : SessionState) (tries acked total : ℕ) : Type 0 where
   last : LastRoutes
   are : s.last_routes ≡ Some last
   idle : is_idle s.world.links ≡ true
-  same : is_other last.routes s.world.adopted ≡ false
-  counted : installed (adoption_of last) last.hosts tries (adopted_by s.world last.mapper last.routes) ≡ (acked, next.world)
+  same : may_adopt s.world last.routes ≡ true
+  counted : installed (set_of s.world last) last.hosts tries (adopted_by s.world last.mapper last.routes) ≡ (acked, next.world)
   all : total ≡ length last.hosts
 
 abbrev PrintsIn : SessionState → ℕ → ℕ → ℕ → List Piece → Option Outcome → SessionState → Type 0
 PrintsIn s tries acked total rest o next = o ≡ Some (record { output = OneLine (Installed acked total) ∷ rest; after = next }) → Prints s next tries acked total
 
-done-prints : (s next : SessionState) (tries acked total : ℕ) (rest : List Piece) (l : LastRoutes) (r : Log ℕ) → s.last_routes ≡ Some l → is_idle s.world.links ≡ true → is_other l.routes s.world.adopted ≡ false → installed (adoption_of l) l.hosts tries (adopted_by s.world l.mapper l.routes) ≡ came_to r → PrintsIn s tries acked total rest (Some (install_done s l.hosts r)) next
+done-prints : (s next : SessionState) (tries acked total : ℕ) (rest : List Piece) (l : LastRoutes) (r : Log ℕ) → s.last_routes ≡ Some l → is_idle s.world.links ≡ true → may_adopt s.world l.routes ≡ true → installed (set_of s.world l) l.hosts tries (adopted_by s.world l.mapper l.routes) ≡ came_to r → PrintsIn s tries acked total rest (Some (install_done s l.hosts r)) next
 done-prints s next tries acked total rest l r are idle same is e =
     let k : ℕ = r.value in
     let w : WorldState = r.world in
@@ -268,14 +276,14 @@ refusal-prints s next tries acked total rest cause e =
 
 install-prints : (s next : SessionState) (tries acked total : ℕ) (rest : List Piece) (o : Option LastRoutes) → s.last_routes ≡ o → PrintsIn s tries acked total rest (Some (install s tries o)) next
 install-prints s next tries acked total rest None are e = refusal-prints s next tries acked total rest NoRoutes e
-install-prints s next tries acked total rest (Some l) are e = by (is_idle s.world.links) (is_other l.routes s.world.adopted) refl refl e
+install-prints s next tries acked total rest (Some l) are e = by (is_idle s.world.links) (may_adopt s.world l.routes) refl refl e
   where
-    by : (idle other : Bool) → is_idle s.world.links ≡ idle → is_other l.routes s.world.adopted ≡ other → PrintsIn s tries acked total rest (Some (if not idle then says_only s (InstallRefused Busy ∷ []) else if other then says_only s (InstallRefused OtherInstalled ∷ []) else install_now s l tries)) next
+    by : (idle may : Bool) → is_idle s.world.links ≡ idle → may_adopt s.world l.routes ≡ may → PrintsIn s tries acked total rest (Some (if not idle then says_only s (InstallRefused Busy ∷ []) else if not may then says_only s (InstallRefused (adopt_cause s.world) ∷ []) else install_now s l tries)) next
     by false other p q d = refusal-prints s next tries acked total rest Busy d
-    by true true p q d = refusal-prints s next tries acked total rest OtherInstalled d
-    by true false p q d =
+    by true false p q d = refusal-prints s next tries acked total rest (adopt_cause s.world) d
+    by true true p q d =
         let w : WorldState = adopted_by s.world l.mapper l.routes in
-        done-prints s next tries acked total rest l (log.install (adoption_of l) l.hosts tries w) are p q refl d
+        done-prints s next tries acked total rest l (log.install (set_of s.world l) l.hosts tries w) are p q refl d
 
 -- a list that a test leaves as long as it is passes it
 filter-most : {X : Type 0} (p : X → Bool) (xs : List X) → length (filter p xs) ≤ length xs
@@ -297,30 +305,30 @@ filter-all p (x ∷ xs) all = by (p x) refl all (filter-most p xs) (filter-all p
 -- the adopter's table is whole at once
 adopter-has : (n : Network) (s : SessionState) (l : LastRoutes) → IsLed n s → IsSetOfMap n l → has_table (adopted_by s.world l.mapper l.routes) l.mapper ≡ true
 adopter-has n s l led k =
-    let m : NodeState = record (node_at s.world l.mapper) { table = whole_table l.routes l.mapper 1 } in
+    let m : NodeState = record (node_at s.world l.mapper) { table = whole_table l.routes l.mapper (set_of s.world l).epoch } in
     let hosts : host_count s.world ≡ length n.hosts = led.session.world.hosts ∙ ap (λ (x : Network). length x.hosts) led.session.fabric in
     let there = k.is_host in
     ap (λ (x : NodeState). is_some x.table.active) (get_or-set_same s.world.nodes l.mapper m (new_node 0) (omega (arith, hosts, there)))
 
 -- what is active in a world that has adopted a set
-active-of : (a : Adoption) (hosts : List ℕ) (v : WorldState) → CanInstall a hosts v → (h : ℕ) (t : ActiveTable) → (node_at v h).table.active ≡ Some t → IsActiveOfSet a.routes h t
+active-of : (a : Adoption) (hosts : List ℕ) (v : WorldState) → CanInstall a hosts v → (h : ℕ) (t : ActiveTable) → (node_at v h).table.active ≡ Some t → IsActiveOfSet a.epoch a.routes h t
 active-of a hosts v can h t e = subst (λ o. IsActive o h t) can.adopted (active-of_set (fabric_of v) v h t can.reached e)
 
 line-so : (n : Network) (commands : List Command) (out : List Piece) (s next : SessionState) (tries acked total : ℕ) → IsFabric n → AllByRecursion (IsActOf n) commands → Runs (new_session n) commands out s → Prints s next tries acked total → IsInstalledLine s next tries acked total
 line-so n commands out s next tries acked total f all r p =
     let w : WorldState = adopted_by s.world p.last.mapper p.last.routes in
     let can = run-can_install n commands out s p.last f all r p.are p.idle p.same in
-    let there : next.world.injected < last_count → (installed (adoption_of p.last) p.last.hosts tries w).1.injected < last_count = λ left. subst (λ v. v.injected < last_count) (sym (ap (λ x. x.1) p.counted)) left in
-    let count : (installed (adoption_of p.last) p.last.hosts tries w).0 ≡ acked = ap (λ x. x.0) p.counted in
-    let most = counts-most (adoption_of p.last) p.last.hosts tries w in
+    let there : next.world.injected < last_count → (installed (set_of s.world p.last) p.last.hosts tries w).1.injected < last_count = λ left. subst (λ v. v.injected < last_count) (sym (ap (λ x. x.1) p.counted)) left in
+    let count : (installed (set_of s.world p.last) p.last.hosts tries w).0 ≡ acked = ap (λ x. x.0) p.counted in
+    let most = counts-most (set_of s.world p.last) p.last.hosts tries w in
     let total_is = p.all in
     let led = run-led n commands out s f all r in
     let adopter = adopter-has n s p.last led (led.set p.last p.are) in
-    let behind : (installed (adoption_of p.last) p.last.hosts tries w).1 ≡ next.world = ap (λ x. x.1) p.counted in
-    let has : (installed (adoption_of p.last) p.last.hosts tries w).0 ≤ length (filter (has_table (installed (adoption_of p.last) p.last.hosts tries w).1) p.last.hosts) = counts-tables (adoption_of p.last) p.last.hosts tries w can adopter in
-    let now : (installed (adoption_of p.last) p.last.hosts tries w).0 ≤ length (filter (has_table next.world) p.last.hosts) = subst (λ v. (installed (adoption_of p.last) p.last.hosts tries w).0 ≤ length (filter (has_table v) p.last.hosts)) behind has in
-    let counted : came_to (log.install (adoption_of p.last) p.last.hosts tries w) ≡ (acked, next.world) = p.counted in
-    let again = subst (CanInstall (adoption_of p.last) p.last.hosts) behind (install-again (adoption_of p.last) p.last.hosts tries w can) in
+    let behind : (installed (set_of s.world p.last) p.last.hosts tries w).1 ≡ next.world = ap (λ x. x.1) p.counted in
+    let has : (installed (set_of s.world p.last) p.last.hosts tries w).0 ≤ length (filter (has_table (installed (set_of s.world p.last) p.last.hosts tries w).1) p.last.hosts) = counts-tables (set_of s.world p.last) p.last.hosts tries w can adopter in
+    let now : (installed (set_of s.world p.last) p.last.hosts tries w).0 ≤ length (filter (has_table next.world) p.last.hosts) = subst (λ v. (installed (set_of s.world p.last) p.last.hosts tries w).0 ≤ length (filter (has_table v) p.last.hosts)) behind has in
+    let counted : came_to (log.install (set_of s.world p.last) p.last.hosts tries w) ≡ (acked, next.world) = p.counted in
+    let again = subst (CanInstall (set_of s.world p.last) p.last.hosts) behind (install-again (set_of s.world p.last) p.last.hosts tries w can) in
     record {
       last = p.last;
       are = p.are;
@@ -330,9 +338,9 @@ line-so n commands out s next tries acked total f all r p =
       at_most = omega (arith, most, count, total_is);
       tables = omega (arith, now, count);
       all_tables = λ e. filter-all (has_table next.world) p.last.hosts (omega (arith, now, count, total_is, e));
-      of_set = active-of (adoption_of p.last) p.last.hosts next.world again;
-      cause = λ left. missed-harmed (adoption_of p.last) p.last.hosts tries w can (there left);
-      unharmed = λ some left same. sym count ∙ unharmed-all (adoption_of p.last) p.last.hosts tries w can some (there left) (ap (λ x. x.1.harmed) p.counted ∙ same) ∙ sym p.all;
+      of_set = active-of (set_of s.world p.last) p.last.hosts next.world again;
+      cause = λ left. missed-harmed (set_of s.world p.last) p.last.hosts tries w can (there left);
+      unharmed = λ some left same. sym count ∙ unharmed-all (set_of s.world p.last) p.last.hosts tries w can some (there left) (ap (λ x. x.1.harmed) p.counted ∙ same) ∙ sym p.all;
     }
 
 pub line-true : InstalledLineIsTrue

@@ -1,5 +1,5 @@
 -- What every run installs, and what its line says.
-use Rattle.std.specs.Prelude.{◌≡◌, ℕ, ◌<◌, ◌≤◌, true, false, List, ◌∷◌, length, nat_eq, Some}
+use Rattle.std.specs.Prelude.{◌≡◌, ℕ, ◌<◌, ◌≤◌, true, List, ◌∷◌, length, nat_eq, Some}
 use Rattle.std.specs.List.{AllByRecursion, list_any, filter}
 use Rattle.net_defs.specs.declared.route.Route.{Route}
 use Rattle.net_defs.specs.Network.{Network, IsFabric}
@@ -8,15 +8,15 @@ use Rattle.map_defs.specs.NetMap.{NetMap, IsMap, hosts_of}
 use Rattle.map_defs.specs.Orientation.{order_of}
 use Rattle.map_defs.specs.Routing.{AreRoutesOf}
 use Rattle.map_defs.specs.Sameness.{IsMapOfPart}
-use Rattle.world_defs.specs.World.{last_count, node_at, adopted_by}
+use Rattle.world_defs.specs.World.{last_count, node_at, adopted_by, may_adopt}
 use Rattle.world_defs.specs.Asking.{all_given_up}
 use Rattle.run_defs.specs.declared.command.Command.{Command}
 use Rattle.run_defs.specs.declared.command.Command.TheVariants.{Install}
 use Rattle.run_defs.specs.declared.line.Line.TheVariants.{Installed}
 use Rattle.run_defs.specs.Output.{Piece, OneLine}
 use Rattle.run_defs.specs.Session.{SessionState, LastRoutes}
-use Rattle.run_defs.specs.Outcome.{adoption_of, installation}
-use Rattle.world_defs.specs.Table.{ActiveTable, is_other}
+use Rattle.run_defs.specs.Outcome.{installation, set_of}
+use Rattle.world_defs.specs.Table.{ActiveTable}
 use Rattle.table_laws.specs.Set.{IsActiveOfSet}
 use Rattle.run_defs.specs.Run.{Does, IsRun}
 use Rattle.run_laws.specs.Acts.{IsActOf}
@@ -53,8 +53,8 @@ RunCanInstall =
     (n : Network) (commands : List Command) (out : List Piece) (s : SessionState) (l : LastRoutes) → IsFabric n
     → AllByRecursion (IsActOf n) commands
     → IsRun n commands out s → s.last_routes ≡ Some l → is_idle s.world.links ≡ true
-    → is_other l.routes s.world.adopted ≡ false
-    → CanInstall (adoption_of l) l.hosts (adopted_by s.world l.mapper l.routes)
+    → may_adopt s.world l.routes ≡ true
+    → CanInstall (set_of s.world l) l.hosts (adopted_by s.world l.mapper l.routes)
 
 -- What the line `installed K of N` says: K hosts of the N of the last routes have all parts acknowledged, and at least
 -- so many have an active table, which is the set's routes from its host. Where injections are left then, each other
@@ -69,8 +69,9 @@ pub record IsInstalledLine (s next : SessionState) (tries acked total : ℕ) : T
   pub at_most : acked ≤ total
   pub tables : acked ≤ length (filter (has_table next.world) last.hosts)
   pub all_tables : acked ≡ total → AllByRecursion (λ h. has_table next.world h ≡ true) last.hosts
-  pub of_set : (h : ℕ) (t : ActiveTable) → (node_at next.world h).table.active ≡ Some t → IsActiveOfSet last.routes h t
-  pub cause : next.world.injected < last_count → EachMissedWasHarmed (adoption_of last) tries last.hosts
+  pub of_set : (h : ℕ) (t : ActiveTable) → (node_at next.world h).table.active ≡ Some t
+      → IsActiveOfSet (set_of s.world last).epoch last.routes h t
+  pub cause : next.world.injected < last_count → EachMissedWasHarmed (set_of s.world last) tries last.hosts
       (all_given_up (adopted_by s.world last.mapper last.routes))
   pub unharmed : 0 < tries → next.world.injected < last_count → next.world.harmed ≡ s.world.harmed → acked ≡ total
 

@@ -16,6 +16,7 @@ use Rattle.mapping_defs.specs.Mapping.{MappingBody, mapping_bytes, decode_mappin
 use Rattle.mapping_defs.specs.Mapping.MappingBody.{HostProbe, HostReply, Loopback, Part, PartAck}
 use Rattle.mapping_defs.proofs.Mappings.{mapping-read}
 use Rattle.lawful_laws.specs.Probes.{is_probe, ProbeIsRead, ProbeIsNothingElse, GmIsNoProbe, PartIsNoProbe}
+use Rattle.lawful_laws.specs.Former.{IsFormer}
 use Rattle.lawful_laws.proofs.Bodies.{probe-read}
 
 -- a head without the route bytes in front
@@ -86,6 +87,12 @@ heads-apart (t ∷ p) (u ∷ q) xs ys e = heads-apart p q xs ys (ap (drop 1) e)
 
 pub gm-no_probe : GmIsNoProbe
 gm-no_probe route payload p =
+    let h = head_of route Gm payload in
+    let g = head_of p.route Mapping (mapping_bytes p.body) in
+    heads-apart p.route route (mapping_bytes p.body) payload (sym (head-push g (crc g)) ∙ sym (ap head p.written) ∙ head-push h (crc h))
+
+pub gm-no_former : (number : ℕ) (route : List ℤ) (payload : List ℕ) → IsFormer number (packet_of route Gm payload) → ⊥
+gm-no_former number route payload p =
     let h = head_of route Gm payload in
     let g = head_of p.route Mapping (mapping_bytes p.body) in
     heads-apart p.route route (mapping_bytes p.body) payload (sym (head-push g (crc g)) ∙ sym (ap head p.written) ∙ head-push h (crc h))

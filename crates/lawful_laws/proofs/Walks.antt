@@ -1,5 +1,5 @@
 -- Walks of a set: each is that of a route of the set from its host, whether a table, a part or a way back holds it.
-use Rattle.std.proofs.Common.{◌≡◌, ℕ, zero, suc, Bool, true, false, ◌&&◌, nat_eq, nat_lt, length, ℤ, List, [], ◌∷◌, map, Option, Some, None, IfSome, refl, sym, ap, subst, ◌∙◌, arith, if◌then◌else◌}
+use Rattle.std.proofs.Common.{◌≡◌, ◌<◌, ◌⊎◌, ℕ, zero, suc, Bool, true, false, ◌&&◌, nat_eq, nat_lt, length, ℤ, List, [], ◌∷◌, map, Option, Some, None, IfSome, refl, sym, ap, subst, ◌∙◌, arith, if◌then◌else◌}
 use Rattle.std.specs.Prelude.{find, option_map}
 use Rattle.std.specs.List.{AllByRecursion, slice_get, filter, list_all}
 use Rattle.std.proofs.lemmas.Bool.Decides.{nat_tests}
@@ -16,9 +16,18 @@ use Rattle.mapping_defs.specs.Mapping.{RouteEntry, RoutePart}
 use Rattle.gm_defs.proofs.Choices.{both, map-some, then-some}
 use Rattle.world_defs.specs.Table.{Adoption, ActiveTable, TableState, entries_from, part_count, part_with, part_for, route_of, table_route}
 use Rattle.world_defs.specs.Traffic.{routes_in}
-use Rattle.table_laws.specs.Set.{IsActive, IsTable}
+use Rattle.table_laws.specs.Set.{IsActive}
 use Rattle.table_laws.proofs.Sets.{RouteFits}
 use Rattle.lawful_laws.proofs.Ahead.{IsLedBy, front-built}
+
+-- The routes of an epoch.
+pub record Era : Type 0 where
+  pub number : ℕ
+  pub routes : List Route
+
+-- what is of an epoch before, or of this one, and then so
+abbrev pub IsOfEra : Era → ℕ → Type 0 → Type 0
+IsOfEra era epoch P = (epoch < era.number) ⊎ ((epoch ≡ era.number) × P)
 
 -- a walk of a set from a host
 pub record IsWalkFrom (routes : List Route) (host : ℕ) (walk : List ℤ) : Type 0 where
@@ -96,10 +105,10 @@ active-walk (Some a) host to walk t is e =
     let m = map-some (λ (x : RouteEntry). x.walk) (find test t.entries) walk e in
     subst (IsWalkFrom a.routes host) m.1.1 (entry-walk host test a.routes m.0 (ap (find test) (sym is.entries) ∙ m.1.0))
 
-pub table-walk : (o : Option Adoption) (host to : ℕ) (walk : List ℤ) (t : TableState) → IsTable o host t → table_route t to ≡ Some walk → IsWalkFrom (routes_in o) host walk
+pub table-walk : (o : Option Adoption) (host to : ℕ) (walk : List ℤ) (t : TableState) → IfSome t.active (IsActive o host) → table_route t to ≡ Some walk → IsWalkFrom (routes_in o) host walk
 table-walk o host to walk t is e =
     let m = then-some (λ (a : ActiveTable). option_map (λ (x : RouteEntry). x.walk) (find (λ (x : RouteEntry). nat_eq x.to to) a.entries)) t.active walk e in
-    active-walk o host to walk m.0 (subst (λ x. IfSome x (IsActive o host)) m.1.0 is.active) m.1.1
+    active-walk o host to walk m.0 (subst (λ x. IfSome x (IsActive o host)) m.1.0 is) m.1.1
 
 -- a packet that a host puts into its channel is led by the route whose walk it has
 pub led-start : (h : CableHistory) (routes : List Route) (c host : ℕ) (walk : List ℤ) (kind : Kind) (payload : List ℕ) → AllByRecursion RouteFits routes → leaving h (host_port host) ≡ Some c → IsWalkFrom routes host walk → IsLedBy h routes c (packet_of walk kind payload)
@@ -114,13 +123,3 @@ led-start h routes c host walk kind payload fit e x =
       there = x.there;
       ends_it = (λ i. channels_by h is_in_place (Some (host_port (x.from i))) (x.is i)) ∙ (λ i. channels_by h is_in_place (sym tail i) (sym front i));
     }
-
--- what one set has another has at the same places
-abbrev pub IsWithin : List Route → List Route → Type 0
-IsWithin routes more = (place : ℕ) (r : Route) → slice_get routes place ≡ Some r → slice_get more place ≡ Some r
-
-pub walk-within : (routes more : List Route) (host : ℕ) (walk : List ℤ) → IsWithin routes more → IsWalkFrom routes host walk → IsWalkFrom more host walk
-walk-within routes more host walk f x = record { place = x.place; route = x.route; there = f x.place x.route x.there; from = x.from; is = x.is }
-
-pub led-within : (h : CableHistory) (routes more : List Route) (c : ℕ) (wire : List ℕ) → IsWithin routes more → IsLedBy h routes c wire → IsLedBy h more c wire
-led-within h routes more c wire f x = record { place = x.place; route = x.route; behind = x.behind; there = f x.place x.route x.there; ends_it = x.ends_it }

@@ -17,10 +17,10 @@ use Rattle.table_laws.proofs.TwoHosts.{adopted-reached}
 use Rattle.lawful_laws.specs.Examples.{frame_acts, frame_world, FrameWorldIsReached, FrameIsAhead, FrameIsLawful, stuck_acts, StuckWorldIsReached, ProbesAreStuck, strange_acts, StrangeWorldIsReached, StrangeIsUnread, TwoClearsBegin}
 
 setup-adoptable : AreAdoptable two_hosts setup_routes
-setup-adoptable = (adopted-adoptable two_hosts adopted_world (record { mapper = 0; epoch = 1; routes = setup_routes }) adopted-reached refl).1
+setup-adoptable = (adopted-adoptable two_hosts adopted_world (record { mapper = 0; epoch = 1; at = 0; routes = setup_routes }) adopted-reached refl).1
 
 pub frame-reached : FrameWorldIsReached
-frame-reached = record { fabric = two_hosts_fabric; acts = frame_acts; may = ((setup-adoptable, tt), (tt, (tt, (tt, tt)))); leads = refl }
+frame-reached = record { fabric = two_hosts_fabric; acts = frame_acts; may = ((setup-adoptable, refl), (tt, (tt, (tt, tt)))); leads = refl }
 
 pub frame-ahead : FrameIsAhead
 unfolding to_send packet_for after_sending begun sent_by planned_strikes sent_out injected

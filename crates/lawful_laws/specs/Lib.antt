@@ -1,4 +1,5 @@
 pub mod Probes
+pub mod Former
 pub mod Lawful
 pub mod Stuck
 pub mod Resets

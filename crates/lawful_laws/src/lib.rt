@@ -7,6 +7,7 @@
 //! | file of `specs/` | says |
 //! |---|---|
 //! | `Probes` | what the packet of a probe or of a reply is |
+//! | `Former` | packets that needn't be lawful: of probes, and of the epochs before |
 //! | `Lawful` | which packets are lawful, in every reached world |
 //! | `Stuck` | lawful traffic isn't stuck, and runs out in a drain |
 //! | `Resets` | when a settle resets a channel |

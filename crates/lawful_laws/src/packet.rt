@@ -3,8 +3,8 @@
 ghost use Rattle.lawful_laws.specs.Lawful.{UnflippedIsLawful, UnflippedIsRead, LimboIsLawful, LimboIsRead};
 ghost use Rattle.lawful_laws.specs.Lawful.{AdvanceKeepsLawful};
 
-/// Each packet in a channel that no flip has met is a probe's or a reply's, or is on the last part of an adopted
-/// route; and an advance leaves lawful traffic.
+/// Each packet in a channel that no flip has met is on the last part of an adopted route, but for those of probes and
+/// of epochs before; and an advance leaves lawful traffic.
 pub fn lawful_packets()
     ensures channels { UnflippedIsLawful }
     ensures read { UnflippedIsRead }

@@ -11,21 +11,21 @@ use Rattle.map_laws.proofs.RightRoutes.{routes_of_a_right_map_are_right}
 use Rattle.world_defs.specs.declared.event.Event.{Event}
 use Rattle.world_defs.specs.declared.event.Event.TheVariants.{Begin, Close, Provide, Send, Poll}
 use Rattle.world_defs.specs.declared.effect.Effect.{Effect}
-use Rattle.world_defs.specs.Table.{Adoption, is_other}
-use Rattle.world_defs.specs.World.{WorldState, adopted_by}
+use Rattle.world_defs.specs.Table.{Adoption}
+use Rattle.world_defs.specs.World.{WorldState, adopted_by, may_adopt}
 use Rattle.world_defs.specs.Step.{step}
 use Rattle.world_defs.specs.Logs as log
 use Rattle.world_defs.specs.Log.{Log}
 use Rattle.run_defs.specs.declared.command.Command.{Command}
 use Rattle.run_defs.specs.declared.command.Command.TheVariants.{Walk, Map, Circuit, Routes, Install, Begin as BeginCommand, Close as CloseCommand, Poll as PollCommand, Tokens, Provide as ProvideCommand, Send as SendCommand, Plan, Step, Settle, Finish, Duo}
 use Rattle.run_defs.specs.declared.line.Line.TheVariants.{MapBusy, InstallRefused}
-use Rattle.run_defs.specs.declared.line.InstallCause.TheVariants.{Busy, Installed as OtherInstalled}
+use Rattle.run_defs.specs.declared.line.InstallCause.TheVariants.{Busy}
 use Rattle.run_defs.specs.declared.line.MapWords.{MapWords}
 use Rattle.run_defs.specs.declared.line.MapWords.TheVariants.{Complete, Doubtful, IncompleteDepth, IncompleteNodes}
 use Rattle.run_defs.specs.Mapped.{IsMapped}
 use Rattle.run_defs.specs.Output.{Piece}
 use Rattle.run_defs.specs.Session.{SessionState, LastMap, LastRoutes, new_session, is_complete, complete_map}
-use Rattle.run_defs.specs.Outcome.{Outcome, says_only, event_of, stepped, step_or_idle, adoption_of, install_done, install_now, install, map_refused, routes_refused, outcome}
+use Rattle.run_defs.specs.Outcome.{Outcome, says_only, event_of, stepped, step_or_idle, install_done, install_now, install, map_refused, routes_refused, outcome, set_of, adopt_cause}
 use Rattle.run_defs.specs.Run.{Does, Runs}
 use Rattle.run_defs.specs.Run.Does.{determined, maps, circuits, routes}
 use Rattle.run_defs.specs.Run.Runs.{ended, goes_on}
@@ -40,7 +40,7 @@ use Rattle.mapping_laws.proofs.Sessions.{can-map-now, does-stays, new-session}
 record IsLastAdopted (s : SessionState) (o : Option Adoption) : Type 0 where
   last : LastRoutes
   are : s.last_routes ≡ Some last
-  is : o ≡ Some (adoption_of last)
+  is : o ≡ Some (set_of s.world last)
 
 -- a session after another that holds the same, but may have adopted the last routes
 record HeldBy (s next : SessionState) : Type 0 where
@@ -62,19 +62,19 @@ step-held : (s : SessionState) (o : Option Event) → HeldIn s (Some (step_or_id
 step-held s None = held-world s s.world refl
 step-held s (Some e) = stepped-held s (step s.world e) (event-set s.world e)
 
-done-held : (s : SessionState) (l : LastRoutes) (hosts : List ℕ) (r : Log ℕ) → s.last_routes ≡ Some l → r.world.adopted ≡ Some (adoption_of l) → HeldIn s (Some (install_done s hosts r))
+done-held : (s : SessionState) (l : LastRoutes) (hosts : List ℕ) (r : Log ℕ) → s.last_routes ≡ Some l → r.world.adopted ≡ Some (set_of s.world l) → HeldIn s (Some (install_done s hosts r))
 done-held s l hosts r are e = record { last_map = refl; last_routes = refl; adopted = inr (record { last = l; are = are; is = e }) }
 
 install-held : (s : SessionState) (tries : ℕ) (o : Option LastRoutes) → s.last_routes ≡ o → HeldIn s (Some (install s tries o))
 install-held s tries None are = held-world s s.world refl
-install-held s tries (Some l) are = by (not (is_idle s.world.links)) (is_other l.routes s.world.adopted)
+install-held s tries (Some l) are = by (not (is_idle s.world.links)) (not (may_adopt s.world l.routes))
   where
-    by : (busy other : Bool) → HeldIn s (Some (if busy then says_only s (InstallRefused Busy ∷ []) else if other then says_only s (InstallRefused OtherInstalled ∷ []) else install_now s l tries))
+    by : (busy other : Bool) → HeldIn s (Some (if busy then says_only s (InstallRefused Busy ∷ []) else if other then says_only s (InstallRefused (adopt_cause s.world) ∷ []) else install_now s l tries))
     by true other = held-world s s.world refl
     by false true = held-world s s.world refl
     by false false =
         let w : WorldState = adopted_by s.world l.mapper l.routes in
-        done-held s l l.hosts (log.install (adoption_of l) l.hosts tries w) are (installed-set (adoption_of l) l.hosts tries w)
+        done-held s l l.hosts (log.install (set_of s.world l) l.hosts tries w) are (installed-set (set_of s.world l) l.hosts tries w)
 
 refused-held : (s : SessionState) (o : Option LastMap) → HeldIn s (routes_refused s o)
 refused-held s None = held-world s s.world refl
@@ -110,7 +110,7 @@ outcome-held s (Duo e) = record { last_map = refl; last_routes = refl; adopted =
 adopted-right : (n : Network) (s : SessionState) (o : Option Adoption) → HoldsRight n s → (o ≡ s.world.adopted) ⊎ IsLastAdopted s o → (a : Adoption) → o ≡ Some a → AreRightRoutes n a.mapper a.routes
 adopted-right n s o h (inl e) a is = h.adopted a (sym e ∙ is)
 adopted-right n s o h (inr k) a is =
-    let one : adoption_of k.last ≡ a = cc in
+    let one : set_of s.world k.last ≡ a = cc in
     subst (λ (b : Adoption). AreRightRoutes n b.mapper b.routes) one (h.routes k.last k.are)
 
 held-right : (n : Network) (s next : SessionState) → HeldBy s next → HoldsRight n s → HoldsRight n next

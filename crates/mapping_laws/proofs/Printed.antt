@@ -16,7 +16,7 @@ use Rattle.map_defs.specs.Sameness.{IsMapOfPart}
 use Rattle.world_defs.specs.declared.event.Event.{Event}
 use Rattle.world_defs.specs.declared.effect.Effect.{Effect}
 use Rattle.world_defs.specs.Node.{port_at}
-use Rattle.world_defs.specs.World.{WorldState, node_at, adopted_by}
+use Rattle.world_defs.specs.World.{WorldState, node_at, adopted_by, may_adopt}
 use Rattle.world_defs.specs.Step.{step}
 use Rattle.world_defs.specs.Logs as log
 use Rattle.world_defs.specs.Log.{Log}
@@ -24,7 +24,7 @@ use Rattle.run_defs.specs.declared.command.Command.{Command}
 use Rattle.run_defs.specs.declared.command.Command.TheVariants.{Walk, Map, Circuit, Routes, Install, Begin as BeginCommand, Close as CloseCommand, Poll as PollCommand, Tokens, Provide as ProvideCommand, Send as SendCommand, Plan, Step, Settle, Finish, Duo}
 use Rattle.run_defs.specs.declared.line.Line.{Line}
 use Rattle.run_defs.specs.declared.line.Line.TheVariants.{Map as MapLine, MapBusy, Circuit as CircuitLine, EndRoutes, InstallRefused}
-use Rattle.run_defs.specs.declared.line.InstallCause.TheVariants.{Busy, Installed as OtherInstalled}
+use Rattle.run_defs.specs.declared.line.InstallCause.TheVariants.{Busy}
 use Rattle.run_defs.specs.declared.line.MapWords.{MapWords}
 use Rattle.run_defs.specs.declared.line.MapWords.TheVariants.{Complete, Doubtful, IncompleteDepth, IncompleteNodes}
 use Rattle.run_defs.specs.Mapped.{IsMapped}
@@ -32,8 +32,7 @@ use Rattle.run_defs.specs.Circuit.{IsCircuitTold}
 use Rattle.run_defs.specs.Circuit.IsCircuitTold.{whole, too_many_nodes}
 use Rattle.run_defs.specs.Output.{Piece, OneLine, MapLines, lines}
 use Rattle.run_defs.specs.Session.{SessionState, LastMap, LastRoutes, complete_map}
-use Rattle.run_defs.specs.Outcome.{Outcome, says_only, event_of, stepped, step_or_idle, token_lines, table_line, adoption_of, install_done, install_now, install, map_refused, routes_refused, outcome}
-use Rattle.world_defs.specs.Table.{is_other}
+use Rattle.run_defs.specs.Outcome.{Outcome, says_only, event_of, stepped, step_or_idle, token_lines, table_line, install_done, install_now, install, map_refused, routes_refused, outcome, set_of, adopt_cause}
 use Rattle.run_defs.specs.Run.{Does, Runs, map_pieces, route_line, rank_line, routes_lines}
 use Rattle.run_defs.specs.Run.Does.{determined, maps, circuits, routes}
 use Rattle.run_defs.specs.Run.Runs.{ended, goes_on}
@@ -128,12 +127,12 @@ done-right n s hosts r = (tt, lines-right n (map (table_line r.world) hosts) (ea
 
 install-right : (n : Network) (s : SessionState) (tries : ℕ) (o : Option LastRoutes) → RightIn n (Some (install s tries o))
 install-right n s tries None = (tt, tt)
-install-right n s tries (Some l) = by (not (is_idle s.world.links)) (is_other l.routes s.world.adopted)
+install-right n s tries (Some l) = by (not (is_idle s.world.links)) (not (may_adopt s.world l.routes))
   where
-    by : (busy other : Bool) → RightIn n (Some (if busy then says_only s (InstallRefused Busy ∷ []) else if other then says_only s (InstallRefused OtherInstalled ∷ []) else install_now s l tries))
+    by : (busy other : Bool) → RightIn n (Some (if busy then says_only s (InstallRefused Busy ∷ []) else if other then says_only s (InstallRefused (adopt_cause s.world) ∷ []) else install_now s l tries))
     by true other = (tt, tt)
     by false true = (tt, tt)
-    by false false = done-right n s l.hosts (log.install (adoption_of l) l.hosts tries (adopted_by s.world l.mapper l.routes))
+    by false false = done-right n s l.hosts (log.install (set_of s.world l) l.hosts tries (adopted_by s.world l.mapper l.routes))
 
 refused-right : (n : Network) (s : SessionState) (o : Option LastMap) → RightIn n (routes_refused s o)
 refused-right n s None = (tt, tt)

@@ -7,7 +7,7 @@ use Rattle.link_defs.specs.Links.{is_idle}
 use Rattle.world_defs.specs.declared.event.Event.{Event}
 use Rattle.world_defs.specs.declared.event.Event.TheVariants.{Begin, Close, Provide, Send, Poll}
 use Rattle.world_defs.specs.declared.effect.Effect.{Effect}
-use Rattle.world_defs.specs.World.{WorldState, adopted_by}
+use Rattle.world_defs.specs.World.{WorldState, adopted_by, may_adopt}
 use Rattle.world_defs.specs.Step.{step}
 use Rattle.world_defs.specs.Logs as log
 use Rattle.world_defs.specs.Log.{Log}
@@ -16,11 +16,10 @@ use Rattle.run_defs.specs.declared.command.Command.{Command}
 use Rattle.run_defs.specs.declared.command.Command.TheVariants.{Walk, Map, Circuit, Routes, Install, Begin as BeginCommand, Close as CloseCommand, Poll as PollCommand, Tokens, Provide as ProvideCommand, Send as SendCommand, Plan, Step, Settle, Finish, Duo}
 use Rattle.run_defs.specs.declared.line.ClientCall.{ClientCall}
 use Rattle.run_defs.specs.declared.line.Line.TheVariants.{MapBusy, InstallRefused}
-use Rattle.run_defs.specs.declared.line.InstallCause.TheVariants.{Busy, Installed as OtherInstalled}
+use Rattle.run_defs.specs.declared.line.InstallCause.TheVariants.{Busy}
 use Rattle.run_defs.specs.Output.{Piece}
 use Rattle.run_defs.specs.Session.{SessionState, LastMap, LastRoutes, new_session, complete_map}
-use Rattle.run_defs.specs.Outcome.{Outcome, says_only, called, event_of, stepped, step_or_idle, fault_of, adoption_of, install_done, install_now, install, map_refused, routes_refused, outcome}
-use Rattle.world_defs.specs.Table.{is_other}
+use Rattle.run_defs.specs.Outcome.{Outcome, says_only, called, event_of, stepped, step_or_idle, fault_of, install_done, install_now, install, map_refused, routes_refused, outcome, set_of, adopt_cause}
 use Rattle.run_defs.specs.Run.{Does, Runs}
 use Rattle.run_defs.specs.Run.Does.{determined, maps, circuits, routes}
 use Rattle.run_defs.specs.Run.Runs.{ended, goes_on}
@@ -51,14 +50,14 @@ done-stays s hosts r k = k
 install_now-stays : (s : SessionState) (l : LastRoutes) (tries : ℕ) → StaysIn s (Some (install_now s l tries))
 install_now-stays s l tries =
     let w : WorldState = adopted_by s.world l.mapper l.routes in
-    let r : Log ℕ = log.install (adoption_of l) l.hosts tries w in
-    done-stays s l.hosts r (stays-both s.world w r.world (stays-adopted s.world l.mapper l.routes) (stays-installed (adoption_of l) l.hosts tries w))
+    let r : Log ℕ = log.install (set_of s.world l) l.hosts tries w in
+    done-stays s l.hosts r (stays-both s.world w r.world (stays-adopted s.world l.mapper l.routes) (stays-installed (set_of s.world l) l.hosts tries w))
 
 install-stays : (s : SessionState) (tries : ℕ) (o : Option LastRoutes) → StaysIn s (Some (install s tries o))
 install-stays s tries None = stays-same s.world
-install-stays s tries (Some l) = by (not (is_idle s.world.links)) (is_other l.routes s.world.adopted)
+install-stays s tries (Some l) = by (not (is_idle s.world.links)) (not (may_adopt s.world l.routes))
   where
-    by : (busy other : Bool) → StaysIn s (Some (if busy then says_only s (InstallRefused Busy ∷ []) else if other then says_only s (InstallRefused OtherInstalled ∷ []) else install_now s l tries))
+    by : (busy other : Bool) → StaysIn s (Some (if busy then says_only s (InstallRefused Busy ∷ []) else if other then says_only s (InstallRefused (adopt_cause s.world) ∷ []) else install_now s l tries))
     by true other = stays-same s.world
     by false true = stays-same s.world
     by false false = install_now-stays s l tries

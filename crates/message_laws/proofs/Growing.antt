@@ -117,6 +117,7 @@ module _ (w : WorldState) where
   itself-grows (HostChange.stages a p by d e f) = lanes-same (node_at w a.mapper) _ refl
   itself-grows (HostChange.expires {h = h} {peer = peer} k) = expired-grows (node_at w h) peer
   itself-grows (HostChange.gives_up {h = h} k) = lanes-same (node_at w h) _ refl
+  itself-grows (HostChange.revokes {h = h} a d) = lanes-same (node_at w h) _ refl
 
   node-grows : (a : Act) (h : ℕ) (m : NodeState) → NodeChange w a h m → NodeGrows (node_at w h) m
   node-grows a h m (NodeChange.itself k) = itself-grows k

@@ -34,6 +34,7 @@ module _ (w : WorldState) (G : Kind → List ℕ → Type 0) (R : ℕ → NodeSt
   host-goes (HostChange.stages a p by d e f) = rules.quiet a.mapper _ refl refl
   host-goes (HostChange.expires {h = h} {peer = peer} k) = rules.expires h peer
   host-goes (HostChange.gives_up {h = h} k) = rules.quiet h _ refl refl
+  host-goes (HostChange.revokes {h = h} a d) = rules.quiet h _ refl refl
 
   node-goes : (a : Act) → Holds (λ c. IsHonest G) w.links → (h : ℕ) (m : NodeState) → NodeChange w a h m → R h (node_at w h) m
   node-goes a is h m (NodeChange.itself k) = host-goes k

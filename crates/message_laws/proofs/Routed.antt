@@ -10,7 +10,8 @@ use Rattle.world_defs.specs.World.{WorldState, node_at}
 use Rattle.act_defs.specs.Acts.{IsReached}
 use Rattle.table_laws.specs.Set.{IsActive}
 use Rattle.table_laws.proofs.Sets.{entries-all}
-use Rattle.table_laws.proofs.Dependencies.{tables-of_set, adopted-adoptable}
+use Rattle.table_laws.proofs.Steps.{hosts-active}
+use Rattle.table_laws.proofs.Dependencies.{reached-of, adopted-adoptable}
 use Rattle.ask_laws.proofs.Tries.{place-there}
 
 -- an entry that was found
@@ -23,7 +24,7 @@ found-below count to (x ∷ es) all e = by (nat_eq x.to to) refl (found-below co
     by false t rest d = rest d
 
 pub route-there : (n : Network) (w : WorldState) (h dest : ℕ) → IsReached n w → is_none (table_route (node_at w h).table dest) ≡ false → dest < length n.hosts
-route-there n w h dest is e = by (node_at w h).table.active refl (tables-of_set n w is h).active e
+route-there n w h dest is e = by (node_at w h).table.active refl (hosts-active n w (reached-of n w is) h) e
   where
     of_set : (o : Option Adoption) (t : ActiveTable) → w.adopted ≡ o → IsActive o h t → is_none (option_map (λ e. e.walk) (find (λ e. nat_eq e.to dest) t.entries)) ≡ false → dest < length n.hosts
     of_set None t a active d = absurd active

@@ -15,10 +15,10 @@ use Rattle.message_laws.specs.Examples.{one_message, MessageWorldIsReached, OneM
 use Rattle.owner_laws.specs.Examples.{busy_acts}
 
 setup-adoptable : AreAdoptable two_hosts setup_routes
-setup-adoptable = (adopted-adoptable two_hosts adopted_world (record { mapper = 0; epoch = 1; routes = setup_routes }) adopted-reached refl).1
+setup-adoptable = (adopted-adoptable two_hosts adopted_world (record { mapper = 0; epoch = 1; at = 0; routes = setup_routes }) adopted-reached refl).1
 
 pub message-reached : MessageWorldIsReached
-message-reached = record { fabric = two_hosts_fabric; acts = one_message; may = ((setup-adoptable, tt), (tt, (tt, (tt, (tt, (tt, (tt, (tt, tt)))))))); leads = refl }
+message-reached = record { fabric = two_hosts_fabric; acts = one_message; may = ((setup-adoptable, refl), (tt, (tt, (tt, (tt, (tt, (tt, (tt, tt)))))))); leads = refl }
 
 pub message-came : OneMessageCame
 unfolding to_send packet_for after_sending hear begun provided_by sent_by planned_strikes sent_out injected advanced
@@ -29,7 +29,7 @@ unfolding to_send packet_for after_sending hear begun provided_by sent_by planne
 answered-reached = record {
   fabric = two_hosts_fabric;
   acts = answered_acts;
-  may = ((setup-adoptable, tt), (tt, (tt, (tt, (tt, (tt, (tt, (tt, ((setup-adoptable, refl), (tt, (tt, (tt, tt))))))))))));
+  may = ((setup-adoptable, refl), (tt, (tt, (tt, (tt, (tt, (tt, (tt, ((setup-adoptable, refl), (tt, (tt, (tt, tt))))))))))));
   leads = refl;
 }
 
@@ -46,7 +46,7 @@ unfolding to_send packet_for after_sending hear begun provided_by sent_by planne
 all-acknowledged = (refl, refl, refl, refl)
 
 pub busy-reached : BusyWorldIsReached
-busy-reached = record { fabric = two_hosts_fabric; acts = busy_acts; may = ((setup-adoptable, tt), (tt, (tt, (tt, tt)))); leads = refl }
+busy-reached = record { fabric = two_hosts_fabric; acts = busy_acts; may = ((setup-adoptable, refl), (tt, (tt, (tt, tt)))); leads = refl }
 
 pub send-unfinished : SendIsUnfinished
 unfolding begun provided_by sent_by

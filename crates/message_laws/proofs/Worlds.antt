@@ -49,6 +49,7 @@ host-goes w (HostChange.asks {h = h}) = node-kept (to_host w h) (node_at w h) _ 
 host-goes w (HostChange.stages a p by d e f) = node-kept (to_host w a.mapper) (node_at w a.mapper) _ refl
 host-goes w (HostChange.expires {h = h} {peer = peer} k) = node_expired-next (to_host w h) (node_at w h) peer
 host-goes w (HostChange.gives_up {h = h} k) = node-kept (to_host w h) (node_at w h) _ refl
+host-goes w (HostChange.revokes {h = h} a d) = node-kept (to_host w h) (node_at w h) _ refl
 
 node-goes : (w : WorldState) (a : Act) → Holds (λ c. IsHonest (SaysTrue (sent_on w))) w.links → (h : ℕ) (m : NodeState) → NodeChange w a h m → NodeNext (to_host w h) (node_at w h) m
 node-goes w a is h m (NodeChange.itself k) = host-goes w k

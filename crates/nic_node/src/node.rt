@@ -7,7 +7,7 @@ ghost use Rattle.world_defs.specs.Node.{StagedProbe, StagedPart, has_staged, giv
 ghost use Rattle.world_defs.specs.Node.{probe_packet, port_count};
 ghost use Rattle.world_defs.specs.Node.{unacknowledged_to, lane_count, lane_of, lane_at};
 ghost use Rattle.gm_defs.specs.Body.{is_prio};
-ghost use Rattle.world_defs.specs.Table.{active_epoch};
+ghost use Rattle.world_defs.specs.Table.{active_epoch, revoked_table, has_revoked};
 ghost use Rattle.nic_node.specs.Held.{unused_node, in_state};
 
 use host_items::{Items, Packet, probe_packet};
@@ -126,8 +126,23 @@ impl NicNode {
         self.table = table;
     }
 
+    /// Gives up an epoch: nothing of it is active or collected then, and its parts are old. Where the table has seen a
+    /// later one nothing changes. What is staged stays.
+    pub fn revoke(&mut self, epoch: u32)
+        ensures { self.new ≡ in_state self.old (record self.old.state { table = revoked_table self.old.state.table epoch }) }
+    {
+        self.table.revoke(epoch);
+    }
+
+    /// Whether the host gave up an epoch, and has seen no later one.
+    pub fn has_revoked(&self, epoch: u32) -> bool
+        ensures { result ≡ has_revoked epoch self.now.state.table }
+    {
+        self.table.has_revoked(epoch)
+    }
+
     /// Whether a probe, a part, the reply to a probe or the acknowledgement of a part is staged.
-    pub fn has_staged(&self) -> bool
+    pub fn has_mapping(&self) -> bool
         ensures { result ≡ has_staged self.now.state }
     {
         self.items.has_staged()

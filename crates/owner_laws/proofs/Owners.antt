@@ -8,7 +8,7 @@ use Rattle.world_defs.specs.Table.{whole_table}
 use Rattle.world_defs.specs.Node.{NodeState, after_sending, new_node, port_at, port_count}
 use Rattle.world_defs.specs.Hearing.{hear}
 use Rattle.world_defs.specs.Client.{ClientState, Called}
-use Rattle.world_defs.specs.World.{WorldState, host_count, new_world, node_at, with_node, client_at, with_client, adopted_by}
+use Rattle.world_defs.specs.World.{WorldState, host_count, new_world, node_at, with_node, client_at, with_client, adoption_of, adopted_by}
 use Rattle.world_defs.specs.Sound.{AreOwned}
 use Rattle.world_laws.specs.Shape.{IsWorld}
 use Rattle.world_laws.proofs.Lists.{at-set, two-set}
@@ -42,6 +42,7 @@ host-ports HostChange.asks = refl
 host-ports (HostChange.stages a p by d e f) = refl
 host-ports (HostChange.expires k) = refl
 host-ports (HostChange.gives_up k) = refl
+host-ports (HostChange.revokes a d) = refl
 
 -- where a client calls: a port that isn't there, or of a host that isn't there, is nobody's
 row-owned : (n m : NodeState) (row : List (Option ClientState)) (port : ℕ) (p : Option PortState) (c : Option ClientState) → length row ≡ length n.ports → m.ports ≡ set n.ports port p → AreOwned p c → IsOwnedRow n row → IsOwnedRow m (set row port c)
@@ -74,7 +75,7 @@ acted-kept : (w : WorldState) (a : Act) → IsKept w → IsKept (acted w a)
 acted-kept w (Happens e) k = record { world = (step-kept w e).world k.world; owned = change-owned (view w e) k.world k.owned }
 acted-kept w (Plans ahead fault) k = record { world = planned-world w ahead fault k.world; owned = record { each = k.owned.each } }
 acted-kept w (Adopts mapper routes) k =
-    let n : NodeState = record (node_at w mapper) { table = whole_table routes mapper 1 } in
+    let n : NodeState = record (node_at w mapper) { table = whole_table routes mapper (adoption_of w mapper routes).epoch } in
     record { world = adopted-world w mapper routes k.world; owned = one-owned w (adopted_by w mapper routes) mapper n refl refl (node-same (node_at w mapper) n refl) k.owned }
 
 all-kept : (w : WorldState) (acts : List Act) → IsKept w → IsKept (acted_all w acts)

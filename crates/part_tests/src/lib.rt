@@ -1,11 +1,12 @@
-//! Tests of calls of connections, ports, installations, streams, ledgers and hosts that restart, which no worked text
-//! reaches, and worked examples of the bytes of packets. Nothing stands on it.
+//! Tests of calls of connections, ports, installations, epochs, streams, ledgers and hosts that restart, which no worked
+//! text reaches, and worked examples of the bytes of packets. Nothing stands on it.
 //!
 //! | module | has |
 //! |---|---|
 //! | `examples` | the bytes of frames, probes and tables |
 //! | `connections` | a connection at its last number, and a message in two fragments |
 //! | `installing` | what an installation awaits first |
+//! | `epochs` | an epoch that hosts give up, and the next |
 //! | `ports` | a port that is filling, and a buffer that parts from its message |
 //! | `ledgers` | what the lines of a report tell of messages and tokens |
 //! | `numbers` | offsets of ports, texts of faults |
@@ -17,6 +18,8 @@
 
 #[cfg(test)]
 mod connections;
+#[cfg(test)]
+mod epochs;
 mod examples;
 #[cfg(test)]
 mod installing;

@@ -11,7 +11,7 @@ use Rattle.world_defs.specs.declared.event.Event.{Event}
 use Rattle.world_defs.specs.declared.event.Event.TheVariants.{Begin, Close, Provide, Send, Poll}
 use Rattle.world_defs.specs.declared.effect.Effect.{Effect}
 use Rattle.world_defs.specs.Node.{port_at}
-use Rattle.world_defs.specs.World.{WorldState, node_at, planned, adopted_by}
+use Rattle.world_defs.specs.World.{WorldState, node_at, planned, adopted_by, may_adopt}
 use Rattle.world_defs.specs.Step.{step}
 use Rattle.world_defs.specs.Logs as log
 use Rattle.world_defs.specs.Log.{Log}
@@ -21,15 +21,14 @@ use Rattle.run_defs.specs.declared.line.ClientCall.{ClientCall}
 use Rattle.run_defs.specs.declared.line.ClientCall.TheVariants.{Begin as BeginCall, Close as CloseCall, Provide as ProvideCall, Send as SendCall, Poll as PollCall}
 use Rattle.run_defs.specs.declared.line.Line.{Line}
 use Rattle.run_defs.specs.declared.line.Line.TheVariants.{Map as MapLine, MapBusy, Circuit as CircuitLine, InstallRefused}
-use Rattle.run_defs.specs.declared.line.InstallCause.TheVariants.{Busy, Installed as OtherInstalled}
+use Rattle.run_defs.specs.declared.line.InstallCause.TheVariants.{Busy}
 use Rattle.run_defs.specs.declared.line.MapWords.{MapWords}
 use Rattle.run_defs.specs.declared.line.MapWords.TheVariants.{Complete, Doubtful, IncompleteDepth, IncompleteNodes}
 use Rattle.run_defs.specs.Circuit.{IsCircuitTold}
 use Rattle.run_defs.specs.Circuit.IsCircuitTold.{whole, too_many_nodes}
 use Rattle.run_defs.specs.Output.{Piece, OneLine, MapLines, lines}
 use Rattle.run_defs.specs.Session.{SessionState, LastMap, LastRoutes, complete_map}
-use Rattle.run_defs.specs.Outcome.{Outcome, says_only, called, client_lines, event_of, stepped, step_or_idle, plan_made, fault_of, token_lines, adoption_of, install_done, install_now, install, table_line, map_refused, routes_refused, outcome}
-use Rattle.world_defs.specs.Table.{is_other}
+use Rattle.run_defs.specs.Outcome.{Outcome, says_only, called, client_lines, event_of, stepped, step_or_idle, plan_made, fault_of, token_lines, install_done, install_now, install, table_line, map_refused, routes_refused, outcome, set_of, adopt_cause}
 use Rattle.run_defs.specs.Run.{Does, Runs, map_pieces, routes_lines}
 use Rattle.run_defs.specs.Run.Does.{determined, maps, circuits, routes}
 use Rattle.run_defs.specs.Run.Runs.{ended, goes_on}
@@ -74,12 +73,12 @@ done-read n s hosts r = (tt, lines-read n (map (table_line r.world) hosts))
 
 install-read : (n : Network) (s : SessionState) (tries : ℕ) (o : Option LastRoutes) → ReadIn n (Some (install s tries o))
 install-read n s tries None = (tt, tt)
-install-read n s tries (Some l) = by (not (is_idle s.world.links)) (is_other l.routes s.world.adopted)
+install-read n s tries (Some l) = by (not (is_idle s.world.links)) (not (may_adopt s.world l.routes))
   where
-    by : (busy other : Bool) → ReadIn n (Some (if busy then says_only s (InstallRefused Busy ∷ []) else if other then says_only s (InstallRefused OtherInstalled ∷ []) else install_now s l tries))
+    by : (busy other : Bool) → ReadIn n (Some (if busy then says_only s (InstallRefused Busy ∷ []) else if other then says_only s (InstallRefused (adopt_cause s.world) ∷ []) else install_now s l tries))
     by true other = (tt, tt)
     by false true = (tt, tt)
-    by false false = done-read n s l.hosts (log.install (adoption_of l) l.hosts tries (adopted_by s.world l.mapper l.routes))
+    by false false = done-read n s l.hosts (log.install (set_of s.world l) l.hosts tries (adopted_by s.world l.mapper l.routes))
 
 routes-refused-read : (n : Network) (s : SessionState) (o : Option LastMap) → ReadIn n (routes_refused s o)
 routes-refused-read n s None = (tt, tt)

@@ -7,21 +7,19 @@ use Rattle.journal_defs.specs.declared.entry.Entry.{Entry}
 use Rattle.map_defs.specs.NetMap.{NetMap}
 use Rattle.world_defs.specs.declared.event.Event.{Event}
 use Rattle.world_defs.specs.EightBits.{IsByteEvent}
-use Rattle.world_defs.specs.Table.{is_other}
-use Rattle.world_defs.specs.World.{WorldState, fabric_of, new_world, adopted_by}
+use Rattle.world_defs.specs.World.{WorldState, fabric_of, new_world, adopted_by, may_adopt}
 use Rattle.world_defs.specs.Step.{step, after_all}
 use Rattle.world_defs.specs.Sound.{IsSound}
 use Rattle.act_defs.specs.Acts.{Act, Happens, acted, acted_all, AreAdoptable, MayActAll, IsReached}
-use Rattle.act_defs.proofs.Routes.{not-other}
 use Rattle.run_defs.specs.declared.command.Command.{Command}
 use Rattle.run_defs.specs.declared.command.Command.TheVariants.{Walk, Map, Circuit, Routes, Install, Begin as BeginCommand, Close as CloseCommand, Poll as PollCommand, Tokens, Provide as ProvideCommand, Send as SendCommand, Plan, Step, Settle, Finish, Duo}
 use Rattle.run_defs.specs.declared.line.MapWords.{MapWords}
 use Rattle.run_defs.specs.declared.line.Line.TheVariants.{MapBusy, InstallRefused}
-use Rattle.run_defs.specs.declared.line.InstallCause.TheVariants.{Busy, Installed as OtherInstalled}
+use Rattle.run_defs.specs.declared.line.InstallCause.TheVariants.{Busy}
 use Rattle.run_defs.specs.Mapped.{IsMapped}
 use Rattle.run_defs.specs.Output.{Piece}
 use Rattle.run_defs.specs.Session.{SessionState, LastMap, LastRoutes, complete_map}
-use Rattle.run_defs.specs.Outcome.{Outcome, says_only, event_of, step_or_idle, adoption_of, install_now, install, map_refused, routes_refused, outcome}
+use Rattle.run_defs.specs.Outcome.{Outcome, says_only, event_of, step_or_idle, install_now, install, map_refused, routes_refused, outcome, set_of, adopt_cause}
 use Rattle.run_defs.specs.Run.{Does}
 use Rattle.run_defs.specs.Run.Does.{determined, maps, circuits, routes}
 use Rattle.run_laws.specs.Acts.{IsActOf}
@@ -37,6 +35,7 @@ use Rattle.world_defs.specs.Row.{IsRow}
 use Rattle.world_defs.proofs.LogRows.{settle-row, asks-row, install-row, byte_settles, byte_asks}
 use Rattle.promise_laws.proofs.OneAction.{acts_are_one_action}
 use Rattle.promise_laws.proofs.Sound.{always_sound}
+use Rattle.act_defs.proofs.Epochs.{may-from}
 
 -- events as acts
 may-events : (w : WorldState) (es : List Event) → AllByRecursion IsByteEvent es → MayActAll w (map Happens es)
@@ -64,16 +63,16 @@ by-events w v es d = record { may = may-events w es d.kinds; there = d.there ∙
 -- an installation
 install-leads : (n : Network) (s : SessionState) (tries : ℕ) (o : Option LastRoutes) → fabric_of s.world ≡ n → ((l : LastRoutes) → o ≡ Some l → AreAdoptable n l.routes) → LeadsBy (install_acts s.world tries o) s.world (install s tries o).after.world
 install-leads n s tries None net may = by-none s.world
-install-leads n s tries (Some l) net may = by (not (is_idle s.world.links)) (is_other l.routes s.world.adopted) refl
+install-leads n s tries (Some l) net may = by (not (is_idle s.world.links)) (not (may_adopt s.world l.routes)) refl
   where
-    by : (busy other : Bool) → is_other l.routes s.world.adopted ≡ other → LeadsBy (if busy then [] else if other then [] else install_now_acts s.world l tries) s.world (if busy then says_only s (InstallRefused Busy ∷ []) else if other then says_only s (InstallRefused OtherInstalled ∷ []) else install_now s l tries).after.world
+    by : (busy other : Bool) → not (may_adopt s.world l.routes) ≡ other → LeadsBy (if busy then [] else if other then [] else install_now_acts s.world l tries) s.world (if busy then says_only s (InstallRefused Busy ∷ []) else if other then says_only s (InstallRefused (adopt_cause s.world) ∷ []) else install_now s l tries).after.world
     by true other e = by-none s.world
     by false true e = by-none s.world
     by false false e =
         let w : WorldState = adopted_by s.world l.mapper l.routes in
-        let es : List Event = (log.install (adoption_of l) l.hosts tries w).events in
-        let d = by-events w (log.install (adoption_of l) l.hosts tries w).world es (install-row byte_asks (λ dst part. tt) (adoption_of l) l.hosts tries w) in
-        record { may = ((subst (λ k. AreAdoptable k l.routes) (sym net) (may l refl), not-other l.routes s.world.adopted e), d.may); there = d.there }
+        let es : List Event = (log.install (set_of s.world l) l.hosts tries w).events in
+        let d = by-events w (log.install (set_of s.world l) l.hosts tries w).world es (install-row byte_asks (λ dst part. tt) (set_of s.world l) l.hosts tries w) in
+        record { may = ((subst (λ k. AreAdoptable k l.routes) (sym net) (may l refl), may-from (may_adopt s.world l.routes) e), d.may); there = d.there }
 
 -- a step
 step-leads : (s : SessionState) (o : Option Event) → ((e : Event) → o ≡ Some e → IsByteEvent e) → LeadsBy (step_acts o) s.world (step_or_idle s o).after.world

@@ -5,8 +5,7 @@ use Rattle.link_defs.specs.Links.{is_idle}
 use Rattle.journal_defs.specs.declared.entry.Entry.{Entry}
 use Rattle.map_defs.specs.NetMap.{NetMap}
 use Rattle.world_defs.specs.declared.event.Event.{Event}
-use Rattle.world_defs.specs.Table.{is_other}
-use Rattle.world_defs.specs.World.{WorldState, adopted_by}
+use Rattle.world_defs.specs.World.{WorldState, adopted_by, may_adopt}
 use Rattle.world_defs.specs.Step.{after_all}
 use Rattle.world_defs.specs.Sound.{IsSound}
 use Rattle.act_defs.specs.Acts.{Act, Happens, Plans, acted_all}
@@ -18,10 +17,10 @@ use Rattle.run_defs.specs.declared.command.Command.{Command}
 use Rattle.run_defs.specs.declared.command.Command.TheVariants.{Walk, Map, Circuit, Routes, Install, Begin as BeginCommand, Close as CloseCommand, Poll as PollCommand, Tokens, Provide as ProvideCommand, Send as SendCommand, Plan, Step, Settle, Finish, Duo}
 use Rattle.run_defs.specs.declared.line.MapWords.{MapWords}
 use Rattle.run_defs.specs.declared.line.Line.TheVariants.{MapBusy, InstallRefused}
-use Rattle.run_defs.specs.declared.line.InstallCause.TheVariants.{Busy, Installed as OtherInstalled}
+use Rattle.run_defs.specs.declared.line.InstallCause.TheVariants.{Busy}
 use Rattle.run_defs.specs.Mapped.{IsMapped}
 use Rattle.run_defs.specs.Session.{SessionState, LastMap, LastRoutes, complete_map}
-use Rattle.run_defs.specs.Outcome.{Outcome, says_only, event_of, step_or_idle, fault_of, adoption_of, install_now, install, map_refused, routes_refused, outcome}
+use Rattle.run_defs.specs.Outcome.{Outcome, says_only, event_of, step_or_idle, fault_of, install_now, install, map_refused, routes_refused, outcome, set_of, adopt_cause}
 use Rattle.mapping_laws.proofs.Words.{mapping_exists}
 use Rattle.promise_laws.specs.CommandActs.{step_acts, install_now_acts, install_acts, acts_of, HasSoundActs}
 use Rattle.promise_laws.specs.CommandActs.StandsFor.{determined, asks}
@@ -102,15 +101,15 @@ led-step s (Some e) = refl
 
 led-install : (s : SessionState) (tries : ℕ) (o : Option LastRoutes) → (install s tries o).after.world ≡ acted_all s.world (install_acts s.world tries o)
 led-install s tries None = refl
-led-install s tries (Some l) = by (not (is_idle s.world.links)) (is_other l.routes s.world.adopted)
+led-install s tries (Some l) = by (not (is_idle s.world.links)) (not (may_adopt s.world l.routes))
   where
-    by : (busy other : Bool) → (if busy then says_only s (InstallRefused Busy ∷ []) else if other then says_only s (InstallRefused OtherInstalled ∷ []) else install_now s l tries).after.world ≡ acted_all s.world (if busy then [] else if other then [] else install_now_acts s.world l tries)
+    by : (busy other : Bool) → (if busy then says_only s (InstallRefused Busy ∷ []) else if other then says_only s (InstallRefused (adopt_cause s.world) ∷ []) else install_now s l tries).after.world ≡ acted_all s.world (if busy then [] else if other then [] else install_now_acts s.world l tries)
     by true other = refl
     by false true = refl
     by false false =
         let w : WorldState = adopted_by s.world l.mapper l.routes in
-        let es : List Event = (log.install (adoption_of l) l.hosts tries w).events in
-        (install-row {Q = IsByteEvent} byte_asks (λ dst part. tt) (adoption_of l) l.hosts tries w).there ∙ sym (acted-events w es)
+        let es : List Event = (log.install (set_of s.world l) l.hosts tries w).events in
+        (install-row {Q = IsByteEvent} byte_asks (λ dst part. tt) (set_of s.world l) l.hosts tries w).there ∙ sym (acted-events w es)
 
 led-in : (s : SessionState) (c : Command) → LedIn s (outcome s c) (acts_of s c)
 led-in s (Walk host walk) = refl
@@ -150,13 +149,13 @@ abbrev unless : Bool → Bool → List Act → List Act
 unless busy other acts = if busy then [] else if other then [] else acts
 
 -- along an installation that isn't refused
-pub part-installed : (w u v : WorldState) (l : LastRoutes) (tries : ℕ) → is_idle w.links ≡ true → is_other l.routes w.adopted ≡ false → u ≡ adopted_by w l.mapper l.routes → IsPartWay u (log.install (adoption_of l) l.hosts tries u).events v
+pub part-installed : (w u v : WorldState) (l : LastRoutes) (tries : ℕ) → is_idle w.links ≡ true → not (may_adopt w l.routes) ≡ false → u ≡ adopted_by w l.mapper l.routes → IsPartWay u (log.install (set_of w l) l.hosts tries u).events v
     → IsPartActed w (install_acts w tries (Some l)) v
 part-installed w u v l tries idle other led p =
-    let events : WorldState → List Event = λ x. (log.install (adoption_of l) l.hosts tries x).events in
+    let events : WorldState → List Event = λ x. (log.install (set_of w l) l.hosts tries x).events in
     let now : List Act = install_now_acts w l tries in
     let are : install_acts w tries (Some l) ≡ now =
-    ap (λ b. unless (not b) (is_other l.routes w.adopted) now) idle ∙ ap (λ b. unless false b now) other in
+    ap (λ b. unless (not b) (not (may_adopt w l.routes)) now) idle ∙ ap (λ b. unless false b now) other in
     let start : WorldState = adopted_by w l.mapper l.routes in
     subst (λ acts. IsPartActed w acts v) (sym are)
     (part-behind w start v (Act.Adopts l.mapper l.routes) (map Happens (events start)) refl (part-events start v (events start) (subst (λ x. IsPartWay x (events x) v) led p)))

@@ -3,8 +3,7 @@ use Rattle.std.proofs.Common.{◌≡◌, ◌⊎◌, inl, inr, ℕ, Bool, true, f
 use Rattle.std.specs.List.{AllByRecursion}
 use Rattle.net_defs.specs.Network.{Network}
 use Rattle.link_defs.specs.Links.{is_idle}
-use Rattle.world_defs.specs.Table.{is_other}
-use Rattle.world_defs.specs.World.{WorldState}
+use Rattle.world_defs.specs.World.{WorldState, may_adopt}
 use Rattle.act_defs.specs.Acts.{Act}
 use Rattle.world_defs.specs.declared.event.Event.{Event}
 use Rattle.duo_defs.specs.declared.event.DuoEvent.{DuoEvent}
@@ -19,10 +18,10 @@ use Rattle.duo_laws.proofs.Polls.{polls-right}
 use Rattle.run_defs.specs.declared.command.Command.{Command}
 use Rattle.run_defs.specs.declared.command.Command.TheVariants.{Walk, Map, Circuit, Routes, Install, Begin, Close, Poll, Tokens, Provide, Send, Plan, Step, Settle, Finish, Duo}
 use Rattle.run_defs.specs.declared.line.Line.TheVariants.{MapBusy, InstallRefused, Duo as DuoLine}
-use Rattle.run_defs.specs.declared.line.InstallCause.TheVariants.{Busy, Installed as OtherInstalled}
+use Rattle.run_defs.specs.declared.line.InstallCause.TheVariants.{Busy}
 use Rattle.run_defs.specs.Duos.{begun, beside, IsOther}
 use Rattle.run_defs.specs.Output.{Piece, OneLine}
-use Rattle.run_defs.specs.Outcome.{Outcome, says_only, event_of, step_or_idle, install_now, install, map_refused, routes_refused, outcome}
+use Rattle.run_defs.specs.Outcome.{Outcome, says_only, event_of, step_or_idle, install_now, install, map_refused, routes_refused, outcome, adopt_cause}
 use Rattle.run_defs.specs.Run.{Does, Runs}
 use Rattle.run_defs.specs.Run.Does.{determined, maps, circuits, routes}
 use Rattle.run_defs.specs.Run.Runs.{ended, goes_on}
@@ -89,10 +88,10 @@ routes-beside s (Some l) d = refl
 
 install-beside : (s : SessionState) (tries : ℕ) (o : Option LastRoutes) (d : Option DuoState) → install (beside s d) tries o ≡ with-duo d (install s tries o)
 install-beside s tries None d = refl
-install-beside s tries (Some l) d = by (not (is_idle s.world.links)) (is_other l.routes s.world.adopted)
+install-beside s tries (Some l) d = by (not (is_idle s.world.links)) (not (may_adopt s.world l.routes))
   where
-    by : (busy other : Bool) → (if busy then says_only (beside s d) (InstallRefused Busy ∷ []) else if other then says_only (beside s d) (InstallRefused OtherInstalled ∷ []) else install_now (beside s d) l tries)
-        ≡ with-duo d (if busy then says_only s (InstallRefused Busy ∷ []) else if other then says_only s (InstallRefused OtherInstalled ∷ []) else install_now s l tries)
+    by : (busy other : Bool) → (if busy then says_only (beside s d) (InstallRefused Busy ∷ []) else if other then says_only (beside s d) (InstallRefused (adopt_cause s.world) ∷ []) else install_now (beside s d) l tries)
+        ≡ with-duo d (if busy then says_only s (InstallRefused Busy ∷ []) else if other then says_only s (InstallRefused (adopt_cause s.world) ∷ []) else install_now s l tries)
     by true other = refl
     by false true = refl
     by false false = refl
@@ -145,9 +144,9 @@ routes-keep s (Some l) = tt
 
 install-keeps : (s : SessionState) (tries : ℕ) (o : Option LastRoutes) → (install s tries o).after.duo ≡ s.duo
 install-keeps s tries None = refl
-install-keeps s tries (Some l) = by (not (is_idle s.world.links)) (is_other l.routes s.world.adopted)
+install-keeps s tries (Some l) = by (not (is_idle s.world.links)) (not (may_adopt s.world l.routes))
   where
-    by : (busy other : Bool) → (if busy then says_only s (InstallRefused Busy ∷ []) else if other then says_only s (InstallRefused OtherInstalled ∷ []) else install_now s l tries).after.duo ≡ s.duo
+    by : (busy other : Bool) → (if busy then says_only s (InstallRefused Busy ∷ []) else if other then says_only s (InstallRefused (adopt_cause s.world) ∷ []) else install_now s l tries).after.duo ≡ s.duo
     by true other = refl
     by false true = refl
     by false false = refl

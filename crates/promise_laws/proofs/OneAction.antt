@@ -1,10 +1,10 @@
 -- Each act is one action, of one host or of one channel.
-use Rattle.std.proofs.Common.{◌≡◌, ◌≢◌, ℕ, List, [], get_or, set, Option, Some, None, refl, sym, ap, subst, ◌∙◌}
+use Rattle.std.proofs.Common.{◌≡◌, ◌≢◌, ℕ, Bool, true, false, if◌then◌else◌, List, [], get_or, set, Option, Some, None, refl, sym, ap, subst, ◌∙◌}
 use Rattle.packet_defs.specs.Packet.{stripped}
-use Rattle.cable_history.specs.History.{fabric_now}
+use Rattle.cable_history.specs.History.{with_accepted}
 use Rattle.link_defs.specs.declared.moved.Course.TheVariants.{Arrives, Enters}
-use Rattle.link_defs.specs.Links.{Held, Caught, with_packet, emptied}
-use Rattle.link_defs.specs.Fault.{caught_as, replay_of}
+use Rattle.link_defs.specs.Links.{Held, Caught, LinkState, with_packet, emptied}
+use Rattle.link_defs.specs.Fault.{caught_as, replay_of, accept}
 use Rattle.link_defs.specs.Step.{Step, stepped}
 use Rattle.world_defs.specs.declared.event.Event.{Event}
 use Rattle.world_defs.specs.declared.event.Event.TheVariants.{Replay, Advance}
@@ -12,16 +12,16 @@ use Rattle.world_defs.specs.declared.effect.Effect.{Effect}
 use Rattle.world_defs.specs.Table.{whole_table}
 use Rattle.world_defs.specs.Node.{NodeState, new_node}
 use Rattle.world_defs.specs.Client.{ClientState, Called}
-use Rattle.world_defs.specs.World.{WorldState, node_at, with_node, with_links, client_at, adopted_by}
+use Rattle.world_defs.specs.World.{WorldState, node_at, with_node, with_links, client_at, adopted_by, keeps_epoch, adoption_of}
 use Rattle.world_defs.specs.Step.{of_call}
-use Rattle.world_defs.proofs.Kept.{step-adopted}
+use Rattle.world_defs.proofs.Kept.{step-adopted, step-cables}
 use Rattle.world_defs.proofs.Lists.{each-set}
 use Rattle.world_defs.proofs.Views.{Change, LinksChange, HostChange, CallChange, view}
 use Rattle.world_defs.proofs.Strikes.{injection-nodes, injection-clients}
 use Rattle.world_laws.proofs.Idling.{step-idle}
 use Rattle.act_defs.specs.Acts.{Act, Happens, Plans, Adopts, acted}
-use Rattle.act_defs.proofs.Kept.{acted-cables}
-use Rattle.promise_laws.specs.OneAction.{Actor, OfHost, OfAdopter, OfChannel, OfNone, staged_by, caught_in, actor_of_event, actor_of, port_called, ChannelStays, GoesOn, IsOfHost, IsOfAdopter, IsOfChannel, IsOfNone, IsActionOf, RoutesStay, IdleStays, ActsAreOneAction}
+use Rattle.act_defs.proofs.Kept.{acted-net}
+use Rattle.promise_laws.specs.OneAction.{Actor, OfHost, OfAdopter, OfChannel, OfNone, staged_by, caught_in, actor_of_event, actor_of, port_called, ChannelStays, GoesOn, IsOfHost, IsOfAdopter, IsOfChannel, IsOfNone, IsActionOf, RoutesStay, CablesStay, IdleStays, ActsAreOneAction}
 use Rattle.promise_laws.proofs.OneChannel.{channel-same, SameBut, with_packet-same, repeat-same, hold-same, flip-same, replay-same, injection-same}
 
 -- one host replaced, and the clients of one port
@@ -110,6 +110,7 @@ host-action {w = w} {e = e} {h = h} {m = m} HostChange.asks = host-alone w (Happ
 host-action {w = w} {e = e} {h = h} {m = m} (HostChange.stages a p by d f g) = subst (λ o. IsActionOf w (Happens e) (with_node w h m) (staged_by o)) (sym d) (host-alone w (Happens e) h m)
 host-action {w = w} {e = e} {h = h} {m = m} (HostChange.expires k) = host-alone w (Happens e) h m
 host-action {w = w} {e = e} {h = h} {m = m} (HostChange.gives_up k) = host-alone w (Happens e) h m
+host-action {w = w} {e = e} {h = h} {m = m} (HostChange.revokes a d) = host-alone w (Happens e) h m
 
 -- a client calls
 called-at : (w : WorldState) (a : Act) (h port : ℕ) (call : Called) → port_called a ≡ Some port → IsOfHost w a (of_call w h port call).1 h
@@ -141,13 +142,18 @@ event-action {w = w} {e = e} {r = r} (Change.injects {h = h} c out d f g k) = re
 }
 event-action (Change.calls k) = call-action k
 
+-- an epoch that begins leaves every channel
+accepted-same : (s : LinkState) (b : Bool) (c : ℕ) → ChannelStays s (if b then s else accept s) c
+accepted-same s true c = channel-same s c
+accepted-same s false c = record { packet = refl; limbo = refl }
+
 -- an adoption
-adoption-action : (w : WorldState) (mapper : ℕ) (n : NodeState) (v : WorldState) → v.nodes ≡ set w.nodes mapper n → record n { table = (node_at w mapper).table } ≡ node_at w mapper → v.clients ≡ w.clients → v.links ≡ w.links → IsOfAdopter w v mapper
+adoption-action : (w : WorldState) (mapper : ℕ) (n : NodeState) (v : WorldState) → v.nodes ≡ set w.nodes mapper n → record n { table = (node_at w mapper).table } ≡ node_at w mapper → v.clients ≡ w.clients → ((c : ℕ) → ChannelStays w.links v.links c) → IsOfAdopter w v mapper
 adoption-action w mapper n v e same f g = record {
   hosts = λ h k. record { host = other-node w v.nodes mapper n e h k; clients = same-client w v f h };
   but_table = subst (λ l. record (get_or l mapper (new_node 0)) { table = (node_at w mapper).table } ≡ node_at w mapper) (sym e) here;
   clients = same-client w v f mapper;
-  channels = λ c. subst (λ l. ChannelStays w.links l c) (sym g) (channel-same w.links c);
+  channels = g;
 }
   where
     here : record (get_or (set w.nodes mapper n) mapper (new_node 0)) { table = (node_at w mapper).table } ≡ node_at w mapper
@@ -157,12 +163,21 @@ adoption-action w mapper n v e same f g = record {
 act-action : (w : WorldState) (a : Act) → IsActionOf w a (acted w a) (actor_of w a)
 act-action w (Happens e) = event-action (view w e)
 act-action w (Plans ahead fault) = record { hosts = λ h. record { host = refl; clients = λ port. refl }; channels = λ c. channel-same w.links c }
-act-action w (Adopts mapper routes) = adoption-action w mapper (record (node_at w mapper) { table = whole_table routes mapper 1 }) (adopted_by w mapper routes) refl refl refl refl
+act-action w (Adopts mapper routes) = adoption-action w mapper (record (node_at w mapper) { table = whole_table routes mapper (adoption_of w mapper routes).epoch }) (adopted_by w mapper routes) refl refl refl (accepted-same w.links (keeps_epoch w routes))
 
 act-routes : (w : WorldState) (a : Act) → RoutesStay w a (acted w a)
 act-routes w (Happens e) = step-adopted w e
 act-routes w (Plans ahead fault) = refl
 act-routes w (Adopts mapper routes) = tt
+
+accepted-so : (s : LinkState) (b : Bool) → (if b then s else accept s).cables ≡ (if b then s.cables else with_accepted s.cables)
+accepted-so s true = refl
+accepted-so s false = refl
+
+act-cables : (w : WorldState) (a : Act) → CablesStay w a (acted w a)
+act-cables w (Happens e) = step-cables w e
+act-cables w (Plans ahead fault) = refl
+act-cables w (Adopts mapper routes) = accepted-so w.links (keeps_epoch w routes)
 
 act-idle : (w : WorldState) (a : Act) → IdleStays w a
 act-idle w (Happens e) = (step-idle w e).still
@@ -170,4 +185,4 @@ act-idle w (Plans ahead fault) = tt
 act-idle w (Adopts mapper routes) = tt
 
 pub acts_are_one_action : ActsAreOneAction
-acts_are_one_action w a = record { action = act-action w a; idle = act-idle w a; routes = act-routes w a; cables = acted-cables w a; fabric = ap fabric_now (acted-cables w a) }
+acts_are_one_action w a = record { action = act-action w a; idle = act-idle w a; routes = act-routes w a; cables = act-cables w a; fabric = acted-net w a }

@@ -21,8 +21,7 @@ use Rattle.world_defs.specs.declared.event.Event.{Event}
 use Rattle.world_defs.specs.declared.event.Event.TheVariants.{Inject, GiveUp, Advance, Lose, Repeat, Hold, Reset, Flip, Expire, Replay, Send, Poll}
 use Rattle.world_defs.specs.Node.{port_at}
 use Rattle.world_defs.specs.Client.{Called, sent_by}
-use Rattle.world_defs.specs.Table.{is_other}
-use Rattle.world_defs.specs.World.{WorldState, new_world, node_at, client_at, adopted_by}
+use Rattle.world_defs.specs.World.{WorldState, new_world, node_at, client_at, adopted_by, may_adopt}
 use Rattle.world_defs.specs.Sound.{IsPrefix}
 use Rattle.world_defs.specs.Step.{wanted, step}
 use Rattle.world_defs.specs.Log.{Log}
@@ -34,7 +33,7 @@ use Rattle.run_defs.specs.declared.command.Command.TheVariants.{Walk, Map, Circu
 use Rattle.run_defs.specs.declared.command.StepLine.{StepLine}
 use Rattle.run_defs.specs.declared.command.StepLine.TheVariants.{Inject as InjectLine, GiveUp as GiveUpLine, Advance as AdvanceLine, Lose as LoseLine, Repeat as RepeatLine, Hold as HoldLine, Reset as ResetLine, Flip as FlipLine, Expire as ExpireLine, Replay as ReplayLine}
 use Rattle.run_defs.specs.declared.line.ClientCall.TheVariants.{Send as SendCall, Poll as PollCall}
-use Rattle.run_defs.specs.declared.line.InstallCause.TheVariants.{Busy, Installed as OtherInstalled}
+use Rattle.run_defs.specs.declared.line.InstallCause.TheVariants.{Busy}
 use Rattle.run_defs.specs.declared.line.MapWords.{MapWords}
 use Rattle.run_defs.specs.declared.line.MapWords.TheVariants.{Complete, Doubtful, IncompleteDepth, IncompleteNodes}
 use Rattle.run_defs.specs.declared.line.Line.{Line}
@@ -44,7 +43,7 @@ use Rattle.run_defs.specs.Circuit.IsCircuitTold.{whole, too_many_nodes}
 use Rattle.run_defs.specs.Duos.{begun}
 use Rattle.run_defs.specs.Output.{Piece, OneLine, MapLines, lines}
 use Rattle.run_defs.specs.Session.{SessionState, LastMap, LastRoutes, complete_map}
-use Rattle.run_defs.specs.Outcome.{Outcome, says_only, called, on_channel, event_of, fault_of, stepped, step_or_idle, token_lines, table_line, adoption_of, install_done, install_now, install, map_refused, routes_refused, duo_done, outcome}
+use Rattle.run_defs.specs.Outcome.{Outcome, says_only, called, on_channel, event_of, fault_of, stepped, step_or_idle, token_lines, table_line, install_done, install_now, install, map_refused, routes_refused, duo_done, outcome, set_of, adopt_cause}
 use Rattle.run_defs.specs.Run.{Does, Runs, IsRun, map_pieces, route_line, rank_line, routes_lines}
 use Rattle.run_defs.specs.Run.Does.{determined, maps, circuits, routes}
 use Rattle.run_defs.specs.Run.Runs.{ended, goes_on}
@@ -216,15 +215,15 @@ done-silent s hosts r = silent-then (Installed r.value (length hosts)) (lines (m
 install-now-shows : (s : SessionState) (l : LastRoutes) (tries : ℕ) → Shows s.world (Install tries) (install_now s l tries).output (install_now_acts s.world l tries)
 install-now-shows s l tries =
     let w : WorldState = adopted_by s.world l.mapper l.routes in
-    let r : Log ℕ = log.install (adoption_of l) l.hosts tries w in
+    let r : Log ℕ = log.install (set_of s.world l) l.hosts tries w in
     silent-shows s.world (Install tries) (install_done s l.hosts r).output (install_now_acts s.world l tries) refl (done-silent s l.hosts r)
-    (still-then s.world (Adopts l.mapper l.routes) (map Happens r.events) tt tt (calm-still w r.events (install-row calm-asks (λ dst part. tt) (adoption_of l) l.hosts tries w).kinds))
+    (still-then s.world (Adopts l.mapper l.routes) (map Happens r.events) tt tt (calm-still w r.events (install-row calm-asks (λ dst part. tt) (set_of s.world l) l.hosts tries w).kinds))
 
 install-shows : (s : SessionState) (tries : ℕ) (o : Option LastRoutes) → Shows s.world (Install tries) (install s tries o).output (install_acts s.world tries o)
 install-shows s tries None = quiet-shows s.world (Install tries) _ refl tt
-install-shows s tries (Some l) = by (not (is_idle s.world.links)) (is_other l.routes s.world.adopted)
+install-shows s tries (Some l) = by (not (is_idle s.world.links)) (not (may_adopt s.world l.routes))
   where
-    by : (busy other : Bool) → Shows s.world (Install tries) (if busy then says_only s (InstallRefused Busy ∷ []) else if other then says_only s (InstallRefused OtherInstalled ∷ []) else install_now s l tries).output
+    by : (busy other : Bool) → Shows s.world (Install tries) (if busy then says_only s (InstallRefused Busy ∷ []) else if other then says_only s (InstallRefused (adopt_cause s.world) ∷ []) else install_now s l tries).output
         (if busy then [] else if other then [] else install_now_acts s.world l tries)
     by true other = quiet-shows s.world (Install tries) _ refl tt
     by false true = quiet-shows s.world (Install tries) _ refl tt

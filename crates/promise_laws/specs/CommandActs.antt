@@ -7,8 +7,7 @@ use Rattle.journal_defs.specs.declared.entry.Entry.{Entry}
 use Rattle.map_defs.specs.NetMap.{NetMap}
 use Rattle.world_defs.specs.declared.event.Event.{Event}
 use Rattle.world_defs.specs.declared.event.Event.TheVariants.{Begin, Close, Provide, Send, Poll}
-use Rattle.world_defs.specs.Table.{is_other}
-use Rattle.world_defs.specs.World.{WorldState, adopted_by}
+use Rattle.world_defs.specs.World.{WorldState, adopted_by, may_adopt}
 use Rattle.world_defs.specs.Sound.{IsSound}
 use Rattle.message_laws.specs.Filling.{HasTiedParts}
 use Rattle.act_defs.specs.Acts.{Act, Happens, Plans, Adopts, acted_all, MayActAll}
@@ -21,7 +20,7 @@ use Rattle.run_defs.specs.declared.line.MapWords.{MapWords}
 use Rattle.run_defs.specs.Mapped.{IsMapped}
 use Rattle.run_defs.specs.Output.{Piece}
 use Rattle.run_defs.specs.Session.{SessionState, LastRoutes}
-use Rattle.run_defs.specs.Outcome.{event_of, fault_of, adoption_of}
+use Rattle.run_defs.specs.Outcome.{event_of, fault_of, set_of}
 use Rattle.run_defs.specs.Run.{Does, IsRun}
 use Rattle.run_laws.specs.Acts.{IsActOf}
 use Rattle.world_defs.specs.Logs as log
@@ -35,13 +34,13 @@ step_acts (Some e) = Happens e ∷ []
 -- the acts of an installation that isn't refused: the last routes are adopted, and then distributed
 abbrev pub install_now_acts : WorldState → LastRoutes → ℕ → List Act
 install_now_acts w l tries = Adopts l.mapper l.routes
-    ∷ map Happens (log.install (adoption_of l) l.hosts tries (adopted_by w l.mapper l.routes)).events
+    ∷ map Happens (log.install (set_of w l) l.hosts tries (adopted_by w l.mapper l.routes)).events
 
 -- the acts of an installation: none where it is refused
 abbrev pub install_acts : WorldState → ℕ → Option LastRoutes → List Act
 install_acts w tries None = []
 install_acts w tries (Some l) =
-    if not (is_idle w.links) then [] else if is_other l.routes w.adopted then [] else install_now_acts w l tries
+    if not (is_idle w.links) then [] else if not (may_adopt w l.routes) then [] else install_now_acts w l tries
 
 -- The session determines which acts a command stands for, except those of a map that is made.
 abbrev pub acts_of : SessionState → Command → Option (List Act)

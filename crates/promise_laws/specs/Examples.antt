@@ -1,5 +1,5 @@
--- Whose acts are, and what lines show of messages, worked out: of the two hosts at one switch host 0 has adopted routes
--- and sends a message to host 1.
+-- Whose acts are, how epochs follow, and what lines show of messages, worked out: of the two hosts at one switch host 0
+-- has adopted routes and sends a message to host 1.
 use Rattle.std.specs.Prelude.{◌≡◌, ℕ, List, [], ◌∷◌, map, Option, Some, option_map}
 use Rattle.std.specs.List.{filter}
 use Rattle.net_defs.specs.Examples.{two_hosts}
@@ -11,10 +11,11 @@ use Rattle.gm_defs.specs.declared.message.Message.{Message}
 use Rattle.gm_defs.specs.Connection.{connection}
 use Rattle.world_defs.specs.declared.client.ClientCause.TheVariants.{NoToken}
 use Rattle.world_defs.specs.declared.effect.Said.TheVariants.{Refused}
-use Rattle.world_defs.specs.declared.event.Event.TheVariants.{Part, Inject, Advance, Hold, Replay, Begin, Send}
-use Rattle.world_defs.specs.World.{WorldState, new_world}
+use Rattle.world_defs.specs.declared.event.Event.TheVariants.{Part, Inject, Advance, Hold, Replay, Revoke, Begin, Send}
+use Rattle.world_defs.specs.Table.{active_epoch}
+use Rattle.world_defs.specs.World.{WorldState, new_world, node_at, epoch_of}
 use Rattle.world_defs.specs.Examples.{setup_routes}
-use Rattle.act_defs.specs.Acts.{Act, Happens, Adopts, acted_all}
+use Rattle.act_defs.specs.Acts.{Act, Happens, Adopts, acted_all, MayActAll}
 use Rattle.run_defs.specs.declared.command.Command.{Command}
 use Rattle.run_defs.specs.declared.command.Command.TheVariants.{Provide, Send as SendCommand, Settle, Poll, Finish}
 use Rattle.run_defs.specs.declared.line.ClientCall.TheVariants.{Send as SendCall}
@@ -52,6 +53,21 @@ abbrev pub ReplaysAreOfChannels : Type 0
 ReplaysAreOfChannels =
     (actor_of (acted_all sent_world (Happens (Advance 0) ∷ Happens (Hold 3) ∷ [])) (Happens (Replay 0)) ≡ OfChannel 3)
     × (actor_of sent_world (Happens (Replay 0)) ≡ OfNone)
+
+-- both hosts give up the first epoch, and host 1 adopts the routes again
+abbrev pub next_epoch : List Act
+next_epoch = Adopts 0 setup_routes ∷ Happens (Revoke 0) ∷ Happens (Revoke 1) ∷ Adopts 1 setup_routes ∷ []
+
+-- the same without host 1's part in it
+abbrev pub too_early : List Act
+too_early = Adopts 0 setup_routes ∷ Happens (Revoke 0) ∷ Adopts 1 setup_routes ∷ []
+
+-- so the second epoch may begin, though not before both gave up the first, and host 1 has its table at once
+abbrev pub EpochsFollow : Type 0
+EpochsFollow = MayActAll (new_world two_hosts) next_epoch
+    × (epoch_of (acted_all (new_world two_hosts) next_epoch) ≡ 2)
+    × (active_epoch (node_at (acted_all (new_world two_hosts) next_epoch) 1).table ≡ Some 2)
+    × (¬ MayActAll (new_world two_hosts) too_early)
 
 -- the commands from a message's buffer on
 abbrev pub message_commands : List Command

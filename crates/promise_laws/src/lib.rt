@@ -13,7 +13,7 @@
 //! | `ReceivedLines` | what lines `received` show, against the `send` lines that have a token: once, in order, byte for byte |
 //! | `Promised` | every moment is sound, and every run keeps its promise |
 //! | `Scripts` | what every script promises that is read without a fault |
-//! | `Examples` | whose acts of a message's way are |
+//! | `Examples` | whose acts of a message's way are, and how epochs follow |
 #![tactic(auto)]
 
 mod command_acts;
@@ -30,4 +30,4 @@ pub use existence::runs_exist;
 pub use promises::{promises_of_runs, sound_moments};
 pub use received_lines::lines_of_messages;
 pub use scripts::{acts_of_scripts, maps_of_scripts};
-pub use worked::{actors_of_acts, message_in_lines};
+pub use worked::{actors_of_acts, epochs_that_follow, message_in_lines};

@@ -18,9 +18,9 @@ use Rattle.world_defs.specs.Lane.{LaneState, Ticket, new_lane}
 use Rattle.world_defs.specs.Node.{NodeState, StagedProbe, StagedPart, given_up, lane_count, sending_lane, sends_on, lane_at, port_at, port_count, new_node}
 use Rattle.world_defs.specs.Table.{whole_table}
 use Rattle.world_defs.specs.Client.{ClientState, Called, Wanted, wanted_lane, wanted_message, send_accepted, send_refusal, send_unless, send_with, send_open, sent_by, handed_out, poll_open, polled_by}
-use Rattle.world_defs.specs.World.{WorldState, host_count, new_world, node_at, client_at}
+use Rattle.world_defs.specs.World.{WorldState, host_count, new_world, node_at, client_at, adoption_of}
 use Rattle.world_defs.specs.Sound.{AreOwned, HasOwners}
-use Rattle.world_defs.specs.Step.{wanted}
+use Rattle.world_defs.specs.Step.{wanted, gives_up_epoch}
 use Rattle.world_defs.proofs.Lists.{each-replicate}
 use Rattle.world_defs.proofs.Lanes.{lane_of-parts}
 use Rattle.world_defs.proofs.Views.{HostChange}
@@ -50,6 +50,7 @@ host-still {w = w} (HostChange.asks {h = h} {walk = walk} {looped = looped}) = q
 host-still {w = w} (HostChange.stages a p by d e f) = quiet-still (node_at w a.mapper) (record (node_at w a.mapper) { staged = Some (StagedPart p by) }) refl refl
 host-still {w = w} (HostChange.expires {h = h} {peer = peer} k) = expires-still (node_at w h) peer
 host-still {w = w} (HostChange.gives_up {h = h} k) = quiet-still (node_at w h) (given_up (node_at w h)) refl refl
+host-still {w = w} (HostChange.revokes {h = h} a d) = quiet-still (node_at w h) (gives_up_epoch (node_at w h) a.epoch) refl refl
 
 node-still : (n : Network) (w : WorldState) → IsReached n w → (a : Act) → IsNoSend a → (h : ℕ) (m : NodeState) → NodeChange w a h m → StillAt (length n.hosts) h (node_at w h) m
 node-still n w r a calm h m (NodeChange.itself k) = record { still = λ low. host-still k }
@@ -58,7 +59,7 @@ node-still n w r a calm h m (NodeChange.hears {c = c} packet j d e) = record {
 }
 node-still n w r a calm h m (NodeChange.sends c out d e) = record { still = λ low. sending-still (node_at w h) out }
 node-still n w r a calm h m (NodeChange.calls k) = record { still = λ low. call-still (node_at w h) (call-does (call_view k)) (call-lanes k calm) }
-node-still n w r a calm h m (NodeChange.adopts {mapper = mapper} {routes = routes}) = record { still = λ low. quiet-still (node_at w mapper) (record (node_at w mapper) { table = whole_table routes mapper 1 }) refl refl }
+node-still n w r a calm h m (NodeChange.adopts {mapper = mapper} {routes = routes}) = record { still = λ low. quiet-still (node_at w mapper) (record (node_at w mapper) { table = whole_table routes mapper (adoption_of w mapper routes).epoch }) refl refl }
 
 -- the invariant
 record IsNoted (notes : ℕ → ℕ → ℕ → Option Note) (w : WorldState) : Type 0 where

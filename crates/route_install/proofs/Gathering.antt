@@ -13,7 +13,7 @@ use Rattle.world_defs.specs.declared.applied.Applied.{Applied}
 use Rattle.world_defs.specs.Table.{Adoption, TableState, ActiveTable, entries_from, route_of, part_entries, part_with, part_for, with_part, joined_below, joined, joined_or, applied, whole_table, is_epoch, active_epoch}
 use Rattle.route_install.specs.Collecting.{Numbered, with_one}
 use Rattle.route_install.specs.Laws.{parts_of, IsPartOf, has_part, after_parts, is_before, PartsMakeTable, ActiveOnceAllStand}
-use Rattle.route_install.proofs.Applying.{applied-active, applied-next}
+use Rattle.route_install.proofs.Applying.{applied-active, applied-next, later-new, standing-new}
 
 -- a part of these entries with its number
 abbrev cut : List RouteEntry → ℕ → Numbered
@@ -152,7 +152,7 @@ is-part a dst n p e = by (nat_eq dst a.mapper) (nat_lt n (parts_of a dst)) (rout
 
 -- a table that collects the parts of a set, and what it is once all have come
 abbrev collecting : Adoption → ℕ → Option ActiveTable → (ℕ → Bool) → TableState
-collecting a dst act s = record { epoch = a.epoch; collected = came (entries_from a.routes dst) s 0 (parts_of a dst); active = act }
+collecting a dst act s = record { epoch = a.epoch; revoked = false; collected = came (entries_from a.routes dst) s 0 (parts_of a dst); active = act }
 
 abbrev after : Adoption → ℕ → Option ActiveTable → (ℕ → Bool) → TableState
 after a dst act s = if all_came s (parts_of a dst) then whole_table a.routes dst a.epoch else collecting a dst act s
@@ -171,11 +171,11 @@ step-collecting a dst act s p other part =
     let epoch : p.epoch ≡ a.epoch = i.0 in
     let idle : is_epoch p.epoch (active_epoch t) ≡ false = ap (λ e. is_epoch e (active_epoch t)) i.0 ∙ other in
     let low : p.part < 0 + count = let l = i.3 in omega arith in
-    ap (λ (r : Applied × TableState). r.1) (applied-next t p (omega arith) idle)
+    ap (λ (r : Applied × TableState). r.1) (applied-next t p (standing-new t p.epoch (omega arith) refl) idle)
     ∙ ap (λ n. (joined n (with_one t p.epoch p.part p.entries)).1) i.1
     ∙ ap (λ e. (joined count (with_one t e p.part p.entries)).1) i.0
     ∙ ap (λ (fs : List RouteEntry). (joined count (with_one t a.epoch p.part fs)).1) i.2
-    ∙ ap (λ b. (joined count (record (if b then t else record t { epoch = a.epoch; collected = [] }) { collected = with_part p.part (part_entries es p.part) (if b then t else record t { epoch = a.epoch; collected = [] }).collected })).1) (same-number a.epoch)
+    ∙ ap (λ b. (joined count (record (if b then t else record t { epoch = a.epoch; revoked = false; collected = [] }) { collected = with_part p.part (part_entries es p.part) (if b then t else record t { epoch = a.epoch; revoked = false; collected = [] }).collected })).1) (same-number a.epoch)
     ∙ ap (λ (ps : List Numbered). (joined count (record t { collected = ps })).1) (came-more es s count 0 p.part (omega arith) low)
     ∙ ap (λ o. (joined_or (record t { collected = came es new 0 count }) o).1) (came-joined es new count count (omega arith))
     ∙ by (all_came new count)
@@ -183,7 +183,7 @@ step-collecting a dst act s p other part =
     by : (b : Bool)
         → (joined_or (collecting a dst act (and_one s p.part)) (if b then Some (take (8 * parts_of a dst) (entries_from a.routes dst)) else None)).1
         ≡ (if b then whole_table a.routes dst a.epoch else collecting a dst act (and_one s p.part))
-    by true = ap (λ (l : List RouteEntry). record { epoch = a.epoch; collected = []; active = Some (record { epoch = a.epoch; entries = l }) }) (take_all (8 * parts_of a dst) (entries_from a.routes dst) (omega arith))
+    by true = ap (λ (l : List RouteEntry). record { epoch = a.epoch; revoked = false; collected = []; active = Some (record { epoch = a.epoch; entries = l }) }) (take_all (8 * parts_of a dst) (entries_from a.routes dst) (omega arith))
     by false = refl
 
 all-stays : (s : ℕ → Bool) (p n : ℕ) → all_came s n ≡ true → all_came (and_one s p) n ≡ true
@@ -201,7 +201,7 @@ step a dst act s p other part = by (all_came s (parts_of a dst)) refl
         let i = is-part a dst p.part p part in
         let epoch : p.epoch ≡ a.epoch = i.0 in
         let same : nat_eq p.epoch a.epoch ≡ true = grind (arith, nat_tests) in
-        ap (λ (r : Applied × TableState). r.1) (applied-active (whole_table a.routes dst a.epoch) p (omega arith) same)
+        ap (λ (r : Applied × TableState). r.1) (applied-active (whole_table a.routes dst a.epoch) p (standing-new (whole_table a.routes dst a.epoch) p.epoch (omega arith) refl) same)
         ∙ sym (ap (λ b. if b then whole_table a.routes dst a.epoch else collecting a dst act (and_one s p.part)) (all-stays s p.part (parts_of a dst) e))
     by false e = step-collecting a dst act s p other part
 
@@ -237,13 +237,13 @@ first-step a dst t p before part =
     let new : nat_eq t.epoch p.epoch ≡ false = grind (arith, nat_tests) in
     let same : nat_eq a.epoch p.epoch ≡ true = grind (arith, nat_tests) in
     let mine : is_epoch p.epoch (active_epoch t) ≡ false = ap (λ e. is_epoch e (active_epoch t)) i.0 ∙ idle in
-    let begun : TableState = record { epoch = p.epoch; collected = []; active = t.active } in
-    let begins : begun ≡ u = λ j. record { epoch = i.0 j; collected = sym (none-came (entries_from a.routes dst) (parts_of a dst) 0) j; active = t.active } in
-    ap (λ (r : Applied × TableState). r.1) (applied-next t p (omega arith) mine)
+    let begun : TableState = record { epoch = p.epoch; revoked = false; collected = []; active = t.active } in
+    let begins : begun ≡ u = λ j. record { epoch = i.0 j; revoked = false; collected = sym (none-came (entries_from a.routes dst) (parts_of a dst) 0) j; active = t.active } in
+    ap (λ (r : Applied × TableState). r.1) (applied-next t p (later-new t p.epoch (omega arith)) mine)
     ∙ ap (λ b. (joined p.parts (record (if b then t else begun) { collected = with_part p.part p.entries (if b then t else begun).collected })).1) new
     ∙ ap (λ (v : TableState). (joined p.parts (record v { collected = with_part p.part p.entries v.collected })).1) begins
-    ∙ sym (ap (λ b. (joined p.parts (record (if b then u else record u { epoch = p.epoch; collected = [] }) { collected = with_part p.part p.entries (if b then u else record u { epoch = p.epoch; collected = [] }).collected })).1) same)
-    ∙ sym (ap (λ (r : Applied × TableState). r.1) (applied-next u p (omega arith) mine))
+    ∙ sym (ap (λ b. (joined p.parts (record (if b then u else record u { epoch = p.epoch; revoked = false; collected = [] }) { collected = with_part p.part p.entries (if b then u else record u { epoch = p.epoch; revoked = false; collected = [] }).collected })).1) same)
+    ∙ sym (ap (λ (r : Applied × TableState). r.1) (applied-next u p (standing-new u p.epoch (omega arith) refl) mine))
     ∙ step-collecting a dst t.active (λ k. false) p idle part
   where
     unset : (b : Bool) → not b ≡ true → b ≡ false

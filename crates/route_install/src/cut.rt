@@ -1,6 +1,6 @@
 //! Parts of a set of routes.
 
-ghost use Rattle.std.specs.Prelude.{◌≡◌, ◌≤◌, ◌*◌, true, map, take, drop, length, nat_eq, IfOk, IfSome};
+ghost use Rattle.std.specs.Prelude.{◌≡◌, ℕ, ◌≤◌, ◌*◌, true, map, take, drop, length, nat_eq, IfOk, IfSome};
 ghost use Rattle.std.specs.List.{filter, list_all};
 ghost use Rattle.mapping_defs.specs.Mapping.{is_part, is_route};
 ghost use Rattle.net_defs.specs.RouteSet.{AreRising};
@@ -26,8 +26,8 @@ pub fn part_for(
     part: u8,
 ) -> Result<Option<RoutePart>, AllocError>
     requires { length (entries_from r.now dst) ≤ 128 }
-    ensures value { IfOk result (λ p. p ≡ part_for
-        (record { mapper = mapper; epoch = epoch; routes = r.now }) dst part) }
+    ensures value { IfOk result (λ p. (at : ℕ) → p ≡ part_for
+        (record { mapper = mapper; epoch = epoch; at = at; routes = r.now }) dst part) }
     ensures by_rules { IfOk result (λ p. IfSome p (λ p. is_part p ≡ true)) }
 {
     if dst == mapper {

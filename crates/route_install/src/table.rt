@@ -2,6 +2,7 @@
 
 ghost use Rattle.std.specs.Prelude.{◌≡◌, option_copied, IfOk, OnOk, OnErr};
 ghost use Rattle.world_defs.specs.Table.{new_table, whole_table, active_epoch, table_route, is_epoch, applied, joined};
+ghost use Rattle.world_defs.specs.Table.{is_old, revoked_table, has_revoked};
 ghost use Rattle.route_install.specs.Collecting.{with_one};
 
 use crate::collected::{Collected, are_all, put_alone, put_part};
@@ -22,6 +23,8 @@ pub struct Table {
     host: u16,
     /// The latest epoch that was seen.
     epoch: u32,
+    /// Whether that was revoked.
+    revoked: bool,
     collected: Vec<Collected>,
     active_epoch: Option<u32>,
     active: Vec<Collected>,
@@ -41,6 +44,7 @@ impl Model for Table {
       host = t.host;
       state = record {
         epoch = t.epoch;
+        revoked = t.revoked;
         collected = t.collected.items;
         active = active_of t.active_epoch t.active.items;
       };
@@ -57,6 +61,7 @@ impl Table {
         Table {
             host,
             epoch: 0,
+            revoked: false,
             collected: Vec::new(alloc),
             active_epoch: None,
             active: Vec::new(alloc),
@@ -74,6 +79,7 @@ impl Table {
         Ok(Table {
             host,
             epoch,
+            revoked: false,
             collected: Vec::new(alloc),
             active_epoch: Some(epoch),
             active,
@@ -88,7 +94,7 @@ impl Table {
         ensures host { self.new.host ≡ self.old.host }
         ensures err { OnErr result (self.new ≡ self.old) }
     {
-        if p.epoch < self.epoch {
+        if self.is_old(p.epoch) {
             return Ok(Applied::Old);
         }
         if self.is_active_in(p.epoch) {
@@ -97,6 +103,30 @@ impl Table {
         let parts = p.parts;
         self.collect(p.epoch, p.part, p.entries)?;
         Ok(self.join(parts))
+    }
+
+    /// Gives up an epoch: nothing is active or collected then, and parts of it are old. Where a later epoch was seen
+    /// nothing changes. It takes no memory.
+    pub fn revoke(&mut self, epoch: u32)
+        ensures state { self.new.state ≡ revoked_table self.old.state epoch }
+        ensures host { self.new.host ≡ self.old.host }
+    {
+        if epoch < self.epoch {
+            return;
+        }
+        self.epoch = epoch;
+        self.revoked = true;
+        self.collected.clear();
+        self.active_epoch = None;
+        self.active.clear();
+        self.rising = true;
+    }
+
+    /// Whether an epoch was revoked, and no later one was seen.
+    pub fn has_revoked(&self, epoch: u32) -> bool
+        ensures { result ≡ has_revoked epoch self.now.state }
+    {
+        self.epoch == epoch && self.revoked
     }
 
     /// The epoch of the active table.
@@ -125,6 +155,13 @@ impl Table {
         }
     }
 
+    // Whether parts of an epoch are old: a later one was seen, or this one was revoked.
+    fn is_old(&self, epoch: u32) -> bool
+        ensures { result ≡ is_old self.now.state epoch }
+    {
+        epoch < self.epoch || (epoch == self.epoch && self.revoked)
+    }
+
     // Whether the active table is of this epoch.
     fn is_active_in(&self, epoch: u32) -> bool
         ensures { result ≡ is_epoch epoch (active_epoch self.now.state) }
@@ -146,6 +183,7 @@ impl Table {
         } else {
             put_alone(&mut self.collected, part, entries)?;
             self.epoch = epoch;
+            self.revoked = false;
             Ok(())
         }
     }

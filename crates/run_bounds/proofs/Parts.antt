@@ -11,8 +11,9 @@ use Rattle.net_defs.specs.Route.{place}
 use Rattle.net_defs.specs.RouteSet.{route_below, AreRising}
 use Rattle.mapping_defs.specs.Mapping.{RouteEntry}
 use Rattle.world_defs.specs.Table.{Adoption, part_count, entries_from}
+use Rattle.world_defs.specs.World.{WorldState}
 use Rattle.run_defs.specs.Session.{LastRoutes}
-use Rattle.run_defs.specs.Outcome.{adoption_of}
+use Rattle.run_defs.specs.Outcome.{set_of}
 use Rattle.ask_laws.proofs.Tries.{place-there}
 use Rattle.act_defs.specs.Acts.{AreAdoptable}
 use Rattle.install_line_laws.specs.Runs.{IsSetOfMap}
@@ -106,7 +107,7 @@ all-low : (n : Network) (rs : List Route) → IsFabric n → AllByRecursion (λ 
 all-low n [] f all = tt
 all-low n (r ∷ rs) f all = (place-there n r.from r.to r.walk f all.0, all-low n rs f all.1)
 
-pub set-parts : (n : Network) (l : LastRoutes) → IsFabric n → IsSetOfMap n l → HasFewParts (adoption_of l)
-set-parts n l f k =
+pub set-parts : (n : Network) (w : WorldState) (l : LastRoutes) → IsFabric n → IsSetOfMap n l → HasFewParts (set_of w l)
+set-parts n w l f k =
     let may : AreAdoptable n l.routes = right_routes_are_adoptable n l.mapper k.made l.routes f k.rules k.right k.routes in
-    few-parts n (adoption_of l) f k.routes.in_order (all-low n l.routes f may.lead)
+    few-parts n (set_of w l) f k.routes.in_order (all-low n l.routes f may.lead)

@@ -14,8 +14,7 @@ use Rattle.duo_defs.specs.Step.{step as duo_step}
 use Rattle.world_defs.specs.declared.event.Event.{Event}
 use Rattle.world_defs.specs.declared.event.Event.TheVariants.{Begin, Close, Provide, Send, Poll}
 use Rattle.world_defs.specs.declared.effect.Effect.{Effect}
-use Rattle.world_defs.specs.Table.{is_other}
-use Rattle.world_defs.specs.World.{WorldState, host_count, addresses, adopted_by}
+use Rattle.world_defs.specs.World.{WorldState, host_count, addresses, adopted_by, may_adopt}
 use Rattle.world_defs.specs.Step.{step}
 use Rattle.world_defs.specs.Log.{Log}
 use Rattle.world_defs.specs.Logs as log
@@ -24,10 +23,10 @@ use Rattle.act_defs.specs.Acts.{Happens, Plans, IsReached}
 use Rattle.run_defs.specs.declared.command.Command.{Command}
 use Rattle.run_defs.specs.declared.command.Command.TheVariants.{Walk, Map, Circuit, Routes, Install, Begin as BeginCommand, Close as CloseCommand, Poll as PollCommand, Tokens, Provide as ProvideCommand, Send as SendCommand, Plan, Step, Settle, Finish, Duo}
 use Rattle.run_defs.specs.declared.line.Line.TheVariants.{MapBusy, InstallRefused}
-use Rattle.run_defs.specs.declared.line.InstallCause.TheVariants.{Busy, Installed as OtherInstalled}
+use Rattle.run_defs.specs.declared.line.InstallCause.TheVariants.{Busy}
 use Rattle.run_defs.specs.Output.{Piece}
 use Rattle.run_defs.specs.Session.{SessionState, LastMap, LastRoutes, complete_map}
-use Rattle.run_defs.specs.Outcome.{Outcome, says_only, event_of, stepped, step_or_idle, fault_of, adoption_of, install_done, install_now, install, map_refused, routes_refused, duo_done, outcome}
+use Rattle.run_defs.specs.Outcome.{Outcome, says_only, event_of, stepped, step_or_idle, fault_of, install_done, install_now, install, map_refused, routes_refused, duo_done, outcome, set_of, adopt_cause}
 use Rattle.run_defs.specs.Duos.{begun}
 use Rattle.run_defs.specs.Run.{Does, Runs, IsRun, hosts_by_address}
 use Rattle.run_defs.specs.Run.Does.{determined, maps, circuits, routes}
@@ -51,7 +50,7 @@ use Rattle.run_bounds.proofs.Starting.{new-pledged}
 -- What is known of a session's last routes: they are for few hosts, and give each few parts.
 record IsSmall (l : LastRoutes) : Type 0 where
   hosts : length l.hosts ≤ 128
-  parts : HasFewParts (adoption_of l)
+  parts : (w : WorldState) → HasFewParts (set_of w l)
 
 abbrev KeepsSmall : SessionState → Type 0
 KeepsSmall s = (l : LastRoutes) → s.last_routes ≡ Some l → IsSmall l
@@ -83,15 +82,15 @@ install-now-costs : (s : SessionState) (l : LastRoutes) (tries : ℕ) → tries 
 install-now-costs s l tries few small =
     let w : WorldState = adopted_by s.world l.mapper l.routes in
     let a = adopts-pledged s.world l.mapper l.routes in
-    let b = install-costs (adoption_of l) l.hosts tries w few small.parts in
+    let b = install-costs (set_of s.world l) l.hosts tries w few (small.parts s.world) in
     let c = small.hosts in
-    done-costs s l.hosts (log.install (adoption_of l) l.hosts tries w) (omega (arith, a, b, c))
+    done-costs s l.hosts (log.install (set_of s.world l) l.hosts tries w) (omega (arith, a, b, c))
 
 installs-cost : (s : SessionState) (tries : ℕ) (o : Option LastRoutes) → tries ≤ 8 → ((l : LastRoutes) → o ≡ Some l → IsSmall l) → CostsIn s (Some (install s tries o))
 installs-cost s tries None few small = nothing s
-installs-cost s tries (Some l) few small = by (not (is_idle s.world.links)) (is_other l.routes s.world.adopted)
+installs-cost s tries (Some l) few small = by (not (is_idle s.world.links)) (not (may_adopt s.world l.routes))
   where
-    by : (busy other : Bool) → CostsIn s (Some (if busy then says_only s (InstallRefused Busy ∷ []) else if other then says_only s (InstallRefused OtherInstalled ∷ []) else install_now s l tries))
+    by : (busy other : Bool) → CostsIn s (Some (if busy then says_only s (InstallRefused Busy ∷ []) else if other then says_only s (InstallRefused (adopt_cause s.world) ∷ []) else install_now s l tries))
     by true other = nothing s
     by false true = nothing s
     by false false = install-now-costs s l tries few (small l refl)
@@ -182,7 +181,7 @@ does-few {s = s} n said r small few (routes l found complete are printed left) =
 module _ (n : Network) (f : IsFabric n) where
   small-after : (done : List Command) (out : List Piece) (s : SessionState) → AllByRecursion (IsCommandOf n) done → IsRun n done out s → FewHosts s → KeepsSmall s
   small-after done out s said run few l is =
-      record { hosts = few l is; parts = set-parts n l f (run-set n done out s l f (all-weaker (IsCommandOf n) (IsActOf n) done (said-act n) said) run is) }
+      record { hosts = few l is; parts = λ w. set-parts n w l f (run-set n done out s l f (all-weaker (IsCommandOf n) (IsActOf n) done (said-act n) said) run is) }
 
   reached-after : (done : List Command) (out : List Piece) (s : SessionState) → AllByRecursion (IsCommandOf n) done → IsRun n done out s → IsReached n s.world
   reached-after done out s said run = run_is_reached n done out s f (all-weaker (IsCommandOf n) (IsActOf n) done (said-act n) said) run

@@ -43,7 +43,7 @@ use Rattle.run_defs.specs.declared.line.MapWords.{MapWords}
 use Rattle.run_defs.specs.declared.line.MapWords.TheVariants.{Complete, Doubtful, IncompleteDepth, IncompleteNodes}
 use Rattle.run_defs.specs.declared.line.InstallCause.{InstallCause}
 use Rattle.run_defs.specs.declared.line.InstallCause.TheVariants.{NoRoutes, Busy as LinksBusy}
-use Rattle.run_defs.specs.declared.line.InstallCause.TheVariants.{Installed as OtherInstalled}
+use Rattle.run_defs.specs.declared.line.InstallCause.TheVariants.{Installed as OtherInstalled, Epochs}
 use Rattle.run_defs.specs.declared.line.ClientCall.{ClientCall}
 use Rattle.run_defs.specs.declared.line.ClientCall.TheVariants.{Begin, Close, Provide, Send, Poll, Tokens as TokensCall}
 use Rattle.run_defs.specs.declared.line.StepWords.{StepWords}
@@ -104,6 +104,7 @@ abbrev pub install_cause : InstallCause → List ℕ
 install_cause NoRoutes = codes "noroutes"
 install_cause LinksBusy = codes "busy"
 install_cause OtherInstalled = codes "installed"
+install_cause Epochs = codes "epochs"
 
 -- the word of a client's call
 abbrev pub call_word : ClientCall → List ℕ

@@ -25,9 +25,10 @@ use Rattle.world_defs.specs.declared.client.ClientCause.TheVariants.{NotOpen}
 use Rattle.world_defs.specs.declared.fault.Fault.{Fault}
 use Rattle.world_defs.specs.declared.fault.Fault.TheVariants.{Lose as LoseFault, Repeat as RepeatFault}
 use Rattle.world_defs.specs.declared.fault.Fault.TheVariants.{Hold as HoldFault, Flip as FlipFault}
-use Rattle.world_defs.specs.Table.{Adoption, is_other, active_epoch}
+use Rattle.world_defs.specs.Table.{Adoption, active_epoch}
 use Rattle.world_defs.specs.Node.{port_at}
-use Rattle.world_defs.specs.World.{WorldState, fabric_of, node_at, planned, adopted_by, last_count}
+use Rattle.world_defs.specs.World.{WorldState, fabric_of, node_at, planned, epoch_of, first_unrevoked, may_adopt}
+use Rattle.world_defs.specs.World.{adoption_of, adopted_by, last_count}
 use Rattle.world_defs.specs.Step.{step}
 use Rattle.world_defs.specs.Settle.{unacknowledged_in}
 use Rattle.world_defs.specs.Log.{Log}
@@ -52,7 +53,8 @@ use Rattle.run_defs.specs.declared.line.Line.TheVariants.{Walk as WalkLine, MapB
 use Rattle.run_defs.specs.declared.line.Line.TheVariants.{InstallRefused, Client, Tokens as TokensLine, PlanAt}
 use Rattle.run_defs.specs.declared.line.Line.TheVariants.{Step as StepOutput, Settle as SettleLine}
 use Rattle.run_defs.specs.declared.line.Line.TheVariants.{Finish as FinishLine, Duo as DuoLine}
-use Rattle.run_defs.specs.declared.line.InstallCause.TheVariants.{NoRoutes, Busy, Installed as OtherInstalled}
+use Rattle.run_defs.specs.declared.line.InstallCause.{InstallCause}
+use Rattle.run_defs.specs.declared.line.InstallCause.TheVariants.{NoRoutes, Busy, Installed as OtherInstalled, Epochs}
 use Rattle.run_defs.specs.declared.line.ClientCall.{ClientCall}
 use Rattle.run_defs.specs.declared.line.ClientCall.TheVariants.{Begin as BeginCall, Close as CloseCall}
 use Rattle.run_defs.specs.declared.line.ClientCall.TheVariants.{Provide as ProvideCall, Send as SendCall}
@@ -181,24 +183,28 @@ table_line w h = Table h (is_some (active_epoch (node_at w h).table))
 abbrev pub install_done : SessionState → List ℕ → Log ℕ → Outcome
 install_done s hosts l = says s (Installed l.value (length hosts) ∷ map (table_line l.world) hosts) l.world
 
--- the last routes as a set that their mapper adopts, of epoch 1
-abbrev pub adoption_of : LastRoutes → Adoption
-adoption_of l = record { mapper = l.mapper; epoch = 1; routes = l.routes }
+-- the last routes as the set that their mapper adopts in a world
+abbrev pub set_of : WorldState → LastRoutes → Adoption
+set_of w l = adoption_of w l.mapper l.routes
 
 -- the last routes are adopted, and then installed on the hosts of their map
 abbrev pub installation : SessionState → LastRoutes → ℕ → Log ℕ
-installation s l tries = log.install (adoption_of l) l.hosts tries (adopted_by s.world l.mapper l.routes)
+installation s l tries = log.install (set_of s.world l) l.hosts tries (adopted_by s.world l.mapper l.routes)
 
 -- and what came of it is printed
 abbrev pub install_now : SessionState → LastRoutes → ℕ → Outcome
 install_now s l tries = install_done s l.hosts (installation s l tries)
 
--- routes are installed where some were computed, the links are idle, and no other set is adopted
+-- why routes may not be adopted: a host hasn't given up the epoch of others, or there is no next one
+abbrev pub adopt_cause : WorldState → InstallCause
+adopt_cause w = if is_some (first_unrevoked w (epoch_of w)) then OtherInstalled else Epochs
+
+-- routes are installed where some were computed, the links are idle, and they may be adopted
 abbrev pub install : SessionState → ℕ → Option LastRoutes → Outcome
 install s tries None = says_only s (InstallRefused NoRoutes ∷ [])
 install s tries (Some l) =
     if not (is_idle s.world.links) then says_only s (InstallRefused Busy ∷ [])
-    else if is_other l.routes s.world.adopted then says_only s (InstallRefused OtherInstalled ∷ [])
+    else if not (may_adopt s.world l.routes) then says_only s (InstallRefused (adopt_cause s.world) ∷ [])
     else install_now s l tries
 
 -- a map is refused where a channel holds a packet; else its outcome isn't determined here

@@ -30,8 +30,10 @@ pub enum InstallCause {
     NoRoutes,
     /// `busy`: a channel holds a packet.
     Busy,
-    /// `installed`: other routes are adopted.
+    /// `installed`: a host hasn't given up the epoch of the adopted routes.
     Installed,
+    /// `epochs`: there is no next epoch.
+    Epochs,
 }
 
 /// A call of a client.

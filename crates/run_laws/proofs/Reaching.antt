@@ -9,7 +9,7 @@ use Rattle.link_defs.specs.Links.{is_idle}
 use Rattle.world_defs.specs.declared.event.Event.{Event}
 use Rattle.world_defs.specs.declared.event.Event.TheVariants.{Begin, Close, Provide, Send, Poll}
 use Rattle.world_defs.specs.declared.effect.Effect.{Effect}
-use Rattle.world_defs.specs.World.{WorldState, fabric_of, new_world, adopted_by}
+use Rattle.world_defs.specs.World.{WorldState, fabric_of, new_world, adopted_by, may_adopt}
 use Rattle.world_defs.specs.Step.{step}
 use Rattle.world_defs.specs.Logs as log
 use Rattle.world_defs.specs.Log.{Log}
@@ -19,11 +19,10 @@ use Rattle.run_defs.specs.declared.command.Command.TheVariants.{Walk, Map, Circu
 use Rattle.run_defs.specs.declared.command.StepLine.{StepLine}
 use Rattle.run_defs.specs.declared.command.StepLine.TheVariants.{Inject, GiveUp, Advance, Lose, Repeat, Hold, Reset, Flip, Expire, Replay}
 use Rattle.run_defs.specs.declared.line.Line.TheVariants.{MapBusy, InstallRefused}
-use Rattle.run_defs.specs.declared.line.InstallCause.TheVariants.{Busy, Installed as OtherInstalled}
+use Rattle.run_defs.specs.declared.line.InstallCause.TheVariants.{Busy}
 use Rattle.run_defs.specs.Output.{Piece}
 use Rattle.run_defs.specs.Session.{SessionState, LastMap, LastRoutes, new_session, complete_map}
-use Rattle.run_defs.specs.Outcome.{Outcome, says_only, on_channel, event_of, stepped, step_or_idle, fault_of, adoption_of, install_done, install_now, install, map_refused, routes_refused, outcome}
-use Rattle.world_defs.specs.Table.{is_other}
+use Rattle.run_defs.specs.Outcome.{Outcome, says_only, on_channel, event_of, stepped, step_or_idle, fault_of, install_done, install_now, install, map_refused, routes_refused, outcome, set_of, adopt_cause}
 use Rattle.run_defs.specs.Run.{Does, Runs, IsRun}
 use Rattle.run_defs.specs.Run.Does.{determined, maps, circuits, routes}
 use Rattle.run_defs.specs.Run.Runs.{ended, goes_on}
@@ -38,7 +37,7 @@ use Rattle.mapping_laws.proofs.Holding.{does-hold, new-holds}
 use Rattle.run_laws.specs.Acts.{IsActOf, IsByteStep, RunIsReached, RunHasNoCycle}
 use Rattle.run_laws.proofs.Ranked.{right_routes_are_adoptable}
 use Rattle.install_laws.proofs.Leads.{Leads, leads-same, leads-both, leads-event, leads-plan, leads-adoption, along-leads}
-use Rattle.act_defs.proofs.Routes.{not-other}
+use Rattle.act_defs.proofs.Epochs.{may-from}
 
 -- such a command is one over the fabric
 command-of : (n : Network) (c : Command) → IsActOf n c → IsCommandOf n c
@@ -94,15 +93,15 @@ done-leads s hosts r k = (k, refl)
 
 install-leads : (n : Network) (s : SessionState) (tries : ℕ) (o : Option LastRoutes) → fabric_of s.world ≡ n → ((l : LastRoutes) → o ≡ Some l → AreAdoptable n l.routes) → LeadsIn s (Some (install s tries o))
 install-leads n s tries None net may = (leads-same s.world, refl)
-install-leads n s tries (Some l) net may = by (not (is_idle s.world.links)) (is_other l.routes s.world.adopted) refl
+install-leads n s tries (Some l) net may = by (not (is_idle s.world.links)) (not (may_adopt s.world l.routes)) refl
   where
-    by : (busy other : Bool) → is_other l.routes s.world.adopted ≡ other → LeadsIn s (Some (if busy then says_only s (InstallRefused Busy ∷ []) else if other then says_only s (InstallRefused OtherInstalled ∷ []) else install_now s l tries))
+    by : (busy other : Bool) → not (may_adopt s.world l.routes) ≡ other → LeadsIn s (Some (if busy then says_only s (InstallRefused Busy ∷ []) else if other then says_only s (InstallRefused (adopt_cause s.world) ∷ []) else install_now s l tries))
     by true other e = (leads-same s.world, refl)
     by false true e = (leads-same s.world, refl)
     by false false e =
         let w : WorldState = adopted_by s.world l.mapper l.routes in
-        let adopts = leads-adoption s.world l.mapper l.routes (subst (λ k. AreAdoptable k l.routes) (sym net) (may l refl)) (not-other l.routes s.world.adopted e) in
-        done-leads s l.hosts (log.install (adoption_of l) l.hosts tries w) (leads-both s.world w (log.install (adoption_of l) l.hosts tries w).world adopts (installed-of Leads along-leads (adoption_of l) l.hosts tries w))
+        let adopts = leads-adoption s.world l.mapper l.routes (subst (λ k. AreAdoptable k l.routes) (sym net) (may l refl)) (may-from (may_adopt s.world l.routes) e) in
+        done-leads s l.hosts (log.install (set_of s.world l) l.hosts tries w) (leads-both s.world w (log.install (set_of s.world l) l.hosts tries w).world adopts (installed-of Leads along-leads (set_of s.world l) l.hosts tries w))
 
 refused-leads : (s : SessionState) (o : Option LastMap) → LeadsIn s (routes_refused s o)
 refused-leads s None = (leads-same s.world, refl)

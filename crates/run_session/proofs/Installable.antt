@@ -1,6 +1,6 @@
 -- That the last routes of a session may be adopted, and can be installed on their hosts then.
 use Rattle.std.proofs.Common.{◌≡◌, ◌≢◌, ◌<◌, ◌≤◌, ◌+◌, ◌⊎◌, ℕ, zero, suc, Bool, true, false, true≢false, ◌&&◌, ◌||◌, if◌then◌else◌, List, [], ◌∷◌, length, nat_eq, Option, Some, None, inl, inr, refl, sym, ◌∙◌, ap, subst, arith}
-use Rattle.std.specs.Prelude.{ℤ, pos, is_some, slice_get, option_map, IfSome}
+use Rattle.std.specs.Prelude.{ℤ, pos, is_some, is_none, slice_get, option_map, IfSome, IsSome}
 use Rattle.std.specs.List.{AllByRecursion, filter, list_any, range_with_len}
 use Rattle.std.proofs.lemmas.Bool.{or_cases}
 use Rattle.std.proofs.lemmas.Bool.Decides.{Decides-eqb, nat_tests}
@@ -18,35 +18,61 @@ use Rattle.map_defs.specs.Routing.{AreRoutesOf, IsLeastLegal, LeadsTo, led_to, v
 use Rattle.net_defs.specs.RouteSet.{HasRoute}
 use Rattle.map_defs.specs.Sameness.{IsMapOfPart, address_of}
 use Rattle.map_laws.proofs.Listed.{member-host}
-use Rattle.world_defs.specs.Table.{Adoption, is_other}
-use Rattle.world_defs.specs.World.{WorldState, fabric_of}
+use Rattle.world_defs.specs.declared.standing.Standing.{Standing}
+use Rattle.world_defs.specs.Table.{Adoption, last_epoch, is_kept_in}
+use Rattle.world_defs.specs.World.{WorldState, fabric_of, epoch_of, standing_of, first_unrevoked, may_adopt}
 use Rattle.link_defs.specs.Links.{is_idle}
-use Rattle.run_defs.specs.Outcome.{adoption_of}
+use Rattle.run_defs.specs.Outcome.{adopt_cause}
 use Rattle.run_defs.specs.Session.{LastRoutes}
+use Rattle.run_defs.specs.declared.line.InstallCause.TheVariants.{Installed as OtherInstalled, Epochs}
 use Rattle.run_laws.proofs.Ranked.{right_routes_are_adoptable}
 use Rattle.map_canon.specs.Printing.{IsOfFabric}
 use Rattle.route_install.specs.Installing.{AreHosts}
 use Rattle.route_making.specs.Listed.{map_hosts_below}
 use Rattle.route_making.proofs.Naming.{found-any}
-use Rattle.adopted_routes.specs.Adopting.{IsAdoptable, is_among, adopt_refusal}
+use Rattle.adopted_routes.specs.Adopting.{IsAdoptable, is_among, refusal_of, adopt_refusal}
 use Rattle.adopted_routes.specs.declared.routes.AdoptRefusal.{AdoptRefusal}
-use Rattle.adopted_routes.specs.declared.routes.AdoptRefusal.TheVariants.{Another, NoMemory}
+use Rattle.adopted_routes.specs.declared.routes.AdoptRefusal.TheVariants.{Epochs as RefusedEpochs, NoMemory}
+use Rattle.adopted_routes.proofs.Refusals.{refused_exactly, refused-not, refused-by, tells-host}
 use Rattle.fab_world.specs.Events.{IsHostOf}
 use Rattle.fab_world.specs.Held.{IsMoment}
-use Rattle.table_installing.specs.Installing.{CanInstall}
+use Rattle.table_installing.specs.Installing.{IsUnrevoked, CanInstall}
 use Rattle.run_session.specs.Kept.{AreKeptRoutes}
+use Rattle.run_session.specs.Told.{IsOfLast}
 
--- routes are refused as another set where others are adopted
-pub others-are : (rs set : List Route) (o : Option Adoption) (cause : AdoptRefusal) → set ≡ rs → cause ≡ Another → (adopt_refusal set o ≡ Some cause) ⊎ ((adopt_refusal set o ≡ None) × (cause ≡ NoMemory)) → is_other rs o ≡ true
-others-are rs set o cause same is why = ap (λ (x : List Route). is_other x o) (sym same) ∙ told why
+-- routes that a world doesn't refuse may be adopted
+pub may-be : (rs set : List Route) (w : WorldState) → set ≡ rs → adopt_refusal (standing_of w) set w.adopted ≡ None → may_adopt w rs ≡ true
+may-be rs set w same e = ap (λ (x : List Route). may_adopt w x) (sym same) ∙ sym (refused_exactly (standing_of w) set w.adopted) ∙ ap (λ (o : Option AdoptRefusal). is_none o) e
+
+-- why an adoption is refused is why an installation is, unless memory ran out
+pub cause-none : (rs : List Route) (w : WorldState) → adopt_refusal (standing_of w) rs w.adopted ≡ None → None ≡ (if may_adopt w rs then None else Some (adopt_cause w))
+cause-none rs w e = sym (ap (λ b. if b then None else Some (adopt_cause w)) (may-be rs rs w refl e))
+
+pub cause-some : (rs : List Route) (w : WorldState) (r : AdoptRefusal) → adopt_refusal (standing_of w) rs w.adopted ≡ Some r → Some (if tells-host r then OtherInstalled else Epochs) ≡ (if may_adopt w rs then None else Some (adopt_cause w))
+cause-some rs w r e =
+    let host : is_some (first_unrevoked w (epoch_of w)) ≡ tells-host r = refused-by (standing_of w) rs w.adopted r e in
+    sym (ap (λ b. if b then None else Some (adopt_cause w)) (refused-not (standing_of w) rs w.adopted r e) ∙ ap (λ b. Some (if b then OtherInstalled else Epochs)) host)
+
+-- no set is refused for want of memory before any is asked for
+pub no-memory : (s : Standing) (rs : List Route) (o : Option Adoption) → adopt_refusal s rs o ≡ Some NoMemory → ⊥
+no-memory s rs None e = cc
+no-memory s rs (Some a) e = by (is_kept_in s rs a) s.unrevoked e
   where
-    by : (b : Bool) → (if b then Some Another else None) ≡ Some cause → b ≡ true
-    by true p = refl
-    by false p = cc
+    last : (b : Bool) → (if b then Some RefusedEpochs else None) ≡ Some NoMemory → ⊥
+    last true f = cc
+    last false f = cc
 
-    told : (adopt_refusal set o ≡ Some cause) ⊎ ((adopt_refusal set o ≡ None) × (cause ≡ NoMemory)) → is_other set o ≡ true
-    told (inl e) = by (is_other set o) e
-    told (inr e) = let second = e.1 in cc
+    by : (kept : Bool) (u : Option ℕ) → (if kept then None else refusal_of u a.epoch) ≡ Some NoMemory → ⊥
+    by true u f = cc
+    by false (Some h) f = cc
+    by false None f = last (nat_eq a.epoch last_epoch) f
+
+-- routes that may be adopted are refused only where memory runs out
+pub memory-alone : (rs set : List Route) (w : WorldState) (r : AdoptRefusal) → set ≡ rs → may_adopt w rs ≡ true → (adopt_refusal (standing_of w) set w.adopted ≡ Some r) ⊎ ((adopt_refusal (standing_of w) set w.adopted ≡ None) × (r ≡ NoMemory)) → r ≡ NoMemory
+memory-alone rs set w r same may (inl e) =
+    let not : may_adopt w rs ≡ false = ap (λ (x : List Route). may_adopt w x) (sym same) ∙ refused-not (standing_of w) set w.adopted r e in
+    absurd (true≢false (sym may ∙ not))
+memory-alone rs set w r same may (inr e) = e.1
 
 -- a host of the map
 abbrev has : NetMap → ℕ → Bool
@@ -255,13 +281,17 @@ pub hosts-there : (w : WorldState) (l : LastRoutes) → IsMoment w → AreKeptRo
 hosts-there w l now k = subst (λ count. AllByRecursion (λ h. h < count) l.hosts) (sym now.world.hosts) (kept-below (fabric_of w) l k)
 
 -- once they are adopted, they can be installed on these hosts
-pub kept-installable : (w : WorldState) (l : LastRoutes) (hosts : List ℕ) (tries : ℕ) → w.adopted ≡ Some (adoption_of l) → is_idle w.links ≡ true → AreKeptRoutes (fabric_of w) l → 1 ≤ tries → tries ≤ 8 → hosts ≡ l.hosts → CanInstall w hosts tries
-kept-installable w l hosts tries adopted idle k some few same = record {
-  adopted = ap is_some adopted;
-  idle = idle;
-  rise = subst AreHosts (sym same) (kept-rise (fabric_of w) l k);
-  named = subst (λ (o : Option Adoption). IfSome o (λ a. (h : ℕ) → list_any (nat_eq h) hosts ≡ is_among a.mapper a.routes h)) (sym adopted)
-      (λ h. ap (list_any (nat_eq h)) same ∙ kept-named (fabric_of w) l k h);
-  some = some;
-  few = few;
-}
+pub kept-installable : (w : WorldState) (l : LastRoutes) (hosts : List ℕ) (tries : ℕ) (o : Option Adoption) → w.adopted ≡ o → IsSome o → ((a : Adoption) → o ≡ Some a → IsOfLast w l a) → is_idle w.links ≡ true → AreKeptRoutes (fabric_of w) l → 1 ≤ tries → tries ≤ 8 → hosts ≡ l.hosts → CanInstall w hosts tries
+kept-installable w l hosts tries None adopted there last idle k some few same = absurd (true≢false (sym there))
+kept-installable w l hosts tries (Some a) adopted there last idle k some few same =
+    let is : IsOfLast w l a = last a refl in
+    record {
+      adopted = ap is_some adopted;
+      unrevoked = subst (λ (o : Option Adoption). IfSome o (IsUnrevoked w)) (sym adopted) is.unrevoked;
+      idle = idle;
+      rise = subst AreHosts (sym same) (kept-rise (fabric_of w) l k);
+      named = subst (λ (o : Option Adoption). IfSome o (λ a. (h : ℕ) → list_any (nat_eq h) hosts ≡ is_among a.mapper a.routes h)) (sym adopted)
+          (λ h. ap (list_any (nat_eq h)) same ∙ kept-named (fabric_of w) l k h ∙ ap (λ m. is_among m l.routes h) (sym is.mapper) ∙ ap (λ rs. is_among a.mapper rs h) (sym is.routes));
+      some = some;
+      few = few;
+    }

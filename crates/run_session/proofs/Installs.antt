@@ -1,27 +1,35 @@
--- That an installation of the last routes is p, and so obeyed.
+-- That an installation of the last routes is told, and so obeyed.
 use Rattle.std.proofs.Common.{◌≡◌, ℕ, ◌∷◌, [], List, length, map, Bool, true, false, not, Option, Some, None, Result, Ok, Err, refl, sym, ◌∙◌, ap, subst, if◌then◌else◌}
-use Rattle.std.specs.Prelude.{IfSome, IfOk}
-use Rattle.link_defs.specs.Links.{is_idle}
-use Rattle.world_defs.specs.World.{WorldState, fabric_of, adopted_by}
-use Rattle.world_defs.specs.Table.{Adoption, is_other}
+use Rattle.std.specs.Prelude.{IfSome, IfOk, OnErr, IsSome, is_some}
+use Rattle.link_defs.specs.Links.{LinkState, is_idle}
+use Rattle.link_defs.specs.Fault.{accept}
+use Rattle.std.proofs.lemmas.Option.{same_Some}
+use Rattle.world_defs.specs.World.{WorldState, fabric_of, keeps_epoch, may_adopt, adopted_by}
+use Rattle.world_defs.specs.Table.{Adoption}
 use Rattle.world_defs.specs.EightBits.{IsByteEvent}
 use Rattle.world_defs.specs.Logs as log
 use Rattle.world_defs.specs.Row.{IsPartWay}
 use Rattle.world_defs.specs.Log.{came_to}
 use Rattle.world_defs.proofs.LogRows.{install-row, byte_asks}
+use Rattle.act_defs.specs.Acts.{Adopts, IsReached}
+use Rattle.act_defs.proofs.Kept.{acted-net}
+use Rattle.install_laws.proofs.Epochs.{adopted-unrevoked}
+use Rattle.table_installing.specs.Installing.{IsUnrevoked}
 use Rattle.run_defs.specs.declared.command.Command.TheVariants.{Install}
 use Rattle.run_defs.specs.declared.line.Line.TheVariants.{Installed, InstallRefused}
 use Rattle.run_defs.specs.declared.line.InstallCause.{InstallCause}
-use Rattle.run_defs.specs.declared.line.InstallCause.TheVariants.{NoRoutes, Busy, Installed as OtherInstalled}
+use Rattle.run_defs.specs.declared.line.InstallCause.TheVariants.{NoRoutes, Busy}
 use Rattle.run_defs.specs.Output.{OneLine, lines}
-use Rattle.run_defs.specs.Outcome.{Outcome, says, adoption_of, install, install_now, says_only, table_line}
+use Rattle.run_defs.specs.Outcome.{Outcome, says, set_of, adopt_cause, install, install_now, says_only, table_line}
 use Rattle.run_defs.specs.Run.{Does}
 use Rattle.run_defs.specs.Session.{SessionState, LastMap, LastRoutes}
 use Rattle.fab_report.specs.Printed.{PrintedState, printed_of}
-use Rattle.promise_laws.proofs.CutShort.{way-whole}
+use Rattle.promise_laws.specs.CommandActs.{install_acts}
+use Rattle.promise_laws.specs.CutShort.{IsPartActed}
+use Rattle.promise_laws.proofs.CutShort.{part-installed, way-whole}
 use Rattle.world_commands.specs.Done.{session_of}
 use Rattle.run_session.specs.Obeyed.{IsObeyed}
-use Rattle.run_session.specs.Told.{AreInstalledTold, IsInstallTold}
+use Rattle.run_session.specs.Told.{IsOfLast, AreInstalledTold, IsInstallTold}
 
 -- an installation whose outcome says one line alone
 refused : (w : WorldState) (last : Option LastRoutes) (tries : ℕ) (cause : InstallCause) (p : PrintedState) → ((made : Option LastMap) → install (session_of w made last) tries last ≡ says_only (session_of w made last) (InstallRefused cause ∷ [])) → p ≡ printed_of (fabric_of w) (OneLine (InstallRefused cause) ∷ []) → IsInstallTold w last tries w p
@@ -37,59 +45,91 @@ none_told w tries p e = refused w None tries NoRoutes p (λ made. refl) e
 abbrev of_count : SessionState → List ℕ → ℕ × WorldState → Outcome
 of_count s hosts (acked, w) = says s (Installed acked (length hosts) ∷ map (table_line w) hosts) w
 
--- what comes of last routes, by whether a channel holds a packet and another set is adopted
-abbrev choice : SessionState → LastRoutes → ℕ → Bool → Bool → Outcome
-choice s l tries idle other =
+-- what comes of last routes, by whether a channel holds a packet, whether they may be adopted, and why not
+abbrev pub choice : SessionState → LastRoutes → ℕ → Bool → Bool → InstallCause → Outcome
+choice s l tries idle may cause =
     if not idle then says_only s (InstallRefused Busy ∷ [])
-    else if other then says_only s (InstallRefused OtherInstalled ∷ [])
+    else if not may then says_only s (InstallRefused cause ∷ [])
     else install_now s l tries
 
 pub busy_told : (w : WorldState) (l : LastRoutes) (tries : ℕ) (p : PrintedState) → is_idle w.links ≡ false → p ≡ printed_of (fabric_of w) (OneLine (InstallRefused Busy) ∷ []) → IsInstallTold w (Some l) tries w p
-busy_told w l tries p busy e = refused w (Some l) tries Busy p (λ made. ap (λ b. choice (session_of w made (Some l)) l tries b (is_other l.routes w.adopted)) busy) e
+busy_told w l tries p busy e = refused w (Some l) tries Busy p (λ made. ap (λ b. choice (session_of w made (Some l)) l tries b (may_adopt w l.routes) (adopt_cause w)) busy) e
 
-pub other_told : (w after : WorldState) (l : LastRoutes) (tries : ℕ) (p : PrintedState) → is_idle w.links ≡ true → is_other l.routes w.adopted ≡ true → after ≡ w → p ≡ printed_of (fabric_of after) (OneLine (InstallRefused OtherInstalled) ∷ []) → IsInstallTold w (Some l) tries after p
-other_told w after l tries p idle other same e =
-    subst (λ v. IsInstallTold w (Some l) tries v p) (sym same)
-    (refused w (Some l) tries OtherInstalled p
-    (λ made. ap (λ b. choice (session_of w made (Some l)) l tries b (is_other l.routes w.adopted)) idle ∙ ap (choice (session_of w made (Some l)) l tries true) other)
-    (e ∙ ap (λ (v : WorldState). printed_of (fabric_of v) (OneLine (InstallRefused OtherInstalled) ∷ [])) same))
+-- the last routes may not be adopted, and why; or they may
+pub why-not : {may : Bool} {why cause : InstallCause} {r : Option InstallCause} → r ≡ (if may then None else Some why) → r ≡ Some cause → (may ≡ false) × (cause ≡ why)
+why-not {may = true} told is = cc
+why-not {may = false} {why = why} {cause = cause} told is = (refl, same_Some cause why (sym is ∙ told))
 
-pub installed_told : (w mid after : WorldState) (l : LastRoutes) (tries : ℕ) (p : PrintedState) → is_idle w.links ≡ true → is_other l.routes w.adopted ≡ false → mid ≡ adopted_by w l.mapper l.routes → AreInstalledTold mid l tries after p → IsInstallTold w (Some l) tries after p
-installed_told w mid after l tries p idle other is told = record {
-  printed = λ made. told.printed ∙ ap (λ (v : WorldState). printed_of (fabric_of v) (done made).output) is ∙ sym (ap (λ (o : Outcome). printed_of (fabric_of w) o.output) (all made));
+pub why-none : {may : Bool} (why : InstallCause) {r : Option InstallCause} → r ≡ (if may then None else Some why) → r ≡ None → may ≡ true
+why-none {may = true} why told is = refl
+why-none {may = false} why told is = cc
+
+pub refused_told : (w : WorldState) (l : LastRoutes) (tries : ℕ) (cause : InstallCause) (r : Option InstallCause) (p : PrintedState) → is_idle w.links ≡ true → r ≡ (if may_adopt w l.routes then None else Some (adopt_cause w)) → r ≡ Some cause
+    → p ≡ printed_of (fabric_of w) (OneLine (InstallRefused cause) ∷ []) → IsInstallTold w (Some l) tries w p
+refused_told w l tries cause r p idle told is e =
+    let why : (may_adopt w l.routes ≡ false) × (cause ≡ adopt_cause w) = why-not told is in
+    refused w (Some l) tries (adopt_cause w) p
+    (λ made. ap (λ b. choice (session_of w made (Some l)) l tries b (may_adopt w l.routes) (adopt_cause w)) idle ∙ ap (λ b. choice (session_of w made (Some l)) l tries true b (adopt_cause w)) why.0)
+    (e ∙ ap (λ k. printed_of (fabric_of w) (OneLine (InstallRefused k) ∷ [])) why.1)
+
+pub installed_told : (w mid after : WorldState) (l : LastRoutes) (tries : ℕ) (p : PrintedState) → is_idle w.links ≡ true → may_adopt w l.routes ≡ true → mid ≡ adopted_by w l.mapper l.routes → AreInstalledTold (set_of w l) mid l tries after p → IsInstallTold w (Some l) tries after p
+installed_told w mid after l tries p idle may is told = record {
+  printed = λ made. told.printed ∙ ap (λ (v : WorldState). printed_of (fabric_of v) (done made).output) is ∙ ap (λ n. printed_of n (done made).output) (acted-net w (Adopts l.mapper l.routes)) ∙ sym (ap (λ (o : Outcome). printed_of (fabric_of w) o.output) (all made));
   left = λ made. ap (λ (o : Outcome). o.after) (all made);
 }
   where
     done : Option LastMap → Outcome
     done made = of_count (session_of w made (Some l)) l.hosts (told.acked, after)
 
-    counted : came_to (log.install (adoption_of l) l.hosts tries (adopted_by w l.mapper l.routes)) ≡ (told.acked, after)
-    counted = ap (λ v. came_to (log.install (adoption_of l) l.hosts tries v)) (sym is) ∙ (λ i. (sym told.counted i, sym told.led i))
+    counted : came_to (log.install (set_of w l) l.hosts tries (adopted_by w l.mapper l.routes)) ≡ (told.acked, after)
+    counted = ap (λ v. came_to (log.install (set_of w l) l.hosts tries v)) (sym is) ∙ (λ i. (sym told.counted i, sym told.led i))
 
     all : (made : Option LastMap) → install (session_of w made (Some l)) tries (Some l) ≡ done made
     all made =
-        ap (λ b. choice (session_of w made (Some l)) l tries b (is_other l.routes w.adopted)) idle
-        ∙ ap (choice (session_of w made (Some l)) l tries true) other
+        ap (λ b. choice (session_of w made (Some l)) l tries b (may_adopt w l.routes) (adopt_cause w)) idle
+        ∙ ap (λ b. choice (session_of w made (Some l)) l tries true b (adopt_cause w)) may
         ∙ ap (of_count (session_of w made (Some l)) l.hosts) counted
 
+-- the set that was adopted
+now-adopted : (w mid : WorldState) (l : LastRoutes) → mid ≡ adopted_by w l.mapper l.routes → mid.adopted ≡ Some (set_of w l)
+now-adopted w mid l is = ap (λ v. v.adopted) is
+
 -- so it is of what ran out of memory or was made, where the last routes were adopted
-pub adopted-told : {E : Type 0} → (w mid after : WorldState) (l : LastRoutes) (tries : ℕ) (r : Result PrintedState E) → is_idle w.links ≡ true → is_other l.routes w.adopted ≡ false → mid ≡ adopted_by w l.mapper l.routes
-    → IfOk r (AreInstalledTold mid l tries after) → IfOk r (IsInstallTold w (Some l) tries after)
-adopted-told w mid after l tries (Ok p) idle other led told = installed_told w mid after l tries p idle other led told
-adopted-told w mid after l tries (Err e) idle other led told = tt
+pub adopted-told : {E : Type 0} → (w mid after : WorldState) (l : LastRoutes) (tries : ℕ) (r : Result PrintedState E) → is_idle w.links ≡ true → may_adopt w l.routes ≡ true → mid ≡ adopted_by w l.mapper l.routes
+    → ((a : Adoption) → mid.adopted ≡ Some a → IfOk r (AreInstalledTold a mid l tries after)) → IfOk r (IsInstallTold w (Some l) tries after)
+adopted-told w mid after l tries (Ok p) idle may there made = installed_told w mid after l tries p idle may there (made (set_of w l) (now-adopted w mid l there))
+adopted-told w mid after l tries (Err e) idle may there made = tt
+
+-- an epoch that begins puts no packet into a channel
+pub accepted-idle : (s : LinkState) (b : Bool) → is_idle (if b then s else accept s) ≡ is_idle s
+accepted-idle s true = refl
+accepted-idle s false = refl
+
+pub adopted-idle : (w mid : WorldState) (l : LastRoutes) → is_idle w.links ≡ true → mid ≡ adopted_by w l.mapper l.routes → is_idle mid.links ≡ true
+adopted-idle w mid l idle there = ap (λ v. is_idle v.links) there ∙ accepted-idle w.links (keeps_epoch w l.routes) ∙ idle
+
+-- routes that were just adopted are the last routes, and their epoch is given up by no host
+pub adopted-are_last : (w mid : WorldState) (l : LastRoutes) → IsReached (fabric_of w) w → may_adopt w l.routes ≡ true → mid ≡ adopted_by w l.mapper l.routes → IsSome mid.adopted × ((a : Adoption) → mid.adopted ≡ Some a → IsOfLast mid l a)
+adopted-are_last w mid l reached may there =
+    let of_set : IsOfLast mid l (set_of w l) = record {
+      mapper = refl;
+      routes = refl;
+      unrevoked = subst (λ v. IsUnrevoked v (set_of w l)) (sym there) (adopted-unrevoked (fabric_of w) w l.mapper l.routes reached may);
+    } in
+    (ap is_some (now-adopted w mid l there), λ a e. subst (IsOfLast mid l) (same_Some (set_of w l) a (sym (now-adopted w mid l there) ∙ e)) of_set)
 
 -- what holds of the adopted routes and of these hosts holds of the last routes
-of_last : (w : WorldState) (l : LastRoutes) (P : Adoption → List ℕ → Type 0) (hosts : List ℕ) → w.adopted ≡ Some (adoption_of l) → IfSome w.adopted (λ a. P a hosts) → hosts ≡ l.hosts → P (adoption_of l) l.hosts
-of_last w l P hosts adopted is same = subst (P (adoption_of l)) same (subst (λ (o : Option Adoption). IfSome o (λ a. P a hosts)) adopted is)
+of_last : (w : WorldState) (l : LastRoutes) (a : Adoption) (P : Adoption → List ℕ → Type 0) (hosts : List ℕ) → w.adopted ≡ Some a → IfSome w.adopted (λ a. P a hosts) → hosts ≡ l.hosts → P a l.hosts
+of_last w l a P hosts adopted is same = subst (P a) same (subst (λ (o : Option Adoption). IfSome o (λ a. P a hosts)) adopted is)
 
 -- an installation that was counted is reported
-pub counted-told : (w after : WorldState) (l : LastRoutes) (tries acked total : ℕ) (hosts : List ℕ) (p : PrintedState) → w.adopted ≡ Some (adoption_of l) → IfSome w.adopted (λ a. acked ≡ (log.install a hosts tries w).value)
+pub counted-told : (w after : WorldState) (l : LastRoutes) (a : Adoption) (tries acked total : ℕ) (hosts : List ℕ) (p : PrintedState) → w.adopted ≡ Some a → IfSome w.adopted (λ a. acked ≡ (log.install a hosts tries w).value)
     → IfSome w.adopted (λ a. after ≡ (log.install a hosts tries w).world) → total ≡ length hosts → hosts ≡ l.hosts → fabric_of after ≡ fabric_of w
-    → p ≡ printed_of (fabric_of after) (lines (Installed acked total ∷ map (table_line after) hosts)) → AreInstalledTold w l tries after p
-counted-told w after l tries acked total hosts p adopted counted led all same net e = record {
+    → p ≡ printed_of (fabric_of after) (lines (Installed acked total ∷ map (table_line after) hosts)) → AreInstalledTold a w l tries after p
+counted-told w after l a tries acked total hosts p adopted counted led all same net e = record {
   acked = acked;
-  counted = of_last w l (λ a hs. acked ≡ (log.install a hs tries w).value) hosts adopted counted same;
-  led = of_last w l (λ a hs. after ≡ (log.install a hs tries w).world) hosts adopted led same;
+  counted = of_last w l a (λ a hs. acked ≡ (log.install a hs tries w).value) hosts adopted counted same;
+  led = of_last w l a (λ a hs. after ≡ (log.install a hs tries w).world) hosts adopted led same;
   printed = e
       ∙ ap (λ n. printed_of n (lines (Installed acked total ∷ map (table_line after) hosts))) net
       ∙ ap (λ (k : ℕ). printed_of (fabric_of w) (lines (Installed acked k ∷ map (table_line after) hosts))) all
@@ -107,12 +147,18 @@ installed_so w v made found tries p told =
     }
 
 -- an installation of adopted routes that ran out of memory, or was made and its text ran out of it, is part of the way along its events
-pub installed-part : (w after : WorldState) (l : LastRoutes) (tries : ℕ) (hosts : List ℕ) → w.adopted ≡ Some (adoption_of l) → IfSome w.adopted (λ a. IsPartWay w (log.install a hosts tries w).events after) → hosts ≡ l.hosts
-    → IsPartWay w (log.install (adoption_of l) l.hosts tries w).events after
-installed-part w after l tries hosts adopted way same = of_last w l (λ a hs. IsPartWay w (log.install a hs tries w).events after) hosts adopted way same
+pub installed-part : (w after : WorldState) (l : LastRoutes) (a : Adoption) (tries : ℕ) (hosts : List ℕ) → w.adopted ≡ Some a → IfSome w.adopted (λ a. IsPartWay w (log.install a hosts tries w).events after) → hosts ≡ l.hosts
+    → IsPartWay w (log.install a l.hosts tries w).events after
+installed-part w after l a tries hosts adopted way same = of_last w l a (λ a hs. IsPartWay w (log.install a hs tries w).events after) hosts adopted way same
 
-pub installed-whole : (w after : WorldState) (l : LastRoutes) (tries : ℕ) (hosts : List ℕ) → w.adopted ≡ Some (adoption_of l) → IfSome w.adopted (λ a. after ≡ (log.install a hosts tries w).world) → hosts ≡ l.hosts
-    → IsPartWay w (log.install (adoption_of l) l.hosts tries w).events after
-installed-whole w after l tries hosts adopted led same =
-    let there : after ≡ (log.install (adoption_of l) l.hosts tries w).world = of_last w l (λ a hs. after ≡ (log.install a hs tries w).world) hosts adopted led same in
-    way-whole w after (log.install (adoption_of l) l.hosts tries w).events (there ∙ (install-row {Q = IsByteEvent} byte_asks (λ dst part. tt) (adoption_of l) l.hosts tries w).there)
+pub installed-whole : (w after : WorldState) (l : LastRoutes) (a : Adoption) (tries : ℕ) (hosts : List ℕ) → w.adopted ≡ Some a → IfSome w.adopted (λ a. after ≡ (log.install a hosts tries w).world) → hosts ≡ l.hosts
+    → IsPartWay w (log.install a l.hosts tries w).events after
+installed-whole w after l a tries hosts adopted led same =
+    let there : after ≡ (log.install a l.hosts tries w).world = of_last w l a (λ a hs. after ≡ (log.install a hs tries w).world) hosts adopted led same in
+    way-whole w after (log.install a l.hosts tries w).events (there ∙ (install-row {Q = IsByteEvent} byte_asks (λ dst part. tt) a l.hosts tries w).there)
+
+-- an installation of the last routes that ran out of memory
+pub cut-by : {A E : Type 0} (r : Result A E) (w mid v : WorldState) (l : LastRoutes) (tries : ℕ) → is_idle w.links ≡ true → may_adopt w l.routes ≡ true → mid ≡ adopted_by w l.mapper l.routes
+    → ((a : Adoption) → mid.adopted ≡ Some a → OnErr r (IsPartWay mid (log.install a l.hosts tries mid).events v)) → OnErr r (IsPartActed w (install_acts w tries (Some l)) v)
+cut-by (Ok p) w mid v l tries idle may there way = tt
+cut-by (Err e) w mid v l tries idle may there way = part-installed w mid v l tries idle (ap not may) there (way (set_of w l) (now-adopted w mid l there))

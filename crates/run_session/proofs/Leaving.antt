@@ -1,13 +1,12 @@
 -- Where memory runs out in a session no refusal is hidden: a refused command lacks only its line's text.
-use Rattle.std.proofs.Common.{◌≡◌, ℕ, List, ◌∷◌, [], true, false, not, Bool, Option, Some, None, option_map, refl, sym, ◌∙◌, ap, if◌then◌else◌}
+use Rattle.std.proofs.Common.{◌≡◌, ℕ, List, ◌∷◌, [], true, false, Option, Some, None, option_map, refl, sym, ◌∙◌, ap, if◌then◌else◌}
 use Rattle.std.specs.Prelude.{min, length, map}
 use Rattle.link_defs.specs.Links.{is_idle}
 use Rattle.duo_defs.specs.declared.effect.DuoEffect.{DuoEffect}
 use Rattle.duo_defs.specs.declared.event.DuoEvent.{DuoEvent}
 use Rattle.duo_defs.specs.Duo.{DuoState}
 use Rattle.duo_defs.specs.Step.{step as duo_step}
-use Rattle.world_defs.specs.Table.{is_other}
-use Rattle.world_defs.specs.World.{WorldState, last_count}
+use Rattle.world_defs.specs.World.{WorldState, may_adopt, last_count}
 use Rattle.world_defs.specs.Settle.{unacknowledged_in}
 use Rattle.world_defs.specs.Log.{Log}
 use Rattle.world_defs.specs.Logs as log
@@ -15,10 +14,10 @@ use Rattle.run_defs.specs.declared.command.Command.{Command}
 use Rattle.run_defs.specs.declared.command.Command.TheVariants.{Map, Routes, Install, Settle, Duo}
 use Rattle.run_defs.specs.declared.line.Line.{Line}
 use Rattle.run_defs.specs.declared.line.Line.TheVariants.{MapBusy, NoMap, InstallRefused, Installed, Settle as SettleLine, Duo as DuoLine}
-use Rattle.run_defs.specs.declared.line.InstallCause.TheVariants.{NoRoutes, Busy, Installed as OtherInstalled}
+use Rattle.run_defs.specs.declared.line.InstallCause.TheVariants.{NoRoutes, Busy}
 use Rattle.run_defs.specs.Duos.{begun, beside, IsOther}
 use Rattle.run_defs.specs.Output.{OneLine, lines}
-use Rattle.run_defs.specs.Outcome.{Outcome, says_only, settled, table_line, installation, install_done, install_now, routes_refused, duo_done, outcome}
+use Rattle.run_defs.specs.Outcome.{Outcome, says_only, settled, table_line, installation, install_done, adopt_cause, routes_refused, duo_done, outcome}
 use Rattle.run_defs.specs.Session.{SessionState, LastMap, LastRoutes, complete_map}
 use Rattle.promise_laws.proofs.Duos.{with-duo, outcome-beside}
 use Rattle.world_commands.specs.declared.out_of_memory.OutOfMemory.{OutOfMemory}
@@ -30,6 +29,7 @@ use Rattle.world_commands.proofs.Cut.{output-of, first-line, not-refused}
 use Rattle.run_session.specs.declared.mapping.MapOrder.{MapOrder}
 use Rattle.run_session.specs.Told.{map_of}
 use Rattle.run_session.proofs.Cutting.{IsBusy}
+use Rattle.run_session.proofs.Installs.{choice}
 
 -- a command whose outcome isn't determined isn't refused
 pub none-unrefused : (s : SessionState) (c : Command) (v : WorldState) → outcome s c ≡ None → HidesNoRefusal s c v InDoing
@@ -75,12 +75,6 @@ pub settle-missing : (s : SessionState) (v : WorldState) → v ≡ (log.settle s
 settle-missing s v same = (settled s (log.settle s.world), refl, same)
 
 -- an installation
-abbrev choice : SessionState → LastRoutes → ℕ → Bool → Bool → Outcome
-choice s l tries idle other =
-    if not idle then says_only s (InstallRefused Busy ∷ [])
-    else if other then says_only s (InstallRefused OtherInstalled ∷ [])
-    else install_now s l tries
-
 pub no-routes-missing : (w : WorldState) (last : Option LastRoutes) (tries : ℕ) → last ≡ None → (made : Option LastMap) → HidesNoRefusal (session_of w made last) (Install tries) w InLine
 no-routes-missing w None tries none made = (says_only (session_of w made None) (InstallRefused NoRoutes ∷ []), refl, refl)
 no-routes-missing w (Some l) tries none made = cc
@@ -88,12 +82,12 @@ no-routes-missing w (Some l) tries none made = cc
 pub busy-install-missing : (w : WorldState) (l : LastRoutes) (tries : ℕ) → is_idle w.links ≡ false → (made : Option LastMap) → HidesNoRefusal (session_of w made (Some l)) (Install tries) w InLine
 busy-install-missing w l tries busy made =
     let s : SessionState = session_of w made (Some l) in
-    (says_only s (InstallRefused Busy ∷ []), ap (λ b. Some (choice s l tries b (is_other l.routes w.adopted))) busy, refl)
+    (says_only s (InstallRefused Busy ∷ []), ap (λ b. Some (choice s l tries b (may_adopt w l.routes) (adopt_cause w))) busy, refl)
 
-pub other-missing : (w : WorldState) (l : LastRoutes) (tries : ℕ) → is_idle w.links ≡ true → is_other l.routes w.adopted ≡ true → (made : Option LastMap) → HidesNoRefusal (session_of w made (Some l)) (Install tries) w InLine
-other-missing w l tries idle other made =
+pub refused-missing : (w : WorldState) (l : LastRoutes) (tries : ℕ) → is_idle w.links ≡ true → may_adopt w l.routes ≡ false → (made : Option LastMap) → HidesNoRefusal (session_of w made (Some l)) (Install tries) w InLine
+refused-missing w l tries idle may made =
     let s : SessionState = session_of w made (Some l) in
-    (says_only s (InstallRefused OtherInstalled ∷ []), ap (λ b. Some (choice s l tries b (is_other l.routes w.adopted))) idle ∙ ap (λ b. Some (choice s l tries true b)) other, refl)
+    (says_only s (InstallRefused (adopt_cause w) ∷ []), ap (λ b. Some (choice s l tries b (may_adopt w l.routes) (adopt_cause w))) idle ∙ ap (λ b. Some (choice s l tries true b (adopt_cause w))) may, refl)
 
 -- what is printed of a count is no refusal
 counted-unrefused : (s : SessionState) (c : Command) (hosts : List ℕ) (l : Log ℕ) → outcome s c ≡ Some (install_done s hosts l) → IsRefused s c → ⊥
@@ -102,10 +96,11 @@ counted-unrefused s c hosts l is r =
     let bad : false ≡ true = ap is_refusal_line same ∙ r.refuses in
     cc
 
-pub install-unrefused : (w v : WorldState) (l : LastRoutes) (tries : ℕ) → is_idle w.links ≡ true → is_other l.routes w.adopted ≡ false → (made : Option LastMap) → HidesNoRefusal (session_of w made (Some l)) (Install tries) v InDoing
-install-unrefused w v l tries idle other made =
+pub install-unrefused : (w v : WorldState) (l : LastRoutes) (tries : ℕ) → is_idle w.links ≡ true → may_adopt w l.routes ≡ true → (made : Option LastMap) → HidesNoRefusal (session_of w made (Some l)) (Install tries) v InDoing
+install-unrefused w v l tries idle may made =
     let s : SessionState = session_of w made (Some l) in
-    counted-unrefused s (Install tries) l.hosts (installation s l tries) (ap (λ b. Some (choice s l tries b (is_other l.routes w.adopted))) idle ∙ ap (λ b. Some (choice s l tries true b)) other)
+    counted-unrefused s (Install tries) l.hosts (installation s l tries)
+    (ap (λ b. Some (choice s l tries b (may_adopt w l.routes) (adopt_cause w))) idle ∙ ap (λ b. Some (choice s l tries true b (adopt_cause w))) may)
 
 -- an event of the two hosts that restart
 duo-kept : (s : SessionState) (e : DuoEvent) (x : DuoEffect × DuoState) → outcome s (Duo e) ≡ Some (duo_done s x) → IsRefused s (Duo e) → ⊥

@@ -4,6 +4,7 @@ use Rattle.net_defs.specs.declared.route.Route.{Route}
 use Rattle.journal_defs.specs.declared.entry.Entry.{Entry}
 use Rattle.map_defs.specs.Orientation.{order_of}
 use Rattle.map_defs.specs.Routing.{AreRoutesOf}
+use Rattle.world_defs.specs.Table.{Adoption}
 use Rattle.world_defs.specs.World.{WorldState, fabric_of}
 use Rattle.world_defs.specs.Logs as log
 use Rattle.run_defs.specs.declared.command.Command.{Command}
@@ -12,10 +13,11 @@ use Rattle.run_defs.specs.declared.line.Line.TheVariants.{Installed}
 use Rattle.run_defs.specs.Mapped.{IsMapped}
 use Rattle.run_defs.specs.Output.{lines}
 use Rattle.run_defs.specs.Run.{routes_lines, hosts_by_address}
-use Rattle.run_defs.specs.Outcome.{adoption_of, install, table_line}
+use Rattle.run_defs.specs.Outcome.{install, table_line}
 use Rattle.run_defs.specs.Session.{LastMap, LastRoutes}
 use Rattle.fab_report.specs.Printed.{PrintedState, printed_of}
 use Rattle.map_making.specs.declared.making.MadeMap.{MadeMap}
+use Rattle.table_installing.specs.Installing.{IsUnrevoked}
 use Rattle.world_commands.specs.Done.{session_of}
 use Rattle.run_session.specs.declared.mapping.MapOrder.{MapOrder}
 
@@ -37,13 +39,19 @@ pub record AreRoutesTold (w : WorldState) (l : LastMap) (found : Option LastRout
   pub last : found ≡ Some (record { mapper = l.mapper; hosts = hosts_by_address w l.made; routes = routes })
   pub printed : told ≡ printed_of (fabric_of w) (lines (routes_lines l.made routes))
 
--- Adopted routes were installed over a world and are reported: how many of their hosts have acknowledged all parts, of
--- how many, and then each host's table.
-pub record AreInstalledTold (w : WorldState) (l : LastRoutes) (tries : ℕ) (after : WorldState)
+-- An adopted set is the last routes, and no host has given up its epoch.
+pub record IsOfLast (w : WorldState) (l : LastRoutes) (a : Adoption) : Type 0 where
+  pub mapper : a.mapper ≡ l.mapper
+  pub routes : a.routes ≡ l.routes
+  pub unrevoked : IsUnrevoked w a
+
+-- The last routes, adopted as this set, were installed over a world and are reported: how many of their hosts have
+-- acknowledged all parts, of how many, and then each host's table.
+pub record AreInstalledTold (a : Adoption) (w : WorldState) (l : LastRoutes) (tries : ℕ) (after : WorldState)
     (told : PrintedState) : Type 0 where
   pub acked : ℕ
-  pub counted : acked ≡ (log.install (adoption_of l) l.hosts tries w).value
-  pub led : after ≡ (log.install (adoption_of l) l.hosts tries w).world
+  pub counted : acked ≡ (log.install a l.hosts tries w).value
+  pub led : after ≡ (log.install a l.hosts tries w).world
   pub printed : told ≡ printed_of (fabric_of w)
       (lines (Installed acked (length l.hosts) ∷ map (table_line after) l.hosts))
 

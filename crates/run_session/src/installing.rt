@@ -1,13 +1,14 @@
 //! An installation of the last routes, and what it prints.
 
-ghost use Rattle.std.specs.Prelude.{◌≡◌, ◌≤◌, ◌∷◌, [], true, false, Option, Some, IfOk, IfErr, OnOk, OnErr};
+ghost use Rattle.std.specs.Prelude.{◌≡◌, ◌≤◌, ◌∷◌, [], true, Option, Some, None, if◌then◌else◌};
+ghost use Rattle.std.specs.Prelude.{IsSome, IfOk, IfErr, OnOk, OnErr};
 ghost use Rattle.link_defs.specs.Links.{is_idle};
-ghost use Rattle.world_defs.specs.World.{fabric_of, adopted_by};
+ghost use Rattle.world_defs.specs.World.{fabric_of, may_adopt, adopted_by};
 ghost use Rattle.world_defs.specs.Logs as log;
 ghost use Rattle.world_defs.specs.Row.{IsPartWay};
 ghost use Rattle.run_defs.specs.Output.{OneLine};
-ghost use Rattle.run_defs.specs.Outcome.{adoption_of};
-ghost use Rattle.world_defs.specs.Table.{is_other};
+ghost use Rattle.run_defs.specs.Outcome.{adopt_cause};
+ghost use Rattle.world_defs.specs.Table.{Adoption};
 ghost use Rattle.run_defs.specs.Session.{LastMap, LastRoutes};
 ghost use Rattle.run_defs.specs.declared.command.Command.TheVariants.{Install};
 ghost use Rattle.run_defs.specs.declared.line.Line.TheVariants.{InstallRefused};
@@ -17,7 +18,7 @@ ghost use Rattle.promise_laws.specs.CutShort.{IsPartActed};
 ghost use Rattle.world_commands.specs.Cut.{HidesNoRefusal};
 ghost use Rattle.world_commands.specs.Done.{session_of};
 ghost use Rattle.run_session.specs.Kept.{AreKeptRoutes};
-ghost use Rattle.run_session.specs.Told.{AreInstalledTold, IsInstallTold};
+ghost use Rattle.run_session.specs.Told.{IsOfLast, AreInstalledTold, IsInstallTold};
 
 use crate::last::LastFound;
 use fab_report::Printed;
@@ -27,8 +28,9 @@ use std::alloc::{AllocError, Global};
 use table_installing::install;
 use world_commands::{OutOfMemory, one_line, print_tables};
 
-/// Installs the last routes, unless that is refused: no routes were computed, a channel holds a packet, or other
-/// routes are adopted. Running out of memory leaves a world that a prefix of its acts leads to.
+/// Installs the last routes, unless that is refused: no routes were computed, a channel holds a packet, a host hasn't
+/// given up the epoch of the adopted routes where that isn't kept, or there is no next one. Running out of memory
+/// leaves a world that a prefix of its acts leads to.
 pub(crate) fn install_text(
     alloc: Global,
     w: &mut World,
@@ -90,9 +92,42 @@ fn install_idle(
         → HidesNoRefusal (session_of w.old made (Some l.now)) (Install tries) w.new e) }
     ensures fabric { fabric_of w.new ≡ fabric_of w.old }
 {
-    if w.has_other(&l.routes) {
-        return refused_text(alloc, w, InstallCause::Installed);
+    match adoption_refused(w, l) {
+        Some(cause) => refused_text(alloc, w, cause),
+        None => install_adoptable(alloc, w, l, tries),
     }
+}
+
+// Why the last routes aren't adopted, where they may not be. It takes no memory.
+fn adoption_refused(w: &World, l: &LastFound) -> Option<InstallCause>
+    ensures { result ≡ (if may_adopt w.now l.now.routes then None else Some (adopt_cause w.now)) }
+{
+    match w.adopt_refusal(&l.routes) {
+        None => None,
+        Some(AdoptRefusal::Unrevoked(_)) => Some(InstallCause::Installed),
+        Some(AdoptRefusal::Epochs) => Some(InstallCause::Epochs),
+        Some(AdoptRefusal::NoMemory) => unreachable!(),
+    }
+}
+
+// Installs the last routes, which may be adopted, while no channel holds a packet.
+fn install_adoptable(
+    alloc: Global,
+    w: &mut World,
+    l: &LastFound,
+    tries: u8,
+) -> Result<Printed, OutOfMemory>
+    requires idle { is_idle w.old.links ≡ true }
+    requires may { may_adopt w.old l.now.routes ≡ true }
+    requires kept { AreKeptRoutes (fabric_of w.old) l.now }
+    requires some { 1 ≤ tries }
+    requires few { tries ≤ 8 }
+    ensures told { IfOk result (λ p. IsInstallTold w.old (Some l.now) tries w.new p) }
+    ensures err { OnErr result (IsPartActed w.old (install_acts w.old tries (Some l.now)) w.new) }
+    ensures doing { IfErr result (λ e. e ≡ OutOfMemory.InDoing) }
+    ensures fabric { fabric_of w.new ≡ fabric_of w.old }
+{
+    w.reached();
     let Ok(()) = adopt_last(alloc, w, l) else {
         return Err(OutOfMemory::InDoing);
     };
@@ -107,9 +142,9 @@ fn refused_text(alloc: Global, w: &World, cause: InstallCause) -> Result<Printed
     one_line(alloc, Line::InstallRefused(cause), w.fabric())
 }
 
-// Adopts the last routes by their mapper, where no others are adopted.
+// Adopts the last routes, which may be adopted, by their mapper.
 fn adopt_last(alloc: Global, w: &mut World, l: &LastFound) -> Result<(), AllocError>
-    requires other { is_other l.now.routes w.old.adopted ≡ false }
+    requires may { may_adopt w.old l.now.routes ≡ true }
     requires kept { AreKeptRoutes (fabric_of w.old) l.now }
     ensures after { OnOk result (w.new ≡ adopted_by w.old l.now.mapper l.now.routes) }
     ensures err { OnErr result (w.new ≡ w.old) }
@@ -119,26 +154,29 @@ fn adopt_last(alloc: Global, w: &mut World, l: &LastFound) -> Result<(), AllocEr
     let set = l.routes.copied(alloc)?;
     match w.adopt(alloc, l.mapper, set) {
         Ok(()) => Ok(()),
-        Err((_, AdoptRefusal::Another)) => unreachable!(),
+        Err((_, AdoptRefusal::Unrevoked(_))) => unreachable!(),
+        Err((_, AdoptRefusal::Epochs)) => unreachable!(),
         Err((_, AdoptRefusal::NoMemory)) => Err(AllocError),
     }
 }
 
-// Installs the last routes, which were just adopted.
+// Installs the last routes, which were just adopted, in an epoch that no host has given up.
 fn install_adopted(
     alloc: Global,
     w: &mut World,
     l: &LastFound,
     tries: u8,
 ) -> Result<Printed, OutOfMemory>
-    requires adopted { w.old.adopted ≡ Some (adoption_of l.now) }
+    requires adopted { IsSome w.old.adopted }
+    requires last { (a : Adoption) → w.old.adopted ≡ Some a → IsOfLast w.old l.now a }
     requires idle { is_idle w.old.links ≡ true }
     requires kept { AreKeptRoutes (fabric_of w.old) l.now }
     requires some { 1 ≤ tries }
     requires few { tries ≤ 8 }
-    ensures told { IfOk result (λ p. AreInstalledTold w.old l.now tries w.new p) }
-    ensures err { OnErr result (IsPartWay w.old
-        (log.install (adoption_of l.now) l.now.hosts tries w.old).events w.new) }
+    ensures told { (a : Adoption) → w.old.adopted ≡ Some a
+        → IfOk result (λ p. AreInstalledTold a w.old l.now tries w.new p) }
+    ensures err { (a : Adoption) → w.old.adopted ≡ Some a
+        → OnErr result (IsPartWay w.old (log.install a l.now.hosts tries w.old).events w.new) }
     ensures doing { IfErr result (λ e. e ≡ OutOfMemory.InDoing) }
     ensures fabric { fabric_of w.new ≡ fabric_of w.old }
 {

@@ -10,7 +10,7 @@
 //!   Circuit                the fabric, which is only read --> its line, then the lines of the map; nothing is kept
 //!   Routes, no such map    routes refused nomap
 //!   Routes                 the last map, which says complete --> routes --> their lines; the routes are kept
-//!   Install, refused       install refused noroutes, busy or installed
+//!   Install, refused       install refused noroutes, busy, installed or epochs
 //!   Install                the last routes --> adopted --> their parts, host by host --> its line, then the tables
 //!   Settle                 a clear, and rounds of sending again --> its line
 //!   Duo                    one event of the two hosts that restart, which are apart from the world --> its line

@@ -68,8 +68,8 @@ impl Session {
     /// Does a command over its fabric: the session then, and the text of what it printed. Where memory runs out, the
     /// session comes back with a world that a prefix of the command's acts leads to, and with the last map and the last
     /// routes as they were; the two hosts that restart are as they were, or new, where the command is their first
-    /// event, or as it leaves them. A command `circuit` leaves the session as it is. A refused command runs out of
-    /// memory in its line alone; where it ran out, [`Session::perform`] says.
+    /// event, or as it leaves them. A command `circuit` leaves the session as it is. Where it ran out,
+    /// [`Session::perform`] says.
     pub fn exec(
         self,
         alloc: Global,
@@ -82,7 +82,6 @@ impl Session {
         ensures kept_map { IfErr result (λ r. r.0.last_map ≡ self.last_map) }
         ensures kept_routes { IfErr result (λ r. r.0.last_routes ≡ self.last_routes) }
         ensures cut { IfErr result (λ r. IsCutShort self c.now r.0.world) }
-        ensures unrefused { IfErr result (λ r. (e : OutOfMemory) × HidesNoRefusal self c.now r.0.world e) }
         ensures duo { IfErr result (λ r. IsDuoLeft self c.now r.0.duo) }
     {
         match self.perform(alloc, c) {
@@ -92,7 +91,7 @@ impl Session {
     }
 
     /// Does a command as [`Session::exec`] does: the session then, and what it printed, with what a summary shows of
-    /// it.
+    /// it; or where memory ran out. A refused command runs out of it in its line alone.
     pub fn perform(
         self,
         alloc: Global,

@@ -80,6 +80,7 @@ host-same {w = w} (HostChange.expires {h = h} {peer = peer} k) =
     let m : NodeState = with_expired n (lane_of peer 0) in
     record { each = λ k. (expired-same m (lane_of peer 1)).each k ∙ (expired-same n (lane_of peer 0)).each k }
 host-same (HostChange.gives_up k) = record { each = λ k. refl }
+host-same (HostChange.revokes a d) = record { each = λ k. refl }
 
 -- no call but a send changes a lane
 begun-lanes : (n : NodeState) (port sends recvs : ℕ) (c : Option ClientState) → (begun n port sends recvs c).node.lanes ≡ n.lanes

@@ -18,7 +18,7 @@ use Rattle.world_defs.specs.Table.{whole_table}
 use Rattle.world_defs.specs.Node.{NodeState, StagedProbe, StagedPart, given_up, lane_of, lane_at, port_at, new_node, lane_count, port_count}
 use Rattle.world_defs.specs.Client.{ClientState, Called, Wanted, begin_at, begun, close_refusal, close_unless, close_open, closed, provide_with, provide_open, provided_by, send_refusal, send_unless, send_with, send_open, sent_by, handed_out, poll_open, polled_by}
 use Rattle.world_defs.specs.declared.client.ClientCause.{ClientCause}
-use Rattle.world_defs.specs.World.{WorldState, host_count, new_world, node_at, client_at}
+use Rattle.world_defs.specs.World.{WorldState, host_count, new_world, node_at, client_at, adoption_of}
 use Rattle.world_defs.specs.Traffic.{sent_on}
 use Rattle.world_defs.proofs.Views.{HostChange, CallChange}
 use Rattle.world_defs.proofs.Calls.{call_view}
@@ -36,6 +36,7 @@ use Rattle.message_laws.proofs.Known.{reached-count, reached-known}
 use Rattle.seen_laws.specs.Handed.{Handed, in_answer, in_event, in_events, waiting_in, is_on, is_to, as_handed, handed_by, handed_in}
 use Rattle.seen_laws.specs.Seen.{PolledThenWaitingIsGot}
 use Rattle.seen_laws.proofs.Moves.{waits, gets, MovesAt, Moves, nothing, moves-same, open-there, heard-moves, sending-moves, expires-moves, IsQuiet, call-moves}
+use Rattle.world_defs.specs.Step.{gives_up_epoch}
 
 -- no call but a poll hands out a message
 begun-quiet : (n : NodeState) (port sends recvs : ℕ) (c : Option ClientState) → IsQuiet (begun n port sends recvs c).said
@@ -117,6 +118,7 @@ host-moves {w = w} (HostChange.asks {h = h} {walk = walk} {looped = looped}) = m
 host-moves {w = w} (HostChange.stages a p by d e f) = moves-same (node_at w a.mapper) (record (node_at w a.mapper) { staged = Some (StagedPart p by) }) (λ k. refl) (λ port. refl)
 host-moves {w = w} (HostChange.expires {h = h} {peer = peer} k) = expires-moves (node_at w h) peer
 host-moves {w = w} (HostChange.gives_up {h = h} k) = moves-same (node_at w h) (given_up (node_at w h)) (λ k. refl) (λ port. refl)
+host-moves {w = w} (HostChange.revokes {h = h} a d) = moves-same (node_at w h) (gives_up_epoch (node_at w h) a.epoch) (λ k. refl) (λ port. refl)
 
 node-moves : (n : Network) (w : WorldState) → IsReached n w → (a : Act) → IsNoPoll a → (h : ℕ) (m : NodeState) → NodeChange w a h m → Still (length n.hosts) h (node_at w h) m
 node-moves n w r a calm h m (NodeChange.itself k) = record { still = λ low. host-moves k }
@@ -128,7 +130,7 @@ node-moves n w r a calm h m (NodeChange.hears {c = c} packet j d e) = record {
 }
 node-moves n w r a calm h m (NodeChange.sends c out d e) = record { still = λ low. sending-moves (node_at w h) out }
 node-moves n w r a calm h m (NodeChange.calls k) = record { still = λ low. call-moves (call_view k) (call-quiet k calm) }
-node-moves n w r a calm h m (NodeChange.adopts {mapper = mapper} {routes = routes}) = record { still = λ low. moves-same (node_at w mapper) (record (node_at w mapper) { table = whole_table routes mapper 1 }) (λ k. refl) (λ port. refl) }
+node-moves n w r a calm h m (NodeChange.adopts {mapper = mapper} {routes = routes}) = record { still = λ low. moves-same (node_at w mapper) (record (node_at w mapper) { table = whole_table routes mapper (adoption_of w mapper routes).epoch }) (λ k. refl) (λ port. refl) }
 
 -- what an act makes of a world
 record Goes (w : WorldState) (a : Act) : Type 0 where

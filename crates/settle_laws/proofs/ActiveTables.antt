@@ -1,5 +1,5 @@
--- A table that is active stays so, whatever happens.
-use Rattle.std.proofs.Common.{◌≡◌, ℕ, Bool, true, false, ◌&&◌, List, [], nat_eq, nat_lt, Option, Some, None, is_some, Result, Ok, Err, refl, ap, ◌∙◌, if◌then◌else◌}
+-- A table that is active stays so, as long as its host doesn't give up an epoch.
+use Rattle.std.proofs.Common.{◌≡◌, ℕ, Bool, true, false, ◌&&◌, List, [], nat_eq, Option, Some, None, is_some, Result, Ok, Err, refl, ap, ◌∙◌, if◌then◌else◌}
 use Rattle.packet_defs.specs.declared.kind.Kind.{Kind}
 use Rattle.packet_defs.specs.declared.kind.Kind.TheVariants.{Mapping, Gm}
 use Rattle.packet_defs.specs.declared.host_drop.HostDrop.{HostDrop}
@@ -12,16 +12,17 @@ use Rattle.gm_defs.specs.Body.{decode, part_in}
 use Rattle.mapping_defs.specs.Mapping.{RouteEntry, RoutePart, MappingBody, decode_mapping}
 use Rattle.mapping_defs.specs.Mapping.MappingBody.{HostProbe, HostReply, Loopback, Part as PartBody, PartAck}
 use Rattle.world_defs.specs.declared.event.Event.{Event}
+use Rattle.world_defs.specs.declared.event.Event.TheVariants.{Revoke}
 use Rattle.world_defs.specs.declared.effect.Effect.{Effect}
 use Rattle.world_defs.specs.declared.applied.Applied.{Applied}
 use Rattle.world_defs.specs.declared.applied.Applied.TheVariants.{Active, Old}
 use Rattle.world_defs.specs.declared.heard.Heard.{Heard}
-use Rattle.world_defs.specs.Table.{TableState, of_epoch, collected_with, joined_or, joined_below, is_epoch, active_epoch, applied}
+use Rattle.world_defs.specs.Table.{TableState, of_epoch, collected_with, joined_or, joined_below, is_epoch, active_epoch, is_old, applied}
 use Rattle.world_defs.specs.Lane.{lane_acknowledged, lane_after, tickets_finished}
 use Rattle.world_defs.specs.Node.{NodeState, lane_at, with_lane}
 use Rattle.world_defs.specs.Hearing.{frame_lane, ack_lane, is_host, heard_if, is_part_for, part_heard, hear_mapping, hear_mapping_body, message_of, frame_heard, frame_took, ack_heard, hear_gm, hear_gm_body, hear_body, hear_decoded, hear}
 use Rattle.world_defs.specs.World.{WorldState, host_count, node_at}
-use Rattle.act_defs.specs.Acts.{Act, acted}
+use Rattle.act_defs.specs.Acts.{Act, Happens, acted}
 use Rattle.world_defs.proofs.Views.{HostChange}
 use Rattle.world_defs.proofs.Calls.{call_view}
 use Rattle.act_defs.proofs.Hosts.{NodeChange, nodes_view, each_node}
@@ -38,7 +39,7 @@ same-stays n m e a = ap (λ t. is_some t.active) e ∙ a
 of_epoch-active : (t : TableState) (epoch : ℕ) → (of_epoch t epoch).active ≡ t.active
 of_epoch-active t epoch = by (nat_eq t.epoch epoch)
   where
-    by : (b : Bool) → (if b then t else record t { epoch = epoch; collected = [] }).active ≡ t.active
+    by : (b : Bool) → (if b then t else record t { epoch = epoch; revoked = false; collected = [] }).active ≡ t.active
     by true = refl
     by false = refl
 
@@ -48,7 +49,7 @@ joined_or-stays t (Some entries) a = refl
 
 applied-stays : (t : TableState) (p : RoutePart) → is_some t.active ≡ true → is_some (applied t p).1.active ≡ true
 unfolding applied
-applied-stays t p a = by (nat_lt p.epoch t.epoch) (is_epoch p.epoch (active_epoch t))
+applied-stays t p a = by (is_old t p.epoch) (is_epoch p.epoch (active_epoch t))
   where
     v : TableState
     v = collected_with (of_epoch t p.epoch) p
@@ -106,19 +107,25 @@ hear-stays host hosts n wire = hear_decoded-stays host hosts n (decode_packet wi
 pub record TablesStay (w v : WorldState) : Type 0 where
   pub each : (h : ℕ) → Stays (node_at w h) (node_at v h)
 
-host-stays : {w : WorldState} {e : Event} {x : Effect} {h : ℕ} {m : NodeState} → HostChange w e x h m → Stays (node_at w h) m
-host-stays HostChange.asks = λ a. a
-host-stays (HostChange.stages a p by d e f) = λ a. a
-host-stays (HostChange.expires k) = λ a. a
-host-stays (HostChange.gives_up k) = λ a. a
+-- an act by which no host gives up an epoch
+abbrev pub IsNoRevoke : Act → Type 0
+IsNoRevoke (Happens (Revoke h)) = ⊥
+IsNoRevoke _ = Unit {0}
 
-node-stays : (w : WorldState) (a : Act) (h : ℕ) (m : NodeState) → NodeChange w a h m → Stays (node_at w h) m
-node-stays w a h m (NodeChange.itself k) = host-stays k
-node-stays w a h m (NodeChange.hears packet j d e) = hear-stays j (host_count w) (node_at w j) packet.wire
-node-stays w a h m (NodeChange.sends c out d e) = same-stays (node_at w h) m (sent-table (node_at w h) out)
-node-stays w a h m (NodeChange.calls k) = same-stays (node_at w h) m (call-table (call_view k))
-node-stays w a h m NodeChange.adopts = λ a. refl
+host-stays : {w : WorldState} {e : Event} {x : Effect} {h : ℕ} {m : NodeState} → HostChange w e x h m → IsNoRevoke (Happens e) → Stays (node_at w h) m
+host-stays HostChange.asks calm = λ a. a
+host-stays (HostChange.stages a p by d e f) calm = λ a. a
+host-stays (HostChange.expires k) calm = λ a. a
+host-stays (HostChange.gives_up k) calm = λ a. a
+host-stays (HostChange.revokes a d) calm = absurd calm
 
--- every act
-pub acted-stay : (w : WorldState) (a : Act) → TablesStay w (acted w a)
-acted-stay w a = record { each = each_node (λ h. Stays (node_at w h)) (nodes_view w a) (λ h a. a) (node-stays w a) }
+node-stays : (w : WorldState) (a : Act) → IsNoRevoke a → (h : ℕ) (m : NodeState) → NodeChange w a h m → Stays (node_at w h) m
+node-stays w a calm h m (NodeChange.itself k) = host-stays k calm
+node-stays w a calm h m (NodeChange.hears packet j d e) = hear-stays j (host_count w) (node_at w j) packet.wire
+node-stays w a calm h m (NodeChange.sends c out d e) = same-stays (node_at w h) m (sent-table (node_at w h) out)
+node-stays w a calm h m (NodeChange.calls k) = same-stays (node_at w h) m (call-table (call_view k))
+node-stays w a calm h m NodeChange.adopts = λ a. refl
+
+-- every other act
+pub acted-stay : (w : WorldState) (a : Act) → IsNoRevoke a → TablesStay w (acted w a)
+acted-stay w a calm = record { each = each_node (λ h. Stays (node_at w h)) (nodes_view w a) (λ h a. a) (node-stays w a calm) }

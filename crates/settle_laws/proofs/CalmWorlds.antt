@@ -37,6 +37,7 @@ host-calm HostChange.asks q = absurd q
 host-calm (HostChange.stages a p by d e f) q = absurd q
 host-calm (HostChange.expires k) q = absurd q
 host-calm {w = w} (HostChange.gives_up {h = h} k) q = given_up-calm (node_at w h)
+host-calm (HostChange.revokes a d) q = absurd q
 
 no-call : {w : WorldState} {e : Event} {h port : ℕ} {call : Called} → CallChange w e h port call → IsCalm e → ⊥
 no-call CallChange.begins q = q

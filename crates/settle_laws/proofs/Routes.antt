@@ -1,7 +1,7 @@
--- The routes of an active table are the adopted set's, and stay so.
-use Rattle.std.proofs.Common.{◌≡◌, ℕ, zero, suc, Bool, true, false, ℤ, List, [], ◌∷◌, map, nat_eq, Option, Some, None, IfSome, is_some, option_map, refl, sym, ap, ◌∙◌, subst, arith, true≢false, if◌then◌else◌}
-use Rattle.std.specs.Prelude.{find, option_and_then, slice_get}
-use Rattle.std.specs.List.{AllByRecursion, list_all, filter}
+-- The routes of an active table are the adopted set's, and stay so while no host gives up an epoch.
+use Rattle.std.proofs.Common.{◌≡◌, ℕ, Bool, true, false, ℤ, List, [], ◌∷◌, nat_eq, Option, Some, None, IfSome, is_some, option_map, refl, sym, ap, ◌∙◌, subst, arith, true≢false, if◌then◌else◌}
+use Rattle.std.specs.Prelude.{find, option_and_then}
+use Rattle.std.specs.List.{AllByRecursion, list_all}
 use Rattle.std.proofs.lemmas.Bool.Decides.{nat_tests}
 use Rattle.std.proofs.lemmas.Option.{same_Some}
 use Rattle.net_defs.specs.declared.place.Place.TheVariants.{Host as AtHostPlace}
@@ -11,26 +11,18 @@ use Rattle.net_defs.specs.Turn.{is_turn, IsTurn}
 use Rattle.net_defs.specs.Route.{place}
 use Rattle.mapping_defs.specs.Mapping.{RouteEntry}
 use Rattle.gm_defs.proofs.Choices.{both}
-use Rattle.net_defs.specs.RouteSet.{HasRoute}
 use Rattle.world_defs.specs.Table.{Adoption, ActiveTable, TableState, entries_from, table_route}
 use Rattle.world_defs.specs.Traffic.{routes_in, adopted_routes}
 use Rattle.world_defs.specs.World.{WorldState, node_at}
-use Rattle.act_defs.specs.Acts.{Act, Happens, Plans, Adopts, acted, IsSameSet, MayAct, IsReached}
+use Rattle.world_defs.specs.declared.event.Event.{Event}
+use Rattle.world_defs.specs.Step.{step}
+use Rattle.act_defs.specs.Acts.{Happens, IsReached}
 use Rattle.table_laws.specs.Set.{IsActive}
 use Rattle.table_laws.proofs.Sets.{RouteFits, routes-fit, entries-all}
-use Rattle.table_laws.proofs.Dependencies.{tables-of_set, adopted-adoptable}
-use Rattle.settle_laws.proofs.ActiveTables.{acted-stay}
+use Rattle.table_laws.proofs.Steps.{hosts-active}
+use Rattle.table_laws.proofs.Dependencies.{reached-of, adopted-adoptable}
+use Rattle.settle_laws.proofs.ActiveTables.{IsNoRevoke, acted-stay}
 use Rattle.world_defs.proofs.Kept.{step-adopted}
-
--- once a set is adopted, it stays
-acted-routes : (w : WorldState) (a : Act) (x : Adoption) → MayAct w a → w.adopted ≡ Some x → adopted_routes (acted w a) ≡ x.routes
-acted-routes w (Happens e) x may is = ap routes_in (step-adopted w e ∙ is)
-acted-routes w (Plans ahead fault) x may is = ap routes_in is
-acted-routes w (Adopts mapper routes) x may is = by w.adopted may.1 is
-  where
-    by : (o : Option Adoption) → IsSameSet routes o → o ≡ Some x → routes ≡ x.routes
-    by None s e = cc
-    by (Some y) s e = let same : y ≡ x = same_Some y x e in sym s ∙ ap (λ z. z.routes) same
 
 -- the route of a set from a host to another, as its table has it
 abbrev pub route_by : List Route → ℕ → ℕ → Option (List ℤ)
@@ -43,7 +35,7 @@ active-route None h dest (Some t) is e = absurd is
 active-route (Some a) h dest (Some t) is e = ap (λ es. option_map (λ e. e.walk) (find (λ e. nat_eq e.to dest) es)) is.entries
 
 pub table-route : (n : Network) (w : WorldState) (h dest : ℕ) → IsReached n w → is_some (node_at w h).table.active ≡ true → table_route (node_at w h).table dest ≡ route_by (adopted_routes w) h dest
-table-route n w h dest is e = active-route w.adopted h dest (node_at w h).table.active (tables-of_set n w is h).active e
+table-route n w h dest is e = active-route w.adopted h dest (node_at w h).table.active (hosts-active n w (reached-of n w is) h) e
 
 -- a table with a route is active
 pub has-active : (t : TableState) (dest : ℕ) → is_some (table_route t dest) ≡ true → is_some t.active ≡ true
@@ -55,21 +47,22 @@ has-active t dest e = by t.active e
 
 -- without a set no table is active
 has-set : (n : Network) (w : WorldState) (h : ℕ) → IsReached n w → is_some (node_at w h).table.active ≡ true → (x : Adoption) × (w.adopted ≡ Some x)
-has-set n w h is e = by (node_at w h).table.active w.adopted refl (tables-of_set n w is h).active e
+has-set n w h is e = by (node_at w h).table.active w.adopted refl (hosts-active n w (reached-of n w is) h) e
   where
     by : (t : Option ActiveTable) (o : Option Adoption) → w.adopted ≡ o → IfSome t (IsActive o h) → is_some t ≡ true → (x : Adoption) × (w.adopted ≡ Some x)
     by None o g a d = absurd (true≢false (sym d))
     by (Some t) None g a d = absurd a
     by (Some t) (Some x) g a d = (x, g)
 
--- a route of a table stays
-pub route-stays : (n : Network) (w : WorldState) (a : Act) (h dest : ℕ) → IsReached n w → MayAct w a → IsReached n (acted w a) → is_some (table_route (node_at w h).table dest) ≡ true → is_some (table_route (node_at (acted w a) h).table dest) ≡ true
-route-stays n w a h dest is may now e =
+-- a route of a table stays, as long as no host gives up an epoch
+pub route-stays : (n : Network) (w : WorldState) (ev : Event) (h dest : ℕ) → IsReached n w → IsNoRevoke (Happens ev) → IsReached n (step w ev).1 → is_some (table_route (node_at w h).table dest) ≡ true → is_some (table_route (node_at (step w ev).1 h).table dest) ≡ true
+route-stays n w ev h dest is calm now e =
     let active = has-active (node_at w h).table dest e in
     let x = has-set n w h is active in
-    let later = (acted-stay w a).each h active in
+    let later = (acted-stay w (Happens ev) calm).each h active in
+    let routes : adopted_routes (step w ev).1 ≡ x.0.routes = ap routes_in (step-adopted w ev ∙ x.1) in
     let was : table_route (node_at w h).table dest ≡ route_by x.0.routes h dest = table-route n w h dest is active ∙ ap (λ o. route_by (routes_in o) h dest) x.1 in
-    let still : table_route (node_at (acted w a) h).table dest ≡ route_by x.0.routes h dest = table-route n (acted w a) h dest now later ∙ ap (λ r. route_by r h dest) (acted-routes w a x.0 may x.1) in
+    let still : table_route (node_at (step w ev).1 h).table dest ≡ route_by x.0.routes h dest = table-route n (step w ev).1 h dest now later ∙ ap (λ r. route_by r h dest) routes in
     ap is_some (still ∙ sym was) ∙ e
 
 -- a route of a table leads to its host, by turns
@@ -109,39 +102,3 @@ route-leads n w h dest walk is e =
     let active = has-active (node_at w h).table dest (ap is_some e) in
     let l = set-leads n w h dest walk is active (sym (table-route n w h dest is active) ∙ e) in
     (l.there, turns-all walk l.turns)
-
--- a route that a table of the set has is one of the set, and the other way
-pub route-in : (routes : List Route) (from to : ℕ) → is_some (route_by routes from to) ≡ true → HasRoute routes from to
-route-in [] from to e = absurd (true≢false (sym e))
-route-in (r ∷ routes) from to e = by (nat_eq r.from from) (nat_eq r.to to) refl refl e (route-in routes from to)
-  where
-    later : HasRoute routes from to → HasRoute (r ∷ routes) from to
-    later x = record { place = suc x.place; route = x.route; there = x.there; from = x.from; to = x.to }
-
-    entry : RouteEntry
-    entry = record { to = r.to; walk = r.walk }
-
-    by : (a b : Bool) → nat_eq r.from from ≡ a → nat_eq r.to to ≡ b
-        → is_some (option_map (λ (e : RouteEntry). e.walk) (find (λ e. nat_eq e.to to) (map (λ r. record { to = r.to; walk = r.walk }) (if a then r ∷ filter (λ r. nat_eq r.from from) routes else filter (λ r. nat_eq r.from from) routes)))) ≡ true
-        → (is_some (route_by routes from to) ≡ true → HasRoute routes from to) → HasRoute (r ∷ routes) from to
-    by true true t u d rest = record { place = zero; route = r; there = refl; from = grind (arith, nat_tests); to = grind (arith, nat_tests) }
-    by true false t u d rest = later (rest (sym (ap (λ b. is_some (option_map (λ (e : RouteEntry). e.walk) (if b then Some entry else find (λ e. nat_eq e.to to) (entries_from routes from)))) u) ∙ d))
-    by false b t u d rest = later (rest d)
-
-pub in-route : (routes : List Route) (from to at : ℕ) (r : Route) → slice_get routes at ≡ Some r → r.from ≡ from → r.to ≡ to → is_some (route_by routes from to) ≡ true
-in-route [] from to at r e f g = cc
-in-route (x ∷ routes) from to zero r e f g =
-    let same : x ≡ r = same_Some x r e in
-    let a : nat_eq x.from from ≡ true = let s : x.from ≡ from = ap (λ z. z.from) same ∙ f in grind (arith, nat_tests) in
-    let b : nat_eq x.to to ≡ true = let s : x.to ≡ to = ap (λ z. z.to) same ∙ g in grind (arith, nat_tests) in
-    rw (a, b) refl
-in-route (x ∷ routes) from to (suc at) r e f g = by (nat_eq x.from from) (nat_eq x.to to) refl (in-route routes from to at r e f g)
-  where
-    entry : RouteEntry
-    entry = record { to = x.to; walk = x.walk }
-
-    by : (a b : Bool) → nat_eq x.to to ≡ b → is_some (route_by routes from to) ≡ true
-        → is_some (option_map (λ (e : RouteEntry). e.walk) (find (λ e. nat_eq e.to to) (map (λ r. record { to = r.to; walk = r.walk }) (if a then x ∷ filter (λ r. nat_eq r.from from) routes else filter (λ r. nat_eq r.from from) routes)))) ≡ true
-    by true true u rest = ap (λ b. is_some (option_map (λ (e : RouteEntry). e.walk) (if b then Some entry else find (λ e. nat_eq e.to to) (entries_from routes from)))) u
-    by true false u rest = ap (λ b. is_some (option_map (λ (e : RouteEntry). e.walk) (if b then Some entry else find (λ e. nat_eq e.to to) (entries_from routes from)))) u ∙ rest
-    by false b u rest = rest

@@ -1,5 +1,5 @@
--- After every list of acts: messages were sent from ports to hosts with a route, those that were got name a port and a priority, and provided tokens have priorities.
-use Rattle.std.proofs.Common.{◌≡◌, ◌<◌, ℕ, Bool, true, false, List, [], ◌∷◌, length, nat_lt, Some, None, is_some, refl, sym, ap, ◌∙◌, subst, arith}
+-- After every list of acts: messages were sent from ports, those that were got name a port and a priority, and provided tokens have priorities.
+use Rattle.std.proofs.Common.{◌≡◌, ◌<◌, ℕ, Bool, true, false, List, [], ◌∷◌, length, nat_lt, Some, None, refl, sym, ap, ◌∙◌, subst, arith}
 use Rattle.std.specs.Prelude.{slice_get}
 use Rattle.std.specs.List.{AllByRecursion}
 use Rattle.std.proofs.lemmas.Bool.Decides.{nat_tests}
@@ -10,22 +10,19 @@ use Rattle.gm_defs.specs.declared.message.Message.{Message}
 use Rattle.gm_defs.specs.declared.frame.ConnectionKey.{ConnectionKey}
 use Rattle.gm_defs.specs.Fragment.{Fragment, fragments}
 use Rattle.gm_defs.proofs.Numbers.{fragments-append}
-use Rattle.world_defs.specs.Table.{table_route}
 use Rattle.world_defs.specs.Lane.{new_lane}
 use Rattle.world_defs.specs.Node.{NodeState, lane_count, sending_lane, taking_lane, lane_at, port_at, new_node, port_count}
-use Rattle.world_defs.proofs.Lanes.{peer_of-lane}
 use Rattle.world_defs.specs.World.{WorldState, host_count, node_at, new_world}
 use Rattle.world_defs.specs.Traffic.{sent_on, got_on}
 use Rattle.world_laws.specs.Shape.{IsWorld}
-use Rattle.act_defs.specs.Acts.{Act, acted, MayAct, IsReached}
+use Rattle.act_defs.specs.Acts.{Act, acted, IsReached}
 use Rattle.message_laws.proofs.Frames.{get-front}
 use Rattle.message_laws.proofs.Hosts.{Rules, acted-goes}
 use Rattle.message_laws.proofs.Windows.{numbers_of, reached-windowed}
 use Rattle.message_laws.proofs.Taken.{reached-world}
 use Rattle.world_defs.proofs.Lists.{each-replicate}
-use Rattle.act_defs.proofs.Reaching.{reached-next, reached-has}
+use Rattle.act_defs.proofs.Reaching.{reached-has}
 use Rattle.settle_laws.proofs.Says.{IsFor, PortFits, SentSo, NodeSays, says-quiet, hear-says, sent-says, expired-says, call-says}
-use Rattle.settle_laws.proofs.Routes.{route-stays}
 
 -- each change of a host
 says-rules : (w : WorldState) → Rules w (numbers_of w) (λ h. NodeSays)
@@ -49,7 +46,6 @@ sent-place n lane k old new fragment (SentSo.more x e low route) there =
 -- the invariant
 pub record IsSaid (w : WorldState) : Type 0 where
   pub from_ports : (c : ConnectionKey) → AllByRecursion (λ m. m.sport < 8) (sent_on w c)
-  pub routed : (c : ConnectionKey) → 0 < length (sent_on w c) → is_some (table_route (node_at w c.src).table c.dst) ≡ true
   pub got : (c : ConnectionKey) → AllByRecursion IsFor (got_on w c)
   pub ports : (h port : ℕ) → PortFits (port_at (node_at w h) port)
 
@@ -61,7 +57,7 @@ eight-ports w h is = by (nat_lt h (host_count w)) refl
     by true t = (is.each_node h (grind (arith, nat_tests))).ports
     by false t = ap (λ x. length x.ports) (get_or_past w.nodes h (new_node 0) (grind (arith, nat_tests)))
 
-module _ (n : Network) (w : WorldState) (a : Act) (is : IsReached n w) (may : MayAct w a) (now : IsReached n (acted w a)) (said : IsSaid w) where
+module _ (n : Network) (w : WorldState) (a : Act) (is : IsReached n w) (said : IsSaid w) where
   abbrev v : WorldState
   v = acted w a
 
@@ -71,15 +67,9 @@ module _ (n : Network) (w : WorldState) (a : Act) (is : IsReached n w) (may : Ma
       let eight = eight-ports w c.src (reached-world n w is) in
       subst (AllByRecursion (λ m. m.sport < 8)) (sym e) (all-push (λ m. m.sport < 8) (sent_on w c) m (said.from_ports c) (omega (arith, low, eight)))
 
-  routed-then : (c : ConnectionKey) → SentSo (node_at w c.src) (sending_lane c) (sent_on w c) (sent_on v c) → 0 < length (sent_on v c) → is_some (table_route (node_at v c.src).table c.dst) ≡ true
-  routed-then c (SentSo.same e) some = route-stays n w a c.src c.dst is may now (said.routed c (subst (λ l. 0 < length l) e some))
-  routed-then c (SentSo.more m e low route) some =
-      route-stays n w a c.src c.dst is may now (subst (λ x. is_some (table_route (node_at w c.src).table x) ≡ true) (peer_of-lane c.dst c.prio) route)
-
   acted-said : IsSaid (acted w a)
   acted-said = record {
     from_ports = λ c. from-port c ((acted-says n w a is c.src).sent (sending_lane c));
-    routed = λ c. routed-then c ((acted-says n w a is c.src).sent (sending_lane c));
     got = λ c. (acted-says n w a is c.dst).got (taking_lane c) (said.got c);
     ports = λ h port. (acted-says n w a is h).ports port (said.ports h port);
   }
@@ -102,10 +92,9 @@ new-nodes n h = let k : ℕ = length n.hosts in each-replicate IsNew k h (new_no
 new-said : (n : Network) → IsSaid (new_world n)
 new-said n = record {
   from_ports = λ c. subst (λ p. AllByRecursion (λ m. m.sport < 8) p.sent) (sym ((new-nodes n c.src).lanes (sending_lane c))) tt;
-  routed = λ c some. let none : length (sent_on (new_world n) c) ≡ 0 = ap (λ p. length p.sent) ((new-nodes n c.src).lanes (sending_lane c)) in absurd (omega (arith, some, none));
   got = λ c. subst (λ p. AllByRecursion IsFor p.got) (sym ((new-nodes n c.dst).lanes (taking_lane c))) tt;
   ports = λ h port. subst PortFits (sym ((new-nodes n h).ports port)) tt;
 }
 
 pub reached-said : (n : Network) (w : WorldState) → IsReached n w → IsSaid w
-reached-said n w is = reached-has IsSaid n (new-said n) (λ w a r may. acted-said n w a r may (reached-next n w a r may)) w is
+reached-said n w is = reached-has IsSaid n (new-said n) (λ w a r may. acted-said n w a r) w is

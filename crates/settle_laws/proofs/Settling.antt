@@ -1,9 +1,8 @@
 -- A settle ends settled: in its last round no base rose and no planned fault struck, so what isn't acknowledged after it waits for a token.
-use Rattle.std.proofs.Common.{◌≡◌, ◌≢◌, ◌<◌, ◌≤◌, ℕ, Bool, true, false, not, ◌||◌, ℤ, List, nat_eq, nat_lt, Option, Some, None, is_some, option_map, refl, sym, ap, ◌∙◌, subst, arith, true≢false}
+use Rattle.std.proofs.Common.{◌≡◌, ◌≢◌, ◌<◌, ◌≤◌, ℕ, Bool, true, false, not, ◌||◌, ℤ, List, nat_eq, nat_lt, Option, Some, None, is_some, refl, sym, ap, ◌∙◌, subst, arith, true≢false}
 use Rattle.std.specs.Prelude.{slice_get}
 use Rattle.std.proofs.lemmas.Bool.Decides.{nat_tests}
 use Rattle.net_defs.specs.declared.place.Place.TheVariants.{Host as AtHostPlace, Nothing as Stuck}
-use Rattle.net_defs.specs.declared.route.Route.{Route}
 use Rattle.net_defs.specs.Network.{Network}
 use Rattle.net_defs.specs.Route.{place, host_port}
 use Rattle.cable_history.specs.History.{first_history, fabric_now}
@@ -12,14 +11,13 @@ use Rattle.link_defs.specs.Links.{is_idle}
 use Rattle.link_defs.proofs.LonePackets.{no_channel-place}
 use Rattle.gm_defs.specs.Fragment.{Fragment as FragmentOf, fragments, whole_below}
 use Rattle.gm_defs.specs.declared.frame.ConnectionKey.{ConnectionKey}
-use Rattle.net_defs.specs.RouteSet.{HasRoute}
-use Rattle.world_defs.specs.Table.{ActiveTable, table_route}
+use Rattle.world_defs.specs.Table.{table_route}
 use Rattle.world_defs.specs.Node.{sending_lane, to_send}
 use Rattle.world_defs.specs.Log.{Log}
 use Rattle.world_defs.specs.Logs.{Moved, Rounds, moved_both, clear, is_last_pass, round_pass, round_passes, round, rounds, settle}
 use Rattle.world_defs.specs.World.{WorldState, fabric_of, host_count, last_count, node_at}
 use Rattle.world_defs.specs.Step.{after_all}
-use Rattle.world_defs.specs.Traffic.{adopted_routes, routes_in, sender_on, sent_on}
+use Rattle.world_defs.specs.Traffic.{sender_on, sent_on}
 use Rattle.world_defs.specs.Settle.{expiries, pass_bound, round_bound, unacknowledged_in, base_rose, has_helped, is_last_round}
 use Rattle.world_defs.specs.Settled.{IsSettledConnection, IsSettled}
 use Rattle.world_laws.specs.Reached.{IsOfSettle}
@@ -31,27 +29,22 @@ use Rattle.world_laws.proofs.Shapes.{step-kept}
 use Rattle.world_laws.proofs.Rounds.{Going, settle-ends}
 use Rattle.world_laws.proofs.Clearing.{clear-idle}
 use Rattle.world_laws.proofs.Meanings.{base-test, none_left-settled}
-use Rattle.world_laws.proofs.Along.{Along, clear-along, expiries-along, round_pass-along, round-along, settle-along}
+use Rattle.world_laws.proofs.Along.{Along, clear-along, expiries-along, round_pass-along, round-along}
 use Rattle.world_laws.proofs.Reached.{settles-of}
 use Rattle.act_defs.specs.Acts.{IsReached}
 use Rattle.act_defs.proofs.Cables.{first-net}
 use Rattle.message_laws.proofs.Worlds.{reached-ordered}
 use Rattle.message_laws.proofs.Windows.{reached-windowed}
-use Rattle.settle_laws.specs.Premises.{CanSettle, HasRoutesBack}
-use Rattle.settle_laws.specs.Settles.{SentHasRoute, SettleEndsSettled}
-use Rattle.world_defs.proofs.Kept.{step-adopted}
-use Rattle.settle_laws.proofs.Routes.{table-route, has-active, route-leads, route-in, in-route}
+use Rattle.settle_laws.specs.Settles.{SettleEndsSettled}
+use Rattle.settle_laws.proofs.Routes.{route-leads}
 use Rattle.settle_laws.proofs.Still.{Still}
-use Rattle.settle_laws.proofs.Facts.{Facts, IsReadable, at-place, place-below, comes-of, peer-low, cables-of}
+use Rattle.settle_laws.proofs.Facts.{Facts, IsReadable, at-place, comes-of, peer-low, cables-of}
 use Rattle.settle_laws.proofs.Sents.{reached-said}
 use Rattle.settle_laws.proofs.Kept.{along-going, along-reached, along-facts}
 use Rattle.settle_laws.proofs.Passing.{PlainDrainsIdle, pass-facts, pass-still, pass-idle}
 use Rattle.settle_laws.proofs.Ended.{nothing-left}
 use Rattle.settle_laws.proofs.Expiring.{expiries-links, expiries-again}
 use Rattle.settle_laws.proofs.Waiting.{place-there, still-waiting, unreadable}
-
-pub sent-route : SentHasRoute
-sent-route n w is c some = (reached-said n w is).routed c some
 
 -- what passes leave
 passes-going : (w : WorldState) (l : Log Moved) → RoundPasses w l → Going w l.world
@@ -114,14 +107,8 @@ table-cable n w h to is e = by (table_route (node_at w h).table to) refl e
     by None g d = absurd (true≢false (sym d))
     by (Some walk) g d = has-cable n h to walk (route-leads n w h to walk is g).0
 
-route-back : (n : Network) (z : WorldState) (a b : ℕ) → IsReached n z → HasRoutesBack z → is_some (table_route (node_at z a).table b) ≡ true → is_some (node_at z a).table.active ≡ true → is_some (node_at z b).table.active ≡ true → is_some (table_route (node_at z b).table a) ≡ true
-route-back n z a b is joined there active back =
-    let x : HasRoute (adopted_routes z) a b = route-in (adopted_routes z) a b (sym (ap is_some (table-route n z a b is active)) ∙ there) in
-    let y : HasRoute (adopted_routes z) b a = subst (λ t. HasRoute (adopted_routes z) t a) x.to (subst (HasRoute (adopted_routes z) x.route.to) x.from (joined x.place x.route x.there)) in
-    ap is_some (table-route n z b a is back) ∙ in-route (adopted_routes z) b a y.place y.route y.there y.from y.to
-
 -- a connection after the last round
-module _ (flows : PlainDrainsIdle) (n : Network) (w : WorldState) (is : IsReached n w) (net : fabric_of w ≡ n) (idle : is_idle w.links ≡ true) (few : (round w).world.struck ≤ w.struck) (left : (round w).world.injected < last_count) (joined : HasRoutesBack (round w).world) (key : ConnectionKey) (low : key.src < host_count w) (below : key.dst < host_count w) (same : (sender_on (round w).world key).base ≡ (sender_on w key).base) (some : (sender_on w key).base < (sender_on w key).next) where
+module _ (flows : PlainDrainsIdle) (n : Network) (w : WorldState) (is : IsReached n w) (net : fabric_of w ≡ n) (idle : is_idle w.links ≡ true) (few : (round w).world.struck ≤ w.struck) (left : (round w).world.injected < last_count) (key : ConnectionKey) (low : key.src < host_count w) (below : key.dst < host_count w) (same : (sender_on (round w).world key).base ≡ (sender_on w key).base) (some : (sender_on w key).base < (sender_on w key).next) where
   abbrev k : ℕ
   k = (sender_on w key).base
 
@@ -158,30 +145,27 @@ module _ (flows : PlainDrainsIdle) (n : Network) (w : WorldState) (is : IsReache
   expired-first : Still key k fragment u
   expired-first = Still.again (expiries-again w key low below (peer-low n key k fragment w first) some)
 
-  there : is_some (table_route (node_at z key.src).table key.dst) ≡ true
-  there = let long = place-below (sent_on z key) (whole_below (sent_on z key) k) fragment.message (comes-of n key k fragment z last).there in (reached-said n z reached-end).routed key (omega (arith, long))
-
-  waits : IsReadable fragment.message → is_some (node_at z key.dst).table.active ≡ true → IsSettledConnection z key
-  waits readable active =
-      let back = route-back n z key.src key.dst reached-end joined there (has-active (node_at z key.src).table key.dst there) active in
+  waits : IsReadable fragment.message → is_some (table_route (node_at z key.src).table key.dst) ≡ true → is_some (table_route (node_at z key.dst).table key.src) ≡ true → IsSettledConnection z key
+  waits readable there back =
       let from = table-cable n z key.src key.dst reached-end there in
       let to = table-cable n z key.dst key.src reached-end back in
       let e = round-end flows n key k fragment readable from to w idle few left start expired-first in
       IsSettledConnection.waiting (still-waiting n key k fragment z e.facts same readable.priority (omega (arith, some, next-same)) there back e.host_done e.peer_done e.still)
 
-  readable-by : (t v : Bool) → nat_lt fragment.message.dport 8 ≡ t → nat_lt fragment.message.prio 2 ≡ v → is_some (node_at z key.dst).table.active ≡ true → IsSettledConnection z key
-  readable-by true true t v active =
+  readable-by : (t v : Bool) → nat_lt fragment.message.dport 8 ≡ t → nat_lt fragment.message.prio 2 ≡ v → is_some (table_route (node_at z key.src).table key.dst) ≡ true → is_some (table_route (node_at z key.dst).table key.src) ≡ true → IsSettledConnection z key
+  readable-by true true t v there back =
       let port = at-place (λ x. x.sport < 8) (sent_on w key) (whole_below (sent_on w key) k) fragment.message ((reached-said n w is).from_ports key) (comes-of n key k fragment w first).there in
-      waits (record { from_port = port; to_port = grind (arith, nat_tests); priority = grind (arith, nat_tests) }) active
-  readable-by false v t y active = IsSettledConnection.waiting (unreadable n key k fragment z last same false v t y refl)
-  readable-by true false t y active = IsSettledConnection.waiting (unreadable n key k fragment z last same true false t y refl)
+      waits (record { from_port = port; to_port = grind (arith, nat_tests); priority = grind (arith, nat_tests) }) there back
+  readable-by false v t y there back = IsSettledConnection.waiting (unreadable n key k fragment z last same false v t y refl)
+  readable-by true false t y there back = IsSettledConnection.waiting (unreadable n key k fragment z last same true false t y refl)
 
   connection-settled : IsSettledConnection z key
-  connection-settled = by (node_at z key.dst).table.active refl
+  connection-settled = by (table_route (node_at z key.src).table key.dst) (table_route (node_at z key.dst).table key.src) refl refl
     where
-      by : (o : Option ActiveTable) → (node_at z key.dst).table.active ≡ o → IsSettledConnection z key
-      by None e = IsSettledConnection.no_table (ap (option_map (λ (t : ActiveTable). t.epoch)) e)
-      by (Some t) e = readable-by (nat_lt fragment.message.dport 8) (nat_lt fragment.message.prio 2) refl refl (ap is_some e)
+      by : (o p : Option (List ℤ)) → table_route (node_at z key.src).table key.dst ≡ o → table_route (node_at z key.dst).table key.src ≡ p → IsSettledConnection z key
+      by None p e f = IsSettledConnection.no_route e
+      by (Some by_walk) None e f = IsSettledConnection.no_route_back f
+      by (Some by_walk) (Some back_walk) e f = readable-by (nat_lt fragment.message.dport 8) (nat_lt fragment.message.prio 2) refl refl (ap is_some e) (ap is_some f)
 
 -- a round that didn't help
 no-help : (x y : Bool) → (x || not y) ≡ true → x ≡ false → y ≡ false
@@ -194,8 +178,8 @@ neither true y e = absurd (true≢false e)
 neither false y e = (refl, e)
 
 -- the last round
-round-settled : PlainDrainsIdle → (n : Network) (w : WorldState) → is_last_round w (round w).world ≡ true → IsReached n w → fabric_of w ≡ n → is_idle w.links ≡ true → (round w).world.injected < last_count → HasRoutesBack (round w).world → IsSettled (round w).world
-round-settled flows n w e is net idle left joined = by (nat_eq (unacknowledged_in (round w).world) 0) refl
+round-settled : PlainDrainsIdle → (n : Network) (w : WorldState) → is_last_round w (round w).world ≡ true → IsReached n w → fabric_of w ≡ n → is_idle w.links ≡ true → (round w).world.injected < last_count → IsSettled (round w).world
+round-settled flows n w e is net idle left = by (nat_eq (unacknowledged_in (round w).world) 0) refl
   where
     z : WorldState
     z = (round w).world
@@ -230,7 +214,7 @@ round-settled flows n w e is net idle left joined = by (nat_eq (unacknowledged_i
             let f = order.top_below in
             let other : (sender_on z key).base ≢ (sender_on z key).next = grind (arith, nat_tests) in
             let next = ((going.nodes.each key.src).senders (sending_lane key)).next in
-            connection-settled flows n w is net idle few left joined key (omega (arith, low, count)) (omega (arith, below, count)) same (omega (arith, c, d, f, other, next, same))
+            connection-settled flows n w is net idle few left key (omega (arith, low, count)) (omega (arith, below, count)) same (omega (arith, c, d, f, other, next, same))
 
     by : (t : Bool) → nat_eq (unacknowledged_in z) 0 ≡ t → IsSettled z
     by true t = none_left-settled z (reached-windowed n z reached-z).senders (grind (arith, nat_tests))
@@ -240,28 +224,19 @@ round-settled flows n w e is net idle left joined = by (nat_eq (unacknowledged_i
 along-net : Along (λ w v. fabric_of v ≡ fabric_of w) IsOfSettle
 along-net = record { same = λ w. refl; both = λ u v w k l. l ∙ k; event = λ w e q. ap fabric_now (step-kept w e).cables }
 
-along-adopted : Along (λ w v. v.adopted ≡ w.adopted) IsOfSettle
-along-adopted = record { same = λ w. refl; both = λ u v w k l. l ∙ k; event = λ w e q. step-adopted w e }
-
-rounds-settled : PlainDrainsIdle → (n : Network) (w : WorldState) (l : Log Rounds) → AllRounds w l → IsReached n w → fabric_of w ≡ n → is_idle w.links ≡ true → l.world.injected < last_count → HasRoutesBack l.world → IsSettled l.world
-rounds-settled flows n w l (Repeats.last e) is net idle left joined = round-settled flows n w e is net idle left joined
-rounds-settled flows n w l (Repeats.another {l = rest} e more d) is net idle left joined =
+rounds-settled : PlainDrainsIdle → (n : Network) (w : WorldState) (l : Log Rounds) → AllRounds w l → IsReached n w → fabric_of w ≡ n → is_idle w.links ≡ true → l.world.injected < last_count → IsSettled l.world
+rounds-settled flows n w l (Repeats.last e) is net idle left = round-settled flows n w e is net idle left
+rounds-settled flows n w l (Repeats.another {l = rest} e more d) is net idle left =
     let reached-then : IsReached n (round w).world = round-along (λ w v. IsReached n w → IsReached n v) IsOfSettle (along-reached n) settles-of w is in
     let net-then : fabric_of (round w).world ≡ n = round-along (λ w v. fabric_of v ≡ fabric_of w) IsOfSettle along-net settles-of w ∙ net in
     subst (λ t. IsSettled t.world) (sym d)
-    (rounds-settled flows n (round w).world rest more reached-then net-then (round-ends-idle w) (subst (λ t. t.world.injected < last_count) d left) (subst (λ t. HasRoutesBack t.world) d joined))
+    (rounds-settled flows n (round w).world rest more reached-then net-then (round-ends-idle w) (subst (λ t. t.world.injected < last_count) d left))
 
-settle-rounds : PlainDrainsIdle → (w : WorldState) → CanSettle w → HasRoutesBack (settle w).world → (settle w).world.injected < last_count → IsSettled (settle w).world
+pub settle-settled : PlainDrainsIdle → SettleEndsSettled
 unfolding settle
-settle-rounds flows w can joined left =
+settle-settled flows w can left =
     let n : Network = fabric_of w in
     let v : WorldState = (clear w).world in
     let is : IsReached n v = clear-along (λ w v. IsReached n w → IsReached n v) IsOfSettle (along-reached n) settles-of.clears w can.reached in
     let net : fabric_of v ≡ n = clear-along (λ w v. fabric_of v ≡ fabric_of w) IsOfSettle along-net settles-of.clears w in
-    rounds-settled flows n v (rounds (round_bound v) v) (settle-ends w (reached-windowed n w can.reached).senders) is net (clear-idle w) left joined
-
-pub settle-settled : PlainDrainsIdle → SettleEndsSettled
-settle-settled flows w can left =
-    let same : (settle w).world.adopted ≡ w.adopted = settle-along (λ w v. v.adopted ≡ w.adopted) IsOfSettle along-adopted settles-of w in
-    let joined : HasRoutesBack (settle w).world = subst (λ o. (place : ℕ) (route : Route) → slice_get (routes_in o) place ≡ Some route → HasRoute (routes_in o) route.to route.from) (sym same) can.joined in
-    settle-rounds flows w can joined left
+    rounds-settled flows n v (rounds (round_bound v) v) (settle-ends w (reached-windowed n w can.reached).senders) is net (clear-idle w) left

@@ -1,11 +1,7 @@
 -- The worked examples: a settle gets a lost frame across, and leaves a message without a token waiting.
-use Rattle.std.proofs.Common.{◌≡◌, ℕ, zero, suc, pos, negsuc, [], ◌∷◌, length, Some, refl, subst, arith}
-use Rattle.std.specs.Prelude.{slice_get}
-use Rattle.std.proofs.lemmas.Option.{same_Some}
-use Rattle.net_defs.specs.declared.route.Route.{Route}
+use Rattle.std.proofs.Common.{◌≡◌, length, refl, arith}
 use Rattle.net_defs.specs.Examples.{two_hosts}
 use Rattle.net_defs.proofs.TwoHosts.{two_hosts_fabric}
-use Rattle.net_defs.specs.RouteSet.{HasRoute}
 use Rattle.world_defs.specs.Logs.{drain, clear, round_pass, round, settle}
 use Rattle.world_defs.specs.Examples.{setup_routes}
 use Rattle.world_defs.specs.Node.{to_send, packet_for, after_sending}
@@ -22,25 +18,12 @@ use Rattle.message_laws.specs.Examples.{ten}
 use Rattle.settle_laws.specs.Examples.{lost_acts, LostWorldCanSettle, LostFrameIsSentAgain, bare_acts, bare_world, BareWorldCanSettle, MessageWaitsForToken}
 
 setup-adoptable : AreAdoptable two_hosts setup_routes
-setup-adoptable = (adopted-adoptable two_hosts adopted_world (record { mapper = 0; epoch = 1; routes = setup_routes }) adopted-reached refl).1
-
--- the two routes are each other's way back
-abbrev there : Route
-there = record { from = 0; to = 1; walk = pos 3 ∷ [] }
-
-abbrev back : Route
-back = record { from = 1; to = 0; walk = negsuc 2 ∷ [] }
-
-setup-joined : (place : ℕ) (route : Route) → slice_get setup_routes place ≡ Some route → HasRoute setup_routes route.to route.from
-setup-joined zero route e = subst (λ (r : Route). HasRoute setup_routes r.to r.from) (same_Some there route e) (record { place = 1; route = back; there = refl; from = refl; to = refl })
-setup-joined (suc zero) route e = subst (λ (r : Route). HasRoute setup_routes r.to r.from) (same_Some back route e) (record { place = 0; route = there; there = refl; from = refl; to = refl })
-setup-joined (suc (suc place)) route e = cc
+setup-adoptable = (adopted-adoptable two_hosts adopted_world (record { mapper = 0; epoch = 1; at = 0; routes = setup_routes }) adopted-reached refl).1
 
 pub lost-can : LostWorldCanSettle
 unfolding to_send packet_for after_sending hear begun provided_by sent_by lost planned_strikes sent_out injected advanced
 lost-can = record {
-  reached = record { fabric = two_hosts_fabric; acts = lost_acts; may = ((setup-adoptable, tt), ((setup-adoptable, refl), (tt, (tt, (tt, (tt, (tt, (tt, tt)))))))); leads = refl };
-  joined = setup-joined;
+  reached = record { fabric = two_hosts_fabric; acts = lost_acts; may = ((setup-adoptable, refl), ((setup-adoptable, refl), (tt, (tt, (tt, (tt, (tt, (tt, tt)))))))); leads = refl };
 }
 
 pub lost-settled : LostFrameIsSentAgain
@@ -50,8 +33,7 @@ lost-settled = (refl, refl, refl)
 pub bare-can : BareWorldCanSettle
 unfolding to_send packet_for after_sending hear begun provided_by sent_by planned_strikes sent_out injected advanced
 bare-can = record {
-  reached = record { fabric = two_hosts_fabric; acts = bare_acts; may = ((setup-adoptable, tt), ((setup-adoptable, refl), (tt, (tt, (tt, tt))))); leads = refl };
-  joined = setup-joined;
+  reached = record { fabric = two_hosts_fabric; acts = bare_acts; may = ((setup-adoptable, refl), ((setup-adoptable, refl), (tt, (tt, (tt, tt))))); leads = refl };
 }
 
 pub bare-waits : MessageWaitsForToken

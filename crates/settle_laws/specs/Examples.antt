@@ -25,7 +25,7 @@ lost_acts =
 abbrev pub lost_world : WorldState
 lost_world = acted_all (new_world two_hosts) lost_acts
 
--- its routes go both ways
+-- it can settle
 abbrev pub LostWorldCanSettle : Type 0
 LostWorldCanSettle = CanSettle lost_world
 

@@ -1,5 +1,5 @@
-//! What a settle ends with: a settled world, in which whatever isn't acknowledged waits for a token, or for its
-//! receiver's table.
+//! What a settle ends with: a settled world, in which whatever isn't acknowledged waits for a token, or for a route of
+//! its sender or its receiver to the other.
 //!
 //! It says nothing of how long a settle takes, apart from the rounds that `world_laws` bounds, and nothing of a
 //! settle in which the count of injections reaches its last value. Read `specs/Settles.antt` first.
@@ -7,7 +7,7 @@
 //! | file of `specs/` | says |
 //! |---|---|
 //! | `Premises` | what a world must be for a settle to end settled |
-//! | `Settles` | that it does, and that whoever has sent a message has a route for it |
+//! | `Settles` | that it does |
 //! | `Examples` | a settle after a lost frame, and one in which a message waits for a token |
 //!
 //! Why the last round leaves nothing to do, of the first fragment that isn't acknowledged:
@@ -28,5 +28,5 @@
 mod settled;
 mod worked;
 
-pub use settled::{routes_of_senders, settled_settles};
+pub use settled::settled_settles;
 pub use worked::{no_token_waits, one_lost_frame};

@@ -1,3 +1,1 @@
-mod Backs
-mod Adopting
 pub mod Lines

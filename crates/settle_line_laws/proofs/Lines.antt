@@ -1,15 +1,9 @@
 -- After every run a settle can be made, and its line is true.
-use Rattle.std.proofs.Common.{◌≡◌, ◌<◌, ℕ, List, [], ◌∷◌, min, Option, Some, None, refl, sym, ◌∙◌, ap, subst, arith}
-use Rattle.std.specs.Prelude.{slice_get}
+use Rattle.std.proofs.Common.{◌≡◌, ◌<◌, ℕ, List, [], ◌∷◌, min, Some, sym, ◌∙◌, ap, subst, arith}
 use Rattle.std.proofs.lemmas.Option.{same_Some}
-use Rattle.net_defs.specs.declared.route.Route.{Route}
 use Rattle.net_defs.specs.Network.{Network}
 use Rattle.net_defs.proofs.Distinct.{all-weaker}
-use Rattle.map_defs.specs.Orientation.{order_of}
-use Rattle.net_defs.specs.RouteSet.{HasRoute}
-use Rattle.world_defs.specs.Table.{Adoption}
 use Rattle.world_defs.specs.World.{WorldState, fabric_of, last_count}
-use Rattle.world_defs.specs.Traffic.{routes_in}
 use Rattle.world_defs.specs.Settle.{unacknowledged_in}
 use Rattle.world_defs.specs.Settled.{IsSettled}
 use Rattle.world_laws.specs.Shape.{HasSenders}
@@ -36,8 +30,6 @@ use Rattle.lawful_laws.proofs.Settling.{settle-flows}
 use Rattle.settle_laws.specs.Premises.{CanSettle}
 use Rattle.settle_laws.proofs.Flowing.{settle-ends_settled}
 use Rattle.settle_line_laws.specs.Lines.{RunCanSettle, IsSettledLine, SettledLineIsTrue}
-use Rattle.settle_line_laws.proofs.Backs.{back-at}
-use Rattle.settle_line_laws.proofs.Adopting.{AreOfMap, adopted-of}
 
 -- such a command is one over the fabric
 command-of : (n : Network) (c : Command) → IsActOf n c → IsCommandOf n c
@@ -46,16 +38,11 @@ command-of n (Circuit host depth) is = is
 command-of n (Plan ahead kind) is = is.1
 command-of n c is = tt
 
--- each adopted route has one back
-set-back : (o : Option Adoption) → ((a : Adoption) → o ≡ Some a → AreOfMap a.routes) → (place : ℕ) (r : Route) → slice_get (routes_in o) place ≡ Some r → HasRoute (routes_in o) r.to r.from
-set-back None of_map place r there = cc
-set-back (Some a) of_map place r there = let k = of_map a refl in back-at k.made (order_of k.made) a.routes k.are place r there
-
 pub run-can_settle : RunCanSettle
 run-can_settle n commands out s f all r =
     let net : fabric_of s.world ≡ n = (run_keeps_world n commands out s f (all-weaker (IsActOf n) (IsCommandOf n) commands (command-of n) all) r).fabric in
     let reached = run_is_reached n commands out s f all r in
-    (net, record { reached = subst (λ m. IsReached m s.world) (sym net) reached; joined = set-back s.world.adopted (adopted-of n commands out s r) })
+    (net, record { reached = subst (λ m. IsReached m s.world) (sym net) reached })
 
 -- what a settle prints
 record Prints (s next : SessionState) (rounds resets unacked : ℕ) : Type 0 where

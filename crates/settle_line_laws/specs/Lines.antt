@@ -17,8 +17,7 @@ use Rattle.lawful_laws.specs.Resets.{ClearsBeginLawful}
 use Rattle.message_laws.specs.Got.{IsAllGot}
 use Rattle.settle_laws.specs.Premises.{CanSettle}
 
--- after every run a settle can be made over the run's fabric: acts that may happen lead there, and each route of the
--- adopted set has one back
+-- after every run a settle can be made over the run's fabric: acts that may happen lead there
 abbrev pub RunCanSettle : Type 0
 RunCanSettle =
     (n : Network) (commands : List Command) (out : List Piece) (s : SessionState) → IsFabric n

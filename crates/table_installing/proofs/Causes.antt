@@ -13,6 +13,7 @@ use Rattle.install_laws.specs.Counts.{TellsCause}
 use Rattle.install_laws.proofs.Counting.{tells-cause}
 use Rattle.install_laws.proofs.Installing.{installing-idle}
 use Rattle.adopted_routes.specs.Adopting.{is_among, IsSetOfHosts}
+use Rattle.table_installing.specs.Installing.{IsUnrevoked}
 use Rattle.table_installing.proofs.InstallHosts.{members}
 
 told-cause : (w u : WorldState) (hosts : List ℕ) (tries acked : ℕ) (a : Adoption) → CanInstall a hosts w → 1 ≤ tries → installed a hosts tries w ≡ (acked, u)
@@ -33,20 +34,20 @@ joined n a hosts s named =
     (λ h e other. record { there = s.whole a.mapper h first (sym (named h) ∙ e) (λ f. other (sym f)); back = s.whole h a.mapper (sym (named h) ∙ e) first other })
 
 can_install : (n : ℕ) (w : WorldState) (hosts : List ℕ) (a : Adoption) → w.adopted ≡ Some a → IsReached (fabric_of w) w → IsSetOfHosts n a → is_idle w.links ≡ true
-    → ((h : ℕ) → list_any (nat_eq h) hosts ≡ is_among a.mapper a.routes h) → CanInstall a hosts w
-can_install n w hosts a is reached set idle named =
-    record { reached = reached; idle = idle; adopted = is; set = record { in_order = set.in_order; few_turns = set.short; joined = joined n a hosts set named } }
+    → IsUnrevoked w a → ((h : ℕ) → list_any (nat_eq h) hosts ≡ is_among a.mapper a.routes h) → CanInstall a hosts w
+can_install n w hosts a is reached set idle unrevoked named =
+    record { reached = reached; idle = idle; adopted = is; unrevoked = unrevoked; set = record { in_order = set.in_order; few_turns = set.short; joined = joined n a hosts set named } }
 
 -- it leaves the links idle
-pub idle-behind : (n : ℕ) (w u : WorldState) (hosts : List ℕ) (tries acked : ℕ) (o : Option Adoption) → w.adopted ≡ o → IsReached (fabric_of w) w → IfSome o (IsSetOfHosts n) → is_idle w.links ≡ true → IsSome o
+pub idle-behind : (n : ℕ) (w u : WorldState) (hosts : List ℕ) (tries acked : ℕ) (o : Option Adoption) → w.adopted ≡ o → IsReached (fabric_of w) w → IfSome o (IsSetOfHosts n) → is_idle w.links ≡ true → IsSome o → IfSome o (IsUnrevoked w)
     → IfSome o (λ a. (h : ℕ) → list_any (nat_eq h) hosts ≡ is_among a.mapper a.routes h) → IfSome o (λ a. installed a hosts tries w ≡ (acked, u)) → is_idle u.links ≡ true
-idle-behind n w u hosts tries acked None is reached set idle some named told = absurd (true≢false (sym some))
-idle-behind n w u hosts tries acked (Some a) is reached set idle some named told =
-    ap (λ r. is_idle r.1.links) (sym told) ∙ installing-idle a hosts tries w (can_install n w hosts a is reached set idle named)
+idle-behind n w u hosts tries acked None is reached set idle some unrevoked named told = absurd (true≢false (sym some))
+idle-behind n w u hosts tries acked (Some a) is reached set idle some unrevoked named told =
+    ap (λ r. is_idle r.1.links) (sym told) ∙ installing-idle a hosts tries w (can_install n w hosts a is reached set idle unrevoked named)
 
-pub tells : (n : ℕ) (w u : WorldState) (hosts : List ℕ) (tries acked : ℕ) (o : Option Adoption) → w.adopted ≡ o → IsReached (fabric_of w) w → IfSome o (IsSetOfHosts n) → is_idle w.links ≡ true
+pub tells : (n : ℕ) (w u : WorldState) (hosts : List ℕ) (tries acked : ℕ) (o : Option Adoption) → w.adopted ≡ o → IsReached (fabric_of w) w → IfSome o (IsSetOfHosts n) → is_idle w.links ≡ true → IfSome o (IsUnrevoked w)
     → IfSome o (λ a. (h : ℕ) → list_any (nat_eq h) hosts ≡ is_among a.mapper a.routes h) → 1 ≤ tries
     → IfSome o (λ a. installed a hosts tries w ≡ (acked, u)) → IfSome o (λ a. u.injected < last_count → TellsCause a hosts tries acked w u)
-tells n w u hosts tries acked None is reached set idle named some told = tt
-tells n w u hosts tries acked (Some a) is reached set idle named some told =
-    λ left. told-cause w u hosts tries acked a (can_install n w hosts a is reached set idle named) some told left
+tells n w u hosts tries acked None is reached set idle unrevoked named some told = tt
+tells n w u hosts tries acked (Some a) is reached set idle unrevoked named some told =
+    λ left. told-cause w u hosts tries acked a (can_install n w hosts a is reached set idle unrevoked named) some told left

@@ -1,18 +1,33 @@
 -- What an installation begins with, the work that it has, and what comes of each try.
-use Rattle.std.specs.Prelude.{◌≡◌, ℕ, ◌+◌, ◌≤◌, Bool, true, List, [], ◌∷◌, map, nat_eq, nat_lt, Option, IfSome, IsSome}
-use Rattle.std.specs.Prelude.{if◌then◌else◌}
+use Rattle.std.specs.Prelude.{◌≡◌, ℕ, ◌+◌, ◌≤◌, ◌<◌, Bool, true, false, List, [], ◌∷◌, map, nat_eq, nat_lt, Option}
+use Rattle.std.specs.Prelude.{IfSome, IsSome, if◌then◌else◌}
 use Rattle.std.specs.List.{filter, list_any}
+use Rattle.net_defs.specs.declared.route.Route.{Route}
+use Rattle.net_defs.specs.Network.{Network}
 use Rattle.link_defs.specs.Links.{is_idle}
-use Rattle.world_defs.specs.Table.{Adoption}
-use Rattle.world_defs.specs.World.{WorldState}
+use Rattle.world_defs.specs.Table.{Adoption, has_revoked}
+use Rattle.world_defs.specs.World.{WorldState, host_count, node_at, may_adopt, adoption_of, adopted_by}
+use Rattle.act_defs.specs.Acts.{IsReached}
 use Rattle.route_install.specs.declared.installer.Work.{Work}
 use Rattle.route_install.specs.Installing.{AreHosts, Installation, new_work, after_ack, after_silence, acked_of}
 use Rattle.adopted_routes.specs.Adopting.{is_among, part_count_for}
 
--- What an installation begins with: routes are adopted, no packet is on its way, the hosts are the adopter and those
--- that the routes name, each once by rising address, and each part is tried once to eight times.
+-- no host of a world has given up a set's epoch
+abbrev pub IsUnrevoked : WorldState → Adoption → Type 0
+IsUnrevoked w a = (h : ℕ) → h < host_count w → has_revoked a.epoch (node_at w h).table ≡ false
+
+-- so it is after each adoption of routes that may be adopted
+abbrev pub AdoptedIsUnrevoked : Type 0
+AdoptedIsUnrevoked =
+    (n : Network) (w : WorldState) (mapper : ℕ) (routes : List Route) → IsReached n w → may_adopt w routes ≡ true
+    → IsUnrevoked (adopted_by w mapper routes) (adoption_of w mapper routes)
+
+-- What an installation begins with: routes are adopted, no host has given up their epoch, no packet is on its way, the
+-- hosts are the adopter and those that the routes name, each once by rising address, and each part is tried once to
+-- eight times.
 pub record CanInstall (w : WorldState) (hosts : List ℕ) (tries : ℕ) : Type 0 where
   pub adopted : IsSome w.adopted
+  pub unrevoked : IfSome w.adopted (IsUnrevoked w)
   pub idle : is_idle w.links ≡ true
   pub rise : AreHosts hosts
   pub named : IfSome w.adopted (λ a. (h : ℕ) → list_any (nat_eq h) hosts ≡ is_among a.mapper a.routes h)

@@ -13,9 +13,12 @@
 //! |---|---|
 //! | `parts` | one try of a part |
 //! | `installing` | an installation |
+//! | `laws` | that one may follow an adoption |
 #![tactic(auto)]
 
 mod installing;
+mod laws;
 mod parts;
 
 pub use installing::{Installed, install};
+pub use laws::unrevoked_adoptions;

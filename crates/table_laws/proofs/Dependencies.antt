@@ -16,27 +16,30 @@ use Rattle.world_defs.specs.Sound.{entries_in, channels_from, channels_from_all,
 use Rattle.net_defs.specs.RouteSet.{channels_of_all}
 use Rattle.table_laws.specs.Set.{IsActive, IsActiveOfSet}
 use Rattle.act_defs.specs.Acts.{IsReached}
-use Rattle.table_laws.specs.Acts.{TablesAreOfSet, ActiveIsOfSet, AdoptedIsAdoptable, PartsAreOfSet, InstalledHasNoCycle}
+use Rattle.table_laws.specs.Acts.{TablesAreOfSet, ActiveIsOfSet, AdoptedIsAdoptable, LinksAreOfEpoch, PartsAreOfSet, InstalledHasNoCycle}
 use Rattle.act_defs.proofs.Reaching.{reached-has}
 use Rattle.table_laws.proofs.Medium.{honest-read}
 use Rattle.table_laws.proofs.Sets.{entries-all}
 use Rattle.table_laws.specs.Bodies.{IsBody}
 use Rattle.table_laws.specs.Packets.{IsHonest}
-use Rattle.table_laws.proofs.Steps.{IsOfSet, IsAdopted, acted-of, new-of}
+use Rattle.table_laws.proofs.Steps.{IsOfSet, IsAdopted, hosts-active, acted-of, new-of}
 
 pub reached-of : (n : Network) (w : WorldState) → IsReached n w → IsOfSet n w
 reached-of n w is = reached-has (IsOfSet n) n (new-of n) (λ w a r may. acted-of n w a r.fabric may) w is
 
 pub tables-of_set : TablesAreOfSet
-tables-of_set n w r h = ((reached-of n w r).hosts h).table
+tables-of_set n w r h low = let is = reached-of n w r in (is.hosts h (subst (λ k. h < k) is.count low)).table
 
 pub active-of_set : ActiveIsOfSet
-active-of_set n w h t r e = subst (λ o. IfSome o (IsActive w.adopted h)) e ((reached-of n w r).hosts h).table.active
+active-of_set n w h t r e = subst (λ o. IfSome o (IsActive w.adopted h)) e (hosts-active n w (reached-of n w r) h)
+
+pub links-of_epoch : LinksAreOfEpoch
+links-of_epoch n w r = (reached-of n w r).epoch
 
 pub adopted-adoptable : AdoptedIsAdoptable
 adopted-adoptable n w a r e =
     let is : IsAdopted n a = subst (λ o. IfSome o (IsAdopted n)) e (reached-of n w r).adopted in
-    (is.epoch, is.adoptable)
+    ((is.some, is.limit), is.adoptable)
 
 pub parts-of_set : PartsAreOfSet
 parts-of_set n w c held payload p r e d m =
@@ -87,7 +90,7 @@ no_cycle-by w number f =
     let all : AllByRecursion (Rises number) (installed_channels w) = hosts-rise w number (addresses w) f in
     no_cycle-rising (IsBefore (installed_channels w)) number (λ c d b. rise-at number (installed_channels w) b.place b.route all b.there c d b.next)
 
-active-rise : (n : Network) (number : ℕ → ℕ) (h : ℕ) (a : Adoption) (t : Option ActiveTable) → AllByRecursion (Rises number) (channels_of_all n a.routes) → IfSome t (IsActiveOfSet a.routes h) → AllByRecursion (Rises number) (map (λ e. channels_of n h e.walk) (entries_in t))
+active-rise : (n : Network) (number : ℕ → ℕ) (h : ℕ) (a : Adoption) (t : Option ActiveTable) → AllByRecursion (Rises number) (channels_of_all n a.routes) → IfSome t (IsActiveOfSet a.epoch a.routes h) → AllByRecursion (Rises number) (map (λ e. channels_of n h e.walk) (entries_in t))
 active-rise n number h a None all is = tt
 active-rise n number h a (Some t) all is = subst (λ es. AllByRecursion (Rises number) (map (λ e. channels_of n h e.walk) es)) (sym is.entries) (entries-rise n number h a.routes all)
 
@@ -97,13 +100,13 @@ none-rise n number h (Some t) is = absurd is
 
 no_cycle-of : (n : Network) (w : WorldState) (o : Option Adoption) → w.adopted ≡ o → IsOfSet n w → HasNoCycle (IsBefore (installed_channels w))
 no_cycle-of n w None e is =
-    no_cycle-by w (λ c. c) (λ h. none-rise (fabric_of w) (λ c. c) h (node_at w h).table.active (subst (λ o. IfSome (node_at w h).table.active (IsActive o h)) e (is.hosts h).table.active))
+    no_cycle-by w (λ c. c) (λ h. none-rise (fabric_of w) (λ c. c) h (node_at w h).table.active (subst (λ o. IfSome (node_at w h).table.active (IsActive o h)) e (hosts-active n w is h)))
 no_cycle-of n w (Some a) e is =
     let it : IsAdopted n a = subst (λ o. IfSome o (IsAdopted n)) e is.adopted in
     let number : ℕ → ℕ = it.adoptable.number in
     let all : AllByRecursion (Rises number) (channels_of_all n a.routes) = rise-all number (channels_of_all n a.routes) it.adoptable.rises in
     let here : AllByRecursion (Rises number) (channels_of_all (fabric_of w) a.routes) = subst (λ m. AllByRecursion (Rises number) (channels_of_all m a.routes)) (sym is.net) all in
-    no_cycle-by w number (λ h. active-rise (fabric_of w) number h a (node_at w h).table.active here (subst (λ o. IfSome (node_at w h).table.active (IsActive o h)) e (is.hosts h).table.active))
+    no_cycle-by w number (λ h. active-rise (fabric_of w) number h a (node_at w h).table.active here (subst (λ o. IfSome (node_at w h).table.active (IsActive o h)) e (hosts-active n w is h)))
 
 pub installed-no_cycle : InstalledHasNoCycle
 installed-no_cycle n w r = no_cycle-of n w w.adopted refl (reached-of n w r)

@@ -146,10 +146,10 @@ due-out : (o : Option Adoption) (n : NodeState) (lane : ℕ) (f : Option (FrameH
 due-out o n lane None x e = cc
 due-out o n lane (Some f) x e = routed-out o lane f (lane_route n lane) x e
 
-to_send-out : (o : Option Adoption) (host : ℕ) (n : NodeState) (x : Outgoing) → IsHostOf o host n → to_send host n ≡ Some x → IsOut o x
+to_send-out : (o : Option Adoption) (host : ℕ) (n : NodeState) (x : Outgoing) → IfSome n.staged (IsStaged o) → to_send host n ≡ Some x → IsOut o x
 unfolding to_send
 to_send-out o host n x is e =
-    either-holds (IsOut o) (option_map outgoing_staged n.staged) _ (λ y. staged-out o n.staged y is.staged)
+    either-holds (IsOut o) (option_map outgoing_staged n.staged) _ (λ y. staged-out o n.staged y is)
     (either-holds (IsOut o) (option_map Reply n.reply) _ (reply-out o n.reply)
     (either-holds (IsOut o) (option_map PartAnswer n.part_ack) _ (answer-out o n.part_ack)
     (either-holds (IsOut o) (first_some (owed_on n) (lanes_of n)) _
@@ -238,7 +238,7 @@ packet-shape host number (PartAnswer a) = record { route = a.back; kind = Mappin
 packet-shape host number (FrameAnswer lane next by) = record { route = by; kind = Gm; payload = ack_bytes (ack_on (takes_from host lane) next); written = refl; good = tt }
 packet-shape host number (Fragment lane head part by) = record { route = by; kind = Gm; payload = frame_bytes head part; written = refl; good = tt }
 
-pub sent-built : (o : Option Adoption) (host number : ℕ) (n : NodeState) (x : Outgoing) → IsHostOf o host n → to_send host n ≡ Some x → Built (IsBody o) (packet_for host number x)
+pub sent-built : (o : Option Adoption) (host number : ℕ) (n : NodeState) (x : Outgoing) → IfSome n.staged (IsStaged o) → to_send host n ≡ Some x → Built (IsBody o) (packet_for host number x)
 sent-built o host number n x is e = packet-built o host number x (to_send-out o host n x is e)
 
 pub after_sending-host : (o : Option Adoption) (host : ℕ) (n : NodeState) (x : Outgoing) → IsHostOf o host n → IsHostOf o host (after_sending n x)

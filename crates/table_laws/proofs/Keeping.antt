@@ -1,5 +1,5 @@
 -- What holds of each packet, and stays with moves and flips, holds after every act, if it holds of what is injected once that counts as sent.
-use Rattle.std.proofs.Common.{◌≡◌, ◌<◌, ◌+◌, ℕ, false, List, set, Some, None, IfSome, Ok, refl, sym, ap, ◌∙◌, subst}
+use Rattle.std.proofs.Common.{◌≡◌, ◌<◌, ◌+◌, ℕ, Bool, true, false, if◌then◌else◌, List, set, Some, None, IfSome, Ok, refl, sym, ap, ◌∙◌, subst}
 use Rattle.net_defs.specs.Route.{host_port}
 use Rattle.cable_history.specs.Crossed.{leaving}
 use Rattle.packet_defs.specs.declared.kind.Kind.{Kind}
@@ -7,6 +7,7 @@ use Rattle.packet_defs.specs.Packet.{difference}
 use Rattle.packet_defs.specs.Host.{decode}
 use Rattle.packet_defs.proofs.Packets.{packet_of-difference}
 use Rattle.link_defs.specs.Links.{Held, LinkState, packet_in}
+use Rattle.link_defs.specs.Fault.{accept}
 use Rattle.link_defs.specs.Step.{Step, Put as PutLinks, Advance as AdvanceLinks}
 use Rattle.link_defs.proofs.Shapes.{stepped-cables}
 use Rattle.world_defs.specs.declared.event.Event.{Event}
@@ -15,7 +16,7 @@ use Rattle.world_defs.specs.declared.fault.Fault.{Fault}
 use Rattle.world_defs.specs.declared.fault.Fault.TheVariants.{Lose as LoseFault, Repeat as RepeatFault, Hold as HoldFault, Flip as FlipFault}
 use Rattle.world_defs.specs.EightBits.{IsByteFault, IsByteEvent, HasByteFaults}
 use Rattle.world_defs.specs.Node.{Outgoing, to_send, packet_for, after_sending}
-use Rattle.world_defs.specs.World.{WorldState, last_count, node_at}
+use Rattle.world_defs.specs.World.{WorldState, last_count, node_at, keeps_epoch}
 use Rattle.world_defs.specs.Step.{planned_strikes, sent_out}
 use Rattle.act_defs.specs.Acts.{Act, Happens, Plans, Adopts, acted, IsByteAct}
 use Rattle.world_defs.proofs.Views.{LinksChange, Change, view}
@@ -73,6 +74,11 @@ strike-holds F carries is low (Strike.misses f e k) = is
 strike-holds F {w = w} {c = c} carries is low (Strike.strikes f e k) =
     stepped-holds F w.links (fault_step c f) carries (fault-good F w.links.epoch c f (subst (λ o. IfSome o IsByteFault) e (planned_one w.injected w.plan low))) is
 
+-- an adoption may accept the cables
+pub accepted-holds : (F : ℕ → Held → Type 0) (s : LinkState) (keeps : Bool) → Holds F s → Holds F (if keeps then s else accept s)
+accepted-holds F s true is = is
+accepted-holds F s false is = record { in_channels = is.in_channels; in_limbo = is.in_limbo }
+
 module _ (F : ℕ → Held → Type 0) (w : WorldState) (carries : Carries w.links.cables F) (links : Holds F w.links) (plan : HasByteFaults w) where
   injection-holds : (h c : ℕ) (out : Outgoing) → F c (record { wire = packet_for h (w.injected + 1) out; marked = false; born = w.links.epoch }) → Holds F (planned_strikes (sent_out w h c out) c).links
   unfolding sent_out
@@ -94,4 +100,4 @@ module _ (F : ℕ → Held → Type 0) (w : WorldState) (carries : Carries w.lin
   pub acted-holds : (a : Act) → IsByteAct a → HoldsOfNew F w (acted w a) → Holds F (acted w a).links
   acted-holds (Happens e) low new = change-holds (view w e) low new
   acted-holds (Plans ahead fault) low new = links
-  acted-holds (Adopts mapper routes) low new = links
+  acted-holds (Adopts mapper routes) low new = accepted-holds F w.links (keeps_epoch w routes) links

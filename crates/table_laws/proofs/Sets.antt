@@ -124,8 +124,8 @@ found P test (x ∷ rs) r all e = by (test x) refl e (found P test rs r all.1)
     by false t d rest = rest d
 
 -- a part that is cut from a set
-pub part_for-fits : (a : Adoption) (dst part : ℕ) (p : RoutePart) → a.epoch ≡ 1 → AllByRecursion RouteFits a.routes → part_for a dst part ≡ Some p → IsPartOfSet a.routes p.dst p × IsFitPart p
-part_for-fits a dst part p one fit e = by (nat_eq dst a.mapper) (nat_lt part (part_count (length (entries_from a.routes dst)))) (route_of a.routes dst a.mapper) refl e
+pub part_for-fits : (a : Adoption) (dst part : ℕ) (p : RoutePart) → a.epoch < 2 ^ 32 → AllByRecursion RouteFits a.routes → part_for a dst part ≡ Some p → IsPartOfSet a.epoch a.routes p.dst p × IsFitPart p
+part_for-fits a dst part p low fit e = by (nat_eq dst a.mapper) (nat_lt part (part_count (length (entries_from a.routes dst)))) (route_of a.routes dst a.mapper) refl e
   where
     es : List RouteEntry
     es = entries_from a.routes dst
@@ -133,7 +133,7 @@ part_for-fits a dst part p one fit e = by (nat_eq dst a.mapper) (nat_lt part (pa
     test : Route → Bool
     test r = nat_eq r.from dst && nat_eq r.to a.mapper
 
-    by : (b c : Bool) (o : Option (List ℤ)) → route_of a.routes dst a.mapper ≡ o → (if b then None else if c then part_with a dst part es o else None) ≡ Some p → IsPartOfSet a.routes p.dst p × IsFitPart p
+    by : (b c : Bool) (o : Option (List ℤ)) → route_of a.routes dst a.mapper ≡ o → (if b then None else if c then part_with a dst part es o else None) ≡ Some p → IsPartOfSet a.epoch a.routes p.dst p × IsFitPart p
     by true c o g d = cc
     by false false o g d = cc
     by false true None g d = cc
@@ -145,12 +145,12 @@ part_for-fits a dst part p one fit e = by (nat_eq dst a.mapper) (nat_lt part (pa
         let from : m.0.from ≡ dst = let t = two.0 in grind (arith, nat_tests) in
         let to : m.0.to ≡ a.mapper = let t = two.1 in grind (arith, nat_tests) in
         let all : AllByRecursion IsFit es = entries-all RouteFits IsFit dst a.routes (λ x t y. record { to = y.to; turns = y.turns }) fit in
-        let of : IsPartOfSet a.routes dst made = record { epoch = one; parts = refl; entries = refl } in
+        let of : IsPartOfSet a.epoch a.routes dst made = record { epoch = refl; parts = refl; entries = refl } in
         let fits : IsFitPart made = record {
-          epoch = subst (λ k. k < 2 ^ 32) (sym one) (omega arith);
+          epoch = low;
           mapper = subst (λ k. k < 2 ^ 16) to r.0.to;
           dst = subst (λ k. k < 2 ^ 16) from r.0.from;
           back = ap (list_all is_turn) (sym m.1.1) ∙ r.0.turns;
           entries = take-all IsFit 8 (drop (8 * part) es) (drop-all IsFit (8 * part) es all);
         } in
-        subst (λ q. IsPartOfSet a.routes q.dst q × IsFitPart q) (same_Some made p d) (of, fits)
+        subst (λ q. IsPartOfSet a.epoch a.routes q.dst q × IsFitPart q) (same_Some made p d) (of, fits)

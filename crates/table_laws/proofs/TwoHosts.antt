@@ -33,7 +33,7 @@ setup-adoptable : AreAdoptable two_hosts setup_routes
 setup-adoptable = record { lead = (refl, (refl, tt)); number = λ k. k % 2; rises = setup-rises }
 
 pub adopted-reached : AdoptedIsReached
-adopted-reached = record { fabric = two_hosts_fabric; acts = one_adoption; may = ((setup-adoptable, tt), tt); leads = refl }
+adopted-reached = record { fabric = two_hosts_fabric; acts = one_adoption; may = ((setup-adoptable, refl), tt); leads = refl }
 
 pub one-active : OneTableIsActive
 one-active = (refl, refl)

@@ -1,5 +1,5 @@
 -- What holds of tables after every list of acts.
-use Rattle.std.specs.Prelude.{◌≡◌, ℕ, pos, List, [], ◌∷◌, Some, Ok}
+use Rattle.std.specs.Prelude.{◌≡◌, ℕ, ◌<◌, ◌≤◌, pos, List, [], ◌∷◌, Some, Ok}
 use Rattle.net_defs.specs.Network.{Network}
 use Rattle.packet_defs.specs.declared.kind.Kind.TheVariants.{Mapping, Gm}
 use Rattle.packet_defs.specs.Packet.{packet_of, difference}
@@ -8,8 +8,8 @@ use Rattle.packet_defs.specs.Host.{decode}
 use Rattle.link_defs.specs.Links.{Held, packet_in}
 use Rattle.mapping_defs.specs.Mapping.{RoutePart, Part, decode_mapping}
 use Rattle.net_defs.specs.Dependencies.{IsBefore, HasNoCycle}
-use Rattle.world_defs.specs.Table.{Adoption, ActiveTable}
-use Rattle.world_defs.specs.World.{WorldState, node_at}
+use Rattle.world_defs.specs.Table.{Adoption, ActiveTable, last_epoch}
+use Rattle.world_defs.specs.World.{WorldState, host_count, node_at, epoch_of}
 use Rattle.world_defs.specs.Sound.{installed_channels}
 use Rattle.act_defs.specs.Acts.{AreAdoptable, IsReached}
 use Rattle.table_laws.specs.Set.{IsPart, IsActive, IsTable}
@@ -23,19 +23,24 @@ WidePatternIsUnseen =
 
 -- each host's table is of the adopted set
 abbrev pub TablesAreOfSet : Type 0
-TablesAreOfSet = (n : Network) (w : WorldState) → IsReached n w → (h : ℕ) → IsTable w.adopted h (node_at w h).table
+TablesAreOfSet = (n : Network) (w : WorldState) → IsReached n w → (h : ℕ) → h < host_count w
+    → IsTable w.adopted h (node_at w h).table
 
 -- what is active is exactly the set's routes from its host, by the set's epoch; without a set nothing is
 abbrev pub ActiveIsOfSet : Type 0
 ActiveIsOfSet = (n : Network) (w : WorldState) (h : ℕ) (t : ActiveTable) → IsReached n w
     → (node_at w h).table.active ≡ Some t → IsActive w.adopted h t
 
--- the adopted set has epoch 1, and may be adopted
+-- the adopted set has an epoch from 1 on, and may be adopted
 abbrev pub AdoptedIsAdoptable : Type 0
 AdoptedIsAdoptable = (n : Network) (w : WorldState) (a : Adoption) → IsReached n w → w.adopted ≡ Some a
-    → (a.epoch ≡ 1) × AreAdoptable n a.routes
+    → ((0 < a.epoch) × (a.epoch ≤ last_epoch)) × AreAdoptable n a.routes
 
--- whatever a host would read as a part of a packet on its way is a part of the adopted set
+-- the links count the epochs of adopted sets
+abbrev pub LinksAreOfEpoch : Type 0
+LinksAreOfEpoch = (n : Network) (w : WorldState) → IsReached n w → w.links.epoch ≡ epoch_of w
+
+-- whatever a host would read as a part of a packet on its way is a part of the adopted set, or of an epoch before it
 abbrev pub PartsAreOfSet : Type 0
 PartsAreOfSet =
     (n : Network) (w : WorldState) (c : ℕ) (held : Held) (payload : List ℕ) (p : RoutePart) → IsReached n w

@@ -56,6 +56,7 @@ host-naming HostChange.asks = tt
 host-naming (HostChange.stages a p by d e f) = tt
 host-naming (HostChange.expires k) = tt
 host-naming (HostChange.gives_up k) = tt
+host-naming (HostChange.revokes a e) = tt
 
 -- a host that a packet reaches is one of the fabric's
 pub reached-there : (n : Network) (h : ℕ) → h < length n.hosts → has_vertex n (Host h) ≡ true

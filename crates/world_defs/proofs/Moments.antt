@@ -1,6 +1,6 @@
 -- Moments of small worlds: what is sound, lawful, honest and settled there, and what isn't.
 use Rattle.std.proofs.Common.{◌≡◌, ◌<◌, ℕ, zero, suc, true, false, List, [], ◌∷◌, ◌++◌, length, replicate, get_or, Option, Some, None, Result, Ok, Err, refl, sym, ◌∙◌, ap, subst, arith, rules, ◌||◌, nat_eq, if◌then◌else◌}
-use Rattle.std.specs.Prelude.{pos, codes, slice_get}
+use Rattle.std.specs.Prelude.{ℤ, pos, negsuc, codes, slice_get}
 use Rattle.std.specs.List.{AllByRecursion}
 use Rattle.net_defs.specs.Route.{host_port}
 use Rattle.net_defs.specs.Examples.{two_hosts}
@@ -23,7 +23,7 @@ use Rattle.gm_defs.specs.Fragment.{IsHonestFrame, IsHonestAck, frame_of, whole_b
 use Rattle.gm_defs.specs.Connection.{connection}
 use Rattle.gm_defs.specs.Token.{PortState}
 use Rattle.gm_defs.specs.Examples.{message, abc}
-use Rattle.world_defs.specs.Table.{applied, active_epoch}
+use Rattle.world_defs.specs.Table.{applied, table_route}
 use Rattle.world_defs.specs.Lane.{LaneState, new_lane}
 use Rattle.world_defs.specs.Node.{lane_of, sending_lane, taking_lane, lane_at, to_send, packet_for, after_sending, port_at}
 use Rattle.world_defs.specs.Hearing.{hear, port_fits}
@@ -31,7 +31,7 @@ use Rattle.world_defs.specs.Client.{ClientState, begun, closed, provided_by, sen
 use Rattle.world_defs.specs.World.{new_world, host_count, node_at, client_at}
 use Rattle.world_defs.specs.Step.{lost, was_reset, repeated, held, flipped, replayed, asked, part_staged, planned_strikes, sent_out, injected, advanced, expired, gave_up}
 use Rattle.world_defs.specs.Settled.{IsSettled, IsSettledConnection, IsWaiting}
-use Rattle.world_defs.specs.Settled.IsSettledConnection.{all_acknowledged, no_table, waiting}
+use Rattle.world_defs.specs.Settled.IsSettledConnection.{all_acknowledged, no_route, no_route_back, waiting}
 use Rattle.world_defs.specs.Logs.{drain, clear, round_pass, round, settle, sends, host_try, loop_try, ask, part_try, install}
 use Rattle.world_defs.specs.Traffic.{IsLawful, IsLawfulTraffic, IsHonest, IsHonestTraffic, adopted_routes, channels_crossed, channels_ahead, sender_on, sent_on, got_on, taken_on}
 use Rattle.world_defs.specs.Sound.{IsSound, IsPrefix, AreOwned, installed_channels}
@@ -216,7 +216,7 @@ further_route = refl
 pub further_is_lawful : IsLawful further_on 3 abc_further_on
 further_is_lawful = record { unmarked = refl; place = 0; route = record { from = 0; to = 1; walk = pos 3 ∷ [] }; behind = 0 ∷ []; there = further_route; ends_it = further_whole ∙ sym (ap (λ cs. 0 ∷ cs) further_ahead) }
 
-spoiled_frame : packet_in spoiled.links 0 ≡ Some (record { wire = 128 ∷ 4 ∷ 8 ∷ frame_bytes abc (codes "ABC") ++ 146 ∷ []; marked = true; born = 0 })
+spoiled_frame : packet_in spoiled.links 0 ≡ Some (record { wire = 128 ∷ 4 ∷ 8 ∷ frame_bytes abc (codes "ABC") ++ 146 ∷ []; marked = true; born = 1 })
 unfolding sends host_try loop_try ask begun closed provided_by sent_by polled_by drain clear hear part_try install to_send packet_for after_sending round_pass round settle lost was_reset repeated held flipped replayed asked part_staged planned_strikes sent_out injected advanced expired gave_up applied
 spoiled_frame = refl
 
@@ -345,9 +345,13 @@ way_next : (sender_on on_its_way (connection 0 1 0)).next ≡ 1
 unfolding sends host_try loop_try ask begun closed provided_by sent_by polled_by drain clear hear part_try install to_send packet_for after_sending round_pass round settle lost was_reset repeated held flipped replayed asked part_staged planned_strikes sent_out injected advanced expired gave_up applied
 way_next = refl
 
-way_table : active_epoch (node_at on_its_way 1).table ≡ Some 1
+way_there : table_route (node_at on_its_way 0).table 1 ≡ Some (pos 3 ∷ [])
 unfolding sends host_try loop_try ask begun closed provided_by sent_by polled_by drain clear hear part_try install to_send packet_for after_sending round_pass round settle lost was_reset repeated held flipped replayed asked part_staged planned_strikes sent_out injected advanced expired gave_up applied
-way_table = refl
+way_there = refl
+
+way_back : table_route (node_at on_its_way 1).table 0 ≡ Some (negsuc 2 ∷ [])
+unfolding sends host_try loop_try ask begun closed provided_by sent_by polled_by drain clear hear part_try install to_send packet_for after_sending round_pass round settle lost was_reset repeated held flipped replayed asked part_staged planned_strikes sent_out injected advanced expired gave_up applied
+way_back = refl
 
 way_sent : sent_on on_its_way (connection 0 1 0) ≡ message (codes "ABC") ∷ []
 unfolding sends host_try loop_try ask begun closed provided_by sent_by polled_by drain clear hear part_try install to_send packet_for after_sending round_pass round settle lost was_reset repeated held flipped replayed asked part_staged planned_strikes sent_out injected advanced expired gave_up applied
@@ -364,8 +368,8 @@ way_first = refl
 zero_one : (a b : ℕ) → a ≡ 0 → b ≡ 1 → a ≡ b → ⊥
 zero_one a b e f g = omega arith
 
-no_epoch : (o : Option ℕ) (n : ℕ) → o ≡ Some n → o ≡ None → ⊥
-no_epoch o n e f = cc
+no_walk : (o : Option (List ℤ)) (walk : List ℤ) → o ≡ Some walk → o ≡ None → ⊥
+no_walk o walk e f = cc
 
 first_message : (m n : Message) → slice_get (m ∷ []) 0 ≡ Some n → m ≡ n
 first_message m n e = cc
@@ -378,7 +382,8 @@ way_is_not_settled s = by (s.connections (connection 0 1 0) (subst (λ n. 0 < n)
 
     by : IsSettledConnection on_its_way (connection 0 1 0) → ⊥
     by (all_acknowledged e) = zero_one _ _ way_base way_next e
-    by (no_table e) = no_epoch _ 1 way_table e
+    by (no_route e) = no_walk _ _ way_there e
+    by (no_route_back e) = no_walk _ _ way_back e
     by (waiting q) =
         let at_first : q.place ≡ 0 = q.first ∙ way_first in
         let there : slice_get (message (codes "ABC") ∷ []) 0 ≡ Some q.message = subst (λ ms. slice_get ms 0 ≡ Some q.message) way_sent (subst (λ k. slice_get (sent_on on_its_way (connection 0 1 0)) k ≡ Some q.message) at_first q.there) in

@@ -72,7 +72,7 @@ pub three_messages_drops : three_polls.1.dropped ≡ 59
 unfolding sends host_try loop_try ask begun closed provided_by sent_by polled_by drain clear hear part_try install to_send packet_for after_sending round_pass round settle lost was_reset repeated held flipped replayed asked part_staged planned_strikes sent_out injected advanced expired gave_up applied
 three_messages_drops = refl
 
-pub flipped_route_byte_frame : packet_in abc_injected.links 0 ≡ Some (record { wire = 131 ∷ 0 ∷ 8 ∷ 1 ∷ 2 ∷ 0 ∷ 0 ∷ 0 ∷ 1 ∷ 0 ∷ 1 ∷ 0 ∷ replicate 4 0 ++ 0 ∷ 0 ∷ 0 ∷ 3 ∷ replicate 4 0 ++ 0 ∷ 3 ∷ 65 ∷ 66 ∷ 67 ∷ 146 ∷ []; marked = false; born = 0 })
+pub flipped_route_byte_frame : packet_in abc_injected.links 0 ≡ Some (record { wire = 131 ∷ 0 ∷ 8 ∷ 1 ∷ 2 ∷ 0 ∷ 0 ∷ 0 ∷ 1 ∷ 0 ∷ 1 ∷ 0 ∷ replicate 4 0 ++ 0 ∷ 0 ∷ 0 ∷ 3 ∷ replicate 4 0 ++ 0 ∷ 3 ∷ 65 ∷ 66 ∷ 67 ∷ 146 ∷ []; marked = false; born = 1 })
 unfolding sends host_try loop_try ask begun closed provided_by sent_by polled_by drain clear hear part_try install to_send packet_for after_sending round_pass round settle lost was_reset repeated held flipped replayed asked part_staged planned_strikes sent_out injected advanced expired gave_up applied
 flipped_route_byte_frame = refl
 

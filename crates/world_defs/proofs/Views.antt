@@ -17,9 +17,10 @@ use Rattle.link_defs.specs.Fault.{lose, reset, repeat, hold, flip, replay}
 use Rattle.link_defs.specs.Step.{Step, Advance as AdvanceLinks, Lose as LoseLinks, Reset as ResetLinks, Repeat as RepeatLinks, Hold as HoldLinks, Flip as FlipLinks, Replay as ReplayLinks, stepped}
 use Rattle.mapping_defs.specs.Mapping.{RoutePart}
 use Rattle.world_defs.specs.declared.event.Event.{Event}
-use Rattle.world_defs.specs.declared.event.Event.TheVariants.{Ask, Part, Inject, Advance, Lose, Repeat, Hold, Flip, Replay, Reset, Expire, GiveUp, Begin, Close, Provide, Send, Poll}
+use Rattle.world_defs.specs.declared.event.Event.TheVariants.{Ask, Part, Inject, Advance, Lose, Repeat, Hold, Flip, Replay, Reset, Expire, GiveUp, Begin, Close, Provide, Send, Poll, Revoke}
 use Rattle.world_defs.specs.declared.effect.Effect.{Effect}
-use Rattle.world_defs.specs.declared.effect.Effect.TheVariants.{Idle, Injected, Moved as MovedTo, Blocked, Arrived, Dropped, Lost, Reset as WasReset, Flipped, Expired, GaveUp, Repeated, Held as WasHeld, Replayed as ReplayedTo, Staged}
+use Rattle.world_defs.specs.declared.effect.Effect.TheVariants.{Idle, Injected, Moved as MovedTo, Blocked, Arrived, Dropped, Lost, Reset as WasReset, Flipped, Expired, GaveUp, Repeated, Held as WasHeld, Replayed as ReplayedTo, Staged, Said}
+use Rattle.world_defs.specs.declared.effect.Said.TheVariants.{Done}
 use Rattle.world_defs.specs.declared.effect.Cause.TheVariants.{NotMine}
 use Rattle.world_defs.specs.declared.heard.Heard.{Heard}
 use Rattle.world_defs.specs.declared.arrival.Arrival.{Arrival}
@@ -29,7 +30,7 @@ use Rattle.world_defs.specs.Node.{NodeState, StagedProbe, StagedPart, Outgoing, 
 use Rattle.world_defs.specs.Hearing.{hear}
 use Rattle.world_defs.specs.Client.{Called, begun, closed, provided_by, sent_by, polled_by}
 use Rattle.world_defs.specs.World.{WorldState, host_count, last_count, counted, node_at, with_node, with_links, client_at, with_drop}
-use Rattle.world_defs.specs.Step.{of_links, of_limbo, of_replay, lost, was_reset, repeated, held, flipped, replayed, asked, stage_at, stage_part, part_staged, planned_strikes, sent_out, inject_one, inject_into, injected, cause_at_switch, cause_at_host, arrived, advanced_by, advanced, expired, gave_up, of_call, wanted, step}
+use Rattle.world_defs.specs.Step.{of_links, of_limbo, of_replay, lost, was_reset, repeated, held, flipped, replayed, asked, stage_at, stage_part, part_staged, planned_strikes, sent_out, inject_one, inject_into, injected, cause_at_switch, cause_at_host, arrived, advanced_by, advanced, expired, gave_up, gives_up_epoch, revoke_of, revoked, of_call, wanted, step}
 
 -- The step of the links that an event made, with its effect.
 pub data LinksChange (w : WorldState) : Event → Effect → Step → Type 0 where
@@ -49,6 +50,7 @@ pub data HostChange (w : WorldState) : Event → Effect → ℕ → NodeState �
       → HostChange w (Part dst part) Staged a.mapper (record (node_at w a.mapper) { staged = Some (StagedPart p by) })
   expires : {h peer : ℕ} → 0 < unacknowledged_to (node_at w h) peer → HostChange w (Expire h peer) Expired h (node_expired (node_at w h) peer)
   gives_up : {h : ℕ} → has_staged (node_at w h) ≡ true → HostChange w (GiveUp h) GaveUp h (given_up (node_at w h))
+  revokes : {h : ℕ} (a : Adoption) → w.adopted ≡ Some a → HostChange w (Revoke h) (Said Done) h (gives_up_epoch (node_at w h) a.epoch)
 
 -- The call of the client of a host's port, and what it leaves.
 pub data CallChange (w : WorldState) : Event → ℕ → ℕ → Called → Type 0 where
@@ -141,6 +143,10 @@ gave_up-change : (w : WorldState) (h : ℕ) (b : Bool) → has_staged (node_at w
 gave_up-change w h true e = Change.host (HostChange.gives_up e)
 gave_up-change w h false e = Change.idle
 
+revoke_of-change : (w : WorldState) (h : ℕ) (o : Option Adoption) → w.adopted ≡ o → Change w (Revoke h) (revoke_of w h o)
+revoke_of-change w h None d = Change.idle
+revoke_of-change w h (Some a) d = Change.host (HostChange.revokes a d)
+
 -- an injection
 inject_one-change : (w : WorldState) (h c : ℕ) (o : Option Outgoing) → leaving w.links.cables (host_port h) ≡ Some c → to_send h (node_at w h) ≡ o → Change w (Inject h) (inject_one w h c o)
 inject_one-change w h c None d e = Change.idle
@@ -157,7 +163,7 @@ inject_into-change w h (Some c) d = inject_one-change w h c (to_send h (node_at 
 
 -- every event
 pub view : (w : WorldState) (e : Event) → Change w e (step w e)
-unfolding lost was_reset repeated held flipped replayed asked part_staged injected advanced expired gave_up
+unfolding lost was_reset repeated held flipped replayed asked part_staged injected advanced expired gave_up revoked
 view w (Ask h walk looped) = Change.host HostChange.asks
 view w (Part dst part) = stage_part-change w dst part w.adopted refl
 view w (Inject h) = inject_into-change w h (leaving w.links.cables (host_port h)) refl
@@ -175,3 +181,4 @@ view w (Close h port) = Change.calls CallChange.closes
 view w (Provide h port size prio) = Change.calls CallChange.provides
 view w (Send h port dest dport prio len seed) = Change.calls CallChange.accepts
 view w (Poll h port) = Change.calls CallChange.polls
+view w (Revoke h) = revoke_of-change w h w.adopted refl

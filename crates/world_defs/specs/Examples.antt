@@ -1,20 +1,21 @@
 -- Worlds for worked examples: the two hosts at one switch, mapped, routed and set up.
-use Rattle.std.specs.Prelude.{ℕ, ℤ, pos, negsuc, false, List, [], ◌∷◌, ◌++◌, map, codes}
+use Rattle.std.specs.Prelude.{ℕ, ℤ, pos, negsuc, false, List, [], ◌∷◌, ◌++◌, map, codes, Option}
 use Rattle.std.specs.List.{range_with_len}
 use Rattle.net_defs.specs.declared.route.Route.{Route}
 use Rattle.net_defs.specs.Examples.{two_hosts}
 use Rattle.link_defs.specs.Links.{Held}
 use Rattle.gm_defs.specs.Body.{frame_bytes}
+use Rattle.mapping_defs.specs.Mapping.{RoutePart}
 use Rattle.gm_defs.specs.Examples.{message, abc}
 use Rattle.world_defs.specs.declared.event.Event.{Event}
 use Rattle.world_defs.specs.declared.event.Event.TheVariants.{Inject, Advance, Lose as LoseEvent, Flip as FlipEvent}
-use Rattle.world_defs.specs.declared.event.Event.TheVariants.{Begin, Close, Provide, Send, Poll}
+use Rattle.world_defs.specs.declared.event.Event.TheVariants.{Begin, Close, Provide, Send, Poll, Revoke}
 use Rattle.world_defs.specs.declared.effect.Effect.{Effect}
 use Rattle.world_defs.specs.declared.effect.Effect.TheVariants.{Said}
 use Rattle.world_defs.specs.declared.effect.Said.TheVariants.{Received}
 use Rattle.world_defs.specs.declared.fault.Fault.{Fault}
 use Rattle.world_defs.specs.declared.fault.Fault.TheVariants.{Lose, Repeat, Hold, Flip}
-use Rattle.world_defs.specs.Table.{Adoption}
+use Rattle.world_defs.specs.Table.{Adoption, TableState, part_for}
 use Rattle.world_defs.specs.Lane.{new_lane}
 use Rattle.world_defs.specs.Node.{lane_of, with_lane}
 use Rattle.world_defs.specs.World.{WorldState, new_world, node_at, with_node, adopted_by, planned}
@@ -41,7 +42,7 @@ setup_routes = record { from = 0; to = 1; walk = pos 3 ∷ [] } ∷ record { fro
 
 -- host 0 adopts them
 abbrev pub setup_adoption : Adoption
-setup_adoption = record { mapper = 0; epoch = 1; routes = setup_routes }
+setup_adoption = record { mapper = 0; epoch = 1; at = 0; routes = setup_routes }
 
 -- how many hosts have their tables once they are installed, and the world then
 abbrev pub setup_install : Log ℕ
@@ -175,7 +176,7 @@ on_its_way = after_all ready (opened 1 1 (provide 0 ∷ send 3 65 ∷ Inject 0 �
 
 -- that frame: a route byte, the type, the body, and the CRC byte
 abbrev pub abc_frame : Held
-abc_frame = record { wire = 131 ∷ 0 ∷ 8 ∷ frame_bytes abc (codes "ABC") ++ 146 ∷ []; marked = false; born = 0 }
+abc_frame = record { wire = 131 ∷ 0 ∷ 8 ∷ frame_bytes abc (codes "ABC") ++ 146 ∷ []; marked = false; born = 1 }
 
 -- the frame has gone on to the second channel of its route
 abbrev pub further_on : WorldState
@@ -183,7 +184,7 @@ further_on = (step on_its_way (Advance 0)).1
 
 -- the frame there, without its route byte
 abbrev pub abc_further_on : Held
-abc_further_on = record { wire = 0 ∷ 8 ∷ frame_bytes abc (codes "ABC") ++ 6 ∷ []; marked = false; born = 0 }
+abc_further_on = record { wire = 0 ∷ 8 ∷ frame_bytes abc (codes "ABC") ++ 6 ∷ []; marked = false; born = 1 }
 
 -- the frame was flipped in its route byte and in its type
 abbrev pub spoiled : WorldState
@@ -211,3 +212,31 @@ long_settled = settle long_calls.1
 -- host 1 takes it
 abbrev pub long_polls : List Effect × WorldState
 long_polls = steps long_settled.world (poll_receiver ∷ [])
+
+-- host 0 gives up the first epoch
+abbrev pub given_up_by_one : List Effect × WorldState
+given_up_by_one = steps ready (Revoke 0 ∷ [])
+
+-- and then host 1 too
+abbrev pub given_up_by_both : List Effect × WorldState
+given_up_by_both = steps given_up_by_one.1 (Revoke 1 ∷ [])
+
+-- host 1 adopts the routes again, and so begins the second epoch
+abbrev pub second_epoch : WorldState
+second_epoch = adopted_by given_up_by_both.1 1 setup_routes
+
+-- the routes as host 1 adopted them
+abbrev pub second_adoption : Adoption
+second_adoption = record { mapper = 1; epoch = 2; at = 0; routes = setup_routes }
+
+-- the part that host 1 got in the first epoch
+abbrev pub first_part : Option RoutePart
+first_part = part_for setup_adoption 1 0
+
+-- the part that host 0 gets in the second
+abbrev pub second_part : Option RoutePart
+second_part = part_for second_adoption 0 0
+
+-- the tables of both hosts
+abbrev pub tables_in : WorldState → List TableState
+tables_in w = map (λ n. n.table) w.nodes

@@ -3,7 +3,7 @@ use Rattle.std.specs.Prelude.{◌≡◌, ℕ, ◌<◌, ◌≤◌, false, length,
 use Rattle.gm_defs.specs.declared.message.Message.{Message}
 use Rattle.gm_defs.specs.declared.frame.ConnectionKey.{ConnectionKey}
 use Rattle.gm_defs.specs.Fragment.{whole_below}
-use Rattle.world_defs.specs.Table.{active_epoch}
+use Rattle.world_defs.specs.Table.{table_route}
 use Rattle.world_defs.specs.Node.{port_at}
 use Rattle.world_defs.specs.Hearing.{port_fits, port_has_begun}
 use Rattle.world_defs.specs.World.{WorldState, host_count, node_at}
@@ -20,11 +20,12 @@ pub record IsWaiting (w : WorldState) (c : ConnectionKey) : Type 0 where
   pub not_begun : port_has_begun (port_at (node_at w c.dst) message.dport) c.src message.prio ≡ false
   pub no_token : port_fits (port_at (node_at w c.dst) message.dport) (length message.body) message.prio ≡ false
 
--- a connection is settled where all is acknowledged, where the receiver has no active table, or where a message waits
--- for a token
+-- a connection is settled where all is acknowledged, where the sender or the receiver has no active table with a route
+-- to the other, or where a message waits for a token
 pub data IsSettledConnection (w : WorldState) (c : ConnectionKey) : Type 0 where
   all_acknowledged : (sender_on w c).base ≡ (sender_on w c).next → IsSettledConnection w c
-  no_table : active_epoch (node_at w c.dst).table ≡ None → IsSettledConnection w c
+  no_route : table_route (node_at w c.src).table c.dst ≡ None → IsSettledConnection w c
+  no_route_back : table_route (node_at w c.dst).table c.src ≡ None → IsSettledConnection w c
   waiting : IsWaiting w c → IsSettledConnection w c
 
 -- A world is settled where each connection of each two hosts is, of either priority.

@@ -23,12 +23,13 @@ use Rattle.mapping_defs.specs.Mapping.{RoutePart}
 use Rattle.world_defs.specs.declared.event.Event.{Event}
 use Rattle.world_defs.specs.declared.event.Event.TheVariants.{Ask, Part, Inject, Advance, Lose, Repeat, Hold, Flip}
 use Rattle.world_defs.specs.declared.event.Event.TheVariants.{Replay, Reset, Expire, GiveUp, Begin, Close, Provide}
-use Rattle.world_defs.specs.declared.event.Event.TheVariants.{Send, Poll}
+use Rattle.world_defs.specs.declared.event.Event.TheVariants.{Send, Poll, Revoke}
 use Rattle.world_defs.specs.declared.effect.Effect.{Effect}
 use Rattle.world_defs.specs.declared.effect.Effect.TheVariants.{Idle, Injected, Moved as MovedTo, Blocked, Arrived}
 use Rattle.world_defs.specs.declared.effect.Effect.TheVariants.{Dropped, Lost, Reset as WasReset, Flipped, Expired}
 use Rattle.world_defs.specs.declared.effect.Effect.TheVariants.{GaveUp, Repeated, Held, Replayed as ReplayedTo, Staged}
 use Rattle.world_defs.specs.declared.effect.Effect.TheVariants.{Said}
+use Rattle.world_defs.specs.declared.effect.Said.TheVariants.{Done}
 use Rattle.world_defs.specs.declared.effect.Cause.{Cause}
 use Rattle.world_defs.specs.declared.effect.Cause.TheVariants.{OutOfRange, NotRoute, NoCable, NewCable, BadCrc, RouteLeft}
 use Rattle.world_defs.specs.declared.effect.Cause.TheVariants.{UnknownType, Malformed, NotMine}
@@ -38,7 +39,7 @@ use Rattle.world_defs.specs.declared.fault.Fault.TheVariants.{Hold as HoldFault,
 use Rattle.world_defs.specs.declared.arrival.Arrival.{Arrival}
 use Rattle.world_defs.specs.declared.arrival.Arrival.TheVariants.{Heard as Hears, Dropped as HostDropped}
 use Rattle.world_defs.specs.declared.arrival.Arrival.TheVariants.{NotMine as ArrivalNotMine}
-use Rattle.world_defs.specs.Table.{Adoption, part_for, route_of}
+use Rattle.world_defs.specs.Table.{Adoption, part_for, route_of, revoked_table}
 use Rattle.world_defs.specs.Node.{NodeState, StagedProbe, StagedPart, Outgoing, to_send, packet_for, after_sending}
 use Rattle.world_defs.specs.Node.{has_staged, given_up, node_expired, unacknowledged_to}
 use Rattle.world_defs.specs.Hearing.{hear}
@@ -208,6 +209,19 @@ expired w h peer =
 unfoldable pub gave_up : WorldState → ℕ → Effect × WorldState
 gave_up w h = if has_staged (node_at w h) then (GaveUp, with_node w h (given_up (node_at w h))) else (Idle, w)
 
+-- a host's table and its parts of an epoch are given up
+abbrev pub gives_up_epoch : NodeState → ℕ → NodeState
+gives_up_epoch n epoch = record n { table = revoked_table n.table epoch }
+
+-- no epoch is given up where no routes are adopted
+abbrev pub revoke_of : WorldState → ℕ → Option Adoption → Effect × WorldState
+revoke_of w h None = (Idle, w)
+revoke_of w h (Some a) = (Said Done, with_node w h (gives_up_epoch (node_at w h) a.epoch))
+
+-- a host gives up the epoch of the adopted routes, where routes are adopted
+unfoldable pub revoked : WorldState → ℕ → Effect × WorldState
+revoked w h = revoke_of w h w.adopted
+
 -- what a client's call said, and the world that it leaves
 abbrev pub of_call : WorldState → ℕ → ℕ → Called → Effect × WorldState
 of_call w h port call = (Said call.said, with_client (with_node w h call.node) h port call.client)
@@ -243,6 +257,7 @@ step w (Provide h port size prio) = of_call w h port (provided_by (node_at w h) 
 step w (Send h port dest dport prio len seed) =
     of_call w h port (sent_by (node_at w h) (wanted port dest dport prio len seed) (client_at w h port))
 step w (Poll h port) = of_call w h port (polled_by (node_at w h) port (client_at w h port))
+step w (Revoke h) = revoked w h
 
 -- an effect stands before those of what follows
 abbrev pub followed_by : Effect × WorldState → (WorldState → List Effect × WorldState) → List Effect × WorldState

@@ -1,7 +1,7 @@
 -- What a world is, and how it is read and changed.
-use Rattle.std.specs.Prelude.{ℕ, ◌+◌, ◌-◌, ◌^◌, List, [], ◌∷◌, length, min, replicate, slice_index_or, slice_set}
-use Rattle.std.specs.Prelude.{nat_eq, Option, Some, None}
-use Rattle.std.specs.List.{range_with_len}
+use Rattle.std.specs.Prelude.{ℕ, ◌+◌, ◌-◌, ◌^◌, Bool, not, List, [], ◌∷◌, length, min, replicate, find, slice_index_or}
+use Rattle.std.specs.Prelude.{slice_set, nat_eq, if◌then◌else◌, Option, Some, None}
+use Rattle.std.specs.List.{list_any, range_with_len}
 use Rattle.std.specs.Map.{remove_entry}
 use Rattle.std.specs.BTreeMap.{insert_entry}
 use Rattle.std.specs.Ordering.{nat_cmp}
@@ -9,8 +9,10 @@ use Rattle.net_defs.specs.declared.route.Route.{Route}
 use Rattle.net_defs.specs.Network.{Network}
 use Rattle.cable_history.specs.History.{fabric_now}
 use Rattle.link_defs.specs.Links.{LinkState, empty_links}
+use Rattle.link_defs.specs.Fault.{accept}
 use Rattle.world_defs.specs.declared.fault.Fault.{Fault}
-use Rattle.world_defs.specs.Table.{Adoption, whole_table}
+use Rattle.world_defs.specs.declared.standing.Standing.{Standing}
+use Rattle.world_defs.specs.Table.{Adoption, whole_table, has_revoked, epoch_in, keeps_in, may_adopt_in, adopted_in}
 use Rattle.world_defs.specs.Node.{NodeState, new_node, port_count}
 use Rattle.world_defs.specs.Client.{ClientState}
 
@@ -95,17 +97,51 @@ with_fault number fault fs = insert_entry nat_cmp fs number fault
 abbrev pub planned : WorldState → ℕ → Fault → ℕ × WorldState
 planned w ahead fault = (w.injected + ahead, record w { plan = with_fault (w.injected + ahead) fault w.plan })
 
--- a set of routes is adopted by a mapper, whose table is whole at once
-abbrev pub adopted_by : WorldState → ℕ → List Route → WorldState
-adopted_by w mapper routes =
-    record (with_node w mapper (record (node_at w mapper) { table = whole_table routes mapper 1 })) {
-      adopted = Some
-          (record { mapper = mapper; epoch = 1; routes = routes });
-    }
-
 -- the numbers of the peers
 abbrev pub addresses : WorldState → List ℕ
 addresses w = range_with_len 0 (host_count w)
+
+-- the epoch of the adopted set; 0 before the first adoption
+abbrev pub epoch_of : WorldState → ℕ
+epoch_of w = epoch_in w.adopted
+
+-- the first host that hasn't given up an epoch
+abbrev pub first_unrevoked : WorldState → ℕ → Option ℕ
+first_unrevoked w epoch = find (λ h. not (has_revoked epoch (node_at w h).table)) (addresses w)
+
+-- some host has given up an epoch
+abbrev pub is_any_revoked : WorldState → ℕ → Bool
+is_any_revoked w epoch = list_any (λ h. has_revoked epoch (node_at w h).table) (addresses w)
+
+-- how a world stands to the epoch of its adopted set
+abbrev pub standing_of : WorldState → Standing
+standing_of w = record {
+  unrevoked = first_unrevoked w (epoch_of w);
+  revoked = is_any_revoked w (epoch_of w);
+  changes = w.links.cables.changes;
+}
+
+-- a world keeps its epoch where these routes are adopted
+abbrev pub keeps_epoch : WorldState → List Route → Bool
+keeps_epoch w routes = keeps_in (standing_of w) routes w.adopted
+
+-- routes may be adopted in a world, as far as its epoch goes
+abbrev pub may_adopt : WorldState → List Route → Bool
+may_adopt w routes = may_adopt_in (standing_of w) routes w.adopted
+
+-- what an adoption of routes by a mapper leaves adopted
+abbrev pub adoption_of : WorldState → ℕ → List Route → Adoption
+adoption_of w mapper routes = adopted_in (standing_of w) mapper routes w.adopted
+
+-- a set of routes is adopted by a mapper, whose table is whole at once; where that begins an epoch, no cable is new any
+-- more
+abbrev pub adopted_by : WorldState → ℕ → List Route → WorldState
+adopted_by w mapper routes =
+    record (with_node w mapper
+    (record (node_at w mapper) { table = whole_table routes mapper (adoption_of w mapper routes).epoch })) {
+      links = if keeps_epoch w routes then w.links else accept w.links;
+      adopted = Some (adoption_of w mapper routes);
+    }
 
 -- the sum of numbers
 abbrev pub sum_of : List ℕ → ℕ

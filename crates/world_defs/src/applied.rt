@@ -7,6 +7,6 @@ pub enum Applied {
     Part,
     /// All parts of the epoch stand.
     Active,
-    /// A part of a later epoch was seen before.
+    /// A later epoch was seen before, or the part's epoch was given up.
     Old,
 }

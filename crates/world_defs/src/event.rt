@@ -106,4 +106,6 @@ pub enum Event {
         /// The port, from 0 to 7.
         port: u8,
     },
+    /// The host gives up its table and its parts of the adopted routes' epoch.
+    Revoke(u16),
 }

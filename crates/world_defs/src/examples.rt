@@ -1,6 +1,6 @@
 //! Worked examples, computed by the prover: each function's contract is the example, and its body is empty.
 
-ghost use Rattle.std.specs.Prelude.{◌≡◌, ℕ, ◌∷◌, [], ◌++◌, map, replicate, false, Some};
+ghost use Rattle.std.specs.Prelude.{◌≡◌, ℕ, ◌∷◌, [], ◌++◌, map, replicate, true, false, Some, option_map};
 ghost use Rattle.net_defs.specs.declared.place.Answer.{Answer};
 ghost use Rattle.gm_defs.specs.declared.token.TokenPlace.{TokenPlace};
 ghost use Rattle.gm_defs.specs.Token.{place_of_recv};
@@ -9,7 +9,13 @@ ghost use Rattle.world_defs.specs.declared.effect.Effect.{Effect};
 ghost use Rattle.world_defs.specs.declared.effect.Said.{Said};
 ghost use Rattle.net_defs.specs.Examples.{two_hosts};
 ghost use Rattle.world_defs.specs.Node.{lane_of, peer_of, prio_of};
-ghost use Rattle.world_defs.specs.World.{new_world, planned};
+ghost use Rattle.world_defs.specs.World.{new_world, planned, node_at, first_unrevoked, may_adopt, adoption_of};
+ghost use Rattle.world_defs.specs.declared.applied.Applied.{Applied};
+ghost use Rattle.world_defs.specs.declared.event.Event.{Event};
+ghost use Rattle.world_defs.specs.Table.{applied, new_table, revoked_table, whole_table};
+ghost use Rattle.world_defs.specs.Step.{step};
+ghost use Rattle.world_defs.specs.Examples.{setup_routes, setup_adoption, ready, given_up_by_one, given_up_by_both};
+ghost use Rattle.world_defs.specs.Examples.{second_epoch, second_adoption, first_part, second_part, tables_in};
 ghost use Rattle.world_defs.specs.declared.fault.Fault.{Fault};
 ghost use Rattle.world_defs.specs.declared.heard.Heard.{Heard};
 ghost use Rattle.world_defs.specs.Settle.{unacknowledged_in};
@@ -65,7 +71,7 @@ pub fn flipped_route_byte()
           wire = 131 ∷ 0 ∷ 8 ∷ 1 ∷ 2 ∷ 0 ∷ 0 ∷ 0 ∷ 1 ∷ 0 ∷ 1 ∷ 0 ∷ replicate 4 0
               ++ 0 ∷ 0 ∷ 0 ∷ 3 ∷ replicate 4 0 ++ 0 ∷ 3 ∷ 65 ∷ 66 ∷ 67 ∷ 146 ∷ [];
           marked = false;
-          born = 0;
+          born = 1;
         }) }
     ensures rounds { abc_settled.value.rounds ≡ 2 }
     ensures resets { abc_settled.value.resets ≡ 0 }
@@ -176,4 +182,27 @@ pub fn settled_worlds()
     ensures first { IsSettled (new_world two_hosts) }
     ensures waiting { IsSettled unserved }
     ensures on_its_way { ¬ IsSettled on_its_way }
+{}
+
+/// While an epoch stands, the adopted routes may be adopted again, and no others; once both hosts gave it up the
+/// second begins. A part of the first is old at a host that gave it up, and at one that has seen the second.
+#[tactic(auto, using(crate::proofs::Epochs::two_epochs_kept, crate::proofs::Epochs::two_epochs_may_keep, crate::proofs::Epochs::two_epochs_no_other, crate::proofs::Epochs::two_epochs_given_up, crate::proofs::Epochs::two_epochs_not_yet, crate::proofs::Epochs::two_epochs_first_left, crate::proofs::Epochs::two_epochs_nothing_active, crate::proofs::Epochs::two_epochs_may_begin, crate::proofs::Epochs::two_epochs_begun, crate::proofs::Epochs::two_epochs_tables, crate::proofs::Epochs::two_epochs_born, crate::proofs::Epochs::two_epochs_given_up_is_old, crate::proofs::Epochs::two_epochs_late_is_old, crate::proofs::Epochs::two_epochs_taken, crate::proofs::Epochs::two_epochs_nothing_to_give_up))]
+pub fn two_epochs()
+    ensures kept { adoption_of ready 0 setup_routes ≡ setup_adoption }
+    ensures may_keep { may_adopt ready setup_routes ≡ true }
+    ensures no_other { may_adopt ready [] ≡ false }
+    ensures given_up { given_up_by_one.0 ≡ Effect.Said Said.Done ∷ [] }
+    ensures not_yet { may_adopt given_up_by_one.1 setup_routes ≡ false }
+    ensures first_left { first_unrevoked given_up_by_one.1 1 ≡ Some 1 }
+    ensures nothing_active { tables_in given_up_by_both.1 ≡ replicate 2 (revoked_table new_table 1) }
+    ensures may_begin { may_adopt given_up_by_both.1 setup_routes ≡ true }
+    ensures begun { second_epoch.adopted ≡ Some second_adoption }
+    ensures tables { tables_in second_epoch ≡ revoked_table new_table 1 ∷ whole_table setup_routes 1 2 ∷ [] }
+    ensures born { second_epoch.links.epoch ≡ 2 }
+    ensures given_up_is_old { option_map (λ p. (applied (node_at given_up_by_both.1 1).table p).0) first_part
+        ≡ Some Applied.Old }
+    ensures late_is_old { option_map (λ p. (applied (node_at second_epoch 1).table p).0) first_part ≡ Some Applied.Old }
+    ensures taken { option_map (λ p. (applied (node_at second_epoch 0).table p).1) second_part
+        ≡ Some (whole_table setup_routes 0 2) }
+    ensures nothing_to_give_up { step (new_world two_hosts) (Event.Revoke 0) ≡ (Effect.Idle, new_world two_hosts) }
 {}

@@ -32,6 +32,7 @@ mod event;
 mod examples;
 mod fault;
 mod heard;
+mod standing;
 
 pub use applied::Applied;
 pub use arrival::Arrival;
@@ -41,7 +42,8 @@ pub use event::Event;
 pub use examples::{
     asks_of_the_map, flipped_route_byte, installation, lanes_of_peers, message_of_two_fragments,
     message_waits_for_a_token, plans_for_one_injection, priority_passes, settled_worlds,
-    soundness_of_moments, step_by_step, three_messages, traffic_of_one_frame,
+    soundness_of_moments, step_by_step, three_messages, traffic_of_one_frame, two_epochs,
 };
 pub use fault::Fault;
 pub use heard::Heard;
+pub use standing::Standing;

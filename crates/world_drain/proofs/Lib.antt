@@ -1,5 +1,4 @@
 pub mod AtRest
-pub mod Back
 pub mod Drained
 pub mod EventRows
 pub mod Expiries

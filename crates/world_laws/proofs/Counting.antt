@@ -101,6 +101,7 @@ host-plain HostChange.asks = refl
 host-plain (HostChange.stages a p by d e f) = refl
 host-plain (HostChange.expires k) = refl
 host-plain (HostChange.gives_up k) = refl
+host-plain (HostChange.revokes a d) = refl
 
 -- an injection
 sent_out-same : (w : WorldState) (h c : ℕ) (out : Outgoing) → ((sent_out w h c out).injected ≡ w.injected + 1) × ((sent_out w h c out).dropped ≡ w.dropped) × ((sent_out w h c out).struck ≡ w.struck) × ((sent_out w h c out).harmed ≡ w.harmed) × ((sent_out w h c out).plan ≡ w.plan)

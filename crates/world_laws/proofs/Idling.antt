@@ -16,10 +16,11 @@ use Rattle.link_defs.specs.Advance.{course, entered, gone_on, advance_of, advanc
 use Rattle.link_defs.specs.Fault.{lose, repeat, repeat_of, hold, hold_of, flip, flip_of, is_used_up, with_caught, caught_as, released, replay_of}
 use Rattle.mapping_defs.specs.Mapping.{RoutePart}
 use Rattle.world_defs.specs.declared.event.Event.{Event}
-use Rattle.world_defs.specs.declared.event.Event.TheVariants.{Ask, Part, Inject, Advance, Lose, Repeat, Hold, Flip, Replay, Reset, Expire, GiveUp, Begin, Close, Provide, Send, Poll}
+use Rattle.world_defs.specs.declared.event.Event.TheVariants.{Ask, Part, Inject, Advance, Lose, Repeat, Hold, Flip, Replay, Reset, Expire, GiveUp, Begin, Close, Provide, Send, Poll, Revoke}
 use Rattle.world_defs.specs.declared.effect.Cause.{Cause}
 use Rattle.world_defs.specs.declared.effect.Effect.{Effect}
-use Rattle.world_defs.specs.declared.effect.Effect.TheVariants.{Idle, Injected, Expired, GaveUp, Lost, Reset as WasReset, Flipped, Repeated, Held as WasHeld}
+use Rattle.world_defs.specs.declared.effect.Effect.TheVariants.{Idle, Injected, Expired, GaveUp, Lost, Reset as WasReset, Flipped, Repeated, Held as WasHeld, Said}
+use Rattle.world_defs.specs.declared.effect.Said.TheVariants.{Done}
 use Rattle.world_defs.specs.declared.arrival.Arrival.{Arrival}
 use Rattle.world_defs.specs.declared.arrival.Arrival.TheVariants.{Heard as Hears, Dropped as HostDropped, NotMine as ArrivalNotMine}
 use Rattle.world_defs.specs.Table.{Adoption, part_for, route_of}
@@ -27,7 +28,7 @@ use Rattle.world_defs.specs.Node.{NodeState, Outgoing, to_send, given_up, node_e
 use Rattle.world_defs.specs.Hearing.{hear}
 use Rattle.world_defs.specs.Client.{Called, begun, closed, provided_by, sent_by, polled_by}
 use Rattle.world_defs.specs.World.{WorldState, host_count, last_count, node_at, with_node, with_links, client_at}
-use Rattle.world_defs.specs.Step.{of_links, of_limbo, of_replay, lost, was_reset, repeated, held, flipped, replayed, asked, stage_at, stage_part, part_staged, planned_strikes, sent_out, inject_one, inject_into, injected, cause_at_switch, arrived, advanced_by, advanced, expired, gave_up, of_call, wanted, step}
+use Rattle.world_defs.specs.Step.{of_links, of_limbo, of_replay, lost, was_reset, repeated, held, flipped, replayed, asked, stage_at, stage_part, part_staged, planned_strikes, sent_out, inject_one, inject_into, injected, cause_at_switch, arrived, advanced_by, advanced, expired, gave_up, gives_up_epoch, revoke_of, revoked, of_call, wanted, step}
 use Rattle.world_laws.specs.Idle.{has_part, HasNoPart, CannotInject, IsEmpty, CannotCatch, CannotFlip, CannotReplay, HasNothingStaged, IsIdleCase}
 
 -- what comes of an event is idle exactly in a case, and then the world is as it was
@@ -249,6 +250,13 @@ staged-idle w h false false true e f g = busy_case w (HasNothingStaged (node_at 
 staged-idle w h false false false e f g =
     idle_case w (HasNothingStaged (node_at w h)) (record { no_probe_or_part = no_some (node_at w h).staged e; no_reply = no_some (node_at w h).reply f; no_part_ack = no_some (node_at w h).part_ack g })
 
+done_busy : Said Done ≡ Idle → ⊥
+done_busy e = cc
+
+revoke-idle : (w : WorldState) (h : ℕ) (o : Option Adoption) → w.adopted ≡ o → IdleBy w (w.adopted ≡ None) (revoke_of w h o)
+revoke-idle w h None e = idle_case w (w.adopted ≡ None) e
+revoke-idle w h (Some a) e = busy_case w (w.adopted ≡ None) (Said Done, with_node w h (gives_up_epoch (node_at w h) a.epoch)) (λ none. some_none a (sym e ∙ none)) done_busy
+
 said_busy : (w : WorldState) (h port : ℕ) (call : Called) → (of_call w h port call).0 ≡ Idle → ⊥
 said_busy w h port call e = cc
 
@@ -259,7 +267,7 @@ empty-idle : (w : WorldState) (c : ℕ) (x : Effect) → (x ≡ Idle → ⊥) �
 empty-idle w c x busy = of_links-idle w (IsEmpty w c) x (lose w.links c) busy (λ e. ap is_some e) (λ e. no_some (packet_in w.links c) e)
 
 pub step-idle : (w : WorldState) (e : Event) → IdleBy w (IsIdleCase w e) (step w e)
-unfolding lost was_reset repeated held flipped replayed asked part_staged injected advanced expired gave_up
+unfolding lost was_reset repeated held flipped replayed asked part_staged injected advanced expired gave_up revoked
 step-idle w (Ask h walk looped) = busy_case w ⊥ (step w (Ask h walk looped)) (λ c. c) staged_busy
 step-idle w (Part dst part) = adopted-idle w dst part w.adopted refl
 step-idle w (Inject h) = inject_into-idle w h (leaving w.links.cables (host_port h)) refl
@@ -279,3 +287,4 @@ step-idle w (Close h port) = called-idle w h port (closed (node_at w h) port (cl
 step-idle w (Provide h port size prio) = called-idle w h port (provided_by (node_at w h) port size prio (client_at w h port))
 step-idle w (Send h port dest dport prio len seed) = called-idle w h port (sent_by (node_at w h) (wanted port dest dport prio len seed) (client_at w h port))
 step-idle w (Poll h port) = called-idle w h port (polled_by (node_at w h) port (client_at w h port))
+step-idle w (Revoke h) = revoke-idle w h w.adopted refl

@@ -8,15 +8,16 @@ use Rattle.world_defs.specs.declared.event.Event.{Event}
 use Rattle.world_defs.specs.declared.event.Event.TheVariants.{Begin, Close, Provide, Send, Poll}
 use Rattle.world_defs.specs.declared.effect.Effect.{Effect}
 use Rattle.world_defs.specs.declared.arrival.Arrival.{Arrival}
+use Rattle.world_defs.specs.Table.{revoked_table}
 use Rattle.world_defs.specs.Node.{NodeState, StagedProbe, StagedPart, Outgoing, to_send, given_up, node_expired}
 use Rattle.world_defs.specs.Hearing.{hear}
 use Rattle.world_defs.specs.Client.{Called}
 use Rattle.world_defs.specs.World.{WorldState, host_count, last_count, node_at, with_node, with_links, client_at, with_client, with_drop}
-use Rattle.world_defs.specs.Step.{planned_strikes, sent_out, step}
+use Rattle.world_defs.specs.Step.{planned_strikes, sent_out, gives_up_epoch, step}
 use Rattle.world_defs.proofs.Views.{HostChange, CallChange, ArrivalChange, Change, view}
 use Rattle.world_defs.proofs.Calls.{call_view}
 use Rattle.world_defs.proofs.Kept.{links-of_packets}
-use Rattle.world_laws.proofs.Nodes.{NodeKept, hear-kept, given_up-kept, staged-kept, node_expired-kept}
+use Rattle.world_laws.proofs.Nodes.{NodeKept, hear-kept, given_up-kept, table-kept, staged-kept, node_expired-kept}
 use Rattle.world_laws.proofs.Calls.{CallKept, call-kept}
 
 -- a relation from worlds to worlds that each change is of
@@ -39,6 +40,7 @@ module _ (R : WorldState → WorldState → Type 0) (f : Follows R) (w : WorldSt
   host-leaves (HostChange.stages a p by d e g) = f.node w a.mapper (record (node_at w a.mapper) { staged = Some (StagedPart p by) }) (staged-kept (node_at w a.mapper) (Some (StagedPart p by)))
   host-leaves (HostChange.expires {h = h} {peer = peer} k) = f.node w h (node_expired (node_at w h) peer) (node_expired-kept (node_at w h) peer)
   host-leaves (HostChange.gives_up {h = h} k) = f.node w h (given_up (node_at w h)) (given_up-kept (node_at w h))
+  host-leaves (HostChange.revokes {h = h} a d) = f.node w h (gives_up_epoch (node_at w h) a.epoch) (table-kept (node_at w h) (revoked_table (node_at w h).table a.epoch))
 
   arrival-leaves : {h : ℕ} {a : Arrival} {x : Effect} {count : ℕ} → ArrivalChange w h a x count → (l : LinkState) (m : NodeState) → R w (with_node (with_links w l) h m) → R w (record (with_node (with_links w l) h m) { dropped = count })
   arrival-leaves ArrivalChange.heard l m r = r

@@ -265,6 +265,9 @@ sent-kept host n o e = after_sending-kept n o (to_send-due host n o e)
 pub given_up-kept : (n : NodeState) → NodeKept n (given_up n)
 given_up-kept n = record { lanes = refl; ports = refl; open_ports = λ port. refl; senders = λ lane. sender_same (lane_at n lane).sender }
 
+pub table-kept : (n : NodeState) (t : TableState) → NodeKept n (record n { table = t })
+table-kept n t = record { lanes = refl; ports = refl; open_ports = λ port. refl; senders = λ lane. sender_same (lane_at n lane).sender }
+
 pub staged-kept : (n : NodeState) (s : Option Staged) → NodeKept n (record n { staged = s })
 staged-kept n s = record { lanes = refl; ports = refl; open_ports = λ port. refl; senders = λ lane. sender_same (lane_at n lane).sender }
 

@@ -1,12 +1,14 @@
 -- Every event leaves a world of the same cables, with the numbers of each connection in order.
-use Rattle.std.proofs.Common.{◌≡◌, ◌<◌, ◌≤◌, ◌+◌, ◌^◌, ℕ, zero, suc, false, List, [], ◌∷◌, length, replicate, get_or, set, Option, Some, None, is_some, refl, sym, ◌∙◌, ap, subst, arith}
+use Rattle.std.proofs.Common.{◌≡◌, ◌<◌, ◌≤◌, ◌+◌, ◌^◌, ℕ, zero, suc, Bool, true, false, if◌then◌else◌, List, [], ◌∷◌, length, replicate, get_or, set, Option, Some, None, is_some, refl, sym, ◌∙◌, ap, subst, arith}
 use Rattle.std.proofs.Math.ListN.{length-set}
 use Rattle.std.proofs.lemmas.List.{length-replicate}
 use Rattle.net_defs.specs.declared.route.Route.{Route}
 use Rattle.net_defs.specs.Network.{Network}
+use Rattle.link_defs.specs.Links.{LinkState}
+use Rattle.link_defs.specs.Fault.{accept}
 use Rattle.link_defs.specs.Shape.{IsLinks}
 use Rattle.link_defs.specs.Laws.{is_of_cables}
-use Rattle.link_defs.specs.Step.{Step, Put, stepped}
+use Rattle.link_defs.specs.Step.{Step, Put, Accept as AcceptLinks, stepped}
 use Rattle.link_defs.proofs.Shapes.{empty-links, stepped-cables, stepped-links}
 use Rattle.gm_defs.specs.Connection.{IsSender, starting}
 use Rattle.gm_defs.specs.Token.{PortState}
@@ -16,11 +18,11 @@ use Rattle.world_defs.specs.Table.{TableState, whole_table}
 use Rattle.world_defs.specs.Lane.{LaneState, new_lane}
 use Rattle.world_defs.specs.Node.{NodeState, Outgoing, to_send, packet_for, after_sending, lane_count, new_node, lane_at, port_at, port_count}
 use Rattle.world_defs.specs.Client.{ClientState, Called}
-use Rattle.world_defs.specs.World.{WorldState, host_count, new_world, last_count, counted, node_at, with_node, with_links, client_at, with_client, with_drop, adopted_by, planned}
+use Rattle.world_defs.specs.World.{WorldState, host_count, new_world, last_count, counted, node_at, with_node, with_links, client_at, with_client, with_drop, keeps_epoch, adoption_of, adopted_by, planned}
 use Rattle.world_defs.specs.Step.{planned_strikes, sent_out, step, after_all}
 use Rattle.world_laws.specs.Shape.{IsNode, IsWorld, HasSenders}
 use Rattle.world_laws.proofs.Lists.{at-set, two-set}
-use Rattle.world_laws.proofs.Nodes.{NodeKept, node_same, sent-kept, sender_same}
+use Rattle.world_laws.proofs.Nodes.{NodeKept, node_same, sent-kept, table-kept}
 use Rattle.world_laws.proofs.Calls.{CallKept}
 use Rattle.world_laws.proofs.Strikes.{Strikes, planned_strikes-kept}
 use Rattle.world_laws.proofs.Leaves.{Follows, FollowsCalls, step-leaves}
@@ -50,10 +52,10 @@ with_node-kept w h n k = record {
 }
 
 -- a world whose hosts are kept, and whose clients are as they were
-made_world : (w v : WorldState) → IsWorld w → IsLinks v.links → v.links.cables ≡ w.links.cables → NodesKept w v → v.clients ≡ w.clients → v.injected < 2 ^ 64 → v.dropped < 2 ^ 64 → v.struck ≤ v.injected → v.harmed ≤ v.struck → IsWorld v
-made_world w v is links cables k clients injections drops strikes harms = record {
+made_of : (w v : WorldState) → IsWorld w → IsLinks v.links → v.links.cables.hosts ≡ w.links.cables.hosts → NodesKept w v → v.clients ≡ w.clients → v.injected < 2 ^ 64 → v.dropped < 2 ^ 64 → v.struck ≤ v.injected → v.harmed ≤ v.struck → IsWorld v
+made_of w v is links same k clients injections drops strikes harms = record {
   links = links;
-  hosts = k.count ∙ (is.hosts ∙ ap (λ h. length h.hosts) (sym cables));
+  hosts = k.count ∙ (is.hosts ∙ ap length (sym same));
   clients = ap length clients ∙ (is.clients ∙ sym k.count);
   each_node = λ h low.
       let was : IsNode (host_count w) (node_at w h) = is.each_node h (subst (λ n. h < n) k.count low) in
@@ -65,6 +67,9 @@ made_world w v is links cables k clients injections drops strikes harms = record
   strikes = strikes;
   harms = harms;
 }
+
+made_world : (w v : WorldState) → IsWorld w → IsLinks v.links → v.links.cables ≡ w.links.cables → NodesKept w v → v.clients ≡ w.clients → v.injected < 2 ^ 64 → v.dropped < 2 ^ 64 → v.struck ≤ v.injected → v.harmed ≤ v.struck → IsWorld v
+made_world w v is links cables k clients injections drops strikes harms = made_of w v is links (ap (λ h. h.hosts) cables) k clients injections drops strikes harms
 
 pub made_senders : (w v : WorldState) → NodesKept w v → HasSenders w → HasSenders v
 made_senders w v k is = record { in_order = λ h lane. ((k.each h).senders lane).in_order (is.in_order h lane) }
@@ -267,18 +272,23 @@ new-senders n =
     }
 
 -- an adoption and a plan, which are no events
-table_kept : (n : NodeState) (t : TableState) → NodeKept n (record n { table = t })
-table_kept n t = record { lanes = refl; ports = refl; open_ports = λ port. refl; senders = λ lane. sender_same (lane_at n lane).sender }
+adopted_links : (s : LinkState) (b : Bool) → IsLinks s → IsLinks (if b then s else accept s)
+adopted_links s true is = is
+adopted_links s false is = stepped-links s AcceptLinks is
+
+adopted_hosts : (s : LinkState) (b : Bool) → (if b then s else accept s).cables.hosts ≡ s.cables.hosts
+adopted_hosts s true = refl
+adopted_hosts s false = refl
 
 adopted_nodes : (w : WorldState) (mapper : ℕ) (routes : List Route) → NodesKept w (adopted_by w mapper routes)
 adopted_nodes w mapper routes =
-    let t : TableState = whole_table routes mapper 1 in
-    let k : NodesKept w (with_node w mapper (record (node_at w mapper) { table = t })) = with_node-kept w mapper (record (node_at w mapper) { table = t }) (table_kept (node_at w mapper) t) in
+    let t : TableState = whole_table routes mapper (adoption_of w mapper routes).epoch in
+    let k : NodesKept w (with_node w mapper (record (node_at w mapper) { table = t })) = with_node-kept w mapper (record (node_at w mapper) { table = t }) (table-kept (node_at w mapper) t) in
     record { count = k.count; each = k.each }
 
 pub adopted-world : (w : WorldState) (mapper : ℕ) (routes : List Route) → IsWorld w → IsWorld (adopted_by w mapper routes)
 adopted-world w mapper routes is =
-    made_world w (adopted_by w mapper routes) is is.links refl (adopted_nodes w mapper routes) refl is.injections is.drops is.strikes is.harms
+    made_of w (adopted_by w mapper routes) is (adopted_links w.links (keeps_epoch w routes) is.links) (adopted_hosts w.links (keeps_epoch w routes)) (adopted_nodes w mapper routes) refl is.injections is.drops is.strikes is.harms
 
 pub adopted-senders : (w : WorldState) (mapper : ℕ) (routes : List Route) → HasSenders w → HasSenders (adopted_by w mapper routes)
 adopted-senders w mapper routes is = made_senders w (adopted_by w mapper routes) (adopted_nodes w mapper routes) is

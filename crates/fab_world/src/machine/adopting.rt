@@ -1,21 +1,23 @@
 //! Routes are adopted, and parts of them staged.
 
-ghost use Rattle.std.specs.Prelude.{◌≡◌, true, Some, IfOk, IfSome, OnOk, OnErr};
+ghost use Rattle.std.specs.Prelude.{◌≡◌, true, Some, IfOk, IfSome, OnOk, OnErr, if◌then◌else◌};
+ghost use Rattle.link_defs.specs.Fault.{accept};
 ghost use Rattle.mapping_defs.specs.Mapping.{is_part};
 ghost use Rattle.port_graph.specs.Routes.{HandsBack};
-ghost use Rattle.world_defs.specs.World.{host_count, adopted_by};
+ghost use Rattle.world_defs.specs.World.{host_count, standing_of, adopted_by};
 ghost use Rattle.world_defs.specs.Step.{part_staged, stage_at};
 ghost use Rattle.adopted_routes.specs.Adopting.{IsSetOfHosts, adopt_refusal};
 ghost use Rattle.fab_world.specs.Events.{IsHostOf};
 
 use super::Machine;
 use adopted_routes::{AdoptRefusal, PartToSend};
+use faulty_links::FaultyLinks;
 use port_graph::RouteSet;
 use std::alloc::{AllocError, Global};
 use world_defs::Effect;
 
 impl Machine {
-    /// Adopts routes. Their adopter's table is theirs at once.
+    /// Adopts routes. Their adopter's table is theirs at once; where that begins an epoch, no cable is new any more.
     pub(crate) fn adopt(
         &mut self,
         alloc: Global,
@@ -24,10 +26,14 @@ impl Machine {
     ) -> Result<(), (RouteSet, AdoptRefusal)>
         requires { IsHostOf self.old mapper }
         ensures adopted { OnOk result (self.new ≡ adopted_by self.old mapper set) }
-        ensures refused { HandsBack (adopt_refusal set self.old.adopted) AdoptRefusal.NoMemory set result }
+        ensures refused { HandsBack (adopt_refusal (standing_of self.old) set self.old.adopted)
+            AdoptRefusal.NoMemory set result }
         ensures unchanged { OnErr result (self.new ≡ self.old) }
     {
-        let table = self.adopted.adopt(alloc, mapper, set)?;
+        let standing = self.standing();
+        let keeps = self.adopted.keeps(&set, standing);
+        let table = self.adopted.adopt(alloc, mapper, set, standing)?;
+        begin_epoch(&mut self.links, keeps);
         let at = usize::from(mapper);
         self.hosts[at].take_table(table);
         self.marks.mark(at);
@@ -58,5 +64,14 @@ impl Machine {
         self.hosts[at].part(part, by);
         self.marks.mark(at);
         Effect::Staged
+    }
+}
+
+// Where an epoch begins, no cable is new any more.
+fn begin_epoch(links: &mut FaultyLinks, keeps: bool)
+    ensures { links.new ≡ (if keeps then links.old else record links.old { links = accept links.old.links }) }
+{
+    if !keeps {
+        links.accept_cables();
     }
 }

@@ -45,6 +45,7 @@ impl Machine {
             Event::Reset(c) => Ok(self.links.reset(*c)),
             Event::Expire { host, peer } => Ok(self.expire(*host, *peer)),
             Event::GiveUp(host) => Ok(self.give_up(*host)),
+            Event::Revoke(host) => Ok(self.revoke(*host)),
             _ => self.call(alloc, e),
         }
     }

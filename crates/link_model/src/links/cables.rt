@@ -52,6 +52,13 @@ impl Links {
         self.epoch = self.epoch.saturating_add(1);
     }
 
+    /// How many times a cable was pulled or plugged.
+    pub fn changes(&self) -> u16
+        ensures { result ≡ self.now.cables.changes }
+    {
+        self.wiring.changes()
+    }
+
     /// Whether a channel's cable was plugged since the cables were accepted.
     pub fn is_new(&self, c: u16) -> bool
         requires { c < length self.now.channels }

@@ -10,13 +10,13 @@ use Rattle.route_install.proofs.Ruled.{cut-ruled}
 use Rattle.route_install.proofs.cut.part_for.Goals as goal
 
 pub returns-in-None-clause-value : goal.returns-in-None-clause-value
-returns-in-None-clause-value c =
-    let a : Adoption = record { mapper = c.args.mapper; epoch = c.args.epoch; routes = c.args.r.now } in
+returns-in-None-clause-value c at =
+    let a : Adoption = record { mapper = c.args.mapper; epoch = c.args.epoch; at = at; routes = c.args.r.now } in
     sym (part-none a c.args.dst c.args.part c.if-dst-mapper.false (sym (route-found a.routes c.args.dst c.args.mapper) ∙ sym c.in-None.ensures))
 
 pub returns-in_ok-entries_of-in-Some-clause-value : goal.returns-in_ok-entries_of-in-Some-clause-value
-returns-in_ok-entries_of-in-Some-clause-value c =
-    let a : Adoption = record { mapper = c.args.mapper; epoch = c.args.epoch; routes = c.args.r.now } in
+returns-in_ok-entries_of-in-Some-clause-value c at =
+    let a : Adoption = record { mapper = c.args.mapper; epoch = c.args.epoch; at = at; routes = c.args.r.now } in
     let dst = c.args.dst in
     let rs : List Route = c.routes_from-routes.result.now in
     let from = c.routes_from-routes.ensures ∙ ap (filter (λ r. nat_eq r.from dst)) c.list.ensures.value in

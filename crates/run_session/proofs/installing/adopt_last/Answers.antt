@@ -1,9 +1,9 @@
-use Rattle.std.proofs.Common.{◌≡◌, true, false, sym, subst, ◌∙◌}
+use Rattle.std.proofs.Common.{◌≡◌, ◌∙◌, sym, subst}
 use Rattle.std.specs.Prelude.{ℕ}
 use Rattle.world_defs.specs.World.{fabric_of}
 use Rattle.adopted_routes.specs.Adopting.{IsAdoptable}
 use Rattle.fab_world.specs.Events.{IsHostOf}
-use Rattle.run_session.proofs.Installable.{kept-adoptable, mapper-there, others-are}
+use Rattle.run_session.proofs.Installable.{kept-adoptable, mapper-there, memory-alone}
 use Rattle.run_session.proofs.installing.adopt_last.Goals as goal
 
 pub adopt-requires-clause-there : goal.adopt-requires-clause-there
@@ -22,7 +22,7 @@ adopt-requires-clause-adoptable c =
 pub unreachable-requires : goal.unreachable-requires
 unreachable-requires c =
     let routes : c.l.inside.routes ≡ c.args.l.now.routes = cc in
-    let why = c.in-Err-default-Another.ensures.refused in
-    let other = others-are c.args.l.now.routes c.in_ok-set.set c.args.w.now.adopted c.in-Err-default-Another.field-0-1 (c.in_ok-set.ensures ∙ routes) c.in-Err-default-Another.field-0-1-is why.1 in
-    let bad : false ≡ true = sym c.requires.other ∙ other in
+    let why = c.in-Err-default-Unrevoked.ensures.refused in
+    let alone = memory-alone c.args.l.now.routes c.in_ok-set.set c.args.w.now c.in-Err-default-Unrevoked.field-0-1 (c.in_ok-set.ensures ∙ routes) c.requires.may why.1 in
+    let is = c.in-Err-default-Unrevoked.field-0-1-is in
     cc

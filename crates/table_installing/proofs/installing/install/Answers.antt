@@ -109,12 +109,12 @@ returns-clause-after c = (in-logs c.args.w.now c.match-adopter.w c.args.hosts.no
 pub returns-clause-cause : goal.returns-clause-cause
 returns-clause-cause c =
     let w : WorldState = c.args.w.now in
-    tells (host_count w) w c.match-adopter.w c.args.hosts.now c.args.tries c.match-adopter.acked w.adopted refl c.reached.ensures c.moment.ensures.kept.adopted c.requires.idle c.requires.named c.requires.some (counted c)
+    tells (host_count w) w c.match-adopter.w c.args.hosts.now c.args.tries c.match-adopter.acked w.adopted refl c.reached.ensures c.moment.ensures.kept.adopted c.requires.idle c.requires.unrevoked c.requires.named c.requires.some (counted c)
 
 pub returns-clause-idle : goal.returns-clause-idle
 returns-clause-idle c =
     let w : WorldState = c.args.w.now in
-    idle-behind (host_count w) w c.match-adopter.w c.args.hosts.now c.args.tries c.match-adopter.acked w.adopted refl c.reached.ensures c.moment.ensures.kept.adopted c.requires.idle c.requires.adopted c.requires.named (counted c)
+    idle-behind (host_count w) w c.match-adopter.w c.args.hosts.now c.args.tries c.match-adopter.acked w.adopted refl c.reached.ensures c.moment.ensures.kept.adopted c.requires.idle c.requires.adopted c.requires.unrevoked c.requires.named (counted c)
 
 pub returns-clause-channels : goal.returns-clause-channels
 returns-clause-channels c = later-channels c.args.w.now c.match-adopter.w c.moment.ensures.kept (done c)

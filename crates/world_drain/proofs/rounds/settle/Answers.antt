@@ -1,6 +1,7 @@
-use Rattle.std.proofs.Common.{◌≡◌, ◌≤◌, ◌+◌, ℕ, length, min, ap, sym, ◌∙◌, subst, arith}
+use Rattle.std.proofs.Common.{◌≡◌, ◌<◌, ◌≤◌, ◌+◌, ℕ, length, min, ap, sym, ◌∙◌, subst, arith}
 use Rattle.world_defs.specs.World.{WorldState, fabric_of, last_count}
 use Rattle.world_defs.specs.Settle.{unacknowledged_in}
+use Rattle.world_defs.specs.Settled.{IsSettled as IsEnd}
 use Rattle.world_laws.proofs.Rounds.{settle-bounded}
 use Rattle.lawful_laws.proofs.Settling.{settle-flows}
 use Rattle.message_laws.specs.Got.{IsAllGot}
@@ -11,7 +12,7 @@ use Rattle.world_defs.proofs.LogRows.{settle-row, byte_settles}
 use Rattle.log_laws.proofs.Settles.{settle-clear, settle-rounds}
 use Rattle.fab_world.specs.Held.{IsLater}
 use Rattle.fab_world.proofs.Moments.{later-fabric, later-hosts, later-channels, later-adopted}
-use Rattle.world_drain.proofs.Back.{ends-settled}
+use Rattle.settle_laws.proofs.Flowing.{settle-ends_settled}
 use Rattle.world_drain.proofs.Later.{way-later, on-any}
 use Rattle.world_drain.proofs.WholeRound.{IsSettled, settled-is, settled-idle}
 use Rattle.world_drain.proofs.rounds.settle.Goals as goal
@@ -78,8 +79,9 @@ returns-clause-lawful c clears =
 
 -- so it ends settled, and where nothing is unacknowledged all is got
 pub returns-clause-settled : goal.returns-clause-settled
-returns-clause-settled c =
-    ends-settled c.args.w.now c.all_rounds.new.w c.moment.ensures.kept c.reached.ensures (settled c).after
+returns-clause-settled c left =
+    let after = (settled c).after in
+    subst IsEnd (sym after) (settle-ends_settled c.args.w.now (record { reached = c.reached.ensures }) (subst (λ (u : WorldState). u.injected < last_count) after left))
 
 pub returns-clause-got : goal.returns-clause-got
 returns-clause-got c none =
