@@ -1,10 +1,11 @@
 -- That a map which says complete is one to compute routes of, and that its routes may be installed.
-use Rattle.std.proofs.Common.{◌≡◌, ◌<◌, ◌∙◌, ℕ, ℤ, true, List, length, sym, ap, subst, arith}
+use Rattle.std.proofs.Common.{◌≡◌, ◌<◌, ◌∙◌, ℕ, ℤ, true, true≢false, List, length, Option, None, Result, Ok, Err, refl, sym, ap, subst, arith}
+use Rattle.std.specs.Prelude.{is_ok, OnOk}
 use Rattle.std.proofs.lemmas.Bool.Decides.{nat_tests}
 use Rattle.net_defs.specs.declared.place.Answer.{Answer}
 use Rattle.net_defs.specs.declared.route.Route.{Route}
 use Rattle.net_defs.specs.declared.vertex.Vertex.TheVariants.{Host}
-use Rattle.net_defs.specs.Network.{has_vertex}
+use Rattle.net_defs.specs.Network.{Network, IsFabric, has_vertex}
 use Rattle.map_defs.specs.NetMap.{NetMap, IsMap, IsConnected}
 use Rattle.map_defs.specs.Orientation.{order_of}
 use Rattle.map_defs.specs.Routing.{AreRoutesOf}
@@ -12,7 +13,9 @@ use Rattle.map_defs.specs.Sameness.{IsMapOfPart}
 use Rattle.map_laws.proofs.Connected.{quotient_is_connected}
 use Rattle.map_laws.proofs.Size.{right_map_is_no_larger}
 use Rattle.link_defs.specs.Links.{is_idle}
-use Rattle.world_defs.specs.World.{WorldState, fabric_of, host_count, adopted_by}
+use Rattle.link_defs.proofs.Shapes.{empty-idle}
+use Rattle.world_defs.specs.World.{WorldState, fabric_of, host_count, new_world, adopted_by, keeps_epoch, may_adopt}
+use Rattle.port_graph.specs.Routes.{HandsBack}
 use Rattle.adopted_routes.specs.Adopting.{IsAdoptable}
 use Rattle.fab_world.specs.Events.{IsHostOf}
 use Rattle.fab_world.specs.Held.{IsMoment}
@@ -22,23 +25,21 @@ use Rattle.route_making.specs.Listed.{map_hosts_below}
 use Rattle.map_canon.specs.Printing.{AreOfFabric}
 use Rattle.map_making.specs.declared.making.MadeMap.{MadeMap}
 use Rattle.map_making.specs.Made.{IsMade}
-use Rattle.world_asking.specs.Prober.{WorldAsking, IsAsked}
 use Rattle.run_session.specs.Kept.{IsKeptMap, AreKeptRoutes}
+use Rattle.act_defs.specs.Acts.{IsReached}
 use Rattle.run_session.proofs.Installable.{kept-adoptable, kept-installable, mapper-there}
+use Rattle.run_session.proofs.Installs.{accepted-idle, adopted-are_last}
 
--- a host of a world is one of its fabric
-has-host : (w : WorldState) (host : ℕ) → IsMoment w → host < host_count w → has_vertex (fabric_of w) (Host host) ≡ true
-has-host w host now low =
-    let hosts = now.world.hosts in
-    let below : host < length (fabric_of w).hosts = omega (arith, hosts, low) in
-    grind (arith, nat_tests)
+-- an address below the number of hosts is a host's
+has-host : (n : Network) (host : ℕ) → host < length n.hosts → has_vertex n (Host host) ≡ true
+has-host n host low = grind (arith, nat_tests)
 
--- a map that was made over a world, and is its mapper's part of the fabric
-pub kept-map : (S : Type 0) (asked : S → List ℤ → Answer → S → Type 0) (w : WorldState) (host depth drowned : ℕ) (before after : S) (m : MadeMap) → IsMoment w → host < host_count w
-    → IsMade S asked host depth before drowned m after → IsMap m.map → IsMapOfPart (fabric_of w) host m.map → AreOfFabric (fabric_of w) m.map → IsKeptMap (fabric_of w) host m.map
-kept-map S asked w host depth drowned before after m now low made rules right hosts =
-    let small = (right_map_is_no_larger (fabric_of w) host m.map now.fabric (has-host w host now low) right).switches in
-    let few = now.fabric.few_switches in
+-- a map that was made, and is its mapper's part of the fabric
+pub kept-map : (S : Type 0) (asked : S → List ℤ → Answer → S → Type 0) (n : Network) (host depth drowned : ℕ) (before after : S) (m : MadeMap) → IsFabric n → host < length n.hosts
+    → IsMade S asked host depth before drowned m after → IsMap m.map → IsMapOfPart n host m.map → AreOfFabric n m.map → IsKeptMap n host m.map
+kept-map S asked n host depth drowned before after m fabric low made rules right hosts =
+    let small = (right_map_is_no_larger n host m.map fabric (has-host n host low) right).switches in
+    let few = fabric.few_switches in
     record {
       rules = rules;
       right = right;
@@ -48,18 +49,9 @@ kept-map S asked w host depth drowned before after m now low made rules right ho
       few = omega (arith, small, few);
     }
 
--- the same of a map that a prober over the world made
-pub kept-made : (w : WorldState) (host tries depth : ℕ) (p q : WorldAsking) (m : MadeMap) → p ≡ record { world = w; host = host; tries = tries; drowned = 0 } → IsMoment w → host < host_count w
-    → IsMade WorldAsking IsAsked p.host depth p q.drowned m q → IsMap m.map → IsMapOfPart (fabric_of p.world) p.host m.map → AreOfFabric (fabric_of p.world) m.map → IsKeptMap (fabric_of w) host m.map
-kept-made w host tries depth p q m is now low made rules right hosts =
-    let at_moment = subst (λ (s : WorldAsking). IsMoment s.world) (sym is) now in
-    let there = subst (λ (s : WorldAsking). s.host < host_count s.world) (sym is) low in
-    subst (λ (s : WorldAsking). IsKeptMap (fabric_of s.world) s.host m.map) is
-    (kept-map WorldAsking IsAsked p.world p.host depth q.drowned p q m at_moment there made rules right hosts)
-
--- a world of the same fabric has as many hosts
-pub same-hosts : (w v : WorldState) → IsMoment w → IsMoment v → fabric_of v ≡ fabric_of w → host_count v ≡ host_count w
-same-hosts w v now then same = then.world.hosts ∙ ap (λ n. length n.hosts) same ∙ sym now.world.hosts
+-- no packet is on its way in a new world
+pub new-idle : (w : WorldState) (n : Network) → w ≡ new_world n → is_idle w.links ≡ true
+new-idle w n new = ap (λ v. is_idle v.links) new ∙ empty-idle n
 
 -- the hosts of a map in a world, by address
 abbrev hosts_in : WorldState → NetMap → List ℕ
@@ -86,9 +78,20 @@ pub adopter-there : (w : WorldState) (mapper : ℕ) (m : NetMap) (routes : List 
 adopter-there w mapper m routes now kept are = mapper-there w (last mapper (hosts_in w m) routes) now (kept-routes w mapper m routes now kept are)
 
 -- and once they are, they can be installed on the hosts of the map
-pub installable : (w v : WorldState) (mapper : ℕ) (m : NetMap) (routes : List Route) → IsMoment w → IsKeptMap (fabric_of w) mapper m → AreRoutesOf m (order_of m) routes → is_idle w.links ≡ true → v ≡ adopted_by w mapper routes
+pub installable : (w v : WorldState) (mapper : ℕ) (m : NetMap) (routes : List Route) → IsMoment w → IsReached (fabric_of w) w → may_adopt w routes ≡ true → IsKeptMap (fabric_of w) mapper m → AreRoutesOf m (order_of m) routes → is_idle w.links ≡ true → v ≡ adopted_by w mapper routes
     → fabric_of v ≡ fabric_of w → host_count v ≡ host_count w → CanInstall v (hosts_in v m) 1
-installable w v mapper m routes now kept are idle same fabric hosts =
+installable w v mapper m routes now reached may kept are idle same fabric hosts =
     let l : LastRoutes = last mapper (hosts_in w m) routes in
-    kept-installable v l (hosts_in v m) 1 (ap (λ x. x.adopted) same) (subst (λ x. is_idle x.links ≡ true) (sym same) idle)
+    let adopted = adopted-are_last w v l reached may same in
+    kept-installable v l (hosts_in v m) 1 v.adopted refl adopted.0 adopted.1 (ap (λ x. is_idle x.links) same ∙ accepted-idle w.links (keeps_epoch w routes) ∙ idle)
     (subst (λ n. AreKeptRoutes n l) (sym fabric) (kept-routes w mapper m routes now kept are)) (omega arith) (omega arith) (ap (λ k. map_hosts_below k m) hosts)
+
+-- what holds of a result that is no error holds where the error became another
+pub accepted : {T E D : Type 0} → (r : Result T E) (q : Result T D) (x : T) (P : Type 0) → is_ok q ≡ is_ok r → q ≡ Ok x → OnOk r P → P
+accepted (Ok y) q x P same is p = p
+accepted (Err e) q x P same is p = absurd (true≢false (sym (ap is_ok is) ∙ same))
+
+-- and a call that hands back what it refuses had no refusal then
+pub unrefused : {T V E D : Type 0} → (r : Result T (V × E)) (q : Result T D) (x : T) (refusal : Option E) (e : E) (v : V) → is_ok q ≡ is_ok r → q ≡ Ok x → HandsBack refusal e v r → refusal ≡ None
+unrefused (Ok y) q x refusal e v same is p = p
+unrefused (Err a) q x refusal e v same is p = absurd (true≢false (sym (ap is_ok is) ∙ same))
