@@ -36,6 +36,10 @@ pub fn read_command(alloc: Global, fabric: &Fabric, line: &[u8]) -> Result<Comma
         in_line(plan(fabric, left))
     } else if let Some(left) = after_keyword(&args, b"poll") {
         in_line(at_port(fabric, PortCall::Poll, left))
+    } else if let Some(left) = after_keyword(&args, b"provide") {
+        in_line(provide(fabric, left))
+    } else if let Some(left) = after_keyword(&args, b"send") {
+        in_line(send(fabric, left))
     } else {
         read_words(alloc, fabric, args)
     }

@@ -17,6 +17,7 @@ use std::alloc::Global;
 const MAX_TURNS: usize = 64;
 
 /// `walk H TURN ..`
+#[inline(always)]
 pub(crate) fn walk(alloc: Global, fabric: &Fabric, mut args: Words) -> Result<Command, LineFault>
     ensures reading { LineGives (walk_said fabric.now (words_of args.entry)) result }
     ensures memory { IsErrOf result LineFault.NoMemory → IsOk (walk_said fabric.now (words_of args.entry)) }
